@@ -1,0 +1,27 @@
+use Rattle.std.proofs.Common.{◌≡◌, ℕ, ◌<◌, arith, length, Option, Some, None, sym, ◌∙◌, List, All, ◌++◌, get_or, take}
+use Rattle.std.proofs.lemmas.List.{get_or_append_left, get_or_default, get_or-take}
+use Rattle.std.proofs.lemmas.Option.{same_Some, none-some}
+use Rattle.ch_graph.specs.Graph.{Network}
+use Rattle.ch_graph.specs.Walk.{IsAnswer}
+use Rattle.ch_graph.specs.Relaxing.{known_at, IsPartial, IsRelaxed}
+use Rattle.ch_graph.proofs.WalkLemmas.{relaxed_walk}
+use Rattle.ch_graph.proofs.plain.plain_distance.Goals as goal
+
+-- once every arc is relaxed, what is known of t is the distance
+settled : (g : Network) (s t : ℕ) (best : List (Option ℕ)) (o : Option ℕ) → o ≡ known_at best t → IsPartial g s best → All (IsRelaxed best) g.arcs → IsAnswer g s t o
+settled g s t best None e p relaxed = λ arcs w. let r = relaxed_walk g best s t 0 arcs relaxed p.start w in none-some _ (e ∙ r.1)
+settled g s t best (Some x) e p relaxed = record {
+  walk = p.walks t x (sym e);
+  least = λ arcs w. let r = relaxed_walk g best s t 0 arcs relaxed p.start w in let same = same_Some _ _ (e ∙ r.1) in let le = r.2 in omega arith;
+}
+
+-- a read through the vector that lent its slice
+read : (new rest : List (Option ℕ)) (len e : ℕ) (r : Option ℕ) → e < len → e < length new → r ≡ get_or (take len (new ++ rest)) e r → r ≡ known_at new e
+read new rest len e r low within is = is ∙ get_or-take len (new ++ rest) e r low ∙ get_or_append_left new rest r e within ∙ get_or_default new e r None within
+
+pub returns : goal.returns
+returns c =
+    let size = c.settle.ensures.known.nodes in
+    let len = c.in_ok-best.ensures.len in
+    let nodes = c.nodes.ensures in
+    settled _ _ _ c.settle.new.best _ (read c.settle.new.best _ _ _ _ (omega arith) (omega arith) c.index.ensures) c.settle.ensures.known c.settle.ensures.relaxed

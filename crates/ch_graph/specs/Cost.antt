@@ -1,0 +1,19 @@
+-- Costs: a weight and a number of arcs, compared by weight first, added by parts.
+use Rattle.std.specs.Prelude.{◌+◌, ◌<◌, ◌≤◌}
+use Rattle.ch_graph.specs.declared.cost.Cost.{Cost}
+
+-- a costs at most b: it weighs no more, and at equal weight has no more arcs
+abbrev pub IsAtMost : Cost → Cost → Type 0
+IsAtMost a b = (a.weight ≤ b.weight) × (b.weight ≤ a.weight → a.arcs ≤ b.arcs)
+
+-- a costs less than b
+abbrev pub IsBelow : Cost → Cost → Type 0
+IsBelow a b = (a.weight ≤ b.weight) × (b.weight ≤ a.weight → a.arcs < b.arcs)
+
+-- what a walk and a walk after it cost together
+abbrev pub cost_sum : Cost → Cost → Cost
+cost_sum a b = record { weight = a.weight + b.weight; arcs = a.arcs + b.arcs }
+
+-- what the empty walk costs
+abbrev pub no_cost : Cost
+no_cost = record { weight = 0; arcs = 0 }

@@ -1,0 +1,45 @@
+-- A graph is a number of nodes and the list of its arcs.
+use Rattle.std.specs.Prelude.{◌≡◌, ℕ, ◌*◌, ◌^◌, ◌<◌, ◌≤◌, List, length, take, slice_get, Some, All}
+use Rattle.ch_graph.specs.declared.arc.InArc.{InArc}
+use Rattle.ch_graph.specs.declared.graph.GraphFault.{GraphFault}
+use Rattle.ch_graph.specs.declared.graph.GraphFault.TheVariants.{Size, NodeRange, Sum}
+
+pub record Network : Type 0 where
+  pub nodes : ℕ
+  pub arcs : List InArc
+
+-- both ends are nodes
+abbrev pub HasEnds : ℕ → InArc → Type 0
+HasEnds nodes a = (a.from < nodes) × (a.to < nodes)
+
+-- both ends are nodes, and no walk without a repeated node weighs more than 2 ^ 60
+pub record IsArcWithin (nodes : ℕ) (a : InArc) : Type 0 where
+  pub ends : HasEnds nodes a
+  pub weight : nodes * a.weight ≤ 2 ^ 60
+
+-- there are not too many nodes and arcs
+abbrev pub HasSize : Network → Type 0
+HasSize g = (g.nodes ≤ 2 ^ 25) × (length g.arcs ≤ 2 ^ 27)
+
+pub record IsWithinLimits (g : Network) : Type 0 where
+  pub size : HasSize g
+  pub each : All (IsArcWithin g.nodes) g.arcs
+
+-- what is wrong with the arc at this place: its ends are judged before its weight
+abbrev pub IsArcFault : ℕ → ℕ → InArc → GraphFault → Type 0
+IsArcFault nodes place a Size = ⊥
+IsArcFault nodes place a (NodeRange i) = (i ≡ place) × (HasEnds nodes a → ⊥)
+IsArcFault nodes place a (Sum i) = (i ≡ place) × HasEnds nodes a × (2 ^ 60 < nodes * a.weight)
+
+-- the fault of the first arc that has one
+pub record IsFirstArcFault (nodes : ℕ) (arcs : List InArc) (fault : GraphFault) : Type 0 where
+  pub place : ℕ
+  pub arc : InArc
+  pub stands : slice_get arcs place ≡ Some arc
+  pub before : All (IsArcWithin nodes) (take place arcs)
+  pub is : IsArcFault nodes place arc fault
+
+-- the first fault: the sizes are judged before the arcs
+abbrev pub IsFirstFault : Network → GraphFault → Type 0
+IsFirstFault g Size = HasSize g → ⊥
+IsFirstFault g fault = HasSize g × IsFirstArcFault g.nodes g.arcs fault

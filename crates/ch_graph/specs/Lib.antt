@@ -1,0 +1,4 @@
+pub mod Cost
+pub mod Graph
+pub mod Walk
+pub mod Relaxing

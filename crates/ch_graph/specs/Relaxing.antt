@@ -1,0 +1,25 @@
+-- What the plain distance knows of each node while it relaxes arcs.
+use Rattle.std.specs.Prelude.{◌≡◌, ℕ, ◌+◌, ◌*◌, ◌^◌, ◌≤◌, List, length, slice_index_or, unwrap_or, is_some, Option, Some, None}
+use Rattle.std.specs.List.{sum_by, count_by}
+use Rattle.ch_graph.specs.declared.arc.InArc.{InArc}
+use Rattle.ch_graph.specs.Graph.{Network}
+use Rattle.ch_graph.specs.Walk.{IsWalk, weight_of}
+
+-- the weight known at a node
+abbrev pub known_at : List (Option ℕ) → ℕ → Option ℕ
+known_at best v = slice_index_or best v None
+
+-- what is known is the weight of a walk from s; the k-th node to be reached is reached by at most k arcs' weights
+pub record IsPartial (g : Network) (s : ℕ) (best : List (Option ℕ)) : Type 0 where
+  pub nodes : length best ≡ g.nodes
+  pub start : known_at best s ≡ Some 0
+  pub walks : (v d : ℕ) → known_at best v ≡ Some d → (arcs : List InArc) × IsWalk g s v arcs × (weight_of arcs ≡ d)
+  pub small : (v d : ℕ) → known_at best v ≡ Some d → g.nodes * d + 2 ^ 60 ≤ count_by is_some best * 2 ^ 60
+
+-- the arc shows no lighter walk
+abbrev pub IsRelaxed : List (Option ℕ) → InArc → Type 0
+IsRelaxed best a = (d : ℕ) → known_at best a.from ≡ Some d → (e : ℕ) × (known_at best a.to ≡ Some e) × (e ≤ d + a.weight)
+
+-- falls with each change
+abbrev pub total : List (Option ℕ) → ℕ
+total best = sum_by (λ o. unwrap_or o (2 ^ 61)) best

@@ -1,0 +1,105 @@
+//! Graphs within the limits.
+ghost use Rattle.std.specs.Prelude.{◌≡◌, ◌↔◌, All, IsOk, IfOk, IfErr, MatchOption};
+ghost use Rattle.ch_graph.specs.Graph.{IsWithinLimits, IsFirstFault, IsFirstArcFault, IsArcWithin, IsArcFault};
+
+use crate::arc::InArc;
+use std::marker::Model;
+
+/// The most nodes of a graph.
+const MOST_NODES: u32 = 1 << 25;
+
+/// The most arcs of a graph.
+const MOST_ARCS: usize = 1 << 27;
+
+/// The most that the number of nodes times an arc's weight may be. A least walk between two nodes has
+/// fewer arcs than there are nodes, so it weighs no more than this.
+const MOST_WEIGHT: u64 = 1 << 60;
+
+/// Why a number of nodes and a list of arcs are no graph.
+#[derive(Clone, Copy, Debug, PartialEq, Eq)]
+pub enum GraphFault {
+    /// There are more than 2^25 nodes or 2^27 arcs.
+    Size,
+    /// An end of the arc at this place is not below the number of nodes.
+    NodeRange(usize),
+    /// The number of nodes times the weight of the arc at this place is more than 2^60.
+    Sum(usize),
+}
+
+/// A directed graph: a number of nodes, and a list of arcs between them. Parallel arcs, loops and
+/// weight 0 are allowed.
+///
+/// It has at most 2^25 nodes and 2^27 arcs, and the number of nodes times any weight is at most 2^60.
+#[derive(Debug, Drop)]
+pub struct Graph {
+    nodes: u32,
+    arcs: Vec<InArc>,
+}
+
+impl Model for Graph {
+    ghost use Rattle.ch_graph.specs.Graph.{Network, IsWithinLimits};
+
+    ghost Value = { Network };
+
+    ghost view = { λ g. record { nodes = g.nodes; arcs = g.arcs.items } };
+
+    ghost invariant = { λ g. IsWithinLimits (record { nodes = g.nodes; arcs = g.arcs.items }) };
+}
+
+impl Graph {
+    /// The graph of these nodes and arcs, or the first fault: the sizes are judged first, and then the
+    /// arcs in order, of each its ends before its weight. It keeps the vector and takes no memory.
+    pub fn new(nodes: u32, arcs: Vec<InArc>) -> Result<Graph, GraphFault>
+        ensures accepted { IsOk result ↔ IsWithinLimits (record { nodes = nodes; arcs = arcs.items }) }
+        ensures value { IfOk result (λ g. g ≡ record { nodes = nodes; arcs = arcs.items }) }
+        ensures fault { IfErr result (IsFirstFault (record { nodes = nodes; arcs = arcs.items })) }
+    {
+        if nodes > MOST_NODES || arcs.len() > MOST_ARCS {
+            return Err(GraphFault::Size);
+        }
+        match first_arc_fault(nodes, arcs.as_slice()) {
+            Some(fault) => Err(fault),
+            None => Ok(Graph { nodes, arcs }),
+        }
+    }
+
+    /// The number of nodes.
+    pub fn nodes(&self) -> u32
+        ensures { result ≡ self.now.nodes }
+    {
+        self.nodes
+    }
+
+    /// The arcs, in the order that they were given in.
+    pub fn arcs(&self) -> &[InArc]
+        ensures arcs { result.now ≡ self.now.arcs }
+        ensures limits { IsWithinLimits self.now }
+    {
+        self.arcs.as_slice()
+    }
+}
+
+/// The fault of the first arc that has one.
+fn first_arc_fault(nodes: u32, arcs: &[InArc]) -> Option<GraphFault>
+    ensures { MatchOption result (All (IsArcWithin nodes) arcs.now) (IsFirstArcFault nodes arcs.now) }
+{
+    for (place, arc) in arcs.iter().enumerate() {
+        if let Some(fault) = arc_fault(nodes, place, *arc) {
+            return Some(fault);
+        }
+    }
+    None
+}
+
+/// What is wrong with the arc at this place.
+fn arc_fault(nodes: u32, place: usize, arc: InArc) -> Option<GraphFault>
+    ensures { MatchOption result (IsArcWithin nodes arc) (IsArcFault nodes place arc) }
+{
+    if arc.from >= nodes || arc.to >= nodes {
+        return Some(GraphFault::NodeRange(place));
+    }
+    match (nodes as u64).checked_mul(arc.weight) {
+        Some(sum) if sum <= MOST_WEIGHT => None,
+        _ => Some(GraphFault::Sum(place)),
+    }
+}

@@ -1,0 +1,108 @@
+#!/usr/bin/env bash
+# Runs the built program on real files and compares standard output, standard error and status.
+# The last line is 'N passed, N failed'.
+set -u
+root=$(cd "$(dirname "${BASH_SOURCE[0]}")/.." && pwd)
+work=$(mktemp -d)
+trap 'rm -rf "$work"' EXIT
+cd "$work" || exit 1
+passed=0
+failed=0
+
+# Counts one comparison: its name, what was wanted, what came.
+compare() {
+  if [ "$2" = "$3" ]; then
+    passed=$((passed + 1))
+  else
+    failed=$((failed + 1))
+    printf 'failed: %s\n  wanted: %s\n  came:   %s\n' "$1" "$2" "$3"
+  fi
+}
+
+# expect NAME STATUS OUT ERR WORD..: the program on these words; OUT and ERR are texts without their last line feed.
+expect() {
+  local name=$1 status=$2 out=$3 err=$4
+  shift 4
+  "$root/chtab" "$@" >out.txt 2>err.txt
+  compare "$name, status" "$status" "$?"
+  compare "$name, standard output" "$out" "$(cat out.txt)"
+  compare "$name, standard error" "$err" "$(cat err.txt)"
+}
+
+# expect_words NAME STATUS STREAM WORDS WORD..: the same, where the stream out or err has these words somewhere.
+expect_words() {
+  local name=$1 status=$2 stream=$3 words=$4
+  shift 4
+  "$root/chtab" "$@" >out.txt 2>err.txt
+  compare "$name, status" "$status" "$?"
+  compare "$name, words" "yes" "$(grep -qF -e "$words" "$stream.txt" && echo yes || cat "$stream.txt")"
+}
+
+# refused NAME LINE GRAPH QUERIES: these texts as files are refused with this line, and nothing is written.
+refused() {
+  printf "$3" >graph.gr
+  printf "$4" >queries.p2p
+  expect "$1" 1 "" "chtab: $2" dist --plain graph.gr queries.p2p
+}
+
+"$root/chtab" --help >/dev/null || { echo "the program could not be built"; echo "0 passed, 1 failed"; exit 1; }
+
+for example in first liechtenstein; do
+  files=("$root/examples/$example.gr" "$root/examples/$example.p2p")
+  expect "example $example" 0 "$(python3 "$root/tests/dijkstra.py" "${files[@]}")" "" dist --plain "${files[@]}"
+done
+
+g=$root/examples/first.gr
+q=$root/examples/first.p2p
+expect "a missing graph" 3 "" "chtab: cannot read graph" dist --plain missing.gr "$q"
+expect "missing queries" 3 "" "chtab: cannot read queries" dist --plain "$g" missing.p2p
+expect "a folder as graph" 3 "" "chtab: cannot read graph" dist --plain "$root" "$q"
+expect "a folder as queries" 3 "" "chtab: cannot read queries" dist --plain "$g" "$root"
+
+"$root/chtab" dist --plain "$g" "$q" >/dev/full 2>err.txt
+compare "a full device, status" 3 "$?"
+compare "a full device, standard error" "chtab: cannot write after 0 bytes" "$(cat err.txt)"
+
+python3 - "$root/chtab" "$g" "$q" 2>err.txt <<'PYTHON'
+import os, subprocess, sys
+read_end, write_end = os.pipe()
+os.close(read_end)
+sys.exit(subprocess.run([sys.argv[1], "dist", "--plain", *sys.argv[2:]], stdout=write_end).returncode)
+PYTHON
+compare "a closed pipe, status" 3 "$?"
+compare "a closed pipe, standard error" "chtab: cannot write after 0 bytes" "$(cat err.txt)"
+
+expect_words "help" 0 out "chtab dist" --help
+expect_words "help of dist" 0 out "GRAPH" dist --help
+expect_words "an unknown option" 2 err "--fast" dist --fast "$g" "$q"
+expect_words "no subcommand" 2 err "subcommand"
+expect_words "a missing argument" 2 err "QUERIES" dist --plain "$g"
+expect_words "a word that is no UTF-8" 2 err "" dist --plain "$g" $'\xff'
+
+small='p sp 2 1\na 1 2 3\n'
+none='p aux sp p2p 0\n'
+refused "no problem line" "graph line 1: no problem line" '' "$none"
+refused "an unknown line" "graph line 2: unknown line" 'p sp 1 1\narc 1 1 1\n' "$none"
+refused "a bad problem line" "graph line 1: bad problem line" 'p sp 2\n' "$none"
+refused "a second problem line" "graph line 2: second problem line" 'p sp 1 0\np sp\n' "$none"
+refused "an item before the problem line" "graph line 1: no problem line" 'a 1 2 3\n' "$none"
+refused "a bad line" "graph line 2: bad line" 'p sp 2 1\na 1 2 -3\n' "$none"
+refused "a node out of range" "graph line 2: node out of range" 'p sp 2 1\na 1 3 5\n' "$none"
+refused "a weight too large" "graph line 2: weight too large" 'p sp 2 1\na 1 2 576460752303423489\n' "$none"
+refused "a size too large" "graph line 1: size too large" 'p sp 33554433 0\n' "$none"
+refused "too many lines" "graph line 3: too many lines" 'p sp 2 1\na 1 2 3\na 1 2 3\n' "$none"
+refused "too few lines" "graph line 3: too few lines" 'p sp 2 2\na 1 2 3\n' "$none"
+refused "a query out of range" "queries line 2: node out of range" 'p sp 0 0\n' 'p aux sp p2p 1\nq 1 1\n'
+refused "a problem line of another kind" "queries line 1: bad problem line" "$small" 'p aux sp ss 1\nq 1 2\n'
+refused "too few queries" "queries line 3: too few lines" "$small" 'p aux sp p2p 2\nq 1 2\n'
+refused "the graph is judged first" "graph line 1: bad problem line" 'p\n' 'p\n'
+
+printf 'c any bytes\r\n\np  sp\t2 1\r\na 1 02 007' >graph.gr
+printf 'p aux sp p2p 1\nq 1 2' >queries.p2p
+expect "blanks, comments and no last line feed" 0 "d 1 2 7" "" dist --plain graph.gr queries.p2p
+printf 'p sp 0 0\n' >graph.gr
+printf "$none" >queries.p2p
+expect "no query" 0 "" "" dist --plain graph.gr queries.p2p
+
+printf '%d passed, %d failed\n' "$passed" "$failed"
+[ "$failed" -eq 0 ]
