@@ -1,117 +1,188 @@
--- What is known of the nodes, after one arc lowered it.
-use Rattle.std.proofs.Common.{◌≡◌, ℕ, ◌+◌, ◌*◌, ◌^◌, ◌<◌, ◌≤◌, Bool, cond, List, [], ◌∷◌, ◌++◌, length, Contains, Option, Some, None, refl, sym, ◌∙◌, ap, subst, arith, get_or, get_or-set_same, get_or-set_other, set, length-set, inl, inr, ⊎_elim}
+-- Labels, what is known of each node: one that an arc lowers keeps all that was known, and the total falls.
+use Rattle.std.proofs.Common.{◌≡◌, ℕ, ◌+◌, ◌*◌, ◌^◌, ◌<◌, ◌≤◌, cond, List, [], ◌∷◌, ◌++◌, length, Contains, Option, Some, None, refl, sym, ◌∙◌, ap, subst, arith, get_or-set_same, get_or-set_other, set, length-set, inl, inr}
 use Rattle.std.proofs.lemmas.Bool.{cases_eq, cases_lt}
-use Rattle.std.proofs.lemmas.Option.{same_Some}
+use Rattle.std.proofs.lemmas.Option.{same_Some, none-some}
 use Rattle.std.proofs.Math.Nat.{mul-le-mul_left}
-use Rattle.std.specs.Prelude.{is_some, unwrap_or}
+use Rattle.std.proofs.lemmas.List.{length-replicate, get_or-replicate, get_or_past}
+use Rattle.std.specs.Prelude.{is_some, unwrap_or, replicate}
 use Rattle.std.specs.List.{count_by}
 use Rattle.std.proofs.lemmas.List.Sums.{sum_by-set, count_by-le-length}
 use Rattle.ch_graph.specs.declared.arc.InArc.{InArc}
 use Rattle.ch_graph.specs.Graph.{Network, IsArcWithin}
 use Rattle.ch_graph.specs.Walk.{IsWalk, weight_of}
-use Rattle.ch_graph.specs.Relaxing.{IsPartial, known_at, total}
+use Rattle.ch_graph.specs.Relaxing.{IsPartial, IsLowered, known_at, total}
 use Rattle.ch_graph.proofs.WalkLemmas.{walk_push, weight_push}
 
-pub count_by_set : {X : Type 0} (p : X → Bool) (xs : List X) (i : ℕ) (y d : X) → i < length xs → count_by p (set xs i y) + cond (p (get_or xs i d)) 1 0 ≡ count_by p xs + cond (p y) 1 0
-count_by_set p xs i y d h = sum_by-set (λ x. cond (p x) 1 0) xs i y d h
+-- a first label is one more
+count-first : (best : List (Option ℕ)) (v x : ℕ) → known_at best v ≡ None → v < length best → count_by is_some (set best v (Some x)) ≡ count_by is_some best + 1
+count-first best v x e within =
+    let count = sum_by-set (λ (o : Option ℕ). cond (is_some o) 1 0) best v (Some x) None within in
+    omega (arith, rw e at count)
 
--- what one node's label may be lowered to
-pub record Lowers (best : List (Option ℕ)) (v x : ℕ) : Type 0 where
-  pub within : v < length best
-  pub lower : (now : ℕ) → known_at best v ≡ Some now → x < now
+-- a label that takes another's place is no more
+count-next : (best : List (Option ℕ)) (v x now : ℕ) → known_at best v ≡ Some now → v < length best → count_by is_some (set best v (Some x)) ≡ count_by is_some best
+count-next best v x now e within =
+    let count = sum_by-set (λ (o : Option ℕ). cond (is_some o) 1 0) best v (Some x) None within in
+    omega (arith, rw e at count)
 
-counted_new : (best : List (Option ℕ)) (v x : ℕ) → known_at best v ≡ None → v < length best → count_by is_some (set best v (Some x)) ≡ count_by is_some best + 1
-counted_new best v x e h = let c = count_by_set is_some best v (Some x) None h in omega (arith, rw e at c)
-
-counted_old : (best : List (Option ℕ)) (v x now : ℕ) → known_at best v ≡ Some now → v < length best → count_by is_some (set best v (Some x)) ≡ count_by is_some best
-counted_old best v x now e h = let c = count_by_set is_some best v (Some x) None h in omega (arith, rw e at c)
-
-lowered : (best : List (Option ℕ)) (v x : ℕ) (o : Option ℕ) → known_at best v ≡ o → x < 2 ^ 61 → Lowers best v x → total (set best v (Some x)) < total best
-lowered best v x None e small h = let c = sum_by-set (λ (p : Option ℕ). unwrap_or p (2 ^ 61)) best v (Some x) None h.within in omega (arith, rw e at c)
-lowered best v x (Some now) e small h =
-    let c = sum_by-set (λ (p : Option ℕ). unwrap_or p (2 ^ 61)) best v (Some x) None h.within in
-    let lt = h.lower now e in
-    omega (arith, rw e at c)
-
-pub total_falls : (best : List (Option ℕ)) (v x : ℕ) → x < 2 ^ 61 → Lowers best v x → total (set best v (Some x)) < total best
-total_falls best v x small h = lowered best v x (known_at best v) refl small h
-
--- a label is below 2 ^ 60, since fewer nodes were reached before it than there are
+-- a label is below 2 ^ 60, since no more nodes have one than there are
 pub known_small : (g : Network) (s : ℕ) (best : List (Option ℕ)) (v d : ℕ) → IsPartial g s best → known_at best v ≡ Some d → d < 2 ^ 60
 known_small g s best v d p e =
     let bound = p.small v d e in
     let most = count_by-le-length is_some best in
     let nodes = p.nodes in
-    ⊎_elim (λ lt. lt) (λ (ge : 2 ^ 60 ≤ d). let products : g.nodes * 2 ^ 60 ≤ g.nodes * d = mul-le-mul_left g.nodes ge in absurd (omega arith)) (cases_lt d (2 ^ 60))
+    elim (cases_lt d (2 ^ 60)) [
+      | inl small ↦ small
+      | inr great ↦ let products : g.nodes * 2 ^ 60 ≤ g.nodes * d = mul-le-mul_left g.nodes great in absurd (omega arith)
+    ]
 
+-- an arc within the limits weighs at most 2 ^ 60, since there is a node
 pub weight_small : (nodes : ℕ) (a : InArc) → IsArcWithin nodes a → a.weight ≤ 2 ^ 60
 weight_small nodes a h =
     let from = h.ends.0 in
     let weight = h.weight in
-    let one : 1 ≤ nodes = omega arith in
-    let products : a.weight * 1 ≤ a.weight * nodes = mul-le-mul_left a.weight one in
+    let some : 1 ≤ nodes = omega arith in
+    let products : a.weight * 1 ≤ a.weight * nodes = mul-le-mul_left a.weight some in
     omega arith
 
-module _ (g : Network) (s : ℕ) (best : List (Option ℕ)) (a : InArc) (before : ℕ) (p : IsPartial g s best) (has : Contains g.arcs a) (fits : IsArcWithin g.nodes a) (from : known_at best a.from ≡ Some before) (h : Lowers best a.to (before + a.weight)) where
-  later : List (Option ℕ)
-  later = set best a.to (Some (before + a.weight))
+-- an arc between nodes, from one that is known, has room for its sum
+pub sum_fits : (g : Network) (s : ℕ) (best : List (Option ℕ)) (a : InArc) (before : ℕ) → IsPartial g s best → IsArcWithin g.nodes a → known_at best a.from ≡ Some before → before + a.weight < 2 ^ 61
+sum_fits g s best a before p fits e =
+    let label = known_small g s best a.from before p e in
+    let weight = weight_small g.nodes a fits in
+    omega arith
 
-  same : known_at later a.to ≡ Some (before + a.weight)
-  unfolding later
-  same = get_or-set_same best a.to (Some (before + a.weight)) None h.within
+-- at first the start alone is known, at no weight
+module _ (g : Network) (s : ℕ) (start : s < g.nodes) where
+  -- no node is known
+  blank : List (Option ℕ)
+  blank = replicate g.nodes None
 
-  other : (v : ℕ) → (v ≡ a.to → ⊥) → known_at later v ≡ known_at best v
-  unfolding later
-  other v ne = get_or-set_other best a.to v (Some (before + a.weight)) None ne
+  size : length blank ≡ g.nodes
+  unfolding blank
+  size = length-replicate g.nodes None
 
-  walks : (v d : ℕ) → known_at later v ≡ Some d → (arcs : List InArc) × IsWalk g s v arcs × (weight_of arcs ≡ d)
-  walks v d e = elim (cases_eq v a.to) [
-    | inl here ↦
-        let at : Some (before + a.weight) ≡ Some d = sym same ∙ ap (known_at later) (sym here) ∙ e in
-        let w = p.walks a.from before from in
-        (w.0 ++ a ∷ [], subst (λ q. IsWalk g s q (w.0 ++ a ∷ [])) (sym here) (walk_push g s a w.0 w.1 has), weight_push a w.0 ∙ ap (λ n. n + a.weight) w.2 ∙ same_Some _ _ at)
-    | inr away ↦ p.walks v d (sym (other v away) ∙ e)
+  first : List (Option ℕ)
+  first = set blank s (Some 0)
+
+  none : (v : ℕ) → known_at blank v ≡ None
+  unfolding blank
+  none v = elim (cases_lt v g.nodes) [
+    | inl within ↦ get_or-replicate g.nodes v None None within
+    | inr past ↦ get_or_past blank v None (omega (arith, size))
   ]
 
-  small_here : (o : Option ℕ) → known_at best a.to ≡ o → g.nodes * (before + a.weight) + 2 ^ 60 ≤ count_by is_some later * 2 ^ 60
+  -- no other node has a label
+  only : (v d : ℕ) → known_at first v ≡ Some d → (s ≡ v) × (0 ≡ d)
+  unfolding first
+  only v d e = elim (cases_eq v s) [
+    | inl same ↦ (sym same, same_Some _ _ (sym (get_or-set_same blank s (Some 0) None (omega (arith, size))) ∙ ap (known_at first) (sym same) ∙ e))
+    | inr away ↦ absurd (none-some _ (sym (get_or-set_other blank s v (Some 0) None away ∙ none v) ∙ e))
+  ]
+
+  pub partial_first : IsPartial g s (set (replicate g.nodes None) s (Some 0))
+  unfolding blank first
+  partial_first = record {
+    nodes = length-set blank s (Some 0) ∙ size;
+    start = get_or-set_same blank s (Some 0) None (omega (arith, size));
+    walks = λ v d e. ([], (only v d e).0, (only v d e).1);
+    small = λ v d e. let one = count-first blank s 0 (none s) (omega (arith, size)) in let zero = (only v d e).1 in rw (sym zero) (omega arith);
+  }
+
+-- an arc of the graph lowers the label of its end
+module _ (g : Network) (s : ℕ) (best : List (Option ℕ)) (new : List (Option ℕ)) (a : InArc) (p : IsPartial g s best) (has : Contains g.arcs a) (fits : IsArcWithin g.nodes a) (h : IsLowered best new a) where
+  -- the new label
+  sum : ℕ
+  sum = h.before + a.weight
+
+  -- the end is a node
+  within : a.to < length best
+  within = let to = fits.ends.1 in let nodes = p.nodes in omega arith
+
+  -- the labels afterwards
+  later : List (Option ℕ)
+  later = set best a.to (Some sum)
+
+  -- the total, whether or not the end had a label
+  total_by : (o : Option ℕ) → known_at best a.to ≡ o → total later < total best
+  unfolding sum later
+  total_by None e =
+      let sums = sum_by-set (λ (o : Option ℕ). unwrap_or o (2 ^ 61)) best a.to (Some (h.before + a.weight)) None within in
+      let fit = sum_fits g s best a h.before p fits h.from in
+      omega (arith, rw e at sums)
+  total_by (Some now) e =
+      let sums = sum_by-set (λ (o : Option ℕ). unwrap_or o (2 ^ 61)) best a.to (Some (h.before + a.weight)) None within in
+      let falls = h.lighter now e in
+      omega (arith, rw e at sums)
+
+  -- the total falls
+  pub total_falls : total new < total best
+  unfolding sum later
+  total_falls = rw h.later (total_by (known_at best a.to) refl)
+
+  -- the end has the new label
+  here : known_at later a.to ≡ Some sum
   unfolding later
+  here = get_or-set_same best a.to (Some sum) None within
+
+  -- every other node keeps its own
+  other : (v : ℕ) → (v ≡ a.to → ⊥) → known_at later v ≡ known_at best v
+  unfolding later
+  other v away = get_or-set_other best a.to v (Some sum) None away
+
+  -- what holds of the new label and held of every label holds of every one
+  each : (P : ℕ → ℕ → Type 0) → P a.to sum → ((v d : ℕ) → known_at best v ≡ Some d → P v d) → (v d : ℕ) → known_at later v ≡ Some d → P v d
+  each P first old v d e = elim (cases_eq v a.to) [
+    | inl same ↦
+        let label : sum ≡ d = same_Some _ _ (sym here ∙ ap (known_at later) (sym same) ∙ e) in
+        subst (λ q. P q d) (sym same) (subst (P a.to) label first)
+    | inr away ↦ old v d (sym (other v away) ∙ e)
+  ]
+
+  -- each label is the weight of a walk
+  walks : (v d : ℕ) → known_at later v ≡ Some d → (arcs : List InArc) × IsWalk g s v arcs × (weight_of arcs ≡ d)
+  unfolding sum
+  walks =
+      let w = p.walks a.from h.before h.from in
+      each (λ v d. (arcs : List InArc) × IsWalk g s v arcs × (weight_of arcs ≡ d))
+      (w.0 ++ a ∷ [], walk_push g s a w.0 w.1 has, weight_push a w.0 ∙ ap (λ n. n + a.weight) w.2)
+      p.walks
+
+  -- no fewer nodes have a label
+  more : (o : Option ℕ) → known_at best a.to ≡ o → count_by is_some best ≤ count_by is_some later
+  unfolding later
+  more None e = omega (arith, count-first best a.to sum e within)
+  more (Some now) e = omega (arith, count-next best a.to sum now e within)
+
+  -- the new label is small, whether or not the end had one
+  small_here : (o : Option ℕ) → known_at best a.to ≡ o → g.nodes * sum + 2 ^ 60 ≤ count_by is_some later * 2 ^ 60
+  unfolding sum later
   small_here None e =
-      let count = counted_new best a.to (before + a.weight) e h.within in
-      let bound = p.small a.from before from in
+      let count = count-first best a.to (h.before + a.weight) e within in
+      let bound = p.small a.from h.before h.from in
       let weight = fits.weight in
       omega arith
   small_here (Some now) e =
-      let count = counted_old best a.to (before + a.weight) now e h.within in
+      let count = count-next best a.to (h.before + a.weight) now e within in
       let bound = p.small a.to now e in
-      let lt = h.lower now e in
-      let le : before + a.weight ≤ now = omega arith in
-      let products : g.nodes * (before + a.weight) ≤ g.nodes * now = mul-le-mul_left g.nodes le in
+      let falls = h.lighter now e in
+      let products : g.nodes * (h.before + a.weight) ≤ g.nodes * now = mul-le-mul_left g.nodes (omega arith) in
       omega arith
 
-  more : (o : Option ℕ) → known_at best a.to ≡ o → count_by is_some best ≤ count_by is_some later
-  unfolding later
-  more None e = omega (arith, counted_new best a.to (before + a.weight) e h.within)
-  more (Some now) e = omega (arith, counted_old best a.to (before + a.weight) now e h.within)
-
+  -- each label is small
   small : (v d : ℕ) → known_at later v ≡ Some d → g.nodes * d + 2 ^ 60 ≤ count_by is_some later * 2 ^ 60
-  small v d e = elim (cases_eq v a.to) [
-    | inl here ↦
-        let at : Some (before + a.weight) ≡ Some d = sym same ∙ ap (known_at later) (sym here) ∙ e in
-        subst (λ q. g.nodes * q + 2 ^ 60 ≤ count_by is_some later * 2 ^ 60) (same_Some _ _ at) (small_here _ refl)
-    | inr away ↦
-        let bound = p.small v d (sym (other v away) ∙ e) in
-        let count = more _ refl in
-        omega arith
-  ]
+  small =
+      let count = more _ refl in
+      each (λ v d. g.nodes * d + 2 ^ 60 ≤ count_by is_some later * 2 ^ 60) (small_here _ refl) (λ v d e. let bound = p.small v d e in omega arith)
 
+  -- the start keeps its label, since none is less
   start : known_at later s ≡ Some 0
   start = elim (cases_eq s a.to) [
-    | inl here ↦ let none = h.lower 0 (ap (known_at best) (sym here) ∙ p.start) in absurd (omega arith)
+    | inl same ↦ let none = h.lighter 0 (ap (known_at best) (sym same) ∙ p.start) in absurd (omega arith)
     | inr away ↦ other s away ∙ p.start
   ]
 
-  pub partial_lowered : IsPartial g s (set best a.to (Some (before + a.weight)))
-  unfolding later
-  partial_lowered = record { nodes = length-set best a.to _ ∙ p.nodes; start = start; walks = walks; small = small }
-
--- at the start, before any arc
+  -- all that was known of the labels is known of the new ones
+  pub partial_lowered : IsPartial g s new
+  unfolding sum later
+  partial_lowered = rw h.later (record { nodes = length-set best a.to _ ∙ p.nodes; start = start; walks = walks; small = small })

@@ -1,5 +1,7 @@
 -- Costs: a weight and a number of arcs, compared by weight first, added by parts.
 use Rattle.std.specs.Prelude.{◌+◌, ◌<◌, ◌≤◌}
+use Rattle.std.specs.Ordering.{ordering_then, nat_cmp}
+use Rattle.std.specs.declared.cmp.Ordering.{Ordering}
 use Rattle.ch_graph.specs.declared.cost.Cost.{Cost}
 
 -- a costs at most b: it weighs no more, and at equal weight has no more arcs
@@ -9,6 +11,10 @@ IsAtMost a b = (a.weight ≤ b.weight) × (b.weight ≤ a.weight → a.arcs ≤ 
 -- a costs less than b
 abbrev pub IsBelow : Cost → Cost → Type 0
 IsBelow a b = (a.weight ≤ b.weight) × (b.weight ≤ a.weight → a.arcs < b.arcs)
+
+-- how a compares with b: by weight, and at equal weight by number of arcs
+abbrev pub cost_cmp : Cost → Cost → Ordering
+cost_cmp a b = ordering_then (nat_cmp a.weight b.weight) (nat_cmp a.arcs b.arcs)
 
 -- what a walk and a walk after it cost together
 abbrev pub cost_sum : Cost → Cost → Cost

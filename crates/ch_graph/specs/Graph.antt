@@ -21,6 +21,7 @@ pub record IsArcWithin (nodes : ℕ) (a : InArc) : Type 0 where
 abbrev pub HasSize : Network → Type 0
 HasSize g = (g.nodes ≤ 2 ^ 25) × (length g.arcs ≤ 2 ^ 27)
 
+-- a graph of this crate
 pub record IsWithinLimits (g : Network) : Type 0 where
   pub size : HasSize g
   pub each : All (IsArcWithin g.nodes) g.arcs

@@ -1,4 +1,6 @@
 pub mod Cost
+pub mod CostLaws
 pub mod Graph
 pub mod Walk
 pub mod Relaxing
+pub mod Rows

@@ -1,5 +1,5 @@
 -- What the plain distance knows of each node while it relaxes arcs.
-use Rattle.std.specs.Prelude.{◌≡◌, ℕ, ◌+◌, ◌*◌, ◌^◌, ◌≤◌, List, length, slice_index_or, unwrap_or, is_some, Option, Some, None}
+use Rattle.std.specs.Prelude.{◌≡◌, ℕ, ◌+◌, ◌*◌, ◌^◌, ◌<◌, ◌≤◌, Bool, true, false, List, All, length, slice_index_or, slice_set, unwrap_or, is_some, Option, Some, None}
 use Rattle.std.specs.List.{sum_by, count_by}
 use Rattle.ch_graph.specs.declared.arc.InArc.{InArc}
 use Rattle.ch_graph.specs.Graph.{Network}
@@ -9,7 +9,7 @@ use Rattle.ch_graph.specs.Walk.{IsWalk, weight_of}
 abbrev pub known_at : List (Option ℕ) → ℕ → Option ℕ
 known_at best v = slice_index_or best v None
 
--- what is known is the weight of a walk from s; the k-th node to be reached is reached by at most k arcs' weights
+-- what is known of a node is the weight of a walk from s, and at most one greatest arc's weight for each other node that is known
 pub record IsPartial (g : Network) (s : ℕ) (best : List (Option ℕ)) : Type 0 where
   pub nodes : length best ≡ g.nodes
   pub start : known_at best s ≡ Some 0
@@ -23,3 +23,15 @@ IsRelaxed best a = (d : ℕ) → known_at best a.from ≡ Some d → (e : ℕ) �
 -- falls with each change
 abbrev pub total : List (Option ℕ) → ℕ
 total best = sum_by (λ o. unwrap_or o (2 ^ 61)) best
+
+-- the arc showed a lighter walk to its end than was known, and that is known now
+pub record IsLowered (old new : List (Option ℕ)) (a : InArc) : Type 0 where
+  pub before : ℕ
+  pub from : known_at old a.from ≡ Some before
+  pub lighter : (now : ℕ) → known_at old a.to ≡ Some now → before + a.weight < now
+  pub later : new ≡ slice_set old a.to (Some (before + a.weight))
+
+-- these arcs were relaxed in turn: that changed something, so the total fell, or nothing, since each was relaxed already
+pub record IsRound (changed : Bool) (old new : List (Option ℕ)) (arcs : List InArc) : Type 0 where
+  pub less : changed ≡ true → total new < total old
+  pub same : changed ≡ false → (new ≡ old) × All (IsRelaxed old) arcs

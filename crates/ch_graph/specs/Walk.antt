@@ -11,9 +11,11 @@ abbrev pub IsWalk : Network → ℕ → ℕ → List InArc → Type 0
 IsWalk g s t [] = s ≡ t
 IsWalk g s t (a ∷ arcs) = Contains g.arcs a × (a.from ≡ s) × IsWalk g a.to t arcs
 
+-- the sum of the weights
 abbrev pub weight_of : List InArc → ℕ
 weight_of arcs = sum_by (λ a. a.weight) arcs
 
+-- the sum of the weights and the number of arcs
 abbrev pub cost_of : List InArc → Cost
 cost_of arcs = record { weight = weight_of arcs; arcs = length arcs }
 

@@ -1,16 +1,24 @@
-//! Directed graphs with weighted arcs, the costs of walks, and the plain distance between two nodes.
+//! Directed graphs with weighted arcs, the costs of walks, rows of values by node, and the plain distance
+//! between two nodes.
 //!
 //! It stands on std alone. Proved of it: a [`Graph`] keeps the limits on sizes and weights, and
 //! [`Graph::new`] names the first fault; [`plain_distance`] is the least weight of a walk, or says that
-//! there is no walk.
+//! there is no walk; a row of [`Rows`] holds the values of its key in the given order; [`Cost`]s are in a
+//! total order that sums keep, and comparing two of them tells it ([`laws`]). Want of memory aside, each of
+//! these holds for every input.
 #![tactic(auto)]
 
 mod arc;
 mod cost;
 mod graph;
+pub mod laws;
 mod plain;
+mod rows;
+#[cfg(test)]
+mod tests;
 
 pub use arc::InArc;
 pub use cost::Cost;
 pub use graph::{Graph, GraphFault};
 pub use plain::plain_distance;
+pub use rows::Rows;

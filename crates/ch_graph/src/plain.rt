@@ -1,8 +1,8 @@
 //! The distance between two nodes by rounds of relaxation (Bellman 1958, Ford 1956).
-ghost use Rattle.std.specs.Prelude.{◌≡◌, ◌<◌, All, Contains, IfOk, true, false};
-ghost use Rattle.ch_graph.specs.Graph.{IsArcWithin};
+ghost use Rattle.std.specs.Prelude.{◌≡◌, ℕ, ◌+◌, ◌^◌, ◌<◌, length, replicate, slice_set, All, IfOk, true, false};
+ghost use Rattle.std.specs.Option.{ForSome};
 ghost use Rattle.ch_graph.specs.Walk.{IsAnswer};
-ghost use Rattle.ch_graph.specs.Relaxing.{IsPartial, IsRelaxed, total};
+ghost use Rattle.ch_graph.specs.Relaxing.{IsPartial, IsRelaxed, IsLowered, IsRound, known_at};
 
 use crate::arc::InArc;
 use crate::graph::Graph;
@@ -24,45 +24,50 @@ pub fn plain_distance(
     requires end { end < graph.now.nodes }
     ensures { IfOk result (IsAnswer graph.now start end) }
 {
-    let mut best = vec![in alloc; None; graph.nodes() as usize]?;
-    best[start as usize] = Some(0);
-    settle(&mut best, graph, start);
+    let mut best = first_labels(alloc, graph.nodes(), start)?;
+    settle(&mut best, graph);
     Ok(best[end as usize])
 }
 
+/// What is known before any arc: `start` is reached at no weight.
+fn first_labels(alloc: Global, nodes: u32, start: u32) -> Result<Vec<Option<u64>>, AllocError>
+    requires { start < nodes }
+    ensures { IfOk result (λ best. best.items ≡ slice_set (replicate nodes None) start (Some 0)) }
+{
+    let mut best = vec![in alloc; None; nodes as usize]?;
+    best[start as usize] = Some(0);
+    Ok(best)
+}
+
 /// Relaxes the arcs in rounds until nothing changes.
-fn settle(best: &mut [Option<u64>], graph: &Graph, start: u32)
-    requires { IsPartial graph.now start best.old }
-    ensures known { IsPartial graph.now start best.new }
+fn settle(best: &mut [Option<u64>], graph: &Graph)
+    requires { (s : ℕ) × IsPartial graph.now s best.old }
+    ensures known { (s : ℕ) → IsPartial graph.now s best.old → IsPartial graph.now s best.new }
     ensures relaxed { All (IsRelaxed best.new) graph.now.arcs }
 {
-    while relax_all(best, graph, start) {}
+    while relax_all(best, graph) {}
 }
 
 /// Relaxes each arc once, and says whether anything changed.
-fn relax_all(best: &mut [Option<u64>], graph: &Graph, start: u32) -> bool
-    requires { IsPartial graph.now start best.old }
-    ensures known { IsPartial graph.now start best.new }
-    ensures same { result ≡ false → (best.new ≡ best.old) × All (IsRelaxed best.old) graph.now.arcs }
-    ensures less { result ≡ true → total best.new < total best.old }
+fn relax_all(best: &mut [Option<u64>], graph: &Graph) -> bool
+    requires { (s : ℕ) × IsPartial graph.now s best.old }
+    ensures known { (s : ℕ) → IsPartial graph.now s best.old → IsPartial graph.now s best.new }
+    ensures round { IsRound result best.old best.new graph.now.arcs }
 {
     let mut changed = false;
     for arc in graph.arcs() {
-        if relax(best, graph, start, *arc) {
-            changed = true;
-        }
+        changed |= relax(best, *arc);
     }
     changed
 }
 
 /// Lowers what is known of the arc's end where the arc shows a lighter walk, and says whether it did.
-fn relax(best: &mut [Option<u64>], graph: &Graph, start: u32, arc: InArc) -> bool
-    requires known { IsPartial graph.now start best.old }
-    requires arc { Contains graph.now.arcs arc }
-    requires limits { IsArcWithin graph.now.nodes arc }
-    ensures known { IsPartial graph.now start best.new }
+fn relax(best: &mut [Option<u64>], arc: InArc) -> bool
+    requires from { arc.from < length best.old }
+    requires to { arc.to < length best.old }
+    requires sum { ForSome (known_at best.old arc.from) (λ before. before + arc.weight < 2 ^ 64) }
+    ensures lowered { result ≡ true → IsLowered best.old best.new arc }
     ensures same { result ≡ false → (best.new ≡ best.old) × IsRelaxed best.old arc }
-    ensures less { result ≡ true → total best.new < total best.old }
 {
     let Some(before) = best[arc.from as usize] else {
         return false;

@@ -1,9 +1,10 @@
-use Rattle.std.proofs.Common.{◌≡◌, ℕ, ◌<◌, arith, length, Option, Some, None, sym, ◌∙◌, List, All, ◌++◌, get_or, take}
+use Rattle.std.proofs.Common.{set, replicate, ◌≡◌, ℕ, ◌<◌, arith, length, Option, Some, None, sym, ◌∙◌, List, All, ◌++◌, get_or, take}
 use Rattle.std.proofs.lemmas.List.{get_or_append_left, get_or_default, get_or-take}
 use Rattle.std.proofs.lemmas.Option.{same_Some, none-some}
 use Rattle.ch_graph.specs.Graph.{Network}
 use Rattle.ch_graph.specs.Walk.{IsAnswer}
 use Rattle.ch_graph.specs.Relaxing.{known_at, IsPartial, IsRelaxed}
+use Rattle.ch_graph.proofs.Labels.{partial_first}
 use Rattle.ch_graph.proofs.WalkLemmas.{relaxed_walk}
 use Rattle.ch_graph.proofs.plain.plain_distance.Goals as goal
 
@@ -19,9 +20,17 @@ settled g s t best (Some x) e p relaxed = record {
 read : (new rest : List (Option ℕ)) (len e : ℕ) (r : Option ℕ) → e < len → e < length new → r ≡ get_or (take len (new ++ rest)) e r → r ≡ known_at new e
 read new rest len e r low within is = is ∙ get_or-take len (new ++ rest) e r low ∙ get_or_append_left new rest r e within ∙ get_or_default new e r None within
 
+-- what is known at first, as it is lent
+first : (g : Network) (s nodes : ℕ) (best lent : List (Option ℕ)) → s < g.nodes → nodes ≡ g.nodes → best ≡ set (replicate nodes None) s (Some 0) → lent ≡ best → IsPartial g s lent
+first g s nodes best lent start size is same = rw (same ∙ is, size) (partial_first g s start)
+
+pub settle-requires : goal.settle-requires
+settle-requires c = (c.args.start, first _ _ _ _ _ c.requires.start c.nodes.ensures c.in_ok-best.ensures c.deref_mut.ensures.value)
+
 pub returns : goal.returns
 returns c =
-    let size = c.settle.ensures.known.nodes in
-    let len = c.in_ok-best.ensures.len in
-    let nodes = c.nodes.ensures in
-    settled _ _ _ c.settle.new.best _ (read c.settle.new.best _ _ _ _ (omega arith) (omega arith) c.index.ensures) c.settle.ensures.known c.settle.ensures.relaxed
+    let known = c.settle.ensures.known c.args.start (first _ _ _ _ _ c.requires.start c.nodes.ensures c.in_ok-best.ensures c.deref_mut.ensures.value) in
+    let size = known.nodes in
+    let kept = c.settle.auto.best in
+    let len = c.deref_mut.ensures.len in
+    settled _ _ _ c.settle.new.best _ (read c.settle.new.best _ _ _ _ (omega arith) (omega arith) c.index.ensures) known c.settle.ensures.relaxed

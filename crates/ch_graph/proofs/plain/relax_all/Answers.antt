@@ -1,48 +1,53 @@
-use Rattle.std.proofs.Common.{◌≡◌, ℕ, ◌+◌, ◌<◌, ◌≤◌, arith, length, Option, sym, ◌∙◌, take, All, subst, get_or, List, ap, take_all}
-use Rattle.std.proofs.lemmas.List.Elements.{All-more}
+use Rattle.std.proofs.Common.{◌≡◌, ℕ, ◌+◌, ◌<◌, ◌≤◌, ◌||◌, Bool, true, false, List, All, Contains, Option, length, get_or, take, take_all, arith, ap, subst, sym, refl, ◌∙◌}
+use Rattle.std.proofs.lemmas.List.Elements.{All-more, Contains-get_or}
 use Rattle.ch_graph.specs.declared.arc.InArc.{InArc}
-use Rattle.ch_graph.specs.Relaxing.{IsRelaxed, total}
+use Rattle.ch_graph.specs.Graph.{Network, IsArcWithin, IsWithinLimits}
+use Rattle.ch_graph.specs.Relaxing.{IsPartial, IsRelaxed, IsLowered, IsRound, total}
+use Rattle.ch_graph.proofs.Labels.{partial_lowered, total_falls, sum_fits}
 use Rattle.ch_graph.proofs.plain.relax_all.Goals as goal
-use Rattle.ch_graph.proofs.plain.relax_all.Goals.{then-relax, else-relax}
 
--- one more arc is relaxed
-more : (items arcs : List InArc) (i : ℕ) (d : InArc) (new old : List (Option ℕ)) → items ≡ arcs → i < length items → new ≡ old → All (IsRelaxed old) (take i arcs) → IsRelaxed old (get_or items i d) → All (IsRelaxed new) (take (i + 1) arcs)
-more items arcs i d new old e h same before one =
-    subst (λ b. All (IsRelaxed b) (take (i + 1) arcs)) (sym same)
-    (All-more (IsRelaxed old) arcs i d (rw e at h) before (subst (λ xs. IsRelaxed old (get_or xs i d)) e one))
+module _ (g : Network) (lent : List InArc) (i : ℕ) (d : InArc) (whole : lent ≡ g.arcs) (within : i < length lent) where
+  -- the arc at place i is one of the graph's
+  stands : Contains g.arcs (get_or lent i d)
+  stands = subst (λ xs. Contains xs (get_or lent i d)) whole (Contains-get_or lent i d within)
+
+  fits : IsWithinLimits g → IsArcWithin g.nodes (get_or lent i d)
+  fits limits = subst (λ xs. IsArcWithin g.nodes (get_or xs i d)) (sym whole) (limits.each i d (rw whole at within))
+
+  module _ (limits : IsWithinLimits g) (old mid new : List (Option ℕ)) where
+    -- relaxing it keeps what is known
+    known : (one : Bool) (s : ℕ) → IsPartial g s mid → (one ≡ true → IsLowered mid new (get_or lent i d)) → (one ≡ false → (new ≡ mid) × IsRelaxed mid (get_or lent i d)) → IsPartial g s new
+    known true s p lowered same = partial_lowered g s mid new _ p stands (fits limits) (lowered refl)
+    known false s p lowered same = subst (IsPartial g s) (sym (same refl).0) p
+
+    kept : IsRound false old mid (take i g.arcs) → (new ≡ mid) × IsRelaxed mid (get_or lent i d) → (new ≡ old) × All (IsRelaxed old) (take (i + 1) g.arcs)
+    kept before next =
+        let same = before.same refl in
+        let relaxed : IsRelaxed old (get_or g.arcs i d) = rw (sym same.0, sym whole) next.1 in
+        (next.0 ∙ same.0, All-more (IsRelaxed old) g.arcs i d (rw whole at within) same.1 relaxed)
+
+    -- the round that it ends is over one arc more
+    round : (changed one : Bool) (s : ℕ) → IsPartial g s mid → IsRound changed old mid (take i g.arcs) → (one ≡ true → IsLowered mid new (get_or lent i d)) → (one ≡ false → (new ≡ mid) × IsRelaxed mid (get_or lent i d)) → IsRound (changed || one) old new (take (i + 1) g.arcs)
+    round true true s p before lowered same = record { less = λ _. omega (arith, before.less refl, total_falls g s mid new _ p stands (fits limits) (lowered refl)); same = λ e. cc }
+    round true false s p before lowered same = record { less = λ _. omega (arith, before.less refl, ap total (same refl).0); same = λ e. cc }
+    round false true s p before lowered same = record { less = λ _. omega (arith, ap total (before.same refl).0, total_falls g s mid new _ p stands (fits limits) (lowered refl)); same = λ e. cc }
+    round false false s p before lowered same = record { less = λ e. cc; same = λ _. kept before (same refl) }
+
+pub relax-changed-requires-clause-sum : goal.relax-changed-requires-clause-sum
+relax-changed-requires-clause-sum c before e =
+    let p = c.loop-arc.invariant.known c.requires.0 c.requires.1 in
+    let within = fits _ _ _ _ c.arcs-arc-items.ensures.arcs c.loop-arc-test.true c.arcs-arc-items.ensures.limits in
+    omega (arith, sum_fits _ _ _ _ before p within e)
 
 pub loop-arc-preserved : goal.loop-arc-preserved
-loop-arc-preserved c = (
-  c.relax.ensures.known,
-  (λ e. elim c.if-relax.branch [
-    | then-relax w ↦ let is = w.changed-is in cc
-    | else-relax w ↦
-        let same = c.relax.ensures.same w.if-relax.false in
-        let before = c.loop-arc.invariant.1 (sym w.changed-is ∙ e) in
-        (same.0 ∙ before.0, more _ _ _ _ _ _ c.arcs-arc-items.ensures.arcs c.loop-arc-test.true same.0 before.1 same.1)
-  ]),
-  (λ e. elim c.if-relax.branch [
-    | then-relax w ↦ let less = c.relax.ensures.less w.if-relax.true in let most = c.loop-arc.invariant.3 in omega arith
-    | else-relax w ↦
-        let less = c.loop-arc.invariant.2 (sym w.changed-is ∙ e) in
-        let same = ap total (c.relax.ensures.same w.if-relax.false).0 in
-        omega arith
-  ]),
-  elim c.if-relax.branch [
-    | then-relax w ↦ let less = c.relax.ensures.less w.if-relax.true in let most = c.loop-arc.invariant.3 in omega arith
-    | else-relax w ↦
-        let same = ap total (c.relax.ensures.same w.if-relax.false).0 in
-        let most = c.loop-arc.invariant.3 in
-        omega arith
-  ],
-)
+loop-arc-preserved c = record {
+  known = λ s p. known _ _ _ _ c.arcs-arc-items.ensures.arcs c.loop-arc-test.true c.arcs-arc-items.ensures.limits c.args.best.now _ _ _ s (c.loop-arc.invariant.known s p) c.relax-changed.ensures.lowered c.relax-changed.ensures.same;
+  round = round _ _ _ _ c.arcs-arc-items.ensures.arcs c.loop-arc-test.true c.arcs-arc-items.ensures.limits _ _ _ _ _ _ (c.loop-arc.invariant.known c.requires.0 c.requires.1) c.loop-arc.invariant.round c.relax-changed.ensures.lowered c.relax-changed.ensures.same;
+}
 
-whole : (items arcs : List InArc) (i : ℕ) (new old : List (Option ℕ)) → items ≡ arcs → length items ≤ i → new ≡ old → All (IsRelaxed new) (take i arcs) → All (IsRelaxed old) arcs
-whole items arcs i new old e h same all =
-    let past : length arcs ≤ i = rw e at h in
-    subst (λ b. All (IsRelaxed b) arcs) same (subst (All (IsRelaxed new)) (take_all i arcs past) all)
+-- past the last arc, the round is over all of them
+past : (changed : Bool) (old new : List (Option ℕ)) (lent arcs : List InArc) (i : ℕ) → lent ≡ arcs → length lent ≤ i → IsRound changed old new (take i arcs) → IsRound changed old new arcs
+past changed old new lent arcs i whole end round = subst (IsRound changed old new) (take_all i arcs (rw whole at end)) round
 
-pub returns-clause-same : goal.returns-clause-same
-returns-clause-same c e =
-    let s = c.loop-arc.invariant.1 e in
-    (s.0, whole _ _ _ _ _ c.arcs-arc-items.ensures.arcs c.loop-arc-test.false s.0 s.1)
+pub returns-clause-round : goal.returns-clause-round
+returns-clause-round c = past _ _ _ _ _ _ c.arcs-arc-items.ensures.arcs c.loop-arc-test.false c.loop-arc.invariant.round

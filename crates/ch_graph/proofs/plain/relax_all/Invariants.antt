@@ -1,6 +1,9 @@
-use Rattle.std.proofs.Common.{◌≡◌, ◌<◌, ◌≤◌, All, true, false, take}
-use Rattle.ch_graph.specs.Relaxing.{IsPartial, IsRelaxed, total}
+use Rattle.std.proofs.Common.{ℕ, take}
+use Rattle.ch_graph.specs.Relaxing.{IsPartial, IsRound}
 use Rattle.ch_graph.proofs.plain.relax_all.Given as goal
 
 abbrev pub invariant-loop-arc : goal.invariant-loop-arc
-invariant-loop-arc l = IsPartial l.graph l.start l.best × (l.changed ≡ false → (l.best ≡ l.initial.best) × All (IsRelaxed l.best) (take l.arc-index l.graph.arcs)) × (l.changed ≡ true → total l.best < total l.initial.best) × (total l.best ≤ total l.initial.best)
+invariant-loop-arc l = record {
+  known : (s : ℕ) → IsPartial l.graph s l.initial.best → IsPartial l.graph s l.best;
+  round : IsRound l.changed l.initial.best l.best (take l.arc-index l.graph.arcs);
+}

@@ -1,8 +1,9 @@
+use Rattle.std.proofs.Common.{ℕ}
 use Rattle.ch_graph.specs.Relaxing.{IsPartial, total}
 use Rattle.ch_graph.proofs.plain.settle.Given as goal
 
 abbrev pub invariant-loop : goal.invariant-loop
-invariant-loop l = IsPartial l.graph l.start l.best
+invariant-loop l = (s : ℕ) → IsPartial l.graph s l.initial.best → IsPartial l.graph s l.best
 
 abbrev pub decreases-loop : goal.decreases-loop
 decreases-loop l = total l.best

@@ -1,0 +1,254 @@
+-- The checks of one line: words that stand before the numbers, and limits on capped numbers.
+use Rattle.std.proofs.Common.{Bor, ◌≡◌, ℕ, zero, suc, ◌-◌, ◌*◌, ◌<◌, ◌≤◌, ◌^◌, ◌&&◌, ◌⊎◌, inl, inr, Bool, true, false, cond, eqb, leb, ltb, List, [], ◌∷◌, ◌++◌, length, map, take, get_or, Option, Some, None, refl, sym, ◌∙◌, ap, arith, append_assoc, lit<, lit≤, zero-mul}
+use Rattle.std.specs.Prelude.{MatchOption, replicate}
+use Rattle.std.specs.List.{list_all}
+use Rattle.std.specs.Str.{bytes_eq}
+use Rattle.std.proofs.Math.Nat.{eq-zero-or-pos}
+use Rattle.std.proofs.lemmas.Bool.{cases_lt, eqb-true, leb-true}
+use Rattle.std.proofs.lemmas.Bool.Decides.{nat_tests}
+use Rattle.std.proofs.lemmas.List.{append-nil, get_or_past}
+use Rattle.std.proofs.lemmas.Option.{none-some}
+use Rattle.ch_read.specs.declared.form.Form.{Form}
+use Rattle.ch_read.specs.declared.form.Form.TheVariants.{Graph, Queries, Nodes}
+use Rattle.ch_read.specs.declared.form.Heading.{Heading}
+use Rattle.ch_read.specs.declared.fault.FaultKind.TheVariants.{NodeRange, Sum}
+use Rattle.ch_read.specs.Words.{words}
+use Rattle.ch_read.specs.Forms.{numbers, numbers_after, heading_from, item_size, node_count, item_word, item}
+use Rattle.ch_read.specs.Checks.{is_size, is_node, are_nodes, is_weight, first_failing, item_checks}
+use Rattle.ch_read.specs.Reading.{IsOther, IsAfter, AreCapped, capped, item_from, IsItemWithin, IsItem}
+use Rattle.ch_read.proofs.Numbers.{length-numbers}
+
+-- words before the numbers, some and then more
+
+pub other_front : (front next ws : List (List ℕ)) → IsOther front ws → IsOther (front ++ next) ws
+other_front front next ws other more count = rw append_assoc (other (next ++ more) count)
+
+pub and_next : (front next ws rest : List (List ℕ)) (o : Option (Bor (List ℕ))) → IsAfter front ws rest → MatchOption o (IsOther next rest) (λ after. IsAfter next rest (words after.now)) →
+    MatchOption o (IsOther (front ++ next) ws) (λ after. IsAfter (front ++ next) ws (words after.now))
+and_next front next ws rest None begins other = λ more count. rw append_assoc (begins (next ++ more) count ∙ other more count)
+and_next front next ws rest (Some after) begins again = λ more count. rw append_assoc (begins (next ++ more) count ∙ again more count)
+
+-- the numbers after words that stand before them
+pub numbers_next : (front ws rest : List (List ℕ)) (count : ℕ) → IsAfter front ws rest → numbers_after front count ws ≡ numbers_after [] count rest
+numbers_next front ws rest count begins = ap (λ hs. numbers_after hs count ws) (sym (append-nil front)) ∙ begins [] count
+
+pub no_numbers : (front ws : List (List ℕ)) (count : ℕ) → IsOther front ws → numbers_after front count ws ≡ None
+no_numbers front ws count other = ap (λ hs. numbers_after hs count ws) (sym (append-nil front)) ∙ other [] count
+
+pub length-numbers_after : (front ws : List (List ℕ)) (count : ℕ) (ns : List ℕ) → numbers_after front count ws ≡ Some ns → length ns ≡ count
+length-numbers_after [] ws count ns e = at (eqb (length ws) count) refl e
+  where
+    at : (b : Bool) → eqb (length ws) count ≡ b → cond b (numbers ws) None ≡ Some ns → length ns ≡ count
+    at true h e = length-numbers ws ns e ∙ eqb-true (length ws) count h
+    at false h e = absurd (none-some ns e)
+length-numbers_after (h ∷ hs) [] count ns e = absurd (none-some ns e)
+length-numbers_after (h ∷ hs) (w ∷ ws) count ns e = at (bytes_eq w h) e (length-numbers_after hs ws count ns)
+  where
+    at : (b : Bool) → cond b (numbers_after hs count ws) None ≡ Some ns → (numbers_after hs count ws ≡ Some ns → length ns ≡ count) → length ns ≡ count
+    at true e more = more e
+    at false e more = absurd (none-some ns e)
+
+-- a capped number passes a limit exactly where the number does
+
+zero_at : (m k : ℕ) → get_or (replicate {A = ℕ} m 0) k 0 ≡ 0
+zero_at zero k = refl
+zero_at (suc m) zero = refl
+zero_at (suc m) (suc k) = zero_at m k
+
+pub capped_at : (ns : List ℕ) (m k : ℕ) → get_or (map capped ns ++ replicate m 0) k 0 ≡ capped (get_or ns k 0)
+capped_at [] m k = zero_at m k
+capped_at (n ∷ ns) m zero = refl
+capped_at (n ∷ ns) m (suc k) = capped_at ns m k
+
+capped_same : (n : ℕ) → n ≤ 18446744073709551615 → capped n ≡ n
+capped_same n le = omega arith
+
+capped_le : (n m : ℕ) → m < 18446744073709551615 → leb (capped n) m ≡ leb n m
+capped_le n m lt = grind (arith, nat_tests)
+
+one_le_capped : (n : ℕ) → leb 1 (capped n) ≡ leb 1 n
+one_le_capped n = grind (arith, nat_tests)
+
+is_node-capped : (nodes v : ℕ) → nodes < 2 ^ 32 → is_node nodes (capped v) ≡ is_node nodes v
+is_node-capped nodes v small =
+    let fits : nodes < 18446744073709551615 = omega arith in
+    rw (one_le_capped v, capped_le v nodes fits) refl
+
+nodes-capped : (nodes : ℕ) → nodes < 2 ^ 32 → (k : ℕ) (ns : List ℕ) (m : ℕ) → k ≤ length ns →
+    list_all (is_node nodes) (take k (map capped ns ++ replicate m 0)) ≡ list_all (is_node nodes) (take k ns)
+nodes-capped nodes small zero ns m le = refl
+nodes-capped nodes small (suc k) [] m le = absurd (omega arith)
+nodes-capped nodes small (suc k) (n ∷ ns) m le = rw (is_node-capped nodes n small, nodes-capped nodes small k ns m (omega arith)) refl
+
+past_limit : (n m : ℕ) → m < n → leb n m ≡ false
+past_limit n m lt = grind (arith, nat_tests)
+
+-- what some nodes multiply is no less for it
+no_less : (nodes w : ℕ) → 0 < nodes → w ≤ nodes * w
+no_less nodes w some = grind arith
+
+weight-capped : (nodes w : ℕ) → leb (nodes * capped w) (2 ^ 60) ≡ leb (nodes * w) (2 ^ 60)
+weight-capped nodes w = at (cases_lt 18446744073709551615 w) (eq-zero-or-pos nodes)
+  where
+    at : (18446744073709551615 < w) ⊎ (w ≤ 18446744073709551615) → (nodes ≡ 0) ⊎ (0 < nodes) → leb (nodes * capped w) (2 ^ 60) ≡ leb (nodes * w) (2 ^ 60)
+    at (inr le) z = rw (capped_same w le) refl
+    at (inl lt) (inl none) =
+        let capped_none : nodes * capped w ≡ 0 = ap (λ n. n * capped w) none ∙ zero-mul (capped w) in
+        let real_none : nodes * w ≡ 0 = ap (λ n. n * w) none ∙ zero-mul w in
+        rw (capped_none, real_none) refl
+    at (inl lt) (inr some) =
+        let greatest : capped w ≡ 18446744073709551615 = omega arith in
+        let capped_past : 2 ^ 60 < nodes * capped w = omega (arith, no_less nodes (capped w) some) in
+        let real_past : 2 ^ 60 < nodes * w = omega (arith, no_less nodes w some) in
+        past_limit (nodes * capped w) (2 ^ 60) capped_past ∙ sym (past_limit (nodes * w) (2 ^ 60) real_past)
+
+pub both_are : (a b : Bool) → (a && b) ≡ true → (a ≡ true) × (b ≡ true)
+both_are true b e = (refl, e)
+both_are false b e = cc
+
+all_at : (p : ℕ → Bool) (k : ℕ) (ns : List ℕ) (i : ℕ) → i < k → i < length ns → list_all p (take k ns) ≡ true → p (get_or ns i 0) ≡ true
+all_at p zero ns i lt within h = absurd (omega arith)
+all_at p (suc k) [] i lt within h = absurd (omega arith)
+all_at p (suc k) (n ∷ ns) zero lt within h = (both_are (p n) (list_all p (take k ns)) h).0
+all_at p (suc k) (n ∷ ns) (suc i) lt within h = all_at p k ns i (omega arith) (omega arith) (both_are (p n) (list_all p (take k ns)) h).1
+
+-- an item of a form has its nodes among its numbers
+fewer : (form : Form) → node_count form ≤ item_size form
+fewer Graph = lit≤ tt
+fewer (Queries n) = lit≤ tt
+fewer (Nodes n) = lit≤ tt
+
+-- the bounds on an item's numbers that its checks give
+pub record HasBounds (nodes : ℕ) (ns : List ℕ) : Type 0 where
+  pub first : get_or ns 0 0 ≤ nodes
+  pub first_below : get_or ns 0 0 - 1 < nodes
+  pub second : get_or ns 1 0 ≤ nodes
+  pub second_below : get_or ns 1 0 - 1 < nodes
+  pub weight : get_or ns 2 0 ≤ 2 ^ 60
+
+node_at : (nodes k : ℕ) (ns : List ℕ) (i : ℕ) → i < k → i < length ns → list_all (is_node nodes) (take k ns) ≡ true → (1 ≤ get_or ns i 0) × (get_or ns i 0 ≤ nodes)
+node_at nodes k ns i lt within h =
+    let both = both_are (leb 1 (get_or ns i 0)) (leb (get_or ns i 0) nodes) (all_at (is_node nodes) k ns i lt within h) in
+    (leb-true 1 (get_or ns i 0) both.0, leb-true (get_or ns i 0) nodes both.1)
+
+pub bounds : (form : Form) (nodes : ℕ) (ns : List ℕ) → IsItemWithin form nodes ns → HasBounds nodes ns
+bounds Graph nodes ns within =
+    let long : length ns ≡ 3 = within.long in
+    let a = node_at nodes 2 ns 0 (lit< tt) (omega arith) within.nodes_are in
+    let b = node_at nodes 2 ns 1 (lit< tt) (omega arith) within.nodes_are in
+    let w : nodes * get_or ns 2 0 ≤ 2 ^ 60 = leb-true (nodes * get_or ns 2 0) (2 ^ 60) within.weight_is in
+    record { first = a.1; first_below = omega arith; second = b.1; second_below = omega arith; weight = omega (arith, no_less nodes (get_or ns 2 0) (omega arith), w) }
+bounds (Queries n) nodes ns within =
+    let long : length ns ≡ 2 = within.long in
+    let a = node_at nodes 2 ns 0 (lit< tt) (omega arith) within.nodes_are in
+    let b = node_at nodes 2 ns 1 (lit< tt) (omega arith) within.nodes_are in
+    let none : get_or ns 2 0 ≡ 0 = get_or_past ns 2 0 (omega arith) in
+    record { first = a.1; first_below = omega arith; second = b.1; second_below = omega arith; weight = omega arith }
+bounds (Nodes n) nodes ns within =
+    let long : length ns ≡ 1 = within.long in
+    let a = node_at nodes 1 ns 0 (lit< tt) (omega arith) within.nodes_are in
+    let none : get_or ns 1 0 ≡ 0 = get_or_past ns 1 0 (omega arith) in
+    let no_weight : get_or ns 2 0 ≡ 0 = get_or_past ns 2 0 (omega arith) in
+    record { first = a.1; first_below = omega arith; second = omega arith; second_below = omega arith; weight = omega arith }
+
+-- a problem line's numbers
+module _ (ns : List ℕ) (m : ℕ) where
+  abbrev values : List ℕ
+  values = map capped ns ++ replicate m 0
+
+  pub is_size-capped : (form : Form) → is_size form (heading_from form values) ≡ is_size form (heading_from form ns)
+  is_size-capped Graph = rw (capped_at ns m 0, capped_at ns m 1, capped_le (get_or ns 0 0) (2 ^ 25) (lit< tt), capped_le (get_or ns 1 0) (2 ^ 27) (lit< tt)) refl
+  is_size-capped (Queries n) = rw (capped_at ns m 0, capped_le (get_or ns 0 0) (2 ^ 24) (lit< tt)) refl
+  is_size-capped (Nodes n) = rw (capped_at ns m 0, capped_le (get_or ns 0 0) 65536 (lit< tt)) refl
+
+  exact : (k : ℕ) → get_or ns k 0 ≤ 18446744073709551615 → get_or values k 0 ≡ get_or ns k 0
+  exact k le = capped_at ns m k ∙ capped_same (get_or ns k 0) le
+
+  pub heading-capped : (form : Form) → is_size form (heading_from form ns) ≡ true → heading_from form values ≡ heading_from form ns
+  heading-capped Graph size =
+      let both = both_are (leb (get_or ns 0 0) (2 ^ 25)) (leb (get_or ns 1 0) (2 ^ 27)) size in
+      let nodes : get_or ns 0 0 ≤ 2 ^ 25 = leb-true (get_or ns 0 0) (2 ^ 25) both.0 in
+      let items : get_or ns 1 0 ≤ 2 ^ 27 = leb-true (get_or ns 1 0) (2 ^ 27) both.1 in
+      rw (exact 0 (omega arith), exact 1 (omega arith)) refl
+  heading-capped (Queries n) size = let items : get_or ns 0 0 ≤ 2 ^ 24 = leb-true (get_or ns 0 0) (2 ^ 24) size in rw (exact 0 (omega arith)) refl
+  heading-capped (Nodes n) size = let items : get_or ns 0 0 ≤ 65536 = leb-true (get_or ns 0 0) 65536 size in rw (exact 0 (omega arith)) refl
+
+  -- an item's numbers
+  pub are_nodes-capped : (form : Form) (nodes : ℕ) → nodes < 2 ^ 32 → length ns ≡ item_size form → are_nodes form nodes values ≡ are_nodes form nodes ns
+  are_nodes-capped form nodes small long = nodes-capped nodes small (node_count form) ns m (omega (arith, long, fewer form))
+
+  pub is_weight-capped : (form : Form) (nodes : ℕ) → is_weight form nodes values ≡ is_weight form nodes ns
+  is_weight-capped Graph nodes = rw (capped_at ns m 2) (weight-capped nodes (get_or ns 2 0))
+  is_weight-capped (Queries n) nodes = refl
+  is_weight-capped (Nodes n) nodes = refl
+
+  pub item-capped : (form : Form) (nodes : ℕ) → nodes < 2 ^ 32 → IsItemWithin form nodes ns → item_from values ≡ item_from ns
+  item-capped form nodes small within =
+      let b = bounds form nodes ns within in
+      rw (exact 0 (omega arith), exact 1 (omega arith), exact 2 (omega arith)) refl
+
+-- an item line whose numbers were read
+pub record HasNumbers (form : Form) (seen : Option Heading) (h : Heading) (count : ℕ) (ws : List (List ℕ)) (values : List ℕ) : Type 0 where
+  pub declared : seen ≡ Some h
+  pub small : h.nodes < 2 ^ 32
+  pub read : AreCapped (numbers_after [] (item_size form) ws) values
+  pub room : count < h.items
+
+pub read_item : (form : Form) (seen : Option Heading) (h : Heading) (count size : ℕ) (ws : List (List ℕ)) (values : List ℕ) → seen ≡ Some h → h.nodes < 2 ^ 32 → size ≡ item_size form →
+    AreCapped (numbers_after [] size ws) values → count < h.items → HasNumbers form seen h count ws values
+read_item form seen h count size ws values declared small size_is read room = record { declared = declared; small = small; read = rw size_is at read; room = room }
+
+module _ (form : Form) (seen : Option Heading) (h : Heading) (count : ℕ) (ws : List (List ℕ)) (values : List ℕ) (read : HasNumbers form seen h count ws values) where
+  item_is : (form : Form) → item form (item_word form ∷ ws) ≡ numbers_after [] (item_size form) ws
+  item_is Graph = refl
+  item_is (Queries n) = refl
+  item_is (Nodes n) = refl
+
+  abbrev ns : List ℕ
+  ns = read.read.0
+
+  has : item form (item_word form ∷ ws) ≡ Some ns
+  has = item_is form ∙ read.read.1
+
+  long : length ns ≡ item_size form
+  long = length-numbers_after [] ws (item_size form) ns read.read.1
+
+  has_room : ltb count h.items ≡ true
+  has_room = let room = read.room in grind (arith, nat_tests)
+
+  nodes_are : are_nodes form h.nodes values ≡ are_nodes form h.nodes ns
+  nodes_are = ap (are_nodes form h.nodes) read.read.2 ∙ are_nodes-capped ns (3 - length ns) form h.nodes read.small long
+
+  weight_is : is_weight form h.nodes values ≡ is_weight form h.nodes ns
+  weight_is = ap (is_weight form h.nodes) read.read.2 ∙ is_weight-capped ns (3 - length ns) form h.nodes
+
+  pub out_of_range : are_nodes form h.nodes values ≡ false → first_failing (item_checks form seen count (item_word form ∷ ws)) ≡ Some NodeRange
+  out_of_range out = let real : are_nodes form h.nodes ns ≡ false = sym nodes_are ∙ out in rw (read.declared, has, has_room, real) refl
+
+  pub too_heavy : are_nodes form h.nodes values ≡ true → is_weight form h.nodes values ≡ false → first_failing (item_checks form seen count (item_word form ∷ ws)) ≡ Some Sum
+  too_heavy within heavy =
+      let real : are_nodes form h.nodes ns ≡ true = sym nodes_are ∙ within in
+      let weight : is_weight form h.nodes ns ≡ false = sym weight_is ∙ heavy in
+      rw (read.declared, has, has_room, real, weight) refl
+
+  pub item_within : are_nodes form h.nodes values ≡ true → is_weight form h.nodes values ≡ true → IsItemWithin form h.nodes ns
+  item_within within weight = record { long = long; nodes_are = sym nodes_are ∙ within; weight_is = sym weight_is ∙ weight }
+
+  pub passes_as_item : are_nodes form h.nodes values ≡ true → is_weight form h.nodes values ≡ true → IsItem form seen count (item_word form ∷ ws) (item_from values)
+  passes_as_item within weight = record {
+    declared = h;
+    seen_is = read.declared;
+    ns = ns;
+    has = has;
+    value = ap item_from read.read.2 ∙ item-capped ns (3 - length ns) form h.nodes read.small (item_within within weight);
+    room = read.room;
+    within = item_within within weight;
+  }
+
+  pub values_small : are_nodes form h.nodes values ≡ true → is_weight form h.nodes values ≡ true → (get_or values 0 0 < 2 ^ 32) × (get_or values 1 0 < 2 ^ 32)
+  values_small within weight =
+      let b = bounds form h.nodes ns (item_within within weight) in
+      let small = read.small in
+      let first : get_or values 0 0 ≡ capped (get_or ns 0 0) = ap (λ (v : List ℕ). get_or v 0 0) read.read.2 ∙ capped_at ns (3 - length ns) 0 in
+      let second : get_or values 1 0 ≡ capped (get_or ns 1 0) = ap (λ (v : List ℕ). get_or v 1 0) read.read.2 ∙ capped_at ns (3 - length ns) 1 in
+      (omega arith, omega arith)

@@ -1,0 +1,21 @@
+use Rattle.std.proofs.Common.{◌≡◌, ◌<◌, subst, arith}
+use Rattle.ch_read.specs.Words.{words}
+use Rattle.ch_read.proofs.Numbers.{HasTaken, none_taken, take_one, no_number_next, all_taken}
+use Rattle.ch_read.proofs.number.numbers_of.Goals as goal
+
+pub loop-i-init : goal.loop-i-init
+loop-i-init c = none_taken (words c.args.text.now)
+
+pub loop-i-preserved : goal.loop-i-preserved
+loop-i-preserved c =
+    let within : c.loop-i.i < 3 = omega arith in
+    take_one (words c.args.text.now) _ _ _ c.loop-i.i _ _ within c.loop-i.invariant c.in_ok-word.ensures.0 c.in_ok-values.ensures
+
+pub returns-in_err-values : goal.returns-in_err-values
+returns-in_err-values c = rw (c.from_residual-in_err-values.ensures)
+    (no_number_next (words c.args.text.now) _ _ _ c.loop-i.i c.args.count _ c.loop-i.invariant c.in_ok-word.ensures.0 c.in_err-values.ensures)
+
+pub returns-in-None : goal.returns-in-None
+returns-in-None c =
+    let end : c.loop-i.i ≡ c.args.count = omega arith in
+    all_taken (words c.args.text.now) _ c.args.count _ (subst (λ i. HasTaken (words c.args.text.now) (words c.loop-i.rest.now) i c.loop-i.values) end c.loop-i.invariant) c.in-None.ensures

@@ -1,0 +1,40 @@
+//! Graph files.
+ghost use Rattle.ch_graph.specs.Graph.{Network};
+ghost use Rattle.ch_read.specs.declared.fault.ReadFault.{ReadFault as FaultAt};
+ghost use Rattle.ch_read.specs.Answers.{AnswersWhere};
+ghost use Rattle.ch_read.specs.Checks.{IsFault};
+ghost use Rattle.ch_read.specs.Names.{NamesGraph};
+
+use crate::fault::ReadError;
+use crate::form::{Form, Item};
+use crate::reader::{FromItem, read_items};
+use ch_graph::{Graph, InArc};
+use std::alloc::Global;
+
+/// The graph that the bytes of a `.gr` file name. The work is linear in the number of bytes, and room
+/// grows by the lines read, whatever the problem line declares.
+///
+/// # Errors
+/// The first fault of the first faulty line, or `NoMemory` where there is no room for the arcs.
+pub fn read_graph(alloc: Global, bytes: &[u8]) -> Result<Graph, ReadError>
+    ensures value { (g : Network) → AnswersWhere result (Ok g) (NamesGraph bytes.now g) }
+    ensures fault { (f : FaultAt) → AnswersWhere result (Err (ReadError.Fault f)) (IsFault Form.Graph bytes.now f.line f.kind) }
+{
+    let (heading, arcs) = read_items(alloc, Form::Graph, bytes)?;
+    match Graph::new(heading.nodes, arcs) {
+        Ok(graph) => Ok(graph),
+        Err(_) => unreachable!(),
+    }
+}
+
+impl FromItem for InArc {
+    ghost from_item_gives = { λ item. record { from = item.first; to = item.second; weight = item.weight } };
+
+    fn from_item(item: Item) -> InArc {
+        InArc {
+            from: item.first,
+            to: item.second,
+            weight: item.weight,
+        }
+    }
+}

@@ -1,0 +1,34 @@
+//! Lists of nodes.
+ghost use Rattle.std.specs.Prelude.{ℕ, ◌<◌, ◌≤◌, List, All, IfOk, vec_len};
+ghost use Rattle.ch_read.specs.declared.fault.ReadFault.{ReadFault as FaultAt};
+ghost use Rattle.ch_read.specs.Answers.{AnswersWhere, seen_by_items};
+ghost use Rattle.ch_read.specs.Checks.{IsFault};
+ghost use Rattle.ch_read.specs.Names.{NamesNodes};
+
+use crate::fault::ReadError;
+use crate::form::{Form, Item};
+use crate::reader::{FromItem, read_items};
+use std::alloc::Global;
+
+/// The nodes that the bytes of a `.ss` file name, of a graph of `n` nodes, numbered from 0. The work is
+/// linear in the number of bytes, and room grows by the lines read.
+///
+/// # Errors
+/// The first fault of the first faulty line, or `NoMemory` where there is no room for the nodes.
+pub fn read_nodes(alloc: Global, bytes: &[u8], n: u32) -> Result<Vec<u32>, ReadError>
+    ensures value { (nodes : List ℕ) → AnswersWhere (seen_by_items result) (Ok nodes) (NamesNodes bytes.now n nodes) }
+    ensures fault { (f : FaultAt) → AnswersWhere (seen_by_items result) (Err (ReadError.Fault f)) (IsFault (Form.Nodes n) bytes.now f.line f.kind) }
+    ensures range { IfOk result (λ v. All (λ x. x < n) v.items) }
+    ensures size { IfOk result (λ v. vec_len v ≤ 65536) }
+{
+    let (_, nodes) = read_items(alloc, Form::Nodes(n), bytes)?;
+    Ok(nodes)
+}
+
+impl FromItem for u32 {
+    ghost from_item_gives = { λ item. item.first };
+
+    fn from_item(item: Item) -> u32 {
+        item.first
+    }
+}

@@ -1,0 +1,299 @@
+//! Worked files: what the readers answer for them, and the texts of faults.
+use crate::{FaultKind, ReadError, ReadFault, read_graph, read_nodes, read_queries};
+use ch_graph::InArc;
+use std::alloc::{AllocError, Global};
+use std::test::Fail;
+
+const SMALL_GRAPH: &str = "p sp 3 2\na 1 2 4\na 2 3 5\n";
+
+const SMALL_QUERIES: &str = "p aux sp p2p 2\nq 1 3\nq 3 1\n";
+
+const SMALL_NODES: &str = "p aux sp ss 3\ns 1\ns 1\ns 3\n";
+
+/// How long a word of a hostile file is.
+const MILLION: usize = 1_000_000;
+
+/// The fault that a reader answered.
+fn fault_of<T: Drop>(read: Result<T, ReadError>) -> Option<ReadFault> {
+    match read {
+        Err(ReadError::Fault(fault)) => Some(fault),
+        _ => None,
+    }
+}
+
+/// The fault of this kind at this line.
+fn fault(line: u64, kind: FaultKind) -> Option<ReadFault> {
+    Some(ReadFault { line, kind })
+}
+
+/// Some text, a byte so many times, and more text.
+fn long_file(
+    alloc: Global,
+    front: &str,
+    byte: u8,
+    count: usize,
+    back: &str,
+) -> Result<Vec<u8>, AllocError> {
+    let mut bytes = Vec::new(alloc);
+    bytes.extend_from_slice(front.as_bytes())?;
+    for _ in 0..count {
+        bytes.push(byte)?;
+    }
+    bytes.extend_from_slice(back.as_bytes())?;
+    Ok(bytes)
+}
+
+#[test]
+fn reads_graphs(rt: HostRuntime) -> Result<(), Fail> {
+    let forward = InArc {
+        from: 0,
+        to: 1,
+        weight: 803,
+    };
+    let back = InArc {
+        from: 1,
+        to: 0,
+        weight: 803,
+    };
+    let text =
+        "c 9th DIMACS Implementation Challenge: Shortest Paths\nc\np sp 2 2\nc two arcs\na 1 2 803\na 2 1 803\n";
+    let graph = read_graph(rt.alloc(), text.as_bytes())?;
+    assert_eq!(rt; graph.nodes(), 2);
+    assert_eq!(rt; graph.arcs(), [forward, back].as_slice());
+    let empty = read_graph(rt.alloc(), b"p sp 0 0")?;
+    assert_eq!(rt; empty.nodes(), 0);
+    assert!(rt; empty.arcs().is_empty());
+    Ok(())
+}
+
+#[test]
+fn reads_any_blanks_and_leading_zeros(rt: HostRuntime) -> Result<(), Fail> {
+    let text = b"c any bytes \x00\xFF\r\n\np  sp\t2 1\r\n\t a 1 02 007";
+    let arc = InArc {
+        from: 0,
+        to: 1,
+        weight: 7,
+    };
+    let graph = read_graph(rt.alloc(), text)?;
+    assert_eq!(rt; graph.nodes(), 2);
+    assert_eq!(rt; graph.arcs(), [arc].as_slice());
+    Ok(())
+}
+
+#[test]
+fn reads_queries_and_lists(rt: HostRuntime) -> Result<(), Fail> {
+    let pairs = read_queries(rt.alloc(), SMALL_QUERIES.as_bytes(), 3)?;
+    assert_eq!(rt; pairs.as_slice(), [(0, 2), (2, 0)].as_slice());
+    let nodes = read_nodes(rt.alloc(), SMALL_NODES.as_bytes(), 3)?;
+    assert_eq!(rt; nodes.as_slice(), [0, 0, 2].as_slice());
+    Ok(())
+}
+
+#[test]
+fn refuses_graphs(rt: HostRuntime) {
+    for (text, line, kind) in [
+        ("", 1, FaultKind::NoProblem),
+        ("c only", 2, FaultKind::NoProblem),
+        ("c only\n", 2, FaultKind::NoProblem),
+        ("a 1 2 3", 1, FaultKind::NoProblem),
+        ("p sp 2", 1, FaultKind::BadProblem),
+        ("p sp 33554433 0", 1, FaultKind::Size),
+        ("p sp 0 134217729", 1, FaultKind::Size),
+        ("p sp 1 0\np sp", 2, FaultKind::SecondProblem),
+        ("p sp 1 1\narc 1 1 1", 2, FaultKind::UnknownLine),
+        ("p sp 2 1\na 1 2 -3", 2, FaultKind::BadLine),
+        ("p sp 2 1\na 1 2 3 4", 2, FaultKind::BadLine),
+        ("p sp 2 1\na 1 x 5", 2, FaultKind::BadLine),
+        ("p sp 2 0\na 1 2 x", 2, FaultKind::BadLine),
+        ("p sp 2 0\na 1 9 1", 2, FaultKind::TooMany),
+        ("p sp 2 1\na 0 1 1", 2, FaultKind::NodeRange),
+        ("p sp 2 1\na 1 3 5", 2, FaultKind::NodeRange),
+        (
+            "p sp 2 1\na 1 9 99999999999999999999",
+            2,
+            FaultKind::NodeRange,
+        ),
+        ("p sp 2 1\na 1 2 99999999999999999999", 2, FaultKind::Sum),
+        ("p sp 2 1\na 1 2 576460752303423489", 2, FaultKind::Sum),
+        ("p sp 1 1\na 1 1 1152921504606846977", 2, FaultKind::Sum),
+        ("p sp 3 2\na 1 2 4", 3, FaultKind::TooFew),
+        (
+            "p sp 3 2\na 1 2 4\na 2 3 5\na 3 1 1\n",
+            4,
+            FaultKind::TooMany,
+        ),
+    ] {
+        let read = read_graph(rt.alloc(), text.as_bytes());
+        assert_eq!(rt; fault_of(read), fault(line, kind), "{text}");
+    }
+}
+
+#[test]
+fn refuses_queries(rt: HostRuntime) {
+    for (text, line, kind) in [
+        ("p aux sp ss 1\nq 1 2", 1, FaultKind::BadProblem),
+        ("p sp 2 0", 1, FaultKind::BadProblem),
+        ("p aux sp p2p 16777217", 1, FaultKind::Size),
+        ("p aux sp p2p 2\nq 1 2", 3, FaultKind::TooFew),
+        ("p aux sp p2p 1\na 1 2 3", 2, FaultKind::UnknownLine),
+        ("p aux sp p2p 1\nq 1 3", 2, FaultKind::NodeRange),
+        ("p aux sp p2p 1\nq 1 2 3", 2, FaultKind::BadLine),
+    ] {
+        let read = read_queries(rt.alloc(), text.as_bytes(), 2);
+        assert_eq!(rt; fault_of(read), fault(line, kind), "{text}");
+    }
+    let none = read_queries(rt.alloc(), b"p aux sp p2p 1\nq 1 1\n", 0);
+    assert_eq!(rt; fault_of(none), fault(2, FaultKind::NodeRange));
+}
+
+#[test]
+fn refuses_lists(rt: HostRuntime) {
+    for (text, line, kind) in [
+        ("p aux sp ss 65537", 1, FaultKind::Size),
+        ("p aux sp ss 1\ns 3", 2, FaultKind::NodeRange),
+        ("p aux sp p2p 1\ns 1", 1, FaultKind::BadProblem),
+        ("p aux sp ss 1\nq 1 2", 2, FaultKind::UnknownLine),
+        ("p aux sp ss 1\ns 1 2", 2, FaultKind::BadLine),
+    ] {
+        let read = read_nodes(rt.alloc(), text.as_bytes(), 2);
+        assert_eq!(rt; fault_of(read), fault(line, kind), "{text}");
+    }
+}
+
+#[test]
+fn answers_each_beginning_of_a_graph(rt: HostRuntime) {
+    for (length, _) in SMALL_GRAPH.as_bytes().iter().enumerate() {
+        let read = read_graph(rt.alloc(), &SMALL_GRAPH.as_bytes()[..length]);
+        let expected = match length {
+            0 => fault(1, FaultKind::NoProblem),
+            1..=7 => fault(1, FaultKind::BadProblem),
+            8..=9 => fault(2, FaultKind::TooFew),
+            10..=15 => fault(2, FaultKind::BadLine),
+            16..=17 => fault(3, FaultKind::TooFew),
+            18..=23 => fault(3, FaultKind::BadLine),
+            _ => None,
+        };
+        assert_eq!(rt; fault_of(read), expected, "at {length}");
+    }
+}
+
+#[test]
+fn answers_each_beginning_of_queries(rt: HostRuntime) {
+    for (length, _) in SMALL_QUERIES.as_bytes().iter().enumerate() {
+        let read = read_queries(rt.alloc(), &SMALL_QUERIES.as_bytes()[..length], 3);
+        let expected = match length {
+            0 => fault(1, FaultKind::NoProblem),
+            1..=13 => fault(1, FaultKind::BadProblem),
+            14..=15 => fault(2, FaultKind::TooFew),
+            16..=19 => fault(2, FaultKind::BadLine),
+            20..=21 => fault(3, FaultKind::TooFew),
+            22..=25 => fault(3, FaultKind::BadLine),
+            _ => None,
+        };
+        assert_eq!(rt; fault_of(read), expected, "at {length}");
+    }
+}
+
+#[test]
+fn reads_a_million_zeros(rt: HostRuntime) -> Result<(), Fail> {
+    let bytes = long_file(rt.alloc(), "p sp 2 1\na 1 2 ", b'0', MILLION, "7\n")?;
+    let graph = read_graph(rt.alloc(), bytes.as_slice())?;
+    let arc = InArc {
+        from: 0,
+        to: 1,
+        weight: 7,
+    };
+    assert_eq!(rt; graph.arcs(), [arc].as_slice());
+    Ok(())
+}
+
+#[test]
+fn refuses_a_million_nines(rt: HostRuntime) -> Result<(), Fail> {
+    for (front, back, line, kind) in [
+        ("p sp 2 1\na 1 2 ", "\n", 2, FaultKind::Sum),
+        ("p sp 2 1\na 1 ", " 3\n", 2, FaultKind::NodeRange),
+        ("p sp ", " 0\n", 1, FaultKind::Size),
+    ] {
+        let bytes = long_file(rt.alloc(), front, b'9', MILLION, back)?;
+        let read = read_graph(rt.alloc(), bytes.as_slice());
+        assert_eq!(rt; fault_of(read), fault(line, kind), "{front}");
+    }
+    Ok(())
+}
+
+#[test]
+fn refuses_hostile_bytes(rt: HostRuntime) {
+    for (bytes, line, kind) in [
+        (b"p sp 33554432 134217728".as_slice(), 2, FaultKind::TooFew),
+        (b"p sp 0 1\na 1 1 1".as_slice(), 2, FaultKind::NodeRange),
+        (
+            b"\xEF\xBB\xBFp sp 1 0".as_slice(),
+            1,
+            FaultKind::UnknownLine,
+        ),
+        (b"p\x0Bsp 1 0".as_slice(), 1, FaultKind::UnknownLine),
+        (b"p sp 1 0 \xFF".as_slice(), 1, FaultKind::BadProblem),
+        (b"p sp 1 0\x0Da 1 1 1".as_slice(), 1, FaultKind::BadProblem),
+        (
+            b"p sp 1 1\na\x00 1 1 1".as_slice(),
+            2,
+            FaultKind::UnknownLine,
+        ),
+        (b"p sp 1 1\na 1 1 +1".as_slice(), 2, FaultKind::BadLine),
+    ] {
+        let read = read_graph(rt.alloc(), bytes);
+        assert_eq!(rt; fault_of(read), fault(line, kind));
+    }
+}
+
+#[test]
+fn skips_words_that_begin_with_c(rt: HostRuntime) -> Result<(), Fail> {
+    let graph = read_graph(rt.alloc(), b"p sp 1 0\nca 1 1 1\nc \x00\xFF")?;
+    assert_eq!(rt; graph.nodes(), 1);
+    assert!(rt; graph.arcs().is_empty());
+    Ok(())
+}
+
+/// Where a growth is refused, a reader answers that, and no fault.
+#[test]
+fn accepts_small_files_or_lacks_memory(rt: HostRuntime) {
+    assert_eq!(rt;
+        fault_of(read_graph(rt.alloc(), SMALL_GRAPH.as_bytes())),
+        None
+    );
+    assert_eq!(rt;
+        fault_of(read_queries(rt.alloc(), SMALL_QUERIES.as_bytes(), 3)),
+        None
+    );
+    assert_eq!(rt;
+        fault_of(read_nodes(rt.alloc(), SMALL_NODES.as_bytes(), 3)),
+        None
+    );
+}
+
+#[test]
+fn says_what_is_wrong(rt: HostRuntime) -> Result<(), Fail> {
+    for (kind, text) in [
+        (FaultKind::UnknownLine, "line 12: unknown line"),
+        (FaultKind::BadProblem, "line 12: bad problem line"),
+        (FaultKind::SecondProblem, "line 12: second problem line"),
+        (FaultKind::NoProblem, "line 12: no problem line"),
+        (FaultKind::BadLine, "line 12: bad line"),
+        (FaultKind::NodeRange, "line 12: node out of range"),
+        (FaultKind::Sum, "line 12: weight too large"),
+        (FaultKind::Size, "line 12: size too large"),
+        (FaultKind::TooMany, "line 12: too many lines"),
+        (FaultKind::TooFew, "line 12: too few lines"),
+    ] {
+        let fault = ReadFault { line: 12, kind };
+        let error = ReadError::Fault(fault);
+        assert_eq!(rt; format!(in rt.alloc(); "{fault}")?.as_str(), text);
+        assert_eq!(rt; format!(in rt.alloc(); "{error}")?.as_str(), text);
+    }
+    let refused = ReadError::NoMemory;
+    assert_eq!(rt;
+        format!(in rt.alloc(); "{refused}")?.as_str(),
+        "out of memory"
+    );
+    Ok(())
+}

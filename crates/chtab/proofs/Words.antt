@@ -1,0 +1,57 @@
+-- From what clap says of its matches to what the words say.
+use Rattle.std.proofs.Common.{◌≡◌, ◌⊎◌, List, [], ◌∷◌, Option, Some, None, Result, Ok, Err, IfOk, refl, ap, sym, ◌∙◌, subst, inl, inr, codes, true, false, Bool, map}
+use Rattle.std.specs.Prelude.{option_map}
+use Rattle.std.specs.String.{string_bytes}
+use Rattle.clap.specs.Words.{App, HasMatchesOf, IsAmong, Kinds, Row, Text, fault_of, first_value, is_simple_and_free, one_text, rows_of, subcommand_rows_of}
+use Rattle.clap.specs.declared.error.kind.ErrorKind.{ErrorKind}
+use Rattle.clap.specs.declared.error.kind.ErrorKind.TheVariants.{DisplayHelp, OutOfMemory}
+use Rattle.clap.specs.declared.parser.matches.ArgMatches.{ArgMatches}
+use Rattle.clap.specs.declared.parser.matches.Found.{Found}
+use Rattle.clap.proofs.WalkLemmas.{first_value-rows, one_text-rows}
+use Rattle.chtab.specs.Line.{HasDefaults, IsFaultOf, IsFlag, IsPlainIn, IsReadFrom, IsToldOf, chtab_form, faults_of, files_in, given_by}
+use Rattle.chtab.specs.declared.line.Line.{Line}
+use Rattle.chtab.specs.declared.line.LineFault.{LineFault}
+use Rattle.chtab.specs.declared.line.LineFault.TheVariants as LineFault
+
+-- the first values of both arguments are the files
+pub two_files : (found : Found) (graph queries : Text) → Some graph ≡ first_value found (codes "GRAPH") → Some queries ≡ first_value found (codes "QUERIES") → Some graph ∷ Some queries ∷ [] ≡ files_in (rows_of found)
+two_files found graph queries is_graph is_queries =
+    let graph_is : Some graph ≡ _ = is_graph ∙ first_value-rows found (codes "GRAPH") in
+    let queries_is : Some queries ≡ _ = is_queries ∙ first_value-rows found (codes "QUERIES") in
+    rw (sym graph_is, sym queries_is)
+
+-- a flag is read by its text
+flag_is : (text : Option Text) (flag : Bool) → (text ≡ None → flag ≡ false) → (text ≡ Some (codes "true") → flag ≡ true) → (text ≡ Some (codes "false") → flag ≡ false) → IsFlag text flag
+flag_is None flag none on off = none refl
+flag_is (Some text) flag none on off = ((λ e. on (ap (λ t. Some t) e)), (λ e. off (ap (λ t. Some t) e)))
+
+pub is_plain : (found : Found) (flag : Bool) → (one_text found (codes "plain") ≡ None → flag ≡ false) → (one_text found (codes "plain") ≡ Some (codes "true") → flag ≡ true) → (one_text found (codes "plain") ≡ Some (codes "false") → flag ≡ false) → IsPlainIn (rows_of found) flag
+is_plain found flag none on off =
+    let P : Option Text → Type 0 = λ text. IsFlag text flag in
+    subst P (one_text-rows found (codes "plain")) (flag_is _ flag none on off)
+
+-- what clap says of the faults of a command of this form holds of what is wrong with the words
+pub of-faults : (P : Kinds → Type 0) (form : App) (words : List Text) → form ≡ chtab_form → (is_simple_and_free form ≡ true → P (fault_of form words)) → P (faults_of words)
+of-faults P form words is said =
+    let Q : App → Type 0 = λ f. is_simple_and_free f ≡ true → P (fault_of f words) in
+    subst Q is said refl
+
+-- the matches of a command of this form are those given by the words
+pub given-by : (form : App) (words : List Text) (matches : ArgMatches) (given : List Row) → form ≡ chtab_form → HasMatchesOf form words matches → Some given ≡ option_map (λ p. p.1) (subcommand_rows_of matches) → given_by words ≡ Some given
+given-by form words matches given is matched entered =
+    let P : App → Type 0 = λ f. HasMatchesOf f words matches in
+    let same = subst P is matched refl in
+    ap (option_map (λ p. p.1)) (sym same.1) ∙ sym entered
+
+-- what is told of an error tells what is wrong with the words
+pub fault-told : (kinds : Kinds) (kind : ErrorKind) (fault : LineFault) → IsToldOf kind fault → (kind ≡ OutOfMemory) ⊎ IsAmong kind kinds → IsFaultOf kinds fault
+fault-told kinds kind (LineFault.Help text) told (inl memory) = cc
+fault-told kinds kind (LineFault.Help text) told (inr among) = subst (λ (k : ErrorKind). IsAmong k kinds) told among
+fault-told kinds kind (LineFault.Refused text) told (inl memory) = absurd (told.1 memory)
+fault-told kinds kind (LineFault.Refused text) told (inr among) = (kind, told.0, among)
+fault-told kinds kind LineFault.NoMemory told among = tt
+
+-- a line that is right in each part is read from the words
+pub read-from : (answer : Result Line LineFault) (words : List Text) (given : List Row) → faults_of words ≡ [] → given_by words ≡ Some given → IfOk answer (λ line. IsPlainIn given line.options.plain) → IfOk answer HasDefaults → IfOk answer (λ line. map (λ file. Some (string_bytes file)) line.files.items ≡ files_in given) → IfOk answer (IsReadFrom words)
+read-from (Ok line) words given right matched plain numbers named = record { right = right; given = given; matched = matched; plain = plain; numbers = numbers; named = named }
+read-from (Err fault) words given right matched plain numbers named = tt

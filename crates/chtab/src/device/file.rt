@@ -1,0 +1,138 @@
+//! Devices over the readers and writers of `std`, as files and standard output, which don't tell
+//! their bytes.
+
+ghost use Rattle.std.specs.Prelude.{◌≡◌, ◌≤◌, None, IfOk, length};
+
+use super::{DeviceFault, Input, Output};
+use std::io::{ErrorKind, Read, Write};
+
+/// An input from a reader. An interrupted read is made again.
+#[derive(Drop)]
+pub struct ReaderInput<D: Read + Drop> {
+    reader: D,
+    failures: u64,
+}
+
+impl<D: Read + Drop> ReaderInput<D> {
+    /// An input of what the reader reads.
+    pub fn new(reader: D) -> Self
+        ensures { ⟦<ReaderInput<D> as Input>⟧.failed result ≡ 0 }
+    {
+        ReaderInput {
+            reader,
+            failures: 0,
+        }
+    }
+}
+
+fn read_uninterrupted<D: Read>(reader: &mut D, buffer: &mut [u8]) -> Result<usize, DeviceFault>
+    ensures { IfOk result (λ count. count ≤ length buffer.new) }
+{
+    for _ in 0..u64::MAX {
+        match reader.read(buffer) {
+            Ok(count) => return Ok(count),
+            Err(error) if error.kind() == ErrorKind::Interrupted => {}
+            Err(_) => break,
+        }
+    }
+    Err(DeviceFault)
+}
+
+impl<D: Read + Drop> Input for ReaderInput<D> {
+    ghost failed = { λ d. d.failures };
+
+    ghost left = { λ _. None };
+
+    fn read(&mut self, buffer: &mut [u8]) -> Result<usize, DeviceFault> {
+        let answer = read_uninterrupted(&mut self.reader, buffer);
+        if answer.is_err() {
+            self.failures += 1;
+        }
+        answer
+    }
+
+    fn failures(&self) -> u64 {
+        self.failures
+    }
+}
+
+/// An output to a writer, which is flushed within each write. An interrupted write or flush is
+/// made again.
+#[derive(Drop)]
+pub struct WriterOutput<D: Write + Drop> {
+    writer: D,
+    failures: u64,
+    zeros: u64,
+}
+
+impl<D: Write + Drop> WriterOutput<D> {
+    /// An output to the writer.
+    pub fn new(writer: D) -> Self
+        ensures failed { ⟦<WriterOutput<D> as Output>⟧.failed result ≡ 0 }
+        ensures idle { ⟦<WriterOutput<D> as Output>⟧.idle result ≡ 0 }
+    {
+        WriterOutput {
+            writer,
+            failures: 0,
+            zeros: 0,
+        }
+    }
+}
+
+fn write_uninterrupted<D: Write>(writer: &mut D, bytes: &[u8]) -> Result<usize, DeviceFault>
+    ensures { IfOk result (λ count. count ≤ length bytes.now) }
+{
+    for _ in 0..u64::MAX {
+        match writer.write(bytes) {
+            Ok(count) => return Ok(count),
+            Err(error) if error.kind() == ErrorKind::Interrupted => {}
+            Err(_) => break,
+        }
+    }
+    Err(DeviceFault)
+}
+
+fn flush_uninterrupted<D: Write>(writer: &mut D) -> Result<(), DeviceFault> {
+    for _ in 0..u64::MAX {
+        match writer.flush() {
+            Ok(()) => return Ok(()),
+            Err(error) if error.kind() == ErrorKind::Interrupted => {}
+            Err(_) => break,
+        }
+    }
+    Err(DeviceFault)
+}
+
+fn write_and_flush<D: Write>(writer: &mut D, bytes: &[u8]) -> Result<usize, DeviceFault>
+    ensures { IfOk result (λ count. count ≤ length bytes.now) }
+{
+    let count = write_uninterrupted(writer, bytes)?;
+    flush_uninterrupted(writer)?;
+    Ok(count)
+}
+
+impl<D: Write + Drop> Output for WriterOutput<D> {
+    ghost failed = { λ d. d.failures };
+
+    ghost idle = { λ d. d.zeros };
+
+    ghost taken = { λ _. None };
+
+    fn write(&mut self, bytes: &[u8]) -> Result<usize, DeviceFault> {
+        let answer = write_and_flush(&mut self.writer, bytes);
+        match answer {
+            Ok(0) if !bytes.is_empty() => self.zeros += 1,
+            Ok(_) => {}
+            Err(_) => self.failures += 1,
+        }
+        answer
+    }
+
+    fn failures(&self) -> u64 {
+        self.failures
+    }
+
+    fn zeros(&self) -> u64 {
+        self.zeros
+    }
+}

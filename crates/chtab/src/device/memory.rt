@@ -1,0 +1,191 @@
+//! Devices over memory, which tell their bytes and fail where they are told to: for tests.
+
+ghost use Rattle.std.specs.Prelude.{◌≡◌, ◌<◌, ◌≤◌, [], Some, IfOk, vec_capacity, vec_len};
+
+use super::{DeviceFault, Input, Output};
+use std::alloc::{AllocError, Global};
+
+/// Which call of a device goes wrong: the one after so many others, or none.
+#[derive(Clone, Copy, Debug, PartialEq, Eq)]
+struct Turn {
+    before: Option<u64>,
+}
+
+impl Turn {
+    const NEVER: Turn = Turn { before: None };
+
+    /// Whether the call being made is the one.
+    fn has_come(&mut self) -> bool {
+        match self.before {
+            None => false,
+            Some(0) => {
+                self.before = None;
+                true
+            }
+            Some(before) => {
+                self.before = Some(before - 1);
+                false
+            }
+        }
+    }
+}
+
+/// An input over a slice of bytes.
+#[derive(Clone, Copy, Debug)]
+pub struct MemoryInput<'a> {
+    left: &'a [u8],
+    most: usize,
+    fault: Turn,
+    failures: u64,
+    ghost gives_some: { 0 < most },
+}
+
+impl<'a> MemoryInput<'a> {
+    /// An input of these bytes that gives at most `most` of them at a read, and never fails.
+    pub fn new(bytes: &'a [u8], most: usize) -> Self
+        requires { 0 < most }
+        ensures left { ⟦<MemoryInput<'a> as Input>⟧.left result ≡ Some bytes.now }
+        ensures failed { ⟦<MemoryInput<'a> as Input>⟧.failed result ≡ 0 }
+    {
+        MemoryInput {
+            left: bytes,
+            most,
+            fault: Turn::NEVER,
+            failures: 0,
+        }
+    }
+
+    /// The same input, whose read after `reads` others fails.
+    pub fn failing_after(self, reads: u64) -> Self
+        ensures left { ⟦<MemoryInput<'a> as Input>⟧.left result ≡ ⟦<MemoryInput<'a> as Input>⟧.left self.entry }
+        ensures failed { ⟦<MemoryInput<'a> as Input>⟧.failed result ≡ ⟦<MemoryInput<'a> as Input>⟧.failed self.entry }
+    {
+        MemoryInput {
+            left: self.left,
+            most: self.most,
+            fault: Turn {
+                before: Some(reads),
+            },
+            failures: self.failures,
+        }
+    }
+}
+
+impl Input for MemoryInput<'_> {
+    ghost failed = { λ d. d.failures };
+
+    ghost left = { λ d. Some d.left.now };
+
+    fn read(&mut self, buffer: &mut [u8]) -> Result<usize, DeviceFault> {
+        if self.fault.has_come() {
+            self.failures += 1;
+            return Err(DeviceFault);
+        }
+        let count = self.left.len().min(buffer.len()).min(self.most);
+        let (given, left) = self.left.split_at(count);
+        buffer[..count].copy_from_slice(given);
+        self.left = left;
+        Ok(count)
+    }
+
+    fn failures(&self) -> u64 {
+        self.failures
+    }
+}
+
+/// An output into memory that was reserved before.
+#[derive(Debug, Drop)]
+pub struct MemoryOutput {
+    taken: Vec<u8>,
+    most: usize,
+    fault: Turn,
+    pause: Turn,
+    failures: u64,
+    zeros: u64,
+}
+
+impl MemoryOutput {
+    /// An output with room for `room` bytes that takes at most `most` of them at a write, none
+    /// once it is full, and never fails.
+    pub fn new(alloc: Global, room: usize, most: usize) -> Result<Self, AllocError>
+        ensures taken { IfOk result (λ output. ⟦<MemoryOutput as Output>⟧.taken output ≡ Some []) }
+        ensures failed { IfOk result (λ output. ⟦<MemoryOutput as Output>⟧.failed output ≡ 0) }
+        ensures idle { IfOk result (λ output. ⟦<MemoryOutput as Output>⟧.idle output ≡ 0) }
+    {
+        Ok(MemoryOutput {
+            taken: Vec::with_capacity(alloc, room)?,
+            most,
+            fault: Turn::NEVER,
+            pause: Turn::NEVER,
+            failures: 0,
+            zeros: 0,
+        })
+    }
+
+    /// The same output, whose write after `writes` others fails.
+    pub fn failing_after(mut self, writes: u64) -> Self
+        ensures taken { ⟦<MemoryOutput as Output>⟧.taken result ≡ ⟦<MemoryOutput as Output>⟧.taken self }
+        ensures failed { ⟦<MemoryOutput as Output>⟧.failed result ≡ ⟦<MemoryOutput as Output>⟧.failed self }
+        ensures idle { ⟦<MemoryOutput as Output>⟧.idle result ≡ ⟦<MemoryOutput as Output>⟧.idle self }
+    {
+        self.fault = Turn {
+            before: Some(writes),
+        };
+        self
+    }
+
+    /// The same output, whose write after `writes` others takes no byte.
+    pub fn idle_after(mut self, writes: u64) -> Self
+        ensures taken { ⟦<MemoryOutput as Output>⟧.taken result ≡ ⟦<MemoryOutput as Output>⟧.taken self }
+        ensures failed { ⟦<MemoryOutput as Output>⟧.failed result ≡ ⟦<MemoryOutput as Output>⟧.failed self }
+        ensures idle { ⟦<MemoryOutput as Output>⟧.idle result ≡ ⟦<MemoryOutput as Output>⟧.idle self }
+    {
+        self.pause = Turn {
+            before: Some(writes),
+        };
+        self
+    }
+
+    /// The bytes that were taken.
+    pub fn bytes(&self) -> &[u8]
+        ensures { ⟦<MemoryOutput as Output>⟧.taken self.now ≡ Some result.now }
+    {
+        self.taken.as_slice()
+    }
+}
+
+impl Output for MemoryOutput {
+    ghost failed = { λ d. d.failures };
+
+    ghost idle = { λ d. d.zeros };
+
+    ghost taken = { λ d. Some d.taken.items };
+
+    fn write(&mut self, bytes: &[u8]) -> Result<usize, DeviceFault> {
+        if self.fault.has_come() {
+            self.failures += 1;
+            return Err(DeviceFault);
+        }
+        let room = self.taken.capacity() - self.taken.len();
+        let count = if self.pause.has_come() {
+            0
+        } else {
+            bytes.len().min(self.most).min(room)
+        };
+        let Ok(()) = self.taken.extend_from_slice(&bytes[..count]) else {
+            unreachable!();
+        };
+        if count == 0 && !bytes.is_empty() {
+            self.zeros += 1;
+        }
+        Ok(count)
+    }
+
+    fn failures(&self) -> u64 {
+        self.failures
+    }
+
+    fn zeros(&self) -> u64 {
+        self.zeros
+    }
+}

@@ -1,0 +1,83 @@
+//! Why a run gave no answer.
+
+ghost use Rattle.std.specs.Prelude.{◌≡◌, Some};
+ghost use Rattle.chtab.specs.Fault.{input_name, status_of};
+
+use ch_read::ReadFault;
+use std::alloc::{AllocError, AllocFailed};
+use std::fmt;
+use thiserror::Error;
+
+/// One of a run's inputs.
+#[derive(Clone, Copy, Debug, PartialEq, Eq)]
+pub enum Which {
+    Graph,
+    Queries,
+}
+
+impl fmt::Display for Which {
+    ghost output = { λ which. Some (input_name which) };
+
+    fn fmt<W: fmt::Write>(&self, f: &mut fmt::Formatter<W>) -> fmt::Result {
+        match self {
+            Which::Graph => f.write_str("graph"),
+            Which::Queries => f.write_str("queries"),
+        }
+    }
+}
+
+/// Why a run gave no answer. Its `Display` is the line that the program writes to standard error.
+///
+/// After all but `Write` nothing was written.
+#[derive(Clone, Copy, Debug, PartialEq, Eq, Error)]
+pub enum RunFault {
+    /// The graph's file has this fault.
+    #[error("chtab: graph {0}")]
+    Graph(ReadFault),
+    /// The queries' file has this fault.
+    #[error("chtab: queries {0}")]
+    Queries(ReadFault),
+    /// There was no memory.
+    #[error("chtab: out of memory")]
+    Memory,
+    /// This input couldn't be opened or read.
+    #[error("chtab: cannot read {0}")]
+    Device(Which),
+    /// The output couldn't be written past so many bytes.
+    #[error("chtab: cannot write after {0} bytes")]
+    Write(u64),
+}
+
+impl From<AllocError> for RunFault {
+    ghost use Rattle.chtab.specs.declared.fault.RunFault.TheVariants.{Memory};
+
+    ghost from_gives = { λ _ fault. fault ≡ Memory };
+
+    fn from(_error: AllocError) -> RunFault {
+        RunFault::Memory
+    }
+}
+
+impl<T: Drop> From<AllocFailed<T>> for RunFault {
+    ghost use Rattle.chtab.specs.declared.fault.RunFault.TheVariants.{Memory};
+
+    ghost from_gives = { λ _ fault. fault ≡ Memory };
+
+    fn from(_refused: AllocFailed<T>) -> RunFault {
+        RunFault::Memory
+    }
+}
+
+/// The program's exit status for a fault: 1 where a file was refused, 3 where the system refused
+/// memory, a file or a write.
+pub fn status(fault: &RunFault) -> u8
+    ensures { result ≡ status_of fault.now }
+{
+    match fault {
+        RunFault::Graph(_) | RunFault::Queries(_) => 1,
+        RunFault::Memory | RunFault::Device(_) | RunFault::Write(_) => 3,
+    }
+}
+
+#[cfg(test)]
+mod tests;

@@ -1,0 +1,46 @@
+use super::*;
+use ch_read::FaultKind;
+use std::test::Fail;
+
+#[test]
+fn each_fault_has_its_line_and_status(rt: HostRuntime) -> Result<(), Fail> {
+    let fault = ReadFault {
+        line: 2,
+        kind: FaultKind::NodeRange,
+    };
+    let rows = [
+        (
+            RunFault::Graph(fault),
+            "chtab: graph line 2: node out of range",
+            1,
+        ),
+        (
+            RunFault::Queries(fault),
+            "chtab: queries line 2: node out of range",
+            1,
+        ),
+        (RunFault::Memory, "chtab: out of memory", 3),
+        (
+            RunFault::Device(Which::Graph),
+            "chtab: cannot read graph",
+            3,
+        ),
+        (
+            RunFault::Device(Which::Queries),
+            "chtab: cannot read queries",
+            3,
+        ),
+        (RunFault::Write(0), "chtab: cannot write after 0 bytes", 3),
+        (
+            RunFault::Write(65_536),
+            "chtab: cannot write after 65536 bytes",
+            3,
+        ),
+    ];
+    for (fault, line, code) in rows {
+        let text = format!(in rt.alloc(); "{fault}")?;
+        assert_eq!(rt; text.as_str(), line);
+        assert_eq!(rt; status(&fault), code, "of {line}");
+    }
+    Ok(())
+}
