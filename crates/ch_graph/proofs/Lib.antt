@@ -1,6 +1,9 @@
 pub mod CostOrder
 pub mod CostSums
 pub mod WalkLemmas
+pub mod WalkCosts
+pub mod SimpleWalks
+pub mod LeastSearch
 pub mod Labels
 pub mod Ranges
 pub mod KeyCounts

@@ -4,8 +4,9 @@
 //! It stands on std alone. Proved of it: a [`Graph`] keeps the limits on sizes and weights, and
 //! [`Graph::new`] names the first fault; [`plain_distance`] is the least weight of a walk, or says that
 //! there is no walk; a row of [`Rows`] holds the values of its key in the given order; [`Cost`]s are in a
-//! total order that sums keep, and comparing two of them tells it ([`laws`]). Want of memory aside, each of
-//! these holds for every input.
+//! total order that sums keep, and comparing two of them tells it ([`laws`]); between two nodes there is one
+//! least cost of a walk or no walk, and a least walk visits no node twice ([`walk_laws`]). Want of memory
+//! aside, each of these holds for every input.
 #![tactic(auto)]
 
 mod arc;
@@ -16,6 +17,7 @@ mod plain;
 mod rows;
 #[cfg(test)]
 mod tests;
+pub mod walk_laws;
 
 pub use arc::InArc;
 pub use cost::Cost;

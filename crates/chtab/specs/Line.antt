@@ -6,7 +6,7 @@ use Rattle.clap.specs.Simple.{on_top}
 use Rattle.clap.specs.declared.builder.ArgAction.TheVariants.{Set, SetTrue}
 use Rattle.clap.specs.declared.error.kind.ErrorKind.{ErrorKind}
 use Rattle.clap.specs.declared.error.kind.ErrorKind.TheVariants.{DisplayHelp, OutOfMemory}
-use Rattle.chtab.specs.Plan.{IsWithinLimits}
+use Rattle.ch_work.specs.Plan.{IsWithinLimits}
 use Rattle.chtab.specs.declared.line.Line.{Line}
 use Rattle.chtab.specs.declared.line.LineFault.{LineFault}
 use Rattle.chtab.specs.declared.line.LineFault.TheVariants as LineFault

@@ -1,0 +1,74 @@
+//! How work is cut.
+ghost use Rattle.std.specs.Prelude.{◌≡◌};
+ghost use Rattle.ch_work.specs.Plan.{IsWithinLimits};
+
+use std::marker::Model;
+
+/// How work is cut into pieces, and among how many workers. It changes no answer.
+#[derive(Clone, Copy, Debug, PartialEq, Eq)]
+pub struct Plan {
+    workers: u32,
+    piece: u32,
+    wide: u32,
+}
+
+impl Model for Plan {
+    ghost use Rattle.ch_work.specs.Plan.{Division, IsWithinLimits};
+
+    ghost Value = { Division };
+
+    ghost view = { λ p. record { workers = p.workers; piece = p.piece; wide = p.wide } };
+
+    ghost invariant = { λ p. IsWithinLimits (record { workers = p.workers; piece = p.piece; wide = p.wide }) };
+
+    ghost inverse = { λ d. record { workers = d.workers; piece = d.piece; wide = d.wide } };
+}
+
+impl Plan {
+    /// A plan for 1 to 64 workers and pieces of 1 to 2^20 items. The neighbours of a contracted node are
+    /// cut into pieces too where there are at least `wide` of them.
+    pub fn new(workers: u32, piece: u32, wide: u32) -> Plan
+        requires { IsWithinLimits (record { workers = workers; piece = piece; wide = wide }) }
+        ensures { result ≡ record { workers = workers; piece = piece; wide = wide } }
+    {
+        Plan {
+            workers,
+            piece,
+            wide,
+        }
+    }
+
+    /// The number of workers, from 1 to 64.
+    pub fn workers(&self) -> u32
+        ensures workers { result ≡ self.now.workers }
+        ensures limits { IsWithinLimits self.now }
+    {
+        self.workers
+    }
+
+    /// The number of items in a piece, from 1 to 2^20. The last piece may have fewer.
+    pub fn piece(&self) -> u32
+        ensures piece { result ≡ self.now.piece }
+        ensures limits { IsWithinLimits self.now }
+    {
+        self.piece
+    }
+
+    /// From how many neighbours on those of a contracted node are cut into pieces.
+    pub fn wide(&self) -> u32
+        ensures { result ≡ self.now.wide }
+    {
+        self.wide
+    }
+}
+
+#[cfg(test)]
+mod tests {
+    use super::Plan;
+
+    #[test]
+    fn a_plan_gives_its_numbers_back(rt: HostRuntime) {
+        let plan = Plan::new(64, 1_048_576, 0);
+        assert_eq!(rt; (plan.workers(), plan.piece(), plan.wide()), (64, 1_048_576, 0));
+    }
+}
