@@ -1,5 +1,5 @@
 -- The checks of one line: words that stand before the numbers, and limits on capped numbers.
-use Rattle.std.proofs.Common.{Bor, ◌≡◌, ℕ, zero, suc, ◌-◌, ◌*◌, ◌<◌, ◌≤◌, ◌^◌, ◌&&◌, ◌⊎◌, inl, inr, Bool, true, false, cond, eqb, leb, ltb, List, [], ◌∷◌, ◌++◌, length, map, take, get_or, Option, Some, None, refl, sym, ◌∙◌, ap, arith, append_assoc, lit<, lit≤, zero-mul}
+use Rattle.std.proofs.Common.{Bor, ◌≡◌, ℕ, zero, suc, ◌-◌, ◌*◌, ◌<◌, ◌≤◌, ◌^◌, ◌⊎◌, inl, inr, Bool, true, false, cond, eqb, leb, ltb, List, [], ◌∷◌, ◌++◌, length, map, take, get_or, Option, Some, None, refl, sym, ◌∙◌, ap, arith, append_assoc, lit<, lit≤, zero-mul}
 use Rattle.std.specs.Prelude.{MatchOption, replicate}
 use Rattle.std.specs.List.{list_all}
 use Rattle.std.specs.Str.{bytes_eq}
@@ -15,8 +15,8 @@ use Rattle.ch_read.specs.declared.fault.FaultKind.TheVariants.{NodeRange, Sum}
 use Rattle.ch_read.specs.Words.{words}
 use Rattle.ch_read.specs.Forms.{numbers, numbers_after, heading_from, item_size, node_count, item_word, item}
 use Rattle.ch_read.specs.Checks.{is_size, is_node, are_nodes, is_weight, first_failing, item_checks}
-use Rattle.ch_read.specs.Reading.{IsOther, IsAfter, AreCapped, capped, item_from, IsItemWithin, IsItem}
-use Rattle.ch_read.proofs.Numbers.{length-numbers}
+use Rattle.ch_read.specs.Reading.{IsOther, IsAfter, AreCapped, greatest, capped, item_from, IsItemWithin, IsItem}
+use Rattle.ch_read.proofs.Numbers.{both, length-numbers}
 
 -- words before the numbers, some and then more
 
@@ -60,10 +60,10 @@ capped_at [] m k = zero_at m k
 capped_at (n ∷ ns) m zero = refl
 capped_at (n ∷ ns) m (suc k) = capped_at ns m k
 
-capped_same : (n : ℕ) → n ≤ 18446744073709551615 → capped n ≡ n
+capped_same : (n : ℕ) → n ≤ greatest → capped n ≡ n
 capped_same n le = omega arith
 
-capped_le : (n m : ℕ) → m < 18446744073709551615 → leb (capped n) m ≡ leb n m
+capped_le : (n m : ℕ) → m < greatest → leb (capped n) m ≡ leb n m
 capped_le n m lt = grind (arith, nat_tests)
 
 one_le_capped : (n : ℕ) → leb 1 (capped n) ≡ leb 1 n
@@ -71,7 +71,7 @@ one_le_capped n = grind (arith, nat_tests)
 
 is_node-capped : (nodes v : ℕ) → nodes < 2 ^ 32 → is_node nodes (capped v) ≡ is_node nodes v
 is_node-capped nodes v small =
-    let fits : nodes < 18446744073709551615 = omega arith in
+    let fits : nodes < greatest = omega arith in
     rw (one_le_capped v, capped_le v nodes fits) refl
 
 nodes-capped : (nodes : ℕ) → nodes < 2 ^ 32 → (k : ℕ) (ns : List ℕ) (m : ℕ) → k ≤ length ns →
@@ -88,29 +88,25 @@ no_less : (nodes w : ℕ) → 0 < nodes → w ≤ nodes * w
 no_less nodes w some = grind arith
 
 weight-capped : (nodes w : ℕ) → leb (nodes * capped w) (2 ^ 60) ≡ leb (nodes * w) (2 ^ 60)
-weight-capped nodes w = at (cases_lt 18446744073709551615 w) (eq-zero-or-pos nodes)
+weight-capped nodes w = at (cases_lt greatest w) (eq-zero-or-pos nodes)
   where
-    at : (18446744073709551615 < w) ⊎ (w ≤ 18446744073709551615) → (nodes ≡ 0) ⊎ (0 < nodes) → leb (nodes * capped w) (2 ^ 60) ≡ leb (nodes * w) (2 ^ 60)
+    at : (greatest < w) ⊎ (w ≤ greatest) → (nodes ≡ 0) ⊎ (0 < nodes) → leb (nodes * capped w) (2 ^ 60) ≡ leb (nodes * w) (2 ^ 60)
     at (inr le) z = rw (capped_same w le) refl
     at (inl lt) (inl none) =
         let capped_none : nodes * capped w ≡ 0 = ap (λ n. n * capped w) none ∙ zero-mul (capped w) in
         let real_none : nodes * w ≡ 0 = ap (λ n. n * w) none ∙ zero-mul w in
         rw (capped_none, real_none) refl
     at (inl lt) (inr some) =
-        let greatest : capped w ≡ 18446744073709551615 = omega arith in
+        let greatest : capped w ≡ greatest = omega arith in
         let capped_past : 2 ^ 60 < nodes * capped w = omega (arith, no_less nodes (capped w) some) in
         let real_past : 2 ^ 60 < nodes * w = omega (arith, no_less nodes w some) in
         past_limit (nodes * capped w) (2 ^ 60) capped_past ∙ sym (past_limit (nodes * w) (2 ^ 60) real_past)
 
-pub both_are : (a b : Bool) → (a && b) ≡ true → (a ≡ true) × (b ≡ true)
-both_are true b e = (refl, e)
-both_are false b e = cc
-
 all_at : (p : ℕ → Bool) (k : ℕ) (ns : List ℕ) (i : ℕ) → i < k → i < length ns → list_all p (take k ns) ≡ true → p (get_or ns i 0) ≡ true
 all_at p zero ns i lt within h = absurd (omega arith)
 all_at p (suc k) [] i lt within h = absurd (omega arith)
-all_at p (suc k) (n ∷ ns) zero lt within h = (both_are (p n) (list_all p (take k ns)) h).0
-all_at p (suc k) (n ∷ ns) (suc i) lt within h = all_at p k ns i (omega arith) (omega arith) (both_are (p n) (list_all p (take k ns)) h).1
+all_at p (suc k) (n ∷ ns) zero lt within h = (both (p n) (list_all p (take k ns)) h).0
+all_at p (suc k) (n ∷ ns) (suc i) lt within h = all_at p k ns i (omega arith) (omega arith) (both (p n) (list_all p (take k ns)) h).1
 
 -- an item of a form has its nodes among its numbers
 fewer : (form : Form) → node_count form ≤ item_size form
@@ -128,8 +124,8 @@ pub record HasBounds (nodes : ℕ) (ns : List ℕ) : Type 0 where
 
 node_at : (nodes k : ℕ) (ns : List ℕ) (i : ℕ) → i < k → i < length ns → list_all (is_node nodes) (take k ns) ≡ true → (1 ≤ get_or ns i 0) × (get_or ns i 0 ≤ nodes)
 node_at nodes k ns i lt within h =
-    let both = both_are (leb 1 (get_or ns i 0)) (leb (get_or ns i 0) nodes) (all_at (is_node nodes) k ns i lt within h) in
-    (leb-true 1 (get_or ns i 0) both.0, leb-true (get_or ns i 0) nodes both.1)
+    let each = both (leb 1 (get_or ns i 0)) (leb (get_or ns i 0) nodes) (all_at (is_node nodes) k ns i lt within h) in
+    (leb-true 1 (get_or ns i 0) each.0, leb-true (get_or ns i 0) nodes each.1)
 
 pub bounds : (form : Form) (nodes : ℕ) (ns : List ℕ) → IsItemWithin form nodes ns → HasBounds nodes ns
 bounds Graph nodes ns within =
@@ -161,14 +157,14 @@ module _ (ns : List ℕ) (m : ℕ) where
   is_size-capped (Queries n) = rw (capped_at ns m 0, capped_le (get_or ns 0 0) (2 ^ 24) (lit< tt)) refl
   is_size-capped (Nodes n) = rw (capped_at ns m 0, capped_le (get_or ns 0 0) 65536 (lit< tt)) refl
 
-  exact : (k : ℕ) → get_or ns k 0 ≤ 18446744073709551615 → get_or values k 0 ≡ get_or ns k 0
+  exact : (k : ℕ) → get_or ns k 0 ≤ greatest → get_or values k 0 ≡ get_or ns k 0
   exact k le = capped_at ns m k ∙ capped_same (get_or ns k 0) le
 
   pub heading-capped : (form : Form) → is_size form (heading_from form ns) ≡ true → heading_from form values ≡ heading_from form ns
   heading-capped Graph size =
-      let both = both_are (leb (get_or ns 0 0) (2 ^ 25)) (leb (get_or ns 1 0) (2 ^ 27)) size in
-      let nodes : get_or ns 0 0 ≤ 2 ^ 25 = leb-true (get_or ns 0 0) (2 ^ 25) both.0 in
-      let items : get_or ns 1 0 ≤ 2 ^ 27 = leb-true (get_or ns 1 0) (2 ^ 27) both.1 in
+      let each = both (leb (get_or ns 0 0) (2 ^ 25)) (leb (get_or ns 1 0) (2 ^ 27)) size in
+      let nodes : get_or ns 0 0 ≤ 2 ^ 25 = leb-true (get_or ns 0 0) (2 ^ 25) each.0 in
+      let items : get_or ns 1 0 ≤ 2 ^ 27 = leb-true (get_or ns 1 0) (2 ^ 27) each.1 in
       rw (exact 0 (omega arith), exact 1 (omega arith)) refl
   heading-capped (Queries n) size = let items : get_or ns 0 0 ≤ 2 ^ 24 = leb-true (get_or ns 0 0) (2 ^ 24) size in rw (exact 0 (omega arith)) refl
   heading-capped (Nodes n) size = let items : get_or ns 0 0 ≤ 65536 = leb-true (get_or ns 0 0) 65536 size in rw (exact 0 (omega arith)) refl

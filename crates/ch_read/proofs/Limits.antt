@@ -1,6 +1,6 @@
 -- What an accepted file names is within the limits, and an error is answered both ways.
 use Rattle.std.proofs.Common.{◌≡◌, ℕ, ◌-◌, ◌*◌, ◌<◌, ◌≤◌, ◌^◌, inl, inr, leb, List, [], ◌∷◌, map, get_or, Option, Some, None, Result, Ok, Err, refl, sym, ◌∙◌, ap, subst, arith}
-use Rattle.std.specs.Prelude.{All, IsErrAnd, Vec, option_map, slice_get, slice_index}
+use Rattle.std.specs.Prelude.{All, IsErrAnd, Vec, codes, option_map, slice_get, slice_index}
 use Rattle.std.specs.List.{filter_map, cons_option}
 use Rattle.std.proofs.lemmas.Bool.{leb-true}
 use Rattle.std.proofs.lemmas.List.{length-map}
@@ -20,7 +20,8 @@ use Rattle.ch_read.specs.Names.{arc_from, pair_from, node_from}
 use Rattle.ch_read.specs.Answers.{AnswersWhere, seen_by_items}
 use Rattle.ch_read.specs.Reading.{IsItemWithin, IsFile, IsErrorOf}
 use Rattle.ch_read.proofs.OneAnswer.{one_fault}
-use Rattle.ch_read.proofs.Judging.{both_are, bounds}
+use Rattle.ch_read.proofs.Judging.{bounds}
+use Rattle.ch_read.proofs.Numbers.{both}
 
 -- errors
 
@@ -55,7 +56,7 @@ error_of_items P (Err e) is = is
 -- query files and lists have the nodes of their graph
 heading_nodes : (form : Form) (n : ℕ) → ((ns : List ℕ) → (heading_from form ns).nodes ≡ n) → (all : List (List ℕ)) (h : Heading) → heading_in form all ≡ Some h → h.nodes ≡ n
 heading_nodes form n same [] h e = absurd (none-some h e)
-heading_nodes form n same (line ∷ all) h e = at (numbers_after ((112 ∷ []) ∷ problem_words form) (problem_size form) (words line)) e (heading_nodes form n same all h)
+heading_nodes form n same (line ∷ all) h e = at (numbers_after (codes "p" ∷ problem_words form) (problem_size form) (words line)) e (heading_nodes form n same all h)
   where
     at : (o : Option (List ℕ)) → slice_get (cons_option (option_map (heading_from form) o) (filter_map (λ line. heading form (words line)) all)) 0 ≡ Some h →
         (heading_in form all ≡ Some h → h.nodes ≡ n) → h.nodes ≡ n
@@ -64,7 +65,7 @@ heading_nodes form n same (line ∷ all) h e = at (numbers_after ((112 ∷ []) �
 
 pub graph_within : (bytes : List ℕ) (h : Heading) → IsFile Graph bytes h → IsWithinLimits (record { nodes = h.nodes; arcs = map arc_from (items_in Graph (lines bytes)) })
 graph_within bytes h file =
-    let size = both_are (leb h.nodes (2 ^ 25)) (leb h.items (2 ^ 27)) file.within.0 in
+    let size = both (leb h.nodes (2 ^ 25)) (leb h.items (2 ^ 27)) file.within.0 in
     let items : h.items ≤ 2 ^ 27 = leb-true h.items (2 ^ 27) size.1 in
     let few = file.within.1 in
     record {

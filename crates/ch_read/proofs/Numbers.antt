@@ -1,5 +1,5 @@
 -- Words of digits, and the numbers of a line.
-use Rattle.std.proofs.Common.{set, ◌≡◌, ℕ, zero, suc, ◌+◌, ◌-◌, ◌*◌, ◌<◌, ◌≤◌, ◌&&◌, Bool, true, false, cond, eqb, min, List, [], ◌∷◌, ◌++◌, length, map, take, get_or, Option, Some, None, refl, sym, ◌∙◌, ap, arith, add-one, length-append, append_assoc}
+use Rattle.std.proofs.Common.{set, ◌≡◌, ℕ, zero, suc, ◌+◌, ◌-◌, ◌*◌, ◌<◌, ◌≤◌, ◌&&◌, Bool, true, false, cond, eqb, min, List, [], ◌∷◌, ◌++◌, length, map, take, get_or, Option, Some, None, refl, sym, ◌∙◌, ap, arith, add-one, append_assoc}
 use Rattle.std.specs.Prelude.{replicate, option_map}
 use Rattle.std.specs.Option.{option_and_then}
 use Rattle.std.specs.Char.{is_ascii_digit, digit_value}
@@ -13,11 +13,11 @@ use Rattle.std.proofs.lemmas.Bool.Decides.{nat_tests}
 use Rattle.std.proofs.lemmas.Int.Digits.{digits_value_more}
 use Rattle.ch_read.specs.Words.{number, is_word}
 use Rattle.ch_read.specs.Forms.{numbers, numbers_after}
-use Rattle.ch_read.specs.Reading.{capped, AreCapped}
+use Rattle.ch_read.specs.Reading.{greatest, capped, AreCapped}
 
 -- words of digits
 
-both : (a b : Bool) → (a && b) ≡ true → (a ≡ true) × (b ≡ true)
+pub both : (a b : Bool) → (a && b) ≡ true → (a ≡ true) × (b ≡ true)
 both true b e = (refl, e)
 both false b e = cc
 
@@ -58,12 +58,12 @@ pub record HasDigits (word : List ℕ) (i value : ℕ) : Type 0 where
 
 pub more_digits : (word : List ℕ) (i value next digit : ℕ) → i < length word → HasDigits word i value → IsInRange 48 57 (get_or word i 0) →
     is_ascii_digit (get_or word i 0) ≡ true → digit ≡ get_or word i 0 - 48 →
-    next ≡ min (min (value * 10) 18446744073709551615 + digit) 18446744073709551615 → HasDigits word (i + 1) next
+    next ≡ min (min (value * 10) greatest + digit) greatest → HasDigits word (i + 1) next
 more_digits word i value next digit within so_far range here digit_is next_is =
     let digit_value_is : digit ≡ digit_value (get_or word i 0) = omega (arith, digit_value_digit (get_or word i 0) range) in
     record {
-      value_is = next_is ∙ ap (λ v. min (min (v * 10) 18446744073709551615 + digit) 18446744073709551615) so_far.value_is
-          ∙ capped_more 18446744073709551615 (digits_value 10 (take i word)) digit
+      value_is = next_is ∙ ap (λ v. min (min (v * 10) greatest + digit) greatest) so_far.value_is
+          ∙ capped_more greatest (digits_value 10 (take i word)) digit
           ∙ ap (λ d. capped (digits_value 10 (take i word) * 10 + d)) digit_value_is
           ∙ ap capped (sym (digits_value_more 10 word i within));
       digits = rw (add-one i) (digits_suc word i within so_far.digits here);
@@ -156,21 +156,7 @@ take_one ws left more w i value values lt h next e =
           ∙ ap (λ r. r ++ replicate (3 - (i + 1)) 0) (sym (map-append capped h.ns (n.0 ∷ [])));
     }
 
--- the number of words decides
-other_length : (ws : List (List ℕ)) (count : ℕ) → (length ws ≡ count → ⊥) → numbers_after [] count ws ≡ None
-other_length ws count other = let e : eqb (length ws) count ≡ false = grind (arith, nat_tests) in rw e refl
-
-pub words_end : (ws left : List (List ℕ)) (i count : ℕ) (values : List ℕ) → HasTaken ws left i values → left ≡ [] → i < count → numbers_after [] count ws ≡ None
-words_end ws left i count values h e lt =
-    let long : length ws ≡ i + length left = ap length h.split ∙ length-append h.taken left ∙ ap (λ k. k + length left) h.long in
-    let none : length left ≡ 0 = ap length e in
-    other_length ws count (λ same. omega arith)
-
-pub words_go_on : (ws left more : List (List ℕ)) (w : List ℕ) (count : ℕ) (values : List ℕ) → HasTaken ws left count values → left ≡ w ∷ more → numbers_after [] count ws ≡ None
-words_go_on ws left more w count values h e =
-    let long : length ws ≡ count + length left = ap length h.split ∙ length-append h.taken left ∙ ap (λ k. k + length left) h.long in
-    let some : length left ≡ suc (length more) = ap length e in
-    other_length ws count (λ same. omega arith)
+-- the ends of the loop
 
 pub no_number_next : (ws left more : List (List ℕ)) (w : List ℕ) (i count : ℕ) (values : List ℕ) → HasTaken ws left i values → left ≡ w ∷ more →
     None ≡ option_map capped (number w) → numbers_after [] count ws ≡ None

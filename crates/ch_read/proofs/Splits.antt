@@ -5,7 +5,7 @@ use Rattle.std.specs.List.{slice_split, position, position_or_len}
 use Rattle.std.proofs.Math.Nat.{eq-zero-or-pos}
 use Rattle.std.proofs.lemmas.Bool.Decides.{nat_tests}
 use Rattle.std.proofs.lemmas.Option.{cond_some, none-some}
-use Rattle.std.proofs.lemmas.List.{take_rest, get_or-drop, drop_all}
+use Rattle.std.proofs.lemmas.List.{take_rest, get_or-drop, drop_all, drop_more}
 use Rattle.std.proofs.lemmas.List.Splits.{slice_split_first, slice_split_none, length-slice_split}
 use Rattle.std.proofs.lemmas.List.Sums.{passes_at_first, fails_before_first}
 use Rattle.ch_read.specs.Words.{lines, words, is_word, is_blank, without_empty_last}
@@ -101,15 +101,20 @@ one_word : (word : List ℕ) (parts : List (List ℕ)) → 0 < length word → f
 one_word [] parts some = absurd (omega arith)
 one_word (x ∷ xs) parts some = let long : eqb (suc (length xs)) 0 ≡ false = grind (arith, nat_tests) in rw long refl
 
+-- a blank before the words changes nothing
+blank_first : (b : ℕ) (xs : List ℕ) → is_blank b ≡ true → words (b ∷ xs) ≡ words xs
+blank_first b xs e = rw e refl
+
 pub word_to_blank : (text : List ℕ) (end : ℕ) → BeginsWithWord text → position is_blank text ≡ Some end →
-    (words text ≡ take end text ∷ words (take (length text - (end + 1)) (drop (end + 1) text))) × (0 < length (take end text))
+    (words text ≡ take end text ∷ words (take (length text - end) (drop end text))) × (0 < length (take end text))
 word_to_blank text end begins e =
     let found = split_at is_blank text end e in
     let within : end < length text = found.0 in
     let some : 0 < end = after end (eq-zero-or-pos end) found.1 in
-    let long : 0 < length (take end text) = omega (arith, length-take end text) in (
+    let long : 0 < length (take end text) = omega (arith, length-take end text) in
+    let rest : words (drop end text) ≡ words (drop (end + 1) text) = ap words (drop_more text end 0 within) ∙ blank_first (get_or text end 0) (drop (end + 1) text) found.1 in (
       ap (filter is_word) found.2 ∙ one_word (take end text) (slice_split is_blank (drop (end + 1) text)) long
-          ∙ ap (λ (more : List ℕ). take end text ∷ words more) (sym (take_rest text (end + 1))),
+          ∙ ap (λ ws. take end text ∷ ws) (sym rest ∙ ap words (sym (take_rest text end))),
       long,
     )
   where

@@ -63,7 +63,8 @@ heading form ws = option_map (heading_from form) (numbers_after (codes "p" ∷ p
 abbrev pub item : Form → List (List ℕ) → Option (List ℕ)
 item form ws = numbers_after (item_word form ∷ []) (item_size form) ws
 
--- what the first problem line declares
+-- what the first problem line declares; a problem line with other words than it must have declares
+-- nothing, and is itself the first fault
 abbrev pub heading_in : Form → List (List ℕ) → Option Heading
 heading_in form all = slice_get (filter_map (λ line. heading form (words line)) all) 0
 

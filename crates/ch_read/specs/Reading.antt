@@ -1,19 +1,28 @@
 -- What the reader knows of one line.
 use Rattle.std.specs.Prelude.{◌≡◌, ℕ, ◌-◌, ◌^◌, ◌<◌, ◌≤◌, true, List, [], length, map, min, replicate, ◌++◌, slice_index, Option, Some, None, All, ⊤}
+use Rattle.ch_read.specs.declared.fault.FaultKind.{FaultKind}
 use Rattle.ch_read.specs.declared.form.Form.{Form}
 use Rattle.ch_read.specs.declared.form.Heading.{Heading}
 use Rattle.ch_read.specs.declared.form.Item.{Item}
 use Rattle.ch_read.specs.declared.check.Line.{Line}
 use Rattle.ch_read.specs.declared.check.Line.TheVariants.{Skipped, Problem, Item as AnItem}
 use Rattle.ch_read.specs.Forms.{numbers_after, item_size, heading, item, heading_in, items_in}
-use Rattle.ch_read.specs.Checks.{is_size, are_nodes, is_weight, first_failing, line_checks, end_checks, IsAccepted, IsFault}
+use Rattle.ch_read.specs.Checks.{Check, is_size, are_nodes, is_weight, first_failing, line_checks, end_checks, IsAccepted, IsFault}
 use Rattle.ch_read.specs.Words.{lines}
 use Rattle.ch_read.specs.declared.fault.ReadError.{ReadError}
 use Rattle.ch_read.specs.declared.fault.ReadError.TheVariants.{Fault, NoMemory}
 
+-- the greatest number of 64 bits
+abbrev pub greatest : ℕ
+greatest = 2 ^ 64 - 1
+
 -- a number as a word of 64 bits: past the limits every value is as good as the greatest
 abbrev pub capped : ℕ → ℕ
-capped n = min n (2 ^ 64 - 1)
+capped n = min n greatest
+
+-- the first of the checks to fail answers this kind
+abbrev pub Fails : List Check → FaultKind → Type 0
+Fails checks kind = first_failing checks ≡ Some kind
 
 -- there are numbers, and the three values are these, capped, and then zeros
 abbrev pub AreCapped : Option (List ℕ) → List ℕ → Type 0

@@ -3,8 +3,8 @@ ghost use Rattle.std.specs.Prelude.{◌≡◌, ◌<◌, ◌≤◌, ◌^◌, [], 
 ghost use Rattle.std.specs.Str.{bytes_eq};
 ghost use Rattle.ch_read.specs.Words.{words};
 ghost use Rattle.ch_read.specs.Forms.{problem_words, problem_size, numbers_after, heading_from, item_word};
-ghost use Rattle.ch_read.specs.Checks.{is_size, are_nodes, is_weight, first_failing, problem_checks, item_checks, line_checks, end_checks};
-ghost use Rattle.ch_read.specs.Reading.{AreCapped, IsOther, IsAfter, item_from, IsProblem, IsItem, IsLine, IsEnd};
+ghost use Rattle.ch_read.specs.Checks.{is_size, are_nodes, is_weight, problem_checks, item_checks, line_checks, end_checks};
+ghost use Rattle.ch_read.specs.Reading.{AreCapped, IsOther, IsAfter, item_from, IsProblem, IsItem, IsLine, IsEnd, Fails};
 
 use crate::fault::FaultKind;
 use crate::form::{Form, Heading, Item};
@@ -41,7 +41,8 @@ pub fn check_line(
     count: usize,
     line: &[u8],
 ) -> Result<Line, FaultKind>
-    ensures { MatchResult result (IsLine form seen count (words line.now)) (λ kind. first_failing (line_checks form seen count (words line.now)) ≡ Some kind) }
+    ensures { let ws = words line.now in
+        MatchResult result (IsLine form seen count ws) (Fails (line_checks form seen count ws)) }
 {
     let Some((first, rest)) = split_word(line) else {
         return Ok(Line::Skipped);
@@ -60,7 +61,7 @@ pub fn check_line(
 
 /// Judges the end of a file, where this heading and so many items came before it.
 pub fn check_end(seen: Option<Heading>, count: usize) -> Result<Heading, FaultKind>
-    ensures { MatchResult result (IsEnd seen count) (λ kind. first_failing (end_checks seen count) ≡ Some kind) }
+    ensures { MatchResult result (IsEnd seen count) (Fails (end_checks seen count)) }
 {
     let Some(heading) = seen else {
         return Err(FaultKind::NoProblem);
@@ -80,7 +81,8 @@ fn is_letter(word: &[u8], letter: u8) -> bool
 
 /// Judges the rest of a problem line after its `p`.
 fn check_problem(form: Form, seen: Option<Heading>, rest: &[u8]) -> Result<Heading, FaultKind>
-    ensures { let ws = codes "p" ∷ words rest.now in MatchResult result (IsProblem form seen ws) (λ kind. first_failing (problem_checks form seen ws) ≡ Some kind) }
+    ensures { let ws = codes "p" ∷ words rest.now in
+        MatchResult result (IsProblem form seen ws) (Fails (problem_checks form seen ws)) }
 {
     if seen.is_some() {
         return Err(FaultKind::SecondProblem);
@@ -93,14 +95,17 @@ fn check_problem(form: Form, seen: Option<Heading>, rest: &[u8]) -> Result<Headi
 
 /// The numbers of a problem line after its `p`.
 fn problem_numbers(form: Form, rest: &[u8]) -> Option<[u64; MOST_NUMBERS]>
-    ensures { let numbers = numbers_after (problem_words form) (problem_size form) (words rest.now) in MatchOption result (numbers ≡ None) (AreCapped numbers) }
+    ensures { let numbers = numbers_after (problem_words form) (problem_size form) (words rest.now) in
+        MatchOption result (numbers ≡ None) (AreCapped numbers) }
 {
     numbers_of(after_problem_words(form, rest)?, form.problem_size())
 }
 
 /// What follows the words of a problem line after its `p`.
 fn after_problem_words(form: Form, rest: &[u8]) -> Option<&[u8]>
-    ensures { MatchOption result (IsOther (problem_words form) (words rest.now)) (λ after. IsAfter (problem_words form) (words rest.now) (words after.now)) }
+    ensures { let front = problem_words form in
+        let ws = words rest.now in
+        MatchOption result (IsOther front ws) (λ after. IsAfter front ws (words after.now)) }
 {
     match form {
         Form::Graph => after_word(rest, b"sp"),
@@ -111,14 +116,18 @@ fn after_problem_words(form: Form, rest: &[u8]) -> Option<&[u8]>
 
 /// What follows the words that query files and lists have in common.
 fn after_auxiliary(rest: &[u8]) -> Option<&[u8]>
-    ensures { let front = codes "aux" ∷ codes "sp" ∷ [] in MatchOption result (IsOther front (words rest.now)) (λ after. IsAfter front (words rest.now) (words after.now)) }
+    ensures { let front = codes "aux" ∷ codes "sp" ∷ [] in
+        let ws = words rest.now in
+        MatchOption result (IsOther front ws) (λ after. IsAfter front ws (words after.now)) }
 {
     after_word(after_word(rest, b"aux")?, b"sp")
 }
 
 /// What follows the first word, where it is this word.
 fn after_word<'a>(text: &'a [u8], word: &[u8]) -> Option<&'a [u8]>
-    ensures { MatchOption result (IsOther (word.now ∷ []) (words text.now)) (λ after. IsAfter (word.now ∷ []) (words text.now) (words after.now)) }
+    ensures { let front = word.now ∷ [] in
+        let ws = words text.now in
+        MatchOption result (IsOther front ws) (λ after. IsAfter front ws (words after.now)) }
 {
     let (first, rest) = split_word(text)?;
     if first == word { Some(rest) } else { None }
@@ -126,7 +135,9 @@ fn after_word<'a>(text: &'a [u8], word: &[u8]) -> Option<&'a [u8]>
 
 /// What a problem line of these numbers declares, where it is within the limits.
 fn heading_of(form: Form, values: &[u64; MOST_NUMBERS]) -> Option<Heading>
-    ensures { MatchOption result (is_size form (heading_from form values.now) ≡ false) (λ h. (h ≡ heading_from form values.now) × (is_size form (heading_from form values.now) ≡ true)) }
+    ensures { let declared = heading_from form values.now in
+        MatchOption result (is_size form declared ≡ false)
+        (λ h. (h ≡ declared) × (is_size form declared ≡ true)) }
 {
     match form {
         Form::Graph if values[0] <= MOST_NODES && values[1] <= MOST_ARCS => Some(Heading {
@@ -152,7 +163,8 @@ fn check_item(
     count: usize,
     rest: &[u8],
 ) -> Result<Item, FaultKind>
-    ensures { let ws = item_word form ∷ words rest.now in MatchResult result (IsItem form seen count ws) (λ kind. first_failing (item_checks form seen count ws) ≡ Some kind) }
+    ensures { let ws = item_word form ∷ words rest.now in
+        MatchResult result (IsItem form seen count ws) (Fails (item_checks form seen count ws)) }
 {
     let Some(heading) = seen else {
         return Err(FaultKind::NoProblem);

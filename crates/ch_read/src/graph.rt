@@ -18,7 +18,8 @@ use std::alloc::Global;
 /// The first fault of the first faulty line, or `NoMemory` where there is no room for the arcs.
 pub fn read_graph(alloc: Global, bytes: &[u8]) -> Result<Graph, ReadError>
     ensures value { (g : Network) → AnswersWhere result (Ok g) (NamesGraph bytes.now g) }
-    ensures fault { (f : FaultAt) → AnswersWhere result (Err (ReadError.Fault f)) (IsFault Form.Graph bytes.now f.line f.kind) }
+    ensures fault { (f : FaultAt) →
+        AnswersWhere result (Err (ReadError.Fault f)) (IsFault Form.Graph bytes.now f.line f.kind) }
 {
     let (heading, arcs) = read_items(alloc, Form::Graph, bytes)?;
     match Graph::new(heading.nodes, arcs) {

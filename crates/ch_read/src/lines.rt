@@ -44,12 +44,13 @@ fn word_at(text: &[u8]) -> Option<usize>
 
 /// The first word, and what follows it, where there is a word.
 pub fn split_word(text: &[u8]) -> Option<(&[u8], &[u8])>
-    ensures { MatchOption result (words text.now ≡ []) (λ parts. (words text.now ≡ parts.0.now ∷ words parts.1.now) × (0 < length parts.0.now)) }
+    ensures { MatchOption result (words text.now ≡ [])
+        (λ (word, rest). (words text.now ≡ word.now ∷ words rest.now) × (0 < length word.now)) }
 {
     let start = word_at(text)?;
     let from_word = &text[start..];
     match blank_at(from_word) {
-        Some(end) => Some((&from_word[..end], &from_word[end + 1..])),
+        Some(end) => Some((&from_word[..end], &from_word[end..])),
         None => Some((from_word, &[])),
     }
 }

@@ -16,8 +16,11 @@ use std::alloc::Global;
 /// # Errors
 /// The first fault of the first faulty line, or `NoMemory` where there is no room for the nodes.
 pub fn read_nodes(alloc: Global, bytes: &[u8], n: u32) -> Result<Vec<u32>, ReadError>
-    ensures value { (nodes : List ℕ) → AnswersWhere (seen_by_items result) (Ok nodes) (NamesNodes bytes.now n nodes) }
-    ensures fault { (f : FaultAt) → AnswersWhere (seen_by_items result) (Err (ReadError.Fault f)) (IsFault (Form.Nodes n) bytes.now f.line f.kind) }
+    ensures value { (nodes : List ℕ) →
+        AnswersWhere (seen_by_items result) (Ok nodes) (NamesNodes bytes.now n nodes) }
+    ensures fault { (f : FaultAt) →
+        AnswersWhere (seen_by_items result) (Err (ReadError.Fault f))
+        (IsFault (Form.Nodes n) bytes.now f.line f.kind) }
     ensures range { IfOk result (λ v. All (λ x. x < n) v.items) }
     ensures size { IfOk result (λ v. vec_len v ≤ 65536) }
 {

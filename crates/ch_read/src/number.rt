@@ -30,7 +30,8 @@ pub fn number_of(word: &[u8]) -> Option<u64>
 /// The values of the words, where there are exactly `count`, and each is a number.
 pub fn numbers_of(text: &[u8], count: usize) -> Option<[u64; MOST_NUMBERS]>
     requires { count ≤ 3 }
-    ensures { MatchOption result (numbers_after [] count (words text.now) ≡ None) (AreCapped (numbers_after [] count (words text.now))) }
+    ensures { let numbers = numbers_after [] count (words text.now) in
+        MatchOption result (numbers ≡ None) (AreCapped numbers) }
 {
     let mut values = [0; MOST_NUMBERS];
     let mut rest = text;

@@ -16,8 +16,11 @@ use std::alloc::Global;
 /// # Errors
 /// The first fault of the first faulty line, or `NoMemory` where there is no room for the pairs.
 pub fn read_queries(alloc: Global, bytes: &[u8], n: u32) -> Result<Vec<(u32, u32)>, ReadError>
-    ensures value { (pairs : List (ℕ × ℕ)) → AnswersWhere (seen_by_items result) (Ok pairs) (NamesQueries bytes.now n pairs) }
-    ensures fault { (f : FaultAt) → AnswersWhere (seen_by_items result) (Err (ReadError.Fault f)) (IsFault (Form.Queries n) bytes.now f.line f.kind) }
+    ensures value { (pairs : List (ℕ × ℕ)) →
+        AnswersWhere (seen_by_items result) (Ok pairs) (NamesQueries bytes.now n pairs) }
+    ensures fault { (f : FaultAt) →
+        AnswersWhere (seen_by_items result) (Err (ReadError.Fault f))
+        (IsFault (Form.Queries n) bytes.now f.line f.kind) }
     ensures range { IfOk result (λ v. All (λ p. (p.0 < n) × (p.1 < n)) v.items) }
     ensures size { IfOk result (λ v. vec_len v ≤ 2 ^ 24) }
 {

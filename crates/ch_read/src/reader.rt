@@ -1,5 +1,4 @@
 //! The loop over the lines of a file of any kind.
-
 ghost use Rattle.std.specs.Prelude.{◌≡◌, MatchResult};
 ghost use Rattle.ch_read.specs.declared.form.Item.{Item};
 ghost use Rattle.ch_read.specs.Words.{lines};
@@ -25,7 +24,9 @@ pub fn read_items<T: FromItem>(
     form: Form,
     bytes: &[u8],
 ) -> Result<(Heading, Vec<T>), ReadError>
-    ensures { MatchResult result (λ file. IsFile form bytes.now file.0 × (file.1.items ≡ values_in T.from_item_gives form (lines bytes.now))) (IsErrorOf form bytes.now) }
+    ensures { let values = values_in T.from_item_gives form (lines bytes.now) in
+        MatchResult result (λ (heading, items). IsFile form bytes.now heading × (items.items ≡ values))
+        (IsErrorOf form bytes.now) }
 {
     let mut seen = None;
     let mut items = Vec::new(alloc);

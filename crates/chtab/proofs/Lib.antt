@@ -1,2 +1,3 @@
+pub mod AnswerTexts
 pub mod Bytes
 pub mod Words

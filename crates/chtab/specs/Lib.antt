@@ -1,5 +1,6 @@
 pub mod Device
 pub mod Fault
 pub mod Line
+pub mod Program
 pub mod Run
 pub mod Text

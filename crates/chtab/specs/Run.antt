@@ -9,7 +9,7 @@ use Rattle.chtab.specs.declared.fault.Which.TheVariants as Which
 use Rattle.chtab.specs.declared.fault.RunFault.{RunFault}
 use Rattle.chtab.specs.declared.fault.RunFault.TheVariants as RunFault
 use Rattle.chtab.specs.Device.{HasGiven}
-use Rattle.chtab.specs.Text.{IsPlainText}
+use Rattle.chtab.specs.Text.{IsDistanceText}
 
 -- what an input has left before a run and after it, where it tells
 pub record Reading : Type 0 where
@@ -30,7 +30,7 @@ ReadsQueries queries nodes pairs = ReadsAll queries (λ bytes. NamesQueries byte
 
 -- the inputs name a graph and queries on it, and the text answers these
 abbrev pub IsAnsweredBy : Reading → Reading → List ℕ → Type 0
-IsAnsweredBy graph queries text = (g : Network) × (pairs : List (ℕ × ℕ)) × ReadsGraph graph g × ReadsQueries queries g.nodes pairs × IsPlainText g pairs text
+IsAnsweredBy graph queries text = (g : Network) × (pairs : List (ℕ × ℕ)) × ReadsGraph graph g × ReadsQueries queries g.nodes pairs × IsDistanceText g pairs text
 
 -- the input was read to its end and has this fault as a graph
 abbrev pub IsGraphRefused : Reading → ReadFault → Type 0

@@ -32,5 +32,5 @@ pub record Answers (g : Network) (query : ℕ × ℕ) (a : Answer) : Type 0 wher
   pub weight : IsAnswer g query.0 query.1 a.weight
 
 -- the text has an answer for each query, in order
-abbrev pub IsPlainText : Network → List (ℕ × ℕ) → List ℕ → Type 0
-IsPlainText g queries text = (answers : List Answer) × AllZip (Answers g) queries answers × (text ≡ flat_map answer_text answers)
+abbrev pub IsDistanceText : Network → List (ℕ × ℕ) → List ℕ → Type 0
+IsDistanceText g queries text = (answers : List Answer) × AllZip (Answers g) queries answers × (text ≡ flat_map answer_text answers)

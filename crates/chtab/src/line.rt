@@ -1,21 +1,19 @@
 //! The command line: the words after the program's name.
 
-ghost use Rattle.std.specs.Prelude.{◌≡◌, List, Some, IfErr, IfOk, [], ◌∷◌, false, codes, map};
+ghost use Rattle.std.specs.Prelude.{◌≡◌, ◌≤◌, List, Some, IfErr, IfOk, [], ◌∷◌, false, codes, map};
 ghost use Rattle.std.specs.String.{string_bytes};
 ghost use Rattle.clap.specs.Words.{app_of, first_of, found_of, kind_of, one_of, rows_of, rule_of};
 ghost use Rattle.clap.specs.declared.builder.command.Command.TheViews.{out-Command as fields_of};
-ghost use Rattle.chtab.specs.Line.{HasDefaults, IsAllowed, IsFaultOf, IsPlainIn, IsReadFrom, IsToldOf, chtab_form, dist_form, faults_of, file_rule, files_in, line_status_of, plain_rule};
+ghost use Rattle.chtab.specs.Line.{HasDefaultPlan, IsAllowed, IsFaultOf, IsPlainIn, IsReadFrom, IsToldOf, chtab_form, dist_form, faults_of, file_rule, files_in, hops_in, hops_rule, line_status_of, plain_rule};
 
 use crate::options::Options;
 use crate::plan::Plan;
 use clap::error::ErrorKind;
-use clap::{Arg, ArgAction, ArgMatches, Command};
+use clap::{Arg, ArgAction, ArgMatches, Command, value_parser};
 use std::alloc::{AllocError, AllocFailed, Global};
 use std::error::Error;
 use std::fmt;
 
-/// The most legs of a witness, where the words say none.
-const HOPS: u32 = 5;
 /// The number of workers, where the words say none.
 const WORKERS: u32 = 1;
 /// The number of items in a piece, where the words say none.
@@ -109,7 +107,20 @@ fn plain<'a>(alloc: Global) -> Arg<'a>
     Arg::new(alloc, "plain")
         .long("plain")
         .action(ArgAction::SetTrue)
-        .help("Answer by rounds of relaxation over all arcs [default: off]")
+        .help("Answer by rounds of relaxation over all arcs, without the hierarchy [default: off]")
+}
+
+fn hops<'a>(alloc: Global) -> Arg<'a>
+    ensures rule { rule_of result ≡ hops_rule }
+    ensures local { result.global ≡ false }
+{
+    Arg::new(alloc, "hops")
+        .long("hops")
+        .action(ArgAction::Set)
+        .value_name("H")
+        .value_parser(value_parser!(u32).range(1..=16))
+        .default_value("5")
+        .help("The most legs of a witness path when the hierarchy is built, from 1 to 16")
 }
 
 fn file<'a>(alloc: Global, name: &'a str, help: &'a str) -> Arg<'a>
@@ -128,8 +139,9 @@ fn dist_command<'a>(alloc: Global) -> Result<Command<'a>, AllocError>
 {
     Command::new(alloc, "dist")
         .about("For each query, writes `d S T X`: X is the distance from S to T, or - for no path")
-        .after_help("Example: chtab dist --plain roads.gr pairs.p2p")
+        .after_help("Example: chtab dist roads.gr pairs.p2p")
         .arg(plain(alloc))?
+        .arg(hops(alloc))?
         .arg(file(
             alloc,
             "GRAPH",
@@ -149,7 +161,7 @@ fn command<'a>(alloc: Global) -> Result<Command<'a>, AllocError>
     Command::new(alloc, "chtab")
         .bin_name("chtab")?
         .about("Exact distances on directed graphs")
-        .after_help("See `chtab dist --help`. Example: chtab dist --plain roads.gr pairs.p2p")
+        .after_help("See `chtab dist --help`. Example: chtab dist roads.gr pairs.p2p")
         .no_binary_name(true)
         .subcommand_required(true)
         .disable_help_subcommand(true)
@@ -183,11 +195,23 @@ fn files_of(alloc: Global, matches: &ArgMatches<'_>) -> Result<Vec<String>, Allo
     Ok(files)
 }
 
+/// The number that the matches give as `--hops`. Clap has refused words that give none from 1 to 16.
+fn hops_of(matches: &ArgMatches<'_>) -> Result<u32, AllocError>
+    ensures range { IfOk result (λ hops. (1 ≤ hops) × (hops ≤ 16)) }
+    ensures named { IfOk result (λ hops. Some hops ≡ hops_in (rows_of (found_of matches.now))) }
+{
+    match matches.get_one("hops") {
+        Some(hops @ 1..=16) => Ok(hops),
+        _ => Err(AllocError),
+    }
+}
+
 fn dist_line(alloc: Global, matches: &ArgMatches<'_>) -> Result<Line, LineFault>
     ensures allowed { IfOk result IsAllowed }
     ensures plain { IfOk result (λ line. IsPlainIn (rows_of (found_of matches.now)) line.options.plain) }
     ensures named { IfOk result (λ line. map (λ file. Some (string_bytes file)) line.files.items ≡ files_in (rows_of (found_of matches.now))) }
-    ensures numbers { IfOk result HasDefaults }
+    ensures hops { IfOk result (λ line. Some line.options.hops ≡ hops_in (rows_of (found_of matches.now))) }
+    ensures plan { IfOk result HasDefaultPlan }
     ensures err { IfErr result (λ fault. fault ≡ LineFault.NoMemory) }
 {
     Ok(Line {
@@ -196,13 +220,13 @@ fn dist_line(alloc: Global, matches: &ArgMatches<'_>) -> Result<Line, LineFault>
         options: Options {
             plain: matches.get_flag("plain"),
             routes: false,
-            hops: HOPS,
+            hops: hops_of(matches)?,
         },
         plan: Plan::new(WORKERS, PIECE, WIDE),
     })
 }
 
-/// Reads the words after the program's name: `dist [--plain] GRAPH QUERIES`.
+/// Reads the words after the program's name: `dist [--plain] [--hops H] GRAPH QUERIES`.
 ///
 /// # Errors
 /// `Help` where the words ask for it; `Refused` where they aren't of this form; `NoMemory`.

@@ -2,6 +2,7 @@
 
 ghost use Rattle.std.specs.Prelude.{◌≡◌, ◌≤◌};
 ghost use Rattle.chtab.specs.Line.{IsAllowed};
+ghost use Rattle.chtab.specs.Program.{exit_status_of};
 
 use crate::device::{ReaderInput, WriterOutput, write_all};
 use crate::fault::{RunFault, Which, status};
@@ -15,7 +16,7 @@ use std::{env, fs, io};
 
 /// Why the program ends with no answer.
 #[derive(Debug, Drop)]
-enum ProgramFault {
+pub enum ProgramFault {
     Line(LineFault),
     Run(RunFault),
 }
@@ -102,7 +103,9 @@ fn done<R: Env + Files + Print + AllocGlobal>(rt: &R) -> Result<(), ProgramFault
 }
 
 /// Tells a fault on standard error, and gives the exit status.
-fn told<R: Eprint>(rt: &R, fault: &ProgramFault) -> u8 {
+fn told<R: Eprint>(rt: &R, fault: &ProgramFault) -> u8
+    ensures { result ≡ exit_status_of fault.now }
+{
     match fault {
         ProgramFault::Line(LineFault::NoMemory) => {
             let _ = rt.eprintln(LineFault::NoMemory);

@@ -3,17 +3,18 @@ ghost use Rattle.std.specs.Prelude.{◌≡◌, ◌+◌, ◌-◌, ◌^◌, ◌<�
 ghost use Rattle.ch_graph.specs.Graph.{Network};
 ghost use Rattle.ch_read.specs.declared.fault.ReadFault.{ReadFault as FaultAt};
 ghost use Rattle.chtab.specs.Device.{HasTaken};
-ghost use Rattle.chtab.specs.Text.{AreQueries};
+ghost use Rattle.ch_contract.specs.Legs.{IsHopBound};
+ghost use Rattle.chtab.specs.Text.{AreQueries, IsDistanceText};
 ghost use Rattle.chtab.specs.Run.{IsAnsweredBy, IsGraphRefused, IsOfGraph, IsOfQueries, IsQueriesRefused, IsWrite, Reading, ReadsGraph, ReadsQueries, StopsAtGraph};
 
 use crate::device::{Input, Output, ReadAllFault, read_all, write_all};
 use crate::fault::{RunFault, Which};
 use crate::options::Options;
 use crate::plan::{Gate, Plan};
-use crate::text::plain_text;
+use crate::text::{hierarchy_text, plain_text};
 use ch_graph::Graph;
 use ch_read::{ReadError, read_graph, read_queries};
-use std::alloc::Global;
+use std::alloc::{AllocError, Global};
 
 /// Reads a graph and then queries, and writes the answer to each query in order.
 ///
@@ -37,7 +38,7 @@ pub fn run_dist<I: Input, J: Input, O: Output, G: Gate>(
     requires failures { O.failed output.old < 2 ^ 64 - 1 }
     requires zeros { O.idle output.old < 2 ^ 64 - 1 }
     requires routes { options.now.routes ≡ false }
-    requires hops { (1 ≤ options.now.hops) × (options.now.hops ≤ 16) }
+    requires hops { IsHopBound options.now.hops }
 
     // What is written is the text that answers what was read: all of it, or its first bytes.
     ensures written {
@@ -73,10 +74,30 @@ pub fn run_dist<I: Input, J: Input, O: Output, G: Gate>(
 {
     let graph = graph_from(alloc, graph)?;
     let queries = queries_from(alloc, queries, graph.nodes())?;
-    let text = plain_text(alloc, &graph, &queries)?;
+    let text = text_of(alloc, &graph, &queries, options, plan, gate)?;
     match write_all(output, &text) {
         Ok(()) => Ok(()),
         Err(count) => Err(RunFault::Write(count)),
+    }
+}
+
+/// The text that answers the queries, by the way that the options name.
+fn text_of<G: Gate>(
+    alloc: Global,
+    graph: &Graph,
+    queries: &[(u32, u32)],
+    options: &Options,
+    plan: &Plan,
+    gate: &G,
+) -> Result<Vec<u8>, AllocError>
+    requires queries { AreQueries graph.now.nodes queries.now }
+    requires hops { IsHopBound options.now.hops }
+    ensures { IfOk result (λ text. IsDistanceText graph.now queries.now text.items) }
+{
+    if options.plain {
+        plain_text(alloc, graph, queries)
+    } else {
+        hierarchy_text(alloc, graph, queries, options.hops, plan, gate)
     }
 }
 

@@ -1,9 +1,13 @@
 //! The text of answers: a line `d S T X` for each query, with nodes counted from 1, and `-` for the
 //! distance where there is no walk.
 ghost use Rattle.std.specs.Prelude.{◌≡◌, ◌<◌, ◌++◌, All, IfOk, OnOk, decimal};
-ghost use Rattle.chtab.specs.Text.{AreQueries, IsPlainText, answer_text, node_text, weight_text};
+ghost use Rattle.ch_contract.specs.Legs.{IsHopBound};
+ghost use Rattle.chtab.specs.Text.{AreQueries, IsDistanceText, answer_text, weight_text};
 
+use ch_contract::build;
 use ch_graph::{Graph, plain_distance};
+use ch_query::{Scratch, distance};
+use ch_work::{Gate, Plan};
 use itoa::Buffer;
 use std::alloc::{AllocError, Global};
 
@@ -17,11 +21,37 @@ pub fn plain_text(
     queries: &[(u32, u32)],
 ) -> Result<Vec<u8>, AllocError>
     requires { AreQueries graph.now.nodes queries.now }
-    ensures { IfOk result (λ text. IsPlainText graph.now queries.now text.items) }
+    ensures { IfOk result (λ text. IsDistanceText graph.now queries.now text.items) }
 {
     let mut text = Vec::new(alloc);
     for (from, to) in queries {
         let weight = plain_distance(alloc, graph, *from, *to)?;
+        push_answer(&mut text, *from, *to, weight)?;
+    }
+    Ok(text)
+}
+
+/// The text that answers the queries in order, each by the graph's contraction hierarchy: the same text.
+///
+/// # Errors
+/// `AllocError` where there is no memory for the text, the hierarchy or the room of a search.
+pub fn hierarchy_text<G: Gate>(
+    alloc: Global,
+    graph: &Graph,
+    queries: &[(u32, u32)],
+    hops: u32,
+    plan: &Plan,
+    gate: &G,
+) -> Result<Vec<u8>, AllocError>
+    requires queries { AreQueries graph.now.nodes queries.now }
+    requires hops { IsHopBound hops }
+    ensures { IfOk result (λ text. IsDistanceText graph.now queries.now text.items) }
+{
+    let hierarchy = build(alloc, graph, hops, plan, gate)?;
+    let mut scratch = Scratch::new(alloc, graph.nodes())?;
+    let mut text = Vec::new(alloc);
+    for (from, to) in queries {
+        let weight = distance(&hierarchy, &mut scratch, *from, *to);
         push_answer(&mut text, *from, *to, weight)?;
     }
     Ok(text)

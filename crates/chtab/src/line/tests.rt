@@ -28,8 +28,24 @@ fn two_files_are_named_in_their_order(rt: HostRuntime) -> Result<(), Fail> {
 }
 
 #[test]
+fn hops_are_what_the_words_say_or_5(rt: HostRuntime) {
+    let rows: [(&[&str], u32); 6] = [
+        (&["dist", "g", "q"], 5),
+        (&["dist", "--plain", "g", "q"], 5),
+        (&["dist", "--hops", "1", "g", "q"], 1),
+        (&["dist", "--hops", "16", "g", "q"], 16),
+        (&["dist", "g", "--hops=7", "q"], 7),
+        (&["dist", "g", "q", "--plain", "--hops", "2"], 2),
+    ];
+    for (words, hops) in rows {
+        let line = read_words(rt.alloc(), words).expect(&rt, "a line");
+        assert_eq!(rt; line.options.hops, hops);
+    }
+}
+
+#[test]
 fn other_words_are_refused(rt: HostRuntime) {
-    let rows: [(&[&str], &str); 11] = [
+    let rows: [(&[&str], &str); 15] = [
         (&[], "requires a subcommand"),
         (&["help"], "unrecognized subcommand 'help'"),
         (&["table", "g", "s", "t"], "unrecognized subcommand 'table'"),
@@ -48,9 +64,13 @@ fn other_words_are_refused(rt: HostRuntime) {
             &["dist", "--piece", "2", "g", "q"],
             "unexpected argument '--piece'",
         ),
+        (&["dist", "--hops", "0", "g", "q"], "0 is not in 1..=16"),
+        (&["dist", "--hops", "17", "g", "q"], "17 is not in 1..=16"),
+        (&["dist", "--hops", "x", "g", "q"], "invalid value 'x'"),
+        (&["dist", "g", "q", "--hops"], "a value is required"),
         (
-            &["dist", "--hops", "2", "g", "q"],
-            "unexpected argument '--hops'",
+            &["dist", "--hops", "2", "--hops", "2", "g", "q"],
+            "cannot be used multiple times",
         ),
         (
             &["dist", "--plain", "--plain", "g", "q"],
@@ -77,8 +97,10 @@ fn help_says_what_each_word_means(rt: HostRuntime) {
             &[
                 "Usage: chtab dist [OPTIONS] <GRAPH> <QUERIES>",
                 "--plain",
-                "default",
-                "Example:",
+                "[default: off]",
+                "--hops <H>",
+                "from 1 to 16 [default: 5]",
+                "Example: chtab dist roads.gr pairs.p2p",
             ],
         ),
     ];

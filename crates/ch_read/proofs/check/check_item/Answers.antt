@@ -12,11 +12,6 @@ returns-then-not-is_light c =
     let read = read_item c.args.form c.args.seen c.in-Some.heading c.args.count _ _ c.in-Some-numbers_of.values c.in-Some.is (omega arith) c.item_size.ensures c.in-Some-numbers_of.ensures c.if-count-heading.false in
     too_heavy _ _ _ _ _ _ read (sym c.if-not-are_in_range.ensures) (sym c.if-not-is_light.ensures)
 
-pub item_of-requires-clause-first : goal.item_of-requires-clause-first
-item_of-requires-clause-first c =
-    let read = read_item c.args.form c.args.seen c.in-Some.heading c.args.count _ _ c.in-Some-numbers_of.values c.in-Some.is (omega arith) c.item_size.ensures c.in-Some-numbers_of.ensures c.if-count-heading.false in
-    (values_small _ _ _ _ _ _ read (sym c.if-not-are_in_range.ensures) (sym c.if-not-is_light.ensures)).0
-
 pub item_of-requires-clause-second : goal.item_of-requires-clause-second
 item_of-requires-clause-second c =
     let read = read_item c.args.form c.args.seen c.in-Some.heading c.args.count _ _ c.in-Some-numbers_of.values c.in-Some.is (omega arith) c.item_size.ensures c.in-Some-numbers_of.ensures c.if-count-heading.false in

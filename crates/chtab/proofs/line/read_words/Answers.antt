@@ -13,4 +13,4 @@ returns-in-Some-clause-read c =
     read-from _ _ (rows_of (found_of c.in-Some.matches.now))
     (of-faults (λ kinds. kinds ≡ []) _ _ c.in_ok-command.ensures c.in-Ok.ensures.kinds)
     (given-by _ _ _ _ c.in_ok-command.ensures c.in-Ok.ensures.matches c.in-Some.ensures.rows)
-    c.dist_line.ensures.plain c.dist_line.ensures.numbers c.dist_line.ensures.named
+    c.dist_line.ensures.plain c.dist_line.ensures.hops c.dist_line.ensures.plan c.dist_line.ensures.named

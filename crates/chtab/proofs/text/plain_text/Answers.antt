@@ -1,27 +1,5 @@
-use Rattle.std.proofs.Common.{◌≡◌, ℕ, ◌+◌, ◌<◌, List, [], ◌∷◌, ◌++◌, length, take, get_or, Option, refl, sym, ap, ◌∙◌, subst, arith}
-use Rattle.std.specs.List.{flat_map}
-use Rattle.std.proofs.lemmas.List.{take_more, flat_map_more}
-use Rattle.std.proofs.lemmas.Slice.Zip.{all_zipped_more}
-use Rattle.ch_graph.specs.Graph.{Network}
-use Rattle.ch_graph.specs.Walk.{IsAnswer}
-use Rattle.chtab.specs.Text.{Answer, Answers, IsPlainText, answer_text}
+use Rattle.chtab.proofs.AnswerTexts.{answered}
 use Rattle.chtab.proofs.text.plain_text.Goals as goal
-
--- one more query is answered
-answered : (g : Network) (queries : List (ℕ × ℕ)) (i : ℕ) (d : ℕ × ℕ) (before after : List ℕ) (weight : Option ℕ) → i < length queries →
-    IsPlainText g (take i queries) before →
-    IsAnswer g (get_or queries i d).0 (get_or queries i d).1 weight →
-    after ≡ before ++ answer_text (record { from = (get_or queries i d).0; to = (get_or queries i d).1; weight = weight }) →
-    IsPlainText g (take (i + 1) queries) after
-answered g queries i d before after weight within text is grown =
-    let query : ℕ × ℕ = get_or queries i d in
-    let answer : Answer = record { from = query.0; to = query.1; weight = weight } in
-    let more : IsPlainText g (take i queries ++ query ∷ []) after = (
-      text.0 ++ answer ∷ [],
-      all_zipped_more (Answers g) (take i queries) text.0 query answer text.1 (record { from = refl; to = refl; weight = is }),
-      grown ∙ ap (λ (t : List ℕ). t ++ answer_text answer) text.2 ∙ flat_map_more answer_text [] text.0 answer
-    ) in
-    subst (λ qs. IsPlainText g qs after) (sym (take_more queries i d within)) more
 
 pub loop-from-preserved : goal.loop-from-preserved
 loop-from-preserved c = answered c.args.graph.now c.args.queries.now c.loop-from.from-index (0, 0) _ _ c.in_ok-weight.weight c.loop-from-test.true c.loop-from.invariant c.in_ok-weight.ensures c.in_ok-push_answer.ensures

@@ -1,0 +1,14 @@
+use Rattle.std.proofs.Common.{subst}
+use Rattle.std.specs.Map.Iter.{deref_pair}
+use Rattle.std.proofs.lemmas.Map.Iter.{rest_all}
+use Rattle.ch_contract.specs.Remaining.{legs_in}
+use Rattle.ch_contract.specs.Rows.{AreLegsFrom}
+use Rattle.ch_contract.proofs.Entries.{leg_from, legs_from_row, listed}
+use Rattle.ch_contract.proofs.links.legs_from.Goals as goal
+
+pub returns : goal.returns
+returns c =
+    let none = rest_all deref_pair _ _ _ c.in-None.is c.next.ensures.steps in
+    let entries = c.args.links.now.entries in
+    subst (AreLegsFrom (legs_in entries) c.args.v) (listed (leg_from c.args.v) c.loop-ends.legs.items _ entries none c.loop-ends.invariant)
+    (legs_from_row c.args.v entries c.into_iter-ends-iterator.ensures.into_iter_gives.5)

@@ -1,0 +1,38 @@
+use Rattle.std.proofs.Common.{◌+◌, get_or, sym, ◌∙◌, ap, subst}
+use Rattle.ch_contract.specs.Remaining.{legs_of}
+use Rattle.ch_contract.specs.ShortcutLists.{AreShortcutsBefore}
+use Rattle.ch_contract.proofs.RowLemmas.{leg_from_at, no_leg}
+use Rattle.ch_contract.proofs.ShortcutLemmas.{boundary_next, before_next_up, before_end_up, before_push, before_skip}
+use Rattle.ch_contract.proofs.remaining.Remaining.push_shortcuts.Goals.{in-Some+in_ok-push, in_default}
+use Rattle.ch_contract.proofs.remaining.Remaining.push_shortcuts.Goals as goal
+
+pub shortcut-requires-clause-second : goal.shortcut-requires-clause-second
+shortcut-requires-clause-second c = leg_from_at (legs_of c.args.self.now) c.args.v _ _ _ c.requires.up c.loop-second-test.true
+
+pub loop-second-preserved : goal.loop-second-preserved
+loop-second-preserved c =
+    let n = c.args.self.now.nodes in
+    let L = legs_of c.args.self.now in
+    let up = c.args.up.now in
+    let i = c.loop-second.second-index in
+    let so_far = c.loop-second.invariant in
+    let to = (get_or up i no_leg).node in
+    let next : AreShortcutsBefore n c.args.hops L c.args.v c.args.first.node to c.loop-second.list.items =
+    before_next_up n c.args.hops L c.args.v c.args.first.node so_far.0 i no_leg up c.loop-second.list.items c.requires.up so_far.1 c.loop-second-test.true so_far.2 in (
+      to + 1,
+      boundary_next up i no_leg c.requires.up.0 c.loop-second-test.true,
+      elim c.match-branch-2.branch [
+        | in-Some+in_ok-push w ↦
+            let is = rw w.in-Some.is at c.in_ok-shortcut.ensures in
+            subst (AreShortcutsBefore n c.args.hops L c.args.v c.args.first.node (to + 1)) (sym (ap (λ v. v.items) w.list-is ∙ w.in_ok-push.ensures.items))
+            (before_push n c.args.hops L c.args.v c.args.first.node to c.loop-second.list.items w.in-Some.shortcut next is.0 is.1 is.2)
+        | in_default w ↦
+            let is = rw w.in_default.is at c.in_ok-shortcut.ensures in
+            rw w.list-is (before_skip n c.args.hops L c.args.v c.args.first.node to c.loop-second.list.items next is)
+      ],
+    )
+
+pub returns : goal.returns
+returns c =
+    let so_far = c.loop-second.invariant in
+    before_end_up _ _ _ _ c.args.first.node so_far.0 c.loop-second.second-index c.args.up.now c.loop-second.list.items c.requires.up so_far.1 c.loop-second-test.false so_far.2

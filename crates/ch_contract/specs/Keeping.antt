@@ -1,0 +1,28 @@
+-- What contraction keeps: the least costs between the nodes that are left, and so the hierarchy is right for its graph.
+use Rattle.std.specs.Prelude.{◌≡◌, ℕ, ◌<◌, ◌≤◌, List, take, Contains}
+use Rattle.ch_graph.specs.declared.cost.Cost.{Cost}
+use Rattle.ch_graph.specs.Cost.{IsAtMost}
+use Rattle.ch_graph.specs.Graph.{Network, IsWithinLimits}
+use Rattle.ch_graph.specs.Walk.{IsLeast}
+use Rattle.ch_contract.specs.Legs.{Legs, IsChain, chain_cost, IsHopBound}
+use Rattle.ch_contract.specs.Order.{IsOrder}
+use Rattle.ch_contract.specs.Hierarchy.{Levels, IsHierarchy}
+use Rattle.ch_contract.specs.Kept.{IsKept}
+
+-- c is the least cost of a chain of legs from u to w
+pub record IsLeastChain (L : Legs) (u w : ℕ) (c : Cost) : Type 0 where
+  pub chain : (xs : List ℕ) × IsChain L u w xs × (chain_cost L u xs ≡ c)
+  pub least : (xs : List ℕ) → IsChain L u w xs → IsAtMost c (chain_cost L u xs)
+
+-- x is none of the first i nodes of the order
+abbrev pub IsLeft : Network → List ℕ → ℕ → ℕ → Type 0
+IsLeft g order i x = (x < g.nodes) × (Contains (take i order) x → ⊥)
+
+-- after any number of steps, what the cheapest walk between two nodes that are left costs, the cheapest chain of legs costs
+abbrev pub ContractionKeepsLeastCosts : Type 0
+ContractionKeepsLeastCosts = (g : Network) (h : ℕ) (order : List ℕ) (L : ℕ → Legs) → IsWithinLimits g → IsHopBound h → IsOrder g h order L →
+    (i u w : ℕ) (c : Cost) → i ≤ g.nodes → IsLeft g order i u → IsLeft g order i w → IsLeast g u w c → IsLeastChain (L i) u w c
+
+-- the contraction hierarchy of a graph is right for the graph, whatever the bound on hops
+abbrev pub HierarchiesAreKept : Type 0
+HierarchiesAreKept = (g : Network) (h : ℕ) (H : Levels) → IsWithinLimits g → IsHopBound h → IsHierarchy g h H → IsKept g H

@@ -1,0 +1,74 @@
+//! Levels, and the legs to higher nodes and from them.
+ghost use Rattle.std.specs.Prelude.{◌≡◌, ◌<◌, slice_index};
+ghost use Rattle.ch_contract.specs.Rows.{row};
+ghost use Rattle.ch_contract.specs.Hierarchy.{nodes_of, IsLevelled};
+
+use crate::leg::Leg;
+use std::marker::Model;
+
+/// A contraction hierarchy: each node has a level, from 1 to the number of nodes, and legs to and from
+/// nodes of higher levels.
+#[derive(Drop)]
+pub struct Hierarchy {
+    levels: Vec<u32>,
+    ups: Vec<Vec<Leg>>,
+    downs: Vec<Vec<Leg>>,
+}
+
+impl Model for Hierarchy {
+    ghost use Rattle.std.specs.Prelude.{map};
+    ghost use Rattle.ch_contract.specs.Hierarchy.{Levels, IsLevelled};
+
+    ghost Value = { Levels };
+
+    ghost view = { λ h. record { level = h.levels.items; up = map (λ v. v.items) h.ups.items; down = map (λ v. v.items) h.downs.items } };
+
+    ghost invariant = { λ h. IsLevelled (record { level = h.levels.items; up = map (λ v. v.items) h.ups.items; down = map (λ v. v.items) h.downs.items }) };
+}
+
+impl Hierarchy {
+    ghost use Rattle.std.specs.Prelude.{map};
+
+    /// The hierarchy of these levels and rows.
+    pub(crate) fn from_rows(levels: Vec<u32>, ups: Vec<Vec<Leg>>, downs: Vec<Vec<Leg>>) -> Hierarchy
+        requires { IsLevelled (record { level = levels.items; up = map (λ v. v.items) ups.items; down = map (λ v. v.items) downs.items }) }
+        ensures { result ≡ record { level = levels.items; up = map (λ v. v.items) ups.items; down = map (λ v. v.items) downs.items } }
+    {
+        Hierarchy { levels, ups, downs }
+    }
+
+    /// The number of nodes, at most 2^25.
+    pub fn nodes(&self) -> u32
+        ensures nodes { result ≡ nodes_of self.now }
+        ensures levelled { IsLevelled self.now }
+    {
+        self.levels.len() as u32
+    }
+
+    /// The level of `v`: the place of its contraction in the order, from 1 on.
+    pub fn level(&self, v: u32) -> u32
+        requires { v < nodes_of self.now }
+        ensures level { result ≡ slice_index self.now.level v }
+        ensures levelled { IsLevelled self.now }
+    {
+        self.levels[v as usize]
+    }
+
+    /// The legs from `v` to higher nodes, ordered by node.
+    pub fn up(&self, v: u32) -> &[Leg]
+        requires { v < nodes_of self.now }
+        ensures row { result.now ≡ row self.now.up v }
+        ensures levelled { IsLevelled self.now }
+    {
+        self.ups[v as usize].as_slice()
+    }
+
+    /// The legs from higher nodes to `v`, ordered by node.
+    pub fn down(&self, v: u32) -> &[Leg]
+        requires { v < nodes_of self.now }
+        ensures row { result.now ≡ row self.now.down v }
+        ensures levelled { IsLevelled self.now }
+    {
+        self.downs[v as usize].as_slice()
+    }
+}

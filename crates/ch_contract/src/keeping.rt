@@ -1,0 +1,14 @@
+//! What contraction keeps, each the contract of a function that does nothing.
+ghost use Rattle.ch_contract.specs.Keeping.{ContractionKeepsLeastCosts, HierarchiesAreKept};
+
+/// Contraction keeps the costs between the nodes that are left: after any number of steps, the least cost
+/// of a walk between two of them is the least cost of a chain of legs.
+pub fn contraction_keeps_least_costs()
+    ensures { ContractionKeepsLeastCosts }
+{}
+
+/// The contraction hierarchy of a graph within the limits is kept for the graph, for each bound on hops
+/// from 1 to 16.
+pub fn hierarchies_are_kept()
+    ensures { HierarchiesAreKept }
+{}

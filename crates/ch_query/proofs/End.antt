@@ -1,0 +1,44 @@
+-- What one side of a search knows at its end.
+use Rattle.std.proofs.Common.{◌≡◌, ℕ, ◌^◌, ◌≤◌, List, [], ◌∷◌, Option, Some, None, refl, sym, ◌∙◌, ap, subst, arith, inl, inr}
+use Rattle.std.proofs.lemmas.Option.{same_Some}
+use Rattle.ch_graph.specs.declared.cost.Cost.{Cost}
+use Rattle.ch_graph.specs.Cost.{IsAtMost, IsBelow, cost_sum, no_cost}
+use Rattle.ch_contract.specs.declared.leg.Leg.{Leg}
+use Rattle.ch_contract.specs.Paths.{IsUpwardPath, path_cost}
+use Rattle.ch_graph.proofs.CostOrder.{IsAtMost_refl, IsAtMost_trans, IsBelow_not}
+use Rattle.ch_query.specs.Search.{cost_at, IsSettled, IsSearch, AvoidsIdle}
+use Rattle.ch_graph.proofs.CostSums.{cost_sum_assoc, no_cost-cost_sum, IsAtMost-cost_sum, IsAtMost-cost_sum_self}
+use Rattle.ch_contract.proofs.LegPaths.{path_cost-cons}
+
+module _ (rows : List (List Leg)) (s : ℕ) (Idle : ℕ → Cost → Type 0) (best queue : List (Option Cost)) (p : IsSearch rows s Idle best queue)
+    (m : ℕ) (c : Cost) (light : c.weight ≤ 2 ^ 60) (past : (x : ℕ) (d : Cost) → cost_at queue x ≡ Some d → IsBelow c d) (avoids : AvoidsIdle rows Idle m c) where
+  settled : (x : ℕ) (e : Cost) → cost_at best x ≡ Some e → IsAtMost e c → IsSettled best queue x e
+  settled x e k le = (k, at (cost_at queue x) refl)
+    where
+      at : (o : Option Cost) → cost_at queue x ≡ o → cost_at queue x ≡ None
+      at None q = q
+      at (Some d) q = absurd (IsBelow_not c d (past x d q) (subst (λ r. IsAtMost r c) (same_Some _ _ (sym k ∙ p.queued x d q)) le))
+
+  Ends : Cost → Type 0
+  Ends d = (a : Cost) × IsSettled best queue m a × IsAtMost a d
+
+  pub along : (x : ℕ) (e : Cost) (legs : List Leg) → cost_at best x ≡ Some e → IsUpwardPath rows x m legs → IsAtMost (cost_sum e (path_cost legs)) c → (a : Cost) × IsSettled best queue m a × IsAtMost a (cost_sum e (path_cost legs))
+  along x e [] k path le =
+      let low : IsAtMost e c = IsAtMost_trans e (cost_sum e (path_cost [])) c (IsAtMost-cost_sum_self e _) le in
+      (e, subst (λ q. IsSettled best queue q e) path (settled x e k low), IsAtMost-cost_sum_self e _)
+  along x e (l ∷ legs) k path le =
+      let here = settled x e k (IsAtMost_trans e (cost_sum e (path_cost (l ∷ legs))) c (IsAtMost-cost_sum_self e _) le) in
+      let split : cost_sum e (path_cost (l ∷ legs)) ≡ cost_sum (cost_sum e l.cost) (path_cost legs) = ap (cost_sum e) (path_cost-cons l legs) ∙ sym (cost_sum_assoc e l.cost (path_cost legs)) in
+      let le' : IsAtMost (cost_sum (cost_sum e l.cost) (path_cost legs)) c = subst (λ q. IsAtMost q c) split le in
+      elim (p.frontier x e here) [
+        | inl idle ↦ absurd (avoids x e (l ∷ legs) idle path le)
+        | inr relaxed ↦
+            let r = relaxed l path.0 (let w = le'.0 in omega arith) in
+            let sum = IsAtMost-cost_sum r.0 (cost_sum e l.cost) (path_cost legs) (path_cost legs) r.2 (IsAtMost_refl (path_cost legs)) in
+            let end = along l.node r.0 legs r.1 path.1 (IsAtMost_trans (cost_sum r.0 (path_cost legs)) _ c sum le') in
+            (end.0, end.1, subst (IsAtMost end.0) (sym split) (IsAtMost_trans end.0 (cost_sum r.0 (path_cost legs)) _ end.2 sum))
+      ]
+
+  -- at the end each upward path to m of cost at most c is matched by m's own cost, and m is settled
+  pub matched : (legs : List Leg) → IsUpwardPath rows s m legs → IsAtMost (path_cost legs) c → (a : Cost) × IsSettled best queue m a × IsAtMost a (path_cost legs)
+  matched legs path le = subst (λ q. (a : Cost) × IsSettled best queue m a × IsAtMost a q) (no_cost-cost_sum (path_cost legs)) (along s no_cost legs p.start path (subst (λ q. IsAtMost q c) (sym (no_cost-cost_sum (path_cost legs))) le))

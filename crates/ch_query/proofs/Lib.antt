@@ -1,0 +1,10 @@
+pub mod PathLaws
+pub mod Steps
+pub mod Parents
+pub mod End
+pub mod LeastMeeting
+pub mod Touched
+pub mod Expanding
+pub mod Popping
+pub mod MeetingSteps
+pub mod Distances

@@ -1,0 +1,52 @@
+-- The least node leaves the queue.
+use Rattle.std.proofs.Common.{◌≡◌, ℕ, ◌+◌, ◌<◌, false, List, length, Option, Some, None, sym, ◌∙◌, ap, subst, arith, set, inl, inr}
+use Rattle.std.proofs.lemmas.Bool.{cases_lt, false≢true}
+use Rattle.std.proofs.lemmas.Option.{none-some}
+use Rattle.ch_graph.specs.declared.cost.Cost.{Cost}
+use Rattle.ch_graph.specs.Cost.{IsAtMost}
+use Rattle.ch_contract.specs.Hierarchy.{Levels}
+use Rattle.ch_query.specs.declared.search.Search.{Search}
+use Rattle.ch_query.specs.Search.{cost_at, IsExpanding, OrNode, unsettled}
+use Rattle.ch_query.specs.Underway.{rows_of, idle_of, IsUnderway, IsExpandingAt}
+use Rattle.ch_query.proofs.Steps.{popped, popped_falls}
+use Rattle.ch_query.specs.Parents.{AreParents}
+use Rattle.ch_query.proofs.Parents.{popped_parents}
+use Rattle.ch_query.proofs.Expanding.{rows_size}
+use Rattle.std.specs.Ordering.{is_gt, MatchOrdering}
+use Rattle.std.specs.declared.cmp.Ordering.{Ordering}
+use Rattle.std.specs.declared.cmp.Ordering.TheVariants.{Less, Equal, Greater}
+use Rattle.std.proofs.lemmas.List.{get_or_past}
+use Rattle.ch_graph.specs.Cost.{IsBelow, cost_cmp}
+use Rattle.ch_graph.proofs.CostOrder.{IsAtMost_refl, IsBelow-IsAtMost, cost_cmp_tells}
+use Rattle.ch_queue.specs.Queue.{IsLeastEntry}
+use Rattle.ch_query.specs.Search.{IsLeastKey}
+
+-- what comparing two costs tells, where the first is not greater
+at_most_by : (a b : Cost) (o : Ordering) → MatchOrdering o (IsBelow a b) (a ≡ b) (IsBelow b a) → is_gt o ≡ false → IsAtMost a b
+at_most_by a b Less h e = IsBelow-IsAtMost a b h
+at_most_by a b Equal h e = subst (IsAtMost a) h (IsAtMost_refl a)
+at_most_by a b Greater h e = absurd (false≢true (sym e))
+
+-- the least entry of a queue has the least cost
+pub least_key : (queue : List (Option Cost)) (e : Cost × ℕ) → IsLeastEntry cost_cmp queue e → IsLeastKey queue e.1 e.0
+least_key queue e l = record { has = l.has; least = λ x d k. at_most_by e.0 d (cost_cmp e.0 d) (cost_cmp_tells e.0 d) (l.least x d k).0 }
+
+-- a node with a key is one of the nodes
+pub key_within : (queue : List (Option Cost)) (v : ℕ) (c : Cost) → cost_at queue v ≡ Some c → v < length queue
+key_within queue v c e = elim (cases_lt v (length queue)) [ inl lt ↦ lt | inr ge ↦ absurd (none-some _ (sym (get_or_past queue v None ge) ∙ e)) ]
+
+-- the search with another queue
+abbrev pub with_queue : Search → List (Option Cost) → Search
+with_queue x q = record { side = x.side; source = x.source; stalls = x.stalls; costs = x.costs; queue = q; touched = x.touched; parents = x.parents }
+
+pub pop_expands : (H : Levels) (x : Search) (q : List (Option Cost)) (v : ℕ) (c : Cost) → IsUnderway H x → IsLeastKey x.queue v c → q ≡ set x.queue v None → IsExpandingAt H (with_queue x q) v c
+pop_expands H x q v c u l e = record {
+  levelled = u.levelled;
+  within = (let a = key_within x.queue v c l.has in let b = u.search.sizes.1 in let d = rows_size H u.levelled x.side in omega arith);
+  search = subst (λ r. IsExpanding (rows_of H x.side) x.source (OrNode (idle_of H x) v) x.costs.items r v c) (sym e) (popped _ _ _ _ _ u.search v c l.has l.least (key_within x.queue v c l.has));
+  parents = subst (λ r. AreParents (rows_of H x.side) x.source (OrNode (idle_of H x) v) x.costs.items r x.parents.items) (sym e) (popped_parents _ _ _ _ _ _ u.search u.parents v c l.has l.least (key_within x.queue v c l.has));
+  touched = u.touched;
+}
+
+pub pop_falls : (H : Levels) (x : Search) (q : List (Option Cost)) (v : ℕ) (c : Cost) → IsUnderway H x → IsLeastKey x.queue v c → q ≡ set x.queue v None → unsettled x.costs.items q + 1 ≡ unsettled x.costs.items x.queue
+pop_falls H x q v c u l e = ap (λ r. unsettled x.costs.items r + 1) e ∙ popped_falls _ _ _ _ _ u.search v c l.has l.least (key_within x.queue v c l.has)

@@ -1,0 +1,12 @@
+use Rattle.ch_query.proofs.Popping.{least_key, pop_expands}
+use Rattle.ch_query.proofs.MeetingSteps.{known_arcs, met_then}
+use Rattle.ch_query.proofs.meeting.advance.Goals as goal
+
+pub met-requires-clause-cost : goal.met-requires-clause-cost
+met-requires-clause-cost c = known_arcs _ _ _ _ c.requires.meeting.here (c.requires.meeting.here.search.queued _ _ c.in-Some.ensures.least.has)
+
+pub settle-requires-clause-expanding : goal.settle-requires-clause-expanding
+settle-requires-clause-expanding c = pop_expands _ _ _ _ _ c.requires.meeting.here (least_key _ _ c.in-Some.ensures.least) c.in-Some.ensures.rest
+
+pub returns-clause-meeting : goal.returns-clause-meeting
+returns-clause-meeting c = met_then _ _ _ _ c.requires.meeting _ _ _ (least_key _ _ c.in-Some.ensures.least) c.in-Some.ensures.rest _ c.met.ensures _ c.settle.ensures.underway c.settle.ensures.same c.settle.ensures.settled

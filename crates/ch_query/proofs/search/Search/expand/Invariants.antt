@@ -1,0 +1,6 @@
+use Rattle.std.proofs.Common.{take}
+use Rattle.ch_query.specs.Underway.{IsPartlyExpanded}
+use Rattle.ch_query.proofs.search.Search.expand.Given as goal
+
+abbrev pub invariant-loop-leg : goal.invariant-loop-leg
+invariant-loop-leg l = IsPartlyExpanded l.hierarchy l.fn.self l.self l.node l.cost (take l.leg-index l.leg-items)

@@ -1,0 +1,93 @@
+-- One side of a query, as the program keeps it.
+use Rattle.std.specs.Prelude.{◌≡◌, ◌≢◌, ℕ, ◌<◌, ◌≤◌, Bool, true, false, List, [], length, AllPairs, Contains, Option, is_some, Vec, vec_len, vec_capacity}
+use Rattle.std.specs.List.{count_by}
+use Rattle.std.specs.declared.alloc.Global.{Global}
+use Rattle.ch_graph.specs.declared.cost.Cost.{Cost}
+use Rattle.ch_contract.specs.declared.leg.Leg.{Leg}
+use Rattle.ch_contract.specs.Hierarchy.{Levels, nodes_of, IsLevelled}
+use Rattle.ch_query.specs.declared.side.Side.{Side}
+use Rattle.ch_query.specs.declared.side.Side.TheVariants.{Up, Down}
+use Rattle.ch_query.specs.declared.search.Search.{Search}
+use Rattle.ch_query.specs.Parents.{AreParents, IsNoEarlier}
+use Rattle.ch_query.specs.Search.{cost_at, IsSettled, IsSearch, IsExpanding, OrNode, IsStalled, IsEmpty, IsRelaxed, Relaxes, unsettled}
+
+-- the legs by node in this direction
+abbrev pub rows_of : Levels → Side → List (List Leg)
+rows_of H Up = H.up
+rows_of H Down = H.down
+
+-- the opposite direction
+abbrev pub other : Side → Side
+other Up = Down
+other Down = Up
+
+-- the legs by which a search that stalls sees a cheaper way: those from higher nodes back to a node
+abbrev pub back_of : Levels → Side → Bool → List (List Leg)
+back_of H side false = []
+back_of H side true = rows_of H (other side)
+
+-- the nodes with a cost, each once, with room for all nodes
+pub record IsTouched (best : List (Option Cost)) (touched : Vec ℕ Global) : Type 0 where
+  pub room : length best ≤ vec_capacity touched
+  pub count : vec_len touched ≡ count_by is_some best
+  pub reached : (v : ℕ) → Contains touched.items v → is_some (cost_at best v) ≡ true
+  pub listed : (v : ℕ) → is_some (cost_at best v) ≡ true → Contains touched.items v
+  pub distinct : AllPairs ◌≢◌ touched.items
+
+-- the lists are for the same nodes, and the touched ones are known
+pub record IsRoom (x : Search) : Type 0 where
+  pub queue : length x.queue ≡ length x.costs.items
+  pub parents : length x.parents.items ≡ length x.costs.items
+  pub touched : IsTouched x.costs.items x.touched
+
+-- how many nodes are not settled
+abbrev pub unsettled_in : Search → ℕ
+unsettled_in x = unsettled x.costs.items x.queue
+
+-- of the same direction and source, and both stall or neither does
+pub record IsSameSearch (x y : Search) : Type 0 where
+  pub side : y.side ≡ x.side
+  pub source : y.source ≡ x.source
+  pub stalls : y.stalls ≡ x.stalls
+
+-- v need not be expanded at this cost
+abbrev pub idle_of : Levels → Search → ℕ → Cost → Type 0
+idle_of H x v c = IsStalled (rows_of H x.side) (back_of H x.side x.stalls) x.source v c
+
+-- a search between two nodes
+pub record IsUnderway (H : Levels) (x : Search) : Type 0 where
+  pub levelled : IsLevelled H
+  pub search : IsSearch (rows_of H x.side) x.source (idle_of H x) x.costs.items x.queue
+  pub parents : AreParents (rows_of H x.side) x.source (idle_of H x) x.costs.items x.queue x.parents.items
+  pub touched : IsTouched x.costs.items x.touched
+
+-- a search that takes the legs of v, which was settled last, at cost c
+pub record IsExpandingAt (H : Levels) (x : Search) (v : ℕ) (c : Cost) : Type 0 where
+  pub levelled : IsLevelled H
+  pub within : v < nodes_of H
+  pub search : IsExpanding (rows_of H x.side) x.source (OrNode (idle_of H x) v) x.costs.items x.queue v c
+  pub parents : AreParents (rows_of H x.side) x.source (OrNode (idle_of H x) v) x.costs.items x.queue x.parents.items
+  pub touched : IsTouched x.costs.items x.touched
+
+-- what taking a leg of v, settled at cost c, changes
+abbrev pub RelaxesIn : Search → ℕ → Cost → Leg → Search → Type 0
+RelaxesIn x v c l y = Relaxes x.costs.items x.queue x.parents.items v c l y.costs.items y.queue y.parents.items
+
+-- what is settled in y was settled in x, at the same cost
+abbrev pub KeepsSettled : Search → Search → Type 0
+KeepsSettled x y = (v : ℕ) (c : Cost) → IsSettled y.costs.items y.queue v c → IsSettled x.costs.items x.queue v c
+
+-- y is what x became when these legs of v were taken
+pub record IsPartlyExpanded (H : Levels) (x y : Search) (v : ℕ) (c : Cost) (legs : List Leg) : Type 0 where
+  pub same : IsSameSearch x y
+  pub expanding : IsExpandingAt H y v c
+  pub relaxed : (l : Leg) → Contains legs l → IsRelaxed y.costs.items c l × IsNoEarlier y.costs.items y.parents.items v c l
+  pub settled : KeepsSettled x y
+  pub measure : unsettled_in y ≡ unsettled_in x
+
+-- a search for n nodes in which nothing is left of an earlier one
+pub record IsClean (n : ℕ) (x : Search) : Type 0 where
+  pub nodes : length x.costs.items ≡ n
+  pub room : IsRoom x
+  pub queue : IsEmpty x.queue
+  pub nothing : vec_len x.touched ≡ 0

@@ -1,0 +1,127 @@
+//! Two searches that meet.
+ghost use Rattle.std.specs.Prelude.{◌≡◌, ◌+◌, ◌^◌, ◌<◌, ◌≤◌, true, false, MatchOption};
+ghost use Rattle.ch_contract.specs.Hierarchy.{nodes_of};
+ghost use Rattle.ch_contract.specs.Paths.{IsMeet, NeverMeets};
+ghost use Rattle.ch_query.specs.declared.side.Side.TheVariants.{Up, Down};
+ghost use Rattle.ch_query.specs.Distance.{IsKeptForSome};
+ghost use Rattle.ch_query.specs.Search.{cost_at};
+ghost use Rattle.ch_query.specs.Underway.{unsettled_in, IsSameSearch, IsUnderway, IsClean};
+ghost use Rattle.ch_query.specs.TwoSided.{IsPast};
+ghost use Rattle.ch_query.specs.Meeting.{IsMet, IsFirst, AreMeeting};
+
+use crate::search::{Search, is_below};
+use ch_contract::Hierarchy;
+use ch_graph::Cost;
+use ch_queue::KeyQueue;
+
+// The first of the two, by cost and then by node.
+fn first(least: Option<(Cost, u32)>, cost: Cost, node: u32) -> Option<(Cost, u32)>
+    ensures { IsFirst least (cost, node) result }
+{
+    if let Some((known, at)) = least {
+        if known < cost || known == cost && at <= node {
+            return least;
+        }
+    }
+    Some((cost, node))
+}
+
+// The least sum, now that one side settles `node` at `cost`.
+fn met(
+    hierarchy: &Hierarchy,
+    there: &Search,
+    node: u32,
+    cost: Cost,
+    least: Option<(Cost, u32)>,
+) -> Option<(Cost, u32)>
+    requires there { IsUnderway hierarchy.now there.now }
+    requires node { node < nodes_of hierarchy.now }
+    requires cost { (cost.weight ≤ 2 ^ 60) × (cost.arcs ≤ 2 ^ 50) }
+    ensures { IsMet (cost_at there.now.costs.items node) node cost least result }
+{
+    match there.costs[node as usize] {
+        Some(known) => first(least, cost.plus(known), node),
+        None => least,
+    }
+}
+
+// Whether each key is above the least sum.
+fn is_past(queue: &KeyQueue<Cost>, least: Option<(Cost, u32)>) -> bool
+    ensures { result ≡ true → IsPast queue.now least }
+{
+    match (queue.least(), least) {
+        (Some((key, _)), Some((sum, _))) => is_below(sum, key),
+        (None, _) => true,
+        (Some(_), None) => false,
+    }
+}
+
+// Settles one node, unless the side is past the least sum, and says whether it did.
+fn advance(
+    hierarchy: &Hierarchy,
+    here: &mut Search,
+    there: &Search,
+    least: &mut Option<(Cost, u32)>,
+) -> bool
+    requires meeting { AreMeeting hierarchy.now here.old there.now least.old }
+    ensures meeting { AreMeeting hierarchy.now here.new there.now least.new }
+    ensures same { IsSameSearch here.old here.new }
+    ensures less { result ≡ true → unsettled_in here.new < unsettled_in here.old }
+    ensures stopped { result ≡ false → (here.new ≡ here.old) × (least.new ≡ least.old) × IsPast here.old.queue least.old }
+{
+    if is_past(&here.queue, *least) {
+        return false;
+    }
+    let Some((cost, node)) = here.queue.pop() else {
+        return false;
+    };
+    *least = met(hierarchy, there, node, cost, *least);
+    here.settle(hierarchy, node, cost);
+    true
+}
+
+// Lets each side settle one node, and says whether one did.
+fn step(
+    hierarchy: &Hierarchy,
+    up: &mut Search,
+    down: &mut Search,
+    least: &mut Option<(Cost, u32)>,
+) -> bool
+    requires meeting { AreMeeting hierarchy.now up.old down.old least.old }
+    ensures meeting { AreMeeting hierarchy.now up.new down.new least.new }
+    ensures up { IsSameSearch up.old up.new }
+    ensures down { IsSameSearch down.old down.new }
+    ensures less { result ≡ true → unsettled_in up.new + unsettled_in down.new < unsettled_in up.old + unsettled_in down.old }
+    ensures stopped { result ≡ false → IsPast up.new.queue least.new × IsPast down.new.queue least.new }
+{
+    let rising = advance(hierarchy, up, down, least);
+    let falling = advance(hierarchy, down, up, least);
+    rising || falling
+}
+
+// The least sum of a path up from `start` and one down to `end`, with the least numbered node of those
+// where two such paths meet. Afterwards both searches are as they stopped.
+pub(crate) fn meet(
+    hierarchy: &Hierarchy,
+    up: &mut Search,
+    down: &mut Search,
+    start: u32,
+    end: u32,
+) -> Option<(Cost, u32)>
+    requires kept { IsKeptForSome hierarchy.now }
+    requires up { IsClean (nodes_of hierarchy.now) up.old × (up.old.side ≡ Up) }
+    requires down { IsClean (nodes_of hierarchy.now) down.old × (down.old.side ≡ Down) }
+    requires start { start < nodes_of hierarchy.now }
+    requires end { end < nodes_of hierarchy.now }
+    ensures least { MatchOption result (NeverMeets hierarchy.now start end) (λ e. IsMeet hierarchy.now start end e.1 e.0) }
+    ensures meeting { AreMeeting hierarchy.now up.new down.new result }
+    ensures past { IsPast up.new.queue result × IsPast down.new.queue result }
+    ensures up { (up.new.side ≡ Up) × (up.new.source ≡ start) }
+    ensures down { (down.new.side ≡ Down) × (down.new.source ≡ end) }
+{
+    up.begin(hierarchy, start, true);
+    down.begin(hierarchy, end, true);
+    let mut least = None;
+    while step(hierarchy, up, down, &mut least) {}
+    least
+}

@@ -1,0 +1,179 @@
+//! One side of a query: Dijkstra's algorithm from a source, along legs to higher nodes.
+ghost use Rattle.std.specs.Prelude.{◌≡◌, ◌+◌, ◌^◌, ◌<◌, ◌≤◌, ◌↔◌, length, slice_set, Some, true, IsTrue, IfOk};
+ghost use Rattle.ch_graph.specs.Cost.{IsBelow};
+ghost use Rattle.ch_contract.specs.Hierarchy.{nodes_of};
+ghost use Rattle.ch_query.specs.Underway.{idle_of, unsettled_in, IsTouched, IsRoom, RelaxesIn, IsSameSearch, IsUnderway, IsExpandingAt, KeepsSettled, IsClean};
+ghost use Rattle.ch_query.specs.Meeting.{IsFresh};
+
+use crate::side::Side;
+use ch_contract::{Hierarchy, Leg};
+use ch_graph::Cost;
+use ch_queue::KeyQueue;
+use std::alloc::{AllocError, Global};
+
+/// The most that a path may weigh. A leg that would make it weigh more is not taken.
+const MOST_WEIGHT: u64 = 1 << 60;
+
+/// What one side of a query knows, and the room for it.
+#[derive(Drop)]
+pub(crate) struct Search {
+    pub(crate) side: Side,
+    pub(crate) source: u32,
+    // Whether a node to which a higher node shows a cheaper way is left unexpanded.
+    pub(crate) stalls: bool,
+    // By node: the least cost known of a path from the source to it.
+    pub(crate) costs: Vec<Option<Cost>>,
+    // The nodes that are reached and not settled, by cost.
+    pub(crate) queue: KeyQueue<Cost>,
+    // The nodes that have a cost, each once.
+    pub(crate) touched: Vec<u32>,
+    // By node that is reached: the least numbered node before it on a path of its cost.
+    pub(crate) parents: Vec<u32>,
+}
+
+impl Search {
+    // A clean search, with room for `nodes` nodes.
+    pub(crate) fn new(alloc: Global, side: Side, nodes: u32) -> Result<Search, AllocError>
+        ensures clean { IfOk result (λ x. IsClean nodes x) }
+        ensures side { IfOk result (λ x. x.side ≡ side) }
+    {
+        let costs = vec![in alloc; None; nodes as usize]?;
+        let queue = KeyQueue::new(alloc, nodes)?;
+        let touched = Vec::with_capacity(alloc, nodes as usize)?;
+        let parents = vec![in alloc; 0; nodes as usize]?;
+        Ok(Search {
+            side,
+            source: 0,
+            stalls: false,
+            costs,
+            queue,
+            touched,
+            parents,
+        })
+    }
+
+    // Puts the source into a clean search.
+    pub(crate) fn begin(&mut self, hierarchy: &Hierarchy, source: u32, stalls: bool)
+        requires clean { IsClean (nodes_of hierarchy.now) self.old }
+        requires source { source < nodes_of hierarchy.now }
+        ensures underway { IsUnderway hierarchy.now self.new }
+        ensures side { self.new.side ≡ self.old.side }
+        ensures source { self.new.source ≡ source }
+        ensures stalls { self.new.stalls ≡ stalls }
+        ensures fresh { IsFresh self.new }
+    {
+        let _nodes = hierarchy.nodes();
+        self.source = source;
+        self.stalls = stalls;
+        let nothing = Cost { weight: 0, arcs: 0 };
+        self.reach(source, nothing, source);
+    }
+
+    // Writes what is known of a node that is not settled.
+    fn reach(&mut self, node: u32, cost: Cost, parent: u32)
+        requires node { node < length self.old.costs.items }
+        requires room { IsRoom self.old }
+        ensures costs { self.new.costs.items ≡ slice_set self.old.costs.items node (Some cost) }
+        ensures queue { self.new.queue ≡ slice_set self.old.queue node (Some cost) }
+        ensures parents { self.new.parents.items ≡ slice_set self.old.parents.items node parent }
+        ensures touched { IsTouched self.new.costs.items self.new.touched }
+        ensures same { IsSameSearch self.old self.new }
+    {
+        if self.costs[node as usize].is_none() {
+            self.touched.push_reserved(node);
+        }
+        self.costs[node as usize] = Some(cost);
+        self.queue.set(node, cost);
+        self.parents[node as usize] = parent;
+    }
+
+    // Takes a leg of `node`, which was settled at `cost`.
+    fn relax(&mut self, node: u32, cost: Cost, leg: Leg)
+        requires node { leg.node < length self.old.costs.items }
+        requires room { IsRoom self.old }
+        requires weights { (cost.weight ≤ 2 ^ 60) × (leg.cost.weight ≤ 2 ^ 60) }
+        requires arcs { cost.arcs + leg.cost.arcs < 2 ^ 64 }
+        ensures relaxes { RelaxesIn self.old node cost leg self.new }
+        ensures touched { IsTouched self.new.costs.items self.new.touched }
+        ensures same { IsSameSearch self.old self.new }
+    {
+        let sum = cost.plus(leg.cost);
+        if sum.weight > MOST_WEIGHT {
+            return;
+        }
+        if let Some(known) = self.costs[leg.node as usize] {
+            if known < sum {
+                return;
+            }
+            if known == sum {
+                if node < self.parents[leg.node as usize] {
+                    self.parents[leg.node as usize] = node;
+                }
+                return;
+            }
+        }
+        self.reach(leg.node, sum, node);
+    }
+
+    // Takes each leg of the node that was settled last.
+    fn expand(&mut self, hierarchy: &Hierarchy, node: u32, cost: Cost)
+        requires expanding { IsExpandingAt hierarchy.now self.old node cost }
+        ensures underway { IsUnderway hierarchy.now self.new }
+        ensures same { IsSameSearch self.old self.new }
+        ensures settled { KeepsSettled self.old self.new }
+        ensures measure { unsettled_in self.new ≡ unsettled_in self.old }
+    {
+        for leg in self.side.legs(hierarchy, node) {
+            self.relax(node, cost, *leg);
+        }
+    }
+
+    // Whether a leg from a higher node shows a way to `node` that costs less than `cost`.
+    fn is_stalled(&self, hierarchy: &Hierarchy, node: u32, cost: Cost) -> bool
+        requires expanding { IsExpandingAt hierarchy.now self.now node cost }
+        requires stalls { self.now.stalls ≡ true }
+        ensures { result ≡ true → idle_of hierarchy.now self.now node cost }
+    {
+        for leg in self.side.other().legs(hierarchy, node) {
+            if let Some(known) = self.costs[leg.node as usize] {
+                if is_below(known.plus(leg.cost), cost) {
+                    return true;
+                }
+            }
+        }
+        false
+    }
+
+    // Takes the legs of the node that was settled last, unless it is stalled.
+    pub(crate) fn settle(&mut self, hierarchy: &Hierarchy, node: u32, cost: Cost)
+        requires expanding { IsExpandingAt hierarchy.now self.old node cost }
+        requires stalls { self.old.stalls ≡ true }
+        ensures underway { IsUnderway hierarchy.now self.new }
+        ensures same { IsSameSearch self.old self.new }
+        ensures settled { KeepsSettled self.old self.new }
+        ensures measure { unsettled_in self.new ≡ unsettled_in self.old }
+    {
+        if !self.is_stalled(hierarchy, node, cost) {
+            self.expand(hierarchy, node, cost);
+        }
+    }
+
+    // Takes all that is known away, in as many steps as nodes were touched.
+    pub(crate) fn clean(&mut self)
+        requires room { IsRoom self.old }
+        ensures clean { IsClean (length self.old.costs.items) self.new }
+        ensures side { self.new.side ≡ self.old.side }
+    {
+        self.queue.clear();
+        while let Some(node) = self.touched.pop() {
+            self.costs[node as usize] = None;
+        }
+    }
+}
+
+// Whether `a` costs less than `b`.
+pub(crate) fn is_below(a: Cost, b: Cost) -> bool
+    ensures { IsTrue result ↔ IsBelow a b }
+{
+    a < b
+}
