@@ -16,6 +16,7 @@ use Rattle.ch_contract.specs.Construction.{levels_of, IsSized, IsOpen, IsStep}
 use Rattle.ch_contract.proofs.OneOrder.{one_map}
 use Rattle.ch_contract.proofs.Neighbours.{neighbour_listed, not_listed, neighbour_within}
 
+-- where each level is 0, all nodes are left
 all_left : (levels : List ℕ) (n : ℕ) → levels ≡ replicate n 0 → (x : ℕ) → slice_index levels x ≡ 0
 all_left levels n e x = ap (λ l. slice_index l x) e ∙ elim (cases_lt x n) [
   | inl lt ↦ get_or-replicate n x 0 0 lt
@@ -33,6 +34,7 @@ pub record IsOpened (g : Network) (h : ℕ) (c : Construction) : Type 0 where
   pub rows : (length c.ups.items ≡ c.remaining.nodes) × (length c.downs.items ≡ c.remaining.nodes)
   pub contracted : c.contracted ≡ 0
 
+-- so it is open
 pub opened : (g : Network) (h : ℕ) (c : Construction) → IsOpened g h c → IsOpen g h c
 opened g h c o =
     let legs = one_map (legs_of c.remaining) (opening g) o.legs in
@@ -65,6 +67,7 @@ pub record IsStepped (h : ℕ) (before : Construction) (v : ℕ) (up down : List
   pub downs : (levels_of after).down ≡ slice_set (levels_of before).down v down
   pub rows : (length after.ups.items ≡ length before.ups.items) × (length after.downs.items ≡ length before.downs.items)
 
+-- so it is one step on
 pub stepped : (h : ℕ) (before : Construction) (v : ℕ) (up down : List Leg) (after : Construction) → IsSized before → before.contracted < before.remaining.nodes → IsStepped h before v up down after → IsStep h before v after
 stepped h before v up down after sizes room s =
     let nodes = s.nodes in

@@ -21,6 +21,7 @@ use Rattle.ch_contract.proofs.RowLegs.{row_has}
 abbrev IsMade : ℕ → List Shortcut → ℕ → ℕ → Label → Type 0
 IsMade v list u w l = (s : Shortcut) × Contains list s × (s.from ≡ u) × (s.to ≡ w) × (shortcut_label v s ≡ l)
 
+-- so it is where shortcuts stand before older legs
 overridden_cases : (v : ℕ) (list : List Shortcut) (u w : ℕ) (before : Option Label) (l : Label) → overridden v list u w before ≡ Some l → (before ≡ Some l) ⊎ IsMade v list u w l
 overridden_cases v [] u w before l e = inl e
 overridden_cases v (s ∷ list) u w before l e = at (s.from == u && s.to == w) refl e (overridden_cases v list u w before l)
@@ -29,6 +30,7 @@ overridden_cases v (s ∷ list) u w before l e = at (s.from == u && s.to == w) r
     at true t f more = inr (s, contains_head s list, grind (arith, nat_tests), grind (arith, nat_tests), same_Some _ _ f)
     at false t f more = elim (more f) [ inl old ↦ inl old | inr made ↦ inr (made.0, contains_tail made.0 s list made.1, made.2, made.3, made.4) ]
 
+-- and after a contraction
 contracted_cases : (L : Legs) (v : ℕ) (list : List Shortcut) (u w : ℕ) (l : Label) → contracted L v list u w ≡ Some l → (L u w ≡ Some l) ⊎ IsMade v list u w l
 contracted_cases L v list u w l e = at (u == v || w == v) e
   where
@@ -58,6 +60,7 @@ within_more n h L v M within step u w l e = elim (contracted_cases L v step.0 u 
 abbrev pub IsGone : Legs → ℕ → Type 0
 IsGone L z = (x : ℕ) → (L z x ≡ None) × (L x z ≡ None)
 
+-- what has no value is none
 none_unless : {A : Type 0} (o : Option A) → ((x : A) → o ≡ Some x → ⊥) → o ≡ None
 none_unless None f = refl
 none_unless (Some x) f = absurd (f x refl)
@@ -72,6 +75,7 @@ gone_next n h L v M step x =
     last true o e = refl
     last false o e = rw e refl
 
+-- no leg comes back to a node that has none
 gone_more : (n h : ℕ) (L : Legs) (v : ℕ) (M : Legs) (z : ℕ) → IsGone L z → Contracts n h L v M → IsGone M z
 gone_more n h L v M z gone step x = (
   none_unless (M z x) (λ l e. elim (contracted_cases L v step.0 z x l (sym (step.2 z x) ∙ e)) [
@@ -91,6 +95,7 @@ within_steps n h m order L start step (suc k) le =
     let e : k + 1 ≡ suc k = omega arith in
     subst (λ z. AreLegsWithin n (L z)) e (within_more n h (L k) (slice_index order k) (L (k + 1)) (within_steps n h m order L start step k (omega arith)) (step k (omega arith)))
 
+-- no leg touches a node after the step that contracted it
 gone_steps : (n h m : ℕ) (order : List ℕ) (L : ℕ → Legs) → ((i : ℕ) → i < m → Contracts n h (L i) (slice_index order i) (L (i + 1))) → (j k : ℕ) → j < k → k ≤ m → IsGone (L k) (slice_index order j)
 gone_steps n h m order L step j zero lt le = absurd (omega arith)
 gone_steps n h m order L step j (suc k) lt le =
@@ -104,12 +109,15 @@ gone_steps n h m order L step j (suc k) lt le =
     ]
 
 module _ (g : Network) (h : ℕ) (H : Levels) (order : List ℕ) (L : ℕ → Legs) (p : IsHierarchyOf g h H order L) (small : g.nodes ≤ 2 ^ 25) (start : AreLegsWithin g.nodes (opening g)) where
+  -- the legs before each step are within the limits
   within : (k : ℕ) → k ≤ g.nodes → AreLegsWithin g.nodes (L k)
   within = within_steps g.nodes h g.nodes order L (subst (AreLegsWithin g.nodes) (sym (one_map (L 0) (opening g) p.order_is.start)) start) p.order_is.step
 
+  -- no leg touches the nodes of earlier steps
   gone : (j k : ℕ) → j < k → k ≤ g.nodes → IsGone (L k) (slice_index order j)
   gone = gone_steps g.nodes h g.nodes order L p.order_is.step
 
+  -- each node has the level of its step
   level_of : (x : ℕ) → x < g.nodes → (i : ℕ) × (i < g.nodes) × (slice_index order i ≡ x) × (slice_index H.level x ≡ i + 1)
   level_of x lt = let at = taken_at g h order L x p.order_is lt in (at.0, at.1, at.2, ap (slice_index H.level) (sym at.2) ∙ p.level at.0 at.1)
 
@@ -129,6 +137,7 @@ module _ (g : Network) (h : ℕ) (H : Levels) (order : List ℕ) (L : ℕ → Le
       ] in
       record { node = omega arith; higher = omega arith; weight = weight; arcs = omega arith }
 
+  -- the legs from the node of a step lead up
   up_row : (i : ℕ) → i < g.nodes → IsRow (row H.up (slice_index order i)) × All (IsLegUp H (slice_index order i)) (row H.up (slice_index order i))
   up_row i lt =
       let v : ℕ = slice_index order i in
@@ -141,6 +150,7 @@ module _ (g : Network) (h : ℕ) (H : Levels) (order : List ℕ) (L : ℕ → Le
             leg_up i l lt w.ends.1 (λ e. w.ends.2 (sym e)) (λ j before e. none-some _ (sym (gone j i before (omega arith) v).1 ∙ ap (L i v) e ∙ leg)) w.weight w.arcs,
       )
 
+  -- the legs to the node of a step come from above
   down_row : (i : ℕ) → i < g.nodes → IsRow (row H.down (slice_index order i)) × All (IsLegUp H (slice_index order i)) (row H.down (slice_index order i))
   down_row i lt =
       let v : ℕ = slice_index order i in
@@ -153,6 +163,7 @@ module _ (g : Network) (h : ℕ) (H : Levels) (order : List ℕ) (L : ℕ → Le
             leg_up i l lt w.ends.0 w.ends.2 (λ j before e. none-some _ (sym (gone j i before (omega arith) v).0 ∙ ap (λ q. L i q v) e ∙ leg)) w.weight w.arcs,
       )
 
+  -- rows of which each leads up, for each node
   legs_up : (rows : List (List Leg)) → length rows ≡ g.nodes → ((i : ℕ) → i < g.nodes → IsRow (row rows (slice_index order i)) × All (IsLegUp H (slice_index order i)) (row rows (slice_index order i))) → AreLegsUp H rows
   legs_up rows size each = (
     size ∙ sym p.sizes.0,
@@ -164,6 +175,7 @@ module _ (g : Network) (h : ℕ) (H : Levels) (order : List ℕ) (L : ℕ → Le
     ],
   )
 
+  -- so the hierarchy is levelled
   pub levelled : IsLevelled H
   levelled = record {
     count = let size = p.sizes.0 in omega arith;

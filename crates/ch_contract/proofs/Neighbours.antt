@@ -11,6 +11,7 @@ use Rattle.ch_contract.specs.Priorities.{has_node, neighbours_in}
 use Rattle.ch_contract.proofs.Ordered.{contains_head, contains_tail, contains_cons, contains_none}
 use Rattle.ch_contract.proofs.RowLegs.{leg_at, row_has, row_member}
 
+-- what is in a list has its value among the values
 contains_map : {X Y : Type 0} (f : X → Y) (xs : List X) (x : X) → Contains xs x → Contains (map f xs) (f x)
 contains_map f [] x c = absurd (contains_none x c)
 contains_map f (y ∷ xs) x c = elim (contains_cons y x xs c) [
@@ -18,6 +19,7 @@ contains_map f (y ∷ xs) x c = elim (contains_cons y x xs c) [
   | inr later ↦ contains_tail (f x) (f y) (map f xs) (contains_map f xs x later)
 ]
 
+-- a value comes from a member
 map_contains : {X Y : Type 0} (f : X → Y) (xs : List X) (y : Y) → Contains (map f xs) y → (x : X) × Contains xs x × (f x ≡ y)
 map_contains f [] y c = absurd (contains_none y c)
 map_contains f (x ∷ xs) y c = elim (contains_cons (f x) y (map f xs) c) [
@@ -25,6 +27,7 @@ map_contains f (x ∷ xs) y c = elim (contains_cons (f x) y (map f xs) c) [
   | inr later ↦ let r = map_contains f xs y later in (r.0, contains_tail r.0 x xs r.1, r.2)
 ]
 
+-- a member that passes is kept
 contains_filter : {X : Type 0} (p : X → Bool) (xs : List X) (x : X) → p x ≡ true → Contains xs x → Contains (filter p xs) x
 contains_filter p [] x t c = absurd (contains_none x c)
 contains_filter p (y ∷ xs) x t c = at (p y) refl (contains_cons y x xs c) (contains_filter p xs x t)
@@ -35,6 +38,7 @@ contains_filter p (y ∷ xs) x t c = at (p y) refl (contains_cons y x xs c) (con
     at false e (inl same) more = absurd (false≢true (sym e ∙ ap p same ∙ t))
     at false e (inr later) more = more later
 
+-- what is kept is a member
 filter_contains : {X : Type 0} (p : X → Bool) (xs : List X) (x : X) → Contains (filter p xs) x → Contains xs x
 filter_contains p [] x c = c
 filter_contains p (y ∷ xs) x c = at (p y) c (filter_contains p xs x)
@@ -43,6 +47,7 @@ filter_contains p (y ∷ xs) x c = at (p y) c (filter_contains p xs x)
     at true k more = elim (contains_cons y x (filter p xs) k) [ inl e ↦ (zero, omega arith, e) | inr later ↦ contains_tail x y xs (more later) ]
     at false k more = contains_tail x y xs (more k)
 
+-- where the test finds a node, a leg has it
 node_found : (legs : List Leg) (x : ℕ) → has_node legs x ≡ true → (l : Leg) × Contains legs l × (l.node ≡ x)
 node_found [] x e = cc
 node_found (k ∷ legs) x e = at (k.node == x) refl e (node_found legs x)
@@ -52,12 +57,15 @@ node_found (k ∷ legs) x e = at (k.node == x) refl e (node_found legs x)
     at false t f more = let r = more f in (r.0, contains_tail r.0 k legs r.1, r.2)
 
 module _ (L : Legs) (v : ℕ) (up down : List Leg) (from : AreLegsFrom L v up) (to : AreLegsTo L v down) where
+  -- x is listed
   abbrev listed : ℕ → Type 0
   listed x = Contains (neighbours_in up down) x
 
+  -- the node of a leg from v is listed
   in_up : (l : Leg) (x : ℕ) → Contains up l → l.node ≡ x → listed x
   in_up l x c e = Contains-append_left (map (λ (k : Leg). k.node) up) _ x (subst (Contains (map (λ (k : Leg). k.node) up)) e (contains_map (λ (k : Leg). k.node) up l c))
 
+  -- the node of a leg to v is listed
   in_down : (b : Bool) (l : Leg) → has_node up l.node ≡ b → Contains down l → listed l.node
   in_down true l t c = let r = node_found up l.node t in in_up r.0 l.node r.1 r.2
   in_down false l t c =
@@ -91,6 +99,7 @@ module _ (L : Legs) (v : ℕ) (up down : List Leg) (from : AreLegsFrom L v up) (
       some_right true o l e = refl
       some_right false o l e = ap is_some e
 
+  -- what is no neighbour is not listed
   pub not_listed : (x : ℕ) → are_neighbours L v x ≡ false → Contains (neighbours_in up down) x → ⊥
   not_listed x e c = false≢true (sym e ∙ listed_neighbour x c)
 

@@ -23,11 +23,13 @@ one_map L M same = λ i u w. same u w i
 pub one_list : (n h : ℕ) (L : Legs) (v : ℕ) (xs ys : List Shortcut) → AreShortcuts n h L v xs → AreShortcuts n h L v ys → xs ≡ ys
 one_list n h L v xs ys p q = ordered_same IsPairBefore (λ a b r s. let lt = r.1 s.0 in omega arith) xs ys p.ordered q.ordered (λ s c. q.whole s (p.sound s c)) (λ s c. p.whole s (q.sound s c))
 
+-- a contraction leaves one map
 pub one_contraction : (n h : ℕ) (L : Legs) (v : ℕ) (M N : Legs) → Contracts n h L v M → Contracts n h L v N → M ≡ N
 one_contraction n h L v M N p q =
     let list = one_list n h L v p.0 q.0 p.1 q.1 in
     one_map M N (λ u w. p.2 u w ∙ ap (λ l. contracted L v l u w) list ∙ sym (q.2 u w))
 
+-- a node has one priority
 pub one_priority : (n h : ℕ) (L : Legs) (v : ℕ) (p q : ℤ) → IsPriority n h L v p → IsPriority n h L v q → p ≡ q
 one_priority n h L v p q a b =
     let list = one_list n h L v a.0 b.0 a.1 b.1 in
@@ -38,9 +40,11 @@ pub record Agree (i : ℕ) (order : List ℕ) (L : ℕ → Legs) (other : List �
   pub nodes : (k : ℕ) → k < i → slice_index order k ≡ slice_index other k
   pub legs : (k : ℕ) → k ≤ i → L k ≡ M k
 
+-- agreeing goes both ways
 pub agree_back : (i : ℕ) (order : List ℕ) (L : ℕ → Legs) (other : List ℕ) (M : ℕ → Legs) → Agree i order L other M → Agree i other M order L
 agree_back i order L other M a = record { nodes = λ k lt. sym (a.nodes k lt); legs = λ k le. sym (a.legs k le) }
 
+-- a step has the same neighbours in orders that agree
 neighbours_along : (i : ℕ) (order : List ℕ) (L : ℕ → Legs) (other : List ℕ) (M : ℕ → Legs) (x k : ℕ) → Agree i order L other M → k < i → are_neighbours (M k) (slice_index other k) x ≡ are_neighbours (L k) (slice_index order k) x
 neighbours_along i order L other M x k a lt = let le : k ≤ i = omega arith in λ t. are_neighbours (sym (a.legs k le) t) (sym (a.nodes k lt) t) x
 
@@ -52,6 +56,7 @@ touch_along i order L other M x j a t = record {
   later = λ k le lt. neighbours_along i order L other M x k a lt ∙ t.later k le lt;
 }
 
+-- a priority is the same in orders that agree
 pub priority_along : (n h i : ℕ) (order : List ℕ) (L : ℕ → Legs) (other : List ℕ) (M : ℕ → Legs) (x : ℕ) (p : ℤ) → Agree i order L other M → IsPriorityAfter n h order L i x p → IsPriorityAfter n h other M i x p
 priority_along n h i order L other M x p a r = (r.0, touch_along i order L other M x r.0 a r.1, subst (λ (N : Legs). IsPriority n h N x p) (a.legs r.0 r.1.within) r.2)
 
@@ -66,9 +71,11 @@ not_later order L i x j k t s = elim (cases_lt j k) [
   | inr le ↦ le
 ]
 
+-- there is one last touch
 one_touch : (order : List ℕ) (L : ℕ → Legs) (i x j k : ℕ) → IsLastTouch order L i x j → IsLastTouch order L i x k → j ≡ k
 one_touch order L i x j k t s = let le = not_later order L i x j k t s in let ge = not_later order L i x k j s t in omega arith
 
+-- after some steps a node has one priority
 pub one_priority_after : (n h : ℕ) (order : List ℕ) (L : ℕ → Legs) (i x : ℕ) (p q : ℤ) → IsPriorityAfter n h order L i x p → IsPriorityAfter n h order L i x q → p ≡ q
 one_priority_after n h order L i x p q a b = one_priority n h (L a.0) x p q a.2 (subst (λ j. IsPriority n h (L j) x q) (sym (one_touch order L i x a.0 b.0 a.1 b.1)) b.2)
 
@@ -83,6 +90,7 @@ not_before i order lt distinct c =
     distinct k i (slice_index order i) before lt (sym (get_or-take i order k (slice_index order i) before) ∙ value ∙ get_or_default order i 0 (slice_index order i) lt)
 
 module _ (g : Network) (h : ℕ) (order : List ℕ) (L : ℕ → Legs) (other : List ℕ) (M : ℕ → Legs) (p : IsOrder g h order L) (q : IsOrder g h other M) where
+  -- the nodes before a step are the same
   same_before : (i : ℕ) → i ≤ g.nodes → Agree i order L other M → take i order ≡ take i other
   same_before i le a =
       let one = p.nodes.0 in
@@ -109,6 +117,7 @@ module _ (g : Network) (h : ℕ) (order : List ℕ) (L : ℕ → Legs) (other : 
       let high = two.4.1 (subst (λ z. two.1 ≤ℤ z) its (subst (λ z. z ≤ℤ one.1) mine one.4.0)) in
       omega arith
 
+  -- the orders agree up to each step
   agree : (i : ℕ) → i ≤ g.nodes → Agree i order L other M
   agree zero le = record {
     nodes = λ k lt. absurd (omega arith);
@@ -140,19 +149,23 @@ taken_at g h order L x p lt =
     let within = c.1 in
     (c.0, omega arith, get_or_default order c.0 0 x within ∙ c.2)
 
+-- lists of n rows with the same rows are equal
 same_rows : (n : ℕ) (xs ys : List (List Leg)) → length xs ≡ n → length ys ≡ n → ((x : ℕ) → x < n → row xs x ≡ row ys x) → xs ≡ ys
 same_rows n xs ys a b each = same_lists xs ys (a ∙ sym b) (λ k d lt. get_or_default xs k d [] lt ∙ each k (omega arith) ∙ sym (get_or_default ys k d [] (omega arith)))
 
 module _ (g : Network) (h : ℕ) (H K : Levels) (order : List ℕ) (L : ℕ → Legs) (other : List ℕ) (M : ℕ → Legs) (p : IsHierarchyOf g h H order L) (q : IsHierarchyOf g h K other M) where
+  -- the orders agree
   all : Agree g.nodes order L other M
   all = agree g h order L other M p.order_is q.order_is g.nodes (omega arith)
 
+  -- so the levels are the same
   levels : H.level ≡ K.level
   levels = same_number_lists H.level K.level (p.sizes.0 ∙ sym q.sizes.0) (λ x lt.
       let size = p.sizes.0 in
       let at = taken_at g h order L x p.order_is (omega arith) in
       ap (slice_index H.level) (sym at.2) ∙ p.level at.0 at.1 ∙ sym (q.level at.0 at.1) ∙ ap (slice_index K.level) (sym (all.nodes at.0 at.1) ∙ at.2))
 
+  -- and the rows up
   ups : H.up ≡ K.up
   ups = same_rows g.nodes H.up K.up p.sizes.1 q.sizes.1 (λ x lt.
       let at = taken_at g h order L x p.order_is lt in
@@ -160,6 +173,7 @@ module _ (g : Network) (h : ℕ) (H K : Levels) (order : List ℕ) (L : ℕ → 
       let two = subst (λ (N : Legs). AreLegsFrom N x (row K.up x)) (sym (all.legs at.0 (omega (arith, at.1)))) (subst (λ v. AreLegsFrom (M at.0) v (row K.up v)) (sym (all.nodes at.0 at.1) ∙ at.2) (q.up at.0 at.1)) in
       one_row (L at.0 x) (row H.up x) (row K.up x) one.0 two.0 one.1 two.1)
 
+  -- and the rows down
   downs : H.down ≡ K.down
   downs = same_rows g.nodes H.down K.down p.sizes.2 q.sizes.2 (λ x lt.
       let at = taken_at g h order L x p.order_is lt in
@@ -167,6 +181,7 @@ module _ (g : Network) (h : ℕ) (H K : Levels) (order : List ℕ) (L : ℕ → 
       let two = subst (λ (N : Legs). AreLegsTo N x (row K.down x)) (sym (all.legs at.0 (omega (arith, at.1)))) (subst (λ v. AreLegsTo (M at.0) v (row K.down v)) (sym (all.nodes at.0 at.1) ∙ at.2) (q.down at.0 at.1)) in
       one_row (λ u. L at.0 u x) (row H.down x) (row K.down x) one.0 two.0 one.1 two.1)
 
+-- the two hierarchies are equal
 pub one_hierarchy : (g : Network) (h : ℕ) (H K : Levels) → IsHierarchy g h H → IsHierarchy g h K → H ≡ K
 one_hierarchy g h H K p q =
     let level = levels g h H K p.0 p.1 q.0 q.1 p.2 q.2 in

@@ -52,12 +52,15 @@ pub record IsUnderway (g : Network) (h : ℕ) (c : Construction) : Type 0 where
 abbrev pub then_legs : ℕ → (ℕ → Legs) → Legs → ℕ → Legs
 then_legs i L M k = if nat_le k i then L k else M
 
+-- up to the first i steps they are as before
 then_before : (i : ℕ) (L : ℕ → Legs) (M : Legs) (k : ℕ) → k ≤ i → then_legs i L M k ≡ L k
 then_before i L M k le = let t : nat_le k i ≡ true = grind (arith, nat_tests) in rw t refl
 
+-- and then they are M
 then_next : (i : ℕ) (L : ℕ → Legs) (M : Legs) (k : ℕ) → i < k → then_legs i L M k ≡ M
 then_next i L M k lt = let t : nat_le k i ≡ false = grind (arith, nat_tests) in rw t refl
 
+-- orders that agree up to a step agree up to each earlier one
 pub agree_less : (i k : ℕ) (order : List ℕ) (L : ℕ → Legs) (other : List ℕ) (M : ℕ → Legs) → k ≤ i → Agree i order L other M → Agree k order L other M
 agree_less i k order L other M le a = record { nodes = λ j lt. a.nodes j (omega arith); legs = λ j below. a.legs j (omega arith) }
 
@@ -91,12 +94,15 @@ module _ (g : Network) (h : ℕ) (order : List ℕ) (L : ℕ → Legs) (c : Cons
       let level : slice_index c.levels.items v ≡ has.0 + 1 = ap (slice_index c.levels.items) (sym node) ∙ at in
       omega arith
 
+  -- the next node is a node
   pub next_within : v < g.nodes
   next_within = let below = f.below in let size = u.sizes.levels in let nodes = u.nodes in omega arith
 
+  -- with it the contracted nodes are different
   distinct_more : AllPairs ◌≢◌ (order ++ v ∷ [])
   distinct_more = pairs_push order v u.begun.nodes.1 next_left
 
+  -- and are nodes
   below_more : All (λ x. x < g.nodes) (order ++ v ∷ [])
   below_more = All-push (λ x. x < g.nodes) order v u.begun.nodes.0 next_within
 
@@ -110,18 +116,23 @@ module _ (g : Network) (h : ℕ) (order : List ℕ) (L : ℕ → Legs) (c : Cons
       omega arith
 
 module _ (g : Network) (h : ℕ) (order : List ℕ) (L : ℕ → Legs) (c : Construction) (v : ℕ) (u : IsAfter g h order L c) (f : IsNext c.priorities.items c.levels.items v) (d : Construction) (s : IsStep h c v d) where
+  -- the order with the next node at its end
   abbrev more : List ℕ
   more = order ++ v ∷ []
 
+  -- the legs with those after the step
   abbrev legs_more : ℕ → Legs
   legs_more = then_legs (length order) L (legs_of d.remaining)
 
+  -- earlier nodes stand where they stood
   before : (k : ℕ) → k < length order → slice_index order k ≡ slice_index more k
   before k lt = sym (get_or_append_left order (v ∷ []) 0 k lt)
 
+  -- the next node stands at the end
   here : slice_index more (length order) ≡ v
   here = get_or_push order v 0 (length order) refl
 
+  -- the longer order agrees with the shorter one
   agree : Agree (length order) order L more legs_more
   agree = record { nodes = before; legs = λ k le. sym (then_before (length order) L (legs_of d.remaining) k le) }
 
@@ -129,9 +140,11 @@ module _ (g : Network) (h : ℕ) (order : List ℕ) (L : ℕ → Legs) (c : Cons
   now : legs_more (length order) ≡ legs_of c.remaining
   now = then_before (length order) L (legs_of d.remaining) (length order) (omega arith) ∙ one_map _ _ u.legs
 
+  -- and after it
   next : legs_more (length order + 1) ≡ legs_of d.remaining
   next = then_next (length order) L (legs_of d.remaining) (length order + 1) (omega arith)
 
+  -- the step is a contraction
   step_here : Contracts g.nodes h (legs_more (length order)) (slice_index more (length order)) (legs_more (length order + 1))
   step_here =
       let one = subst (λ n. Contracts n h (legs_of c.remaining) v (legs_of d.remaining)) u.nodes s.legs in
@@ -139,12 +152,14 @@ module _ (g : Network) (h : ℕ) (order : List ℕ) (L : ℕ → Legs) (c : Cons
       let three = subst (λ x. Contracts g.nodes h (legs_more (length order)) x (legs_of d.remaining)) (sym here) two in
       subst (λ (M : Legs). Contracts g.nodes h (legs_more (length order)) (slice_index more (length order)) M) (sym next) three
 
+  -- earlier steps are contractions
   step_before : (k : ℕ) → k < length order → Contracts g.nodes h (legs_more k) (slice_index more k) (legs_more (k + 1))
   step_before k lt =
       let one = subst (λ (M : Legs). Contracts g.nodes h M (slice_index order k) (L (k + 1))) (agree.legs k (omega arith)) (u.begun.step k lt) in
       let two = subst (λ x. Contracts g.nodes h (legs_more k) x (L (k + 1))) (before k lt) one in
       subst (λ (M : Legs). Contracts g.nodes h (legs_more k) (slice_index more k) M) (agree.legs (k + 1) (omega arith)) two
 
+  -- all steps are contractions
   step_more : (k : ℕ) → k < length more → Contracts g.nodes h (legs_more k) (slice_index more k) (legs_more (k + 1))
   step_more k lt = elim (cases_eq k (length order)) [
     | inl e ↦ subst (λ z. Contracts g.nodes h (legs_more z) (slice_index more z) (legs_more (z + 1))) (sym e) step_here
@@ -155,6 +170,7 @@ module _ (g : Network) (h : ℕ) (order : List ℕ) (L : ℕ → Legs) (c : Cons
   abbrev ComesBefore : List ℕ → (ℕ → Legs) → ℕ → ℕ → Type 0
   ComesBefore o M k x = (p q : ℤ) × IsPriorityAfter g.nodes h o M k (slice_index o k) p × IsPriorityAfter g.nodes h o M k x q × ComesFirst p (slice_index o k) q x
 
+  -- at earlier steps the node came before all that were left
   least_before : (k x : ℕ) → k < length order → x < g.nodes → (Contains (take k order) x → ⊥) → ComesBefore more legs_more k x
   least_before k x lt within away =
       let r = u.begun.least k x lt within away in
@@ -162,6 +178,7 @@ module _ (g : Network) (h : ℕ) (order : List ℕ) (L : ℕ → Legs) (c : Cons
       let one = priority_along g.nodes h k order L more legs_more (slice_index order k) r.0 a r.2 in
       (r.0, r.1, subst (λ z. IsPriorityAfter g.nodes h more legs_more k z r.0) (before k lt) one, priority_along g.nodes h k order L more legs_more x r.1 a r.3, subst (λ z. ComesFirst r.0 z r.1 x) (before k lt) r.4)
 
+  -- and at this step
   least_here : (x : ℕ) → x < g.nodes → (Contains order x → ⊥) → ComesBefore more legs_more (length order) x
   least_here x within away =
       let at = next_within g h order L c v u f in
@@ -171,6 +188,7 @@ module _ (g : Network) (h : ℕ) (order : List ℕ) (L : ℕ → Legs) (c : Cons
       let first = f.first x (omega arith) (u.left x away) in
       (priority_at c.priorities.items v, priority_at c.priorities.items x, subst (λ z. IsPriorityAfter g.nodes h more legs_more (length order) z (priority_at c.priorities.items v)) (sym here) one, priority_along g.nodes h (length order) order L more legs_more x _ agree (u.priority x within away), subst (λ z. ComesFirst (priority_at c.priorities.items v) z (priority_at c.priorities.items x) x) (sym here) first)
 
+  -- so at all steps
   least_more : (k x : ℕ) → k < length more → x < g.nodes → (Contains (take k more) x → ⊥) → ComesBefore more legs_more k x
   least_more k x lt within away = elim (cases_eq k (length order)) [
     | inl e ↦
@@ -183,6 +201,7 @@ module _ (g : Network) (h : ℕ) (order : List ℕ) (L : ℕ → Legs) (c : Cons
         least_before k x below within (λ has. away (subst (λ l. Contains l x) (sym part) has))
   ]
 
+  -- so the longer order follows the rules
   begun_more : IsBegun g h more legs_more
   begun_more = record {
     nodes = (below_more g h order L c v u f, distinct_more g h order L c v u f);
@@ -195,12 +214,15 @@ module _ (g : Network) (h : ℕ) (order : List ℕ) (L : ℕ → Legs) (c : Cons
   level_other : (x : ℕ) → x ≢ v → slice_index d.levels.items x ≡ slice_index c.levels.items x
   level_other x ne = ap (λ l. slice_index l x) s.levels ∙ get_or-set_other c.levels.items v x d.contracted 0 ne
 
+  -- the next node has the number of the step
   level_here : slice_index d.levels.items v ≡ length order + 1
   level_here = ap (λ l. slice_index l v) s.levels ∙ get_or-set_same c.levels.items v d.contracted 0 f.below ∙ s.contracted ∙ ap (λ n. n + 1) u.contracted
 
+  -- the next node is none of the earlier ones
   apart : (k : ℕ) → k < length order → slice_index order k ≢ v
   apart k lt e = next_left g h order L c v u f (subst (Contains order) e (Contains-get_or order k 0 lt))
 
+  -- each contracted node has the number of its step
   level_more : (k : ℕ) → k < length more → slice_index d.levels.items (slice_index more k) ≡ k + 1
   level_more k lt = elim (cases_eq k (length order)) [
     | inl e ↦ subst (λ z. slice_index d.levels.items (slice_index more z) ≡ z + 1) (sym e) (ap (slice_index d.levels.items) here ∙ level_here)
@@ -210,12 +232,15 @@ module _ (g : Network) (h : ℕ) (order : List ℕ) (L : ℕ → Legs) (c : Cons
         ap (slice_index d.levels.items) (sym (before k below)) ∙ level_other (slice_index order k) (apart k below) ∙ u.level k below
   ]
 
+  -- what is left after the step was left before it
   not_earlier : (x : ℕ) → (Contains more x → ⊥) → Contains order x → ⊥
   not_earlier x away has = away (Contains-append_left order (v ∷ []) x has)
 
+  -- and is not the node of the step
   not_next : (x : ℕ) → (Contains more x → ⊥) → x ≢ v
   not_next x away e = away (subst (Contains more) (sym e) (Contains-push order v))
 
+  -- what is left has no level
   left_more : (x : ℕ) → (Contains more x → ⊥) → slice_index d.levels.items x ≡ 0
   left_more x away = level_other x (not_next x away) ∙ u.left x (not_earlier x away)
 
@@ -234,12 +259,15 @@ module _ (g : Network) (h : ℕ) (order : List ℕ) (L : ℕ → Legs) (c : Cons
       same : (x : ℕ) → are_neighbours (legs_more (length order)) (slice_index more (length order)) x ≡ are_neighbours (legs_of c.remaining) v x
       same x = λ i. are_neighbours (now i) (here i) x
 
+  -- the other rows stay
   row_other : (rows rest : List (List Leg)) (r : List Leg) (x : ℕ) → rest ≡ slice_set rows v r → x ≢ v → row rest x ≡ row rows x
   row_other rows rest r x e ne = ap (λ l. row l x) e ∙ get_or-set_other rows v x r [] ne
 
+  -- the row of v is the new one
   row_here : (rows rest : List (List Leg)) (r : List Leg) → rest ≡ slice_set rows v r → v < length rows → row rest v ≡ r
   row_here rows rest r e lt = ap (λ l. row l v) e ∙ get_or-set_same rows v r [] lt
 
+  -- v has a row of each direction
   sized : (v < length (levels_of c).up) × (v < length (levels_of c).down)
   sized =
       let at = next_within g h order L c v u f in
@@ -248,6 +276,7 @@ module _ (g : Network) (h : ℕ) (order : List ℕ) (L : ℕ → Legs) (c : Cons
       let down = u.sizes.rows.1 in
       (omega (arith, length-map c.ups.items (λ (r : _). r.items)), omega (arith, length-map c.downs.items (λ (r : _). r.items)))
 
+  -- the rows up are the legs just before each step
   up_more : (k : ℕ) → k < length more → AreLegsFrom (legs_more k) (slice_index more k) (row (levels_of d).up (slice_index more k))
   up_more k lt = elim (cases_eq k (length order)) [
     | inl e ↦
@@ -263,6 +292,7 @@ module _ (g : Network) (h : ℕ) (order : List ℕ) (L : ℕ → Legs) (c : Cons
         subst (λ z. AreLegsFrom (legs_more k) z (row (levels_of d).up z)) (before k below) two
   ]
 
+  -- and so are the rows down
   down_more : (k : ℕ) → k < length more → AreLegsTo (legs_more k) (slice_index more k) (row (levels_of d).down (slice_index more k))
   down_more k lt = elim (cases_eq k (length order)) [
     | inl e ↦
@@ -278,6 +308,7 @@ module _ (g : Network) (h : ℕ) (order : List ℕ) (L : ℕ → Legs) (c : Cons
         subst (λ z. AreLegsTo (legs_more k) z (row (levels_of d).down z)) (before k below) two
   ]
 
+  -- each node that is left has its priority after the step
   priority_more : (x : ℕ) → x < g.nodes → (Contains more x → ⊥) → IsPriorityAfter g.nodes h more legs_more (length more) x (priority_at d.priorities.items x)
   priority_more x within away = subst (λ z. IsPriorityAfter g.nodes h more legs_more z x (priority_at d.priorities.items x)) (sym (length_push order v)) (touched (are_neighbours (legs_of c.remaining) v x) x within away refl)
 
@@ -342,12 +373,15 @@ after_all g h order L c u none =
       down = λ i lt. u.down i (omega arith);
     }
 
+-- at the start no step was made
 pub underway_at_start : (g : Network) (h : ℕ) (c : Construction) → IsOpen g h c → IsUnderway g h c
 underway_at_start g h c o = record { order = []; L = λ i. opening g; after = after_none g h c o }
 
+-- one more step goes on
 pub underway_next : (g : Network) (h : ℕ) (c : Construction) (v : ℕ) (d : Construction) → IsUnderway g h c → IsNext c.priorities.items c.levels.items v → IsStep h c v d → IsUnderway g h d
 underway_next g h c v d u f s = record { order = u.order ++ v ∷ []; L = then_legs (length u.order) u.L (legs_of d.remaining); after = after_more g h u.order u.L c v u.after f d s }
 
+-- while a node is left, fewer are contracted than there are
 pub underway_count : (g : Network) (h : ℕ) (c : Construction) (v : ℕ) → IsUnderway g h c → IsNext c.priorities.items c.levels.items v → c.contracted < c.remaining.nodes
 underway_count g h c v u f = next_count g h u.order u.L c v u.after f
 

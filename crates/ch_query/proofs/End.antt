@@ -12,6 +12,7 @@ use Rattle.ch_contract.proofs.LegPaths.{path_cost-cons}
 
 module _ (rows : List (List Leg)) (s : ℕ) (Idle : ℕ → Cost → Type 0) (best queue : List (Option Cost)) (p : IsSearch rows s Idle best queue)
     (m : ℕ) (c : Cost) (light : c.weight ≤ 2 ^ 60) (past : (x : ℕ) (d : Cost) → cost_at queue x ≡ Some d → IsBelow c d) (avoids : AvoidsIdle rows Idle m c) where
+  -- a node known at no more than c is settled
   settled : (x : ℕ) (e : Cost) → cost_at best x ≡ Some e → IsAtMost e c → IsSettled best queue x e
   settled x e k le = (k, at (cost_at queue x) refl)
     where
@@ -22,7 +23,9 @@ module _ (rows : List (List Leg)) (s : ℕ) (Idle : ℕ → Cost → Type 0) (be
   Ends : Cost → Type 0
   Ends d = (a : Cost) × IsSettled best queue m a × IsAtMost a d
 
-  pub along : (x : ℕ) (e : Cost) (legs : List Leg) → cost_at best x ≡ Some e → IsUpwardPath rows x m legs → IsAtMost (cost_sum e (path_cost legs)) c → (a : Cost) × IsSettled best queue m a × IsAtMost a (cost_sum e (path_cost legs))
+  -- along an upward path within c each node is settled, at no more than the path costs
+  pub along : (x : ℕ) (e : Cost) (legs : List Leg) → cost_at best x ≡ Some e → IsUpwardPath rows x m legs → IsAtMost (cost_sum e (path_cost legs)) c →
+      (a : Cost) × IsSettled best queue m a × IsAtMost a (cost_sum e (path_cost legs))
   along x e [] k path le =
       let low : IsAtMost e c = IsAtMost_trans e (cost_sum e (path_cost [])) c (IsAtMost-cost_sum_self e _) le in
       (e, subst (λ q. IsSettled best queue q e) path (settled x e k low), IsAtMost-cost_sum_self e _)
@@ -41,4 +44,5 @@ module _ (rows : List (List Leg)) (s : ℕ) (Idle : ℕ → Cost → Type 0) (be
 
   -- at the end each upward path to m of cost at most c is matched by m's own cost, and m is settled
   pub matched : (legs : List Leg) → IsUpwardPath rows s m legs → IsAtMost (path_cost legs) c → (a : Cost) × IsSettled best queue m a × IsAtMost a (path_cost legs)
-  matched legs path le = subst (λ q. (a : Cost) × IsSettled best queue m a × IsAtMost a q) (no_cost-cost_sum (path_cost legs)) (along s no_cost legs p.start path (subst (λ q. IsAtMost q c) (sym (no_cost-cost_sum (path_cost legs))) le))
+  matched legs path le = subst (λ q. (a : Cost) × IsSettled best queue m a × IsAtMost a q) (no_cost-cost_sum (path_cost legs))
+      (along s no_cost legs p.start path (subst (λ q. IsAtMost q c) (sym (no_cost-cost_sum (path_cost legs))) le))

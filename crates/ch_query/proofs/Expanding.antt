@@ -14,27 +14,31 @@ use Rattle.ch_contract.specs.Paths.{path_cost}
 use Rattle.ch_query.specs.declared.side.Side.{Side}
 use Rattle.ch_query.specs.declared.side.Side.TheVariants.{Up, Down}
 use Rattle.ch_query.specs.declared.search.Search.{Search}
-use Rattle.ch_query.specs.Search.{cost_at, IsRelaxed, IsReached, IsExpanding, OrNode, IsStalled, Relaxes, unsettled}
-use Rattle.ch_query.specs.Underway.{rows_of, back_of, IsTouched, IsSameSearch, idle_of, IsUnderway, IsExpandingAt, IsPartlyExpanded}
+use Rattle.ch_query.specs.Search.{cost_at, IsRelaxed, IsReached, IsExpanding, OrNode, IsStalled, unsettled}
+use Rattle.ch_query.specs.Underway.{rows_of, back_of, IsTouched, RelaxesIn, IsSameSearch, idle_of, IsUnderway, IsExpandingAt, IsPartlyExpanded}
 use Rattle.ch_query.specs.Parents.{AreParents, IsNoEarlier}
 use Rattle.ch_query.proofs.Parents.{lowered_parents, lowered_no_earlier, lowered_itself, equal_parents, equal_falls, equal_here, finish_parents}
 use Rattle.ch_query.proofs.PathLaws.{AreRising, path_arcs}
 use Rattle.ch_query.proofs.Steps.{lowered, lowered_settled, lowered_keeps, lowered_relaxes, lowered_counts, expanded}
 
+-- a leg of a row leads to a higher node, and is within the limits
 pub leg_up : (H : Levels) → IsLevelled H → (side : Side) (v : ℕ) (l : Leg) → Contains (row (rows_of H side) v) l → IsLegUp H v l
 leg_up H k Up v l has = All-contains (IsLegUp H v) (row H.up v) l (k.up.1 v).1 has
 leg_up H k Down v l has = All-contains (IsLegUp H v) (row H.down v) l (k.down.1 v).1 has
 
+-- there is a row for each node
 pub rows_size : (H : Levels) → IsLevelled H → (side : Side) → length (rows_of H side) ≡ nodes_of H
 rows_size H k Up = k.up.0
 rows_size H k Down = k.down.0
 
+-- no level is above the number of nodes
 level_small : (H : Levels) → IsLevelled H → (v : ℕ) → slice_index H.level v ≤ nodes_of H
 level_small H k v = elim (cases_lt v (length H.level)) [
   | inl lt ↦ (All-get_or (λ l. (1 ≤ l) × (l ≤ nodes_of H)) H.level v 0 lt k.levels.0).1
   | inr ge ↦ let e = get_or_past H.level v 0 ge in omega arith
 ]
 
+-- a path has few arcs: fewer for each leg than there are nodes, and no more legs than levels
 pub reached_arcs : (H : Levels) → IsLevelled H → (side : Side) (s v : ℕ) (c : Cost) → IsReached (rows_of H side) s v c → c.arcs ≤ 2 ^ 50
 reached_arcs H k side s v c r =
     let n = nodes_of H in
@@ -51,26 +55,36 @@ reached_arcs H k side s v c r =
 ExpandingOf : Levels → Side → ℕ → Bool → List (Option Cost) → List (Option Cost) → ℕ → Cost → Type 0
 ExpandingOf H side s stalls best queue v c = IsExpanding (rows_of H side) s (OrNode (IsStalled (rows_of H side) (back_of H side stalls) s) v) best queue v c
 
-moved : (H : Levels) (side side' : Side) (s s' : ℕ) (stalls stalls' : Bool) (best queue : List (Option Cost)) (v : ℕ) (c : Cost) → side' ≡ side → s' ≡ s → stalls' ≡ stalls → ExpandingOf H side s stalls best queue v c → ExpandingOf H side' s' stalls' best queue v c
+-- it is asked of equal parts too
+moved : (H : Levels) (side side' : Side) (s s' : ℕ) (stalls stalls' : Bool) (best queue : List (Option Cost)) (v : ℕ) (c : Cost) → side' ≡ side → s' ≡ s →
+    stalls' ≡ stalls → ExpandingOf H side s stalls best queue v c → ExpandingOf H side' s' stalls' best queue v c
 moved H side side' s s' stalls stalls' best queue v c a b d x =
-    subst (λ q. ExpandingOf H side' s' q best queue v c) (sym d) (subst (λ q. ExpandingOf H side' q stalls best queue v c) (sym b) (subst (λ q. ExpandingOf H q s stalls best queue v c) (sym a) x))
+    subst (λ q. ExpandingOf H side' s' q best queue v c) (sym d)
+      (subst (λ q. ExpandingOf H side' q stalls best queue v c) (sym b) (subst (λ q. ExpandingOf H q s stalls best queue v c) (sym a) x))
 
+-- the same of parents
 ParentsOf : Levels → Side → ℕ → Bool → List (Option Cost) → List (Option Cost) → List ℕ → ℕ → Type 0
 ParentsOf H side s stalls best queue parents v = AreParents (rows_of H side) s (OrNode (IsStalled (rows_of H side) (back_of H side stalls) s) v) best queue parents
 
-moved_parents : (H : Levels) (side side' : Side) (s s' : ℕ) (stalls stalls' : Bool) (best best' queue queue' : List (Option Cost)) (parents parents' : List ℕ) (v : ℕ) → side' ≡ side → s' ≡ s → stalls' ≡ stalls → best' ≡ best → queue' ≡ queue → parents' ≡ parents →
+-- it is asked of equal parts too
+moved_parents : (H : Levels) (side side' : Side) (s s' : ℕ) (stalls stalls' : Bool) (best best' queue queue' : List (Option Cost)) (parents parents' : List ℕ)
+    (v : ℕ) → side' ≡ side → s' ≡ s → stalls' ≡ stalls → best' ≡ best → queue' ≡ queue → parents' ≡ parents →
     ParentsOf H side s stalls best queue parents v → ParentsOf H side' s' stalls' best' queue' parents' v
 moved_parents H side side' s s' stalls stalls' best best' queue queue' parents parents' v a b d e f g x =
-    subst (λ q. ParentsOf H side' s' q best' queue' parents' v) (sym d) (subst (λ q. ParentsOf H side' q stalls best' queue' parents' v) (sym b) (subst (λ q. ParentsOf H q s stalls best' queue' parents' v) (sym a)
-    (subst (λ q. ParentsOf H side s stalls q queue' parents' v) (sym e) (subst (λ q. ParentsOf H side s stalls best q parents' v) (sym f) (subst (λ q. ParentsOf H side s stalls best queue q v) (sym g) x)))))
+    subst (λ q. ParentsOf H side' s' q best' queue' parents' v) (sym d) (subst (λ q. ParentsOf H side' q stalls best' queue' parents' v) (sym b)
+    (subst (λ q. ParentsOf H q s stalls best' queue' parents' v) (sym a) (subst (λ q. ParentsOf H side s stalls q queue' parents' v) (sym e)
+    (subst (λ q. ParentsOf H side s stalls best q parents' v) (sym f) (subst (λ q. ParentsOf H side s stalls best queue q v) (sym g) x)))))
 
+-- what stays the same twice stays the same
 same_then : (x y z : Search) → IsSameSearch x y → IsSameSearch y z → IsSameSearch x z
 same_then x y z a b = record { side = b.side ∙ a.side; source = b.source ∙ a.source; stalls = b.stalls ∙ a.stalls }
 
 -- the leg shows nothing cheaper
-module _ (H : Levels) (x y z : Search) (v : ℕ) (c : Cost) (legs : List Leg) (l : Leg) (p : IsPartlyExpanded H x y v c legs) (e : z.costs.items ≡ y.costs.items) (f : z.queue ≡ y.queue) (t : IsTouched z.costs.items z.touched) (same : IsSameSearch y z)
+module _ (H : Levels) (x y z : Search) (v : ℕ) (c : Cost) (legs : List Leg) (l : Leg) (p : IsPartlyExpanded H x y v c legs) (e : z.costs.items ≡ y.costs.items)
+    (f : z.queue ≡ y.queue) (t : IsTouched z.costs.items z.touched) (same : IsSameSearch y z)
     (parents : AreParents (rows_of H y.side) y.source (OrNode (idle_of H y) v) y.costs.items y.queue z.parents.items)
     (relaxed : (k : Leg) → Contains (legs ++ l ∷ []) k → IsRelaxed y.costs.items c k × IsNoEarlier y.costs.items z.parents.items v c k) where
+  -- then one leg more is taken
   partly_same : IsPartlyExpanded H x z v c (legs ++ l ∷ [])
   unfolding ExpandingOf ParentsOf
   partly_same = record {
@@ -80,7 +94,8 @@ module _ (H : Levels) (x y z : Search) (v : ℕ) (c : Cost) (legs : List Leg) (l
       within = p.expanding.within;
       search = moved H y.side z.side y.source z.source y.stalls z.stalls z.costs.items z.queue v c same.side same.source same.stalls
           (subst (λ q. ExpandingOf H y.side y.source y.stalls z.costs.items q v c) (sym f) (subst (λ q. ExpandingOf H y.side y.source y.stalls q y.queue v c) (sym e) p.expanding.search));
-      parents = moved_parents H y.side z.side y.source z.source y.stalls z.stalls y.costs.items z.costs.items y.queue z.queue z.parents.items z.parents.items v same.side same.source same.stalls e f refl parents;
+      parents = moved_parents H y.side z.side y.source z.source y.stalls z.stalls y.costs.items z.costs.items y.queue z.queue z.parents.items z.parents.items v
+          same.side same.source same.stalls e f refl parents;
       touched = t;
     };
     relaxed = λ k of. subst (λ q. IsRelaxed q c k × IsNoEarlier q z.parents.items v c k) (sym e) (relaxed k of);
@@ -88,44 +103,72 @@ module _ (H : Levels) (x y z : Search) (v : ℕ) (c : Cost) (legs : List Leg) (l
     measure = ap (λ q. unsettled q z.queue) e ∙ ap (unsettled y.costs.items) f ∙ p.measure;
   }
 
-pub partly_more : (H : Levels) (x y z : Search) (v : ℕ) (c : Cost) (legs : List Leg) (l : Leg) → IsPartlyExpanded H x y v c legs → Contains (row (rows_of H y.side) v) l → l.node < length y.costs.items →
-    Relaxes y.costs.items y.queue y.parents.items v c l z.costs.items z.queue z.parents.items → IsTouched z.costs.items z.touched → IsSameSearch y z → IsPartlyExpanded H x z v c (legs ++ l ∷ [])
+-- one leg more is taken
+pub partly_more : (H : Levels) (x y z : Search) (v : ℕ) (c : Cost) (legs : List Leg) (l : Leg) → IsPartlyExpanded H x y v c legs →
+    Contains (row (rows_of H y.side) v) l → l.node < length y.costs.items → RelaxesIn y v c l z → IsTouched z.costs.items z.touched →
+    IsSameSearch y z → IsPartlyExpanded H x z v c (legs ++ l ∷ [])
 unfolding ExpandingOf ParentsOf
 partly_more H x y z v c legs l p has within (inl (e, f, is, inl (early, g))) t same =
-    partly_same H x y z v c legs l p e f t same (subst (λ q. AreParents (rows_of H y.side) y.source (OrNode (idle_of H y) v) y.costs.items y.queue q) (sym g) p.expanding.parents)
+    partly_same H x y z v c legs l p e f t same
+    (subst (λ q. AreParents (rows_of H y.side) y.source (OrNode (idle_of H y) v) y.costs.items y.queue q) (sym g) p.expanding.parents)
     (λ k of. elim (Contains-push_cases legs l k of) [
       | inl old ↦ ((p.relaxed k old).0, subst (λ q. IsNoEarlier y.costs.items q v c k) (sym g) (p.relaxed k old).1)
-      | inr new ↦ subst (λ m. IsRelaxed y.costs.items c m × IsNoEarlier y.costs.items z.parents.items v c m) new (is, subst (λ q. IsNoEarlier y.costs.items q v c l) (sym g) early)
+      | inr new ↦ subst (λ m. IsRelaxed y.costs.items c m × IsNoEarlier y.costs.items z.parents.items v c m) new
+          (is, subst (λ q. IsNoEarlier y.costs.items q v c l) (sym g) early)
     ])
 partly_more H x y z v c legs l p has within (inl (e, f, is, inr (equal, lt, g))) t same =
-    let a = equal_parents _ _ _ _ _ _ v c p.expanding.search.here p.expanding.parents l has within equal lt in
-    partly_same H x y z v c legs l p e f t same (subst (λ q. AreParents (rows_of H y.side) y.source (OrNode (idle_of H y) v) y.costs.items y.queue q) (sym g) a)
+    let here = p.expanding.search.here in
+    let old_parents = p.expanding.parents in
+    partly_same H x y z v c legs l p e f t same
+    (subst (λ q. AreParents (rows_of H y.side) y.source (OrNode (idle_of H y) v) y.costs.items y.queue q) (sym g)
+    (equal_parents _ _ _ _ _ _ v c here old_parents l has within equal lt))
     (λ k of. elim (Contains-push_cases legs l k of) [
-      | inl old ↦ ((p.relaxed k old).0, λ low at. let n = (p.relaxed k old).1 low at in let d = equal_falls _ _ _ _ _ _ v c p.expanding.search.here p.expanding.parents l has within equal lt k.node in let i = ap (λ q. slice_index q k.node) g in omega arith)
-      | inr new ↦ subst (λ m. IsRelaxed y.costs.items c m × IsNoEarlier y.costs.items z.parents.items v c m) new (is, λ low at. let d = equal_here _ _ _ _ _ _ v c p.expanding.search.here p.expanding.parents l has within equal lt in let i = ap (λ q. slice_index q l.node) g in omega arith)
+      | inl old ↦ (
+        (p.relaxed k old).0,
+        λ low at.
+            let n = (p.relaxed k old).1 low at in
+            let d = equal_falls _ _ _ _ _ _ v c here old_parents l has within equal lt k.node in
+            let i = ap (λ q. slice_index q k.node) g in
+            omega arith,
+      )
+      | inr new ↦ subst (λ m. IsRelaxed y.costs.items c m × IsNoEarlier y.costs.items z.parents.items v c m) new (
+        is,
+        λ low at.
+            let d = equal_here _ _ _ _ _ _ v c here old_parents l has within equal lt in
+            let i = ap (λ q. slice_index q l.node) g in
+            omega arith,
+      )
     ])
 partly_more H x y z v c legs l p has within (inr (light, lower, e, f, g)) t same =
-    let new = lowered _ _ _ _ _ v c p.expanding.search l has light lower in
-    let a = lowered_parents _ _ _ _ _ _ v c p.expanding.search p.expanding.parents l has light lower in
+    let s = p.expanding.search in
+    let a = p.expanding.parents in
+    let best = set y.costs.items l.node (Some (cost_sum c l.cost)) in
+    let queue = set y.queue l.node (Some (cost_sum c l.cost)) in
+    let parents = set y.parents.items l.node v in
     record {
       same = same_then x y z p.same same;
       expanding = record {
         levelled = p.expanding.levelled;
         within = p.expanding.within;
         search = moved H y.side z.side y.source z.source y.stalls z.stalls z.costs.items z.queue v c same.side same.source same.stalls
-            (subst (λ q. ExpandingOf H y.side y.source y.stalls z.costs.items q v c) (sym f) (subst (λ q. ExpandingOf H y.side y.source y.stalls q (set y.queue l.node (Some (cost_sum c l.cost))) v c) (sym e) new));
-        parents = moved_parents H y.side z.side y.source z.source y.stalls z.stalls _ z.costs.items _ z.queue _ z.parents.items v same.side same.source same.stalls e f g a;
+            (subst (λ q. ExpandingOf H y.side y.source y.stalls z.costs.items q v c) (sym f)
+            (subst (λ q. ExpandingOf H y.side y.source y.stalls q queue v c) (sym e) (lowered _ _ _ _ _ v c s l has light lower)));
+        parents = moved_parents H y.side z.side y.source z.source y.stalls z.stalls _ z.costs.items _ z.queue _ z.parents.items v
+            same.side same.source same.stalls e f g (lowered_parents _ _ _ _ _ _ v c s a l has light lower);
         touched = t;
       };
-      relaxed = λ k of. subst (λ q. IsRelaxed q c k × IsNoEarlier q z.parents.items v c k) (sym e) (subst (λ q. IsRelaxed (set y.costs.items l.node (Some (cost_sum c l.cost))) c k × IsNoEarlier (set y.costs.items l.node (Some (cost_sum c l.cost))) q v c k) (sym g)
+      relaxed = λ k of.
+          subst (λ q. IsRelaxed q c k × IsNoEarlier q z.parents.items v c k) (sym e) (subst (λ q. IsRelaxed best c k × IsNoEarlier best q v c k) (sym g)
           (elim (Contains-push_cases legs l k of) [
-            | inl old ↦ (lowered_keeps _ _ _ _ _ v c p.expanding.search l has light lower c k (p.relaxed k old).0, lowered_no_earlier _ _ _ _ _ _ v c p.expanding.search p.expanding.parents l has light lower k (p.relaxed k old).1)
-            | inr is ↦ subst (λ m. IsRelaxed (set y.costs.items l.node (Some (cost_sum c l.cost))) c m × IsNoEarlier (set y.costs.items l.node (Some (cost_sum c l.cost))) (set y.parents.items l.node v) v c m) is (lowered_relaxes _ _ _ _ _ v c p.expanding.search l has light lower, lowered_itself _ _ _ _ _ _ v c p.expanding.search p.expanding.parents l has light lower)
+            | inl old ↦ (lowered_keeps _ _ _ _ _ v c s l has light lower c k (p.relaxed k old).0, lowered_no_earlier _ _ _ _ _ _ v c s a l has light lower k (p.relaxed k old).1)
+            | inr is ↦ subst (λ m. IsRelaxed best c m × IsNoEarlier best parents v c m) is
+                (lowered_relaxes _ _ _ _ _ v c s l has light lower, lowered_itself _ _ _ _ _ _ v c s a l has light lower)
           ]));
-      settled = λ w d k. p.settled w d (lowered_settled _ _ _ _ _ v c p.expanding.search l has light lower w d (sym (ap (λ q. cost_at q w) e) ∙ k.0, sym (ap (λ q. cost_at q w) f) ∙ k.1));
-      measure = ap (λ q. unsettled q z.queue) e ∙ ap (unsettled (set y.costs.items l.node (Some (cost_sum c l.cost)))) f ∙ lowered_counts _ _ _ _ _ v c p.expanding.search l has light lower ∙ p.measure;
+      settled = λ w d k. p.settled w d (lowered_settled _ _ _ _ _ v c s l has light lower w d (sym (ap (λ q. cost_at q w) e) ∙ k.0, sym (ap (λ q. cost_at q w) f) ∙ k.1));
+      measure = ap (λ q. unsettled q z.queue) e ∙ ap (unsettled best) f ∙ lowered_counts _ _ _ _ _ v c s l has light lower ∙ p.measure;
     }
 
+-- no leg is taken yet
 pub partly_none : (H : Levels) (x : Search) (v : ℕ) (c : Cost) → IsExpandingAt H x v c → IsPartlyExpanded H x x v c []
 partly_none H x v c e = record {
   same = record { side = refl; source = refl; stalls = refl };
@@ -135,7 +178,9 @@ partly_none H x v c e = record {
   measure = refl;
 }
 
-pub partly_whole : (H : Levels) (x y : Search) (v : ℕ) (c : Cost) (legs : List Leg) → IsPartlyExpanded H x y v c legs → legs ≡ row (rows_of H x.side) v → IsUnderway H y
+-- all legs are taken
+pub partly_whole : (H : Levels) (x y : Search) (v : ℕ) (c : Cost) (legs : List Leg) → IsPartlyExpanded H x y v c legs → legs ≡ row (rows_of H x.side) v →
+    IsUnderway H y
 partly_whole H x y v c legs p e =
     let whole : (l : Leg) → Contains (row (rows_of H y.side) v) l → Contains legs l = λ l of. subst (λ xs. Contains xs l) (ap (λ q. row (rows_of H q) v) p.same.side ∙ sym e) of in
     record {
@@ -146,10 +191,13 @@ partly_whole H x y v c legs p e =
     }
 
 -- the leg that the program reads
-pub leg_read : (H : Levels) (x y : Search) (v : ℕ) (c : Cost) (legs items : List Leg) (i : ℕ) (d : Leg) → IsPartlyExpanded H x y v c legs → items ≡ row (rows_of H x.side) v → i < length items → Contains (row (rows_of H y.side) v) (get_or items i d)
+pub leg_read : (H : Levels) (x y : Search) (v : ℕ) (c : Cost) (legs items : List Leg) (i : ℕ) (d : Leg) → IsPartlyExpanded H x y v c legs →
+    items ≡ row (rows_of H x.side) v → i < length items → Contains (row (rows_of H y.side) v) (get_or items i d)
 leg_read H x y v c legs items i d p e lt = subst (λ xs. Contains xs (get_or items i d)) (e ∙ ap (λ q. row (rows_of H q) v) (sym p.same.side)) (Contains-get_or items i d lt)
 
-pub leg_bounds : (H : Levels) (x y : Search) (v : ℕ) (c : Cost) (legs : List Leg) (l : Leg) → IsPartlyExpanded H x y v c legs → Contains (row (rows_of H y.side) v) l →
+-- its node is there, and its sum does not overflow
+pub leg_bounds : (H : Levels) (x y : Search) (v : ℕ) (c : Cost) (legs : List Leg) (l : Leg) → IsPartlyExpanded H x y v c legs →
+    Contains (row (rows_of H y.side) v) l →
     (l.node < length y.costs.items) × (c.weight ≤ 2 ^ 60) × (l.cost.weight ≤ 2 ^ 60) × (c.arcs + l.cost.arcs < 2 ^ 64)
 leg_bounds H x y v c legs l p has =
     let k = p.expanding.levelled in
@@ -163,8 +211,11 @@ leg_bounds H x y v c legs l p has =
     let most = reached_arcs H k y.side y.source v c here in
     (omega arith, here.weight, u.weight, omega arith)
 
-pub partly_step : (H : Levels) (x y z : Search) (v : ℕ) (c : Cost) (items : List Leg) (i : ℕ) (d : Leg) → IsPartlyExpanded H x y v c (take i items) → items ≡ row (rows_of H x.side) v → i < length items →
-    Relaxes y.costs.items y.queue y.parents.items v c (get_or items i d) z.costs.items z.queue z.parents.items → IsTouched z.costs.items z.touched → IsSameSearch y z → IsPartlyExpanded H x z v c (take (i + 1) items)
+-- the leg that the program reads is taken
+pub partly_step : (H : Levels) (x y z : Search) (v : ℕ) (c : Cost) (items : List Leg) (i : ℕ) (d : Leg) → IsPartlyExpanded H x y v c (take i items) →
+    items ≡ row (rows_of H x.side) v → i < length items →
+    RelaxesIn y v c (get_or items i d) z → IsTouched z.costs.items z.touched → IsSameSearch y z → IsPartlyExpanded H x z v c (take (i + 1) items)
 partly_step H x y z v c items i d p e lt r t same =
     let has = leg_read H x y v c (take i items) items i d p e lt in
-    subst (IsPartlyExpanded H x z v c) (sym (take_more items i d lt)) (partly_more H x y z v c (take i items) (get_or items i d) p has (leg_bounds H x y v c (take i items) (get_or items i d) p has).0 r t same)
+    subst (IsPartlyExpanded H x z v c) (sym (take_more items i d lt))
+      (partly_more H x y z v c (take i items) (get_or items i d) p has (leg_bounds H x y v c (take i items) (get_or items i d) p has).0 r t same)

@@ -6,5 +6,7 @@ pub mod LeastMeeting
 pub mod Touched
 pub mod Expanding
 pub mod Popping
+pub mod Stalling
 pub mod MeetingSteps
+pub mod MeetingEnd
 pub mod Distances

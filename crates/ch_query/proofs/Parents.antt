@@ -18,8 +18,10 @@ use Rattle.ch_query.proofs.Steps.{popped_settled, lowered_settled, lowered_stays
 use Rattle.ch_query.proofs.End.{matched}
 
 -- taking the least out of the queue
-module _ (rows : List (List Leg)) (s : ℕ) (Idle : ℕ → Cost → Type 0) (best queue : List (Option Cost)) (parents : List ℕ) (p : IsSearch rows s Idle best queue) (a : AreParents rows s Idle best queue parents)
+module _ (rows : List (List Leg)) (s : ℕ) (Idle : ℕ → Cost → Type 0) (best queue : List (Option Cost)) (parents : List ℕ) (p : IsSearch rows s Idle best queue)
+    (a : AreParents rows s Idle best queue parents)
     (v : ℕ) (c : Cost) (key : cost_at queue v ≡ Some c) (least : (x : ℕ) (d : Cost) → cost_at queue x ≡ Some d → IsAtMost c d) (within : v < length queue) where
+  -- a settled node stays settled
   stays : (x : ℕ) (d : Cost) → IsSettled best queue x d → IsSettled best (set queue v None) x d
   stays x d h = (
     h.0,
@@ -29,6 +31,7 @@ module _ (rows : List (List Leg)) (s : ℕ) (Idle : ℕ → Cost → Type 0) (be
     ],
   )
 
+  -- the parents of the others stay
   pub popped_parents : AreParents rows s (OrNode Idle v) best (set queue v None) parents
   popped_parents = record {
     size = a.size;
@@ -40,7 +43,8 @@ module _ (rows : List (List Leg)) (s : ℕ) (Idle : ℕ → Cost → Type 0) (be
   }
 
 -- a leg of v that shows a cheaper path
-module _ (rows : List (List Leg)) (s : ℕ) (Idle : ℕ → Cost → Type 0) (best queue : List (Option Cost)) (parents : List ℕ) (v : ℕ) (c : Cost) (x : IsExpanding rows s Idle best queue v c) (a : AreParents rows s Idle best queue parents)
+module _ (rows : List (List Leg)) (s : ℕ) (Idle : ℕ → Cost → Type 0) (best queue : List (Option Cost)) (parents : List ℕ) (v : ℕ) (c : Cost)
+    (x : IsExpanding rows s Idle best queue v c) (a : AreParents rows s Idle best queue parents)
     (l : Leg) (has : Contains (row rows v) l) (light : c.weight + l.cost.weight ≤ 2 ^ 60) (h : Lowers best l.node (cost_sum c l.cost)) where
   best' : List (Option Cost)
   best' = set best l.node (Some (cost_sum c l.cost))
@@ -48,24 +52,30 @@ module _ (rows : List (List Leg)) (s : ℕ) (Idle : ℕ → Cost → Type 0) (be
   queue' : List (Option Cost)
   queue' = set queue l.node (Some (cost_sum c l.cost))
 
+  -- the parent of the leg's node is v
   here : slice_index (set parents l.node v) l.node ≡ v
   here = get_or-set_same parents l.node v 0 (let n = a.size in let lt = h.within in omega arith)
 
+  -- the other parents stay
   away_at : (y : ℕ) → (y ≡ l.node → ⊥) → slice_index (set parents l.node v) y ≡ slice_index parents y
   away_at y ne = get_or-set_other parents l.node y v 0 ne
 
+  -- its cost is the sum
   cost_here : cost_at best' l.node ≡ Some (cost_sum c l.cost)
   unfolding best'
   cost_here = get_or-set_same best l.node _ None h.within
 
+  -- the other costs stay
   cost_away : (y : ℕ) → (y ≡ l.node → ⊥) → cost_at best' y ≡ cost_at best y
   unfolding best'
   cost_away y ne = get_or-set_other best l.node y _ None ne
 
+  -- a settled node stays settled
   keeps : (y : ℕ) (d : Cost) → IsSettled best queue y d → IsSettled best' queue' y d
   unfolding best' queue'
   keeps = lowered_stays rows s Idle best queue v c x l has light h
 
+  -- each node has a leg from its parent
   led : (y : ℕ) (e : Cost) → y ≢ s → cost_at best' y ≡ Some e → IsParent rows best' queue' y e (slice_index (set parents l.node v) y)
   led y e ne k = elim (cases_eq y l.node) [
     | inl is ↦ subst (IsParent rows best' queue' y e) (sym (ap (slice_index (set parents l.node v)) is ∙ here))
@@ -85,6 +95,7 @@ module _ (rows : List (List Leg)) (s : ℕ) (Idle : ℕ → Cost → Type 0) (be
       let lt = h.lower old.0 (ap (cost_at best) (sym is) ∙ old.1) in
       IsBelow_not (cost_sum c l.cost) old.0 lt (subst (IsAtMost old.0) (sym same) old.2)
 
+  -- no earlier node gives the same cost
   first : (u : ℕ) (d : Cost) → IsSettled best queue u d → Idle u d ⊎ ((k : Leg) → Contains (row rows u) k → IsNoEarlier best' (set parents l.node v) u d k)
   first u d was = elim (x.search.frontier u d was) [
     | inl idle ↦ inl idle
@@ -97,6 +108,7 @@ module _ (rows : List (List Leg)) (s : ℕ) (Idle : ℕ → Cost → Type 0) (be
     ]
   ]
 
+  -- so the parents are right again
   pub lowered_parents : AreParents rows s Idle (set best l.node (Some (cost_sum c l.cost))) (set queue l.node (Some (cost_sum c l.cost))) (set parents l.node v)
   unfolding best' queue'
   lowered_parents = record {
@@ -113,15 +125,20 @@ module _ (rows : List (List Leg)) (s : ℕ) (Idle : ℕ → Cost → Type 0) (be
     | inr ne ↦ subst (λ q. q ≤ v) (sym (away_at k.node ne)) (n low (sym (cost_away k.node ne) ∙ e))
   ]
 
+  -- and this one
   pub lowered_itself : IsNoEarlier (set best l.node (Some (cost_sum c l.cost))) (set parents l.node v) v c l
   lowered_itself _ _ = let at = here in omega arith
 
 -- a leg of v that shows an equal cost: the lesser parent stays
-module _ (rows : List (List Leg)) (s : ℕ) (Idle : ℕ → Cost → Type 0) (best queue : List (Option Cost)) (parents : List ℕ) (v : ℕ) (c : Cost) (settled : IsSettled best queue v c) (a : AreParents rows s Idle best queue parents)
-    (l : Leg) (has : Contains (row rows v) l) (within : l.node < length best) (same : cost_at best l.node ≡ Some (cost_sum c l.cost)) (earlier : v < slice_index parents l.node) where
+module _ (rows : List (List Leg)) (s : ℕ) (Idle : ℕ → Cost → Type 0) (best queue : List (Option Cost)) (parents : List ℕ) (v : ℕ) (c : Cost)
+    (settled : IsSettled best queue v c) (a : AreParents rows s Idle best queue parents)
+    (l : Leg) (has : Contains (row rows v) l) (within : l.node < length best) (same : cost_at best l.node ≡ Some (cost_sum c l.cost))
+    (earlier : v < slice_index parents l.node) where
+  -- the parent of the leg's node is v
   now : slice_index (set parents l.node v) l.node ≡ v
   now = get_or-set_same parents l.node v 0 (let n = a.size in omega arith)
 
+  -- the other parents stay
   else_at : (y : ℕ) → (y ≡ l.node → ⊥) → slice_index (set parents l.node v) y ≡ slice_index parents y
   else_at y ne = get_or-set_other parents l.node y v 0 ne
 
@@ -132,12 +149,15 @@ module _ (rows : List (List Leg)) (s : ℕ) (Idle : ℕ → Cost → Type 0) (be
     | inr ne ↦ let at = else_at y ne in omega arith
   ]
 
+  -- no parent gets a greater number
   pub equal_falls : (y : ℕ) → slice_index (set parents l.node v) y ≤ slice_index parents y
   equal_falls = falls
 
+  -- this leg is no earlier than the parent
   pub equal_here : slice_index (set parents l.node v) l.node ≡ v
   equal_here = now
 
+  -- so the parents are right again
   pub equal_parents : AreParents rows s Idle best queue (set parents l.node v)
   equal_parents = record {
     size = length-set parents l.node v ∙ a.size;
@@ -150,7 +170,8 @@ module _ (rows : List (List Leg)) (s : ℕ) (Idle : ℕ → Cost → Type 0) (be
   }
 
 -- a node whose legs are all taken, or that may be left idle
-pub finish_parents : (rows : List (List Leg)) (s : ℕ) (Idle : ℕ → Cost → Type 0) (best queue : List (Option Cost)) (parents : List ℕ) (v : ℕ) (c : Cost) → IsSettled best queue v c → AreParents rows s (OrNode Idle v) best queue parents →
+pub finish_parents : (rows : List (List Leg)) (s : ℕ) (Idle : ℕ → Cost → Type 0) (best queue : List (Option Cost)) (parents : List ℕ) (v : ℕ) (c : Cost) →
+    IsSettled best queue v c → AreParents rows s (OrNode Idle v) best queue parents →
     Idle v c ⊎ ((l : Leg) → Contains (row rows v) l → IsNoEarlier best parents v c l) → AreParents rows s Idle best queue parents
 finish_parents rows s Idle best queue parents v c here a done = record {
   size = a.size;
@@ -170,21 +191,28 @@ path_append : (rows : List (List Leg)) (a b d : ℕ) (xs ys : List Leg) → IsUp
 path_append rows a b d [] ys p q = subst (λ r. IsUpwardPath rows r d ys) (sym p) q
 path_append rows a b d (x ∷ xs) ys p q = (p.0, path_append rows x.node b d xs ys p.1 q)
 
-avoids_inner : (rows : List (List Leg)) (Idle : ℕ → Cost → Type 0) (w m : ℕ) (b c : Cost) (tail : List Leg) → IsUpwardPath rows w m tail → IsAtMost (cost_sum b (path_cost tail)) c → AvoidsIdle rows Idle m c → AvoidsIdle rows Idle w b
+-- a path that avoids idle nodes has parts that do
+avoids_inner : (rows : List (List Leg)) (Idle : ℕ → Cost → Type 0) (w m : ℕ) (b c : Cost) (tail : List Leg) → IsUpwardPath rows w m tail →
+    IsAtMost (cost_sum b (path_cost tail)) c → AvoidsIdle rows Idle m c → AvoidsIdle rows Idle w b
 avoids_inner rows Idle w m b c tail path le avoids y e legs idle p low =
     avoids y e (legs ++ tail) idle (path_append rows y w m legs tail p path)
     (subst (λ q. IsAtMost q c) (sym (ap (cost_sum e) (path_cost-append legs tail) ∙ sym (cost_sum_assoc e (path_cost legs) (path_cost tail))))
-    (IsAtMost_trans (cost_sum (cost_sum e (path_cost legs)) (path_cost tail)) (cost_sum b (path_cost tail)) c (IsAtMost-cost_sum (cost_sum e (path_cost legs)) b (path_cost tail) (path_cost tail) low (IsAtMost_refl (path_cost tail))) le))
+    (IsAtMost_trans (cost_sum (cost_sum e (path_cost legs)) (path_cost tail)) (cost_sum b (path_cost tail)) c
+        (IsAtMost-cost_sum (cost_sum e (path_cost legs)) b (path_cost tail) (path_cost tail) low (IsAtMost_refl (path_cost tail))) le))
 
+-- two least costs are equal
 least_same : (rows : List (List Leg)) (a x : ℕ) (d e : Cost) → IsLeastUpwardPath rows a x d → IsLeastUpwardPath rows a x e → d ≡ e
 least_same rows a x d e h k = IsAtMost_antisymm d e (half d e h k) (half e d k h)
   where
     half : (d e : Cost) → IsLeastUpwardPath rows a x d → IsLeastUpwardPath rows a x e → IsAtMost d e
     half d e h k = subst (IsAtMost d) k.path.2 (h.least k.path.0 k.path.1 (subst (λ (q : Cost). q.weight ≤ 2 ^ 60) (sym k.path.2) k.weight))
 
-module _ (rows : List (List Leg)) (s : ℕ) (Idle : ℕ → Cost → Type 0) (best queue : List (Option Cost)) (parents : List ℕ) (p : IsSearch rows s Idle best queue) (a : AreParents rows s Idle best queue parents)
+module _ (rows : List (List Leg)) (s : ℕ) (Idle : ℕ → Cost → Type 0) (best queue : List (Option Cost)) (parents : List ℕ) (p : IsSearch rows s Idle best queue)
+    (a : AreParents rows s Idle best queue parents)
     (m : ℕ) (c : Cost) (light : c.weight ≤ 2 ^ 60) (past : (x : ℕ) (d : Cost) → cost_at queue x ≡ Some d → IsBelow c d) (avoids : AvoidsIdle rows Idle m c)
-    (x : ℕ) (ne : x ≢ s) (e : Cost) (known : cost_at best x ≡ Some e) (tight : IsLeastUpwardPath rows s x e) (tail : List Leg) (path : IsUpwardPath rows x m tail) (le : IsAtMost (cost_sum e (path_cost tail)) c) where
+    (x : ℕ) (ne : x ≢ s) (e : Cost) (known : cost_at best x ≡ Some e) (tight : IsLeastUpwardPath rows s x e) (tail : List Leg) (path : IsUpwardPath rows x m tail)
+    (le : IsAtMost (cost_sum e (path_cost tail)) c) where
+  -- the parent of x
   pub parent : IsParent rows best queue x e (slice_index parents x)
   parent = a.led x e ne known
 
@@ -210,6 +238,7 @@ module _ (rows : List (List Leg)) (s : ℕ) (Idle : ℕ → Cost → Type 0) (be
         ];
       }
 
+  -- the parent is the least numbered node before x on a least path
   pub chosen : IsChosen rows s x (slice_index parents x) parent.leg
   chosen =
       let q = parent in
@@ -219,7 +248,8 @@ module _ (rows : List (List Leg)) (s : ℕ) (Idle : ℕ → Cost → Type 0) (be
             let b = last.2 in
             let is : cost_sum b k.cost ≡ e = least_same rows s x _ e last.4 tight in
             let on : IsUpwardPath rows w m (k ∷ tail) = (last.0, subst (λ z. IsUpwardPath rows z m tail) (sym last.1) path) in
-            let total : cost_sum b (path_cost (k ∷ tail)) ≡ cost_sum e (path_cost tail) = ap (cost_sum b) (path_cost-cons k tail) ∙ sym (cost_sum_assoc b k.cost (path_cost tail)) ∙ ap (λ z. cost_sum z (path_cost tail)) is in
+            let total : cost_sum b (path_cost (k ∷ tail)) ≡ cost_sum e (path_cost tail) =
+                ap (cost_sum b) (path_cost-cons k tail) ∙ sym (cost_sum_assoc b k.cost (path_cost tail)) ∙ ap (λ z. cost_sum z (path_cost tail)) is in
             let low : IsAtMost (cost_sum b (path_cost (k ∷ tail))) c = subst (λ z. IsAtMost z c) (sym total) le in
             let under : IsAtMost b c = IsAtMost_trans b (cost_sum b (path_cost (k ∷ tail))) c (IsAtMost-cost_sum_self b (path_cost (k ∷ tail))) low in
             let r = matched rows s Idle best queue p w b last.3.weight (λ y d key. then_below b c d under (past y d key)) (avoids_inner rows Idle w m b c (k ∷ tail) on low avoids)
@@ -230,6 +260,8 @@ module _ (rows : List (List Leg)) (s : ℕ) (Idle : ℕ → Cost → Type 0) (be
             let same : r.0 ≡ b = IsAtMost_antisymm r.0 b rb br in
             elim (a.first w r.0 r.1) [
               | inl idle ↦ absurd (avoids w r.0 (k ∷ tail) idle on (subst (λ z. IsAtMost (cost_sum z (path_cost (k ∷ tail))) c) (sym same) low))
-              | inr legs ↦ subst (λ z. slice_index parents z ≤ w) last.1 (legs k last.0 (let t = tight.weight in let w = ap (λ (z : Cost). z.weight) (ap (λ z. cost_sum z k.cost) same ∙ is) in omega arith) (ap (cost_at best) last.1 ∙ known ∙ ap Some (sym is ∙ ap (λ z. cost_sum z k.cost) (sym same))))
+              | inr legs ↦ subst (λ z. slice_index parents z ≤ w) last.1 (legs k last.0
+                  (let t = tight.weight in let w = ap (λ (z : Cost). z.weight) (ap (λ z. cost_sum z k.cost) same ∙ is) in omega arith)
+                  (ap (cost_at best) last.1 ∙ known ∙ ap Some (sym is ∙ ap (λ z. cost_sum z k.cost) (sym same))))
             ];
       }

@@ -13,22 +13,29 @@ use Rattle.ch_contract.specs.Paths.{IsUpwardPath, path_cost}
 pub not_lower : (c l e : Cost) → IsAtMost e c → IsBelow (cost_sum c l) e → ⊥
 not_lower c l e h k = let le : c.weight ≤ e.weight = omega arith in let p = h.1 le in let ge : e.weight ≤ c.weight + l.weight = omega arith in let q = k.1 ge in omega arith
 
+-- nothing costs less than nothing
 pub not_below_nothing : (a : Cost) → IsBelow a no_cost → ⊥
 not_below_nothing a h = let q = h.1 (omega arith) in omega arith
 
+-- less than what is at most c
 pub below_then : (a b c : Cost) → IsBelow a b → IsAtMost b c → IsBelow a c
 below_then a b c h k = (omega arith, λ e. omega arith)
 
+-- at most what is less than c
 pub then_below : (a b c : Cost) → IsAtMost a b → IsBelow b c → IsBelow a c
 then_below a b c h k = (omega arith, λ e. omega arith)
 
+-- the same on top of both keeps the order
 pub below_sum : (a b c : Cost) → IsBelow a b → IsBelow (cost_sum a c) (cost_sum b c)
 below_sum a b c h = (omega arith, λ e. omega arith)
 
+-- one leg more at the end adds its cost
 pub cost_push : (legs : List Leg) (l : Leg) → path_cost (legs ++ l ∷ []) ≡ cost_sum (path_cost legs) l.cost
 cost_push legs l = same_costs _ _ (sum_by_push (λ (k : Leg). k.cost.weight) legs l) (sum_by_push (λ (k : Leg). k.cost.arcs) legs l)
 
-pub path_push : (rows : List (List Leg)) (a b : ℕ) (legs : List Leg) (l : Leg) → IsUpwardPath rows a b legs → Contains (row rows b) l → IsUpwardPath rows a l.node (legs ++ l ∷ [])
+-- one leg more at the end of a path
+pub path_push : (rows : List (List Leg)) (a b : ℕ) (legs : List Leg) (l : Leg) → IsUpwardPath rows a b legs → Contains (row rows b) l →
+    IsUpwardPath rows a l.node (legs ++ l ∷ [])
 path_push rows a b [] l p has = (subst (λ q. Contains (row rows q) l) (sym p) has, refl)
 path_push rows a b (k ∷ legs) l p has = (p.0, path_push rows k.node b legs l p.1 has)
 
@@ -36,7 +43,9 @@ path_push rows a b (k ∷ legs) l p has = (p.0, path_push rows k.node b legs l p
 abbrev pub AreRising : ℕ → (ℕ → ℕ) → List (List Leg) → Type 0
 AreRising n level rows = (v : ℕ) (l : Leg) → Contains (row rows v) l → (level v < level l.node) × (l.cost.arcs < n)
 
-pub path_arcs : (n : ℕ) (level : ℕ → ℕ) (rows : List (List Leg)) → AreRising n level rows → (a b : ℕ) (legs : List Leg) → IsUpwardPath rows a b legs → (path_cost legs).arcs + n * level a ≤ n * level b
+-- each leg of a path has fewer than n arcs, and rises a level
+pub path_arcs : (n : ℕ) (level : ℕ → ℕ) (rows : List (List Leg)) → AreRising n level rows → (a b : ℕ) (legs : List Leg) → IsUpwardPath rows a b legs →
+    (path_cost legs).arcs + n * level a ≤ n * level b
 path_arcs n level rows rising a b [] p = let e : n * level a ≡ n * level b = ap (λ q. n * level q) p in omega arith
 path_arcs n level rows rising a b (l ∷ legs) p =
     let up = rising a l p.0 in

@@ -1,25 +1,23 @@
 -- The least node leaves the queue.
 use Rattle.std.proofs.Common.{◌≡◌, ℕ, ◌+◌, ◌<◌, false, List, length, Option, Some, None, sym, ◌∙◌, ap, subst, arith, set, inl, inr}
-use Rattle.std.proofs.lemmas.Bool.{cases_lt, false≢true}
-use Rattle.std.proofs.lemmas.Option.{none-some}
-use Rattle.ch_graph.specs.declared.cost.Cost.{Cost}
-use Rattle.ch_graph.specs.Cost.{IsAtMost}
-use Rattle.ch_contract.specs.Hierarchy.{Levels}
-use Rattle.ch_query.specs.declared.search.Search.{Search}
-use Rattle.ch_query.specs.Search.{cost_at, IsExpanding, OrNode, unsettled}
-use Rattle.ch_query.specs.Underway.{rows_of, idle_of, IsUnderway, IsExpandingAt}
-use Rattle.ch_query.proofs.Steps.{popped, popped_falls}
-use Rattle.ch_query.specs.Parents.{AreParents}
-use Rattle.ch_query.proofs.Parents.{popped_parents}
-use Rattle.ch_query.proofs.Expanding.{rows_size}
 use Rattle.std.specs.Ordering.{is_gt, MatchOrdering}
 use Rattle.std.specs.declared.cmp.Ordering.{Ordering}
 use Rattle.std.specs.declared.cmp.Ordering.TheVariants.{Less, Equal, Greater}
+use Rattle.std.proofs.lemmas.Bool.{cases_lt, false≢true}
 use Rattle.std.proofs.lemmas.List.{get_or_past}
-use Rattle.ch_graph.specs.Cost.{IsBelow, cost_cmp}
+use Rattle.std.proofs.lemmas.Option.{none-some}
+use Rattle.ch_graph.specs.declared.cost.Cost.{Cost}
+use Rattle.ch_graph.specs.Cost.{IsAtMost, IsBelow, cost_cmp}
 use Rattle.ch_graph.proofs.CostOrder.{IsAtMost_refl, IsBelow-IsAtMost, cost_cmp_tells}
+use Rattle.ch_contract.specs.Hierarchy.{Levels}
 use Rattle.ch_queue.specs.Queue.{IsLeastEntry}
-use Rattle.ch_query.specs.Search.{IsLeastKey}
+use Rattle.ch_query.specs.declared.search.Search.{Search}
+use Rattle.ch_query.specs.Search.{cost_at, IsLeastKey, IsExpanding, OrNode, unsettled}
+use Rattle.ch_query.specs.Parents.{AreParents}
+use Rattle.ch_query.specs.Underway.{rows_of, idle_of, unsettled_in, IsUnderway, IsExpandingAt}
+use Rattle.ch_query.proofs.Steps.{popped, popped_falls}
+use Rattle.ch_query.proofs.Parents.{popped_parents}
+use Rattle.ch_query.proofs.Expanding.{rows_size}
 
 -- what comparing two costs tells, where the first is not greater
 at_most_by : (a b : Cost) (o : Ordering) → MatchOrdering o (IsBelow a b) (a ≡ b) (IsBelow b a) → is_gt o ≡ false → IsAtMost a b
@@ -37,16 +35,26 @@ key_within queue v c e = elim (cases_lt v (length queue)) [ inl lt ↦ lt | inr 
 
 -- the search with another queue
 abbrev pub with_queue : Search → List (Option Cost) → Search
-with_queue x q = record { side = x.side; source = x.source; stalls = x.stalls; costs = x.costs; queue = q; touched = x.touched; parents = x.parents }
+with_queue x q = record x { queue = q }
 
-pub pop_expands : (H : Levels) (x : Search) (q : List (Option Cost)) (v : ℕ) (c : Cost) → IsUnderway H x → IsLeastKey x.queue v c → q ≡ set x.queue v None → IsExpandingAt H (with_queue x q) v c
-pop_expands H x q v c u l e = record {
-  levelled = u.levelled;
-  within = (let a = key_within x.queue v c l.has in let b = u.search.sizes.1 in let d = rows_size H u.levelled x.side in omega arith);
-  search = subst (λ r. IsExpanding (rows_of H x.side) x.source (OrNode (idle_of H x) v) x.costs.items r v c) (sym e) (popped _ _ _ _ _ u.search v c l.has l.least (key_within x.queue v c l.has));
-  parents = subst (λ r. AreParents (rows_of H x.side) x.source (OrNode (idle_of H x) v) x.costs.items r x.parents.items) (sym e) (popped_parents _ _ _ _ _ _ u.search u.parents v c l.has l.least (key_within x.queue v c l.has));
-  touched = u.touched;
-}
+-- a search underway whose least node leaves the queue
+module _ (H : Levels) (x : Search) (q : List (Option Cost)) (v : ℕ) (c : Cost) (u : IsUnderway H x) (l : IsLeastKey x.queue v c) (e : q ≡ set x.queue v None) where
+  -- the node is there
+  within : v < length x.queue
+  within = key_within x.queue v c l.has
 
-pub pop_falls : (H : Levels) (x : Search) (q : List (Option Cost)) (v : ℕ) (c : Cost) → IsUnderway H x → IsLeastKey x.queue v c → q ≡ set x.queue v None → unsettled x.costs.items q + 1 ≡ unsettled x.costs.items x.queue
-pop_falls H x q v c u l e = ap (λ r. unsettled x.costs.items r + 1) e ∙ popped_falls _ _ _ _ _ u.search v c l.has l.least (key_within x.queue v c l.has)
+  -- the legs of the node are to be taken next
+  pub pop_expands : IsExpandingAt H (with_queue x q) v c
+  pop_expands = record {
+    levelled = u.levelled;
+    within = (let a = within in let b = u.search.sizes.1 in let d = rows_size H u.levelled x.side in omega arith);
+    search = subst (λ r. IsExpanding (rows_of H x.side) x.source (OrNode (idle_of H x) v) x.costs.items r v c) (sym e)
+        (popped _ _ _ _ _ u.search v c l.has l.least within);
+    parents = subst (λ r. AreParents (rows_of H x.side) x.source (OrNode (idle_of H x) v) x.costs.items r x.parents.items) (sym e)
+        (popped_parents _ _ _ _ _ _ u.search u.parents v c l.has l.least within);
+    touched = u.touched;
+  }
+
+  -- one node fewer is not settled
+  pub pop_falls : unsettled_in (with_queue x q) + 1 ≡ unsettled_in x
+  pop_falls = ap (λ r. unsettled x.costs.items r + 1) e ∙ popped_falls _ _ _ _ _ u.search v c l.has l.least within

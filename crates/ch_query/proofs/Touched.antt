@@ -14,15 +14,19 @@ use Rattle.ch_query.specs.Search.{cost_at}
 use Rattle.ch_query.specs.Underway.{IsTouched}
 
 module _ (best : List (Option Cost)) (touched : Vec ℕ Global) (t : IsTouched best touched) (w : ℕ) (within : w < length best) (d : Cost) where
+  -- how many nodes have a cost then
   counted : (b : Bool) → is_some (cost_at best w) ≡ b → count_by is_some (set best w (Some d)) + cond b 1 0 ≡ count_by is_some best + 1
   counted b e = subst (λ q. count_by is_some (set best w (Some d)) + cond q 1 0 ≡ count_by is_some best + 1) e (sum_by-set (λ x. cond (is_some x) 1 0) best w (Some d) None within)
 
+  -- w has a cost
   here : is_some (cost_at (set best w (Some d)) w) ≡ true
   here = ap is_some (get_or-set_same best w (Some d) None within)
 
+  -- of the others it is as before
   other : (v : ℕ) → (v ≡ w → ⊥) → is_some (cost_at (set best w (Some d)) v) ≡ is_some (cost_at best v)
   other v ne = ap is_some (get_or-set_other best w v (Some d) None ne)
 
+  -- what had a cost has one
   keeps : (v : ℕ) → is_some (cost_at best v) ≡ true → is_some (cost_at (set best w (Some d)) v) ≡ true
   keeps v e = elim (cases_eq v w) [ inl is ↦ ap (λ q. is_some (cost_at (set best w (Some d)) q)) is ∙ here | inr away ↦ other v away ∙ e ]
 
@@ -36,7 +40,9 @@ module _ (best : List (Option Cost)) (touched : Vec ℕ Global) (t : IsTouched b
       let count = t.count in
       omega arith
 
-  pub touched_more : (touched' : Vec ℕ Global) → is_some (cost_at best w) ≡ false → touched'.items ≡ touched.items ++ w ∷ [] → vec_len touched' ≡ vec_len touched + 1 → vec_capacity touched' ≡ vec_capacity touched → IsTouched (set best w (Some d)) touched'
+  -- w is listed, which was not
+  pub touched_more : (touched' : Vec ℕ Global) → is_some (cost_at best w) ≡ false → touched'.items ≡ touched.items ++ w ∷ [] →
+      vec_len touched' ≡ vec_len touched + 1 → vec_capacity touched' ≡ vec_capacity touched → IsTouched (set best w (Some d)) touched'
   touched_more touched' e items len capacity = record {
     room = (let size = length-set best w (Some d) in let room = t.room in omega arith);
     count = (let n = counted false e in let count = t.count in omega arith);
@@ -48,9 +54,11 @@ module _ (best : List (Option Cost)) (touched : Vec ℕ Global) (t : IsTouched b
       | inl is ↦ subst (Contains (touched.items ++ w ∷ [])) (sym is) (Contains-push touched.items w)
       | inr away ↦ Contains-append_left touched.items (w ∷ []) v (t.listed v (sym (other v away) ∙ k))
     ]);
-    distinct = subst (AllPairs ◌≢◌) (sym items) (all_pairs_push ◌≢◌ touched.items w t.distinct (λ k x lt same. false≢true (sym e ∙ ap (λ q. is_some (cost_at best q)) (sym same) ∙ t.reached _ (Contains-get_or touched.items k x lt))));
+    distinct = subst (AllPairs ◌≢◌) (sym items) (all_pairs_push ◌≢◌ touched.items w t.distinct
+        (λ k x lt same. false≢true (sym e ∙ ap (λ q. is_some (cost_at best q)) (sym same) ∙ t.reached _ (Contains-get_or touched.items k x lt))));
   }
 
+  -- w was listed already
   pub touched_same : is_some (cost_at best w) ≡ true → IsTouched (set best w (Some d)) touched
   touched_same e = record {
     room = (let size = length-set best w (Some d) in let room = t.room in omega arith);
@@ -63,6 +71,7 @@ module _ (best : List (Option Cost)) (touched : Vec ℕ Global) (t : IsTouched b
     distinct = t.distinct;
   }
 
+-- a node with a cost is there
 pub some_within : (best : List (Option Cost)) (w : ℕ) → is_some (cost_at best w) ≡ true → w < length best
 some_within best w e = elim (cases_lt w (length best)) [ inl lt ↦ lt | inr ge ↦ absurd (false≢true (sym (ap is_some (get_or_past best w None ge)) ∙ e)) ]
 
@@ -78,13 +87,17 @@ pub read : (costs : List (Option Cost)) (i : ℕ) (r : Option Cost) → i < leng
 read costs i r within e = e ∙ get_or_default costs i r None within
 
 -- the last touched node is cleaned
-module _ (best : List (Option Cost)) (touched touched' : Vec ℕ Global) (t : IsTouched best touched) (w : ℕ) (items : touched.items ≡ touched'.items ++ w ∷ []) (len : vec_len touched' + 1 ≡ vec_len touched) (capacity : vec_capacity touched' ≡ vec_capacity touched) where
+module _ (best : List (Option Cost)) (touched touched' : Vec ℕ Global) (t : IsTouched best touched) (w : ℕ) (items : touched.items ≡ touched'.items ++ w ∷ [])
+    (len : vec_len touched' + 1 ≡ vec_len touched) (capacity : vec_capacity touched' ≡ vec_capacity touched) where
+  -- the last node has a cost
   was : is_some (cost_at best w) ≡ true
   was = t.reached w (subst (λ xs. Contains xs w) (sym items) (Contains-push touched'.items w))
 
+  -- it is there
   pub last_within : w < length best
   last_within = some_within best w was
 
+  -- it is listed once
   away : (v : ℕ) → Contains touched'.items v → v ≡ w → ⊥
   away v h same =
       let k = h.0 in
@@ -93,14 +106,22 @@ module _ (best : List (Option Cost)) (touched touched' : Vec ℕ Global) (t : Is
       let pair = subst (AllPairs ◌≢◌) items t.distinct k (length touched'.items) v lt (omega arith) in
       pair (get_or_append_left touched'.items (w ∷ []) v k lt ∙ h.2 ∙ same ∙ sym (get_or_push touched'.items w v (length touched'.items) refl))
 
+  -- without its cost and without it the list is right
   pub touched_less : IsTouched (set best w None) touched'
   touched_less = record {
     room = (let size = length-set best w None in let room = t.room in omega arith);
-    count = (let n = subst (λ q. count_by is_some (set best w None) + cond q 1 0 ≡ count_by is_some best + 0) was (sum_by-set (λ x. cond (is_some x) 1 0) best w None None last_within) in let count = t.count in omega arith);
+    count =
+        let before = sum_by-set (λ x. cond (is_some x) 1 0) best w None None last_within in
+        let n = subst (λ q. count_by is_some (set best w None) + cond q 1 0 ≡ count_by is_some best + 0) was before in
+        let count = t.count in
+        omega arith;
     reached = λ v h. ap is_some (get_or-set_other best w v None None (away v h)) ∙ t.reached v (subst (λ xs. Contains xs v) (sym items) (Contains-append_left touched'.items (w ∷ []) v h));
     listed = λ v k. elim (cases_eq v w) [
       | inl is ↦ absurd (false≢true (sym (ap is_some (ap (λ q. cost_at (set best w None) q) is ∙ get_or-set_same best w None None last_within)) ∙ k))
-      | inr ne ↦ elim (Contains-push_cases touched'.items w v (subst (λ xs. Contains xs v) items (t.listed v (sym (ap is_some (get_or-set_other best w v None None ne)) ∙ k)))) [ inl old ↦ old | inr is ↦ absurd (ne (sym is)) ]
+      | inr ne ↦ elim (Contains-push_cases touched'.items w v (subst (λ xs. Contains xs v) items (t.listed v (sym (ap is_some (get_or-set_other best w v None None ne)) ∙ k)))) [
+          | inl old ↦ old
+          | inr is ↦ absurd (ne (sym is))
+        ]
     ];
     distinct = λ i j d lt within.
         let n = length-append touched'.items (w ∷ []) in
@@ -109,7 +130,8 @@ module _ (best : List (Option Cost)) (touched touched' : Vec ℕ Global) (t : Is
   }
 
 -- with no costs no node is touched
-pub untouched : (n : ℕ) (best : List (Option Cost)) (touched : Vec ℕ Global) → best ≡ replicate n None → touched.items ≡ [] → vec_len touched ≡ 0 → n ≤ vec_capacity touched → IsTouched best touched
+pub untouched : (n : ℕ) (best : List (Option Cost)) (touched : Vec ℕ Global) → best ≡ replicate n None → touched.items ≡ [] → vec_len touched ≡ 0 →
+    n ≤ vec_capacity touched → IsTouched best touched
 untouched n best touched none items len capacity = record {
   room = (let size = ap length none in let same = length-replicate {A = Option Cost} n None in omega arith);
   count = len ∙ sym (ap (count_by is_some) none ∙ sum_by-replicate (λ (x : Option Cost). cond (is_some x) 1 0) n None ∙ omega arith);

@@ -21,8 +21,10 @@ IsMet (Some d) v c least result = IsFirst least (cost_sum c d, v) result
 
 -- what is known is the sum of two paths
 abbrev pub IsFoundBy : Levels → Search → Search → Option (Cost × ℕ) → Type 0
-IsFoundBy H x y least = (e : Cost × ℕ) → least ≡ Some e → (a b : Cost) × IsReached (rows_of H x.side) x.source e.1 a × IsReached (rows_of H y.side) y.source e.1 b × (cost_sum a b ≡ e.0)
+IsFoundBy H x y least =
+    (e : Cost × ℕ) → least ≡ Some e → (a b : Cost) × IsReached (rows_of H x.side) x.source e.1 a × IsReached (rows_of H y.side) y.source e.1 b × (cost_sum a b ≡ e.0)
 
+-- two searches underway that stall, and the least sum that they know: it covers all nodes that both settled
 pub record AreMeeting (H : Levels) (x y : Search) (least : Option (Cost × ℕ)) : Type 0 where
   pub here : IsUnderway H x
   pub there : IsUnderway H y
@@ -30,5 +32,6 @@ pub record AreMeeting (H : Levels) (x y : Search) (least : Option (Cost × ℕ))
   pub seen : IsSeen x.costs.items x.queue y.costs.items y.queue least
   pub found : IsFoundBy H x y least
 
+-- no node is settled yet
 abbrev pub IsFresh : Search → Type 0
 IsFresh x = (v : ℕ) (c : Cost) → IsSettled x.costs.items x.queue v c → ⊥

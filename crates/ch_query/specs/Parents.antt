@@ -20,6 +20,7 @@ pub record IsParent (rows : List (List Leg)) (best queue : List (Option Cost)) (
 abbrev pub IsNoEarlier : List (Option Cost) → List ℕ → ℕ → Cost → Leg → Type 0
 IsNoEarlier best parents u c l = c.weight + l.cost.weight ≤ 2 ^ 60 → cost_at best l.node ≡ Some (cost_sum c l.cost) → slice_index parents l.node ≤ u
 
+-- each reached node but the source has a parent, and no settled node with a leg that gives it its cost is before it
 pub record AreParents (rows : List (List Leg)) (s : ℕ) (Idle : ℕ → Cost → Type 0) (best queue : List (Option Cost)) (parents : List ℕ) : Type 0 where
   pub size : length parents ≡ length best
   pub led : (x : ℕ) (e : Cost) → x ≢ s → cost_at best x ≡ Some e → IsParent rows best queue x e (slice_index parents x)
@@ -29,7 +30,7 @@ pub record AreParents (rows : List (List Leg)) (s : ℕ) (Idle : ℕ → Cost �
 abbrev pub IsLast : List (List Leg) → ℕ → ℕ → ℕ → Leg → Type 0
 IsLast rows a x u l = Contains (row rows u) l × (l.node ≡ x) × (before : Cost) × IsLeastUpwardPath rows a u before × IsLeastUpwardPath rows a x (cost_sum before l.cost)
 
--- u is the least numbered of these
+-- u is the least numbered node with such a leg
 pub record IsChosen (rows : List (List Leg)) (a x u : ℕ) (l : Leg) : Type 0 where
   pub last : IsLast rows a x u l
   pub least : (w : ℕ) (k : Leg) → IsLast rows a x w k → u ≤ w

@@ -79,7 +79,8 @@ pub record Lowers (best : List (Option Cost)) (w : ℕ) (d : Cost) : Type 0 wher
   pub within : w < length best
   pub lower : (e : Cost) → cost_at best w ≡ Some e → IsBelow d e
 
--- what taking a leg of v, settled at cost c, changes of costs, queue and parents: it shows nothing cheaper, and the lesser of two parents stays; or its node gets the sum as cost and key, and v as parent
+-- what taking a leg of v, settled at cost c, changes of costs, queue and parents: it shows nothing cheaper, and the lesser of two parents stays;
+-- or its node gets the sum as cost and key, and v as parent
 abbrev pub Relaxes : List (Option Cost) → List (Option Cost) → List ℕ → ℕ → Cost → Leg → List (Option Cost) → List (Option Cost) → List ℕ → Type 0
 Relaxes best queue parents v c l best' queue' parents' =
     ((best' ≡ best) × (queue' ≡ queue) × IsRelaxed best c l

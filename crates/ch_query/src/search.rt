@@ -19,7 +19,8 @@ const MOST_WEIGHT: u64 = 1 << 60;
 pub(crate) struct Search {
     pub(crate) side: Side,
     pub(crate) source: u32,
-    // Whether a node to which a higher node shows a cheaper way is left unexpanded.
+    // Whether a node to which a higher node shows a cheaper way is left unexpanded. A search without an
+    // end, which has to find all least paths, would not stall.
     pub(crate) stalls: bool,
     // By node: the least cost known of a path from the source to it.
     pub(crate) costs: Vec<Option<Cost>>,

@@ -5,14 +5,13 @@ use Rattle.std.specs.Str.Parse.{ParsesUnsigned}
 use Rattle.std.specs.String.{string_bytes}
 use Rattle.clap.specs.Words.{App, HasMatchesOf, IsAmong, Kinds, ReadsOne, Row, Text, fault_of, first_value, is_simple_and_free, one_text, rows_of, subcommand_rows_of}
 use Rattle.clap.specs.declared.error.kind.ErrorKind.{ErrorKind}
-use Rattle.clap.specs.declared.error.kind.ErrorKind.TheVariants.{DisplayHelp, OutOfMemory}
+use Rattle.clap.specs.declared.error.kind.ErrorKind.TheVariants.{OutOfMemory}
 use Rattle.clap.specs.declared.parser.matches.ArgMatches.{ArgMatches}
 use Rattle.clap.specs.declared.parser.matches.Found.{Found}
 use Rattle.clap.proofs.WalkLemmas.{first_value-rows, one_text-rows}
 use Rattle.chtab.specs.Line.{HasDefaultPlan, IsFaultOf, IsFlag, IsPlainIn, IsReadFrom, IsToldOf, chtab_form, faults_of, files_in, given_by, hops_in, number_in}
 use Rattle.chtab.specs.declared.line.Line.{Line}
 use Rattle.chtab.specs.declared.line.LineFault.{LineFault}
-use Rattle.chtab.specs.declared.line.LineFault.TheVariants as LineFault
 
 -- the first values of both arguments are the files
 pub two_files : (found : Found) (graph queries : Text) → Some graph ≡ first_value found (codes "GRAPH") → Some queries ≡ first_value found (codes "QUERIES") → Some graph ∷ Some queries ∷ [] ≡ files_in (rows_of found)

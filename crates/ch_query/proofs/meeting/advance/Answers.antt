@@ -9,4 +9,6 @@ pub settle-requires-clause-expanding : goal.settle-requires-clause-expanding
 settle-requires-clause-expanding c = pop_expands _ _ _ _ _ c.requires.meeting.here (least_key _ _ c.in-Some.ensures.least) c.in-Some.ensures.rest
 
 pub returns-clause-meeting : goal.returns-clause-meeting
-returns-clause-meeting c = met_then _ _ _ _ c.requires.meeting _ _ _ (least_key _ _ c.in-Some.ensures.least) c.in-Some.ensures.rest _ c.met.ensures _ c.settle.ensures.underway c.settle.ensures.same c.settle.ensures.settled
+returns-clause-meeting c =
+    let after = c.settle.ensures in
+    met_then _ _ _ _ c.requires.meeting _ _ _ (least_key _ _ c.in-Some.ensures.least) c.in-Some.ensures.rest _ c.met.ensures _ after.underway after.same after.settled

@@ -2,7 +2,7 @@ use Rattle.std.proofs.Common.{◌≡◌, ◌∙◌, ap₂, codes, false, rules}
 use Rattle.std.proofs.lemmas.Result.{IfOk-weaker}
 use Rattle.clap.specs.Words.{app_of, new_app, with_rule}
 use Rattle.clap.specs.declared.builder.command.Command.TheViews.{out-Command}
-use Rattle.chtab.specs.Line.{file_rule, hops_rule, plain_rule}
+use Rattle.chtab.specs.Line.{plain_rule}
 use Rattle.chtab.proofs.line.dist_command.Goals as goal
 
 pub returns-clause-form : goal.returns-clause-form

@@ -1,5 +1,5 @@
 use Rattle.std.proofs.Common.{◌≡◌, []}
-use Rattle.clap.specs.Words.{HasKind, Kinds, found_of, rows_of}
+use Rattle.clap.specs.Words.{HasKind, found_of, rows_of}
 use Rattle.chtab.proofs.Words.{fault-told, given-by, of-faults, read-from}
 use Rattle.chtab.proofs.line.read_words.Goals as goal
 

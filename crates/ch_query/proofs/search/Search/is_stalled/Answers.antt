@@ -1,41 +1,50 @@
-use Rattle.std.proofs.Common.{arith, ap, subst, ◌∙◌, sym, None}
+use Rattle.std.proofs.Common.{arith, subst, ◌∙◌, sym, None}
 use Rattle.ch_graph.specs.Cost.{IsBelow}
 use Rattle.ch_contract.specs.declared.leg.Leg.{Leg}
-use Rattle.ch_contract.specs.Rows.{row}
-use Rattle.ch_query.specs.Underway.{rows_of}
-use Rattle.ch_query.proofs.MeetingSteps.{back_leg, back_within, back_sum, stalls_idle}
+use Rattle.ch_query.proofs.Stalling.{back_leg, back_sum, stalls_idle}
 use Rattle.ch_query.proofs.Touched.{read}
 use Rattle.ch_query.proofs.search.Search.is_stalled.Goals as goal
 
+-- what a read of a row past its end would give
 blank : Leg
 blank = record { node = 0; cost = record { weight = 0; arcs = 0 }; middle = None }
 
 pub index-requires : goal.index-requires
 unfolding blank
 index-requires c =
-    let has = back_leg c.args.hierarchy.now c.args.self.now.side c.args.node c.legs-leg-items.result.now c.loop-leg.leg-index blank (c.legs-leg-items.ensures.row ∙ ap (λ q. row (rows_of c.args.hierarchy.now q) c.args.node) c.other.ensures) c.loop-leg-test.true in
-    let lt = back_within c.args.hierarchy.now c.args.self.now c.args.node c.args.cost _ c.requires.expanding has in
-    let ok = c.args.self.now.costs.ok in
+    let a = c.args in
+    let legs = c.legs-leg-items in
+    let back = back_leg a.hierarchy.now a.self.now a.node a.cost c.requires.expanding c.other.result legs.result.now c.loop-leg.leg-index blank
+        c.other.ensures legs.ensures.row c.loop-leg-test.true in
+    let within = back.within in
+    let ok = a.self.now.costs.ok in
     omega arith
 
 pub plus-requires-clause-weights : goal.plus-requires-clause-weights
 unfolding blank
 plus-requires-clause-weights c =
-    let has = back_leg c.args.hierarchy.now c.args.self.now.side c.args.node c.legs-leg-items.result.now c.loop-leg.leg-index blank (c.legs-leg-items.ensures.row ∙ ap (λ q. row (rows_of c.args.hierarchy.now q) c.args.node) c.other.ensures) c.loop-leg-test.true in
-    let lt = back_within c.args.hierarchy.now c.args.self.now c.args.node c.args.cost _ c.requires.expanding has in
-    (back_sum c.args.hierarchy.now c.args.self.now c.args.node c.args.cost _ _ c.requires.expanding has (sym (read _ _ _ lt c.index.ensures) ∙ c.in-Some.is)).0
+    let a = c.args in
+    let legs = c.legs-leg-items in
+    let back = back_leg a.hierarchy.now a.self.now a.node a.cost c.requires.expanding c.other.result legs.result.now c.loop-leg.leg-index blank
+        c.other.ensures legs.ensures.row c.loop-leg-test.true in
+    (back_sum a.hierarchy.now a.self.now a.node a.cost c.requires.expanding _ _ back (sym (read _ _ _ back.within c.index.ensures) ∙ c.in-Some.is)).0
 
 pub plus-requires-clause-arcs : goal.plus-requires-clause-arcs
 unfolding blank
 plus-requires-clause-arcs c =
-    let has = back_leg c.args.hierarchy.now c.args.self.now.side c.args.node c.legs-leg-items.result.now c.loop-leg.leg-index blank (c.legs-leg-items.ensures.row ∙ ap (λ q. row (rows_of c.args.hierarchy.now q) c.args.node) c.other.ensures) c.loop-leg-test.true in
-    let lt = back_within c.args.hierarchy.now c.args.self.now c.args.node c.args.cost _ c.requires.expanding has in
-    (back_sum c.args.hierarchy.now c.args.self.now c.args.node c.args.cost _ _ c.requires.expanding has (sym (read _ _ _ lt c.index.ensures) ∙ c.in-Some.is)).1
+    let a = c.args in
+    let legs = c.legs-leg-items in
+    let back = back_leg a.hierarchy.now a.self.now a.node a.cost c.requires.expanding c.other.result legs.result.now c.loop-leg.leg-index blank
+        c.other.ensures legs.ensures.row c.loop-leg-test.true in
+    (back_sum a.hierarchy.now a.self.now a.node a.cost c.requires.expanding _ _ back (sym (read _ _ _ back.within c.index.ensures) ∙ c.in-Some.is)).1
 
 pub returns-then-is_below : goal.returns-then-is_below
 unfolding blank
 returns-then-is_below c =
-    let has = back_leg c.args.hierarchy.now c.args.self.now.side c.args.node c.legs-leg-items.result.now c.loop-leg.leg-index blank (c.legs-leg-items.ensures.row ∙ ap (λ q. row (rows_of c.args.hierarchy.now q) c.args.node) c.other.ensures) c.loop-leg-test.true in
-    let lt = back_within c.args.hierarchy.now c.args.self.now c.args.node c.args.cost _ c.requires.expanding has in
-    let known = sym (read _ _ _ lt c.index.ensures) ∙ c.in-Some.is in
-    λ _. stalls_idle c.args.hierarchy.now c.args.self.now c.args.node c.args.cost c.in-Some.known _ c.requires.expanding c.requires.stalls has known (subst (λ q. IsBelow q c.args.cost) c.plus.ensures (c.is_below.ensures.0 c.if-is_below.true))
+    let a = c.args in
+    let legs = c.legs-leg-items in
+    let back = back_leg a.hierarchy.now a.self.now a.node a.cost c.requires.expanding c.other.result legs.result.now c.loop-leg.leg-index blank
+        c.other.ensures legs.ensures.row c.loop-leg-test.true in
+    let known = sym (read _ _ _ back.within c.index.ensures) ∙ c.in-Some.is in
+    λ _. stalls_idle a.hierarchy.now a.self.now a.node a.cost c.requires.expanding _ c.in-Some.known c.requires.stalls back known
+    (subst (λ q. IsBelow q a.cost) c.plus.ensures (c.is_below.ensures.0 c.if-is_below.true))
