@@ -60,7 +60,7 @@ moved : (H : Levels) (side side' : Side) (s s' : ℕ) (stalls stalls' : Bool) (b
     stalls' ≡ stalls → ExpandingOf H side s stalls best queue v c → ExpandingOf H side' s' stalls' best queue v c
 moved H side side' s s' stalls stalls' best queue v c a b d x =
     subst (λ q. ExpandingOf H side' s' q best queue v c) (sym d)
-      (subst (λ q. ExpandingOf H side' q stalls best queue v c) (sym b) (subst (λ q. ExpandingOf H q s stalls best queue v c) (sym a) x))
+    (subst (λ q. ExpandingOf H side' q stalls best queue v c) (sym b) (subst (λ q. ExpandingOf H q s stalls best queue v c) (sym a) x))
 
 -- the same of parents
 ParentsOf : Levels → Side → ℕ → Bool → List (Option Cost) → List (Option Cost) → List ℕ → ℕ → Type 0
@@ -218,4 +218,4 @@ pub partly_step : (H : Levels) (x y z : Search) (v : ℕ) (c : Cost) (items : Li
 partly_step H x y z v c items i d p e lt r t same =
     let has = leg_read H x y v c (take i items) items i d p e lt in
     subst (IsPartlyExpanded H x z v c) (sym (take_more items i d lt))
-      (partly_more H x y z v c (take i items) (get_or items i d) p has (leg_bounds H x y v c (take i items) (get_or items i d) p has).0 r t same)
+    (partly_more H x y z v c (take i items) (get_or items i d) p has (leg_bounds H x y v c (take i items) (get_or items i d) p has).0 r t same)

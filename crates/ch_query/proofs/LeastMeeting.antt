@@ -58,9 +58,9 @@ module _ (g : Network) (H : Levels) (k : HasWalks g H) (s t : ℕ) (best_up queu
           let ge = IsLeast-IsAtMost g s t c _ l walk in
           let less : IsBelow (cost_sum idle.0 (cost_sum (path_cost legs) (path_cost downs))) (cost_sum e (cost_sum (path_cost legs) (path_cost downs))) = below_sum idle.0 e _ idle.2 in
           let sum : IsAtMost (cost_sum (cost_sum e (path_cost legs)) (path_cost downs)) (cost_sum (path_cost ups) (path_cost downs)) =
-              IsAtMost-cost_sum _ (path_cost ups) (path_cost downs) (path_cost downs) low (IsAtMost_refl (path_cost downs)) in
+          IsAtMost-cost_sum _ (path_cost ups) (path_cost downs) (path_cost downs) low (IsAtMost_refl (path_cost downs)) in
           let sum' : IsAtMost (cost_sum e (cost_sum (path_cost legs) (path_cost downs))) c =
-              subst (λ q. IsAtMost q c) (cost_sum_assoc e (path_cost legs) (path_cost downs)) (IsAtMost_trans (cost_sum (cost_sum e (path_cost legs)) (path_cost downs)) _ c sum le) in
+          subst (λ q. IsAtMost q c) (cost_sum_assoc e (path_cost legs) (path_cost downs)) (IsAtMost_trans (cost_sum (cost_sum e (path_cost legs)) (path_cost downs)) _ c sum le) in
           IsBelow_not _ c (below_then _ _ c less sum') ge
 
       -- no idle node lies on the path from t
@@ -71,10 +71,10 @@ module _ (g : Network) (H : Levels) (k : HasWalks g H) (s t : ℕ) (best_up queu
           let swap : cost_sum (path_cost ups) (cost_sum (path_cost legs) idle.0) ≡ cost_sum idle.0 (cost_sum (path_cost legs) (path_cost ups)) = same_costs _ _ (omega arith) (omega arith) in
           let less : IsBelow (cost_sum idle.0 (cost_sum (path_cost legs) (path_cost ups))) (cost_sum e (cost_sum (path_cost legs) (path_cost ups))) = below_sum idle.0 e _ idle.2 in
           let sum : IsAtMost (cost_sum (path_cost ups) (cost_sum e (path_cost legs))) (cost_sum (path_cost ups) (path_cost downs)) =
-              IsAtMost-cost_sum (path_cost ups) (path_cost ups) _ (path_cost downs) (IsAtMost_refl (path_cost ups)) low in
+          IsAtMost-cost_sum (path_cost ups) (path_cost ups) _ (path_cost downs) (IsAtMost_refl (path_cost ups)) low in
           let swap' : cost_sum (path_cost ups) (cost_sum e (path_cost legs)) ≡ cost_sum e (cost_sum (path_cost legs) (path_cost ups)) = same_costs _ _ (omega arith) (omega arith) in
           let sum' : IsAtMost (cost_sum e (cost_sum (path_cost legs) (path_cost ups))) c =
-              subst (λ q. IsAtMost q c) swap' (IsAtMost_trans (cost_sum (path_cost ups) (cost_sum e (path_cost legs))) _ c sum le) in
+          subst (λ q. IsAtMost q c) swap' (IsAtMost_trans (cost_sum (path_cost ups) (cost_sum e (path_cost legs))) _ c sum le) in
           IsBelow_not _ c (below_then _ _ c less sum') (subst (IsAtMost c) swap ge)
 
       -- the path from s costs at most c
@@ -94,7 +94,7 @@ module _ (g : Network) (H : Levels) (k : HasWalks g H) (s t : ℕ) (best_up queu
       settled_down : (a : Cost) × IsSettled best_down queue_down m a × IsAtMost a (path_cost downs)
       settled_down =
           matched H.down t (IdleDown g t) best_down queue_down down m (path_cost downs) (let w = low_down.0 in omega arith)
-            (above queue_down past_down (path_cost downs) low_down) avoids_down downs fall (IsAtMost_refl (path_cost downs))
+          (above queue_down past_down (path_cost downs) low_down) avoids_down downs fall (IsAtMost_refl (path_cost downs))
 
       -- so the least is c, at a node no later than m
       tight : (e : Cost × ℕ) × (least ≡ Some e) × (e.0 ≡ c) × (e.1 ≤ m)

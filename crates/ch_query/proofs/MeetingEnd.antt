@@ -63,9 +63,9 @@ SearchBy H side s stalls best queue = IsSearch (rows_of H side) s (IsStalled (ro
 by_parts : (H : Levels) (x : Search) (side : Side) (s : ℕ) → IsUnderway H x → x.side ≡ side → x.source ≡ s → x.stalls ≡ true →
     SearchBy H side s true x.costs.items x.queue
 unfolding SearchBy
-by_parts H x side s u a b d = 
+by_parts H x side s u a b d =
     subst (λ q. SearchBy H side s q x.costs.items x.queue) d (subst (λ q. SearchBy H side q x.stalls x.costs.items x.queue) b
-      (subst (λ q. SearchBy H q x.source x.stalls x.costs.items x.queue) a u.search))
+    (subst (λ q. SearchBy H q x.source x.stalls x.costs.items x.queue) a u.search))
 
 module _ (g : Network) (H : Levels) (k : HasWalks g H) (x y : Search) (s t : ℕ) (least : Option (Cost × ℕ)) (m : AreMeeting H x y least) (up : x.side ≡ Up)
     (down : y.side ≡ Down) (xs : x.source ≡ s) (yt : y.source ≡ t)
@@ -83,8 +83,7 @@ module _ (g : Network) (H : Levels) (k : HasWalks g H) (x y : Search) (s t : ℕ
   -- the known sum is that of paths from s and t
   found : IsFound H s t least
   found e is =
-      let f = m.found e is in
-      (
+      let f = m.found e is in (
         f.0,
         f.1,
         subst (λ q. IsReached H.up q e.1 f.0) xs (subst (λ q. IsReached (rows_of H q) x.source e.1 f.0) up f.2),
@@ -94,9 +93,9 @@ module _ (g : Network) (H : Levels) (k : HasWalks g H) (x y : Search) (s t : ℕ
 
   -- the least sum is at the meet, and where there is none no node is reached from both
   pub meeting_least : MatchOption least (NeverMeets H s t) (λ e. IsMeet H s t e.1 e.0)
-  meeting_least = 
+  meeting_least =
       by_cases least (end_some g H k s t _ _ _ _ least search_up search_down m.seen found past_here past_there)
-        (end_none g H k s t _ _ _ _ least search_up search_down m.seen found past_here past_there)
+      (end_none g H k s t _ _ _ _ least search_up search_down m.seen found past_here past_there)
     where
       by_cases : (o : Option (Cost × ℕ)) → ((e : Cost × ℕ) → o ≡ Some e → IsMeet H s t e.1 e.0) → (o ≡ None → NeverMeets H s t) →
           MatchOption o (NeverMeets H s t) (λ e. IsMeet H s t e.1 e.0)

@@ -198,7 +198,7 @@ avoids_inner rows Idle w m b c tail path le avoids y e legs idle p low =
     avoids y e (legs ++ tail) idle (path_append rows y w m legs tail p path)
     (subst (λ q. IsAtMost q c) (sym (ap (cost_sum e) (path_cost-append legs tail) ∙ sym (cost_sum_assoc e (path_cost legs) (path_cost tail))))
     (IsAtMost_trans (cost_sum (cost_sum e (path_cost legs)) (path_cost tail)) (cost_sum b (path_cost tail)) c
-        (IsAtMost-cost_sum (cost_sum e (path_cost legs)) b (path_cost tail) (path_cost tail) low (IsAtMost_refl (path_cost tail))) le))
+    (IsAtMost-cost_sum (cost_sum e (path_cost legs)) b (path_cost tail) (path_cost tail) low (IsAtMost_refl (path_cost tail))) le))
 
 -- two least costs are equal
 least_same : (rows : List (List Leg)) (a x : ℕ) (d e : Cost) → IsLeastUpwardPath rows a x d → IsLeastUpwardPath rows a x e → d ≡ e
@@ -249,7 +249,7 @@ module _ (rows : List (List Leg)) (s : ℕ) (Idle : ℕ → Cost → Type 0) (be
             let is : cost_sum b k.cost ≡ e = least_same rows s x _ e last.4 tight in
             let on : IsUpwardPath rows w m (k ∷ tail) = (last.0, subst (λ z. IsUpwardPath rows z m tail) (sym last.1) path) in
             let total : cost_sum b (path_cost (k ∷ tail)) ≡ cost_sum e (path_cost tail) =
-                ap (cost_sum b) (path_cost-cons k tail) ∙ sym (cost_sum_assoc b k.cost (path_cost tail)) ∙ ap (λ z. cost_sum z (path_cost tail)) is in
+            ap (cost_sum b) (path_cost-cons k tail) ∙ sym (cost_sum_assoc b k.cost (path_cost tail)) ∙ ap (λ z. cost_sum z (path_cost tail)) is in
             let low : IsAtMost (cost_sum b (path_cost (k ∷ tail))) c = subst (λ z. IsAtMost z c) (sym total) le in
             let under : IsAtMost b c = IsAtMost_trans b (cost_sum b (path_cost (k ∷ tail))) c (IsAtMost-cost_sum_self b (path_cost (k ∷ tail))) low in
             let r = matched rows s Idle best queue p w b last.3.weight (λ y d key. then_below b c d under (past y d key)) (avoids_inner rows Idle w m b c (k ∷ tail) on low avoids)

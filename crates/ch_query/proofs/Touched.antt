@@ -119,9 +119,9 @@ module _ (best : List (Option Cost)) (touched touched' : Vec ℕ Global) (t : Is
     listed = λ v k. elim (cases_eq v w) [
       | inl is ↦ absurd (false≢true (sym (ap is_some (ap (λ q. cost_at (set best w None) q) is ∙ get_or-set_same best w None None last_within)) ∙ k))
       | inr ne ↦ elim (Contains-push_cases touched'.items w v (subst (λ xs. Contains xs v) items (t.listed v (sym (ap is_some (get_or-set_other best w v None None ne)) ∙ k)))) [
-          | inl old ↦ old
-          | inr is ↦ absurd (ne (sym is))
-        ]
+        | inl old ↦ old
+        | inr is ↦ absurd (ne (sym is))
+      ]
     ];
     distinct = λ i j d lt within.
         let n = length-append touched'.items (w ∷ []) in

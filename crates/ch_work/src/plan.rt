@@ -69,6 +69,9 @@ mod tests {
     #[test]
     fn a_plan_gives_its_numbers_back(rt: HostRuntime) {
         let plan = Plan::new(64, 1_048_576, 0);
-        assert_eq!(rt; (plan.workers(), plan.piece(), plan.wide()), (64, 1_048_576, 0));
+        assert_eq!(rt;
+            (plan.workers(), plan.piece(), plan.wide()),
+            (64, 1_048_576, 0)
+        );
     }
 }

@@ -19,6 +19,6 @@ answered g queries i d before after weight within text is grown =
     let more : IsDistanceText g (take i queries ++ query ∷ []) after = (
       text.0 ++ answer ∷ [],
       all_zipped_more (Answers g) (take i queries) text.0 query answer text.1 (record { from = refl; to = refl; weight = is }),
-      grown ∙ ap (λ (t : List ℕ). t ++ answer_text answer) text.2 ∙ flat_map_more answer_text [] text.0 answer
+      grown ∙ ap (λ (t : List ℕ). t ++ answer_text answer) text.2 ∙ flat_map_more answer_text [] text.0 answer,
     ) in
     subst (λ qs. IsDistanceText g qs after) (sym (take_more queries i d within)) more

@@ -41,27 +41,19 @@ pub fn run_dist<I: Input, J: Input, O: Output, G: Gate>(
     requires hops { IsHopBound options.now.hops }
 
     // What is written is the text that answers what was read: all of it, or its first bytes.
-    ensures written {
-        let graph_read : Reading = record { before = I.left graph.old; after = I.left graph.new } in
+    ensures written { let graph_read : Reading = record { before = I.left graph.old; after = I.left graph.new } in
         let queries_read : Reading = record { before = J.left queries.old; after = J.left queries.new } in
-        OnOk result ((text : List ℕ) × IsAnsweredBy graph_read queries_read text × HasTaken (O.taken output.old) (O.taken output.new) text)
-    }
-    ensures cut {
-        let graph_read : Reading = record { before = I.left graph.old; after = I.left graph.new } in
+        OnOk result ((text : List ℕ) × IsAnsweredBy graph_read queries_read text × HasTaken (O.taken output.old) (O.taken output.new) text) }
+    ensures cut { let graph_read : Reading = record { before = I.left graph.old; after = I.left graph.new } in
         let queries_read : Reading = record { before = J.left queries.old; after = J.left queries.new } in
-        (count : ℕ) → result ≡ Err (RunFault.Write count) → (text : List ℕ) × IsAnsweredBy graph_read queries_read text × (count < length text) × HasTaken (O.taken output.old) (O.taken output.new) (take count text)
-    }
+        (count : ℕ) → result ≡ Err (RunFault.Write count) → (text : List ℕ) × IsAnsweredBy graph_read queries_read text × (count < length text) × HasTaken (O.taken output.old) (O.taken output.new) (take count text) }
 
     // A file is refused for its own fault.
-    ensures graph_refused {
-        let graph_read : Reading = record { before = I.left graph.old; after = I.left graph.new } in
-        (fault : FaultAt) → result ≡ Err (RunFault.Graph fault) → IsGraphRefused graph_read fault
-    }
-    ensures queries_refused {
-        let graph_read : Reading = record { before = I.left graph.old; after = I.left graph.new } in
+    ensures graph_refused { let graph_read : Reading = record { before = I.left graph.old; after = I.left graph.new } in
+        (fault : FaultAt) → result ≡ Err (RunFault.Graph fault) → IsGraphRefused graph_read fault }
+    ensures queries_refused { let graph_read : Reading = record { before = I.left graph.old; after = I.left graph.new } in
         let queries_read : Reading = record { before = J.left queries.old; after = J.left queries.new } in
-        (fault : FaultAt) → result ≡ Err (RunFault.Queries fault) → (g : Network) × ReadsGraph graph_read g × IsQueriesRefused queries_read g.nodes fault
-    }
+        (fault : FaultAt) → result ≡ Err (RunFault.Queries fault) → (g : Network) × ReadsGraph graph_read g × IsQueriesRefused queries_read g.nodes fault }
 
     // A device's fault is told exactly where the device counted one.
     ensures graph_device { (result ≡ Err (RunFault.Device Which.Graph)) ↔ (I.failed graph.old < I.failed graph.new) }

@@ -1,5 +1,6 @@
 //! Runs over devices in memory: worked files and their texts, each refusal, and devices that fail.
-ghost use Rattle.std.specs.Prelude.{◌≡◌};
+ghost use Rattle.std.specs.Prelude.{◌≡◌, false};
+ghost use Rattle.ch_contract.specs.Legs.{IsHopBound};
 
 use super::run_dist;
 use crate::device::{Input, MemoryInput, MemoryOutput, Output};
@@ -11,15 +12,23 @@ use std::alloc::{AllocError, Global};
 use std::process::Abort;
 use std::test::Fail;
 
-const OPTIONS: Options = Options {
+const PLAIN: Options = Options {
     plain: true,
+    routes: false,
+    hops: 5,
+};
+
+const BY_HIERARCHY: Options = Options {
+    plain: false,
     routes: false,
     hops: 5,
 };
 
 /// The three-node graph, the queries there and back, and their answers.
 const LINE: &[u8] = b"p sp 3 2\na 1 2 4\na 2 3 5\n";
+
 const THERE_AND_BACK: &[u8] = b"p aux sp p2p 2\nq 1 3\nq 3 1\n";
+
 const ANSWERS: &[u8] = b"d 1 3 9\nd 3 1 -\n";
 
 /// The answer of a run over these files, and what it wrote.
@@ -27,14 +36,18 @@ fn run(
     alloc: Global,
     graph: &[u8],
     queries: &[u8],
-) -> Result<(Result<(), RunFault>, MemoryOutput), AllocError> {
+    options: &Options,
+) -> Result<(Result<(), RunFault>, MemoryOutput), AllocError>
+    requires routes { options.now.routes ≡ false }
+    requires hops { IsHopBound options.now.hops }
+{
     let mut output = MemoryOutput::new(alloc, 4096, 4096)?;
     let result = run_dist(
         alloc,
         &mut MemoryInput::new(graph, 4096),
         &mut MemoryInput::new(queries, 4096),
         &mut output,
-        &OPTIONS,
+        options,
         &Plan::new(1, 64, 64),
         &Open,
     );
@@ -47,7 +60,7 @@ fn refused(line: u64, kind: FaultKind) -> ReadFault {
 
 #[test]
 fn answers_queries_in_order(rt: HostRuntime) -> Result<(), Fail> {
-    let cases: [(&[u8], &[u8], &[u8]); 10] = [
+    let cases: [(&[u8], &[u8], &[u8]); 13] = [
         (LINE, THERE_AND_BACK, ANSWERS),
         (b"p sp 0 0\n", b"p aux sp p2p 0\n", b""),
         (
@@ -76,6 +89,17 @@ fn answers_queries_in_order(rt: HostRuntime) -> Result<(), Fail> {
             b"d 1 3 0\n",
         ),
         (
+            b"p sp 4 4\na 1 2 1\na 2 4 1\na 1 3 1\na 3 4 1\n",
+            b"p aux sp p2p 1\nq 1 4\n",
+            b"d 1 4 2\n",
+        ),
+        (
+            b"p sp 5 5\na 1 2 1\na 2 3 1\na 3 4 1\na 4 5 1\na 5 1 1\n",
+            b"p aux sp p2p 4\nq 5 4\nq 1 5\nq 3 2\nq 2 2\n",
+            b"d 5 4 4\nd 1 5 4\nd 3 2 4\nd 2 2 0\n",
+        ),
+        (b"p sp 1 0\n", b"p aux sp p2p 1\nq 1 1\n", b"d 1 1 0\n"),
+        (
             b"p sp 2 1\na 1 2 576460752303423488\n",
             b"p aux sp p2p 1\nq 1 2\n",
             b"d 1 2 576460752303423488\n",
@@ -92,7 +116,10 @@ fn answers_queries_in_order(rt: HostRuntime) -> Result<(), Fail> {
         ),
     ];
     for (graph, queries, text) in cases {
-        let (result, output) = run(rt.alloc(), graph, queries)?;
+        let (result, output) = run(rt.alloc(), graph, queries, &PLAIN)?;
+        assert_eq!(rt; result, Ok(()));
+        assert_eq!(rt; output.bytes(), text);
+        let (result, output) = run(rt.alloc(), graph, queries, &BY_HIERARCHY)?;
         assert_eq!(rt; result, Ok(()));
         assert_eq!(rt; output.bytes(), text);
     }
@@ -130,7 +157,7 @@ fn refuses_the_first_fault_and_writes_nothing(rt: HostRuntime) -> Result<(), Fai
         (b"", b"", RunFault::Graph(refused(1, FaultKind::NoProblem))),
     ];
     for (graph, queries, fault) in cases {
-        let (result, output) = run(rt.alloc(), graph, queries)?;
+        let (result, output) = run(rt.alloc(), graph, queries, &PLAIN)?;
         assert_eq!(rt; result, Err(fault));
         assert_eq!(rt; output.bytes(), b"".as_slice());
     }
@@ -147,7 +174,7 @@ fn run_into(alloc: Global, output: &mut MemoryOutput) -> Result<(), RunFault>
         &mut MemoryInput::new(LINE, 64),
         &mut MemoryInput::new(THERE_AND_BACK, 64),
         output,
-        &OPTIONS,
+        &PLAIN,
         &Plan::new(1, 64, 64),
         &Open,
     )
@@ -189,7 +216,7 @@ fn run_from<'a>(
         graph,
         queries,
         &mut output,
-        &OPTIONS,
+        &PLAIN,
         &Plan::new(1, 64, 64),
         &Open,
     ))
@@ -213,7 +240,10 @@ fn judges_the_graph_before_it_reads_the_queries(rt: HostRuntime) -> Result<(), F
     let mut graph = MemoryInput::new(b"p sp 2 1\na 1 3 5\n", 64);
     let mut queries = MemoryInput::new(THERE_AND_BACK, 64).failing_after(0);
     let result = run_from(rt.alloc(), &mut graph, &mut queries)?;
-    assert_eq!(rt; result, Err(RunFault::Graph(refused(2, FaultKind::NodeRange))));
+    assert_eq!(rt;
+        result,
+        Err(RunFault::Graph(refused(2, FaultKind::NodeRange)))
+    );
     assert_eq!(rt; queries.failures(), 0);
     Ok(())
 }

@@ -20,7 +20,7 @@ pub loop-from-preserved : goal.loop-from-preserved
 loop-from-preserved g c = record {
   answered = answered c.args.graph.now c.args.queries.now c.loop-from.from-index (0, 0) _ _ c.distance-weight.result c.loop-from-test.true c.loop-from.invariant.answered
       (c.distance-weight.ensures.distance c.args.graph.now c.build.ensures.limits c.in_ok-hierarchy.ensures.kept) c.in_ok-push_answer.ensures;
-  room = c.distance-weight.ensures.scratch ∙ c.loop-from.invariant.room
+  room = c.distance-weight.ensures.scratch ∙ c.loop-from.invariant.room;
 }
 
 pub returns : goal.returns

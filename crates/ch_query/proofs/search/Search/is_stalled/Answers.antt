@@ -15,7 +15,7 @@ index-requires c =
     let a = c.args in
     let legs = c.legs-leg-items in
     let back = back_leg a.hierarchy.now a.self.now a.node a.cost c.requires.expanding c.other.result legs.result.now c.loop-leg.leg-index blank
-        c.other.ensures legs.ensures.row c.loop-leg-test.true in
+    c.other.ensures legs.ensures.row c.loop-leg-test.true in
     let within = back.within in
     let ok = a.self.now.costs.ok in
     omega arith
@@ -26,7 +26,7 @@ plus-requires-clause-weights c =
     let a = c.args in
     let legs = c.legs-leg-items in
     let back = back_leg a.hierarchy.now a.self.now a.node a.cost c.requires.expanding c.other.result legs.result.now c.loop-leg.leg-index blank
-        c.other.ensures legs.ensures.row c.loop-leg-test.true in
+    c.other.ensures legs.ensures.row c.loop-leg-test.true in
     (back_sum a.hierarchy.now a.self.now a.node a.cost c.requires.expanding _ _ back (sym (read _ _ _ back.within c.index.ensures) ∙ c.in-Some.is)).0
 
 pub plus-requires-clause-arcs : goal.plus-requires-clause-arcs
@@ -35,7 +35,7 @@ plus-requires-clause-arcs c =
     let a = c.args in
     let legs = c.legs-leg-items in
     let back = back_leg a.hierarchy.now a.self.now a.node a.cost c.requires.expanding c.other.result legs.result.now c.loop-leg.leg-index blank
-        c.other.ensures legs.ensures.row c.loop-leg-test.true in
+    c.other.ensures legs.ensures.row c.loop-leg-test.true in
     (back_sum a.hierarchy.now a.self.now a.node a.cost c.requires.expanding _ _ back (sym (read _ _ _ back.within c.index.ensures) ∙ c.in-Some.is)).1
 
 pub returns-then-is_below : goal.returns-then-is_below
@@ -44,7 +44,7 @@ returns-then-is_below c =
     let a = c.args in
     let legs = c.legs-leg-items in
     let back = back_leg a.hierarchy.now a.self.now a.node a.cost c.requires.expanding c.other.result legs.result.now c.loop-leg.leg-index blank
-        c.other.ensures legs.ensures.row c.loop-leg-test.true in
+    c.other.ensures legs.ensures.row c.loop-leg-test.true in
     let known = sym (read _ _ _ back.within c.index.ensures) ∙ c.in-Some.is in
     λ _. stalls_idle a.hierarchy.now a.self.now a.node a.cost c.requires.expanding _ c.in-Some.known c.requires.stalls back known
     (subst (λ q. IsBelow q a.cost) c.plus.ensures (c.is_below.ensures.0 c.if-is_below.true))

@@ -15,7 +15,7 @@ returns-clause-touched c =
     elim c.if-is_none.branch [
       | then-is_none w ↦ subst (λ (q : Search). IsTouched (set q.costs.items c.args.node (Some c.args.cost)) q.touched) (sym w.self-is)
           (touched_more _ _ c.requires.room.touched _ c.requires.node c.args.cost w.push_reserved.new.self
-            (known ∙ w.if-is_none.ensures) w.push_reserved.ensures.items w.push_reserved.ensures.len w.push_reserved.ensures.capacity)
+          (known ∙ w.if-is_none.ensures) w.push_reserved.ensures.items w.push_reserved.ensures.len w.push_reserved.ensures.capacity)
       | else-is_none w ↦ subst (λ (q : Search). IsTouched (set q.costs.items c.args.node (Some c.args.cost)) q.touched) (sym w.self-is)
           (touched_same _ _ c.requires.room.touched _ c.requires.node c.args.cost (known ∙ w.if-is_none.ensures))
     ]
