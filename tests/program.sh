@@ -49,8 +49,23 @@ refused() {
 
 for example in first liechtenstein; do
   files=("$root/examples/$example.gr" "$root/examples/$example.p2p")
-  expect "example $example" 0 "$(python3 "$root/tests/dijkstra.py" "${files[@]}")" "" dist --plain "${files[@]}"
+  answers=$(python3 "$root/tests/dijkstra.py" "${files[@]}")
+  expect "example $example" 0 "$answers" "" dist "${files[@]}"
+  expect "example $example, plain" 0 "$answers" "" dist --plain "${files[@]}"
 done
+
+python3 -c '
+import random
+draw = random.Random("two hundred queries")
+print("p aux sp p2p 200")
+for _ in range(200):
+    print("q", draw.randint(1, 3192), draw.randint(1, 3192))
+' >many.p2p
+files=("$root/examples/liechtenstein.gr" many.p2p)
+answers=$(python3 "$root/tests/dijkstra.py" "${files[@]}")
+expect "two hundred queries" 0 "$answers" "" dist "${files[@]}"
+expect "two hundred queries, plain" 0 "$answers" "" dist --plain "${files[@]}"
+expect "two hundred queries, at most one hop" 0 "$answers" "" dist --hops 1 "${files[@]}"
 
 g=$root/examples/first.gr
 q=$root/examples/first.p2p
@@ -75,6 +90,7 @@ compare "a closed pipe, standard error" "chtab: cannot write after 0 bytes" "$(c
 expect_words "help" 0 out "chtab dist" --help
 expect_words "help of dist" 0 out "GRAPH" dist --help
 expect_words "an unknown option" 2 err "--fast" dist --fast "$g" "$q"
+expect_words "too many hops" 2 err "17" dist --hops 17 "$g" "$q"
 expect_words "no subcommand" 2 err "subcommand"
 expect_words "a missing argument" 2 err "QUERIES" dist --plain "$g"
 expect_words "a word that is no UTF-8" 2 err "" dist --plain "$g" $'\xff'
