@@ -1,9 +1,7 @@
 -- What the program says of a fault.
 use Rattle.std.specs.Prelude.{ℕ, List, codes}
 use Rattle.chtab.specs.declared.fault.RunFault.{RunFault}
-use Rattle.chtab.specs.declared.fault.RunFault.TheVariants as RunFault
 use Rattle.chtab.specs.declared.fault.Which.{Which}
-use Rattle.chtab.specs.declared.fault.Which.TheVariants as Which
 
 -- the word for an input
 abbrev pub input_name : Which → List ℕ

@@ -1,5 +1,5 @@
 -- What a run owes: the text that answers the bytes which it was given, or the fault of these bytes.
-use Rattle.std.specs.Prelude.{◌≡◌, ℕ, List, Option, ⊤}
+use Rattle.std.specs.Prelude.{ℕ, List, Option, ⊤}
 use Rattle.ch_graph.specs.Graph.{Network}
 use Rattle.ch_read.specs.declared.fault.ReadFault.{ReadFault}
 use Rattle.ch_read.specs.declared.form.Form.TheVariants as Form
@@ -7,7 +7,6 @@ use Rattle.ch_read.specs.Checks.{IsFault}
 use Rattle.ch_read.specs.Names.{NamesGraph, NamesQueries}
 use Rattle.chtab.specs.declared.fault.Which.TheVariants as Which
 use Rattle.chtab.specs.declared.fault.RunFault.{RunFault}
-use Rattle.chtab.specs.declared.fault.RunFault.TheVariants as RunFault
 use Rattle.chtab.specs.Device.{HasGiven}
 use Rattle.chtab.specs.Text.{IsDistanceText}
 

@@ -128,9 +128,14 @@ fn answers_queries_in_order(rt: HostRuntime) -> Result<(), Fail> {
 
 #[test]
 fn refuses_the_first_fault_and_writes_nothing(rt: HostRuntime) -> Result<(), Fail> {
-    let cases: [(&[u8], &[u8], RunFault); 6] = [
+    let cases: [(&[u8], &[u8], RunFault); 9] = [
         (
             b"p sp 2 1\na 1 2 576460752303423489\n",
+            THERE_AND_BACK,
+            RunFault::Graph(refused(2, FaultKind::Sum)),
+        ),
+        (
+            b"p sp 1 1\na 1 1 1152921504606846977\n",
             THERE_AND_BACK,
             RunFault::Graph(refused(2, FaultKind::Sum)),
         ),
@@ -138,6 +143,16 @@ fn refuses_the_first_fault_and_writes_nothing(rt: HostRuntime) -> Result<(), Fai
             b"p sp 2 1\na 1 3 5\n",
             THERE_AND_BACK,
             RunFault::Graph(refused(2, FaultKind::NodeRange)),
+        ),
+        (
+            b"p sp 2 1\na 1 x 5\n",
+            THERE_AND_BACK,
+            RunFault::Graph(refused(2, FaultKind::BadLine)),
+        ),
+        (
+            b"p sp 3 2\na 1 2 4\n",
+            THERE_AND_BACK,
+            RunFault::Graph(refused(3, FaultKind::TooFew)),
         ),
         (
             b"p sp 3 2\na 1 2 4\na 2 3 5\na 3 1 1\n",

@@ -1,7 +1,6 @@
 use Rattle.std.proofs.Common.{◌≡◌, Err, refl, subst}
 use Rattle.ch_read.specs.declared.form.Form.TheVariants.{Queries}
 use Rattle.ch_read.specs.declared.fault.ReadError.TheVariants.{Fault}
-use Rattle.ch_read.specs.Answers.{seen_by_items}
 use Rattle.ch_read.specs.Checks.{IsFault}
 use Rattle.ch_read.specs.Names.{NamesQueries}
 use Rattle.chtab.proofs.run.queries_from.Goals as goal
