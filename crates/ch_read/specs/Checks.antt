@@ -79,11 +79,15 @@ line_checks form seen count ws =
 
 -- the checks after the last line
 abbrev pub end_checks : Option Heading → ℕ → List Check
-end_checks seen count = (is_some seen, NoProblem) ∷ (passes (λ h. nat_le h.items count) seen, TooFew) ∷ []
+end_checks seen count =
+    (is_some seen, NoProblem)
+    ∷ (passes (λ h. nat_le h.items count) seen, TooFew)
+    ∷ []
 
 -- the fault of this line, judged from the lines before it
 abbrev pub line_fault : Form → List (List ℕ) → List ℕ → Option FaultKind
-line_fault form before line = first_failing (line_checks form (heading_in form before) (length (items_in form before)) (words line))
+line_fault form before line =
+    first_failing (line_checks form (heading_in form before) (length (items_in form before)) (words line))
 
 -- the fault after all lines
 abbrev pub end_fault : Form → List (List ℕ) → Option FaultKind
@@ -91,7 +95,8 @@ end_fault form all = first_failing (end_checks (heading_in form all) (length (it
 
 -- the fault of the line at place i, or that after the last line
 abbrev pub fault_at : Form → List (List ℕ) → ℕ → Option FaultKind
-fault_at form all i = if nat_lt i (length all) then line_fault form (take i all) (slice_index_or all i []) else end_fault form all
+fault_at form all i =
+    if nat_lt i (length all) then line_fault form (take i all) (slice_index_or all i []) else end_fault form all
 
 -- no line has a fault, nor has the end
 abbrev pub IsAccepted : Form → List ℕ → Type 0

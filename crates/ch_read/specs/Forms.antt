@@ -57,7 +57,8 @@ heading_from (Nodes n) ns = record { nodes = n; items = slice_index ns 0 }
 
 -- what a line of these words declares, where it is a problem line
 abbrev pub heading : Form → List (List ℕ) → Option Heading
-heading form ws = option_map (heading_from form) (numbers_after (codes "p" ∷ problem_words form) (problem_size form) ws)
+heading form ws =
+    option_map (heading_from form) (numbers_after (codes "p" ∷ problem_words form) (problem_size form) ws)
 
 -- the numbers of a line of these words, where it is an item line
 abbrev pub item : Form → List (List ℕ) → Option (List ℕ)

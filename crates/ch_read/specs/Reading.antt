@@ -64,9 +64,12 @@ pub record IsItem (form : Form) (seen : Option Heading) (count : ℕ) (ws : List
 
 -- a line that passes its checks, and what it holds
 abbrev pub IsLine : Form → Option Heading → ℕ → List (List ℕ) → Line → Type 0
-IsLine form seen count ws Skipped = (first_failing (line_checks form seen count ws) ≡ None) × (heading form ws ≡ None) × (item form ws ≡ None)
-IsLine form seen count ws (Problem h) = (first_failing (line_checks form seen count ws) ≡ None) × IsProblem form seen ws h × (item form ws ≡ None)
-IsLine form seen count ws (AnItem i) = (first_failing (line_checks form seen count ws) ≡ None) × (heading form ws ≡ None) × IsItem form seen count ws i
+IsLine form seen count ws Skipped =
+    (first_failing (line_checks form seen count ws) ≡ None) × (heading form ws ≡ None) × (item form ws ≡ None)
+IsLine form seen count ws (Problem h) =
+    (first_failing (line_checks form seen count ws) ≡ None) × IsProblem form seen ws h × (item form ws ≡ None)
+IsLine form seen count ws (AnItem i) =
+    (first_failing (line_checks form seen count ws) ≡ None) × (heading form ws ≡ None) × IsItem form seen count ws i
 
 -- the end passes its checks, after this heading
 abbrev pub IsEnd : Option Heading → ℕ → Heading → Type 0

@@ -29,7 +29,8 @@ pub fn read_graph(alloc: Global, bytes: &[u8]) -> Result<Graph, ReadError>
 }
 
 impl FromItem for InArc {
-    ghost from_item_gives = { λ item. record { from = item.first; to = item.second; weight = item.weight } };
+    ghost from_item_gives = { λ item.
+        record { from = item.first; to = item.second; weight = item.weight } };
 
     fn from_item(item: Item) -> InArc {
         InArc {
