@@ -1,19 +1,21 @@
 -- What opening a construction and one step of it give, from what their calls give.
-use Rattle.std.proofs.Common.{◌≡◌, ℕ, ◌+◌, ◌^◌, ◌<◌, ◌≤◌, List, length, get_or, replicate, sym, ◌∙◌, ap, subst, arith, inl, inr, Contains, length-set}
-use Rattle.std.specs.Prelude.{slice_index, slice_set, All}
+use Rattle.std.proofs.Common.{◌≡◌, ℕ, zero, suc, Bool, true, false, not, map, refl, ◌+◌, ◌*◌, ◌^◌, ◌<◌, ◌≤◌, List, length, get_or, replicate, sym, ◌∙◌, ap, subst, arith, inl, inr, Contains, length-append, length-set}
+use Rattle.std.specs.Prelude.{slice_index, slice_set, All, filter, is_some, if◌then◌else◌}
 use Rattle.std.proofs.lemmas.Bool.{cases_lt}
-use Rattle.std.proofs.lemmas.List.{get_or_past, get_or-replicate, length-replicate}
+use Rattle.std.proofs.lemmas.List.{get_or_past, get_or-replicate, length-replicate, length-map}
+use Rattle.std.proofs.lemmas.List.Filters.{length-filter_both}
 use Rattle.std.proofs.lemmas.List.Elements.{Contains-get_or}
 use Rattle.ch_graph.specs.Graph.{Network}
 use Rattle.ch_contract.specs.declared.leg.Leg.{Leg}
 use Rattle.ch_contract.specs.declared.construction.Construction.{Construction}
 use Rattle.ch_contract.specs.Legs.{Legs, SameLegs, AreLegsWithin, opening}
-use Rattle.ch_contract.specs.Contraction.{Contracts, IsPriority}
+use Rattle.ch_contract.specs.Contraction.{Contracts, IsPriority, count_below}
 use Rattle.ch_contract.specs.Rows.{AreLegsFrom, AreLegsTo}
 use Rattle.ch_contract.specs.Remaining.{legs_of}
-use Rattle.ch_contract.specs.Priorities.{ArePriorities, AreRefreshed, neighbours_in, priority_at}
+use Rattle.ch_contract.specs.Priorities.{ArePriorities, AreRefreshed, has_node, neighbours_in, priority_at}
 use Rattle.ch_contract.specs.Construction.{levels_of, IsSized, IsOpen, IsStep}
 use Rattle.ch_contract.proofs.OneOrder.{one_map}
+use Rattle.ch_contract.proofs.Counts.{rows_touching}
 use Rattle.ch_contract.proofs.Neighbours.{neighbour_listed, not_listed, neighbour_within}
 
 -- where each level is 0, all nodes are left
@@ -93,3 +95,32 @@ stepped h before v up down after sizes room s =
 pub neighbours_within : (n : ℕ) (L : Legs) (v : ℕ) (up down : List Leg) (list : List ℕ) → AreLegsFrom L v up → AreLegsTo L v down → AreLegsWithin n L → list ≡ neighbours_in up down → All (λ x. x < n) list
 neighbours_within n L v up down list from to within e k d lt =
     neighbour_within L v up down from to n (get_or list k d) within (subst (λ l. Contains l (get_or list k d)) e (Contains-get_or list k d lt))
+
+-- no more numbers below n pass than there are
+count_most : (n : ℕ) (p : ℕ → Bool) → count_below n p ≤ n
+count_most zero p = omega arith
+count_most (suc n) p = omega (arith, count_most n p, one (p n))
+  where
+    one : (b : Bool) → (if b then 1 else 0) ≤ 1
+    one true = omega arith
+    one false = omega arith
+
+-- there are at most two neighbours for each node
+pub neighbours_count : (n v : ℕ) (L : Legs) (up down : List Leg) (list : List ℕ) →
+    AreLegsWithin n L → AreLegsFrom L v up → AreLegsTo L v down → list ≡ neighbours_in up down → length list ≤ 2 * n
+neighbours_count n v L up down list within from to e =
+    let other : Leg → Bool = λ l. not (has_node up l.node) in
+    let others = filter other down in
+    let few : length others ≤ length down = omega (arith, length-filter_both other (λ l. not (other l)) (λ l. refl) down) in
+    let ends : Leg → ℕ = λ l. l.node in
+    omega (
+      arith,
+      few,
+      ap length e,
+      length-append (map ends up) (map ends others),
+      length-map up ends,
+      length-map others ends,
+      rows_touching n v L up down within from to,
+      count_most n (λ x. is_some (L v x)),
+      count_most n (λ x. is_some (L x v)),
+    )

@@ -1,12 +1,28 @@
 -- Priorities that are computed one after the other.
-use Rattle.std.proofs.Common.{◌≡◌, ℕ, ◌+◌, ◌<◌, List, [], ◌∷◌, ◌++◌, length, get_or, set, take, sym, ◌∙◌, subst, arith, inl, inr, Contains, length-set, get_or-set_same, get_or-set_other}
-use Rattle.std.specs.Prelude.{◌≢◌, ℤ, pos}
+use Rattle.std.proofs.Common.{◌≡◌, ℕ, zero, suc, ◌+◌, ◌<◌, List, [], ◌∷◌, ◌++◌, length, get_or, set, take, sym, ◌∙◌, subst, arith, inl, inr, Contains, length-set, get_or-set_same, get_or-set_other}
+use Rattle.std.specs.Prelude.{◌≢◌, All, ℤ, pos}
 use Rattle.std.proofs.lemmas.Bool.{cases_eq}
-use Rattle.std.proofs.lemmas.List.{take_more, get_or_append_left, get_or_push}
+use Rattle.std.proofs.lemmas.List.{take_more}
 use Rattle.std.proofs.lemmas.List.Elements.{Contains-append_left, Contains-push, Contains-push_cases}
 use Rattle.ch_contract.specs.Legs.{Legs}
 use Rattle.ch_contract.specs.Contraction.{IsPriority}
-use Rattle.ch_contract.specs.Priorities.{priority_at, AreRefreshed}
+use Rattle.std.specs.List.{AllZip, range_with_len}
+use Rattle.std.proofs.lemmas.List.FromFn.{length-range_with_len, get_or-range_with_len}
+use Rattle.std.proofs.lemmas.Slice.Zip.{AllZip-long}
+use Rattle.ch_contract.specs.Priorities.{priority_at, ArePriorities, ArePrioritiesOf, AreRefreshed}
+
+-- what relates two lists place by place, at one place
+pub zipped_at : {A B : Type 0} (R : A → B → Type 0) (xs : List A) (ys : List B) (i : ℕ) (d : A) (e : B) → AllZip R xs ys → i < length xs → R (get_or xs i d) (get_or ys i e)
+zipped_at R [] ys i d e are lt = absurd (omega arith)
+zipped_at R (x ∷ xs) [] i d e are lt = absurd are
+zipped_at R (x ∷ xs) (y ∷ ys) zero d e are lt = are.0
+zipped_at R (x ∷ xs) (y ∷ ys) (suc i) d e are lt = zipped_at R xs ys i d e are.1 (omega arith)
+
+-- the numbers below n are below n
+pub numbers_below : (n : ℕ) → All (λ x. x < n) (range_with_len 0 n)
+numbers_below n k d lt =
+    let within : k < n = omega (arith, length-range_with_len 0 n) in
+    omega (arith, get_or-range_with_len 0 n k d within)
 
 module _ (n h : ℕ) (L : Legs) where
   -- the priority of one more node is computed anew
@@ -29,9 +45,11 @@ module _ (n h : ℕ) (L : Legs) where
             get_or-set_other middle v x q (pos 0) ne ∙ known.kept x (λ c. away (subst (λ l. Contains l x) (sym more) (Contains-append_left (take i nodes) (v ∷ []) x c)));
       }
 
-  -- the priority of one more node stands at the end
-  pub priorities_more : (list : List ℤ) (i : ℕ) (p q : ℤ) → length list ≡ i → q ≡ p → IsPriority n h L i p → ((x : ℕ) → x < i → IsPriority n h L x (priority_at list x)) → (x : ℕ) → x < i + 1 → IsPriority n h L x (priority_at (list ++ q ∷ []) x)
-  priorities_more list i p q size same is known x lt = elim (cases_eq x i) [
-    | inl e ↦ subst (λ z. IsPriority n h L z (priority_at (list ++ q ∷ []) z)) (sym e) (subst (IsPriority n h L i) (sym (get_or_push list q (pos 0) i size ∙ same)) is)
-    | inr ne ↦ let below : x < length list = omega arith in subst (IsPriority n h L x) (sym (get_or_append_left list (q ∷ []) (pos 0) x below)) (known x (omega arith))
-  ]
+  -- the priorities of the numbers below n, in their order, are those of all nodes
+  pub priorities_in_order : (list : List ℤ) → ArePrioritiesOf n h L (range_with_len 0 n) list → ArePriorities n h L list
+  priorities_in_order list are = record {
+    size = AllZip-long (IsPriority n h L) (range_with_len 0 n) list are ∙ length-range_with_len 0 n;
+    each = λ x lt.
+        let numbered : get_or (range_with_len 0 n) x 0 ≡ x = omega (arith, get_or-range_with_len 0 n x 0 lt) in
+        subst (λ v. IsPriority n h L v (priority_at list x)) numbered (zipped_at (IsPriority n h L) (range_with_len 0 n) list x 0 (pos 0) are (omega (arith, length-range_with_len 0 n)));
+  }

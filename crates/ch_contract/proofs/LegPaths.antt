@@ -4,10 +4,12 @@ use Rattle.std.specs.Prelude.{◌⊎◌, slice_index}
 use Rattle.std.proofs.lemmas.List.Elements.{All-contains}
 use Rattle.std.proofs.lemmas.List.Sums.{sum_by-cons, sum_by-append}
 use Rattle.ch_graph.specs.declared.cost.Cost.{Cost}
-use Rattle.ch_graph.specs.Cost.{IsAtMost, cost_sum}
+use Rattle.ch_graph.specs.Cost.{IsAtMost, cost_sum, no_cost}
 use Rattle.ch_graph.specs.Graph.{Network}
+use Rattle.ch_graph.specs.WalkLaws.{IsWalkCost}
 use Rattle.ch_graph.proofs.CostOrder.{same_costs, IsAtMost_refl}
 use Rattle.ch_graph.proofs.CostSums.{cost_sum_assoc, cost_sum_comm, cost_sum-no_cost, no_cost-cost_sum}
+use Rattle.ch_graph.proofs.WalkCosts.{IsWalkCost-no_cost, IsWalkCost-cost_sum}
 use Rattle.ch_contract.specs.declared.leg.Leg.{Leg}
 use Rattle.ch_contract.specs.Rows.{row}
 use Rattle.ch_contract.specs.Hierarchy.{Levels, IsLegUp}
@@ -21,6 +23,22 @@ path_cost-cons l legs = same_costs _ _ (sum_by-cons (λ (k : Leg). k.cost.weight
 -- the costs of two paths add up
 pub path_cost-append : (xs ys : List Leg) → path_cost (xs ++ ys) ≡ cost_sum (path_cost xs) (path_cost ys)
 path_cost-append xs ys = same_costs _ _ (sum_by-append (λ (k : Leg). k.cost.weight) xs ys) (sum_by-append (λ (k : Leg). k.cost.arcs) xs ys)
+
+-- where each leg from a node is a walk, so is each path along the rows
+pub rises_along : (g : Network) (rows : List (List Leg)) → ((v : ℕ) (l : Leg) → Contains (row rows v) l → IsWalkCost g v l.node l.cost) →
+    (a b : ℕ) (legs : List Leg) → IsUpwardPath rows a b legs → IsWalkCost g a b (path_cost legs)
+rises_along g rows walk a b [] p = subst (λ q. IsWalkCost g a q no_cost) p (IsWalkCost-no_cost g a)
+rises_along g rows walk a b (l ∷ legs) p =
+    let on = IsWalkCost-cost_sum g a l.node b l.cost (path_cost legs) (walk a l p.0) (rises_along g rows walk l.node b legs p.1) in
+    subst (IsWalkCost g a b) (sym (path_cost-cons l legs)) on
+
+-- where each leg to a node is a walk, each path along the rows is one back
+pub falls_along : (g : Network) (rows : List (List Leg)) → ((v : ℕ) (l : Leg) → Contains (row rows v) l → IsWalkCost g l.node v l.cost) →
+    (a b : ℕ) (legs : List Leg) → IsUpwardPath rows a b legs → IsWalkCost g b a (path_cost legs)
+falls_along g rows walk a b [] p = subst (λ q. IsWalkCost g q a no_cost) p (IsWalkCost-no_cost g a)
+falls_along g rows walk a b (l ∷ legs) p =
+    let back = IsWalkCost-cost_sum g b l.node a (path_cost legs) l.cost (falls_along g rows walk l.node b legs p.1) (walk a l p.0) in
+    subst (IsWalkCost g b a) (cost_sum_comm (path_cost legs) l.cost ∙ sym (path_cost-cons l legs)) back
 
 module _ (H : Levels) where
   -- the legs lead from s to t, over nodes of level k and above

@@ -1,20 +1,18 @@
 -- In a kept hierarchy each leg stands for a walk of its cost, and so does each path of legs.
-use Rattle.std.proofs.Common.{ℕ, zero, suc, ◌+◌, ◌<◌, List, [], ◌∷◌, Contains, Option, Some, None, refl, sym, ◌∙◌, ap, subst, arith, inl, inr}
+use Rattle.std.proofs.Common.{ℕ, zero, suc, ◌+◌, ◌<◌, List, Contains, Option, Some, None, refl, sym, ap, subst, arith, inl, inr}
 use Rattle.std.specs.Prelude.{◌⊎◌, slice_index}
 use Rattle.ch_graph.specs.declared.cost.Cost.{Cost}
 use Rattle.ch_graph.specs.declared.arc.InArc.{InArc}
-use Rattle.ch_graph.specs.Cost.{no_cost}
 use Rattle.ch_graph.specs.Graph.{Network}
 use Rattle.ch_graph.specs.WalkLaws.{IsWalkCost, arc_cost}
 use Rattle.ch_graph.proofs.CostOrder.{same_costs}
-use Rattle.ch_graph.proofs.CostSums.{cost_sum_comm}
-use Rattle.ch_graph.proofs.WalkCosts.{IsWalkCost-no_cost, IsWalkCost-arc, IsWalkCost-cost_sum}
+use Rattle.ch_graph.proofs.WalkCosts.{IsWalkCost-arc, IsWalkCost-cost_sum}
 use Rattle.ch_contract.specs.declared.leg.Leg.{Leg}
 use Rattle.ch_contract.specs.Rows.{row}
 use Rattle.ch_contract.specs.Hierarchy.{Levels}
 use Rattle.ch_contract.specs.Paths.{IsUpwardPath, path_cost}
 use Rattle.ch_contract.specs.Kept.{IsKept, IsLeg, IsFounded}
-use Rattle.ch_contract.proofs.LegPaths.{up_leg, down_leg, path_cost-cons}
+use Rattle.ch_contract.proofs.LegPaths.{up_leg, down_leg, rises_along, falls_along}
 
 module _ (g : Network) (H : Levels) (kept : IsKept g H) where
   -- the legs of the nodes below level n are walks
@@ -67,14 +65,8 @@ module _ (g : Network) (H : Levels) (kept : IsKept g H) where
 
   -- an upward path is a walk
   pub rises : (a b : ℕ) (legs : List Leg) → IsUpwardPath H.up a b legs → IsWalkCost g a b (path_cost legs)
-  rises a b [] p = subst (λ q. IsWalkCost g a q no_cost) p (IsWalkCost-no_cost g a)
-  rises a b (l ∷ legs) p =
-      let on = IsWalkCost-cost_sum g a l.node b l.cost (path_cost legs) (up_walk a l p.0) (rises l.node b legs p.1) in
-      subst (IsWalkCost g a b) (sym (path_cost-cons l legs)) on
+  rises = rises_along g H.up up_walk
 
   -- an upward path along the down rows is a walk back
   pub falls : (a b : ℕ) (legs : List Leg) → IsUpwardPath H.down a b legs → IsWalkCost g b a (path_cost legs)
-  falls a b [] p = subst (λ q. IsWalkCost g q a no_cost) p (IsWalkCost-no_cost g a)
-  falls a b (l ∷ legs) p =
-      let back = IsWalkCost-cost_sum g b l.node a (path_cost legs) l.cost (falls l.node b legs p.1) (down_walk a l p.0) in
-      subst (IsWalkCost g b a) (cost_sum_comm (path_cost legs) l.cost ∙ sym (path_cost-cons l legs)) back
+  falls = falls_along g H.down down_walk

@@ -1,6 +1,6 @@
 -- Each hierarchy by the rules has levels from 1 to the number of nodes, each once, and legs to higher nodes, within the limits.
-use Rattle.std.proofs.Common.{◌≡◌, ℕ, suc, zero, ◌+◌, ◌^◌, ◌<◌, ◌≤◌, Bool, true, false, cond, List, [], ◌∷◌, length, get_or, Option, Some, None, refl, sym, ◌∙◌, ap, subst, arith, inl, inr, Contains}
-use Rattle.std.specs.Prelude.{◌⊎◌, ◌≢◌, ◌==◌, ◌&&◌, ◌||◌, All, slice_index}
+use Rattle.std.proofs.Common.{◌≡◌, ℕ, suc, zero, ◌+◌, ◌^◌, ◌<◌, ◌≤◌, Bool, true, false, cond, List, [], length, get_or, Option, Some, None, refl, sym, ◌∙◌, ap, subst, arith, inl, inr, Contains}
+use Rattle.std.specs.Prelude.{◌⊎◌, ◌≢◌, ◌==◌, ◌||◌, All, slice_index}
 use Rattle.std.proofs.lemmas.Bool.{cases_eq, cases_lt}
 use Rattle.std.proofs.lemmas.Bool.Decides.{nat_tests}
 use Rattle.std.proofs.lemmas.Option.{same_Some, none-some}
@@ -9,11 +9,11 @@ use Rattle.std.proofs.lemmas.List.Elements.{All-nil, Contains-get_or}
 use Rattle.ch_graph.specs.Graph.{Network}
 use Rattle.ch_contract.specs.declared.leg.Leg.{Leg}
 use Rattle.ch_contract.specs.declared.shortcut.Shortcut.{Shortcut}
-use Rattle.ch_contract.specs.Legs.{Label, Legs, IsLegWithin, AreLegsWithin, opening}
-use Rattle.ch_contract.specs.Contraction.{IsShortcut, shortcut_label, overridden, contracted, Contracts}
+use Rattle.ch_contract.specs.Legs.{Label, Legs, AreLegsWithin, opening}
+use Rattle.ch_contract.specs.Contraction.{shortcut_label, overridden, contracted, Contracts}
 use Rattle.ch_contract.specs.Rows.{row, IsRow, label_of}
 use Rattle.ch_contract.specs.Hierarchy.{Levels, IsLegUp, AreLegsUp, IsLevelled, IsHierarchyOf}
-use Rattle.ch_contract.proofs.Ordered.{contains_head, contains_tail}
+use Rattle.ch_contract.proofs.Contracting.{override_cases, contracted_within}
 use Rattle.ch_contract.proofs.OneOrder.{taken_at, one_map}
 use Rattle.ch_contract.proofs.RowLegs.{row_has}
 
@@ -21,40 +21,20 @@ use Rattle.ch_contract.proofs.RowLegs.{row_has}
 abbrev IsMade : ℕ → List Shortcut → ℕ → ℕ → Label → Type 0
 IsMade v list u w l = (s : Shortcut) × Contains list s × (s.from ≡ u) × (s.to ≡ w) × (shortcut_label v s ≡ l)
 
--- so it is where shortcuts stand before older legs
-overridden_cases : (v : ℕ) (list : List Shortcut) (u w : ℕ) (before : Option Label) (l : Label) → overridden v list u w before ≡ Some l → (before ≡ Some l) ⊎ IsMade v list u w l
-overridden_cases v [] u w before l e = inl e
-overridden_cases v (s ∷ list) u w before l e = at (s.from == u && s.to == w) refl e (overridden_cases v list u w before l)
-  where
-    at : (b : Bool) → (s.from == u && s.to == w) ≡ b → cond b (Some (shortcut_label v s)) (overridden v list u w before) ≡ Some l → (overridden v list u w before ≡ Some l → (before ≡ Some l) ⊎ IsMade v list u w l) → (before ≡ Some l) ⊎ IsMade v (s ∷ list) u w l
-    at true t f more = inr (s, contains_head s list, grind (arith, nat_tests), grind (arith, nat_tests), same_Some _ _ f)
-    at false t f more = elim (more f) [ inl old ↦ inl old | inr made ↦ inr (made.0, contains_tail made.0 s list made.1, made.2, made.3, made.4) ]
-
--- and after a contraction
+-- so it is after a contraction
 contracted_cases : (L : Legs) (v : ℕ) (list : List Shortcut) (u w : ℕ) (l : Label) → contracted L v list u w ≡ Some l → (L u w ≡ Some l) ⊎ IsMade v list u w l
 contracted_cases L v list u w l e = at (u == v || w == v) e
   where
     at : (b : Bool) → cond b None (overridden v list u w (L u w)) ≡ Some l → (L u w ≡ Some l) ⊎ IsMade v list u w l
     at true f = absurd (none-some _ f)
-    at false f = overridden_cases v list u w (L u w) l f
+    at false f = elim (override_cases v list u w (L u w)) [
+      | inl stays ↦ inl (sym stays ∙ f)
+      | inr s ↦ inr (s.0, s.1, s.2, s.3, same_Some _ _ (sym s.4 ∙ f))
+    ]
 
 -- a contraction keeps the limits
 pub within_more : (n h : ℕ) (L : Legs) (v : ℕ) (M : Legs) → AreLegsWithin n L → Contracts n h L v M → AreLegsWithin n M
-within_more n h L v M within step u w l e = elim (contracted_cases L v step.0 u w l (sym (step.2 u w) ∙ e)) [
-  | inl old ↦ within u w l old
-  | inr made ↦ subst (λ z. IsLegWithin n z w l) made.2 (subst (λ z. IsLegWithin n made.0.from z l) made.3 (subst (IsLegWithin n made.0.from made.0.to) made.4 (of_shortcut made.0 (step.1.sound made.0 made.1))))
-]
-  where
-    of_shortcut : (s : Shortcut) → IsShortcut n h L v s → IsLegWithin n s.from s.to (shortcut_label v s)
-    of_shortcut s is =
-        let one = within s.from v is.legs.0 is.legs.2 in
-        let two = within v s.to is.legs.1 is.legs.3 in
-        record {
-          ends = (one.ends.0, two.ends.1, is.apart);
-          weight = is.weight;
-          arcs = is.arcs;
-          middle = λ m same. subst (λ z. z < n) (same_Some _ _ same) one.ends.1;
-        }
+within_more n h L v M within step u w l e = contracted_within n h L v step.0 within step.1 u w l (sym (step.2 u w) ∙ e)
 
 -- no leg touches z
 abbrev pub IsGone : Legs → ℕ → Type 0

@@ -1,5 +1,5 @@
 -- One contraction: each leg that does not touch the node stays or gets cheaper, and so does each light chain.
-use Rattle.std.proofs.Common.{◌≡◌, ℕ, suc, zero, ◌<◌, ◌≤◌, Bool, true, false, cond, List, [], ◌∷◌, length, get_or, Option, Some, None, Contains, refl, sym, ◌∙◌, ap, subst, arith, inl, inr}
+use Rattle.std.proofs.Common.{◌≡◌, ℕ, suc, zero, ◌<◌, ◌≤◌, Bool, true, false, cond, List, [], ◌∷◌, length, get_or, Option, Some, None, refl, sym, ◌∙◌, ap, subst, arith, inl, inr}
 use Rattle.std.specs.Prelude.{◌⊎◌, ◌≢◌, ◌==◌, ◌&&◌, ◌||◌}
 use Rattle.std.specs.List.{AllByRecursion}
 use Rattle.std.proofs.lemmas.Bool.{cases_eq, false≢true}
@@ -15,27 +15,11 @@ use Rattle.ch_contract.specs.Contraction.{IsShortcut, shortcut_label, overridden
 use Rattle.ch_contract.specs.Laws.{LeadsWithin}
 use Rattle.ch_contract.proofs.PlainSearch.{witness_or_none, some_of, not_eqb, eqb-refl}
 use Rattle.ch_contract.proofs.Ordered.{contains_head, contains_tail}
+use Rattle.ch_contract.proofs.Contracting.{IsOverridden, override_cases}
 use Rattle.ch_contract.proofs.Chains.{HasChain, HasLeg, IsLight, light_left, light_right, chain_cost-cons, chain_cost-one, chain_of_leg, leg_then_chain, chain_then_chain, chain_at_most, no_loop}
 
--- a shortcut of this pair is in the list, and it is what stands there
-Override : ℕ → List Shortcut → ℕ → ℕ → Option Label → Type 0
-Override v list u w before = (s : Shortcut) × Contains list s × (s.from ≡ u) × (s.to ≡ w) × (overridden v list u w before ≡ Some (shortcut_label v s))
-
--- where no shortcut has this pair, what was before stays
-override_cases : (v : ℕ) (list : List Shortcut) (u w : ℕ) (before : Option Label) → (overridden v list u w before ≡ before) ⊎ Override v list u w before
-unfolding Override
-override_cases v [] u w before = inl refl
-override_cases v (s ∷ list) u w before = at (s.from == u && s.to == w) refl (override_cases v list u w before)
-  where
-    at : (b : Bool) → (s.from == u && s.to == w) ≡ b → (overridden v list u w before ≡ before) ⊎ Override v list u w before →
-        (cond b (Some (shortcut_label v s)) (overridden v list u w before) ≡ before)
-        ⊎ ((t : Shortcut) × Contains (s ∷ list) t × (t.from ≡ u) × (t.to ≡ w) × (cond b (Some (shortcut_label v s)) (overridden v list u w before) ≡ Some (shortcut_label v t)))
-    at true e more = inr (s, contains_head s list, grind (arith, nat_tests), grind (arith, nat_tests), refl)
-    at false e more = elim more [ inl h ↦ inl h | inr h ↦ inr (h.0, contains_tail h.0 s list h.1, h.2, h.3, h.4) ]
-
 -- a shortcut in the list is found, it or one of the same pair
-first_or : (v : ℕ) (t : Shortcut) (list : List Shortcut) (u w : ℕ) (before : Option Label) (b : Bool) → (t.from == u && t.to == w) ≡ b → (b ≡ false → Override v list u w before) → Override v (t ∷ list) u w before
-unfolding Override
+first_or : (v : ℕ) (t : Shortcut) (list : List Shortcut) (u w : ℕ) (before : Option Label) (b : Bool) → (t.from == u && t.to == w) ≡ b → (b ≡ false → IsOverridden v list u w before) → IsOverridden v (t ∷ list) u w before
 first_or v t list u w before true e more = (t, contains_head t list, grind (arith, nat_tests), grind (arith, nat_tests), rw e refl)
 first_or v t list u w before false e more = let h = more refl in (h.0, contains_tail h.0 t list h.1, h.2, h.3, rw e h.4)
 
@@ -44,7 +28,7 @@ matches : (t s : Shortcut) → t ≡ s → (t.from == s.from && t.to == s.to) �
 matches t s e = rw e (rw (eqb-refl s.from, eqb-refl s.to) refl)
 
 -- a shortcut of the list has its pair overridden
-override_found : (v : ℕ) (list : List Shortcut) (k : ℕ) (s : Shortcut) (before : Option Label) → k < length list → get_or list k s ≡ s → Override v list s.from s.to before
+override_found : (v : ℕ) (list : List Shortcut) (k : ℕ) (s : Shortcut) (before : Option Label) → k < length list → get_or list k s ≡ s → IsOverridden v list s.from s.to before
 override_found v [] k s before lt e = absurd (omega arith)
 override_found v (t ∷ list) zero s before lt e = first_or v t list s.from s.to before _ refl (λ f. let m = matches t s e in absurd (false≢true (sym f ∙ m)))
 override_found v (t ∷ list) (suc k) s before lt e = first_or v t list s.from s.to before _ refl (λ f. override_found v list k s before (omega arith) e)
@@ -86,7 +70,6 @@ module _ {n h : ℕ} {L M : Legs} {v : ℕ} (step : IsOneContraction n h L v M) 
 
   -- each leg after the contraction is one of these
   pub old_or_shortcut : (x y : ℕ) (m : Label) → M x y ≡ Some m → IsOldOrShortcut x y m
-  unfolding Override
   old_or_shortcut x y m e =
       let away = untouched x y m e in
       let out = outside x y away.0 away.1 in
@@ -101,7 +84,6 @@ module _ {n h : ℕ} {L M : Legs} {v : ℕ} (step : IsOneContraction n h L v M) 
 
   -- a leg that does not touch v stays, or a cheaper one stands in its place
   pub leg_kept : (x y : ℕ) (l : Label) → x ≢ v → y ≢ v → L x y ≡ Some l → HasLeg M x y l.cost
-  unfolding Override
   leg_kept x y l p q e = elim (override_cases v step.contracts.0 x y (L x y)) [
     | inl stays ↦ (l, outside x y p q ∙ stays ∙ e, IsAtMost_refl l.cost)
     | inr r ↦ (
@@ -133,8 +115,7 @@ module _ {n h : ℕ} {L M : Legs} {v : ℕ} (step : IsOneContraction n h L v M) 
       legs.4 ∙ ap (λ (z : Label). cost_sum z.cost legs.1.cost) sa ∙ ap (λ (z : Label). cost_sum a.cost z.cost) sb
 
   -- where the pair is overridden, the shortcut is the chain
-  by_shortcut : (u y : ℕ) (a b : Label) → u ≢ v → y ≢ v → L u v ≡ Some a → L v y ≡ Some b → Override v step.contracts.0 u y (L u y) → HasChain M u y (cost_sum a.cost b.cost)
-  unfolding Override
+  by_shortcut : (u y : ℕ) (a b : Label) → u ≢ v → y ≢ v → L u v ≡ Some a → L v y ≡ Some b → IsOverridden v step.contracts.0 u y (L u y) → HasChain M u y (cost_sum a.cost b.cost)
   by_shortcut u y a b p q ea eb f =
       chain_of_leg M u y _ (shortcut_label v f.0, outside u y p q ∙ f.4, subst (IsAtMost f.0.cost) (shortcut_cost f.0 u y a b (step.contracts.1.sound f.0 f.1) f.2 f.3 ea eb) (IsAtMost_refl f.0.cost))
 

@@ -8,7 +8,7 @@ use Rattle.ch_graph.specs.Walk.{IsLeast}
 use Rattle.ch_graph.specs.WalkLaws.{IsWalkCost}
 use Rattle.ch_graph.proofs.CostOrder.{IsAtMost_refl, IsAtMost-no_cost}
 use Rattle.ch_graph.proofs.CostSums.{cost_sum_assoc, cost_sum_comm, cost_sum-no_cost, IsAtMost-cost_sum}
-use Rattle.ch_graph.proofs.WalkCosts.{IsWalkCost-no_cost, IsWalkCost-cost_sum, IsLeast-IsAtMost, IsLeast-again, IsLeast-front, IsLeast-back}
+use Rattle.ch_graph.proofs.WalkCosts.{IsWalkCost-cost_sum, IsLeast-IsAtMost, IsLeast-again, IsLeast-front, IsLeast-back}
 use Rattle.ch_graph.proofs.SimpleWalks.{IsLeast-weight}
 use Rattle.ch_contract.specs.declared.leg.Leg.{Leg}
 use Rattle.ch_contract.specs.Legs.{Label, Legs, IsChain, chain_cost}
@@ -17,7 +17,7 @@ use Rattle.ch_contract.specs.Hierarchy.{Levels}
 use Rattle.ch_contract.specs.Paths.{IsUpwardPath, path_cost, IsUp, IsDown, IsMeeting}
 use Rattle.ch_contract.proofs.PlainSearch.{some_of}
 use Rattle.ch_contract.proofs.RowLegs.{leg_at}
-use Rattle.ch_contract.proofs.LegPaths.{path_cost-cons}
+use Rattle.ch_contract.proofs.LegPaths.{path_cost-cons, rises_along, falls_along}
 use Rattle.ch_contract.proofs.MeetingPaths.{HasMeetingPaths}
 use Rattle.ch_contract.proofs.Chains.{chain_cost-cons, chain_cost-one}
 use Rattle.ch_contract.proofs.StepLegs.{step_leg}
@@ -169,13 +169,11 @@ module _ {g : Network} {h : ℕ} {H : Levels} {order : List ℕ} {L : ℕ → Le
 
   -- upward paths are walks
   rises : (a b : ℕ) (legs : List Leg) → IsUpwardPath H.up a b legs → IsWalkCost g a b (path_cost legs)
-  rises a b [] p = subst (λ q. IsWalkCost g a q (path_cost [])) p (IsWalkCost-no_cost g a)
-  rises a b (l ∷ legs) p = subst (IsWalkCost g a b) (sym (path_cost-cons l legs)) (IsWalkCost-cost_sum g a l.node b l.cost (path_cost legs) (up_walk built a l p.0) (rises l.node b legs p.1))
+  rises = rises_along g H.up (up_walk built)
 
   -- downward paths are walks
   falls : (a b : ℕ) (legs : List Leg) → IsUpwardPath H.down a b legs → IsWalkCost g b a (path_cost legs)
-  falls a b [] p = subst (λ q. IsWalkCost g q a (path_cost [])) p (IsWalkCost-no_cost g a)
-  falls a b (l ∷ legs) p = subst (IsWalkCost g b a) (cost_sum_comm (path_cost legs) l.cost ∙ sym (path_cost-cons l legs)) (IsWalkCost-cost_sum g b l.node a (path_cost legs) l.cost (falls l.node b legs p.1) (down_walk built a l p.0))
+  falls = falls_along g H.down (down_walk built)
 
   -- two paths that meet and cost no more than the least walk are least, and cost the least
   paths_meet : (s t : ℕ) (c : Cost) → IsLeast g s t c → HasMeetingPaths H s t c → (m : ℕ) × IsMeeting H s t m c

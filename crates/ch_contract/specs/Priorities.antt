@@ -1,6 +1,6 @@
 -- Priorities that are kept, and the node that is next by them.
 use Rattle.std.specs.Prelude.{◌≡◌, ◌≢◌, ℕ, ◌<◌, ◌==◌, Bool, not, List, ◌++◌, length, map, filter, slice_index, slice_index_or, Contains, ℤ, pos}
-use Rattle.std.specs.List.{list_any}
+use Rattle.std.specs.List.{list_any, AllZip}
 use Rattle.ch_contract.specs.declared.leg.Leg.{Leg}
 use Rattle.ch_contract.specs.Legs.{Legs}
 use Rattle.ch_contract.specs.Contraction.{IsPriority}
@@ -13,6 +13,10 @@ priority_at priorities x = slice_index_or priorities x (pos 0)
 pub record ArePriorities (n h : ℕ) (L : Legs) (priorities : List ℤ) : Type 0 where
   pub size : length priorities ≡ n
   pub each : (x : ℕ) → x < n → IsPriority n h L x (priority_at priorities x)
+
+-- the priority of each of these nodes, in their order
+abbrev pub ArePrioritiesOf : ℕ → ℕ → Legs → List ℕ → List ℤ → Type 0
+ArePrioritiesOf n h L nodes priorities = AllZip (IsPriority n h L) nodes priorities
 
 -- the priorities of these nodes are those with the legs now, and the others stay
 pub record AreRefreshed (n h : ℕ) (L : Legs) (nodes : List ℕ) (before after : List ℤ) : Type 0 where

@@ -7,19 +7,26 @@ ghost use Rattle.ch_contract.specs.Kept.{IsKept};
 
 use crate::hierarchy::Hierarchy;
 use crate::leg::Leg;
-use crate::order::{first_left, neighbours, priorities, refresh};
+use crate::order::{first_left, neighbours};
+use crate::priority::{PriorityJob, priorities};
 use crate::remaining::Remaining;
 use ch_graph::Graph;
 use ch_work::{Gate, Plan};
 use std::alloc::{AllocError, Global};
+use std::thread::Threads;
 
 /// The contraction hierarchy of a graph, where a witness has at most `hops` legs. The next node to be
 /// contracted is always the one of least priority, and of these the least numbered; only the neighbours
-/// of a contracted node get their priorities computed anew. The plan and the gate change nothing of it.
+/// of a contracted node get their priorities computed anew.
+///
+/// Workers share the opening priorities, and those of a step's neighbours where there are at least
+/// `plan.wide()` of them, each batch a job of its own (see [`run_pieces`](ch_work::run_pieces)): they
+/// pass the gate with the numbers of its pieces. The plan and the gate change nothing of the hierarchy.
 ///
 /// # Errors
 /// `AllocError` where there is no memory.
-pub fn build<G: Gate>(
+pub fn build<R: Threads + Sync, G: Gate>(
+    rt: &R,
     alloc: Global,
     graph: &Graph,
     hops: u32,
@@ -31,12 +38,10 @@ pub fn build<G: Gate>(
     ensures kept { IfOk result (IsKept graph.now) }
     ensures limits { IsWithinLimits graph.now }
 {
-    let _ = plan;
-    let _ = gate;
     let _ = graph.arcs();
-    let mut construction = Construction::open(alloc, graph, hops)?;
+    let mut construction = Construction::open(rt, alloc, graph, hops, plan, gate)?;
     while let Some(node) = construction.next() {
-        construction = construction.contract(alloc, node, hops)?;
+        construction = construction.contract(rt, alloc, node, hops, plan, gate)?;
     }
     Ok(construction.finish())
 }
@@ -64,13 +69,20 @@ impl Construction {
     ghost use Rattle.ch_contract.specs.Construction.{IsOpen, IsSized, IsStep, levels_of};
 
     /// No node is contracted yet.
-    fn open(alloc: Global, graph: &Graph, hops: u32) -> Result<Construction, AllocError>
+    fn open<R: Threads + Sync, G: Gate>(
+        rt: &R,
+        alloc: Global,
+        graph: &Graph,
+        hops: u32,
+        plan: &Plan,
+        gate: &G,
+    ) -> Result<Construction, AllocError>
         requires { IsHopBound hops }
         ensures { IfOk result (IsOpen graph.now hops) }
     {
         let remaining = Remaining::open(alloc, graph)?;
         let nodes = remaining.nodes() as usize;
-        let priorities = priorities(alloc, &remaining, hops)?;
+        let priorities = priorities(rt, alloc, &remaining, hops, plan, gate)?;
         let levels = vec![in alloc; 0; nodes]?;
         let ups = no_rows(alloc, nodes)?;
         let downs = no_rows(alloc, nodes)?;
@@ -93,7 +105,15 @@ impl Construction {
     }
 
     /// Contracts a node, and keeps its level and its legs.
-    fn contract(self, alloc: Global, node: u32, hops: u32) -> Result<Construction, AllocError>
+    fn contract<R: Threads + Sync, G: Gate>(
+        self,
+        rt: &R,
+        alloc: Global,
+        node: u32,
+        hops: u32,
+        plan: &Plan,
+        gate: &G,
+    ) -> Result<Construction, AllocError>
         requires sizes { IsSized self }
         requires limits { AreLegsWithin self.remaining.nodes (legs_of self.remaining) }
         requires next { IsNext self.priorities.items self.levels.items node }
@@ -111,12 +131,12 @@ impl Construction {
         } = self;
         let (remaining, removed) = remaining.contract(node, hops)?;
         let neighbours = neighbours(alloc, removed.up.as_slice(), removed.down.as_slice())?;
-        refresh(
-            priorities.as_mut_slice(),
-            &remaining,
-            neighbours.as_slice(),
+        let job = PriorityJob {
+            remaining: &remaining,
+            nodes: neighbours.as_slice(),
             hops,
-        )?;
+        };
+        job.refresh(rt, alloc, priorities.as_mut_slice(), plan, gate)?;
         let contracted = contracted + 1;
         levels[node as usize] = contracted;
         ups[node as usize] = removed.up;

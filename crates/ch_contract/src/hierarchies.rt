@@ -9,6 +9,7 @@ use ch_work::{Open, Plan};
 use std::alloc::Global;
 use std::process::Abort;
 use std::test::Fail;
+use std::thread::Threads;
 
 /// A graph, the order in which its nodes are contracted, and all legs of its hierarchy. Nodes are
 /// counted from 1, as in files; an arc is (from, to, weight), and a leg (from, to, weight, arcs, middle),
@@ -22,14 +23,19 @@ struct Example<'a> {
 }
 
 /// Builds the hierarchy of the graph at several plans, and expects the same of each.
-fn expect(rt: &impl Abort, alloc: Global, hops: u32, example: &Example) -> Result<(), Fail>
+fn expect<R: Threads + Abort + Sync>(
+    rt: &R,
+    alloc: Global,
+    hops: u32,
+    example: &Example,
+) -> Result<(), Fail>
     requires { IsHopBound hops }
 {
     let graph = graph(rt, alloc, example)?;
     for workers in [1, 2, 64] {
         for piece in [1, 1000] {
             let plan = Plan::new(workers, piece, 1);
-            let hierarchy = build(alloc, &graph, hops, &plan, &Open)?;
+            let hierarchy = build(rt, alloc, &graph, hops, &plan, &Open)?;
             assert_eq!(rt; hierarchy.nodes(), example.nodes);
             expect_levels(rt, &hierarchy, example.order);
             expect_legs(rt, &hierarchy, example.legs);

@@ -3,9 +3,9 @@
 //!
 //! It stands on ch_graph and ch_work. Proved of it: each call of [`Remaining`] is its definition, also
 //! the search for witnesses, which walks no chain past its bound; [`build`] makes the hierarchy that the
-//! rules name, which is one ([`one_order`]), and which is kept for its graph ([`keeping`]); in a hierarchy
-//! that is kept for a graph, of any origin, going up and then down costs least what a walk costs least
-//! ([`kept_laws`]).
+//! rules name, however workers share its priorities, which is one ([`one_order`]), and which is kept for
+//! its graph ([`keeping`]); in a hierarchy that is kept for a graph, of any origin, going up and then down
+//! costs least what a walk costs least ([`kept_laws`]).
 #![tactic(auto)]
 
 mod construction;
@@ -17,6 +17,7 @@ mod leg;
 mod links;
 pub mod one_order;
 mod order;
+mod priority;
 mod remaining;
 mod shortcut;
 mod witness;
@@ -32,3 +33,5 @@ pub use shortcut::Shortcut;
 mod hierarchies;
 #[cfg(test)]
 mod tests;
+#[cfg(test)]
+mod workers;

@@ -1,49 +1,9 @@
-//! The order of contraction: priorities, and the node that is next.
-ghost use Rattle.std.specs.Prelude.{◌≡◌, ◌^◌, ◌<◌, ◌≤◌, ◌<ℤ◌, ◌↔◌, length, All, IfOk, IsTrue, MatchOption};
-ghost use Rattle.ch_contract.specs.Legs.{IsHopBound};
-ghost use Rattle.ch_contract.specs.Remaining.{legs_of};
-ghost use Rattle.ch_contract.specs.Priorities.{NoneIsLeft, IsNext, ArePriorities, AreRefreshed, priority_at, has_node, neighbours_in};
+//! The order of contraction: the neighbours of a node, and the node that is next.
+ghost use Rattle.std.specs.Prelude.{◌≡◌, ◌^◌, ◌<◌, ◌≤◌, ◌<ℤ◌, ◌↔◌, length, IfOk, IsTrue, MatchOption};
+ghost use Rattle.ch_contract.specs.Priorities.{NoneIsLeft, IsNext, priority_at, has_node, neighbours_in};
 
 use crate::leg::Leg;
-use crate::remaining::Remaining;
 use std::alloc::{AllocError, Global};
-
-/// The priority of each node.
-pub(crate) fn priorities(
-    alloc: Global,
-    remaining: &Remaining,
-    hops: u32,
-) -> Result<Vec<i64>, AllocError>
-    requires { IsHopBound hops }
-    ensures { IfOk result (λ list. ArePriorities remaining.now.nodes hops (legs_of remaining.now) list.items) }
-{
-    let nodes = remaining.nodes();
-    let mut priorities = Vec::with_capacity(alloc, nodes as usize)?;
-    for node in 0..nodes {
-        let priority = remaining.priority(node, hops)?;
-        priorities.push(priority)?;
-    }
-    Ok(priorities)
-}
-
-/// Computes the priorities of these nodes anew.
-pub(crate) fn refresh(
-    priorities: &mut [i64],
-    remaining: &Remaining,
-    nodes: &[u32],
-    hops: u32,
-) -> Result<(), AllocError>
-    requires size { length priorities.old ≡ remaining.now.nodes }
-    requires nodes { All (λ x. x < remaining.now.nodes) nodes.now }
-    requires hops { IsHopBound hops }
-    ensures { IfOk result (λ _. AreRefreshed remaining.now.nodes hops (legs_of remaining.now) nodes.now priorities.old priorities.new) }
-{
-    for node in nodes {
-        let priority = remaining.priority(*node, hops)?;
-        priorities[*node as usize] = priority;
-    }
-    Ok(())
-}
 
 /// The nodes of the legs from a node and of those to it, each once.
 pub(crate) fn neighbours(alloc: Global, up: &[Leg], down: &[Leg]) -> Result<Vec<u32>, AllocError>

@@ -4,9 +4,9 @@ use Rattle.std.proofs.lemmas.Option.{same_Some}
 use Rattle.ch_graph.specs.declared.cost.Cost.{Cost}
 use Rattle.ch_graph.specs.Cost.{IsAtMost, IsBelow, cost_sum, no_cost}
 use Rattle.ch_contract.specs.declared.leg.Leg.{Leg}
-use Rattle.ch_contract.specs.Paths.{IsUpwardPath, path_cost}
-use Rattle.ch_graph.proofs.CostOrder.{IsAtMost_refl, IsAtMost_trans, IsBelow_not}
-use Rattle.ch_query.specs.Search.{cost_at, IsSettled, IsSearch, AvoidsIdle}
+use Rattle.ch_contract.specs.Paths.{IsUpwardPath, path_cost, IsLeastUpwardPath}
+use Rattle.ch_graph.proofs.CostOrder.{IsAtMost_refl, IsAtMost_trans, IsBelow_not, IsAtMost_antisymm}
+use Rattle.ch_query.specs.Search.{cost_at, IsSettled, IsSearch, AvoidsIdle, IsEmpty}
 use Rattle.ch_graph.proofs.CostSums.{cost_sum_assoc, no_cost-cost_sum, IsAtMost-cost_sum, IsAtMost-cost_sum_self}
 use Rattle.ch_contract.proofs.LegPaths.{path_cost-cons}
 
@@ -46,3 +46,29 @@ module _ (rows : List (List Leg)) (s : ℕ) (Idle : ℕ → Cost → Type 0) (be
   pub matched : (legs : List Leg) → IsUpwardPath rows s m legs → IsAtMost (path_cost legs) c → (a : Cost) × IsSettled best queue m a × IsAtMost a (path_cost legs)
   matched legs path le = subst (λ q. (a : Cost) × IsSettled best queue m a × IsAtMost a q) (no_cost-cost_sum (path_cost legs))
       (along s no_cost legs p.start path (subst (λ q. IsAtMost q c) (sym (no_cost-cost_sum (path_cost legs))) le))
+
+-- at the end of a search without idle nodes each cost is the least
+module _ (rows : List (List Leg)) (s : ℕ) (Idle : ℕ → Cost → Type 0) (best queue : List (Option Cost)) (p : IsSearch rows s Idle best queue)
+    (never : (v : ℕ) (c : Cost) → Idle v c → ⊥) (done : IsEmpty queue) where
+  -- each upward path is matched
+  pub covered : (m : ℕ) (legs : List Leg) → IsUpwardPath rows s m legs → (path_cost legs).weight ≤ 2 ^ 60 → (a : Cost) × IsSettled best queue m a × IsAtMost a (path_cost legs)
+  covered m legs path light = matched rows s Idle best queue p m (path_cost legs) light (λ x d e. absurd (done x d e)) (λ x e k idle q le. never x e idle)
+      legs path (IsAtMost_refl (path_cost legs))
+
+  -- what is known is the least
+  pub known_least : (m : ℕ) (c : Cost) → cost_at best m ≡ Some c → IsLeastUpwardPath rows s m c
+  known_least m c e = record {
+    path = (p.sound m c e).path;
+    weight = (p.sound m c e).weight;
+    least = λ legs path light. let r = covered m legs path light in subst (λ q. IsAtMost q (path_cost legs)) (same_Some _ _ (sym r.1.0 ∙ e)) r.2;
+  }
+
+  -- and the least is known
+  pub least_known : (m : ℕ) (c : Cost) → IsLeastUpwardPath rows s m c → cost_at best m ≡ Some c
+  least_known m c h =
+      let light : (path_cost h.path.0).weight ≤ 2 ^ 60 = subst (λ (q : Cost). q.weight ≤ 2 ^ 60) (sym h.path.2) h.weight in
+      let r = covered m h.path.0 h.path.1 light in
+      let k = known_least m r.0 r.1.0 in
+      let le : IsAtMost r.0 c = subst (IsAtMost r.0) h.path.2 r.2 in
+      let ge : IsAtMost c r.0 = subst (IsAtMost c) k.path.2 (h.least k.path.0 k.path.1 (subst (λ (q : Cost). q.weight ≤ 2 ^ 60) (sym k.path.2) k.weight)) in
+      r.1.0 ∙ ap Some (IsAtMost_antisymm r.0 c le ge)

@@ -45,14 +45,14 @@ module _ (g : Network) (H : Levels) (k : HasWalks g H) (s t : ℕ) (best_up queu
 
   module _ (c : Cost) (l : IsLeast g s t c) where
     -- what is left in a queue is dearer than c
-    above : (queue : List (Option Cost)) → IsPast queue least → (a : Cost) → IsAtMost a c → (x : ℕ) (d : Cost) → cost_at queue x ≡ Some d → IsBelow a d
+    pub above : (queue : List (Option Cost)) → IsPast queue least → (a : Cost) → IsAtMost a c → (x : ℕ) (d : Cost) → cost_at queue x ≡ Some d → IsBelow a d
     above queue past a le x d e = let r = past x d e in then_below a r.0.0 d (IsAtMost_trans a c r.0.0 le (IsLeast-IsAtMost g s t c r.0.0 l (found_walks r.0 r.1))) r.2
 
     -- two paths that together cost no more than c
     module _ (m : ℕ) (ups downs : List Leg) (rise : IsUpwardPath H.up s m ups) (fall : IsUpwardPath H.down t m downs) (light : c.weight ≤ 2 ^ 60)
         (le : IsAtMost (cost_sum (path_cost ups) (path_cost downs)) c) where
       -- no idle node lies on the path from s
-      avoids_up : AvoidsIdle H.up (IdleUp g s) m (path_cost ups)
+      pub avoids_up : AvoidsIdle H.up (IdleUp g s) m (path_cost ups)
       avoids_up x e legs idle path low =
           let walk = IsWalkCost-cost_sum g s x t idle.0 _ idle.1 (IsWalkCost-cost_sum g x m t _ _ (k.rises x m legs path) (k.falls t m downs fall)) in
           let ge = IsLeast-IsAtMost g s t c _ l walk in
@@ -64,7 +64,7 @@ module _ (g : Network) (H : Levels) (k : HasWalks g H) (s t : ℕ) (best_up queu
           IsBelow_not _ c (below_then _ _ c less sum') ge
 
       -- no idle node lies on the path from t
-      avoids_down : AvoidsIdle H.down (IdleDown g t) m (path_cost downs)
+      pub avoids_down : AvoidsIdle H.down (IdleDown g t) m (path_cost downs)
       avoids_down x e legs idle path low =
           let walk = IsWalkCost-cost_sum g s m t _ _ (k.rises s m ups rise) (IsWalkCost-cost_sum g m x t _ idle.0 (k.falls x m legs path) idle.1) in
           let ge = IsLeast-IsAtMost g s t c _ l walk in
@@ -78,20 +78,20 @@ module _ (g : Network) (H : Levels) (k : HasWalks g H) (s t : ℕ) (best_up queu
           IsBelow_not _ c (below_then _ _ c less sum') (subst (IsAtMost c) swap ge)
 
       -- the path from s costs at most c
-      low_up : IsAtMost (path_cost ups) c
+      pub low_up : IsAtMost (path_cost ups) c
       low_up = IsAtMost_trans (path_cost ups) (cost_sum (path_cost ups) (path_cost downs)) c (IsAtMost-cost_sum_self (path_cost ups) _) le
 
       -- the path from t costs at most c
-      low_down : IsAtMost (path_cost downs) c
+      pub low_down : IsAtMost (path_cost downs) c
       low_down = (let a = le.0 in omega arith, λ w. let a = le.0 in let b = le.1 (omega arith) in omega arith)
 
       -- so m is settled from s, at no more than its path costs
-      settled_up : (a : Cost) × IsSettled best_up queue_up m a × IsAtMost a (path_cost ups)
+      pub settled_up : (a : Cost) × IsSettled best_up queue_up m a × IsAtMost a (path_cost ups)
       settled_up =
           matched H.up s (IdleUp g s) best_up queue_up up m (path_cost ups) (let w = low_up.0 in omega arith) (above queue_up past_up (path_cost ups) low_up) avoids_up ups rise (IsAtMost_refl (path_cost ups))
 
       -- and from t
-      settled_down : (a : Cost) × IsSettled best_down queue_down m a × IsAtMost a (path_cost downs)
+      pub settled_down : (a : Cost) × IsSettled best_down queue_down m a × IsAtMost a (path_cost downs)
       settled_down =
           matched H.down t (IdleDown g t) best_down queue_down down m (path_cost downs) (let w = low_down.0 in omega arith)
           (above queue_down past_down (path_cost downs) low_down) avoids_down downs fall (IsAtMost_refl (path_cost downs))

@@ -26,7 +26,7 @@ one_leg : (l : Leg) → path_cost (l ∷ []) ≡ l.cost
 one_leg l = path_cost-cons l [] ∙ cost_sum-no_cost l.cost
 
 -- where a search from s stalls, there is a cheaper walk from s
-idle_up : (g : Network) (H : Levels) → HasWalks g H → (s v : ℕ) (c : Cost) → IsStalled H.up H.down s v c → IdleUp g s v c
+pub idle_up : (g : Network) (H : Levels) → HasWalks g H → (s v : ℕ) (c : Cost) → IsStalled H.up H.down s v c → IdleUp g s v c
 idle_up g H k s v c i = (
   cost_sum i.cost i.leg.cost,
   IsWalkCost-cost_sum g s i.leg.node v i.cost i.leg.cost (subst (IsWalkCost g s i.leg.node) i.reached.path.2 (k.rises s i.leg.node i.reached.path.0 i.reached.path.1))
@@ -35,7 +35,7 @@ idle_up g H k s v c i = (
 )
 
 -- where a search from t stalls, there is a cheaper walk to t
-idle_down : (g : Network) (H : Levels) → HasWalks g H → (t v : ℕ) (c : Cost) → IsStalled H.down H.up t v c → IdleDown g t v c
+pub idle_down : (g : Network) (H : Levels) → HasWalks g H → (t v : ℕ) (c : Cost) → IsStalled H.down H.up t v c → IdleDown g t v c
 idle_down g H k t v c i = (
   cost_sum i.leg.cost i.cost,
   IsWalkCost-cost_sum g v i.leg.node t i.leg.cost i.cost (subst (IsWalkCost g v i.leg.node) (one_leg i.leg) (k.rises v i.leg.node (i.leg ∷ []) (i.has, refl)))
@@ -71,17 +71,17 @@ module _ (g : Network) (H : Levels) (k : HasWalks g H) (x y : Search) (s t : ℕ
     (down : y.side ≡ Down) (xs : x.source ≡ s) (yt : y.source ≡ t)
     (past_here : IsPast x.queue least) (past_there : IsPast y.queue least) where
   -- the search from s
-  search_up : IsSearch H.up s (IdleUp g s) x.costs.items x.queue
+  pub search_up : IsSearch H.up s (IdleUp g s) x.costs.items x.queue
   unfolding SearchBy
   search_up = weaker _ _ _ _ _ _ (idle_up g H k s) (by_parts H x Up s m.here up xs m.stalls.0)
 
   -- the search from t
-  search_down : IsSearch H.down t (IdleDown g t) y.costs.items y.queue
+  pub search_down : IsSearch H.down t (IdleDown g t) y.costs.items y.queue
   unfolding SearchBy
   search_down = weaker _ _ _ _ _ _ (idle_down g H k t) (by_parts H y Down t m.there down yt m.stalls.1)
 
   -- the known sum is that of paths from s and t
-  found : IsFound H s t least
+  pub found : IsFound H s t least
   found e is =
       let f = m.found e is in (
         f.0,

@@ -201,7 +201,7 @@ avoids_inner rows Idle w m b c tail path le avoids y e legs idle p low =
     (IsAtMost-cost_sum (cost_sum e (path_cost legs)) b (path_cost tail) (path_cost tail) low (IsAtMost_refl (path_cost tail))) le))
 
 -- two least costs are equal
-least_same : (rows : List (List Leg)) (a x : ℕ) (d e : Cost) → IsLeastUpwardPath rows a x d → IsLeastUpwardPath rows a x e → d ≡ e
+pub least_same : (rows : List (List Leg)) (a x : ℕ) (d e : Cost) → IsLeastUpwardPath rows a x d → IsLeastUpwardPath rows a x e → d ≡ e
 least_same rows a x d e h k = IsAtMost_antisymm d e (half d e h k) (half e d k h)
   where
     half : (d e : Cost) → IsLeastUpwardPath rows a x d → IsLeastUpwardPath rows a x e → IsAtMost d e
@@ -217,7 +217,7 @@ module _ (rows : List (List Leg)) (s : ℕ) (Idle : ℕ → Cost → Type 0) (be
   parent = a.led x e ne known
 
   -- the parent's cost is the least
-  parent_least : IsLeastUpwardPath rows s (slice_index parents x) parent.cost
+  pub parent_least : IsLeastUpwardPath rows s (slice_index parents x) parent.cost
   parent_least =
       let q = parent in
       let r = p.sound _ q.cost q.settled.0 in

@@ -5,3 +5,10 @@ pub mod Underway
 pub mod TwoSided
 pub mod Meeting
 pub mod Scratches
+pub mod Routes
+pub mod RouteLaws
+pub mod Descents
+pub mod Unpacking
+pub mod Answers
+pub mod Spread
+pub mod Tasks

@@ -1,16 +1,34 @@
-//! Exact distances by a contraction hierarchy: Dijkstra's algorithm from both ends at once, along legs to
-//! higher nodes alone (Geisberger, Sanders, Schultes and Delling 2008).
+//! Exact distances and routes by a contraction hierarchy: Dijkstra's algorithm from both ends at once, along
+//! legs to higher nodes alone (Geisberger, Sanders, Schultes and Delling 2008).
 //!
-//! It stands on ch_graph, ch_contract and ch_queue. Proved of it: on every hierarchy that is right for a
-//! graph, [`distance`] is the least weight of a walk, or says that there is no walk. It takes no memory:
-//! its room is a [`Scratch`], which one query leaves clean for the next.
+//! It stands on ch_graph, ch_contract, ch_queue and ch_work. Proved of it: on every hierarchy that is right
+//! for a graph, [`distance`] is the least weight of a walk, or says that there is no walk, and [`route`] is
+//! the walk of least weight and then of fewest arcs that the rules of choice name, which is one ([`laws`]).
+//! A distance takes no memory: its room is a [`Scratch`], which one query leaves clean for the next.
+//! [`spread`] lists all that a node reaches by legs to higher nodes, with the exact least costs, on every
+//! hierarchy with levels. [`answer_all`] gives the answers to many queries in their order, however a plan
+//! cuts them among workers.
 #![tactic(auto)]
 
+mod answer;
+mod descent;
+pub mod laws;
+mod legs;
 mod meeting;
 mod query;
+mod reach;
+mod routes;
 mod scratch;
 mod search;
 mod side;
+mod unpacking;
 
-pub use query::distance;
+pub use answer::{Answer, answer_all};
+pub use query::{distance, route};
+pub use reach::spread;
+pub use routes::{Arcs, Route};
 pub use scratch::Scratch;
+pub use side::Side;
+
+#[cfg(test)]
+mod tests;

@@ -1,11 +1,24 @@
-//! Distances.
-ghost use Rattle.std.specs.Prelude.{◌≡◌, ◌<◌};
+//! Distances and routes between two nodes.
+ghost use Rattle.std.specs.Prelude.{◌≡◌, ◌<◌, length, IfOk, MatchOption, Some, ⊤};
 ghost use Rattle.ch_contract.specs.Hierarchy.{nodes_of};
+ghost use Rattle.ch_contract.specs.Paths.{IsMeet, NeverMeets};
+ghost use Rattle.ch_query.specs.declared.side.Side.TheVariants.{Up, Down};
+ghost use Rattle.ch_query.specs.declared.routes.Route.{Route as FoundRoute};
+ghost use Rattle.ch_query.specs.TwoSided.{IsPast};
+ghost use Rattle.ch_query.specs.Underway.{IsRoom, IsClean};
+ghost use Rattle.ch_query.specs.Meeting.{AreMeeting};
 ghost use Rattle.ch_query.specs.Distance.{IsKeptForSome, IsDistanceBy, IsLeastWeight};
+ghost use Rattle.ch_query.specs.Routes.{IsRoute, IsRouteBy};
 
+use crate::descent::descend;
 use crate::meeting::meet;
+use crate::routes::{Arcs, Route};
 use crate::scratch::Scratch;
+use crate::search::Search;
+use crate::unpacking::unpack;
 use ch_contract::Hierarchy;
+use ch_graph::Cost;
+use std::alloc::{AllocError, Global};
 
 /// The least weight of a walk from `start` to `end`, or `None` where there is no walk. The hierarchy is
 /// right for some graph, and the scratch is for as many nodes.
@@ -24,8 +37,81 @@ pub fn distance(hierarchy: &Hierarchy, scratch: &mut Scratch, start: u32, end: u
     ensures scratch { scratch.new ≡ scratch.old }
 {
     let least = meet(hierarchy, &mut scratch.up, &mut scratch.down, start, end);
-    scratch.up.clean();
-    scratch.down.clean();
+    clean(&mut scratch.up, &mut scratch.down);
     let (cost, _) = least?;
     Some(cost.weight)
+}
+
+/// The route from `start` to `end`, or `None` where there is no walk. The hierarchy is right for some graph,
+/// and the scratch is for as many nodes.
+///
+/// It is a walk of least weight, and of these of the fewest arcs. It leads over the node where the two
+/// searches of [`distance`] meet, at each choice by the least numbered node, and each shortcut is unpacked
+/// into the two legs of its middle (Geisberger, Sanders, Schultes and Delling 2008). After the search it
+/// takes memory and a number of steps that grow with the number of its arcs, not with the number of nodes.
+///
+/// # Errors
+/// `AllocError` where there is no memory for the arcs; the scratch then serves on.
+pub fn route(
+    alloc: Global,
+    hierarchy: &Hierarchy,
+    scratch: &mut Scratch,
+    start: u32,
+    end: u32,
+) -> Result<Option<Route>, AllocError>
+    requires kept { IsKeptForSome hierarchy.now }
+    requires scratch { scratch.old ≡ nodes_of hierarchy.now }
+    requires start { start < nodes_of hierarchy.now }
+    requires end { end < nodes_of hierarchy.now }
+    ensures route { IfOk result (λ answer. MatchOption answer (NeverMeets hierarchy.now start end) (IsRoute hierarchy.now start end)) }
+    ensures walk { IfOk result (IsRouteBy hierarchy.now start end) }
+    ensures few { IfOk result (λ answer. MatchOption answer ⊤ (λ route. length route.arcs < nodes_of hierarchy.now)) }
+    ensures scratch { scratch.new ≡ scratch.old }
+{
+    let met = meet(hierarchy, &mut scratch.up, &mut scratch.down, start, end);
+    let answer = match met {
+        Some((cost, node)) => route_over(alloc, hierarchy, &scratch.up, &scratch.down, cost, node),
+        None => Ok(None),
+    };
+    clean(&mut scratch.up, &mut scratch.down);
+    answer
+}
+
+// Leaves both sides as the next query wants them.
+fn clean(up: &mut Search, down: &mut Search)
+    requires rooms { IsRoom up.old × IsRoom down.old }
+    ensures up { IsClean (length up.old.costs.items) up.new × (up.new.side ≡ up.old.side) }
+    ensures down { IsClean (length down.old.costs.items) down.new × (down.new.side ≡ down.old.side) }
+{
+    up.clean();
+    down.clean();
+}
+
+// The route over the node where the searches meet.
+fn route_over(
+    alloc: Global,
+    hierarchy: &Hierarchy,
+    up: &Search,
+    down: &Search,
+    cost: Cost,
+    node: u32,
+) -> Result<Option<Route>, AllocError>
+    requires kept { IsKeptForSome hierarchy.now }
+    requires meeting { AreMeeting hierarchy.now up.now down.now (Some (cost, node)) }
+    requires past { IsPast up.now.queue (Some (cost, node)) × IsPast down.now.queue (Some (cost, node)) }
+    requires sides { (up.now.side ≡ Up) × (down.now.side ≡ Down) }
+    requires meet { IsMeet hierarchy.now up.now.source down.now.source node cost }
+    ensures route { IfOk result (λ answer. (route : FoundRoute) × (answer ≡ Some route) × IsRoute hierarchy.now up.now.source down.now.source route) }
+{
+    let count = cost.arcs as usize;
+    let mut pending = Vec::with_capacity(alloc, count)?;
+    let mut arcs = Vec::with_capacity(alloc, count)?;
+    descend(hierarchy, down, node, &mut pending);
+    pending.reverse();
+    descend(hierarchy, up, node, &mut pending);
+    unpack(hierarchy, &mut pending, &mut arcs);
+    Ok(Some(Route {
+        weight: cost.weight,
+        arcs: Arcs::new(arcs),
+    }))
 }

@@ -19,8 +19,8 @@ const MOST_WEIGHT: u64 = 1 << 60;
 pub(crate) struct Search {
     pub(crate) side: Side,
     pub(crate) source: u32,
-    // Whether a node to which a higher node shows a cheaper way is left unexpanded. A search without an
-    // end, which has to find all least paths, would not stall.
+    // Whether a node to which a higher node shows a cheaper way is left unexpanded. A spread, which has to
+    // find all least paths, does not stall.
     pub(crate) stalls: bool,
     // By node: the least cost known of a path from the source to it.
     pub(crate) costs: Vec<Option<Cost>>,
@@ -117,7 +117,7 @@ impl Search {
     }
 
     // Takes each leg of the node that was settled last.
-    fn expand(&mut self, hierarchy: &Hierarchy, node: u32, cost: Cost)
+    pub(crate) fn expand(&mut self, hierarchy: &Hierarchy, node: u32, cost: Cost)
         requires expanding { IsExpandingAt hierarchy.now self.old node cost }
         ensures underway { IsUnderway hierarchy.now self.new }
         ensures same { IsSameSearch self.old self.new }

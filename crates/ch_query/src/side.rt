@@ -8,7 +8,7 @@ use ch_contract::{Hierarchy, Leg};
 
 /// A direction of search along legs to higher nodes.
 #[derive(Clone, Copy, Debug, PartialEq, Eq)]
-pub(crate) enum Side {
+pub enum Side {
     /// Along legs from a node to higher ones.
     Up,
     /// Backwards, along legs from higher nodes to a node.

@@ -1,3 +1,6 @@
-pub mod AnswerTexts
+pub mod Texts
 pub mod Bytes
 pub mod Words
+pub mod Inputs
+pub mod OneText
+pub mod Tables

@@ -1,48 +1,52 @@
 -- From what clap says of its matches to what the words say.
-use Rattle.std.proofs.Common.{◌≡◌, ◌⊎◌, ℕ, List, [], ◌∷◌, Option, Some, None, Result, Ok, Err, IfOk, refl, ap, sym, ◌∙◌, subst, inl, inr, codes, true, false, Bool, map}
-use Rattle.std.specs.Prelude.{option_map}
+use Rattle.std.proofs.Common.{◌≡◌, ◌⊎◌, ℕ, List, [], Option, Some, None, Result, Ok, refl, ap, ap₂, sym, ◌∙◌, subst, inl, inr, codes, true, false, Bool}
+use Rattle.std.specs.Box.{box_value}
+use Rattle.std.specs.Prelude.{Box, option_map}
 use Rattle.std.specs.Str.Parse.{ParsesUnsigned}
-use Rattle.std.specs.String.{string_bytes}
-use Rattle.clap.specs.Words.{App, HasMatchesOf, IsAmong, Kinds, ReadsOne, Row, Text, fault_of, first_value, is_simple_and_free, one_text, rows_of, subcommand_rows_of}
+use Rattle.clap.specs.Matches.{subcommand_name_of}
+use Rattle.clap.specs.Words.{App, HasMatchesOf, IsAmong, Kinds, ReadsOne, Row, Text, fault_of, is_simple_and_free, one_text, rows_of, subcommand_rows, subcommand_rows_of}
 use Rattle.clap.specs.declared.error.kind.ErrorKind.{ErrorKind}
 use Rattle.clap.specs.declared.error.kind.ErrorKind.TheVariants.{OutOfMemory}
 use Rattle.clap.specs.declared.parser.matches.ArgMatches.{ArgMatches}
+use Rattle.clap.specs.declared.parser.matches.ArgMatches.TheViews.{out-ArgMatches, out-SubCommand}
 use Rattle.clap.specs.declared.parser.matches.Found.{Found}
-use Rattle.clap.proofs.WalkLemmas.{first_value-rows, one_text-rows}
-use Rattle.chtab.specs.Line.{HasDefaultPlan, IsFaultOf, IsFlag, IsPlainIn, IsReadFrom, IsToldOf, chtab_form, faults_of, files_in, given_by, hops_in, number_in}
+use Rattle.clap.specs.declared.parser.matches.SubCommand.{SubCommand}
+use Rattle.clap.proofs.WalkLemmas.{one_text-rows}
+use Rattle.chtab.specs.Line.{IsFaultOf, IsFlag, IsFlagIn, IsGivenBy, IsReadFrom, IsToldOf, chtab_form, faults_of, given_by, name_of, number_in, number_of}
 use Rattle.chtab.specs.declared.line.Line.{Line}
 use Rattle.chtab.specs.declared.line.LineFault.{LineFault}
-
--- the first values of both arguments are the files
-pub two_files : (found : Found) (graph queries : Text) → Some graph ≡ first_value found (codes "GRAPH") → Some queries ≡ first_value found (codes "QUERIES") → Some graph ∷ Some queries ∷ [] ≡ files_in (rows_of found)
-two_files found graph queries is_graph is_queries =
-    let graph_is : Some graph ≡ _ = is_graph ∙ first_value-rows found (codes "GRAPH") in
-    let queries_is : Some queries ≡ _ = is_queries ∙ first_value-rows found (codes "QUERIES") in
-    rw (sym graph_is, sym queries_is)
+use Rattle.chtab.specs.declared.line.Tool.{Tool}
 
 -- a flag is read by its text
 flag_is : (text : Option Text) (flag : Bool) → (text ≡ None → flag ≡ false) → (text ≡ Some (codes "true") → flag ≡ true) → (text ≡ Some (codes "false") → flag ≡ false) → IsFlag text flag
 flag_is None flag none on off = none refl
 flag_is (Some text) flag none on off = ((λ e. on (ap (λ t. Some t) e)), (λ e. off (ap (λ t. Some t) e)))
 
-pub is_plain : (found : Found) (flag : Bool) → (one_text found (codes "plain") ≡ None → flag ≡ false) → (one_text found (codes "plain") ≡ Some (codes "true") → flag ≡ true) → (one_text found (codes "plain") ≡ Some (codes "false") → flag ≡ false) → IsPlainIn (rows_of found) flag
-is_plain found flag none on off =
+-- the flag that is read under a name is the one given
+pub is_flag : (found : Found) (name : Text) (flag : Bool) → (one_text found name ≡ None → flag ≡ false)
+    → (one_text found name ≡ Some (codes "true") → flag ≡ true) → (one_text found name ≡ Some (codes "false") → flag ≡ false)
+    → IsFlagIn (rows_of found) name flag
+is_flag found name flag none on off =
     let P : Option Text → Type 0 = λ text. IsFlag text flag in
-    subst P (one_text-rows found (codes "plain")) (flag_is _ flag none on off)
+    subst P (one_text-rows found name) (flag_is _ flag none on off)
 
--- the number that is read of the text given as `--hops` is the one that it writes
-pub is_hops : {E : Type 0} (gives : List ℕ → Result ℕ E → Type 0) (found : Found) (read : Option ℕ) (hops : ℕ) → ((text : List ℕ) (r : Result ℕ E) → gives text r → ParsesUnsigned 32 10 text r) → (one_text found (codes "hops") ≡ None → read ≡ None) → ((text : List ℕ) → one_text found (codes "hops") ≡ Some text → ReadsOne gives text read) → read ≡ Some hops → Some hops ≡ hops_in (rows_of found)
-is_hops {E} gives found read hops parses none value is =
-    let P : Option Text → Type 0 = λ text. Some hops ≡ option_map number_in text in
-    subst P (one_text-rows found (codes "hops")) (at (one_text found (codes "hops")) none value)
+-- the number that is read of the text given under a name is the one that it writes
+pub is_number : {E : Type 0} (gives : List ℕ → Result ℕ E → Type 0) (found : Found) (name : Text) (read : Option ℕ) (number : ℕ)
+    → ((text : List ℕ) (r : Result ℕ E) → gives text r → ParsesUnsigned 32 10 text r) → (one_text found name ≡ None → read ≡ None)
+    → ((text : List ℕ) → one_text found name ≡ Some text → ReadsOne gives text read) → read ≡ Some number
+    → Some number ≡ number_in (rows_of found) name
+is_number {E} gives found name read number parses none value is =
+    let P : Option Text → Type 0 = λ text. Some number ≡ option_map number_of text in
+    subst P (one_text-rows found name) (at (one_text found name) none value)
   where
-    at : (text : Option Text) → (text ≡ None → read ≡ None) → ((t : List ℕ) → text ≡ Some t → ReadsOne gives t read) → Some hops ≡ option_map number_in text
+    at : (text : Option Text) → (text ≡ None → read ≡ None) → ((t : List ℕ) → text ≡ Some t → ReadsOne gives t read)
+        → Some number ≡ option_map number_of text
     at None none value =
-        let bad : None ≡ Some hops = sym (none refl) ∙ is in
+        let bad : None ≡ Some number = sym (none refl) ∙ is in
         cc
     at (Some text) none value =
-        let reads : ReadsOne gives text (Some hops) = subst (λ (r : Option ℕ). ReadsOne gives text r) is (value text refl) in
-        let parsed = parses text (Ok hops) reads in
+        let reads : ReadsOne gives text (Some number) = subst (λ (r : Option ℕ). ReadsOne gives text r) is (value text refl) in
+        let parsed = parses text (Ok number) reads in
         ap (λ n. Some n) parsed.1
 
 -- what clap says of the faults of a command of this form holds of what is wrong with the words
@@ -51,12 +55,32 @@ of-faults P form words is said =
     let Q : App → Type 0 = λ f. is_simple_and_free f ≡ true → P (fault_of f words) in
     subst Q is said refl
 
--- the matches of a command of this form are those given by the words
-pub given-by : (form : App) (words : List Text) (matches : ArgMatches) (given : List Row) → form ≡ chtab_form → HasMatchesOf form words matches → Some given ≡ option_map (λ p. p.1) (subcommand_rows_of matches) → given_by words ≡ Some given
-given-by form words matches given is matched entered =
+-- the name and the rows of the subcommand that was entered
+entry_of : (entry : Option (Text × List Row)) (name : Text) (given : List Row) → Some name ≡ option_map (λ p. p.0) entry
+    → Some given ≡ option_map (λ p. p.1) entry → entry ≡ Some (name, given)
+entry_of None name given is_name is_given = cc
+entry_of (Some entry) name given is_name is_given =
+    let same_name : entry.0 ≡ name = cc in
+    let same_rows : entry.1 ≡ given = cc in
+    ap₂ (λ n rows. Some (n, rows)) same_name same_rows
+
+-- the name that the matches tell is the one that stands beside their rows
+name_of_entry : (matches : ArgMatches) → subcommand_name_of matches ≡ option_map (λ p. p.0) (subcommand_rows_of matches)
+name_of_entry matches = go (out-ArgMatches matches).subcommand
+  where
+    go : {Z : Type 0} (sub : Option (Box SubCommand Z))
+        → option_map (λ b. (out-SubCommand (box_value b)).name.now) sub ≡ option_map (λ p. p.0) (subcommand_rows sub)
+    go None = refl
+    go (Some b) = refl
+
+-- the matches of a command of this form, with the name that stands beside them, are those given by the words
+pub given-by : (form : App) (words : List Text) (matches : ArgMatches) (name : Text) (given : List Row) → form ≡ chtab_form
+    → HasMatchesOf form words matches → Some name ≡ subcommand_name_of matches → Some given ≡ option_map (λ p. p.1) (subcommand_rows_of matches)
+    → given_by words ≡ Some (name, given)
+given-by form words matches name given is matched is_name is_given =
     let P : App → Type 0 = λ f. HasMatchesOf f words matches in
     let same = subst P is matched refl in
-    ap (option_map (λ p. p.1)) (sym same.1) ∙ sym entered
+    sym same.1 ∙ entry_of (subcommand_rows_of matches) name given (is_name ∙ name_of_entry matches) is_given
 
 -- what is told of an error tells what is wrong with the words
 pub fault-told : (kinds : Kinds) (kind : ErrorKind) (fault : LineFault) → IsToldOf kind fault → (kind ≡ OutOfMemory) ⊎ IsAmong kind kinds → IsFaultOf kinds fault
@@ -66,7 +90,9 @@ fault-told kinds kind (LineFault.Refused text) told (inl memory) = absurd (told.
 fault-told kinds kind (LineFault.Refused text) told (inr among) = (kind, told.0, among)
 fault-told kinds kind LineFault.NoMemory told among = tt
 
--- a line that is right in each part is read from the words
-pub read-from : (answer : Result Line LineFault) (words : List Text) (given : List Row) → faults_of words ≡ [] → given_by words ≡ Some given → IfOk answer (λ line. IsPlainIn given line.options.plain) → IfOk answer (λ line. Some line.options.hops ≡ hops_in given) → IfOk answer HasDefaultPlan → IfOk answer (λ line. map (λ file. Some (string_bytes file)) line.files.items ≡ files_in given) → IfOk answer (IsReadFrom words)
-read-from (Ok line) words given right matched plain hops plan named = record { right = right; given = given; matched = matched; plain = plain; hops = hops; plan = plan; named = named }
-read-from (Err fault) words given right matched plain hops plan named = tt
+-- a line of the tool that the words name, with what they give it, is read from them
+pub read-from : (line : Line) (words : List Text) (tool : Tool) (given : List Row) → faults_of words ≡ []
+    → given_by words ≡ Some (name_of tool, given) → line.tool ≡ tool → IsGivenBy given line → IsReadFrom words line
+read-from line words tool given right matched is_tool read =
+    let named = subst (λ (t : Tool). given_by words ≡ Some (name_of t, given)) (sym is_tool) matched in
+    record { right = right; given = given; matched = named; read = read }

@@ -3,4 +3,6 @@ pub mod Fault
 pub mod Line
 pub mod Program
 pub mod Run
+pub mod TableText
+pub mod TextLaws
 pub mod Text

@@ -1,5 +1,5 @@
 -- The words of the command line, and what they say.
-use Rattle.std.specs.Prelude.{◌≡◌, ◌≢◌, ℕ, pos, ◌≤◌, [], ◌∷◌, Bool, List, Option, Some, None, true, false, codes, map, option_map, ⊤, vec_len}
+use Rattle.std.specs.Prelude.{◌≡◌, ◌≢◌, ℕ, pos, ◌≤◌, [], ◌∷◌, ◌++◌, Bool, List, Option, Some, None, true, false, codes, fold, length, map, option_map, ⊤, vec_len}
 use Rattle.std.specs.Str.Parse.{digits_value, without_leading_plus}
 use Rattle.std.specs.String.{string_bytes}
 use Rattle.clap.specs.Words.{App, IsAmong, Kinds, Row, Rule, Text, fault_of, first_of, new_app, new_rule, one_of, subcommand_of, with_rule, with_subcommand}
@@ -8,77 +8,114 @@ use Rattle.clap.specs.declared.builder.ArgAction.TheVariants.{Set, SetTrue}
 use Rattle.clap.specs.declared.builder.value_parser.ValueParser.TheVariants as parser
 use Rattle.clap.specs.declared.error.kind.ErrorKind.{ErrorKind}
 use Rattle.clap.specs.declared.error.kind.ErrorKind.TheVariants.{DisplayHelp, OutOfMemory}
-use Rattle.ch_work.specs.Plan.{IsWithinLimits}
+use Rattle.ch_work.specs.Plan.{Division, IsWithinLimits}
 use Rattle.chtab.specs.declared.line.Line.{Line}
 use Rattle.chtab.specs.declared.line.LineFault.{LineFault}
+use Rattle.chtab.specs.declared.line.Tool.{Tool}
+use Rattle.chtab.specs.declared.line.Tool.TheVariants.{Dist, Table}
+use Rattle.chtab.specs.declared.options.Options.{Options}
 
--- the flag `--plain`
-abbrev pub plain_rule : Rule
-plain_rule = record (new_rule (codes "plain")) { long = Some (codes "plain"); action = Some SetTrue }
+-- the word that names a tool
+abbrev pub name_of : Tool → Text
+name_of Dist = codes "dist"
+name_of Table = codes "table"
 
--- the option `--hops H`: a number from 1 to 16, and 5 where the words give none
-abbrev pub hops_rule : Rule
-hops_rule = record (new_rule (codes "hops")) { long = Some (codes "hops"); action = Some Set; value_names = 1; parser = Some (parser.Signed (pos 1) (pos 16)); defaults = codes "5" ∷ [] }
+-- the files of a tool, in their order
+abbrev pub file_names : Tool → List Text
+file_names Dist = codes "GRAPH" ∷ codes "QUERIES" ∷ []
+file_names Table = codes "GRAPH" ∷ codes "SOURCES" ∷ codes "TARGETS" ∷ []
+
+-- a flag
+abbrev pub flag_rule : Text → Rule
+flag_rule name = record (new_rule name) { long = Some name; action = Some SetTrue }
+
+-- an option: a number from 1 to the most, and the default where the words give none
+abbrev pub number_rule : Text → ℕ → Text → Rule
+number_rule name most default =
+    record (new_rule name) { long = Some name; action = Some Set; value_names = 1; parser = Some (parser.Signed (pos 1) (pos most)); defaults = default ∷ [] }
 
 -- a file that must be named
 abbrev pub file_rule : Text → Rule
 file_rule name = record (new_rule name) { required = true; action = Some Set }
 
--- `dist [--plain] [--hops H] GRAPH QUERIES`
-abbrev pub dist_form : App
-dist_form = with_rule (with_rule (with_rule (with_rule (new_app (codes "dist")) plain_rule) hops_rule) (file_rule (codes "GRAPH"))) (file_rule (codes "QUERIES"))
+-- `[--plain] [--routes]`, which `dist` alone reads
+abbrev pub flag_rules : Tool → List Rule
+flag_rules Dist = flag_rule (codes "plain") ∷ flag_rule (codes "routes") ∷ []
+flag_rules Table = []
+
+-- `[--workers N] [--piece K] [--hops H]`, which each tool reads
+abbrev pub number_rules : List Rule
+number_rules = number_rule (codes "workers") 64 (codes "1") ∷ number_rule (codes "piece") 1048576 (codes "64") ∷ number_rule (codes "hops") 16 (codes "5") ∷ []
+
+-- the words after a tool's name: its flags, its numbers and its files
+abbrev pub form_of : Tool → App
+form_of tool = fold with_rule (new_app (name_of tool)) (flag_rules tool ++ number_rules ++ map file_rule (file_names tool))
+
+-- the program's own words, before its tools are added
+abbrev pub program_form : App
+program_form = on_top (λ s. record s { no_binary_name = true; subcommand_required = true; disable_help_subcommand = true }) (new_app (codes "chtab"))
 
 -- the words after the program's name: a tool, and its words
 abbrev pub chtab_form : App
-chtab_form = with_subcommand (on_top (λ s. record s { no_binary_name = true; subcommand_required = true; disable_help_subcommand = true }) (new_app (codes "chtab"))) dist_form.top
+chtab_form = with_subcommand (with_subcommand program_form (form_of Dist).top) (form_of Table).top
 
 -- what is wrong with the words, as clap tells it: nothing, or the kinds of fault that come first
 abbrev pub faults_of : List Text → Kinds
 faults_of = fault_of chtab_form
 
--- what each argument of `dist` is given by the words, as clap matches them
-abbrev pub given_by : List Text → Option (List Row)
-given_by words = option_map (λ p. p.1) (subcommand_of chtab_form words)
+-- the name of the tool that the words name, and what each argument of it is given, as clap matches them
+abbrev pub given_by : List Text → Option (Text × List Row)
+given_by = subcommand_of chtab_form
 
 -- a flag is on where its text is `true`, and off where that is `false` or there is none
 abbrev pub IsFlag : Option Text → Bool → Type 0
 IsFlag None flag = flag ≡ false
 IsFlag (Some text) flag = (text ≡ codes "true" → flag ≡ true) × (text ≡ codes "false" → flag ≡ false)
 
--- whether `--plain` is given
-abbrev pub IsPlainIn : List Row → Bool → Type 0
-IsPlainIn given = IsFlag (one_of (codes "plain") given)
+-- whether the flag of this name is given
+abbrev pub IsFlagIn : List Row → Text → Bool → Type 0
+IsFlagIn given name = IsFlag (one_of name given)
 
 -- the number that a text writes in decimal digits, which may follow a `+`
-abbrev pub number_in : Text → ℕ
-number_in text = digits_value 10 (without_leading_plus text)
+abbrev pub number_of : Text → ℕ
+number_of text = digits_value 10 (without_leading_plus text)
 
--- the number given as `--hops`, or its default
-abbrev pub hops_in : List Row → Option ℕ
-hops_in given = option_map number_in (one_of (codes "hops") given)
+-- the number given as the option of this name, or its default
+abbrev pub number_in : List Row → Text → Option ℕ
+number_in given name = option_map number_of (one_of name given)
 
--- the files given as `GRAPH` and `QUERIES`
-abbrev pub files_in : List Row → List (Option Text)
-files_in given = first_of (codes "GRAPH") given ∷ first_of (codes "QUERIES") given ∷ []
+-- the files given for these names
+abbrev pub files_in : List Row → List Text → List (Option Text)
+files_in given = map (λ name. first_of name given)
 
--- one worker, 64 items in a piece, and a step's work shared from 64 items on
-abbrev pub HasDefaultPlan : Line → Type 0
-HasDefaultPlan line = line.plan ≡ record { workers = 1; piece = 64; wide = 64 }
+-- the flags of `dist` are as given, and those of `table` are off
+abbrev pub AreFlagsIn : List Row → Tool → Options → Type 0
+AreFlagsIn given Dist options = IsFlagIn given (codes "plain") options.plain × IsFlagIn given (codes "routes") options.routes
+AreFlagsIn given Table options = (options.plain ≡ false) × (options.routes ≡ false)
 
--- nothing is wrong with the words, and they give the line its flag, its hops and its files
+-- workers and pieces are as given, and a step's work is shared from 64 items on
+pub record IsPlanIn (given : List Row) (plan : Division) : Type 0 where
+  pub workers : Some plan.workers ≡ number_in given (codes "workers")
+  pub piece : Some plan.piece ≡ number_in given (codes "piece")
+  pub wide : plan.wide ≡ 64
+
+-- what the line holds is what its tool's arguments are given
+pub record IsGivenBy (given : List Row) (line : Line) : Type 0 where
+  pub flags : AreFlagsIn given line.tool line.options
+  pub hops : Some line.options.hops ≡ number_in given (codes "hops")
+  pub plan : IsPlanIn given line.plan
+  pub named : map (λ file. Some (string_bytes file)) line.files.items ≡ files_in given (file_names line.tool)
+
+-- nothing is wrong with the words, and they name the line's tool and give it what the line holds
 pub record IsReadFrom (words : List Text) (line : Line) : Type 0 where
   pub right : faults_of words ≡ []
   pub given : List Row
-  pub matched : given_by words ≡ Some given
-  pub plain : IsPlainIn given line.options.plain
-  pub hops : Some line.options.hops ≡ hops_in given
-  pub plan : HasDefaultPlan line
-  pub named : map (λ file. Some (string_bytes file)) line.files.items ≡ files_in given
+  pub matched : given_by words ≡ Some (name_of line.tool, given)
+  pub read : IsGivenBy given line
 
--- the numbers of a line are within the program's limits, and it names a graph and queries
+-- the numbers of a line are within the program's limits, and it names each file of its tool
 pub record IsAllowed (line : Line) : Type 0 where
-  pub files : vec_len line.files ≡ 2
-  pub routes : line.options.routes ≡ false
+  pub files : vec_len line.files ≡ length (file_names line.tool)
   pub some_hops : 1 ≤ line.options.hops
   pub few_hops : line.options.hops ≤ 16
   pub plan : IsWithinLimits line.plan

@@ -1,14 +1,16 @@
 -- What a run owes: the text that answers the bytes which it was given, or the fault of these bytes.
-use Rattle.std.specs.Prelude.{ℕ, List, Option, ⊤}
-use Rattle.ch_graph.specs.Graph.{Network}
+use Rattle.std.specs.Prelude.{◌≡◌, ◌≢◌, ℕ, ◌*◌, ◌^◌, ◌<◌, List, length, Option, ⊤}
+use Rattle.ch_graph.specs.Graph.{Network, IsWithinLimits}
 use Rattle.ch_read.specs.declared.fault.ReadFault.{ReadFault}
 use Rattle.ch_read.specs.declared.form.Form.TheVariants as Form
 use Rattle.ch_read.specs.Checks.{IsFault}
-use Rattle.ch_read.specs.Names.{NamesGraph, NamesQueries}
-use Rattle.chtab.specs.declared.fault.Which.TheVariants as Which
+use Rattle.ch_read.specs.Names.{NamesGraph, NamesQueries, NamesNodes}
+use Rattle.chtab.specs.declared.fault.Which.{Which}
 use Rattle.chtab.specs.declared.fault.RunFault.{RunFault}
+use Rattle.chtab.specs.declared.options.Options.{Options}
 use Rattle.chtab.specs.Device.{HasGiven}
-use Rattle.chtab.specs.Text.{IsDistanceText}
+use Rattle.chtab.specs.Text.{IsText}
+use Rattle.chtab.specs.TableText.{IsTableText}
 
 -- what an input has left before a run and after it, where it tells
 pub record Reading : Type 0 where
@@ -27,9 +29,28 @@ ReadsGraph graph g = ReadsAll graph (λ bytes. NamesGraph bytes g)
 abbrev pub ReadsQueries : Reading → ℕ → List (ℕ × ℕ) → Type 0
 ReadsQueries queries nodes pairs = ReadsAll queries (λ bytes. NamesQueries bytes nodes pairs)
 
--- the inputs name a graph and queries on it, and the text answers these
-abbrev pub IsAnsweredBy : Reading → Reading → List ℕ → Type 0
-IsAnsweredBy graph queries text = (g : Network) × (pairs : List (ℕ × ℕ)) × ReadsGraph graph g × ReadsQueries queries g.nodes pairs × IsDistanceText g pairs text
+-- the input was read to its end and names this list of nodes of a graph of so many
+abbrev pub ReadsNodes : Reading → ℕ → List ℕ → Type 0
+ReadsNodes list nodes listed = ReadsAll list (λ bytes. NamesNodes bytes nodes listed)
+
+-- the inputs name a graph within the limits and queries on it, and the text answers these as the options ask
+abbrev pub IsAnsweredBy : Options → Reading → Reading → List ℕ → Type 0
+IsAnsweredBy options graph queries text =
+    (g : Network) × (pairs : List (ℕ × ℕ)) × IsWithinLimits g × ReadsGraph graph g × ReadsQueries queries g.nodes pairs × IsText options g pairs text
+
+-- a table has at most 4,194,304 cells
+abbrev pub HasTooManyCells : List ℕ → List ℕ → Type 0
+HasTooManyCells sources targets = 2 ^ 22 < length sources * length targets
+
+-- the inputs name a graph and two lists of its nodes, and the text is the table of these
+abbrev pub IsTabledBy : Reading → Reading → Reading → List ℕ → Type 0
+IsTabledBy graph sources targets text =
+    (g : Network) × (from to : List ℕ) × ReadsGraph graph g × ReadsNodes sources g.nodes from × ReadsNodes targets g.nodes to × (HasTooManyCells from to → ⊥) × IsTableText g from to text
+
+-- the inputs name a graph and two lists of its nodes that make too many cells
+abbrev pub HasCellsRefused : Reading → Reading → Reading → Type 0
+HasCellsRefused graph sources targets =
+    (g : Network) × (from to : List ℕ) × ReadsGraph graph g × ReadsNodes sources g.nodes from × ReadsNodes targets g.nodes to × HasTooManyCells from to
 
 -- the input was read to its end and has this fault as a graph
 abbrev pub IsGraphRefused : Reading → ReadFault → Type 0
@@ -39,37 +60,43 @@ IsGraphRefused graph fault = ReadsAll graph (λ bytes. IsFault Form.Graph bytes 
 abbrev pub IsQueriesRefused : Reading → ℕ → ReadFault → Type 0
 IsQueriesRefused queries nodes fault = ReadsAll queries (λ bytes. IsFault (Form.Queries nodes) bytes fault.line fault.kind)
 
--- the graph was refused or could not be read
-abbrev pub StopsAtGraph : RunFault → Type 0
-StopsAtGraph (RunFault.Graph fault) = ⊤
-StopsAtGraph (RunFault.Queries fault) = ⊥
-StopsAtGraph RunFault.Memory = ⊥
-StopsAtGraph (RunFault.Device Which.Graph) = ⊤
-StopsAtGraph (RunFault.Device Which.Queries) = ⊥
-StopsAtGraph (RunFault.Write count) = ⊥
+-- the input was read to its end and has this fault as a list of nodes of a graph of so many
+abbrev pub IsListRefused : Reading → ℕ → ReadFault → Type 0
+IsListRefused list nodes fault = ReadsAll list (λ bytes. IsFault (Form.Nodes nodes) bytes fault.line fault.kind)
+
+-- why an input has no bytes: it can't be read, or there is no memory
+abbrev pub IsUnread : Which → RunFault → Type 0
+IsUnread which (RunFault.Device input) = which ≡ input
+IsUnread which RunFault.Memory = ⊤
+IsUnread which (RunFault.Graph fault) = ⊥
+IsUnread which (RunFault.Queries fault) = ⊥
+IsUnread which (RunFault.Sources fault) = ⊥
+IsUnread which (RunFault.Targets fault) = ⊥
+IsUnread which RunFault.Cells = ⊥
+IsUnread which (RunFault.Write count) = ⊥
+
+-- what reading this input may end in: it is refused, it can't be read, or there is no memory
+abbrev pub IsOf : Which → RunFault → Type 0
+IsOf which (RunFault.Graph fault) = which ≡ Which.Graph
+IsOf which (RunFault.Queries fault) = which ≡ Which.Queries
+IsOf which (RunFault.Sources fault) = which ≡ Which.Sources
+IsOf which (RunFault.Targets fault) = which ≡ Which.Targets
+IsOf which RunFault.Cells = ⊥
+IsOf which RunFault.Memory = ⊤
+IsOf which (RunFault.Device input) = which ≡ input
+IsOf which (RunFault.Write count) = ⊥
+
+-- this input was refused or couldn't be read
+abbrev pub StopsAt : Which → RunFault → Type 0
+StopsAt which fault = IsOf which fault × (fault ≢ RunFault.Memory)
 
 -- the output refused a write
 abbrev pub IsWrite : RunFault → Type 0
+IsWrite (RunFault.Write count) = ⊤
 IsWrite (RunFault.Graph fault) = ⊥
 IsWrite (RunFault.Queries fault) = ⊥
+IsWrite (RunFault.Sources fault) = ⊥
+IsWrite (RunFault.Targets fault) = ⊥
+IsWrite RunFault.Cells = ⊥
 IsWrite RunFault.Memory = ⊥
 IsWrite (RunFault.Device which) = ⊥
-IsWrite (RunFault.Write count) = ⊤
-
--- what reading a graph may end in
-abbrev pub IsOfGraph : RunFault → Type 0
-IsOfGraph (RunFault.Graph fault) = ⊤
-IsOfGraph (RunFault.Queries fault) = ⊥
-IsOfGraph RunFault.Memory = ⊤
-IsOfGraph (RunFault.Device Which.Graph) = ⊤
-IsOfGraph (RunFault.Device Which.Queries) = ⊥
-IsOfGraph (RunFault.Write count) = ⊥
-
--- what reading queries may end in
-abbrev pub IsOfQueries : RunFault → Type 0
-IsOfQueries (RunFault.Graph fault) = ⊥
-IsOfQueries (RunFault.Queries fault) = ⊤
-IsOfQueries RunFault.Memory = ⊤
-IsOfQueries (RunFault.Device Which.Graph) = ⊥
-IsOfQueries (RunFault.Device Which.Queries) = ⊤
-IsOfQueries (RunFault.Write count) = ⊥

@@ -1,9 +1,9 @@
 //! Why a run gave no answer.
 
 ghost use Rattle.std.specs.Prelude.{◌≡◌, Some};
-ghost use Rattle.chtab.specs.Fault.{input_name, status_of};
+ghost use Rattle.chtab.specs.Fault.{input_name, refused_by, status_of};
 
-use ch_read::ReadFault;
+use ch_read::{ReadError, ReadFault};
 use std::alloc::{AllocError, AllocFailed};
 use std::fmt;
 use thiserror::Error;
@@ -13,6 +13,25 @@ use thiserror::Error;
 pub enum Which {
     Graph,
     Queries,
+    Sources,
+    Targets,
+}
+
+impl Which {
+    /// The fault of a run, where a reader refused what this input gave.
+    pub(crate) fn refusal(self, error: ReadError) -> RunFault
+        ensures { result ≡ refused_by self error }
+    {
+        match error {
+            ReadError::Fault(fault) => match self {
+                Which::Graph => RunFault::Graph(fault),
+                Which::Queries => RunFault::Queries(fault),
+                Which::Sources => RunFault::Sources(fault),
+                Which::Targets => RunFault::Targets(fault),
+            },
+            ReadError::NoMemory => RunFault::Memory,
+        }
+    }
 }
 
 impl fmt::Display for Which {
@@ -22,6 +41,8 @@ impl fmt::Display for Which {
         match self {
             Which::Graph => f.write_str("graph"),
             Which::Queries => f.write_str("queries"),
+            Which::Sources => f.write_str("sources"),
+            Which::Targets => f.write_str("targets"),
         }
     }
 }
@@ -37,6 +58,15 @@ pub enum RunFault {
     /// The queries' file has this fault.
     #[error("chtab: queries {0}")]
     Queries(ReadFault),
+    /// The sources' file has this fault.
+    #[error("chtab: sources {0}")]
+    Sources(ReadFault),
+    /// The targets' file has this fault.
+    #[error("chtab: targets {0}")]
+    Targets(ReadFault),
+    /// The sources times the targets are more than 2^22.
+    #[error("chtab: too many cells")]
+    Cells,
     /// There was no memory.
     #[error("chtab: out of memory")]
     Memory,
@@ -68,13 +98,18 @@ impl<T: Drop> From<AllocFailed<T>> for RunFault {
     }
 }
 
-/// The program's exit status for a fault: 1 where a file was refused, 3 where the system refused
+/// The program's exit status for a fault: 1 where a file or the
+/// size of a table was refused, 3 where the system refused
 /// memory, a file or a write.
 pub fn status(fault: &RunFault) -> u8
     ensures { result ≡ status_of fault.now }
 {
     match fault {
-        RunFault::Graph(_) | RunFault::Queries(_) => 1,
+        RunFault::Graph(_)
+        | RunFault::Queries(_)
+        | RunFault::Sources(_)
+        | RunFault::Targets(_)
+        | RunFault::Cells => 1,
         RunFault::Memory | RunFault::Device(_) | RunFault::Write(_) => 3,
     }
 }

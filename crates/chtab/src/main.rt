@@ -3,6 +3,7 @@
 
 mod device;
 mod fault;
+pub mod laws;
 mod line;
 mod options;
 mod plan;

@@ -8,10 +8,11 @@ use crate::device::{ReaderInput, WriterOutput, write_all};
 use crate::fault::{RunFault, Which, status};
 use crate::line::{Line, LineFault, Tool, line_status, read_words, refused};
 use crate::plan::Open;
-use crate::run::run_dist;
+use crate::run::{run_dist, run_table};
 use std::alloc::{AllocError, Global};
 use std::io::ErrorKind;
 use std::rt::{Env, Files};
+use std::thread::Threads;
 use std::{env, fs, io};
 
 /// Why the program ends with no answer.
@@ -65,12 +66,17 @@ fn opened<R: Files>(rt: &R, path: &str, which: Which) -> Result<R::File, RunFaul
 }
 
 /// Answers the queries of a line. Both files are opened before either is read.
-fn dist<R: Files + Print + AllocGlobal>(rt: &R, line: &Line) -> Result<(), RunFault>
-    requires { IsAllowed line.now }
+fn dist<R: Files + Print + Threads + Sync + AllocGlobal>(
+    rt: &R,
+    line: &Line,
+) -> Result<(), RunFault>
+    requires allowed { IsAllowed line.now }
+    requires tool { line.now.tool ≡ Tool.Dist }
 {
     let graph = opened(rt, line.files[0].as_str(), Which::Graph)?;
     let queries = opened(rt, line.files[1].as_str(), Which::Queries)?;
     run_dist(
+        rt,
         rt.alloc(),
         &mut ReaderInput::new(graph),
         &mut ReaderInput::new(queries),
@@ -81,12 +87,39 @@ fn dist<R: Files + Print + AllocGlobal>(rt: &R, line: &Line) -> Result<(), RunFa
     )
 }
 
-fn answered<R: Env + Files + Print + AllocGlobal>(rt: &R) -> Result<(), ProgramFault> {
+/// Makes the table of a line. All files are opened before one is read.
+fn table<R: Files + Print + Threads + Sync + AllocGlobal>(
+    rt: &R,
+    line: &Line,
+) -> Result<(), RunFault>
+    requires allowed { IsAllowed line.now }
+    requires tool { line.now.tool ≡ Tool.Table }
+{
+    let graph = opened(rt, line.files[0].as_str(), Which::Graph)?;
+    let sources = opened(rt, line.files[1].as_str(), Which::Sources)?;
+    let targets = opened(rt, line.files[2].as_str(), Which::Targets)?;
+    run_table(
+        rt,
+        rt.alloc(),
+        &mut ReaderInput::new(graph),
+        &mut ReaderInput::new(sources),
+        &mut ReaderInput::new(targets),
+        &mut WriterOutput::new(io::writer(rt)),
+        &line.options,
+        &line.plan,
+        &Open,
+    )
+}
+
+fn answered<R: Env + Files + Print + Threads + Sync + AllocGlobal>(
+    rt: &R,
+) -> Result<(), ProgramFault> {
     let words = words_of(rt)?;
     let texts = texts_of(rt.alloc(), &words)?;
     let line = read_words(rt.alloc(), &texts)?;
     match line.tool {
         Tool::Dist => Ok(dist(rt, &line)?),
+        Tool::Table => Ok(table(rt, &line)?),
     }
 }
 
@@ -95,7 +128,7 @@ fn help_written<R: Print>(rt: &R, text: &str) -> Result<(), RunFault> {
 }
 
 /// Does what the words ask for: an answer, or help.
-fn done<R: Env + Files + Print + AllocGlobal>(rt: &R) -> Result<(), ProgramFault> {
+fn done<R: Env + Files + Print + Threads + Sync + AllocGlobal>(rt: &R) -> Result<(), ProgramFault> {
     match answered(rt) {
         Err(ProgramFault::Line(LineFault::Help(text))) => Ok(help_written(rt, text.as_str())?),
         answer => answer,
@@ -125,7 +158,7 @@ fn told<R: Eprint>(rt: &R, fault: &ProgramFault) -> u8
 
 /// Runs the program, and gives its exit status: 0 where it is done, 1 where a file was refused, 2
 /// where the words were, 3 where the system refused memory, a file or a write.
-pub fn run<R: Env + Files + Print + Eprint + AllocGlobal>(rt: &R) -> u8 {
+pub fn run<R: Env + Files + Print + Eprint + Threads + Sync + AllocGlobal>(rt: &R) -> u8 {
     match done(rt) {
         Ok(()) => 0,
         Err(fault) => told(rt, &fault),

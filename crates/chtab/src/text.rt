@@ -1,78 +1,131 @@
-//! The text of answers: a line `d S T X` for each query, with nodes counted from 1, and `-` for the
-//! distance where there is no walk.
-ghost use Rattle.std.specs.Prelude.{◌≡◌, ◌<◌, ◌++◌, All, IfOk, OnOk, decimal};
-ghost use Rattle.ch_contract.specs.Legs.{IsHopBound};
-ghost use Rattle.chtab.specs.Text.{AreQueries, IsDistanceText, answer_text, weight_text};
+//! The texts of answers and tables, with nodes counted from 1. An answer is a line `d S T X`, with `-` for
+//! the distance where there is no walk; with its route a line `r K` and K lines `a U V W` follow. A row of a
+//! table is a line `t S`, with the distance to each target after it.
+ghost use Rattle.std.specs.Prelude.{◌≡◌, ◌≤◌, ◌++◌, length, flat_map, Some, IfOk, OnOk, decimal};
+ghost use Rattle.std.specs.List.{zip};
+ghost use Rattle.chtab.specs.Text.{answer_text, arc_text, distance_text, node_text, route_text, weight_text};
+ghost use Rattle.chtab.specs.TableText.{cell_text, row_text};
 
-use ch_contract::build;
-use ch_graph::{Graph, plain_distance};
-use ch_query::{Scratch, distance};
-use ch_work::{Gate, Plan};
+use ch_graph::InArc;
+use ch_query::{Answer, Arcs};
+use ch_table::Table;
 use itoa::Buffer;
 use std::alloc::{AllocError, Global};
 
-/// The text that answers the queries in order, each by its plain distance.
+/// The text of the answers, in order.
 ///
 /// # Errors
-/// `AllocError` where there is no memory for the text or for the labels of a search.
-pub fn plain_text(
-    alloc: Global,
-    graph: &Graph,
-    queries: &[(u32, u32)],
-) -> Result<Vec<u8>, AllocError>
-    requires { AreQueries graph.now.nodes queries.now }
-    ensures { IfOk result (λ text. IsDistanceText graph.now queries.now text.items) }
+/// `AllocError` where there is no memory for it.
+pub fn answers_text(alloc: Global, answers: &[Answer]) -> Result<Vec<u8>, AllocError>
+    ensures { IfOk result (λ text. text.items ≡ flat_map answer_text answers.now) }
 {
     let mut text = Vec::new(alloc);
-    for (from, to) in queries {
-        let weight = plain_distance(alloc, graph, *from, *to)?;
-        push_answer(&mut text, *from, *to, weight)?;
+    for answer in answers {
+        push_answer(&mut text, answer)?;
     }
     Ok(text)
 }
 
-/// The text that answers the queries in order, each by the graph's contraction hierarchy: the same text.
+/// The text of the rows of a table, one for each of its sources in order.
 ///
 /// # Errors
-/// `AllocError` where there is no memory for the text, the hierarchy or the room of a search.
-pub fn hierarchy_text<G: Gate>(
-    alloc: Global,
-    graph: &Graph,
-    queries: &[(u32, u32)],
-    hops: u32,
-    plan: &Plan,
-    gate: &G,
-) -> Result<Vec<u8>, AllocError>
-    requires queries { AreQueries graph.now.nodes queries.now }
-    requires hops { IsHopBound hops }
-    ensures { IfOk result (λ text. IsDistanceText graph.now queries.now text.items) }
+/// `AllocError` where there is no memory for it.
+pub fn table_text(alloc: Global, sources: &[u32], table: &Table) -> Result<Vec<u8>, AllocError>
+    requires count { length sources.now ≤ 65536 }
+    requires rows { length table.now ≡ length sources.now }
+    ensures { IfOk result (λ text. text.items ≡ flat_map row_text (zip sources.now table.now)) }
 {
-    let hierarchy = build(alloc, graph, hops, plan, gate)?;
-    let mut scratch = Scratch::new(alloc, graph.nodes())?;
     let mut text = Vec::new(alloc);
-    for (from, to) in queries {
-        let weight = distance(&hierarchy, &mut scratch, *from, *to);
-        push_answer(&mut text, *from, *to, weight)?;
+    for (place, source) in sources.iter().enumerate() {
+        push_row(&mut text, *source, table.row(place as u32))?;
     }
     Ok(text)
 }
 
-/// Adds the line of one answer.
-fn push_answer(
-    text: &mut Vec<u8>,
-    from: u32,
-    to: u32,
-    weight: Option<u64>,
-) -> Result<(), AllocError>
-    ensures { OnOk result (text.new.items ≡ text.old.items ++ answer_text (record { from = from; to = to; weight = weight })) }
+/// Adds the row of a source.
+fn push_row(text: &mut Vec<u8>, source: u32, cells: &[Option<u64>]) -> Result<(), AllocError>
+    ensures { OnOk result (text.new.items ≡ text.old.items ++ row_text (source, cells.now)) }
+{
+    push_all(text, b"t ")?;
+    push_node(text, source)?;
+    push_cells(text, cells)?;
+    push_all(text, b"\n")
+}
+
+/// Adds the cells of a row.
+fn push_cells(text: &mut Vec<u8>, cells: &[Option<u64>]) -> Result<(), AllocError>
+    ensures { OnOk result (text.new.items ≡ text.old.items ++ flat_map cell_text cells.now) }
+{
+    for cell in cells {
+        push_all(text, b" ")?;
+        push_weight(text, *cell)?;
+    }
+    Ok(())
+}
+
+/// Adds an answer, with its route where it has one.
+fn push_answer(text: &mut Vec<u8>, answer: &Answer) -> Result<(), AllocError>
+    ensures { OnOk result (text.new.items ≡ text.old.items ++ answer_text answer.now) }
+{
+    push_distance(text, answer)?;
+    match &answer.arcs {
+        Some(arcs) => push_route(text, arcs),
+        None => Ok(()),
+    }
+}
+
+/// Adds the line of a distance.
+fn push_distance(text: &mut Vec<u8>, answer: &Answer) -> Result<(), AllocError>
+    ensures { OnOk result (text.new.items ≡ text.old.items ++ distance_text answer.now) }
 {
     push_all(text, b"d ")?;
-    push_number(text, from as u64 + 1)?;
+    push_node(text, answer.from)?;
     push_all(text, b" ")?;
-    push_number(text, to as u64 + 1)?;
+    push_node(text, answer.to)?;
     push_all(text, b" ")?;
-    push_weight(text, weight)?;
+    push_weight(text, answer.weight)?;
     push_all(text, b"\n")
+}
+
+/// Adds the lines of a route: the number of its arcs, and the arcs.
+fn push_route(text: &mut Vec<u8>, arcs: &Arcs) -> Result<(), AllocError>
+    ensures { OnOk result (text.new.items ≡ text.old.items ++ route_text (Some arcs.now)) }
+{
+    let arcs = arcs.as_slice();
+    push_all(text, b"r ")?;
+    push_number(text, arcs.len() as u64)?;
+    push_all(text, b"\n")?;
+    push_arcs(text, arcs)
+}
+
+/// Adds a line for each arc.
+fn push_arcs(text: &mut Vec<u8>, arcs: &[InArc]) -> Result<(), AllocError>
+    ensures { OnOk result (text.new.items ≡ text.old.items ++ flat_map arc_text arcs.now) }
+{
+    for arc in arcs {
+        push_arc(text, arc)?;
+    }
+    Ok(())
+}
+
+/// Adds the line of an arc.
+fn push_arc(text: &mut Vec<u8>, arc: &InArc) -> Result<(), AllocError>
+    ensures { OnOk result (text.new.items ≡ text.old.items ++ arc_text arc.now) }
+{
+    push_all(text, b"a ")?;
+    push_node(text, arc.from)?;
+    push_all(text, b" ")?;
+    push_node(text, arc.to)?;
+    push_all(text, b" ")?;
+    push_number(text, arc.weight)?;
+    push_all(text, b"\n")
+}
+
+/// Adds a node, counted from 1.
+fn push_node(text: &mut Vec<u8>, node: u32) -> Result<(), AllocError>
+    ensures { OnOk result (text.new.items ≡ text.old.items ++ node_text node) }
+{
+    push_number(text, node as u64 + 1)
 }
 
 /// Adds a distance, or `-` where there is none.

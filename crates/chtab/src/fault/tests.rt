@@ -19,6 +19,17 @@ fn each_fault_has_its_line_and_status(rt: HostRuntime) -> Result<(), Fail> {
             "chtab: queries line 2: node out of range",
             1,
         ),
+        (
+            RunFault::Sources(fault),
+            "chtab: sources line 2: node out of range",
+            1,
+        ),
+        (
+            RunFault::Targets(fault),
+            "chtab: targets line 2: node out of range",
+            1,
+        ),
+        (RunFault::Cells, "chtab: too many cells", 1),
         (RunFault::Memory, "chtab: out of memory", 3),
         (
             RunFault::Device(Which::Graph),
@@ -28,6 +39,16 @@ fn each_fault_has_its_line_and_status(rt: HostRuntime) -> Result<(), Fail> {
         (
             RunFault::Device(Which::Queries),
             "chtab: cannot read queries",
+            3,
+        ),
+        (
+            RunFault::Device(Which::Sources),
+            "chtab: cannot read sources",
+            3,
+        ),
+        (
+            RunFault::Device(Which::Targets),
+            "chtab: cannot read targets",
             3,
         ),
         (RunFault::Write(0), "chtab: cannot write after 0 bytes", 3),

@@ -11,13 +11,13 @@ pub next-requires : goal.next-requires
 next-requires g c = c.loop-node.invariant.after.sizes
 
 pub contract-requires-clause-sizes : goal.contract-requires-clause-sizes
-contract-requires-clause-sizes g c = c.loop-node.invariant.after.sizes
+contract-requires-clause-sizes g c lifetimes within = c.loop-node.invariant.after.sizes
 
 pub contract-requires-clause-limits : goal.contract-requires-clause-limits
-contract-requires-clause-limits g c = underway_within _ _ _ c.loop-node.invariant
+contract-requires-clause-limits g c lifetimes within = underway_within _ _ _ c.loop-node.invariant
 
 pub contract-requires-clause-count : goal.contract-requires-clause-count
-contract-requires-clause-count g c = underway_count _ _ _ _ c.loop-node.invariant c.in-Some.ensures
+contract-requires-clause-count g c lifetimes within = underway_count _ _ _ _ c.loop-node.invariant c.in-Some.ensures
 
 pub loop-node-preserved : goal.loop-node-preserved
 loop-node-preserved g c = underway_next _ _ _ _ _ c.loop-node.invariant c.in-Some.ensures c.in_ok-construction-2.ensures

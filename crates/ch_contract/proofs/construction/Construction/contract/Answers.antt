@@ -1,22 +1,31 @@
-use Rattle.std.proofs.Common.{◌≡◌, ℕ, List, sym, ◌∙◌, ap, refl, subst, length, get_or, take, drop, ◌++◌, ◌+◌, ◌<◌, ℤ, arith, length-set}
+use Rattle.std.proofs.Common.{◌≡◌, ℕ, List, sym, ◌∙◌, ap, refl, subst, length, take, drop, ◌++◌, ◌+◌, ◌<◌, ℤ, arith, length-set}
+use Rattle.std.specs.Prelude.{All}
 use Rattle.std.proofs.lemmas.List.{map-set, take_all, take-append-le}
 use Rattle.std.specs.Vec.{with_items, with_item}
 use Rattle.ch_contract.specs.declared.construction.Construction.{Construction}
 use Rattle.ch_contract.specs.declared.leg.Leg.{Leg}
 use Rattle.ch_contract.specs.Legs.{Legs}
 use Rattle.ch_contract.specs.Priorities.{AreRefreshed, neighbours_in}
-use Rattle.ch_contract.proofs.ConstructionCalls.{stepped, neighbours_within}
+use Rattle.ch_contract.proofs.ConstructionCalls.{stepped, neighbours_within, neighbours_count}
 use Rattle.ch_contract.proofs.construction.Construction.contract.Goals as goal
 
 -- the neighbours, as they are lent, are those of the rows
 listed : (ups downs up down : List Leg) (items lent : List ℕ) → ups ≡ up → downs ≡ down → items ≡ neighbours_in ups downs → lent ≡ items → lent ≡ neighbours_in up down
 listed ups downs up down items lent a b c d = d ∙ c ∙ ap (λ l. neighbours_in l downs) a ∙ ap (neighbours_in up) b
 
-pub refresh-requires-clause-nodes : goal.refresh-requires-clause-nodes
-refresh-requires-clause-nodes c =
-    subst (λ n. (k d : ℕ) → k < length c.as_slice-3.result.now → get_or c.as_slice-3.result.now k d < n) (sym c.in_ok-remaining.ensures.nodes)
-    (neighbours_within _ _ _ _ _ _ c.in_ok-remaining.ensures.up c.in_ok-remaining.ensures.down c.requires.limits
-    (listed _ _ _ _ _ _ c.as_slice.ensures.value c.as_slice-2.ensures.value c.in_ok-neighbours.ensures c.as_slice-3.ensures.value))
+pub invariant_of-job : goal.invariant_of-job
+invariant_of-job g c =
+    let nodes = c.in_ok-remaining.ensures.nodes in
+    let list = listed _ _ _ _ _ _ c.as_slice.ensures.value c.as_slice-2.ensures.value c.in_ok-neighbours.ensures c.as_slice-3.ensures.value in
+    let up = c.in_ok-remaining.ensures.up in
+    let down = c.in_ok-remaining.ensures.down in
+    let few = neighbours_count _ _ _ _ _ _ c.requires.limits up down list in
+    let most = c.requires.sizes.nodes in
+    record {
+      count = omega arith;
+      within = subst (λ n. All (λ x. x < n) c.as_slice-3.result.now) (sym nodes) (neighbours_within _ _ _ _ _ _ up down c.requires.limits list);
+      bound = c.requires.hops;
+    }
 
 -- priorities that were lent, with new ones written over them
 written_back : {X : Type 0} (n : ℕ) (old new : List X) → n ≡ length old → length new ≡ length old → take n (new ++ drop (length new) old) ≡ new
@@ -28,7 +37,7 @@ refreshed n h L list lent len old given new a b size r =
     subst (AreRefreshed n h L list old) (sym (written_back len old new size one.size)) one
 
 pub returns : goal.returns
-returns c =
+returns g c =
     let list = listed _ _ _ _ _ _ c.as_slice.ensures.value c.as_slice-2.ensures.value c.in_ok-neighbours.ensures c.as_slice-3.ensures.value in
     let after : Construction = record {
       remaining = c.in_ok-remaining.remaining;

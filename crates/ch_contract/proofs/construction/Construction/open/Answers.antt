@@ -3,7 +3,7 @@ use Rattle.ch_contract.proofs.ConstructionCalls.{opened}
 use Rattle.ch_contract.proofs.construction.Construction.open.Goals as goal
 
 pub returns : goal.returns
-returns c =
+returns g c =
     let nodes = c.nodes-nodes.ensures.nodes in
     opened _ _ _ (record {
       nodes = c.in_ok-remaining.ensures.nodes;

@@ -1,0 +1,5 @@
+use Rattle.ch_query.proofs.RouteWalks.{route_least_walk}
+use Rattle.ch_query.proofs.laws.routes_are_least_walks.Goals as goal
+
+pub returns : goal.returns
+returns c g H s t route limits kept = route_least_walk g H kept limits s t route

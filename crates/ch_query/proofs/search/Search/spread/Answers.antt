@@ -1,0 +1,34 @@
+use Rattle.std.proofs.Common.{sym, ◌∙◌, subst}
+use Rattle.std.proofs.lemmas.Result.{IfOk-weaker}
+use Rattle.ch_query.specs.Underway.{rows_of}
+use Rattle.ch_query.specs.Spread.{IsSpread}
+use Rattle.ch_query.proofs.Spreading.{touched_sorted, spread_of}
+use Rattle.ch_query.proofs.search.Search.spread.Goals as goal
+
+pub listed-list-requires : goal.listed-list-requires
+listed-list-requires c =
+    let sorted = c.sort_unstable.ensures in
+    record { touched = touched_sorted _ _ _ c.explore.ensures.underway.touched sorted.permutation sorted.sorted sorted.len sorted.capacity }
+
+pub clean-requires : goal.clean-requires
+clean-requires c =
+    let sorted = c.sort_unstable.ensures in
+    let was = c.explore.ensures.underway in
+    record {
+      room = record {
+        queue = was.search.sizes.1 ∙ sym was.search.sizes.0;
+        parents = was.parents.size;
+        touched = touched_sorted _ _ _ was.touched sorted.permutation sorted.sorted sorted.len sorted.capacity;
+      };
+    }
+
+pub returns-clause-spread : goal.returns-clause-spread
+returns-clause-spread c =
+    let same = c.explore.ensures.same in
+    let sorted = c.sort_unstable.ensures in
+    let H = c.args.hierarchy.now in
+    let side = c.args.self.now.side in
+    let begun = c.begin.ensures in
+    let is = spread_of H c.explore.new.self c.sort_unstable.new.self c.args.source side c.explore.ensures.underway
+    (same.stalls ∙ begun.stalls) (same.source ∙ begun.source) (same.side ∙ begun.side) c.explore.ensures.done sorted.permutation sorted.sorted in
+    IfOk-weaker _ _ _ (λ list e. subst (IsSpread (rows_of H side) c.args.source) (sym e) is) c.listed-list.ensures

@@ -1,0 +1,85 @@
+//! Searches without an end.
+ghost use Rattle.std.specs.Prelude.{◌≡◌, ◌<◌, IfOk, map};
+ghost use Rattle.ch_contract.specs.Hierarchy.{nodes_of};
+ghost use Rattle.ch_query.specs.Search.{IsEmpty};
+ghost use Rattle.ch_query.specs.Underway.{rows_of, IsTouched, IsSameSearch, IsUnderway, IsClean};
+ghost use Rattle.ch_query.specs.Spread.{IsSpread, entry};
+
+use crate::scratch::Scratch;
+use crate::search::Search;
+use crate::side::Side;
+use ch_contract::Hierarchy;
+use ch_graph::Cost;
+use std::alloc::{AllocError, Global};
+
+impl Search {
+    // Settles all nodes that can be reached.
+    fn explore(&mut self, hierarchy: &Hierarchy)
+        requires underway { IsUnderway hierarchy.now self.old }
+        ensures underway { IsUnderway hierarchy.now self.new }
+        ensures done { IsEmpty self.new.queue }
+        ensures same { IsSameSearch self.old self.new }
+    {
+        while let Some((cost, node)) = self.queue.pop() {
+            self.expand(hierarchy, node, cost);
+        }
+    }
+
+    // The touched nodes with their costs.
+    fn listed(&self, alloc: Global) -> Result<Vec<(u32, Cost)>, AllocError>
+        requires touched { IsTouched self.now.costs.items self.now.touched }
+        ensures { IfOk result (λ list. list.items ≡ map (entry self.now.costs.items) self.now.touched.items) }
+    {
+        let mut list = Vec::with_capacity(alloc, self.touched.len())?;
+        for node in &self.touched {
+            if let Some(cost) = self.costs[*node as usize] {
+                list.push_reserved((*node, cost));
+            }
+        }
+        Ok(list)
+    }
+
+    // All least costs from the source. The search is clean afterwards, also where there is no memory.
+    fn spread(
+        &mut self,
+        alloc: Global,
+        hierarchy: &Hierarchy,
+        source: u32,
+    ) -> Result<Vec<(u32, Cost)>, AllocError>
+        requires clean { IsClean (nodes_of hierarchy.now) self.old }
+        requires source { source < nodes_of hierarchy.now }
+        ensures spread { IfOk result (λ list. IsSpread (rows_of hierarchy.now self.old.side) source list.items) }
+        ensures clean { IsClean (nodes_of hierarchy.now) self.new }
+        ensures side { self.new.side ≡ self.old.side }
+    {
+        self.begin(hierarchy, source, false);
+        self.explore(hierarchy);
+        self.touched.sort_unstable();
+        let list = self.listed(alloc);
+        self.clean();
+        list
+    }
+}
+
+/// The nodes that `source` reaches by legs to higher nodes in this direction, with the least costs of the
+/// paths, ordered by node.
+///
+/// # Errors
+/// `AllocError` where there is no memory for the list.
+pub fn spread(
+    alloc: Global,
+    hierarchy: &Hierarchy,
+    scratch: &mut Scratch,
+    source: u32,
+    side: Side,
+) -> Result<Vec<(u32, Cost)>, AllocError>
+    requires scratch { scratch.old ≡ nodes_of hierarchy.now }
+    requires source { source < nodes_of hierarchy.now }
+    ensures spread { IfOk result (λ list. IsSpread (rows_of hierarchy.now side) source list.items) }
+    ensures scratch { scratch.new ≡ scratch.old }
+{
+    match side {
+        Side::Up => scratch.up.spread(alloc, hierarchy, source),
+        Side::Down => scratch.down.spread(alloc, hierarchy, source),
+    }
+}

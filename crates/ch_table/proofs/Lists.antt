@@ -1,0 +1,89 @@
+-- What filters and maps leave in a list, and the order of two lists after each other.
+use Rattle.std.proofs.Common.{◌≡◌, Bool, true, false, cond, List, [], ◌∷◌, ◌++◌, length, map, Contains, refl, sym, ◌∙◌, ap, subst, arith, inl, inr}
+use Rattle.std.specs.Prelude.{◌⊎◌, AllPairs}
+use Rattle.std.specs.List.{AllZip, filter}
+use Rattle.std.proofs.lemmas.Bool.{false≢true}
+use Rattle.std.proofs.lemmas.List.Elements.{Contains-append_cases}
+use Rattle.ch_contract.proofs.Ordered.{contains_head, contains_tail, contains_cons, contains_none, pairs_tail, pairs_head, pairs_cons}
+
+module _ {X Y : Type 0} (f : X → Y) where
+  -- the image of what is in a list is in the list of images
+  pub contains_map : (xs : List X) (x : X) → Contains xs x → Contains (map f xs) (f x)
+  contains_map [] x h = absurd (contains_none x h)
+  contains_map (y ∷ xs) x h = elim (contains_cons y x xs h) [
+    | inl e ↦ subst (λ (q : X). Contains (f y ∷ map f xs) (f q)) e (contains_head (f y) (map f xs))
+    | inr later ↦ contains_tail (f x) (f y) (map f xs) (contains_map xs x later)
+  ]
+
+  -- and the other way round
+  pub contains_map_of : (xs : List X) (y : Y) → Contains (map f xs) y → (x : X) × Contains xs x × (f x ≡ y)
+  contains_map_of [] y h = absurd (contains_none y h)
+  contains_map_of (x ∷ xs) y h = elim (contains_cons (f x) y (map f xs) h) [
+    | inl e ↦ (x, contains_head x xs, e)
+    | inr later ↦ let r = contains_map_of xs y later in (r.0, contains_tail r.0 x xs r.1, r.2)
+  ]
+
+  -- where the images are related in order, so is the list of images
+  pub pairs_map : (R : Y → Y → Type 0) (xs : List X) → AllPairs (λ a b. R (f a) (f b)) xs → AllPairs R (map f xs)
+  pairs_map R [] h = λ i j d lt within. absurd (omega arith)
+  pairs_map R (x ∷ xs) h = pairs_cons R (f x) (map f xs)
+      (λ y c. let r = contains_map_of xs y c in subst (R (f x)) r.2 (pairs_head (λ a b. R (f a) (f b)) x r.0 xs h r.1))
+      (pairs_map R xs (pairs_tail (λ a b. R (f a) (f b)) x xs h))
+
+module _ {X : Type 0} (p : X → Bool) where
+  -- what passes the test stays
+  pub contains_filter : (xs : List X) (x : X) → Contains xs x → p x ≡ true → Contains (filter p xs) x
+  contains_filter [] x h t = absurd (contains_none x h)
+  contains_filter (y ∷ xs) x h t = at (p y) refl (contains_cons y x xs h) (λ later. contains_filter xs x later t)
+    where
+      at : (b : Bool) → p y ≡ b → (y ≡ x) ⊎ Contains xs x → (Contains xs x → Contains (filter p xs) x) → Contains (cond b (y ∷ filter p xs) (filter p xs)) x
+      at true e (inl is) more = subst (Contains (y ∷ filter p xs)) is (contains_head y (filter p xs))
+      at true e (inr later) more = contains_tail x y (filter p xs) (more later)
+      at false e (inl is) more = absurd (false≢true (sym e ∙ ap p is ∙ t))
+      at false e (inr later) more = more later
+
+  -- what stays was there, and passes
+  pub contains_filter_of : (xs : List X) (x : X) → Contains (filter p xs) x → Contains xs x × (p x ≡ true)
+  contains_filter_of [] x h = absurd (contains_none x h)
+  contains_filter_of (y ∷ xs) x h = at (p y) refl h (contains_filter_of xs x)
+    where
+      at : (b : Bool) → p y ≡ b → Contains (cond b (y ∷ filter p xs) (filter p xs)) x →
+          (Contains (filter p xs) x → Contains xs x × (p x ≡ true)) → Contains (y ∷ xs) x × (p x ≡ true)
+      at true e c more = elim (contains_cons y x (filter p xs) c) [
+        | inl is ↦ (subst (Contains (y ∷ xs)) is (contains_head y xs), ap p (sym is) ∙ e)
+        | inr later ↦ let r = more later in (contains_tail x y xs r.0, r.1)
+      ]
+      at false e c more = let r = more c in (contains_tail x y xs r.0, r.1)
+
+-- two lists after each other, where each of the first is related to each of the second
+pub pairs_append : {X : Type 0} (R : X → X → Type 0) (xs ys : List X) → AllPairs R xs → AllPairs R ys →
+    ((x y : X) → Contains xs x → Contains ys y → R x y) → AllPairs R (xs ++ ys)
+pairs_append R [] ys h k across = k
+pairs_append R (x ∷ xs) ys h k across = pairs_cons R x (xs ++ ys)
+    (λ y c. elim (Contains-append_cases xs ys y c) [
+      | inl here ↦ pairs_head R x y xs h here
+      | inr there ↦ across x y (contains_head x xs) there
+    ])
+    (pairs_append R xs ys (pairs_tail R x xs h) k (λ z y c d. across z y (contains_tail z x xs c) d))
+
+module _ {X Y : Type 0} (R : X → Y → Type 0) where
+  -- one pair more at the end
+  pub zipped_push : (xs : List X) (ys : List Y) (x : X) (y : Y) → AllZip R xs ys → R x y → AllZip R (xs ++ x ∷ []) (ys ++ y ∷ [])
+  zipped_push [] [] x y h r = (r, tt)
+  zipped_push [] (z ∷ ys) x y h r = absurd h
+  zipped_push (w ∷ xs) [] x y h r = absurd h
+  zipped_push (w ∷ xs) (z ∷ ys) x y h r = (h.0, zipped_push xs ys x y h.1 r)
+
+  -- related lists are of one length
+  pub zipped_length : (xs : List X) (ys : List Y) → AllZip R xs ys → length ys ≡ length xs
+  zipped_length [] [] h = refl
+  zipped_length [] (y ∷ ys) h = absurd h
+  zipped_length (x ∷ xs) [] h = absurd h
+  zipped_length (x ∷ xs) (y ∷ ys) h = let more = zipped_length xs ys h.1 in omega arith
+
+  -- a relation to images is one to what they are images of
+  pub zipped_map : {Z : Type 0} (f : Z → Y) (xs : List X) (zs : List Z) → AllZip (λ x z. R x (f z)) xs zs → AllZip R xs (map f zs)
+  zipped_map f [] [] h = tt
+  zipped_map f [] (z ∷ zs) h = absurd h
+  zipped_map f (x ∷ xs) [] h = absurd h
+  zipped_map f (x ∷ xs) (z ∷ zs) h = (h.0, zipped_map f xs zs h.1)

@@ -1,0 +1,11 @@
+use Rattle.std.proofs.Common.{◌≡◌}
+use Rattle.ch_contract.specs.Hierarchy.{nodes_of}
+use Rattle.ch_query.specs.Underway.{rows_of}
+use Rattle.ch_table.specs.Entries.{AreEntries}
+use Rattle.ch_table.proofs.buckets.entries.Given as goal
+
+abbrev pub invariant-loop-place : goal.invariant-loop-place
+invariant-loop-place l = record {
+  scratch : l.scratch ≡ nodes_of l.hierarchy;
+  entries : AreEntries (rows_of l.hierarchy l.side) l.nodes l.place l.entries.items;
+}

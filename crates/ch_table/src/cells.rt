@@ -1,0 +1,37 @@
+//! Tables.
+ghost use Rattle.std.specs.Prelude.{◌≡◌, ◌<◌, [], length, slice_index_or};
+
+use std::marker::Model;
+
+/// The distances from each source to each target: a row for each source, with a cell for each target.
+#[derive(Debug, Drop)]
+pub struct Table {
+    pub(crate) rows: Vec<Vec<Option<u64>>>,
+}
+
+impl Model for Table {
+    ghost use Rattle.std.specs.Prelude.{ℕ, ◌≤◌, List, Option, map};
+
+    ghost Value = { List (List (Option ℕ)) };
+
+    ghost view = { λ t. map (λ row. row.items) t.rows.items };
+
+    ghost invariant = { λ t. t.rows.len ≤ 65536 };
+}
+
+impl Table {
+    /// The number of rows, which is that of the sources.
+    pub fn row_count(&self) -> u32
+        ensures { result ≡ length self.now }
+    {
+        self.rows.len() as u32
+    }
+
+    /// The cells of the source at place `i`, in the order of the targets.
+    pub fn row(&self, i: u32) -> &[Option<u64>]
+        requires { i < length self.now }
+        ensures { result.now ≡ slice_index_or self.now i [] }
+    {
+        self.rows[i as usize].as_slice()
+    }
+}

@@ -1,0 +1,16 @@
+use Rattle.std.proofs.Common.{◌≡◌, ◌∙◌, ap, ap₂, rules}
+use Rattle.std.proofs.lemmas.Result.{IfOk-weaker}
+use Rattle.clap.specs.Words.{App, app_of, with_subcommand}
+use Rattle.chtab.specs.Line.{form_of, program_form}
+use Rattle.chtab.specs.declared.line.Tool.TheVariants.{Dist}
+use Rattle.chtab.proofs.line.form.command.Goals as goal
+
+pub returns : goal.returns
+returns c =
+    let named : app_of c.disable_help_subcommand.result ≡ program_form = search rules in
+    let dist = ap (λ (form : App). form.top) c.in_ok-dist_command.ensures.form in
+    let table = ap (λ (form : App). form.top) c.in_ok-table_command.ensures.form in
+    let with_dist : app_of c.in_ok-subcommand.field-0 ≡ with_subcommand program_form (form_of Dist).top =
+    c.in_ok-subcommand.ensures.shape c.in_ok-dist_command.ensures.local ∙ ap₂ with_subcommand named dist in
+    IfOk-weaker c.subcommand-2.result _ _
+    (λ command added. added.shape c.in_ok-table_command.ensures.local ∙ ap₂ with_subcommand with_dist table) c.subcommand-2.ensures

@@ -1,0 +1,142 @@
+//! The command line as clap reads it: its tools, with their flags, numbers and files.
+
+ghost use Rattle.std.specs.Prelude.{◌≡◌, IfOk, codes, false, fold};
+ghost use Rattle.clap.specs.Words.{app_of, rule_of, with_rule};
+ghost use Rattle.clap.specs.declared.builder.command.Command.TheViews.{out-Command as fields_of};
+ghost use Rattle.chtab.specs.declared.line.Tool.TheVariants.{Dist, Table};
+ghost use Rattle.chtab.specs.Line.{chtab_form, file_rule, flag_rule, form_of, number_rule, number_rules};
+
+use super::{MOST_HOPS, MOST_PIECE, MOST_WORKERS};
+use clap::builder::ValueParser;
+use clap::{Arg, ArgAction, Command};
+use std::alloc::{AllocError, Global};
+
+fn flag<'a>(alloc: Global, name: &'a str, help: &'a str) -> Arg<'a>
+    ensures rule { rule_of result ≡ flag_rule name.entry.now }
+    ensures local { result.global ≡ false }
+{
+    Arg::new(alloc, name)
+        .long(name)
+        .action(ArgAction::SetTrue)
+        .help(help)
+}
+
+fn file<'a>(alloc: Global, name: &'a str, help: &'a str) -> Arg<'a>
+    ensures rule { rule_of result ≡ file_rule name.entry.now }
+    ensures local { result.global ≡ false }
+{
+    Arg::new(alloc, name)
+        .required(true)
+        .action(ArgAction::Set)
+        .help(help)
+}
+
+/// An option: a number from 1 to `most`.
+fn number<'a>(alloc: Global, name: &'a str, value: &'a str, most: u32, default: &'a str) -> Arg<'a>
+    ensures rule { rule_of result ≡ number_rule name.entry.now most default.entry.now }
+    ensures local { result.global ≡ false }
+{
+    Arg::new(alloc, name)
+        .long(name)
+        .action(ArgAction::Set)
+        .value_name(value)
+        .value_parser(ValueParser::signed(1, i64::from(most)))
+        .default_value(default)
+}
+
+/// Adds the numbers that each tool reads.
+fn with_numbers<'a>(alloc: Global, command: Command<'a>) -> Result<Command<'a>, AllocError>
+    ensures form { IfOk result (λ c. app_of c ≡ fold with_rule (app_of command.entry) number_rules) }
+    ensures local { (fields_of command.entry).has_globals ≡ false → IfOk result (λ c. (fields_of c).has_globals ≡ false) }
+{
+    let workers = number(alloc, "workers", "N", MOST_WORKERS, "1").help(
+        "How many workers share the work, from 1 to 64: the answer is the same for each number",
+    );
+    let piece = number(alloc, "piece", "K", MOST_PIECE, "64").help(
+        "How many queries or sources, and nodes while the hierarchy is built, a worker takes at once, \
+        from 1 to 1048576",
+    );
+    let hops = number(alloc, "hops", "H", MOST_HOPS, "5").help(
+        "The most legs of a witness path when the hierarchy is built, from 1 to 16",
+    );
+    command.arg(workers)?.arg(piece)?.arg(hops)
+}
+
+fn graph<'a>(alloc: Global) -> Arg<'a>
+    ensures rule { rule_of result ≡ file_rule (codes "GRAPH") }
+    ensures local { result.global ≡ false }
+{
+    file(
+        alloc,
+        "GRAPH",
+        "A .gr file: `p sp N M`, then M lines `a U V W`, an arc from U to V of weight W; \
+        nodes are 1 to N",
+    )
+}
+
+fn dist_command<'a>(alloc: Global) -> Result<Command<'a>, AllocError>
+    ensures form { IfOk result (λ c. app_of c ≡ form_of Dist) }
+    ensures local { IfOk result (λ c. (fields_of c).has_globals ≡ false) }
+{
+    let plain = flag(
+        alloc,
+        "plain",
+        "Answer by rounds of relaxation over all arcs, without the hierarchy, and ignore --routes, \
+        --workers, --piece and --hops [default: off]",
+    );
+    let routes = flag(
+        alloc,
+        "routes",
+        "After each distance, write `r K` and K lines `a U V W`, the arcs of a shortest path in order \
+        [default: off]",
+    );
+    let command = Command::new(alloc, "dist")
+        .about("For each query, writes `d S T X`: X is the distance from S to T, or - for no path")
+        .after_help("Example: chtab dist --routes roads.gr pairs.p2p")
+        .arg(plain)?
+        .arg(routes)?;
+    with_numbers(alloc, command)?.arg(graph(alloc))?.arg(file(
+        alloc,
+        "QUERIES",
+        "A .p2p file: `p aux sp p2p K`, then K lines `q S T`",
+    ))
+}
+
+fn table_command<'a>(alloc: Global) -> Result<Command<'a>, AllocError>
+    ensures form { IfOk result (λ c. app_of c ≡ form_of Table) }
+    ensures local { IfOk result (λ c. (fields_of c).has_globals ≡ false) }
+{
+    let command = Command::new(alloc, "table")
+        .about(
+            "For each source, writes `t S X ..`: an X for each target, the distance from S to it, or - \
+            for no path",
+        )
+        .after_help("Example: chtab table roads.gr depots.ss shops.ss");
+    with_numbers(alloc, command)?
+        .arg(graph(alloc))?
+        .arg(file(
+            alloc,
+            "SOURCES",
+            "A .ss file: `p aux sp ss K`, then K lines `s V`",
+        ))?
+        .arg(file(alloc, "TARGETS", "A .ss file, as for SOURCES"))
+}
+
+/// What clap reads: the words after the program's name.
+pub fn command<'a>(alloc: Global) -> Result<Command<'a>, AllocError>
+    ensures { IfOk result (λ c. app_of c ≡ chtab_form) }
+{
+    Command::new(alloc, "chtab")
+        .bin_name("chtab")?
+        .about("Exact distances on directed graphs")
+        .after_help(
+            "See `chtab dist --help` and `chtab table --help`. Examples:\n  \
+            chtab dist --routes roads.gr pairs.p2p\n  \
+            chtab table roads.gr depots.ss shops.ss",
+        )
+        .no_binary_name(true)
+        .subcommand_required(true)
+        .disable_help_subcommand(true)
+        .subcommand(dist_command(alloc)?)?
+        .subcommand(table_command(alloc)?)
+}

@@ -1,0 +1,99 @@
+//! What the words give the arguments of a tool.
+
+ghost use Rattle.std.specs.Prelude.{◌≡◌, ◌≤◌, IfOk, Some, codes, map};
+ghost use Rattle.std.specs.String.{string_bytes};
+ghost use Rattle.clap.specs.Words.{first_of, found_of, rows_of};
+ghost use Rattle.ch_work.specs.Plan.{IsWithinLimits};
+ghost use Rattle.chtab.specs.Line.{AreFlagsIn, IsAllowed, IsFlagIn, IsGivenBy, IsPlanIn, file_names, files_in, number_in};
+
+use super::{Line, MOST_HOPS, MOST_PIECE, MOST_WORKERS, Tool};
+use crate::options::Options;
+use crate::plan::Plan;
+use clap::ArgMatches;
+use std::alloc::{AllocError, Global};
+
+/// From how many items on a step's work is shared.
+const WIDE: u32 = 64;
+
+/// The file of this name. Clap has refused words that leave it out.
+fn file_of(alloc: Global, matches: &ArgMatches<'_>, name: &str) -> Result<String, AllocError>
+    ensures { IfOk result (λ file. Some (string_bytes file) ≡ first_of name.now (rows_of (found_of matches.now))) }
+{
+    match matches.get_str(name) {
+        Some(file) => String::from_str(alloc, file),
+        None => Err(AllocError),
+    }
+}
+
+/// The files of a tool, in the order of its arguments.
+fn files_of(alloc: Global, tool: Tool, matches: &ArgMatches<'_>) -> Result<Vec<String>, AllocError>
+    ensures { IfOk result (λ files. map (λ file. Some (string_bytes file)) files.items ≡ files_in (rows_of (found_of matches.now)) (file_names tool)) }
+{
+    let mut files = Vec::new(alloc);
+    files.push(file_of(alloc, matches, "GRAPH")?)?;
+    match tool {
+        Tool::Dist => files.push(file_of(alloc, matches, "QUERIES")?)?,
+        Tool::Table => {
+            files.push(file_of(alloc, matches, "SOURCES")?)?;
+            files.push(file_of(alloc, matches, "TARGETS")?)?;
+        }
+    }
+    Ok(files)
+}
+
+/// The number of this name. Clap has refused words that give none from 1 to `most`.
+fn number_of(matches: &ArgMatches<'_>, name: &str, most: u32) -> Result<u32, AllocError>
+    ensures range { IfOk result (λ number. (1 ≤ number) × (number ≤ most)) }
+    ensures given { IfOk result (λ number. Some number ≡ number_in (rows_of (found_of matches.now)) name.now) }
+{
+    match matches.get_one(name) {
+        Some(number) if 1 <= number && number <= most => Ok(number),
+        _ => Err(AllocError),
+    }
+}
+
+fn flag_of(matches: &ArgMatches<'_>, name: &str) -> bool
+    ensures { IsFlagIn (rows_of (found_of matches.now)) name.now result }
+{
+    matches.get_flag(name)
+}
+
+fn plan_of(matches: &ArgMatches<'_>) -> Result<Plan, AllocError>
+    ensures limits { IfOk result IsWithinLimits }
+    ensures given { IfOk result (IsPlanIn (rows_of (found_of matches.now))) }
+{
+    let workers = number_of(matches, "workers", MOST_WORKERS)?;
+    let piece = number_of(matches, "piece", MOST_PIECE)?;
+    Ok(Plan::new(workers, piece, WIDE))
+}
+
+/// The options of a tool. `table` has no flags.
+fn options_of(tool: Tool, matches: &ArgMatches<'_>) -> Result<Options, AllocError>
+    ensures range { IfOk result (λ options. (1 ≤ options.hops) × (options.hops ≤ 16)) }
+    ensures hops { IfOk result (λ options. Some options.hops ≡ number_in (rows_of (found_of matches.now)) (codes "hops")) }
+    ensures flags { IfOk result (AreFlagsIn (rows_of (found_of matches.now)) tool) }
+{
+    let (plain, routes) = match tool {
+        Tool::Dist => (flag_of(matches, "plain"), flag_of(matches, "routes")),
+        Tool::Table => (false, false),
+    };
+    Ok(Options {
+        plain,
+        routes,
+        hops: number_of(matches, "hops", MOST_HOPS)?,
+    })
+}
+
+/// The line of a tool, from what its arguments are given.
+pub fn line_of(alloc: Global, tool: Tool, matches: &ArgMatches<'_>) -> Result<Line, AllocError>
+    ensures tool { IfOk result (λ line. line.tool ≡ tool) }
+    ensures allowed { IfOk result IsAllowed }
+    ensures given { IfOk result (IsGivenBy (rows_of (found_of matches.now))) }
+{
+    Ok(Line {
+        tool,
+        files: files_of(alloc, tool, matches)?,
+        options: options_of(tool, matches)?,
+        plan: plan_of(matches)?,
+    })
+}

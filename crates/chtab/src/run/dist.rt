@@ -1,0 +1,125 @@
+//! Runs that answer queries.
+ghost use Rattle.std.specs.Prelude.{◌≡◌, ◌+◌, ◌-◌, ◌^◌, ◌<◌, ◌≤◌, ◌↔◌, ℕ, List, length, take, IfOk, IfErr, OnOk, IsErrAnd};
+ghost use Rattle.std.specs.List.{AllZip};
+ghost use Rattle.ch_graph.specs.Graph.{Network};
+ghost use Rattle.ch_read.specs.declared.fault.ReadFault.{ReadFault as FaultAt};
+ghost use Rattle.ch_contract.specs.Legs.{IsHopBound};
+ghost use Rattle.ch_query.specs.Answers.{AreQueries};
+ghost use Rattle.chtab.specs.Device.{HasTaken};
+ghost use Rattle.chtab.specs.Text.{AnswersShortly, IsText};
+ghost use Rattle.chtab.specs.Run.{IsAnsweredBy, IsGraphRefused, IsQueriesRefused, IsWrite, Reading, ReadsGraph, StopsAt};
+
+use super::inputs::{graph_from, queries_from};
+use crate::device::{Input, Output, write_all};
+use crate::fault::{RunFault, Which};
+use crate::options::Options;
+use crate::plan::{Gate, Plan};
+use crate::text::answers_text;
+use ch_contract::build;
+use ch_graph::{Graph, plain_distance};
+use ch_query::{Answer, answer_all};
+use std::alloc::{AllocError, Global};
+use std::thread::Threads;
+
+/// Reads a graph and then queries, and writes the answer to each query in order.
+///
+/// The graph is read to its end and judged before the queries are read, and the whole text is made
+/// before the first write. The answers are the same for every plan and gate.
+///
+/// # Errors
+/// The first fault of the graph or of the queries, a device that refused a read, or want of memory:
+/// nothing was written then. `Write(count)`, where the output took `count` bytes of the text and no more.
+pub fn run_dist<R: Threads + Sync, I: Input, J: Input, O: Output, G: Gate>(
+    rt: &R,
+    alloc: Global,
+    graph: &mut I,
+    queries: &mut J,
+    output: &mut O,
+    options: &Options,
+    plan: &Plan,
+    gate: &G,
+) -> Result<(), RunFault>
+    requires graph { I.failed graph.old < 2 ^ 64 - 1 }
+    requires queries { J.failed queries.old < 2 ^ 64 - 1 }
+    requires failures { O.failed output.old < 2 ^ 64 - 1 }
+    requires zeros { O.idle output.old < 2 ^ 64 - 1 }
+    requires hops { IsHopBound options.now.hops }
+
+    // What is written is the text that answers what was read: all of it, or its first bytes.
+    ensures written { let graph_read : Reading = record { before = I.left graph.old; after = I.left graph.new } in
+        let queries_read : Reading = record { before = J.left queries.old; after = J.left queries.new } in
+        OnOk result ((text : List ℕ) × IsAnsweredBy options.now graph_read queries_read text × HasTaken (O.taken output.old) (O.taken output.new) text) }
+    ensures cut { let graph_read : Reading = record { before = I.left graph.old; after = I.left graph.new } in
+        let queries_read : Reading = record { before = J.left queries.old; after = J.left queries.new } in
+        (count : ℕ) → result ≡ Err (RunFault.Write count) → (text : List ℕ) × IsAnsweredBy options.now graph_read queries_read text × (count < length text) × HasTaken (O.taken output.old) (O.taken output.new) (take count text) }
+
+    // A file is refused for its own fault.
+    ensures graph_refused { let graph_read : Reading = record { before = I.left graph.old; after = I.left graph.new } in
+        (fault : FaultAt) → result ≡ Err (RunFault.Graph fault) → IsGraphRefused graph_read fault }
+    ensures queries_refused { let graph_read : Reading = record { before = I.left graph.old; after = I.left graph.new } in
+        let queries_read : Reading = record { before = J.left queries.old; after = J.left queries.new } in
+        (fault : FaultAt) → result ≡ Err (RunFault.Queries fault) → (g : Network) × ReadsGraph graph_read g × IsQueriesRefused queries_read g.nodes fault }
+
+    // A device's fault is told exactly where the device counted one.
+    ensures graph_device { (result ≡ Err (RunFault.Device Which.Graph)) ↔ (I.failed graph.old < I.failed graph.new) }
+    ensures queries_device { (result ≡ Err (RunFault.Device Which.Queries)) ↔ (J.failed queries.old < J.failed queries.new) }
+    ensures output_device { IsErrAnd result IsWrite ↔ (O.failed output.old + O.idle output.old < O.failed output.new + O.idle output.new) }
+
+    // Nothing is touched before its turn.
+    ensures unread { IfErr result (λ fault. StopsAt Which.Graph fault → queries.new ≡ queries.old) }
+    ensures unwritten { IfErr result (λ fault. (IsWrite fault → ⊥) → output.new ≡ output.old) }
+{
+    let graph = graph_from(alloc, graph)?;
+    let queries = queries_from(alloc, queries, graph.nodes())?;
+    let text = text_of(rt, alloc, &graph, &queries, options, plan, gate)?;
+    match write_all(output, &text) {
+        Ok(()) => Ok(()),
+        Err(count) => Err(RunFault::Write(count)),
+    }
+}
+
+/// The text that answers the queries, by the way that the options name.
+fn text_of<R: Threads + Sync, G: Gate>(
+    rt: &R,
+    alloc: Global,
+    graph: &Graph,
+    queries: &[(u32, u32)],
+    options: &Options,
+    plan: &Plan,
+    gate: &G,
+) -> Result<Vec<u8>, AllocError>
+    requires queries { AreQueries graph.now.nodes queries.now }
+    requires count { length queries.now ≤ 2 ^ 24 }
+    requires hops { IsHopBound options.now.hops }
+    ensures { IfOk result (λ text. IsText options.now graph.now queries.now text.items) }
+{
+    if options.plain {
+        let answers = plain_answers(alloc, graph, queries)?;
+        return answers_text(alloc, &answers);
+    }
+    let hierarchy = build(rt, alloc, graph, options.hops, plan, gate)?;
+    let answers = answer_all(rt, alloc, &hierarchy, queries, options.routes, plan, gate)?;
+    answers_text(alloc, &answers)
+}
+
+/// The answers to the queries in order, each by its plain distance.
+fn plain_answers(
+    alloc: Global,
+    graph: &Graph,
+    queries: &[(u32, u32)],
+) -> Result<Vec<Answer>, AllocError>
+    requires { AreQueries graph.now.nodes queries.now }
+    ensures { IfOk result (λ answers. AllZip (AnswersShortly graph.now) queries.now answers.items) }
+{
+    let mut answers = Vec::with_capacity(alloc, queries.len())?;
+    for (from, to) in queries {
+        let weight = plain_distance(alloc, graph, *from, *to)?;
+        answers.push(Answer {
+            from: *from,
+            to: *to,
+            weight,
+            arcs: None,
+        })?;
+    }
+    Ok(answers)
+}
