@@ -38,6 +38,20 @@ expect_words() {
   compare "$name, words" "yes" "$(grep -qF -e "$words" "$stream.txt" && echo yes || cat "$stream.txt")"
 }
 
+# expect_routes NAME COUNT GRAPH QUERIES: the routes are walks of the graph, as many as this, each of the distance's weight.
+expect_routes() {
+  "$root/chtab" dist --routes "$3" "$4" >routes.txt 2>err.txt
+  compare "$1, status" 0 "$?"
+  compare "$1, routes" "$2 routes" "$(python3 "$root/tests/routes.py" "$3" routes.txt 2>&1)"
+  compare "$1, distances" "$(python3 "$root/tests/dijkstra.py" "$3" "$4")" "$(grep '^d' routes.txt)"
+}
+
+# list_of NODE..: a list file of these nodes.
+list_of() {
+  printf 'p aux sp ss %d\n' "$#"
+  for node in "$@"; do printf 's %d\n' "$node"; done
+}
+
 # refused NAME LINE GRAPH QUERIES: these texts as files are refused with this line, and nothing is written.
 refused() {
   printf "$3" >graph.gr
@@ -67,6 +81,66 @@ expect "two hundred queries" 0 "$answers" "" dist "${files[@]}"
 expect "two hundred queries, plain" 0 "$answers" "" dist --plain "${files[@]}"
 expect "two hundred queries, at most one hop" 0 "$answers" "" dist --hops 1 "${files[@]}"
 
+for workers in 2 64; do
+  expect "two hundred queries, $workers workers" 0 "$answers" "" dist --workers "$workers" --piece 7 "${files[@]}"
+done
+
+head -n 51 many.p2p | sed '1s/200/50/' >fifty.p2p
+expect_routes "fifty routes" 50 "$root/examples/liechtenstein.gr" fifty.p2p
+
+python3 -c '
+print("p sp 3000 2999")
+for node in range(1, 3000):
+    print("a", node, node + 1, node % 7)
+' >path.gr
+printf 'p aux sp p2p 2\nq 1 3000\nq 3000 1\n' >path.p2p
+expect_routes "a route of thousands of arcs" 1 path.gr path.p2p
+compare "a route of thousands of arcs, length" "r 2999" "$(sed -n 2p routes.txt)"
+
+python3 -c '
+import random
+draw = random.Random("thirty by forty")
+for name, count in ("from.ss", 30), ("to.ss", 40):
+    nodes = [draw.randint(1, 3192) for _ in range(count)]
+    with open(name, "w") as file:
+        print("p aux sp ss", count, file=file)
+        for node in nodes:
+            print("s", node, file=file)
+with open("pairs.p2p", "w") as file:
+    lists = [[line.split()[1] for line in open(name) if line.startswith("s ")] for name in ("from.ss", "to.ss")]
+    print("p aux sp p2p 1200", file=file)
+    for source in lists[0]:
+        for target in lists[1]:
+            print("q", source, target, file=file)
+'
+lg=$root/examples/liechtenstein.gr
+table=$("$root/chtab" dist "$lg" pairs.p2p | awk '{ row = row " " $4; if (NR % 40 == 0) { print "t " $2 row; row = "" } }')
+for workers in 1 2; do
+  expect "thirty by forty cells, $workers workers" 0 "$table" "" table --workers "$workers" --piece 4 "$lg" from.ss to.ss
+done
+
+printf 'p sp 3 2\na 1 2 4\na 2 3 5\n' >graph.gr
+python3 -c '
+for name, count in ("most.ss", 2048), ("more.ss", 2049):
+    with open(name, "w") as file:
+        print("p aux sp ss", count, file=file)
+        print("s 1\n" * count, end="", file=file)
+'
+"$root/chtab" table graph.gr most.ss most.ss >cells.txt
+compare "the most cells, status" 0 "$?"
+compare "the most cells, lines" 2048 "$(grep -cxE 't 1( 0){2048}' cells.txt)"
+expect "too many cells" 1 "" "chtab: too many cells" table graph.gr more.ss most.ss
+list_of 1 2 >two.ss
+list_of 4 >four.ss
+printf 'p aux sp ss 65537\n' >many.ss
+expect "a source out of range" 1 "" "chtab: sources line 2: node out of range" table graph.gr four.ss two.ss
+expect "a target out of range" 1 "" "chtab: targets line 2: node out of range" table graph.gr two.ss four.ss
+expect "too many sources" 1 "" "chtab: sources line 1: size too large" table graph.gr many.ss two.ss
+expect "missing sources" 3 "" "chtab: cannot read sources" table graph.gr missing.ss two.ss
+expect "a folder as targets" 3 "" "chtab: cannot read targets" table graph.gr two.ss "$root"
+expect "a table" 0 "t 1 0 4
+t 2 - 0" "" table graph.gr two.ss two.ss
+
 g=$root/examples/first.gr
 q=$root/examples/first.p2p
 expect "a missing graph" 3 "" "chtab: cannot read graph" dist --plain missing.gr "$q"
@@ -90,6 +164,10 @@ compare "a closed pipe, standard error" "chtab: cannot write after 0 bytes" "$(c
 expect_words "help" 0 out "chtab dist" --help
 expect_words "help of dist" 0 out "GRAPH" dist --help
 expect_words "an unknown option" 2 err "--fast" dist --fast "$g" "$q"
+expect_words "help of table" 0 out "SOURCES" table --help
+expect_words "too many workers" 2 err "65" dist --workers 65 "$g" "$q"
+expect_words "a piece of nothing" 2 err "0" table --piece 0 "$g" "$q" "$q"
+expect_words "a table with routes" 2 err "--routes" table --routes "$g" "$q" "$q"
 expect_words "too many hops" 2 err "17" dist --hops 17 "$g" "$q"
 expect_words "no subcommand" 2 err "subcommand"
 expect_words "a missing argument" 2 err "QUERIES" dist --plain "$g"

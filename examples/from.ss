@@ -1,0 +1,4 @@
+c Sources of a table.
+p aux sp ss 2
+s 1
+s 3

@@ -1,0 +1,4 @@
+c Targets of a table.
+p aux sp ss 2
+s 3
+s 2
