@@ -53,7 +53,6 @@ returns c =
         _,
         refl,
         route_found c.args.hierarchy.now c.args.up.now c.args.down.now q.sides.0 q.sides.1 c.args.node c.args.cost q.meet c.descend.new.pending.items c.reverse.new.self.items
-            c.descend-2.new.pending.items first c.reverse.ensures.items c.descend-2.ensures.traced c.new.result
-            (subst (ArePendingArcs c.args.hierarchy.now c.descend-2.new.pending.items) (sym c.new.ensures) c.unpack.ensures),
+            c.descend-2.new.pending.items first c.reverse.ensures.items c.descend-2.ensures.traced c.unpack.new.arcs.items c.unpack.ensures,
       );
     }
