@@ -1,5 +1,5 @@
 -- Tests of numbers.
-use Rattle.std.proofs.Common.{◌≡◌, ℕ, Bool, true, false, arith}
+use Rattle.std.proofs.Common.{◌≡◌, ℕ, true, false, arith}
 use Rattle.std.specs.Prelude.{eqb}
 use Rattle.std.proofs.lemmas.Bool.Decides.{nat_tests}
 
