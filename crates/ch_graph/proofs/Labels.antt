@@ -10,23 +10,23 @@ use Rattle.std.proofs.lemmas.List.Sums.{sum_by-set, count_by-le-length}
 use Rattle.ch_graph.specs.declared.arc.InArc.{InArc}
 use Rattle.ch_graph.specs.Graph.{Network, IsArcWithin}
 use Rattle.ch_graph.specs.Walk.{IsWalk, weight_of}
-use Rattle.ch_graph.specs.Relaxing.{IsPartial, IsLowered, known_at, total}
+use Rattle.ch_graph.specs.Relaxing.{IsPartial, IsLowered, weight_at, total}
 use Rattle.ch_graph.proofs.WalkLemmas.{walk_push, weight_push}
 
 -- a first label is one more
-count-first : (best : List (Option ℕ)) (v x : ℕ) → known_at best v ≡ None → v < length best → count_by is_some (set best v (Some x)) ≡ count_by is_some best + 1
+count-first : (best : List (Option ℕ)) (v x : ℕ) → weight_at best v ≡ None → v < length best → count_by is_some (set best v (Some x)) ≡ count_by is_some best + 1
 count-first best v x e within =
     let count = sum_by-set (λ (o : Option ℕ). cond (is_some o) 1 0) best v (Some x) None within in
     omega (arith, rw e at count)
 
 -- a label that takes another's place is no more
-count-next : (best : List (Option ℕ)) (v x now : ℕ) → known_at best v ≡ Some now → v < length best → count_by is_some (set best v (Some x)) ≡ count_by is_some best
+count-next : (best : List (Option ℕ)) (v x now : ℕ) → weight_at best v ≡ Some now → v < length best → count_by is_some (set best v (Some x)) ≡ count_by is_some best
 count-next best v x now e within =
     let count = sum_by-set (λ (o : Option ℕ). cond (is_some o) 1 0) best v (Some x) None within in
     omega (arith, rw e at count)
 
 -- a label is below 2 ^ 60, since no more nodes have one than there are
-pub known_small : (g : Network) (s : ℕ) (best : List (Option ℕ)) (v d : ℕ) → IsPartial g s best → known_at best v ≡ Some d → d < 2 ^ 60
+pub known_small : (g : Network) (s : ℕ) (best : List (Option ℕ)) (v d : ℕ) → IsPartial g s best → weight_at best v ≡ Some d → d < 2 ^ 60
 known_small g s best v d p e =
     let bound = p.small v d e in
     let most = count_by-le-length is_some best in
@@ -46,7 +46,7 @@ weight_small nodes a h =
     omega arith
 
 -- an arc between nodes, from one that is known, has room for its sum
-pub sum_fits : (g : Network) (s : ℕ) (best : List (Option ℕ)) (a : InArc) (before : ℕ) → IsPartial g s best → IsArcWithin g.nodes a → known_at best a.from ≡ Some before → before + a.weight < 2 ^ 61
+pub sum_fits : (g : Network) (s : ℕ) (best : List (Option ℕ)) (a : InArc) (before : ℕ) → IsPartial g s best → IsArcWithin g.nodes a → weight_at best a.from ≡ Some before → before + a.weight < 2 ^ 61
 sum_fits g s best a before p fits e =
     let label = known_small g s best a.from before p e in
     let weight = weight_small g.nodes a fits in
@@ -65,7 +65,7 @@ module _ (g : Network) (s : ℕ) (start : s < g.nodes) where
   first : List (Option ℕ)
   first = set blank s (Some 0)
 
-  none : (v : ℕ) → known_at blank v ≡ None
+  none : (v : ℕ) → weight_at blank v ≡ None
   unfolding blank
   none v = elim (cases_lt v g.nodes) [
     | inl within ↦ get_or-replicate g.nodes v None None within
@@ -73,10 +73,10 @@ module _ (g : Network) (s : ℕ) (start : s < g.nodes) where
   ]
 
   -- no other node has a label
-  only : (v d : ℕ) → known_at first v ≡ Some d → (s ≡ v) × (0 ≡ d)
+  only : (v d : ℕ) → weight_at first v ≡ Some d → (s ≡ v) × (0 ≡ d)
   unfolding first
   only v d e = elim (cases_eq v s) [
-    | inl same ↦ (sym same, same_Some _ _ (sym (get_or-set_same blank s (Some 0) None (omega (arith, size))) ∙ ap (known_at first) (sym same) ∙ e))
+    | inl same ↦ (sym same, same_Some _ _ (sym (get_or-set_same blank s (Some 0) None (omega (arith, size))) ∙ ap (weight_at first) (sym same) ∙ e))
     | inr away ↦ absurd (none-some _ (sym (get_or-set_other blank s v (Some 0) None away ∙ none v) ∙ e))
   ]
 
@@ -104,7 +104,7 @@ module _ (g : Network) (s : ℕ) (best : List (Option ℕ)) (new : List (Option 
   later = set best a.to (Some sum)
 
   -- the total, whether or not the end had a label
-  total_by : (o : Option ℕ) → known_at best a.to ≡ o → total later < total best
+  total_by : (o : Option ℕ) → weight_at best a.to ≡ o → total later < total best
   unfolding sum later
   total_by None e =
       let sums = sum_by-set (λ (o : Option ℕ). unwrap_or o (2 ^ 61)) best a.to (Some (h.before + a.weight)) None within in
@@ -118,29 +118,29 @@ module _ (g : Network) (s : ℕ) (best : List (Option ℕ)) (new : List (Option 
   -- the total falls
   pub total_falls : total new < total best
   unfolding sum later
-  total_falls = rw h.later (total_by (known_at best a.to) refl)
+  total_falls = rw h.later (total_by (weight_at best a.to) refl)
 
   -- the end has the new label
-  here : known_at later a.to ≡ Some sum
+  here : weight_at later a.to ≡ Some sum
   unfolding later
   here = get_or-set_same best a.to (Some sum) None within
 
   -- every other node keeps its own
-  other : (v : ℕ) → (v ≡ a.to → ⊥) → known_at later v ≡ known_at best v
+  other : (v : ℕ) → (v ≡ a.to → ⊥) → weight_at later v ≡ weight_at best v
   unfolding later
   other v away = get_or-set_other best a.to v (Some sum) None away
 
   -- what holds of the new label and held of every label holds of every one
-  each : (P : ℕ → ℕ → Type 0) → P a.to sum → ((v d : ℕ) → known_at best v ≡ Some d → P v d) → (v d : ℕ) → known_at later v ≡ Some d → P v d
+  each : (P : ℕ → ℕ → Type 0) → P a.to sum → ((v d : ℕ) → weight_at best v ≡ Some d → P v d) → (v d : ℕ) → weight_at later v ≡ Some d → P v d
   each P first old v d e = elim (cases_eq v a.to) [
     | inl same ↦
-        let label : sum ≡ d = same_Some _ _ (sym here ∙ ap (known_at later) (sym same) ∙ e) in
+        let label : sum ≡ d = same_Some _ _ (sym here ∙ ap (weight_at later) (sym same) ∙ e) in
         subst (λ q. P q d) (sym same) (subst (P a.to) label first)
     | inr away ↦ old v d (sym (other v away) ∙ e)
   ]
 
   -- each label is the weight of a walk
-  walks : (v d : ℕ) → known_at later v ≡ Some d → (arcs : List InArc) × IsWalk g s v arcs × (weight_of arcs ≡ d)
+  walks : (v d : ℕ) → weight_at later v ≡ Some d → (arcs : List InArc) × IsWalk g s v arcs × (weight_of arcs ≡ d)
   unfolding sum
   walks =
       let w = p.walks a.from h.before h.from in
@@ -149,13 +149,13 @@ module _ (g : Network) (s : ℕ) (best : List (Option ℕ)) (new : List (Option 
       p.walks
 
   -- no fewer nodes have a label
-  more : (o : Option ℕ) → known_at best a.to ≡ o → count_by is_some best ≤ count_by is_some later
+  more : (o : Option ℕ) → weight_at best a.to ≡ o → count_by is_some best ≤ count_by is_some later
   unfolding later
   more None e = omega (arith, count-first best a.to sum e within)
   more (Some now) e = omega (arith, count-next best a.to sum now e within)
 
   -- the new label is small, whether or not the end had one
-  small_here : (o : Option ℕ) → known_at best a.to ≡ o → g.nodes * sum + 2 ^ 60 ≤ count_by is_some later * 2 ^ 60
+  small_here : (o : Option ℕ) → weight_at best a.to ≡ o → g.nodes * sum + 2 ^ 60 ≤ count_by is_some later * 2 ^ 60
   unfolding sum later
   small_here None e =
       let count = count-first best a.to (h.before + a.weight) e within in
@@ -170,15 +170,15 @@ module _ (g : Network) (s : ℕ) (best : List (Option ℕ)) (new : List (Option 
       omega arith
 
   -- each label is small
-  small : (v d : ℕ) → known_at later v ≡ Some d → g.nodes * d + 2 ^ 60 ≤ count_by is_some later * 2 ^ 60
+  small : (v d : ℕ) → weight_at later v ≡ Some d → g.nodes * d + 2 ^ 60 ≤ count_by is_some later * 2 ^ 60
   small =
       let count = more _ refl in
       each (λ v d. g.nodes * d + 2 ^ 60 ≤ count_by is_some later * 2 ^ 60) (small_here _ refl) (λ v d e. let bound = p.small v d e in omega arith)
 
   -- the start keeps its label, since none is less
-  start : known_at later s ≡ Some 0
+  start : weight_at later s ≡ Some 0
   start = elim (cases_eq s a.to) [
-    | inl same ↦ let none = h.lighter 0 (ap (known_at best) (sym same) ∙ p.start) in absurd (omega arith)
+    | inl same ↦ let none = h.lighter 0 (ap (weight_at best) (sym same) ∙ p.start) in absurd (omega arith)
     | inr away ↦ other s away ∙ p.start
   ]
 

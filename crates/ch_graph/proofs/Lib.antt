@@ -1,3 +1,5 @@
+pub mod Numbers
+pub mod Lists
 pub mod CostOrder
 pub mod CostSums
 pub mod WalkLemmas

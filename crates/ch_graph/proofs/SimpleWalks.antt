@@ -7,7 +7,6 @@ use Rattle.std.proofs.lemmas.List.{length-map}
 use Rattle.std.proofs.lemmas.List.Sums.{sum_by-cons}
 use Rattle.std.proofs.lemmas.List.Elements.{All-contains}
 use Rattle.std.proofs.lemmas.Bool.{cases_eq, eqb-true}
-use Rattle.std.proofs.lemmas.Bool.Decides.{nat_tests}
 use Rattle.std.proofs.lemmas.Map.Steps.{length-le_from_distinct_below}
 use Rattle.ch_graph.specs.declared.arc.InArc.{InArc}
 use Rattle.ch_graph.specs.declared.cost.Cost.{Cost}
@@ -16,6 +15,7 @@ use Rattle.ch_graph.specs.Graph.{Network, IsArcWithin, IsWithinLimits}
 use Rattle.ch_graph.specs.Walk.{IsWalk, weight_of, cost_of, IsLeast}
 use Rattle.ch_graph.specs.WalkLaws.{IsSimple}
 use Rattle.ch_graph.proofs.CostOrder.{IsAtMost_refl, IsAtMost_trans, IsBelow-IsAtMost, IsBelow_not, IsAtMost-no_cost}
+use Rattle.ch_graph.proofs.Numbers.{not_eqb}
 use Rattle.ch_graph.proofs.WalkCosts.{IsAtMost-cons, IsAtMost-uncons, IsBelow-cons}
 
 -- the rest of a walk from where it leaves s
@@ -97,21 +97,17 @@ length-starts : (xs : List InArc) → length (starts xs) ≡ length xs
 unfolding starts
 length-starts xs = length-map xs (λ (a : InArc). a.from)
 
--- different numbers are found to be different
-not_eqb : (a b : ℕ) → (b ≡ a → ⊥) → eqb a b ≡ false
-not_eqb a b ne = grind (arith, nat_tests)
-
 -- no arc begins at s
 apart : (s : ℕ) (xs : List InArc) → AllByRecursion (λ b. b.from ≡ s → ⊥) xs → AllByRecursion (λ y. eqb s y ≡ false) (starts xs)
 unfolding starts
 apart s [] h = tt
-apart s (x ∷ xs) h = (not_eqb s x.from h.0, apart s xs h.1)
+apart s (x ∷ xs) h = (not_eqb s x.from (λ e. h.0 (sym e)), apart s xs h.1)
 
 -- no arc begins at the end
 apart_end : (t : ℕ) (xs : List InArc) → IsSimple t xs → AllByRecursion (λ y. eqb t y ≡ false) (starts xs)
 unfolding starts
 apart_end t [] h = tt
-apart_end t (x ∷ xs) h = (not_eqb t x.from h.0, apart_end t xs h.2)
+apart_end t (x ∷ xs) h = (not_eqb t x.from (λ e. h.0 (sym e)), apart_end t xs h.2)
 
 -- no two arcs begin at one node
 distinct : (t : ℕ) (xs : List InArc) → IsSimple t xs → IsDistinct eqb (starts xs)

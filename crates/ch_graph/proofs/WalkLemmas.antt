@@ -5,7 +5,7 @@ use Rattle.std.proofs.lemmas.List.Elements.{All-contains}
 use Rattle.ch_graph.specs.declared.arc.InArc.{InArc}
 use Rattle.ch_graph.specs.Graph.{Network}
 use Rattle.ch_graph.specs.Walk.{IsWalk, weight_of}
-use Rattle.ch_graph.specs.Relaxing.{IsRelaxed, known_at}
+use Rattle.ch_graph.specs.Relaxing.{IsRelaxed, weight_at}
 
 -- a walk and a walk from its end are a walk
 pub walk_append : (g : Network) (s m t : ℕ) (xs ys : List InArc) → IsWalk g s m xs → IsWalk g m t ys → IsWalk g s t (xs ++ ys)
@@ -21,9 +21,9 @@ pub weight_push : (a : InArc) (xs : List InArc) → weight_of (xs ++ a ∷ []) �
 weight_push a xs = omega (arith, sum_by-append (λ (x : InArc). x.weight) xs (a ∷ []))
 
 -- where each arc is relaxed, a walk from a known node ends at one that is known to be reached at no more weight
-pub relaxed_walk : (g : Network) (best : List (Option ℕ)) (s t d : ℕ) (xs : List InArc) → All (IsRelaxed best) g.arcs → known_at best s ≡ Some d → IsWalk g s t xs → (e : ℕ) × (known_at best t ≡ Some e) × (e ≤ d + weight_of xs)
-relaxed_walk g best s t d [] relaxed known w = (d, subst (λ q. known_at best q ≡ Some d) w known, omega arith)
+pub relaxed_walk : (g : Network) (best : List (Option ℕ)) (s t d : ℕ) (xs : List InArc) → All (IsRelaxed best) g.arcs → weight_at best s ≡ Some d → IsWalk g s t xs → (e : ℕ) × (weight_at best t ≡ Some e) × (e ≤ d + weight_of xs)
+relaxed_walk g best s t d [] relaxed known w = (d, subst (λ q. weight_at best q ≡ Some d) w known, omega arith)
 relaxed_walk g best s t d (x ∷ xs) relaxed known w =
-    let one = All-contains (IsRelaxed best) g.arcs x relaxed w.0 d (subst (λ q. known_at best q ≡ Some d) (sym w.1) known) in
+    let one = All-contains (IsRelaxed best) g.arcs x relaxed w.0 d (subst (λ q. weight_at best q ≡ Some d) (sym w.1) known) in
     let rest = relaxed_walk g best x.to t one.0 xs relaxed one.1 w.2 in
     (rest.0, rest.1, omega (arith, sum_by-cons (λ (a : InArc). a.weight) x xs, one.2, rest.2))

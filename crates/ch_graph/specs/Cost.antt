@@ -1,5 +1,5 @@
 -- Costs: a weight and a number of arcs, compared by weight first, added by parts.
-use Rattle.std.specs.Prelude.{◌+◌, ◌<◌, ◌≤◌}
+use Rattle.std.specs.Prelude.{ℕ, ◌+◌, ◌<◌, ◌≤◌, List, slice_index_or, Option, None}
 use Rattle.std.specs.Ordering.{ordering_then, nat_cmp}
 use Rattle.std.specs.declared.cmp.Ordering.{Ordering}
 use Rattle.ch_graph.specs.declared.cost.Cost.{Cost}
@@ -23,3 +23,7 @@ cost_sum a b = record { weight = a.weight + b.weight; arcs = a.arcs + b.arcs }
 -- what the empty walk costs
 abbrev pub no_cost : Cost
 no_cost = record { weight = 0; arcs = 0 }
+
+-- the cost of v in a list of costs by node
+abbrev pub cost_at : List (Option Cost) → ℕ → Option Cost
+cost_at costs v = slice_index_or costs v None

@@ -1,5 +1,5 @@
 -- A graph is a number of nodes and the list of its arcs.
-use Rattle.std.specs.Prelude.{◌≡◌, ℕ, ◌*◌, ◌^◌, ◌<◌, ◌≤◌, List, length, take, slice_get, Some, All}
+use Rattle.std.specs.Prelude.{◌≡◌, ℕ, ◌*◌, ◌^◌, ◌<◌, ◌≤◌, List, ◌++◌, length, take, slice_get, Some, All, codes, decimal}
 use Rattle.ch_graph.specs.declared.arc.InArc.{InArc}
 use Rattle.ch_graph.specs.declared.graph.GraphFault.{GraphFault}
 use Rattle.ch_graph.specs.declared.graph.GraphFault.TheVariants.{Size, NodeRange, Sum}
@@ -44,3 +44,9 @@ pub record IsFirstArcFault (nodes : ℕ) (arcs : List InArc) (fault : GraphFault
 abbrev pub IsFirstFault : Network → GraphFault → Type 0
 IsFirstFault g Size = HasSize g → ⊥
 IsFirstFault g fault = HasSize g × IsFirstArcFault g.nodes g.arcs fault
+
+-- what is said of a fault
+abbrev pub graph_fault_text : GraphFault → List ℕ
+graph_fault_text Size = codes "size too large"
+graph_fault_text (NodeRange place) = codes "arc " ++ decimal place ++ codes ": node out of range"
+graph_fault_text (Sum place) = codes "arc " ++ decimal place ++ codes ": weight too large"

@@ -5,20 +5,20 @@ use Rattle.ch_graph.specs.declared.arc.InArc.{InArc}
 use Rattle.ch_graph.specs.Graph.{Network}
 use Rattle.ch_graph.specs.Walk.{IsWalk, weight_of}
 
--- the weight known at a node
-abbrev pub known_at : List (Option ℕ) → ℕ → Option ℕ
-known_at best v = slice_index_or best v None
+-- the weight of v in a list of weights by node
+abbrev pub weight_at : List (Option ℕ) → ℕ → Option ℕ
+weight_at best v = slice_index_or best v None
 
 -- what is known of a node is the weight of a walk from s, and at most one greatest arc's weight for each other node that is known
 pub record IsPartial (g : Network) (s : ℕ) (best : List (Option ℕ)) : Type 0 where
   pub nodes : length best ≡ g.nodes
-  pub start : known_at best s ≡ Some 0
-  pub walks : (v d : ℕ) → known_at best v ≡ Some d → (arcs : List InArc) × IsWalk g s v arcs × (weight_of arcs ≡ d)
-  pub small : (v d : ℕ) → known_at best v ≡ Some d → g.nodes * d + 2 ^ 60 ≤ count_by is_some best * 2 ^ 60
+  pub start : weight_at best s ≡ Some 0
+  pub walks : (v d : ℕ) → weight_at best v ≡ Some d → (arcs : List InArc) × IsWalk g s v arcs × (weight_of arcs ≡ d)
+  pub small : (v d : ℕ) → weight_at best v ≡ Some d → g.nodes * d + 2 ^ 60 ≤ count_by is_some best * 2 ^ 60
 
 -- the arc shows no lighter walk
 abbrev pub IsRelaxed : List (Option ℕ) → InArc → Type 0
-IsRelaxed best a = (d : ℕ) → known_at best a.from ≡ Some d → (e : ℕ) × (known_at best a.to ≡ Some e) × (e ≤ d + a.weight)
+IsRelaxed best a = (d : ℕ) → weight_at best a.from ≡ Some d → (e : ℕ) × (weight_at best a.to ≡ Some e) × (e ≤ d + a.weight)
 
 -- falls with each change
 abbrev pub total : List (Option ℕ) → ℕ
@@ -27,8 +27,8 @@ total best = sum_by (λ o. unwrap_or o (2 ^ 61)) best
 -- the arc showed a lighter walk to its end than was known, and that is known now
 pub record IsLowered (old new : List (Option ℕ)) (a : InArc) : Type 0 where
   pub before : ℕ
-  pub from : known_at old a.from ≡ Some before
-  pub lighter : (now : ℕ) → known_at old a.to ≡ Some now → before + a.weight < now
+  pub from : weight_at old a.from ≡ Some before
+  pub lighter : (now : ℕ) → weight_at old a.to ≡ Some now → before + a.weight < now
   pub later : new ≡ slice_set old a.to (Some (before + a.weight))
 
 -- these arcs were relaxed in turn: that changed something, so the total fell, or nothing, since each was relaxed already

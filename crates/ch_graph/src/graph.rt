@@ -1,8 +1,10 @@
 //! Graphs within the limits.
-ghost use Rattle.std.specs.Prelude.{◌≡◌, ◌↔◌, All, IsOk, IfOk, IfErr, MatchOption};
-ghost use Rattle.ch_graph.specs.Graph.{IsWithinLimits, IsFirstFault, IsFirstArcFault, IsArcWithin, IsArcFault};
+ghost use Rattle.std.specs.Prelude.{◌≡◌, ◌↔◌, All, IsOk, IfOk, IfErr, MatchOption, Some};
+ghost use Rattle.ch_graph.specs.Graph.{IsWithinLimits, IsFirstFault, IsFirstArcFault, IsArcWithin, IsArcFault, graph_fault_text};
 
 use crate::arc::InArc;
+use std::error::Error;
+use std::fmt;
 use std::marker::Model;
 
 /// The most nodes of a graph.
@@ -15,7 +17,7 @@ const MOST_ARCS: usize = 1 << 27;
 /// fewer arcs than there are nodes, so it weighs no more than this.
 const MOST_WEIGHT: u64 = 1 << 60;
 
-/// Why a number of nodes and a list of arcs are no graph.
+/// Why a number of nodes and a list of arcs are no graph. Places are counted from 0.
 #[derive(Clone, Copy, Debug, PartialEq, Eq)]
 pub enum GraphFault {
     /// There are more than 2^25 nodes or 2^27 arcs.
@@ -25,6 +27,20 @@ pub enum GraphFault {
     /// The number of nodes times the weight of the arc at this place is more than 2^60.
     Sum(usize),
 }
+
+impl fmt::Display for GraphFault {
+    ghost output = { λ fault. Some (graph_fault_text fault) };
+
+    fn fmt<W: fmt::Write>(&self, f: &mut fmt::Formatter<W>) -> fmt::Result {
+        match self {
+            GraphFault::Size => f.write_str("size too large"),
+            GraphFault::NodeRange(place) => write!(f, "arc {place}: node out of range"),
+            GraphFault::Sum(place) => write!(f, "arc {place}: weight too large"),
+        }
+    }
+}
+
+impl Error for GraphFault {}
 
 /// A directed graph: a number of nodes, and a list of arcs between them. Parallel arcs, loops and
 /// weight 0 are allowed.

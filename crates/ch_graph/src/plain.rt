@@ -2,7 +2,7 @@
 ghost use Rattle.std.specs.Prelude.{◌≡◌, ℕ, ◌+◌, ◌^◌, ◌<◌, length, replicate, slice_set, All, IfOk, true, false};
 ghost use Rattle.std.specs.Option.{ForSome};
 ghost use Rattle.ch_graph.specs.Walk.{IsAnswer};
-ghost use Rattle.ch_graph.specs.Relaxing.{IsPartial, IsRelaxed, IsLowered, IsRound, known_at};
+ghost use Rattle.ch_graph.specs.Relaxing.{IsPartial, IsRelaxed, IsLowered, IsRound, weight_at};
 
 use crate::arc::InArc;
 use crate::graph::Graph;
@@ -25,7 +25,7 @@ pub fn plain_distance(
     ensures { IfOk result (IsAnswer graph.now start end) }
 {
     let mut best = first_labels(alloc, graph.nodes(), start)?;
-    settle(&mut best, graph);
+    relax_to_rest(&mut best, graph);
     Ok(best[end as usize])
 }
 
@@ -40,7 +40,7 @@ fn first_labels(alloc: Global, nodes: u32, start: u32) -> Result<Vec<Option<u64>
 }
 
 /// Relaxes the arcs in rounds until nothing changes.
-fn settle(best: &mut [Option<u64>], graph: &Graph)
+fn relax_to_rest(best: &mut [Option<u64>], graph: &Graph)
     requires { (s : ℕ) × IsPartial graph.now s best.old }
     ensures known { (s : ℕ) → IsPartial graph.now s best.old → IsPartial graph.now s best.new }
     ensures relaxed { All (IsRelaxed best.new) graph.now.arcs }
@@ -65,7 +65,7 @@ fn relax_all(best: &mut [Option<u64>], graph: &Graph) -> bool
 fn relax(best: &mut [Option<u64>], arc: InArc) -> bool
     requires from { arc.from < length best.old }
     requires to { arc.to < length best.old }
-    requires sum { ForSome (known_at best.old arc.from) (λ before. before + arc.weight < 2 ^ 64) }
+    requires sum { ForSome (weight_at best.old arc.from) (λ before. before + arc.weight < 2 ^ 64) }
     ensures lowered { result ≡ true → IsLowered best.old best.new arc }
     ensures same { result ≡ false → (best.new ≡ best.old) × IsRelaxed best.old arc }
 {

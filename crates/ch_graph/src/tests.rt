@@ -61,6 +61,18 @@ fn names_the_first_fault(rt: HostRuntime) -> Result<(), Fail> {
 }
 
 #[test]
+fn says_what_is_wrong(rt: HostRuntime) -> Result<(), Fail> {
+    for (fault, text) in [
+        (GraphFault::Size, "size too large"),
+        (GraphFault::NodeRange(0), "arc 0: node out of range"),
+        (GraphFault::Sum(12), "arc 12: weight too large"),
+    ] {
+        assert_eq!(rt; format!(in rt.alloc(); "{fault}")?.as_str(), text);
+    }
+    Ok(())
+}
+
+#[test]
 fn limits_the_weight_by_the_nodes(rt: HostRuntime) -> Result<(), Fail> {
     let alloc = rt.alloc();
     assert_eq!(rt; fault(alloc, 1, &[arc(0, 0, 1 << 60)])?, None);

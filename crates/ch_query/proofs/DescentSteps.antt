@@ -4,7 +4,7 @@ use Rattle.std.specs.Prelude.{◌≢◌, slice_index, vec_capacity, is_some}
 use Rattle.std.specs.declared.alloc.Global.{Global}
 use Rattle.std.proofs.lemmas.List.{append_assoc, append-nil, map_push, get_or_default}
 use Rattle.ch_graph.specs.declared.cost.Cost.{Cost}
-use Rattle.ch_graph.specs.Cost.{IsAtMost, cost_sum}
+use Rattle.ch_graph.specs.Cost.{IsAtMost, cost_sum, cost_at}
 use Rattle.ch_graph.proofs.CostOrder.{IsAtMost_refl}
 use Rattle.ch_graph.proofs.CostSums.{cost_sum_assoc, cost_sum-no_cost}
 use Rattle.ch_contract.specs.declared.leg.Leg.{Leg}
@@ -17,10 +17,9 @@ use Rattle.ch_query.specs.declared.side.Side.TheVariants.{Up, Down}
 use Rattle.ch_query.specs.declared.search.Search.{Search}
 use Rattle.ch_query.specs.declared.unpacking.PendingLeg.{PendingLeg}
 use Rattle.ch_query.specs.Distance.{IsKeptForSome}
-use Rattle.ch_query.specs.Search.{cost_at}
-use Rattle.ch_query.specs.Underway.{rows_of}
+use Rattle.ch_query.specs.Side.{rows_of}
 use Rattle.ch_query.specs.Parents.{IsParent, IsChosen}
-use Rattle.ch_query.specs.Routes.{Step, IsDescent}
+use Rattle.ch_query.specs.Routes.{DescentStep, IsDescent}
 use Rattle.ch_query.specs.Unpacking.{IsPending}
 use Rattle.ch_query.specs.Descents.{HasReached, HasReachedWithRoom, pending_of, IsTraced}
 use Rattle.ch_query.proofs.Expanding.{leg_up}
@@ -37,18 +36,18 @@ pub record IsPartlyTraced (H : Levels) (y : Search) (m x : ℕ) (c : Cost) (old 
   pub tail : List Leg
   pub path : IsUpwardPath (rows_of H y.side) x m tail
   pub cheap : IsAtMost (cost_sum cost (path_cost tail)) c
-  pub done : List Step
-  pub descent : (rest : List Step) → IsDescent (rows_of H y.side) y.source x rest → IsDescent (rows_of H y.side) y.source m (done ++ rest)
+  pub done : List DescentStep
+  pub descent : (rest : List DescentStep) → IsDescent (rows_of H y.side) y.source x rest → IsDescent (rows_of H y.side) y.source m (done ++ rest)
   pub pushed : new.items ≡ old ++ map (pending_of y.side) done
   pub room : vec_len new + cost.arcs ≤ vec_capacity new
 
 -- a leg of a row is one of the hierarchy
-pub step_pending : (H : Levels) (side : Side) (step : Step) → Contains (row (rows_of H side) step.low) step.leg → IsPending H (pending_of side step)
+pub step_pending : (H : Levels) (side : Side) (step : DescentStep) → Contains (row (rows_of H side) step.low) step.leg → IsPending H (pending_of side step)
 step_pending H Up step has = (step.leg, refl, refl, inl (has, refl))
 step_pending H Down step has = (step.leg, refl, refl, inr (has, refl))
 
 -- it stands for as many arcs as the row says
-pub step_arcs : (side : Side) (step : Step) → (pending_of side step).cost.arcs ≡ step.leg.cost.arcs
+pub step_arcs : (side : Side) (step : DescentStep) → (pending_of side step).cost.arcs ≡ step.leg.cost.arcs
 step_arcs Up step = refl
 step_arcs Down step = refl
 
@@ -122,7 +121,7 @@ module _ (H : Levels) (k : IsKeptForSome H) (y : Search) (m x : ℕ) (c : Cost) 
         -- the leg has an arc
         some : 0 < l.cost.arcs
         some =
-            let step : Step = record { low = p; leg = l } in
+            let step : DescentStep = record { low = p; leg = l } in
             let one = pending_has_arc H k (pending_of y.side step) (step_pending H y.side step l_has) in
             let arcs = step_arcs y.side step in
             omega arith
@@ -151,7 +150,7 @@ module _ (H : Levels) (k : IsKeptForSome H) (y : Search) (m x : ℕ) (c : Cost) 
         pub tracing_step : (new : Vec PendingLeg Global) → new.items ≡ pending.items ++ pending_of y.side (record { low = p; leg = l }) ∷ [] → vec_len new ≡ vec_len pending + 1 →
             vec_capacity new ≡ vec_capacity pending → IsPartlyTraced H y m p c old new
         tracing_step new pushed len capacity =
-            let step : Step = record { low = p; leg = l } in
+            let step : DescentStep = record { low = p; leg = l } in
             record {
               cost = of.cost;
               known = ap (cost_at y.costs.items) (sym is) ∙ of.settled.0;

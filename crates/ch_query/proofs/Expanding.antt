@@ -6,7 +6,7 @@ use Rattle.std.proofs.lemmas.List.{get_or_past, take_more}
 use Rattle.std.proofs.lemmas.List.Elements.{All-contains, Contains-push_cases, Contains-get_or, All-get_or}
 use Rattle.std.proofs.Math.Nat.{mul-le-mul_left}
 use Rattle.ch_graph.specs.declared.cost.Cost.{Cost}
-use Rattle.ch_graph.specs.Cost.{cost_sum}
+use Rattle.ch_graph.specs.Cost.{cost_sum, cost_at}
 use Rattle.ch_contract.specs.declared.leg.Leg.{Leg}
 use Rattle.ch_contract.specs.Rows.{row}
 use Rattle.ch_contract.specs.Hierarchy.{Levels, nodes_of, IsLevelled, IsLegUp}
@@ -14,8 +14,9 @@ use Rattle.ch_contract.specs.Paths.{path_cost}
 use Rattle.ch_query.specs.declared.side.Side.{Side}
 use Rattle.ch_query.specs.declared.side.Side.TheVariants.{Up, Down}
 use Rattle.ch_query.specs.declared.search.Search.{Search}
-use Rattle.ch_query.specs.Search.{cost_at, IsRelaxed, IsReached, IsExpanding, OrNode, IsStalled, unsettled}
-use Rattle.ch_query.specs.Underway.{rows_of, back_of, IsTouched, RelaxesIn, IsSameSearch, idle_of, IsUnderway, IsExpandingAt, IsPartlyExpanded}
+use Rattle.ch_query.specs.Search.{IsRelaxedFrom, IsUpwardCost, IsExpanding, OrNode, IsStalled, unsettled}
+use Rattle.ch_query.specs.Underway.{back_of, IsTouched, RelaxesIn, IsSameSearch, idle_of, IsUnderway, IsExpandingAt, IsPartlyExpanded}
+use Rattle.ch_query.specs.Side.{rows_of}
 use Rattle.ch_query.specs.Parents.{AreParents, IsNoEarlier}
 use Rattle.ch_query.proofs.Parents.{lowered_parents, lowered_no_earlier, lowered_itself, equal_parents, equal_falls, equal_here, finish_parents}
 use Rattle.ch_query.proofs.PathLaws.{AreRising, path_arcs}
@@ -39,7 +40,7 @@ level_small H k v = elim (cases_lt v (length H.level)) [
 ]
 
 -- a path has few arcs: fewer for each leg than there are nodes, and no more legs than levels
-pub reached_arcs : (H : Levels) → IsLevelled H → (side : Side) (s v : ℕ) (c : Cost) → IsReached (rows_of H side) s v c → c.arcs ≤ 2 ^ 50
+pub reached_arcs : (H : Levels) → IsLevelled H → (side : Side) (s v : ℕ) (c : Cost) → IsUpwardCost (rows_of H side) s v c → c.arcs ≤ 2 ^ 50
 reached_arcs H k side s v c r =
     let n = nodes_of H in
     let rising : AreRising n (slice_index H.level) (rows_of H side) = λ x l has. let u = leg_up H k side x l has in (u.higher, u.arcs) in
@@ -77,13 +78,13 @@ moved_parents H side side' s s' stalls stalls' best best' queue queue' parents p
 
 -- what stays the same twice stays the same
 same_then : (x y z : Search) → IsSameSearch x y → IsSameSearch y z → IsSameSearch x z
-same_then x y z a b = record { side = b.side ∙ a.side; source = b.source ∙ a.source; stalls = b.stalls ∙ a.stalls }
+same_then x y z a b = record { side = b.side ∙ a.side; source = b.source ∙ a.source; stalls = b.stalls ∙ a.stalls; most = b.most ∙ a.most }
 
 -- the leg shows nothing cheaper
 module _ (H : Levels) (x y z : Search) (v : ℕ) (c : Cost) (legs : List Leg) (l : Leg) (p : IsPartlyExpanded H x y v c legs) (e : z.costs.items ≡ y.costs.items)
     (f : z.queue ≡ y.queue) (t : IsTouched z.costs.items z.touched) (same : IsSameSearch y z)
     (parents : AreParents (rows_of H y.side) y.source (OrNode (idle_of H y) v) y.costs.items y.queue z.parents.items)
-    (relaxed : (k : Leg) → Contains (legs ++ l ∷ []) k → IsRelaxed y.costs.items c k × IsNoEarlier y.costs.items z.parents.items v c k) where
+    (relaxed : (k : Leg) → Contains (legs ++ l ∷ []) k → IsRelaxedFrom y.costs.items c k × IsNoEarlier y.costs.items z.parents.items v c k) where
   -- then one leg more is taken
   partly_same : IsPartlyExpanded H x z v c (legs ++ l ∷ [])
   unfolding ExpandingOf ParentsOf
@@ -97,8 +98,9 @@ module _ (H : Levels) (x y z : Search) (v : ℕ) (c : Cost) (legs : List Leg) (l
       parents = moved_parents H y.side z.side y.source z.source y.stalls z.stalls y.costs.items z.costs.items y.queue z.queue z.parents.items z.parents.items v
           same.side same.source same.stalls e f refl parents;
       touched = t;
+      most = same.most ∙ p.expanding.most;
     };
-    relaxed = λ k of. subst (λ q. IsRelaxed q c k × IsNoEarlier q z.parents.items v c k) (sym e) (relaxed k of);
+    relaxed = λ k of. subst (λ q. IsRelaxedFrom q c k × IsNoEarlier q z.parents.items v c k) (sym e) (relaxed k of);
     settled = λ w d k. p.settled w d (sym (ap (λ q. cost_at q w) e) ∙ k.0, sym (ap (λ q. cost_at q w) f) ∙ k.1);
     measure = ap (λ q. unsettled q z.queue) e ∙ ap (unsettled y.costs.items) f ∙ p.measure;
   }
@@ -113,7 +115,7 @@ partly_more H x y z v c legs l p has within (inl (e, f, is, inl (early, g))) t s
     (subst (λ q. AreParents (rows_of H y.side) y.source (OrNode (idle_of H y) v) y.costs.items y.queue q) (sym g) p.expanding.parents)
     (λ k of. elim (Contains-push_cases legs l k of) [
       | inl old ↦ ((p.relaxed k old).0, subst (λ q. IsNoEarlier y.costs.items q v c k) (sym g) (p.relaxed k old).1)
-      | inr new ↦ subst (λ m. IsRelaxed y.costs.items c m × IsNoEarlier y.costs.items z.parents.items v c m) new
+      | inr new ↦ subst (λ m. IsRelaxedFrom y.costs.items c m × IsNoEarlier y.costs.items z.parents.items v c m) new
           (is, subst (λ q. IsNoEarlier y.costs.items q v c l) (sym g) early)
     ])
 partly_more H x y z v c legs l p has within (inl (e, f, is, inr (equal, lt, g))) t same =
@@ -131,7 +133,7 @@ partly_more H x y z v c legs l p has within (inl (e, f, is, inr (equal, lt, g)))
             let i = ap (λ q. slice_index q k.node) g in
             omega arith,
       )
-      | inr new ↦ subst (λ m. IsRelaxed y.costs.items c m × IsNoEarlier y.costs.items z.parents.items v c m) new (
+      | inr new ↦ subst (λ m. IsRelaxedFrom y.costs.items c m × IsNoEarlier y.costs.items z.parents.items v c m) new (
         is,
         λ low at.
             let d = equal_here _ _ _ _ _ _ v c here old_parents l has within equal lt in
@@ -156,12 +158,13 @@ partly_more H x y z v c legs l p has within (inr (light, lower, e, f, g)) t same
         parents = moved_parents H y.side z.side y.source z.source y.stalls z.stalls _ z.costs.items _ z.queue _ z.parents.items v
             same.side same.source same.stalls e f g (lowered_parents _ _ _ _ _ _ v c s a l has light lower);
         touched = t;
+        most = same.most ∙ p.expanding.most;
       };
       relaxed = λ k of.
-          subst (λ q. IsRelaxed q c k × IsNoEarlier q z.parents.items v c k) (sym e) (subst (λ q. IsRelaxed best c k × IsNoEarlier best q v c k) (sym g)
+          subst (λ q. IsRelaxedFrom q c k × IsNoEarlier q z.parents.items v c k) (sym e) (subst (λ q. IsRelaxedFrom best c k × IsNoEarlier best q v c k) (sym g)
           (elim (Contains-push_cases legs l k of) [
             | inl old ↦ (lowered_keeps _ _ _ _ _ v c s l has light lower c k (p.relaxed k old).0, lowered_no_earlier _ _ _ _ _ _ v c s a l has light lower k (p.relaxed k old).1)
-            | inr is ↦ subst (λ m. IsRelaxed best c m × IsNoEarlier best parents v c m) is
+            | inr is ↦ subst (λ m. IsRelaxedFrom best c m × IsNoEarlier best parents v c m) is
                 (lowered_relaxes _ _ _ _ _ v c s l has light lower, lowered_itself _ _ _ _ _ _ v c s a l has light lower)
           ]));
       settled = λ w d k. p.settled w d (lowered_settled _ _ _ _ _ v c s l has light lower w d (sym (ap (λ q. cost_at q w) e) ∙ k.0, sym (ap (λ q. cost_at q w) f) ∙ k.1));
@@ -171,7 +174,7 @@ partly_more H x y z v c legs l p has within (inr (light, lower, e, f, g)) t same
 -- no leg is taken yet
 pub partly_none : (H : Levels) (x : Search) (v : ℕ) (c : Cost) → IsExpandingAt H x v c → IsPartlyExpanded H x x v c []
 partly_none H x v c e = record {
-  same = record { side = refl; source = refl; stalls = refl };
+  same = record { side = refl; source = refl; stalls = refl; most = refl };
   expanding = e;
   relaxed = λ l of. absurd (let lt = of.1 in omega arith);
   settled = λ w d k. k;
@@ -188,6 +191,7 @@ partly_whole H x y v c legs p e =
       search = expanded _ _ _ _ _ v c p.expanding.search (λ l of. (p.relaxed l (whole l of)).0);
       parents = finish_parents _ _ _ _ _ _ v c p.expanding.search.here p.expanding.parents (inr (λ l of. (p.relaxed l (whole l of)).1));
       touched = p.expanding.touched;
+      most = p.expanding.most;
     }
 
 -- the leg that the program reads

@@ -2,7 +2,7 @@
 use Rattle.std.proofs.Common.{◌≡◌, ℕ, ◌^◌, ◌≤◌, List, Option, Some, None, sym, ◌∙◌, ap, subst, arith, inl, inr}
 use Rattle.std.proofs.lemmas.Option.{same_Some, none-some}
 use Rattle.ch_graph.specs.declared.cost.Cost.{Cost}
-use Rattle.ch_graph.specs.Cost.{IsAtMost, IsBelow, cost_sum}
+use Rattle.ch_graph.specs.Cost.{IsAtMost, IsBelow, cost_sum, cost_at}
 use Rattle.ch_graph.specs.Graph.{Network}
 use Rattle.ch_graph.specs.Walk.{IsLeast}
 use Rattle.ch_graph.specs.WalkLaws.{IsWalkCost}
@@ -12,22 +12,22 @@ use Rattle.ch_contract.specs.declared.leg.Leg.{Leg}
 use Rattle.ch_contract.specs.Hierarchy.{Levels}
 use Rattle.ch_contract.specs.Paths.{IsUpwardPath, path_cost, IsLeastUpwardPath, IsMeeting, IsMeet, NeverMeets}
 use Rattle.ch_graph.proofs.CostOrder.{same_costs, IsAtMost_refl, IsAtMost_trans, IsAtMost_antisymm, IsBelow_not}
-use Rattle.ch_query.specs.Search.{cost_at, IsSettled, IsReached, IsSearch, AvoidsIdle}
+use Rattle.ch_query.specs.Search.{IsSettled, IsUpwardCost, IsSearch, AvoidsIdle}
 use Rattle.ch_query.specs.TwoSided.{IdleUp, IdleDown, IsSeen, IsFound, IsPast}
 use Rattle.ch_graph.proofs.CostSums.{cost_sum_assoc, IsAtMost-cost_sum, IsAtMost-cost_sum_self, cost_sum_cancel_left, cost_sum_cancel_right}
 use Rattle.ch_query.proofs.PathLaws.{below_then, then_below, below_sum}
 use Rattle.ch_query.proofs.End.{matched}
 
 -- what s reaches upwards it reaches by a walk
-reached_up : (g : Network) (H : Levels) → HasWalks g H → (s m : ℕ) (a : Cost) → IsReached H.up s m a → IsWalkCost g s m a
+reached_up : (g : Network) (H : Levels) → HasWalks g H → (s m : ℕ) (a : Cost) → IsUpwardCost H.up s m a → IsWalkCost g s m a
 reached_up g H k s m a r = subst (IsWalkCost g s m) r.path.2 (k.rises s m r.path.0 r.path.1)
 
 -- from what t reaches there is a walk to t
-reached_down : (g : Network) (H : Levels) → HasWalks g H → (t m : ℕ) (b : Cost) → IsReached H.down t m b → IsWalkCost g m t b
+reached_down : (g : Network) (H : Levels) → HasWalks g H → (t m : ℕ) (b : Cost) → IsUpwardCost H.down t m b → IsWalkCost g m t b
 reached_down g H k t m b r = subst (IsWalkCost g m t) r.path.2 (k.falls t m r.path.0 r.path.1)
 
 -- the end of a least path is reached
-least_reached : (rows : List (List Leg)) (s m : ℕ) (a : Cost) → IsLeastUpwardPath rows s m a → IsReached rows s m a
+least_reached : (rows : List (List Leg)) (s m : ℕ) (a : Cost) → IsLeastUpwardPath rows s m a → IsUpwardCost rows s m a
 least_reached rows s m a l = record { path = l.path; weight = l.weight }
 
 -- a meeting costs what a walk costs

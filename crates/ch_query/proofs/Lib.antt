@@ -6,7 +6,7 @@ pub mod LeastMeeting
 pub mod Touched
 pub mod Expanding
 pub mod Popping
-pub mod Spreading
+pub mod Spreads
 pub mod Stalling
 pub mod MeetingSteps
 pub mod MeetingEnd

@@ -15,9 +15,10 @@ use Rattle.ch_contract.proofs.KeptWalks.{kept_has_walks, meetings_are_distances}
 use Rattle.ch_query.specs.declared.side.Side.{Side}
 use Rattle.ch_query.specs.declared.side.Side.TheVariants.{Up, Down}
 use Rattle.ch_query.specs.declared.search.Search.{Search}
-use Rattle.ch_query.specs.Search.{IsReached, IsStalled, AvoidsIdle}
+use Rattle.ch_query.specs.Search.{IsUpwardCost, IsStalled, AvoidsIdle}
 use Rattle.ch_query.specs.TwoSided.{IsPast}
-use Rattle.ch_query.specs.Underway.{rows_of, back_of}
+use Rattle.ch_query.specs.Underway.{back_of}
+use Rattle.ch_query.specs.Side.{rows_of}
 use Rattle.ch_query.specs.Meeting.{AreMeeting}
 use Rattle.ch_query.specs.Descents.{HasReached}
 use Rattle.ch_query.proofs.LeastMeeting.{above, avoids_up, avoids_down, low_up, low_down, settled_up, settled_down}
@@ -28,7 +29,7 @@ AvoidsBy : Levels → Side → Bool → ℕ → ℕ → Cost → Type 0
 AvoidsBy H side stalls s m c = AvoidsIdle (rows_of H side) (IsStalled (rows_of H side) (back_of H side stalls) s) m c
 
 -- a cost that is reached and at most the least one is the least one
-reached_least : (rows : List (List Leg)) (s m : ℕ) (a b : Cost) → IsLeastUpwardPath rows s m a → IsReached rows s m b → IsAtMost b a → b ≡ a
+reached_least : (rows : List (List Leg)) (s m : ℕ) (a b : Cost) → IsLeastUpwardPath rows s m a → IsUpwardCost rows s m b → IsAtMost b a → b ≡ a
 reached_least rows s m a b l r le =
     IsAtMost_antisymm b a le (subst (IsAtMost a) r.path.2 (l.least r.path.0 r.path.1 (subst (λ (q : Cost). q.weight ≤ 2 ^ 60) (sym r.path.2) r.weight)))
 

@@ -13,9 +13,10 @@ use Rattle.ch_contract.specs.Paths.{path_cost, IsMeet, NeverMeets}
 use Rattle.ch_query.specs.declared.side.Side.{Side}
 use Rattle.ch_query.specs.declared.side.Side.TheVariants.{Up, Down}
 use Rattle.ch_query.specs.declared.search.Search.{Search}
-use Rattle.ch_query.specs.Search.{IsReached, IsSearch, IsStalled}
+use Rattle.ch_query.specs.Search.{IsUpwardCost, IsSearch, IsStalled}
 use Rattle.ch_query.specs.TwoSided.{IdleUp, IdleDown, IsFound, IsPast}
-use Rattle.ch_query.specs.Underway.{rows_of, back_of, IsUnderway}
+use Rattle.ch_query.specs.Underway.{back_of, IsUnderway}
+use Rattle.ch_query.specs.Side.{rows_of}
 use Rattle.ch_query.specs.Meeting.{AreMeeting}
 use Rattle.ch_graph.proofs.CostSums.{cost_sum_comm, cost_sum-no_cost}
 use Rattle.ch_contract.proofs.LegPaths.{path_cost-cons}
@@ -86,8 +87,8 @@ module _ (g : Network) (H : Levels) (k : HasWalks g H) (x y : Search) (s t : ℕ
       let f = m.found e is in (
         f.0,
         f.1,
-        subst (λ q. IsReached H.up q e.1 f.0) xs (subst (λ q. IsReached (rows_of H q) x.source e.1 f.0) up f.2),
-        subst (λ q. IsReached H.down q e.1 f.1) yt (subst (λ q. IsReached (rows_of H q) y.source e.1 f.1) down f.3),
+        subst (λ q. IsUpwardCost H.up q e.1 f.0) xs (subst (λ q. IsUpwardCost (rows_of H q) x.source e.1 f.0) up f.2),
+        subst (λ q. IsUpwardCost H.down q e.1 f.1) yt (subst (λ q. IsUpwardCost (rows_of H q) y.source e.1 f.1) down f.3),
         f.4,
       )
 

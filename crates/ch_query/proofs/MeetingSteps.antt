@@ -2,13 +2,14 @@
 use Rattle.std.proofs.Common.{◌≡◌, ℕ, ◌^◌, ◌≤◌, List, Option, Some, None, refl, sym, ◌∙◌, ap, subst, arith, set, inl, inr}
 use Rattle.std.proofs.lemmas.Option.{same_Some, none-some}
 use Rattle.ch_graph.specs.declared.cost.Cost.{Cost}
-use Rattle.ch_graph.specs.Cost.{IsAtMost, cost_sum}
+use Rattle.ch_graph.specs.Cost.{IsAtMost, cost_sum, cost_at}
 use Rattle.ch_contract.specs.Hierarchy.{Levels}
 use Rattle.ch_graph.proofs.CostOrder.{IsAtMost_refl, IsAtMost_trans, IsAtMost_antisymm}
 use Rattle.ch_query.specs.declared.search.Search.{Search}
-use Rattle.ch_query.specs.Search.{cost_at, IsSettled, IsLeastKey, IsReached}
-use Rattle.ch_query.specs.TwoSided.{ComesFirst, IsSeen}
-use Rattle.ch_query.specs.Underway.{rows_of, IsSameSearch, IsUnderway, KeepsSettled}
+use Rattle.ch_query.specs.Search.{IsSettled, IsLeastKey, IsUpwardCost}
+use Rattle.ch_query.specs.TwoSided.{MeetsFirst, IsSeen}
+use Rattle.ch_query.specs.Underway.{IsSameSearch, IsUnderway, KeepsSettled}
+use Rattle.ch_query.specs.Side.{rows_of}
 use Rattle.ch_query.specs.Meeting.{IsMet, IsFoundBy, AreMeeting}
 use Rattle.ch_graph.proofs.CostSums.{cost_sum_comm}
 use Rattle.ch_query.proofs.Steps.{popped_settled}
@@ -16,7 +17,7 @@ use Rattle.ch_query.proofs.Expanding.{reached_arcs}
 use Rattle.ch_query.proofs.Popping.{with_queue, key_within}
 
 -- what comes before what comes before a third comes before it
-pub first_trans : (a b c : Cost × ℕ) → ComesFirst a b → ComesFirst b c → ComesFirst a c
+pub first_trans : (a b c : Cost × ℕ) → MeetsFirst a b → MeetsFirst b c → MeetsFirst a c
 first_trans a b c h k = (
   IsAtMost_trans a.0 b.0 c.0 h.0 k.0,
   λ same.
@@ -33,7 +34,7 @@ swapped H x y least m = record {
   here = m.there;
   there = m.here;
   stalls = (m.stalls.1, m.stalls.0);
-  seen = λ v a b h k. let r = m.seen v b a k h in (r.0, r.1, subst (λ q. ComesFirst r.0 (q, v)) (cost_sum_comm b a) r.2);
+  seen = λ v a b h k. let r = m.seen v b a k h in (r.0, r.1, subst (λ q. MeetsFirst r.0 (q, v)) (cost_sum_comm b a) r.2);
   found = λ e is. let f = m.found e is in (f.1, f.0, f.3, f.2, cost_sum_comm f.1 f.0 ∙ f.4);
 }
 
@@ -46,14 +47,14 @@ module _ (H : Levels) (x y : Search) (least : Option (Cost × ℕ)) (m : AreMeet
   known = m.here.search.queued v c l.has
 
   -- what was known is covered
-  keeps : (o : Option Cost) → IsMet o v c least least' → (d : Cost × ℕ) → least ≡ Some d → (f : Cost × ℕ) × (least' ≡ Some f) × ComesFirst f d
+  keeps : (o : Option Cost) → IsMet o v c least least' → (d : Cost × ℕ) → least ≡ Some d → (f : Cost × ℕ) × (least' ≡ Some f) × MeetsFirst f d
   keeps None is d e' = (d, is ∙ e', (IsAtMost_refl d.0, λ _. omega arith))
   keeps (Some b) is d e' = is.covers_old d e'
 
   -- the sum at v is covered
-  gains : (o : Option Cost) (b : Cost) → o ≡ Some b → IsMet o v c least least' → (f : Cost × ℕ) × (least' ≡ Some f) × ComesFirst f (cost_sum c b, v)
+  gains : (o : Option Cost) (b : Cost) → o ≡ Some b → IsMet o v c least least' → (f : Cost × ℕ) × (least' ≡ Some f) × MeetsFirst f (cost_sum c b, v)
   gains None b e' is = absurd (none-some _ e')
-  gains (Some d) b e' is = subst (λ r. (f : Cost × ℕ) × (least' ≡ Some f) × ComesFirst f (cost_sum c r, v)) (same_Some _ _ e') is.covers_new
+  gains (Some d) b e' is = subst (λ r. (f : Cost × ℕ) × (least' ≡ Some f) × MeetsFirst f (cost_sum c r, v)) (same_Some _ _ e') is.covers_new
 
   -- so are all sums of nodes that both settled
   seen : IsSeen x.costs.items q y.costs.items y.queue least'
@@ -64,7 +65,7 @@ module _ (H : Levels) (x y : Search) (least : Option (Cost × ℕ)) (m : AreMeet
         (new.0, new.1, first_trans new.0 old.0 (cost_sum a b, w) new.2 old.2)
     | inr is ↦
         let r = gains _ b (ap (cost_at y.costs.items) (sym is.0) ∙ k.0) met in
-        (r.0, r.1, subst (λ z. ComesFirst r.0 (cost_sum a b, z)) (sym is.0) (subst (λ z. ComesFirst r.0 (cost_sum z b, v)) (sym is.1) r.2))
+        (r.0, r.1, subst (λ z. MeetsFirst r.0 (cost_sum a b, z)) (sym is.0) (subst (λ z. MeetsFirst r.0 (cost_sum z b, v)) (sym is.1) r.2))
   ]
 
   -- what is known now is the sum of two paths
@@ -73,7 +74,7 @@ module _ (H : Levels) (x y : Search) (least : Option (Cost × ℕ)) (m : AreMeet
   found_at (Some d) at is f e' = elim is.chosen [
     | inl new ↦
         let same : (cost_sum c d, v) ≡ f = same_Some _ _ (sym new ∙ e') in
-        subst (λ (r : Cost × ℕ). (a b : Cost) × IsReached (rows_of H x.side) x.source r.1 a × IsReached (rows_of H y.side) y.source r.1 b × (cost_sum a b ≡ r.0)) same
+        subst (λ (r : Cost × ℕ). (a b : Cost) × IsUpwardCost (rows_of H x.side) x.source r.1 a × IsUpwardCost (rows_of H y.side) y.source r.1 b × (cost_sum a b ≡ r.0)) same
         (c, d, m.here.search.sound v c known, m.there.search.sound v d at, refl)
     | inr old ↦ m.found f (sym old ∙ e')
   ]
@@ -87,7 +88,7 @@ module _ (H : Levels) (x y : Search) (least : Option (Cost × ℕ)) (m : AreMeet
     seen = λ w a b h k. seen w a b (settled w a h) k;
     found = λ f e'.
         let r = found_at _ refl met f e' in
-        (r.0, r.1, subst (λ s. IsReached (rows_of H z.side) s f.1 r.0) (sym same.source) (subst (λ s. IsReached (rows_of H s) x.source f.1 r.0) (sym same.side) r.2), r.3, r.4);
+        (r.0, r.1, subst (λ s. IsUpwardCost (rows_of H z.side) s f.1 r.0) (sym same.source) (subst (λ s. IsUpwardCost (rows_of H s) x.source f.1 r.0) (sym same.side) r.2), r.3, r.4);
   }
 
 -- a known cost is within the limits

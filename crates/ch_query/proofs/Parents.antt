@@ -4,12 +4,12 @@ use Rattle.std.specs.Prelude.{◌⊎◌, ◌≢◌, slice_index}
 use Rattle.std.proofs.lemmas.Bool.{cases_eq}
 use Rattle.std.proofs.lemmas.Option.{same_Some, none-some}
 use Rattle.ch_graph.specs.declared.cost.Cost.{Cost}
-use Rattle.ch_graph.specs.Cost.{IsAtMost, IsBelow, cost_sum}
+use Rattle.ch_graph.specs.Cost.{IsAtMost, IsBelow, cost_sum, cost_at}
 use Rattle.ch_contract.specs.declared.leg.Leg.{Leg}
 use Rattle.ch_contract.specs.Rows.{row}
 use Rattle.ch_contract.specs.Paths.{IsUpwardPath, path_cost, IsLeastUpwardPath}
 use Rattle.ch_graph.proofs.CostOrder.{IsAtMost_refl, IsAtMost_trans, IsAtMost_antisymm, IsAtMost_or_IsBelow, IsBelow_not}
-use Rattle.ch_query.specs.Search.{cost_at, IsSettled, IsRelaxed, IsSearch, IsExpanding, OrNode, Lowers, AvoidsIdle}
+use Rattle.ch_query.specs.Search.{IsSettled, IsRelaxedFrom, IsSearch, IsExpanding, OrNode, WouldLower, AvoidsIdle}
 use Rattle.ch_query.specs.Parents.{IsParent, IsNoEarlier, AreParents, IsChosen}
 use Rattle.ch_graph.proofs.CostSums.{cost_sum_assoc, IsAtMost-cost_sum, IsAtMost-cost_sum_self, cost_sum_cancel_right}
 use Rattle.ch_contract.proofs.LegPaths.{path_cost-cons, path_cost-append}
@@ -45,7 +45,7 @@ module _ (rows : List (List Leg)) (s : ℕ) (Idle : ℕ → Cost → Type 0) (be
 -- a leg of v that shows a cheaper path
 module _ (rows : List (List Leg)) (s : ℕ) (Idle : ℕ → Cost → Type 0) (best queue : List (Option Cost)) (parents : List ℕ) (v : ℕ) (c : Cost)
     (x : IsExpanding rows s Idle best queue v c) (a : AreParents rows s Idle best queue parents)
-    (l : Leg) (has : Contains (row rows v) l) (light : c.weight + l.cost.weight ≤ 2 ^ 60) (h : Lowers best l.node (cost_sum c l.cost)) where
+    (l : Leg) (has : Contains (row rows v) l) (light : c.weight + l.cost.weight ≤ 2 ^ 60) (h : WouldLower best l.node (cost_sum c l.cost)) where
   best' : List (Option Cost)
   best' = set best l.node (Some (cost_sum c l.cost))
 
@@ -87,7 +87,7 @@ module _ (rows : List (List Leg)) (s : ℕ) (Idle : ℕ → Cost → Type 0) (be
   ]
 
   -- a leg relaxed before costs more
-  dearer : (d : Cost) (k : Leg) → k.node ≡ l.node → IsRelaxed best d k → cost_at best' k.node ≡ Some (cost_sum d k.cost) → ⊥
+  dearer : (d : Cost) (k : Leg) → k.node ≡ l.node → IsRelaxedFrom best d k → cost_at best' k.node ≡ Some (cost_sum d k.cost) → ⊥
   dearer d k is r e =
       let same : cost_sum c l.cost ≡ cost_sum d k.cost = same_Some _ _ (sym cost_here ∙ ap (cost_at best') (sym is) ∙ e) in
       let low : d.weight + k.cost.weight ≤ 2 ^ 60 = subst (λ (q : Cost). q.weight ≤ 2 ^ 60) same light in

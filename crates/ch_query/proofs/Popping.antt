@@ -7,14 +7,15 @@ use Rattle.std.proofs.lemmas.Bool.{cases_lt, false≢true}
 use Rattle.std.proofs.lemmas.List.{get_or_past}
 use Rattle.std.proofs.lemmas.Option.{none-some}
 use Rattle.ch_graph.specs.declared.cost.Cost.{Cost}
-use Rattle.ch_graph.specs.Cost.{IsAtMost, IsBelow, cost_cmp}
+use Rattle.ch_graph.specs.Cost.{IsAtMost, IsBelow, cost_cmp, cost_at}
 use Rattle.ch_graph.proofs.CostOrder.{IsAtMost_refl, IsBelow-IsAtMost, cost_cmp_tells}
 use Rattle.ch_contract.specs.Hierarchy.{Levels}
 use Rattle.ch_queue.specs.Queue.{IsLeastEntry}
 use Rattle.ch_query.specs.declared.search.Search.{Search}
-use Rattle.ch_query.specs.Search.{cost_at, IsLeastKey, IsExpanding, OrNode, unsettled}
+use Rattle.ch_query.specs.Search.{IsLeastKey, IsExpanding, OrNode, unsettled}
 use Rattle.ch_query.specs.Parents.{AreParents}
-use Rattle.ch_query.specs.Underway.{rows_of, idle_of, unsettled_in, IsUnderway, IsExpandingAt}
+use Rattle.ch_query.specs.Underway.{idle_of, unsettled_in, IsUnderway, IsExpandingAt}
+use Rattle.ch_query.specs.Side.{rows_of}
 use Rattle.ch_query.proofs.Steps.{popped, popped_falls}
 use Rattle.ch_query.proofs.Parents.{popped_parents}
 use Rattle.ch_query.proofs.Expanding.{rows_size}
@@ -53,6 +54,7 @@ module _ (H : Levels) (x : Search) (q : List (Option Cost)) (v : ℕ) (c : Cost)
     parents = subst (λ r. AreParents (rows_of H x.side) x.source (OrNode (idle_of H x) v) x.costs.items r x.parents.items) (sym e)
         (popped_parents _ _ _ _ _ _ u.search u.parents v c l.has l.least within);
     touched = u.touched;
+    most = u.most;
   }
 
   -- one node fewer is not settled

@@ -14,8 +14,8 @@ use Rattle.ch_query.specs.declared.side.Side.{Side}
 use Rattle.ch_query.specs.declared.side.Side.TheVariants.{Up, Down}
 use Rattle.ch_query.specs.declared.search.Search.{Search}
 use Rattle.ch_query.specs.declared.unpacking.PendingLeg.{PendingLeg}
-use Rattle.ch_query.specs.Underway.{rows_of}
-use Rattle.ch_query.specs.Routes.{Step, IsDescent, AreUpArcs, AreDownArcs, IsRoute}
+use Rattle.ch_query.specs.Side.{rows_of}
+use Rattle.ch_query.specs.Routes.{DescentStep, IsDescent, AreUpArcs, AreDownArcs, IsRoute}
 use Rattle.ch_query.specs.Unpacking.{IsPending, ArePending, pending_arcs, ArePendingArcs}
 use Rattle.ch_query.specs.Descents.{HasReached, pending_of, IsTraced}
 use Rattle.ch_query.proofs.DescentLaws.{steps_cost, descent_cost}
@@ -23,19 +23,19 @@ use Rattle.ch_query.proofs.DescentSteps.{step_pending, step_arcs}
 use Rattle.ch_query.proofs.PendingLegs.{pending_arcs_pop}
 
 -- the legs of chosen steps are those of the hierarchy
-steps_pending : (H : Levels) (side : Side) (a x : ℕ) (steps : List Step) → IsDescent (rows_of H side) a x steps → ArePending H (map (pending_of side) steps)
+steps_pending : (H : Levels) (side : Side) (a x : ℕ) (steps : List DescentStep) → IsDescent (rows_of H side) a x steps → ArePending H (map (pending_of side) steps)
 steps_pending H side a x [] d p (i, lt, e) = absurd (omega arith)
 steps_pending H side a x (step ∷ steps) d p (zero, lt, e) = subst (IsPending H) e (step_pending H side step d.1.last.0)
 steps_pending H side a x (step ∷ steps) d p (suc i, lt, e) = steps_pending H side a step.low steps d.2 p (i, omega arith, e)
 
 -- they stand for as many arcs as the steps cost
-steps_arcs : (side : Side) (steps : List Step) → pending_arcs (map (pending_of side) steps) ≡ (steps_cost steps).arcs
+steps_arcs : (side : Side) (steps : List DescentStep) → pending_arcs (map (pending_of side) steps) ≡ (steps_cost steps).arcs
 steps_arcs side [] = refl
 steps_arcs side (step ∷ steps) =
     let rest = steps_arcs side steps in
     let here = step_arcs side step in
     let one = sum_by-cons (λ (p : PendingLeg). p.cost.arcs) (pending_of side step) (map (pending_of side) steps) in
-    let two = sum_by-cons (λ (k : Leg). k.cost.arcs) step.leg (map (λ (s : Step). s.leg) steps) in
+    let two = sum_by-cons (λ (k : Leg). k.cost.arcs) step.leg (map (λ (s : DescentStep). s.leg) steps) in
     omega arith
 
 -- what a way back appends are legs of the hierarchy, that stand for as many arcs as the meet's cost there has
@@ -72,12 +72,12 @@ module _ (H : Levels) where
       (r.0, r.1 ++ a.1, r.2, (r.1, a.1, r.3, a.3, refl), a.4 ∙ ap (λ q. q ++ a.1) r.4 ∙ append_assoc r.0 r.1 a.1)
 
   -- the legs of steps up from s
-  are_up_arcs : (steps : List Step) (arcs : List InArc) → ArePendingArcs H (map (pending_of Up) steps) arcs → AreUpArcs H steps arcs
+  are_up_arcs : (steps : List DescentStep) (arcs : List InArc) → ArePendingArcs H (map (pending_of Up) steps) arcs → AreUpArcs H steps arcs
   are_up_arcs [] arcs a = a
   are_up_arcs (step ∷ steps) arcs a = (a.0, a.1, are_up_arcs steps a.0 a.2, a.3, a.4)
 
   -- the legs of steps down to t, turned round
-  are_down_arcs : (steps : List Step) (arcs : List InArc) → ArePendingArcs H (reverse (map (pending_of Down) steps)) arcs → AreDownArcs H steps arcs
+  are_down_arcs : (steps : List DescentStep) (arcs : List InArc) → ArePendingArcs H (reverse (map (pending_of Down) steps)) arcs → AreDownArcs H steps arcs
   are_down_arcs [] arcs a = a
   are_down_arcs (step ∷ steps) arcs a =
       let turn = reverse-append (pending_of Down step ∷ []) (map (pending_of Down) steps) in
@@ -86,7 +86,7 @@ module _ (H : Levels) where
 
 -- a way back on this side, by its parts
 TracedBy : Levels → Side → ℕ → ℕ → List PendingLeg → List PendingLeg → Type 0
-TracedBy H side s m old new = (steps : List Step) × IsDescent (rows_of H side) s m steps × (new ≡ old ++ map (pending_of side) steps)
+TracedBy H side s m old new = (steps : List DescentStep) × IsDescent (rows_of H side) s m steps × (new ≡ old ++ map (pending_of side) steps)
 
 traced_by : (H : Levels) (x : Search) (m : ℕ) (old new : List PendingLeg) (side : Side) → x.side ≡ side → IsTraced H x m old new → TracedBy H side x.source m old new
 unfolding TracedBy

@@ -14,14 +14,14 @@ use Rattle.ch_contract.specs.Kept.{IsKept}
 use Rattle.ch_contract.proofs.KeptWalks.{meetings_are_distances}
 use Rattle.ch_query.specs.declared.side.Side.TheVariants.{Up, Down}
 use Rattle.ch_query.specs.declared.routes.Route.{Route}
-use Rattle.ch_query.specs.Routes.{Step, IsDescent, AreUpArcs, AreDownArcs, IsRoute, IsLeastWalk}
+use Rattle.ch_query.specs.Routes.{DescentStep, IsDescent, AreUpArcs, AreDownArcs, IsRoute, IsLeastWalk}
 use Rattle.ch_query.proofs.Rows.{rows_ordered}
 use Rattle.ch_query.proofs.DescentLaws.{steps_cost, steps_cost-cons, descent_cost, descent_one}
 use Rattle.ch_query.proofs.Unpacked.{unpacked_one, unpacked_walk}
 
 module _ (g : Network) (H : Levels) (kept : IsKept g H) where
   -- the arcs of the steps up to m are a walk of their cost
-  pub up_walk : (s m : ℕ) (steps : List Step) (arcs : List InArc) → IsDescent H.up s m steps → AreUpArcs H steps arcs → IsWalk g s m arcs × (cost_of arcs ≡ steps_cost steps)
+  pub up_walk : (s m : ℕ) (steps : List DescentStep) (arcs : List InArc) → IsDescent H.up s m steps → AreUpArcs H steps arcs → IsWalk g s m arcs × (cost_of arcs ≡ steps_cost steps)
   up_walk s m [] arcs d e = (subst (IsWalk g s m) (sym e) (sym d), ap cost_of e)
   up_walk s m (step ∷ steps) arcs d are =
       let last = d.1.last in
@@ -32,7 +32,7 @@ module _ (g : Network) (H : Levels) (kept : IsKept g H) where
       )
 
   -- the arcs of the steps down from m are a walk of their cost
-  pub down_walk : (t m : ℕ) (steps : List Step) (arcs : List InArc) → IsDescent H.down t m steps → AreDownArcs H steps arcs → IsWalk g m t arcs × (cost_of arcs ≡ steps_cost steps)
+  pub down_walk : (t m : ℕ) (steps : List DescentStep) (arcs : List InArc) → IsDescent H.down t m steps → AreDownArcs H steps arcs → IsWalk g m t arcs × (cost_of arcs ≡ steps_cost steps)
   down_walk t m [] arcs d e = (subst (IsWalk g m t) (sym e) d, ap cost_of e)
   down_walk t m (step ∷ steps) arcs d are =
       let last = d.1.last in
@@ -62,7 +62,7 @@ module _ (g : Network) (H : Levels) (kept : IsKept g H) where
 
 module _ (H : Levels) (k : IsLevelled H) where
   -- the steps up have one list of arcs
-  up_arcs_one : (steps : List Step) (xs ys : List InArc) → AreUpArcs H steps xs → AreUpArcs H steps ys → xs ≡ ys
+  up_arcs_one : (steps : List DescentStep) (xs ys : List InArc) → AreUpArcs H steps xs → AreUpArcs H steps ys → xs ≡ ys
   up_arcs_one [] xs ys a b = a ∙ sym b
   up_arcs_one (step ∷ steps) xs ys a b =
       let front = up_arcs_one steps a.0 b.0 a.2 b.2 in
@@ -70,7 +70,7 @@ module _ (H : Levels) (k : IsLevelled H) where
       a.4 ∙ (λ i. front i ++ here i) ∙ sym b.4
 
   -- and so have the steps down
-  down_arcs_one : (steps : List Step) (xs ys : List InArc) → AreDownArcs H steps xs → AreDownArcs H steps ys → xs ≡ ys
+  down_arcs_one : (steps : List DescentStep) (xs ys : List InArc) → AreDownArcs H steps xs → AreDownArcs H steps ys → xs ≡ ys
   down_arcs_one [] xs ys a b = a ∙ sym b
   down_arcs_one (step ∷ steps) xs ys a b =
       let here = unpacked_one H k a.2 b.2 in

@@ -7,7 +7,7 @@ use Rattle.ch_contract.specs.Hierarchy.{Levels, nodes_of, IsLevelled}
 use Rattle.ch_contract.specs.Rows.{row, IsRow}
 use Rattle.ch_query.specs.declared.side.Side.{Side}
 use Rattle.ch_query.specs.declared.side.Side.TheVariants.{Up, Down}
-use Rattle.ch_query.specs.Underway.{rows_of}
+use Rattle.ch_query.specs.Side.{rows_of}
 use Rattle.ch_query.proofs.Expanding.{rows_size}
 
 -- two legs of a row at one node are the same

@@ -1,14 +1,14 @@
 -- A node to which a higher node shows a cheaper way is left unexpanded.
 use Rattle.std.proofs.Common.{◌≡◌, ℕ, ◌+◌, ◌^◌, ◌<◌, ◌≤◌, true, List, length, Contains, Some, sym, ◌∙◌, ap, subst, arith, get_or, inl}
 use Rattle.ch_graph.specs.declared.cost.Cost.{Cost}
-use Rattle.ch_graph.specs.Cost.{IsBelow, cost_sum}
+use Rattle.ch_graph.specs.Cost.{IsBelow, cost_sum, cost_at}
 use Rattle.ch_contract.specs.declared.leg.Leg.{Leg}
 use Rattle.ch_contract.specs.Rows.{row}
 use Rattle.ch_contract.specs.Hierarchy.{Levels}
 use Rattle.ch_query.specs.declared.side.Side.{Side}
 use Rattle.ch_query.specs.declared.search.Search.{Search}
-use Rattle.ch_query.specs.Search.{cost_at}
-use Rattle.ch_query.specs.Underway.{rows_of, back_of, other, idle_of, IsUnderway, IsExpandingAt}
+use Rattle.ch_query.specs.Underway.{back_of, idle_of, IsUnderway, IsExpandingAt}
+use Rattle.ch_query.specs.Side.{rows_of, other}
 use Rattle.ch_query.proofs.Steps.{stalled}
 use Rattle.ch_query.proofs.Parents.{finish_parents}
 use Rattle.std.proofs.lemmas.List.Elements.{Contains-get_or}
@@ -58,4 +58,5 @@ module _ (H : Levels) (x : Search) (v : ℕ) (c : Cost) (u : IsExpandingAt H x v
     search = stalled _ _ _ _ _ v c u.search idle;
     parents = finish_parents _ _ _ _ _ _ v c u.search.here u.parents (inl idle);
     touched = u.touched;
+    most = u.most;
   }

@@ -6,11 +6,11 @@ use Rattle.std.proofs.lemmas.Option.{same_Some, none-some}
 use Rattle.std.specs.List.{count_by}
 use Rattle.std.proofs.lemmas.List.Sums.{sum_by-set}
 use Rattle.ch_graph.specs.declared.cost.Cost.{Cost}
-use Rattle.ch_graph.specs.Cost.{IsAtMost, cost_sum, no_cost}
+use Rattle.ch_graph.specs.Cost.{IsAtMost, cost_sum, no_cost, cost_at}
 use Rattle.ch_contract.specs.declared.leg.Leg.{Leg}
 use Rattle.ch_contract.specs.Rows.{row}
 use Rattle.ch_graph.proofs.CostOrder.{IsAtMost_refl, IsAtMost_trans, IsBelow-IsAtMost}
-use Rattle.ch_query.specs.Search.{cost_at, IsSettled, IsRelaxed, IsReached, IsSearch, IsExpanding, OrNode, is_none, unsettled, Lowers}
+use Rattle.ch_query.specs.Search.{IsSettled, IsRelaxedFrom, IsUpwardCost, IsSearch, IsExpanding, OrNode, is_none, unsettled, WouldLower}
 use Rattle.ch_graph.proofs.CostSums.{IsAtMost-cost_sum_self}
 use Rattle.ch_query.proofs.PathLaws.{not_lower, not_below_nothing, cost_push, path_push}
 
@@ -95,7 +95,7 @@ module _ (rows : List (List Leg)) (s : ℕ) (Idle : ℕ → Cost → Type 0) (be
 -- a leg of v that shows a cheaper path
 module _ (rows : List (List Leg)) (s : ℕ) (Idle : ℕ → Cost → Type 0) (best queue : List (Option Cost)) (v : ℕ) (c : Cost)
     (x : IsExpanding rows s Idle best queue v c)
-    (l : Leg) (has : Contains (row rows v) l) (light : c.weight + l.cost.weight ≤ 2 ^ 60) (h : Lowers best l.node (cost_sum c l.cost)) where
+    (l : Leg) (has : Contains (row rows v) l) (light : c.weight + l.cost.weight ≤ 2 ^ 60) (h : WouldLower best l.node (cost_sum c l.cost)) where
   -- the sum
   d : Cost
   d = cost_sum c l.cost
@@ -151,7 +151,7 @@ module _ (rows : List (List Leg)) (s : ℕ) (Idle : ℕ → Cost → Type 0) (be
   ]
 
   -- what was relaxed is so now
-  relaxed_stays : (a : Cost) (k : Leg) → IsRelaxed best a k → IsRelaxed best' a k
+  relaxed_stays : (a : Cost) (k : Leg) → IsRelaxedFrom best a k → IsRelaxedFrom best' a k
   unfolding d
   relaxed_stays a k r w =
       let old = r w in
@@ -161,7 +161,7 @@ module _ (rows : List (List Leg)) (s : ℕ) (Idle : ℕ → Cost → Type 0) (be
       ]
 
   -- a path reaches the leg's node at the sum
-  reached : IsReached rows s l.node d
+  reached : IsUpwardCost rows s l.node d
   unfolding d
   reached =
       let r = x.search.sound v c x.here.0 in
@@ -171,11 +171,11 @@ module _ (rows : List (List Leg)) (s : ℕ) (Idle : ℕ → Cost → Type 0) (be
       }
 
   -- each cost is that of a path
-  sound : (y : ℕ) (a : Cost) → cost_at best' y ≡ Some a → IsReached rows s y a
+  sound : (y : ℕ) (a : Cost) → cost_at best' y ≡ Some a → IsUpwardCost rows s y a
   sound y a e = elim (cases_eq y l.node) [
     | inl here ↦
         let is : d ≡ a = same_Some _ _ (sym best_here ∙ ap (cost_at best') (sym here) ∙ e) in
-        subst (λ q. IsReached rows s q a) (sym here) (subst (IsReached rows s l.node) is reached)
+        subst (λ q. IsUpwardCost rows s q a) (sym here) (subst (IsUpwardCost rows s l.node) is reached)
     | inr away ↦ x.search.sound y a (sym (best_other y away) ∙ e)
   ]
 
@@ -233,12 +233,12 @@ module _ (rows : List (List Leg)) (s : ℕ) (Idle : ℕ → Cost → Type 0) (be
   lowered_stays = settled_stays
 
   -- what was relaxed is so now
-  pub lowered_keeps : (a : Cost) (k : Leg) → IsRelaxed best a k → IsRelaxed (set best l.node (Some (cost_sum c l.cost))) a k
+  pub lowered_keeps : (a : Cost) (k : Leg) → IsRelaxedFrom best a k → IsRelaxedFrom (set best l.node (Some (cost_sum c l.cost))) a k
   unfolding d best' queue'
   lowered_keeps = relaxed_stays
 
   -- the leg is relaxed
-  pub lowered_relaxes : IsRelaxed (set best l.node (Some (cost_sum c l.cost))) c l
+  pub lowered_relaxes : IsRelaxedFrom (set best l.node (Some (cost_sum c l.cost))) c l
   unfolding d best' queue'
   lowered_relaxes _ = (d, best_here, IsAtMost_refl d)
 
@@ -266,7 +266,7 @@ module _ (rows : List (List Leg)) (s : ℕ) (Idle : ℕ → Cost → Type 0) (be
 module _ (rows : List (List Leg)) (s : ℕ) (Idle : ℕ → Cost → Type 0) (best queue : List (Option Cost)) (v : ℕ) (c : Cost)
     (x : IsExpanding rows s (OrNode Idle v) best queue v c) where
   -- then the search is between two nodes
-  finish : Idle v c ⊎ ((l : Leg) → Contains (row rows v) l → IsRelaxed best c l) → IsSearch rows s Idle best queue
+  finish : Idle v c ⊎ ((l : Leg) → Contains (row rows v) l → IsRelaxedFrom best c l) → IsSearch rows s Idle best queue
   finish done = record {
     sizes = x.search.sizes;
     start = x.search.start;
@@ -277,14 +277,14 @@ module _ (rows : List (List Leg)) (s : ℕ) (Idle : ℕ → Cost → Type 0) (be
       | inl (inl idle) ↦ inl idle
       | inl (inr is) ↦
           let same : c ≡ a = same_Some _ _ (sym x.here.0 ∙ ap (cost_at best) (sym is) ∙ k.0) in
-          subst (λ q. Idle q a ⊎ ((l : Leg) → Contains (row rows q) l → IsRelaxed best a l)) (sym is)
-          (subst (λ q. Idle v q ⊎ ((l : Leg) → Contains (row rows v) l → IsRelaxed best q l)) same done)
+          subst (λ q. Idle q a ⊎ ((l : Leg) → Contains (row rows q) l → IsRelaxedFrom best a l)) (sym is)
+          (subst (λ q. Idle v q ⊎ ((l : Leg) → Contains (row rows v) l → IsRelaxedFrom best q l)) same done)
       | inr legs ↦ inr legs
     ];
   }
 
   -- where all its legs are relaxed
-  pub expanded : ((l : Leg) → Contains (row rows v) l → IsRelaxed best c l) → IsSearch rows s Idle best queue
+  pub expanded : ((l : Leg) → Contains (row rows v) l → IsRelaxedFrom best c l) → IsSearch rows s Idle best queue
   expanded legs = finish (inr legs)
 
   -- where it is idle

@@ -10,7 +10,7 @@ use Rattle.std.proofs.lemmas.List.Sums.{sum_by-set, count_by-le-length}
 use Rattle.std.proofs.lemmas.List.Folds.{sum_by-replicate}
 use Rattle.std.specs.List.{count_by}
 use Rattle.ch_graph.specs.declared.cost.Cost.{Cost}
-use Rattle.ch_query.specs.Search.{cost_at}
+use Rattle.ch_graph.specs.Cost.{cost_at}
 use Rattle.ch_query.specs.Underway.{IsTouched}
 
 module _ (best : List (Option Cost)) (touched : Vec ℕ Global) (t : IsTouched best touched) (w : ℕ) (within : w < length best) (d : Cost) where

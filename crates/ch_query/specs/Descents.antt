@@ -2,16 +2,17 @@
 use Rattle.std.specs.Prelude.{◌≡◌, ℕ, ◌+◌, ◌≤◌, List, ◌++◌, map, Some, Vec, vec_len, vec_capacity}
 use Rattle.std.specs.declared.alloc.Global.{Global}
 use Rattle.ch_graph.specs.declared.cost.Cost.{Cost}
-use Rattle.ch_graph.specs.Cost.{IsBelow}
+use Rattle.ch_graph.specs.Cost.{IsBelow, cost_at}
 use Rattle.ch_contract.specs.Hierarchy.{Levels}
 use Rattle.ch_contract.specs.Paths.{IsLeastUpwardPath}
 use Rattle.ch_query.specs.declared.side.Side.{Side}
 use Rattle.ch_query.specs.declared.side.Side.TheVariants.{Up, Down}
 use Rattle.ch_query.specs.declared.search.Search.{Search}
 use Rattle.ch_query.specs.declared.unpacking.PendingLeg.{PendingLeg}
-use Rattle.ch_query.specs.Search.{cost_at, AvoidsIdle}
-use Rattle.ch_query.specs.Underway.{rows_of, idle_of, IsUnderway}
-use Rattle.ch_query.specs.Routes.{Step, IsDescent}
+use Rattle.ch_query.specs.Search.{AvoidsIdle}
+use Rattle.ch_query.specs.Underway.{idle_of, IsUnderway}
+use Rattle.ch_query.specs.Side.{rows_of}
+use Rattle.ch_query.specs.Routes.{DescentStep, IsDescent}
 
 -- the search reached m at the least cost c, stalled on no path to it of that cost, and has taken all nodes up to that cost out of its queue
 pub record HasReached (H : Levels) (x : Search) (m : ℕ) (c : Cost) : Type 0 where
@@ -26,12 +27,12 @@ abbrev pub HasReachedWithRoom : Levels → Search → ℕ → Vec PendingLeg Glo
 HasReachedWithRoom H x m pending = (c : Cost) × HasReached H x m c × (vec_len pending + c.arcs ≤ vec_capacity pending)
 
 -- the leg of a step of this side, from the node where it begins to the one where it ends
-abbrev pub pending_of : Side → Step → PendingLeg
+abbrev pub pending_of : Side → DescentStep → PendingLeg
 pending_of Up step = record { from = step.low; to = step.leg.node; cost = step.leg.cost; middle = step.leg.middle }
 pending_of Down step = record { from = step.leg.node; to = step.low; cost = step.leg.cost; middle = step.leg.middle }
 
 -- the legs of the chosen steps back to the source were appended
 pub record IsTraced (H : Levels) (x : Search) (m : ℕ) (old new : List PendingLeg) : Type 0 where
-  pub steps : List Step
+  pub steps : List DescentStep
   pub descent : IsDescent (rows_of H x.side) x.source m steps
   pub pushed : new ≡ old ++ map (pending_of x.side) steps

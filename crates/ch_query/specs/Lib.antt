@@ -1,6 +1,8 @@
+pub mod Values
 pub mod Distance
 pub mod Search
 pub mod Parents
+pub mod Side
 pub mod Underway
 pub mod TwoSided
 pub mod Meeting

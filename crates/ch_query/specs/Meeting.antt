@@ -4,15 +4,16 @@ use Rattle.ch_graph.specs.declared.cost.Cost.{Cost}
 use Rattle.ch_graph.specs.Cost.{cost_sum}
 use Rattle.ch_contract.specs.Hierarchy.{Levels}
 use Rattle.ch_query.specs.declared.search.Search.{Search}
-use Rattle.ch_query.specs.Search.{IsSettled, IsReached}
-use Rattle.ch_query.specs.TwoSided.{ComesFirst, IsSeen}
-use Rattle.ch_query.specs.Underway.{rows_of, IsUnderway}
+use Rattle.ch_query.specs.Search.{IsSettled, IsUpwardCost}
+use Rattle.ch_query.specs.TwoSided.{MeetsFirst, IsSeen}
+use Rattle.ch_query.specs.Underway.{IsUnderway}
+use Rattle.ch_query.specs.Side.{rows_of}
 
 -- the first of the two
 pub record IsFirst (least : Option (Cost × ℕ)) (new : Cost × ℕ) (result : Option (Cost × ℕ)) : Type 0 where
   pub chosen : (result ≡ Some new) ⊎ (result ≡ least)
-  pub covers_new : (e : Cost × ℕ) × (result ≡ Some e) × ComesFirst e new
-  pub covers_old : (d : Cost × ℕ) → least ≡ Some d → (e : Cost × ℕ) × (result ≡ Some e) × ComesFirst e d
+  pub covers_new : (e : Cost × ℕ) × (result ≡ Some e) × MeetsFirst e new
+  pub covers_old : (d : Cost × ℕ) → least ≡ Some d → (e : Cost × ℕ) × (result ≡ Some e) × MeetsFirst e d
 
 -- what becomes of the least sum at v, reached at c here, and there perhaps
 abbrev pub IsMet : Option Cost → ℕ → Cost → Option (Cost × ℕ) → Option (Cost × ℕ) → Type 0
@@ -22,7 +23,7 @@ IsMet (Some d) v c least result = IsFirst least (cost_sum c d, v) result
 -- what is known is the sum of two paths
 abbrev pub IsFoundBy : Levels → Search → Search → Option (Cost × ℕ) → Type 0
 IsFoundBy H x y least =
-    (e : Cost × ℕ) → least ≡ Some e → (a b : Cost) × IsReached (rows_of H x.side) x.source e.1 a × IsReached (rows_of H y.side) y.source e.1 b × (cost_sum a b ≡ e.0)
+    (e : Cost × ℕ) → least ≡ Some e → (a b : Cost) × IsUpwardCost (rows_of H x.side) x.source e.1 a × IsUpwardCost (rows_of H y.side) y.source e.1 b × (cost_sum a b ≡ e.0)
 
 -- two searches underway that stall, and the least sum that they know: it covers all nodes that both settled
 pub record AreMeeting (H : Levels) (x y : Search) (least : Option (Cost × ℕ)) : Type 0 where

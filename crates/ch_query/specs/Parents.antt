@@ -1,11 +1,11 @@
 -- For each reached node the least numbered node before it on a least path.
 use Rattle.std.specs.Prelude.{◌≡◌, ◌≢◌, ℕ, ◌+◌, ◌^◌, ◌≤◌, ◌⊎◌, List, length, slice_index, Contains, Option, Some}
 use Rattle.ch_graph.specs.declared.cost.Cost.{Cost}
-use Rattle.ch_graph.specs.Cost.{cost_sum}
+use Rattle.ch_graph.specs.Cost.{cost_sum, cost_at}
 use Rattle.ch_contract.specs.declared.leg.Leg.{Leg}
 use Rattle.ch_contract.specs.Rows.{row}
 use Rattle.ch_contract.specs.Paths.{IsLeastUpwardPath}
-use Rattle.ch_query.specs.Search.{cost_at, IsSettled}
+use Rattle.ch_query.specs.Search.{IsSettled}
 
 -- a leg from p, settled at cost c, gives x its cost
 pub record IsParent (rows : List (List Leg)) (best queue : List (Option Cost)) (x : ℕ) (e : Cost) (p : ℕ) : Type 0 where

@@ -13,12 +13,12 @@ use Rattle.ch_query.specs.declared.routes.Route.{Route}
 use Rattle.ch_query.specs.Parents.{IsChosen}
 
 -- a leg, with the lower of its two nodes
-pub record Step : Type 0 where
+pub record DescentStep : Type 0 where
   pub low : ℕ
   pub leg : Leg
 
 -- the chosen steps from x back down to a: each by the least numbered node before, last on a least path from a
-abbrev pub IsDescent : List (List Leg) → ℕ → ℕ → List Step → Type 0
+abbrev pub IsDescent : List (List Leg) → ℕ → ℕ → List DescentStep → Type 0
 IsDescent rows a x [] = x ≡ a
 IsDescent rows a x (step ∷ steps) = (x ≢ a) × IsChosen rows a x step.low step.leg × IsDescent rows a step.low steps
 
@@ -29,13 +29,13 @@ pub data IsUnpacked (H : Levels) : ℕ → ℕ → ℕ → Option ℕ → List I
       IsUnpacked H u v a.cost.weight a.middle xs → IsUnpacked H v w b.cost.weight b.middle ys → IsUnpacked H u w weight (Some v) (xs ++ ys)
 
 -- the arcs of steps back down to the start, in the order of travel: up, the last step first
-abbrev pub AreUpArcs : Levels → List Step → List InArc → Type 0
+abbrev pub AreUpArcs : Levels → List DescentStep → List InArc → Type 0
 AreUpArcs H [] arcs = arcs ≡ []
 AreUpArcs H (step ∷ steps) arcs =
     (before here : List InArc) × AreUpArcs H steps before × IsUnpacked H step.low step.leg.node step.leg.cost.weight step.leg.middle here × (arcs ≡ before ++ here)
 
 -- the arcs of steps down to the end, in the order of travel
-abbrev pub AreDownArcs : Levels → List Step → List InArc → Type 0
+abbrev pub AreDownArcs : Levels → List DescentStep → List InArc → Type 0
 AreDownArcs H [] arcs = arcs ≡ []
 AreDownArcs H (step ∷ steps) arcs =
     (here after : List InArc) × IsUnpacked H step.leg.node step.low step.leg.cost.weight step.leg.middle here × AreDownArcs H steps after × (arcs ≡ here ++ after)
@@ -46,8 +46,8 @@ pub record IsRoute (H : Levels) (s t : ℕ) (route : Route) : Type 0 where
   pub cost : Cost
   pub meets : IsMeet H s t meet cost
   pub weight : route.weight ≡ cost.weight
-  pub ups : List Step
-  pub downs : List Step
+  pub ups : List DescentStep
+  pub downs : List DescentStep
   pub rise : IsDescent H.up s meet ups
   pub fall : IsDescent H.down t meet downs
   pub first : List InArc

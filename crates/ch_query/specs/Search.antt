@@ -1,26 +1,22 @@
 -- One side of a query, as data: for each node the cost of a path to it, and the queue of the nodes that are not settled.
-use Rattle.std.specs.Prelude.{◌≡◌, ℕ, ◌+◌, ◌^◌, ◌<◌, ◌≤◌, ◌⊎◌, Bool, true, false, List, length, slice_index_or, slice_index, slice_set, Contains, Option, Some, None, is_some}
+use Rattle.std.specs.Prelude.{◌≡◌, ℕ, ◌+◌, ◌^◌, ◌<◌, ◌≤◌, ◌⊎◌, Bool, true, false, List, length, slice_index, slice_set, Contains, Option, Some, None, is_some}
 use Rattle.std.specs.List.{count_by}
 use Rattle.ch_graph.specs.declared.cost.Cost.{Cost}
-use Rattle.ch_graph.specs.Cost.{IsAtMost, IsBelow, cost_sum, no_cost}
+use Rattle.ch_graph.specs.Cost.{IsAtMost, IsBelow, cost_sum, no_cost, cost_at}
 use Rattle.ch_contract.specs.declared.leg.Leg.{Leg}
 use Rattle.ch_contract.specs.Rows.{row}
 use Rattle.ch_contract.specs.Paths.{IsUpwardPath, path_cost}
-
--- the cost of v in a list of costs by node
-abbrev pub cost_at : List (Option Cost) → ℕ → Option Cost
-cost_at costs v = slice_index_or costs v None
 
 -- v was taken out of the queue at cost c
 abbrev pub IsSettled : List (Option Cost) → List (Option Cost) → ℕ → Cost → Type 0
 IsSettled best queue v c = (cost_at best v ≡ Some c) × (cost_at queue v ≡ None)
 
 -- taken from a node of cost c, the leg shows nothing cheaper than what is known
-abbrev pub IsRelaxed : List (Option Cost) → Cost → Leg → Type 0
-IsRelaxed best c l = c.weight + l.cost.weight ≤ 2 ^ 60 → (e : Cost) × (cost_at best l.node ≡ Some e) × IsAtMost e (cost_sum c l.cost)
+abbrev pub IsRelaxedFrom : List (Option Cost) → Cost → Leg → Type 0
+IsRelaxedFrom best c l = c.weight + l.cost.weight ≤ 2 ^ 60 → (e : Cost) × (cost_at best l.node ≡ Some e) × IsAtMost e (cost_sum c l.cost)
 
 -- some upward path from s to v costs c, and weighs at most 2 ^ 60
-pub record IsReached (rows : List (List Leg)) (s v : ℕ) (c : Cost) : Type 0 where
+pub record IsUpwardCost (rows : List (List Leg)) (s v : ℕ) (c : Cost) : Type 0 where
   pub path : (legs : List Leg) × IsUpwardPath rows s v legs × (path_cost legs ≡ c)
   pub weight : c.weight ≤ 2 ^ 60
 
@@ -28,12 +24,12 @@ pub record IsReached (rows : List (List Leg)) (s v : ℕ) (c : Cost) : Type 0 wh
 pub record IsSearch (rows : List (List Leg)) (s : ℕ) (Idle : ℕ → Cost → Type 0) (best queue : List (Option Cost)) : Type 0 where
   pub sizes : (length best ≡ length rows) × (length queue ≡ length rows)
   pub start : cost_at best s ≡ Some no_cost
-  pub sound : (v : ℕ) (c : Cost) → cost_at best v ≡ Some c → IsReached rows s v c
+  pub sound : (v : ℕ) (c : Cost) → cost_at best v ≡ Some c → IsUpwardCost rows s v c
   pub queued : (v : ℕ) (c : Cost) → cost_at queue v ≡ Some c → cost_at best v ≡ Some c
   -- no settled node costs more than a queued one
   pub order : (v w : ℕ) (c d : Cost) → IsSettled best queue v c → cost_at queue w ≡ Some d → IsAtMost c d
   -- the legs of a settled node were taken, or it is idle
-  pub frontier : (v : ℕ) (c : Cost) → IsSettled best queue v c → Idle v c ⊎ ((l : Leg) → Contains (row rows v) l → IsRelaxed best c l)
+  pub frontier : (v : ℕ) (c : Cost) → IsSettled best queue v c → Idle v c ⊎ ((l : Leg) → Contains (row rows v) l → IsRelaxedFrom best c l)
 
 -- v is a node in the queue with the least key, c
 pub record IsLeastKey (queue : List (Option Cost)) (v : ℕ) (c : Cost) : Type 0 where
@@ -55,7 +51,7 @@ pub record IsStalled (rows back : List (List Leg)) (s v : ℕ) (c : Cost) : Type
   pub leg : Leg
   pub has : Contains (row back v) leg
   pub cost : Cost
-  pub reached : IsReached rows s leg.node cost
+  pub reached : IsUpwardCost rows s leg.node cost
   pub below : IsBelow (cost_sum cost leg.cost) c
 
 -- no idle node lies on an upward path to m that costs at most c
@@ -75,7 +71,7 @@ abbrev pub unsettled : List (Option Cost) → List (Option Cost) → ℕ
 unsettled best queue = count_by is_none best + count_by is_some queue
 
 -- the cost of w is unknown or more than d
-pub record Lowers (best : List (Option Cost)) (w : ℕ) (d : Cost) : Type 0 where
+pub record WouldLower (best : List (Option Cost)) (w : ℕ) (d : Cost) : Type 0 where
   pub within : w < length best
   pub lower : (e : Cost) → cost_at best w ≡ Some e → IsBelow d e
 
@@ -83,8 +79,8 @@ pub record Lowers (best : List (Option Cost)) (w : ℕ) (d : Cost) : Type 0 wher
 -- or its node gets the sum as cost and key, and v as parent
 abbrev pub Relaxes : List (Option Cost) → List (Option Cost) → List ℕ → ℕ → Cost → Leg → List (Option Cost) → List (Option Cost) → List ℕ → Type 0
 Relaxes best queue parents v c l best' queue' parents' =
-    ((best' ≡ best) × (queue' ≡ queue) × IsRelaxed best c l
+    ((best' ≡ best) × (queue' ≡ queue) × IsRelaxedFrom best c l
     × (((c.weight + l.cost.weight ≤ 2 ^ 60 → cost_at best l.node ≡ Some (cost_sum c l.cost) → slice_index parents l.node ≤ v) × (parents' ≡ parents))
     ⊎ ((cost_at best l.node ≡ Some (cost_sum c l.cost)) × (v < slice_index parents l.node) × (parents' ≡ slice_set parents l.node v))))
-    ⊎ ((c.weight + l.cost.weight ≤ 2 ^ 60) × Lowers best l.node (cost_sum c l.cost) × (best' ≡ slice_set best l.node (Some (cost_sum c l.cost)))
+    ⊎ ((c.weight + l.cost.weight ≤ 2 ^ 60) × WouldLower best l.node (cost_sum c l.cost) × (best' ≡ slice_set best l.node (Some (cost_sum c l.cost)))
     × (queue' ≡ slice_set queue l.node (Some (cost_sum c l.cost))) × (parents' ≡ slice_set parents l.node v))

@@ -1,10 +1,9 @@
 -- What a search without a target answers.
 use Rattle.std.specs.Prelude.{ℕ, ◌<◌, List, Contains, AllPairs, Option, unwrap_or}
 use Rattle.ch_graph.specs.declared.cost.Cost.{Cost}
-use Rattle.ch_graph.specs.Cost.{no_cost}
+use Rattle.ch_graph.specs.Cost.{no_cost, cost_at}
 use Rattle.ch_contract.specs.declared.leg.Leg.{Leg}
 use Rattle.ch_contract.specs.Paths.{IsLeastUpwardPath}
-use Rattle.ch_query.specs.Search.{cost_at}
 
 -- exactly the nodes that are reached from s, with their least costs, in order of node
 pub record IsSpread (rows : List (List Leg)) (s : ℕ) (list : List (ℕ × Cost)) : Type 0 where

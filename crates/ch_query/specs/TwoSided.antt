@@ -1,11 +1,11 @@
 -- What two searches know of where they meet, as data.
 use Rattle.std.specs.Prelude.{◌≡◌, ℕ, ◌≤◌, List, Option, Some}
 use Rattle.ch_graph.specs.declared.cost.Cost.{Cost}
-use Rattle.ch_graph.specs.Cost.{IsAtMost, IsBelow, cost_sum}
+use Rattle.ch_graph.specs.Cost.{IsAtMost, IsBelow, cost_sum, cost_at}
 use Rattle.ch_graph.specs.Graph.{Network}
 use Rattle.ch_graph.specs.WalkLaws.{IsWalkCost}
 use Rattle.ch_contract.specs.Hierarchy.{Levels}
-use Rattle.ch_query.specs.Search.{cost_at, IsSettled, IsReached}
+use Rattle.ch_query.specs.Search.{IsSettled, IsUpwardCost}
 
 -- some walk from s to v costs less than c
 abbrev pub IdleUp : Network → ℕ → ℕ → Cost → Type 0
@@ -16,17 +16,17 @@ abbrev pub IdleDown : Network → ℕ → ℕ → Cost → Type 0
 IdleDown g t v c = (d : Cost) × IsWalkCost g v t d × IsBelow d c
 
 -- of two costs at nodes the first is no more, and at equal cost its node is no later
-abbrev pub ComesFirst : Cost × ℕ → Cost × ℕ → Type 0
-ComesFirst a b = IsAtMost a.0 b.0 × (a.0 ≡ b.0 → a.1 ≤ b.1)
+abbrev pub MeetsFirst : Cost × ℕ → Cost × ℕ → Type 0
+MeetsFirst a b = IsAtMost a.0 b.0 × (a.0 ≡ b.0 → a.1 ≤ b.1)
 
 -- the least sum of the nodes that both sides settled is known
 abbrev pub IsSeen : (best_up queue_up best_down queue_down : List (Option Cost)) → Option (Cost × ℕ) → Type 0
 IsSeen best_up queue_up best_down queue_down least =
-    (v : ℕ) (a b : Cost) → IsSettled best_up queue_up v a → IsSettled best_down queue_down v b → (e : Cost × ℕ) × (least ≡ Some e) × ComesFirst e (cost_sum a b, v)
+    (v : ℕ) (a b : Cost) → IsSettled best_up queue_up v a → IsSettled best_down queue_down v b → (e : Cost × ℕ) × (least ≡ Some e) × MeetsFirst e (cost_sum a b, v)
 
 -- what is known is the sum of two paths
 abbrev pub IsFound : Levels → ℕ → ℕ → Option (Cost × ℕ) → Type 0
-IsFound H s t least = (e : Cost × ℕ) → least ≡ Some e → (a b : Cost) × IsReached H.up s e.1 a × IsReached H.down t e.1 b × (cost_sum a b ≡ e.0)
+IsFound H s t least = (e : Cost × ℕ) → least ≡ Some e → (a b : Cost) × IsUpwardCost H.up s e.1 a × IsUpwardCost H.down t e.1 b × (cost_sum a b ≡ e.0)
 
 -- each key that is left is more than what is known
 abbrev pub IsPast : List (Option Cost) → Option (Cost × ℕ) → Type 0

@@ -1,25 +1,16 @@
 -- One side of a query, as the program keeps it.
-use Rattle.std.specs.Prelude.{◌≡◌, ◌≢◌, ℕ, ◌<◌, ◌≤◌, Bool, true, false, List, [], length, AllPairs, Contains, Option, is_some, Vec, vec_len, vec_capacity}
+use Rattle.std.specs.Prelude.{◌≡◌, ◌≢◌, ℕ, ◌^◌, ◌<◌, ◌≤◌, Bool, true, false, List, [], length, AllPairs, Contains, Option, is_some, Vec, vec_len, vec_capacity}
 use Rattle.std.specs.List.{count_by}
 use Rattle.std.specs.declared.alloc.Global.{Global}
 use Rattle.ch_graph.specs.declared.cost.Cost.{Cost}
 use Rattle.ch_contract.specs.declared.leg.Leg.{Leg}
 use Rattle.ch_contract.specs.Hierarchy.{Levels, nodes_of, IsLevelled}
 use Rattle.ch_query.specs.declared.side.Side.{Side}
-use Rattle.ch_query.specs.declared.side.Side.TheVariants.{Up, Down}
 use Rattle.ch_query.specs.declared.search.Search.{Search}
+use Rattle.ch_query.specs.Side.{rows_of, other}
 use Rattle.ch_query.specs.Parents.{AreParents, IsNoEarlier}
-use Rattle.ch_query.specs.Search.{cost_at, IsSettled, IsSearch, IsExpanding, OrNode, IsStalled, IsEmpty, IsRelaxed, Relaxes, unsettled}
-
--- the legs by node in this direction
-abbrev pub rows_of : Levels → Side → List (List Leg)
-rows_of H Up = H.up
-rows_of H Down = H.down
-
--- the opposite direction
-abbrev pub other : Side → Side
-other Up = Down
-other Down = Up
+use Rattle.ch_graph.specs.Cost.{cost_at}
+use Rattle.ch_query.specs.Search.{IsSettled, IsSearch, IsExpanding, OrNode, IsStalled, IsEmpty, IsRelaxedFrom, Relaxes, unsettled}
 
 -- the legs by which a search that stalls sees a cheaper way: those from higher nodes back to a node
 abbrev pub back_of : Levels → Side → Bool → List (List Leg)
@@ -34,21 +25,23 @@ pub record IsTouched (best : List (Option Cost)) (touched : Vec ℕ Global) : Ty
   pub listed : (v : ℕ) → is_some (cost_at best v) ≡ true → Contains touched.items v
   pub distinct : AllPairs ◌≢◌ touched.items
 
--- the lists are for the same nodes, and the touched ones are known
+-- the lists are for the same nodes, the touched ones are known, and paths may weigh as much as the limits let them
 pub record IsRoom (x : Search) : Type 0 where
   pub queue : length x.queue ≡ length x.costs.items
   pub parents : length x.parents.items ≡ length x.costs.items
   pub touched : IsTouched x.costs.items x.touched
+  pub most : x.most ≡ 2 ^ 60
 
 -- how many nodes are not settled
 abbrev pub unsettled_in : Search → ℕ
 unsettled_in x = unsettled x.costs.items x.queue
 
--- of the same direction and source, and both stall or neither does
+-- of the same direction and source and for paths of as much weight, and both stall or neither does
 pub record IsSameSearch (x y : Search) : Type 0 where
   pub side : y.side ≡ x.side
   pub source : y.source ≡ x.source
   pub stalls : y.stalls ≡ x.stalls
+  pub most : y.most ≡ x.most
 
 -- v need not be expanded at this cost
 abbrev pub idle_of : Levels → Search → ℕ → Cost → Type 0
@@ -60,6 +53,7 @@ pub record IsUnderway (H : Levels) (x : Search) : Type 0 where
   pub search : IsSearch (rows_of H x.side) x.source (idle_of H x) x.costs.items x.queue
   pub parents : AreParents (rows_of H x.side) x.source (idle_of H x) x.costs.items x.queue x.parents.items
   pub touched : IsTouched x.costs.items x.touched
+  pub most : x.most ≡ 2 ^ 60
 
 -- a search that takes the legs of v, which was settled last, at cost c
 pub record IsExpandingAt (H : Levels) (x : Search) (v : ℕ) (c : Cost) : Type 0 where
@@ -68,6 +62,7 @@ pub record IsExpandingAt (H : Levels) (x : Search) (v : ℕ) (c : Cost) : Type 0
   pub search : IsExpanding (rows_of H x.side) x.source (OrNode (idle_of H x) v) x.costs.items x.queue v c
   pub parents : AreParents (rows_of H x.side) x.source (OrNode (idle_of H x) v) x.costs.items x.queue x.parents.items
   pub touched : IsTouched x.costs.items x.touched
+  pub most : x.most ≡ 2 ^ 60
 
 -- what taking a leg of v, settled at cost c, changes
 abbrev pub RelaxesIn : Search → ℕ → Cost → Leg → Search → Type 0
@@ -81,7 +76,7 @@ KeepsSettled x y = (v : ℕ) (c : Cost) → IsSettled y.costs.items y.queue v c 
 pub record IsPartlyExpanded (H : Levels) (x y : Search) (v : ℕ) (c : Cost) (legs : List Leg) : Type 0 where
   pub same : IsSameSearch x y
   pub expanding : IsExpandingAt H y v c
-  pub relaxed : (l : Leg) → Contains legs l → IsRelaxed y.costs.items c l × IsNoEarlier y.costs.items y.parents.items v c l
+  pub relaxed : (l : Leg) → Contains legs l → IsRelaxedFrom y.costs.items c l × IsNoEarlier y.costs.items y.parents.items v c l
   pub settled : KeepsSettled x y
   pub measure : unsettled_in y ≡ unsettled_in x
 

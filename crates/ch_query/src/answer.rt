@@ -6,15 +6,15 @@ ghost use Rattle.ch_query.specs.Distance.{IsKeptForSome};
 ghost use Rattle.ch_query.specs.Answers.{AreQueries, IsReply};
 
 use crate::query::{distance, route};
-use crate::routes::Arcs;
 use crate::scratch::Scratch;
 use ch_contract::Hierarchy;
+use ch_graph::InArc;
 use ch_work::{Gate, Job, Plan, joined, run_pieces};
 use std::alloc::{AllocError, Global};
 use std::marker::Model;
 use std::thread::Threads;
 
-/// What is answered to a query.
+/// What is answered to a query. Contracts see the arcs as a list.
 #[derive(Debug, Drop)]
 pub struct Answer {
     /// The query's first node.
@@ -24,7 +24,16 @@ pub struct Answer {
     /// The least weight of a walk from the one to the other, and `None` where there is none.
     pub weight: Option<u64>,
     /// The arcs of the route, where routes are wanted and there is a walk.
-    pub arcs: Option<Arcs>,
+    pub arcs: Option<Vec<InArc>>,
+}
+
+impl Model for Answer {
+    ghost use Rattle.std.specs.Option.{option_map};
+    ghost use Rattle.ch_query.specs.Values.{Reply};
+
+    ghost Value = { Reply };
+
+    ghost view = { λ a. record { from = a.from; to = a.to; weight = a.weight; arcs = option_map (λ arcs. arcs.items) a.arcs } };
 }
 
 /// The answers to the queries, in their order, with the arcs of the routes where `routes` says so. Workers
@@ -58,7 +67,7 @@ pub fn answer_all<R: Threads + Sync, G: Gate>(
     joined(alloc, lists)
 }
 
-// The answers to queries, a range of them at a time.
+/// The answers to queries, a range of them at a time.
 #[derive(Drop)]
 struct QueryJob<'a> {
     hierarchy: &'a Hierarchy,
@@ -92,7 +101,7 @@ impl Job for QueryJob<'_> {
     }
 }
 
-// The answers to these queries, by one scratch.
+/// The answers to these queries, by one scratch.
 fn replies(
     alloc: Global,
     hierarchy: &Hierarchy,
@@ -112,7 +121,7 @@ fn replies(
     Ok(answers)
 }
 
-// The answer to one query.
+/// The answer to one query.
 fn reply(
     alloc: Global,
     hierarchy: &Hierarchy,
@@ -139,7 +148,7 @@ fn reply(
     })
 }
 
-// The answer to one query, with the route.
+/// The answer to one query, with the route.
 fn reply_with_route(
     alloc: Global,
     hierarchy: &Hierarchy,

@@ -9,7 +9,7 @@ use crate::side::Side;
 use crate::unpacking::PendingLeg;
 use ch_contract::{Hierarchy, Leg};
 
-// The leg of a step up from `low` on this side, as a walk takes it.
+/// The leg of a step up from `low` on this side, as a walk takes it.
 fn directed(side: Side, low: u32, leg: Leg) -> PendingLeg
     ensures { result ≡ pending_of side (record { low = low; leg = leg }) }
 {
@@ -19,8 +19,8 @@ fn directed(side: Side, low: u32, leg: Leg) -> PendingLeg
     }
 }
 
-// Appends the legs of the steps from `meet` back to the source, each by the least numbered node before it on
-// a least path.
+/// Appends the legs of the steps from `meet` back to the source, each by the least numbered node before it on
+/// a least path.
 pub(crate) fn descend(
     hierarchy: &Hierarchy,
     search: &Search,

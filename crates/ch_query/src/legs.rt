@@ -5,7 +5,7 @@ ghost use Rattle.ch_contract.specs.declared.leg.Leg.{Leg as RowLeg};
 
 use ch_contract::Leg;
 
-// The leg of the row at `node`, which it has, by binary search.
+/// The leg of the row at `node`, which it has, by binary search.
 pub(crate) fn leg_at(row: &[Leg], node: u32) -> Leg
     requires order { IsRow row.now }
     requires has { (l : RowLeg) × Contains row.now l × (l.node ≡ node) }

@@ -16,19 +16,19 @@ pub mod laws;
 mod legs;
 mod meeting;
 mod query;
-mod reach;
 mod routes;
 mod scratch;
 mod search;
 mod side;
+mod spreading;
 mod unpacking;
 
 pub use answer::{Answer, answer_all};
 pub use query::{distance, route};
-pub use reach::spread;
-pub use routes::{Arcs, Route};
+pub use routes::Route;
 pub use scratch::Scratch;
 pub use side::Side;
+pub use spreading::spread;
 
 #[cfg(test)]
 mod tests;

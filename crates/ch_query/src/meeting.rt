@@ -4,7 +4,7 @@ ghost use Rattle.ch_contract.specs.Hierarchy.{nodes_of};
 ghost use Rattle.ch_contract.specs.Paths.{IsMeet, NeverMeets};
 ghost use Rattle.ch_query.specs.declared.side.Side.TheVariants.{Up, Down};
 ghost use Rattle.ch_query.specs.Distance.{IsKeptForSome};
-ghost use Rattle.ch_query.specs.Search.{cost_at};
+ghost use Rattle.ch_graph.specs.Cost.{cost_at};
 ghost use Rattle.ch_query.specs.Underway.{unsettled_in, IsSameSearch, IsUnderway, IsClean};
 ghost use Rattle.ch_query.specs.TwoSided.{IsPast};
 ghost use Rattle.ch_query.specs.Meeting.{IsMet, IsFirst, AreMeeting};
@@ -14,7 +14,7 @@ use ch_contract::Hierarchy;
 use ch_graph::Cost;
 use ch_queue::KeyQueue;
 
-// The first of the two, by cost and then by node.
+/// The first of the two, by cost and then by node.
 fn first(least: Option<(Cost, u32)>, cost: Cost, node: u32) -> Option<(Cost, u32)>
     ensures { IsFirst least (cost, node) result }
 {
@@ -26,7 +26,7 @@ fn first(least: Option<(Cost, u32)>, cost: Cost, node: u32) -> Option<(Cost, u32
     Some((cost, node))
 }
 
-// The least sum, now that one side settles `node` at `cost`.
+/// The least sum, now that one side settles `node` at `cost`.
 fn met(
     hierarchy: &Hierarchy,
     there: &Search,
@@ -45,7 +45,7 @@ fn met(
     }
 }
 
-// Whether each key is above the least sum.
+/// Whether each key is above the least sum.
 fn is_past(queue: &KeyQueue<Cost>, least: Option<(Cost, u32)>) -> bool
     ensures { result ≡ true → IsPast queue.now least }
 {
@@ -56,7 +56,7 @@ fn is_past(queue: &KeyQueue<Cost>, least: Option<(Cost, u32)>) -> bool
     }
 }
 
-// Settles one node, unless the side is past the least sum, and says whether it did.
+/// Settles one node, unless the side is past the least sum, and says whether it did.
 fn advance(
     hierarchy: &Hierarchy,
     here: &mut Search,
@@ -80,7 +80,7 @@ fn advance(
     true
 }
 
-// Lets each side settle one node, and says whether one did.
+/// Lets each side settle one node, and says whether one did.
 fn step(
     hierarchy: &Hierarchy,
     up: &mut Search,
@@ -99,8 +99,8 @@ fn step(
     rising || falling
 }
 
-// The least sum of a path up from `start` and one down to `end`, with the least numbered node of those
-// where two such paths meet. Afterwards both searches are as they stopped.
+/// The least sum of a path up from `start` and one down to `end`, with the least numbered node of those
+/// where two such paths meet. Afterwards both searches are as they stopped.
 pub(crate) fn meet(
     hierarchy: &Hierarchy,
     up: &mut Search,

@@ -12,7 +12,7 @@ ghost use Rattle.ch_query.specs.Routes.{IsRoute, IsRouteBy};
 
 use crate::descent::descend;
 use crate::meeting::meet;
-use crate::routes::{Arcs, Route};
+use crate::routes::Route;
 use crate::scratch::Scratch;
 use crate::search::Search;
 use crate::unpacking::unpack;
@@ -77,7 +77,7 @@ pub fn route(
     answer
 }
 
-// Leaves both sides as the next query wants them.
+/// Leaves both sides as the next query wants them.
 fn clean(up: &mut Search, down: &mut Search)
     requires rooms { IsRoom up.old × IsRoom down.old }
     ensures up { IsClean (length up.old.costs.items) up.new × (up.new.side ≡ up.old.side) }
@@ -87,7 +87,7 @@ fn clean(up: &mut Search, down: &mut Search)
     down.clean();
 }
 
-// The route over the node where the searches meet.
+/// The route over the node where the searches meet.
 fn route_over(
     alloc: Global,
     hierarchy: &Hierarchy,
@@ -112,6 +112,6 @@ fn route_over(
     unpack(hierarchy, &mut pending, &mut arcs);
     Ok(Some(Route {
         weight: cost.weight,
-        arcs: Arcs::new(arcs),
+        arcs,
     }))
 }

@@ -11,7 +11,7 @@ use ch_graph::Cost;
 use ch_queue::KeyQueue;
 use std::alloc::{AllocError, Global};
 
-/// The most that a path may weigh. A leg that would make it weigh more is not taken.
+/// The most that a path weighs within the limits.
 const MOST_WEIGHT: u64 = 1 << 60;
 
 /// What one side of a query knows, and the room for it.
@@ -19,21 +19,24 @@ const MOST_WEIGHT: u64 = 1 << 60;
 pub(crate) struct Search {
     pub(crate) side: Side,
     pub(crate) source: u32,
-    // Whether a node to which a higher node shows a cheaper way is left unexpanded. A spread, which has to
-    // find all least paths, does not stall.
+    /// Whether a node to which a higher node shows a cheaper way is left unexpanded. A spread, which has to
+    /// find all least paths, does not stall.
     pub(crate) stalls: bool,
-    // By node: the least cost known of a path from the source to it.
+    /// The most that a path may weigh. A leg that would make it weigh more is not taken. Today it is the
+    /// limit in all searches.
+    pub(crate) most: u64,
+    /// By node: the least cost known of a path from the source to it.
     pub(crate) costs: Vec<Option<Cost>>,
-    // The nodes that are reached and not settled, by cost.
+    /// The nodes that are reached and not settled, by cost.
     pub(crate) queue: KeyQueue<Cost>,
-    // The nodes that have a cost, each once.
+    /// The nodes that have a cost, each once.
     pub(crate) touched: Vec<u32>,
-    // By node that is reached: the least numbered node before it on a path of its cost.
+    /// By node that is reached: the least numbered node before it on a path of its cost.
     pub(crate) parents: Vec<u32>,
 }
 
 impl Search {
-    // A clean search, with room for `nodes` nodes.
+    /// A clean search, with room for `nodes` nodes.
     pub(crate) fn new(alloc: Global, side: Side, nodes: u32) -> Result<Search, AllocError>
         ensures clean { IfOk result (λ x. IsClean nodes x) }
         ensures side { IfOk result (λ x. x.side ≡ side) }
@@ -46,6 +49,7 @@ impl Search {
             side,
             source: 0,
             stalls: false,
+            most: MOST_WEIGHT,
             costs,
             queue,
             touched,
@@ -53,7 +57,7 @@ impl Search {
         })
     }
 
-    // Puts the source into a clean search.
+    /// Puts the source into a clean search.
     pub(crate) fn begin(&mut self, hierarchy: &Hierarchy, source: u32, stalls: bool)
         requires clean { IsClean (nodes_of hierarchy.now) self.old }
         requires source { source < nodes_of hierarchy.now }
@@ -70,7 +74,7 @@ impl Search {
         self.reach(source, nothing, source);
     }
 
-    // Writes what is known of a node that is not settled.
+    /// Writes what is known of a node that is not settled.
     fn reach(&mut self, node: u32, cost: Cost, parent: u32)
         requires node { node < length self.old.costs.items }
         requires room { IsRoom self.old }
@@ -88,7 +92,7 @@ impl Search {
         self.parents[node as usize] = parent;
     }
 
-    // Takes a leg of `node`, which was settled at `cost`.
+    /// Takes a leg of `node`, which was settled at `cost`.
     fn relax(&mut self, node: u32, cost: Cost, leg: Leg)
         requires node { leg.node < length self.old.costs.items }
         requires room { IsRoom self.old }
@@ -99,7 +103,7 @@ impl Search {
         ensures same { IsSameSearch self.old self.new }
     {
         let sum = cost.plus(leg.cost);
-        if sum.weight > MOST_WEIGHT {
+        if sum.weight > self.most {
             return;
         }
         if let Some(known) = self.costs[leg.node as usize] {
@@ -116,7 +120,7 @@ impl Search {
         self.reach(leg.node, sum, node);
     }
 
-    // Takes each leg of the node that was settled last.
+    /// Takes each leg of the node that was settled last.
     pub(crate) fn expand(&mut self, hierarchy: &Hierarchy, node: u32, cost: Cost)
         requires expanding { IsExpandingAt hierarchy.now self.old node cost }
         ensures underway { IsUnderway hierarchy.now self.new }
@@ -129,7 +133,7 @@ impl Search {
         }
     }
 
-    // Whether a leg from a higher node shows a way to `node` that costs less than `cost`.
+    /// Whether a leg from a higher node shows a way to `node` that costs less than `cost`.
     fn is_stalled(&self, hierarchy: &Hierarchy, node: u32, cost: Cost) -> bool
         requires expanding { IsExpandingAt hierarchy.now self.now node cost }
         requires stalls { self.now.stalls ≡ true }
@@ -145,7 +149,7 @@ impl Search {
         false
     }
 
-    // Takes the legs of the node that was settled last, unless it is stalled.
+    /// Takes the legs of the node that was settled last, unless it is stalled.
     pub(crate) fn settle(&mut self, hierarchy: &Hierarchy, node: u32, cost: Cost)
         requires expanding { IsExpandingAt hierarchy.now self.old node cost }
         requires stalls { self.old.stalls ≡ true }
@@ -159,7 +163,7 @@ impl Search {
         }
     }
 
-    // Takes all that is known away, in as many steps as nodes were touched.
+    /// Takes all that is known away, in as many steps as nodes were touched.
     pub(crate) fn clean(&mut self)
         requires room { IsRoom self.old }
         ensures clean { IsClean (length self.old.costs.items) self.new }
@@ -172,7 +176,7 @@ impl Search {
     }
 }
 
-// Whether `a` costs less than `b`.
+/// Whether `a` costs less than `b`.
 pub(crate) fn is_below(a: Cost, b: Cost) -> bool
     ensures { IsTrue result ↔ IsBelow a b }
 {

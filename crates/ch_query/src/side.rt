@@ -2,7 +2,7 @@
 ghost use Rattle.std.specs.Prelude.{◌≡◌, ◌<◌};
 ghost use Rattle.ch_contract.specs.Rows.{row};
 ghost use Rattle.ch_contract.specs.Hierarchy.{nodes_of, IsLevelled};
-ghost use Rattle.ch_query.specs.Underway.{rows_of, other};
+ghost use Rattle.ch_query.specs.Side.{rows_of, other};
 
 use ch_contract::{Hierarchy, Leg};
 
@@ -16,7 +16,7 @@ pub enum Side {
 }
 
 impl Side {
-    // The opposite direction.
+    /// The opposite direction.
     pub(crate) fn other(self) -> Side
         ensures { result ≡ other self }
     {
@@ -26,7 +26,7 @@ impl Side {
         }
     }
 
-    // The legs of `node` in this direction.
+    /// The legs of `node` in this direction.
     pub(crate) fn legs(self, hierarchy: &Hierarchy, node: u32) -> &[Leg]
         requires { node < nodes_of hierarchy.now }
         ensures row { result.now ≡ row (rows_of hierarchy.now self) node }

@@ -17,7 +17,7 @@ pub(crate) struct PendingLeg {
 }
 
 impl PendingLeg {
-    // The leg between these nodes, of which its row names one.
+    /// The leg between these nodes, of which its row names one.
     pub(crate) fn new(from: u32, to: u32, leg: Leg) -> PendingLeg
         ensures { result ≡ record { from = from; to = to; cost = leg.cost; middle = leg.middle } }
     {
@@ -30,7 +30,7 @@ impl PendingLeg {
     }
 }
 
-// Appends the arcs for which the legs stand, from the last leg on. No leg is left.
+/// Appends the arcs for which the legs stand, from the last leg on. No leg is left.
 pub(crate) fn unpack(hierarchy: &Hierarchy, pending: &mut Vec<PendingLeg>, arcs: &mut Vec<InArc>)
     requires kept { IsKeptForSome hierarchy.now }
     requires legs { ArePending hierarchy.now pending.old.items }
@@ -49,7 +49,7 @@ pub(crate) fn unpack(hierarchy: &Hierarchy, pending: &mut Vec<PendingLeg>, arcs:
     }
 }
 
-// Puts the two legs of which a shortcut was made in its place, the first one on top.
+/// Puts the two legs of which a shortcut was made in its place, the first one on top.
 fn split(hierarchy: &Hierarchy, leg: PendingLeg, middle: u32, pending: &mut Vec<PendingLeg>)
     requires kept { IsKeptForSome hierarchy.now }
     requires leg { IsPending hierarchy.now leg }

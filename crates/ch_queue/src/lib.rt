@@ -1,8 +1,8 @@
 //! A priority queue of ids whose keys may change: the least key leaves first, and of equal keys
 //! that of the least id.
 //!
-//! [`KeyQueue`] is the frontier of the shortest-path searches, and gives the order in which nodes
-//! are contracted. The crate stands on std alone.
+//! [`KeyQueue`] holds the frontier of a shortest-path search: the nodes that are reached and not settled,
+//! by cost. The crate stands on std alone.
 //!
 //! Proved for every key type with a lawful `Ord`: the queue is a finite map from the ids below a
 //! fixed number to keys, each method gives and changes what its contract says and leaves all other

@@ -81,7 +81,7 @@ fn holds_no_ids(rt: HostRuntime) -> Result<(), Fail> {
     Ok(())
 }
 
-// The keys with their indices, least first.
+/// The keys with their indices, least first.
 fn in_order<K: Ord + Copy>(alloc: Global, keys: &[K]) -> Result<Vec<(K, u32)>, AllocError>
     requires { length keys.now < 2 ^ 32 }
 {
@@ -118,7 +118,7 @@ fn orders_keys_of_any_type(rt: HostRuntime) -> Result<(), Fail> {
     Ok(())
 }
 
-// Knuth's linear congruential generator, fixed so that each run is the same.
+/// Knuth's linear congruential generator, fixed so that each run is the same.
 #[derive(Drop)]
 struct Generator(u64);
 
@@ -135,7 +135,7 @@ impl Generator {
     }
 }
 
-// The least key of a plain list and its index, found by looking at each.
+/// The least key of a plain list and its index, found by looking at each.
 fn least_of(keys: &[Option<u64>]) -> Option<(u64, u32)>
     requires { length keys.now < 2 ^ 32 }
 {
@@ -150,7 +150,7 @@ fn least_of(keys: &[Option<u64>]) -> Option<(u64, u32)>
     least
 }
 
-// Does one operation on the queue and on a plain list, and compares what they give.
+/// Does one operation on the queue and on a plain list, and compares what they give.
 fn compare_step(
     rt: &impl Abort,
     queue: &mut KeyQueue<u64>,
@@ -202,8 +202,8 @@ fn agrees_with_a_plain_list(rt: HostRuntime) -> Result<(), Fail> {
     Ok(())
 }
 
-// For `rt try --test --fail-alloc N`, which refuses one request for memory: `new` answers `AllocError`, and
-// called again gives the queue that it gives with ample memory.
+/// For `rt try --test --fail-alloc N`, which refuses one request for memory: `new` answers `AllocError`, and
+/// called again gives the queue that it gives with ample memory.
 #[test]
 fn refused_in_turn(rt: HostRuntime) -> Result<(), Fail> {
     let mut queue = match KeyQueue::new(rt.alloc(), 4) {

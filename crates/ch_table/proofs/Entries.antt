@@ -12,14 +12,14 @@ use Rattle.ch_graph.specs.Rows.{AreRowsOf, values_of}
 use Rattle.ch_contract.specs.declared.leg.Leg.{Leg}
 use Rattle.ch_contract.specs.Hierarchy.{Levels, nodes_of, AreLegsUp, IsLegUp, IsLevelled}
 use Rattle.ch_contract.specs.Paths.{IsUpwardPath, IsLeastUpwardPath}
-use Rattle.ch_contract.proofs.Ordered.{contains_none}
+use Rattle.ch_graph.proofs.Lists.{contains_none}
 use Rattle.ch_query.specs.declared.side.Side.{Side}
 use Rattle.ch_query.specs.declared.side.Side.TheVariants.{Up, Down}
 use Rattle.ch_query.specs.Spread.{IsSpread}
-use Rattle.ch_query.specs.Underway.{rows_of}
+use Rattle.ch_query.specs.Side.{rows_of}
 use Rattle.ch_table.specs.Buckets.{IsBucket, AreBuckets}
 use Rattle.ch_table.specs.Entries.{entry_at, AreEntries}
-use Rattle.ch_table.proofs.Lists.{contains_map, contains_map_of, contains_filter, contains_filter_of, pairs_map, pairs_append}
+use Rattle.ch_graph.proofs.Lists.{contains_map, contains_map_of, contains_filter, contains_filter_of, pairs_map, pairs_append}
 
 -- an upward path from a node ends at a node
 pub path_within : (H : Levels) (rows : List (List Leg)) → AreLegsUp H rows → (a b : ℕ) (legs : List Leg) → a < nodes_of H → IsUpwardPath rows a b legs → b < nodes_of H

@@ -1,7 +1,7 @@
 //! Buckets: at each node the targets that it reaches.
 ghost use Rattle.std.specs.Prelude.{◌≡◌, ◌++◌, ◌^◌, ◌<◌, ◌≤◌, [], length, map, slice_index_or, All, IfOk, OnOk};
 ghost use Rattle.ch_contract.specs.Hierarchy.{nodes_of};
-ghost use Rattle.ch_query.specs.Underway.{rows_of};
+ghost use Rattle.ch_query.specs.Side.{rows_of};
 ghost use Rattle.ch_table.specs.Buckets.{AreBuckets};
 ghost use Rattle.ch_table.specs.Entries.{AreEntries, entry_at};
 

@@ -209,8 +209,8 @@ macro_rules! again {
     };
 }
 
-// For `rt try --test --fail-alloc N`, which refuses one request for memory: the call that meets the refusal
-// answers `AllocError`, and called again answers as with ample memory.
+/// For `rt try --test --fail-alloc N`, which refuses one request for memory: the call that meets the refusal
+/// answers `AllocError`, and called again answers as with ample memory.
 #[test]
 fn refused_in_turn(rt: HostRuntime) -> Result<(), Fail> {
     let alloc = rt.alloc();

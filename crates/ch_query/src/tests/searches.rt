@@ -153,7 +153,6 @@ fn expect_arcs(rt: &impl Abort, answer: &Answer) {
     let Some(arcs) = &answer.arcs else {
         panic!(rt; "no arcs from {} to {}", answer.from, answer.to);
     };
-    let arcs = arcs.as_slice();
     assert_eq!(rt; Some(arcs.len() as u64), answer.weight);
     let mut at = answer.from;
     for taken in arcs {

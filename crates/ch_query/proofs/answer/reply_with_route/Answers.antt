@@ -1,7 +1,9 @@
-use Rattle.std.proofs.Common.{subst}
+use Rattle.std.proofs.Common.{true, Some, sym, subst}
 use Rattle.std.specs.Prelude.{MatchOption}
 use Rattle.ch_contract.specs.Paths.{NeverMeets}
+use Rattle.ch_query.specs.Answers.{IsReply}
 use Rattle.ch_query.specs.Routes.{IsRoute}
+use Rattle.ch_query.specs.Values.{Way}
 use Rattle.ch_query.proofs.Replies.{reply_none, reply_some}
 use Rattle.ch_query.proofs.answer.reply_with_route.Goals as goal
 use Rattle.ch_query.proofs.answer.reply_with_route.Goals.{in-Some, in-None}
@@ -13,6 +15,7 @@ returns-clause-reply c =
     let t = c.args.query.1 in
     let found = c.in_ok-route.ensures.route in
     elim c.match-branch-2.branch [
-      | in-Some w ↦ rw w.weight-is (reply_some H s t w.in-Some.route (subst (λ o. MatchOption o (NeverMeets H s t) (IsRoute H s t)) w.in-Some.is found))
+      | in-Some w ↦ rw w.weight-is (subst (λ (route : Way). IsReply H true (s, t) (record { from = s; to = t; weight = Some route.weight; arcs = Some route.arcs })) (sym w.route-in-Some.view_is)
+          (reply_some H s t w.in-Some.route (subst (λ o. MatchOption o (NeverMeets H s t) (IsRoute H s t)) w.in-Some.is found)))
       | in-None w ↦ rw w.weight-is (reply_none H s t (subst (λ o. MatchOption o (NeverMeets H s t) (IsRoute H s t)) w.in-None.is found))
     ]

@@ -1,6 +1,5 @@
-use Rattle.std.proofs.Common.{refl, sym, subst}
+use Rattle.std.proofs.Common.{refl, subst}
 use Rattle.ch_query.specs.Descents.{IsTraced}
-use Rattle.ch_query.specs.Unpacking.{ArePendingArcs}
 use Rattle.ch_query.proofs.RouteArcs.{route_found}
 use Rattle.ch_query.proofs.RouteAnswers.{room_down, room_up, all_pending, room_for_all}
 use Rattle.ch_query.proofs.query.route_over.Goals as goal
@@ -53,7 +52,6 @@ returns c =
         _,
         refl,
         route_found c.args.hierarchy.now c.args.up.now c.args.down.now q.sides.0 q.sides.1 c.args.node c.args.cost q.meet c.descend.new.pending.items c.reverse.new.self.items
-            c.descend-2.new.pending.items first c.reverse.ensures.items c.descend-2.ensures.traced c.new.result
-            (subst (ArePendingArcs c.args.hierarchy.now c.descend-2.new.pending.items) (sym c.new.ensures) c.unpack.ensures),
+            c.descend-2.new.pending.items first c.reverse.ensures.items c.descend-2.ensures.traced c.unpack.new.arcs.items c.unpack.ensures,
       );
     }

@@ -3,7 +3,7 @@ use Rattle.std.proofs.lemmas.List.{take_more, take_all}
 use Rattle.std.specs.declared.alloc.Global.{Global}
 use Rattle.ch_table.specs.Sources.{AreRowsBy}
 use Rattle.ch_table.specs.Table.{IsRowBy}
-use Rattle.ch_table.proofs.Lists.{zipped_push}
+use Rattle.ch_graph.proofs.Lists.{zipped_push}
 use Rattle.ch_table.proofs.many_to_many.rows.Goals as goal
 
 pub loop-source-preserved : goal.loop-source-preserved

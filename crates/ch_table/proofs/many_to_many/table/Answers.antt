@@ -6,7 +6,7 @@ use Rattle.ch_work.specs.Pieces.{AreValues, pieces_of}
 use Rattle.ch_work.proofs.PieceLists.{all_zipped}
 use Rattle.ch_table.specs.Sources.{AreRowsBy}
 use Rattle.ch_table.specs.Table.{IsRowBy}
-use Rattle.ch_table.proofs.Lists.{zipped_map, zipped_length}
+use Rattle.ch_graph.proofs.Lists.{zipped_map, zipped_length}
 use Rattle.ch_table.proofs.many_to_many.table.Goals as goal
 
 -- the rows of all pieces are a row for each source

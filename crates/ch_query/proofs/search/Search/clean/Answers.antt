@@ -19,6 +19,7 @@ loop-node-preserved c =
         queue = i.room.queue ∙ sym size;
         parents = i.room.parents ∙ sym size;
         touched = touched_less _ _ c.pop.new.self i.room.touched c.in-Some.node e.items e.cases e.capacity;
+        most = i.room.most;
       };
       empty = i.empty;
       nodes = size ∙ i.nodes;

@@ -1,8 +1,8 @@
 use Rattle.std.proofs.Common.{sym, ◌∙◌, subst}
 use Rattle.std.proofs.lemmas.Result.{IfOk-weaker}
-use Rattle.ch_query.specs.Underway.{rows_of}
+use Rattle.ch_query.specs.Side.{rows_of}
 use Rattle.ch_query.specs.Spread.{IsSpread}
-use Rattle.ch_query.proofs.Spreading.{touched_sorted, spread_of}
+use Rattle.ch_query.proofs.Spreads.{touched_sorted, spread_of}
 use Rattle.ch_query.proofs.search.Search.spread.Goals as goal
 
 pub listed-list-requires : goal.listed-list-requires
@@ -19,6 +19,7 @@ clean-requires c =
         queue = was.search.sizes.1 ∙ sym was.search.sizes.0;
         parents = was.parents.size;
         touched = touched_sorted _ _ _ was.touched sorted.permutation sorted.sorted sorted.len sorted.capacity;
+        most = was.most;
       };
     }
 

@@ -7,31 +7,24 @@ use Rattle.std.specs.List.{IsDistinct}
 use Rattle.std.specs.List.Sorted.{IsPermutation, IsSorted}
 use Rattle.std.specs.Ordering.{nat_cmp}
 use Rattle.std.proofs.lemmas.Bool.{false≢true}
-use Rattle.std.proofs.lemmas.Bool.Decides.{nat_tests}
 use Rattle.std.proofs.lemmas.List.{take_more, map_push, get_or-map, length-map, get_or_default}
 use Rattle.std.proofs.lemmas.List.Elements.{Contains-get_or}
 use Rattle.std.proofs.lemmas.List.Sorted.{Contains-permutation, IsPermutation-sym, IsNonDecreasingBy-from_sort}
 use Rattle.std.proofs.lemmas.Map.Keys.{IsDistinct-from_apart, IsDistinct-IsPermutation, IsStrictlyIncreasing-from_distinct}
 use Rattle.std.proofs.lemmas.List.Kept.{AllPairs-from_increasing}
 use Rattle.ch_graph.specs.declared.cost.Cost.{Cost}
-use Rattle.ch_graph.specs.Cost.{no_cost}
+use Rattle.ch_graph.specs.Cost.{no_cost, cost_at}
+use Rattle.ch_graph.proofs.Numbers.{not_eqb, eqb_flips}
 use Rattle.ch_contract.specs.declared.leg.Leg.{Leg}
 use Rattle.ch_contract.specs.Hierarchy.{Levels}
 use Rattle.ch_contract.specs.Rows.{row}
 use Rattle.ch_query.specs.declared.side.Side.{Side}
 use Rattle.ch_query.specs.declared.search.Search.{Search}
-use Rattle.ch_query.specs.Search.{cost_at, IsEmpty}
-use Rattle.ch_query.specs.Underway.{rows_of, back_of, IsTouched, idle_of, IsUnderway}
+use Rattle.ch_query.specs.Search.{IsEmpty}
+use Rattle.ch_query.specs.Underway.{back_of, IsTouched, idle_of, IsUnderway}
+use Rattle.ch_query.specs.Side.{rows_of}
 use Rattle.ch_query.specs.Spread.{IsSpread, entry}
 use Rattle.ch_query.proofs.End.{known_least, least_known}
-
--- numbers that differ are told apart
-not_eqb : (a b : ℕ) → (a ≡ b → ⊥) → eqb a b ≡ false
-not_eqb a b ne = grind (arith, nat_tests)
-
--- in either order
-eqb_flips : (a b : ℕ) → eqb a b ≡ eqb b a
-eqb_flips a b = grind (arith, nat_tests)
 
 -- numbers that differ rise once they are sorted
 pub sorted_rises : (xs ys : List ℕ) → AllPairs ◌≢◌ xs → IsPermutation xs ys → IsSorted nat_cmp ys → AllPairs (λ a b. a < b) ys

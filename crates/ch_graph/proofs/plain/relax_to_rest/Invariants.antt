@@ -1,6 +1,6 @@
 use Rattle.std.proofs.Common.{ℕ}
 use Rattle.ch_graph.specs.Relaxing.{IsPartial, total}
-use Rattle.ch_graph.proofs.plain.settle.Given as goal
+use Rattle.ch_graph.proofs.plain.relax_to_rest.Given as goal
 
 abbrev pub invariant-loop : goal.invariant-loop
 invariant-loop l = (s : ℕ) → IsPartial l.graph s l.initial.best → IsPartial l.graph s l.best

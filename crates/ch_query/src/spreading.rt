@@ -2,7 +2,8 @@
 ghost use Rattle.std.specs.Prelude.{◌≡◌, ◌<◌, IfOk, map};
 ghost use Rattle.ch_contract.specs.Hierarchy.{nodes_of};
 ghost use Rattle.ch_query.specs.Search.{IsEmpty};
-ghost use Rattle.ch_query.specs.Underway.{rows_of, IsTouched, IsSameSearch, IsUnderway, IsClean};
+ghost use Rattle.ch_query.specs.Underway.{IsTouched, IsSameSearch, IsUnderway, IsClean};
+ghost use Rattle.ch_query.specs.Side.{rows_of};
 ghost use Rattle.ch_query.specs.Spread.{IsSpread, entry};
 
 use crate::scratch::Scratch;
@@ -13,7 +14,7 @@ use ch_graph::Cost;
 use std::alloc::{AllocError, Global};
 
 impl Search {
-    // Settles all nodes that can be reached.
+    /// Settles all nodes that can be reached.
     fn explore(&mut self, hierarchy: &Hierarchy)
         requires underway { IsUnderway hierarchy.now self.old }
         ensures underway { IsUnderway hierarchy.now self.new }
@@ -25,7 +26,7 @@ impl Search {
         }
     }
 
-    // The touched nodes with their costs.
+    /// The touched nodes with their costs.
     fn listed(&self, alloc: Global) -> Result<Vec<(u32, Cost)>, AllocError>
         requires touched { IsTouched self.now.costs.items self.now.touched }
         ensures { IfOk result (λ list. list.items ≡ map (entry self.now.costs.items) self.now.touched.items) }
@@ -39,7 +40,7 @@ impl Search {
         Ok(list)
     }
 
-    // All least costs from the source. The search is clean afterwards, also where there is no memory.
+    /// All least costs from the source. The search is clean afterwards, also where there is no memory.
     fn spread(
         &mut self,
         alloc: Global,

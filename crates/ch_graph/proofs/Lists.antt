@@ -1,10 +1,45 @@
--- What filters and maps leave in a list, and the order of two lists after each other.
-use Rattle.std.proofs.Common.{◌≡◌, Bool, true, false, cond, List, [], ◌∷◌, ◌++◌, length, map, Contains, refl, sym, ◌∙◌, ap, subst, arith, inl, inr}
+-- Members of lists, what maps and filters leave of them, and lists whose elements are related in order.
+use Rattle.std.proofs.Common.{◌≡◌, ℕ, zero, suc, Bool, true, false, cond, ◌<◌, List, [], ◌∷◌, ◌++◌, length, map, Contains, get_or, refl, sym, ◌∙◌, ap, subst, arith, inl, inr}
 use Rattle.std.specs.Prelude.{◌⊎◌, AllPairs}
 use Rattle.std.specs.List.{AllZip, filter}
 use Rattle.std.proofs.lemmas.Bool.{false≢true}
-use Rattle.std.proofs.lemmas.List.Elements.{Contains-append_cases}
-use Rattle.ch_contract.proofs.Ordered.{contains_head, contains_tail, contains_cons, contains_none, pairs_tail, pairs_head, pairs_cons}
+use Rattle.std.proofs.lemmas.List.Elements.{Contains-append_cases, Contains-get_or}
+
+-- the first is in the list
+pub contains_head : {X : Type 0} (x : X) (xs : List X) → Contains (x ∷ xs) x
+contains_head x xs = (zero, omega arith, refl)
+
+-- what is in the rest is in the list
+pub contains_tail : {X : Type 0} (x y : X) (xs : List X) → Contains xs x → Contains (y ∷ xs) x
+contains_tail x y xs h = let lt = h.1 in (suc h.0, omega arith, h.2)
+
+-- what is in the list is the first or in the rest
+pub contains_cons : {X : Type 0} (x z : X) (xs : List X) → Contains (x ∷ xs) z → (x ≡ z) ⊎ Contains xs z
+contains_cons x z xs h = at h.0 h.1 h.2
+  where
+    at : (k : ℕ) → k < length (x ∷ xs) → get_or (x ∷ xs) k z ≡ z → (x ≡ z) ⊎ Contains xs z
+    at zero lt e = inl e
+    at (suc k) lt e = inr (k, omega arith, e)
+
+-- nothing is in the empty list
+pub contains_none : {X : Type 0} (z : X) → Contains [] z → ⊥
+contains_none z h = let lt = h.1 in omega arith
+
+module _ {X : Type 0} (R : X → X → Type 0) where
+  -- what holds of each two holds of each two of the rest
+  pub pairs_tail : (x : X) (xs : List X) → AllPairs R (x ∷ xs) → AllPairs R xs
+  pairs_tail x xs h i j d lt within = h (suc i) (suc j) d (omega arith) (omega arith)
+
+  -- and of the first and each of the rest
+  pub pairs_head : (x y : X) (xs : List X) → AllPairs R (x ∷ xs) → Contains xs y → R x y
+  pairs_head x y xs h c = let lt = c.1 in subst (R x) c.2 (h zero (suc c.0) y (omega arith) (omega arith))
+
+-- one more in front, which is related to each
+pub pairs_cons : {X : Type 0} (R : X → X → Type 0) (x : X) (xs : List X) → ((y : X) → Contains xs y → R x y) → AllPairs R xs → AllPairs R (x ∷ xs)
+pairs_cons R x xs head tail zero zero d lt within = absurd (omega arith)
+pairs_cons R x xs head tail zero (suc j) d lt within = head (get_or xs j d) (Contains-get_or xs j d (omega arith))
+pairs_cons R x xs head tail (suc i) zero d lt within = absurd (omega arith)
+pairs_cons R x xs head tail (suc i) (suc j) d lt within = tail i j d (omega arith) (omega arith)
 
 module _ {X Y : Type 0} (f : X → Y) where
   -- the image of what is in a list is in the list of images
