@@ -25,6 +25,7 @@ impl<D: Read + Drop> ReaderInput<D> {
     }
 }
 
+/// Reads once, and again after each read that was interrupted.
 fn read_uninterrupted<D: Read>(reader: &mut D, buffer: &mut [u8]) -> Result<usize, DeviceFault>
     ensures { IfOk result (λ count. count ≤ length buffer.new) }
 {
@@ -58,6 +59,9 @@ impl<D: Read + Drop> Input for ReaderInput<D> {
 
 /// An output to a writer, which is flushed within each write. An interrupted write or flush is
 /// made again.
+///
+/// Where a flush fails, the write does: what the system took of its bytes is unknown then, and none
+/// of them are counted.
 #[derive(Drop)]
 pub struct WriterOutput<D: Write + Drop> {
     writer: D,
@@ -79,6 +83,7 @@ impl<D: Write + Drop> WriterOutput<D> {
     }
 }
 
+/// Writes once, and again after each write that was interrupted.
 fn write_uninterrupted<D: Write>(writer: &mut D, bytes: &[u8]) -> Result<usize, DeviceFault>
     ensures { IfOk result (λ count. count ≤ length bytes.now) }
 {
@@ -92,6 +97,7 @@ fn write_uninterrupted<D: Write>(writer: &mut D, bytes: &[u8]) -> Result<usize, 
     Err(DeviceFault)
 }
 
+/// Flushes once, and again after each flush that was interrupted.
 fn flush_uninterrupted<D: Write>(writer: &mut D) -> Result<(), DeviceFault> {
     for _ in 0..u64::MAX {
         match writer.flush() {
@@ -103,6 +109,7 @@ fn flush_uninterrupted<D: Write>(writer: &mut D) -> Result<(), DeviceFault> {
     Err(DeviceFault)
 }
 
+/// Writes once and then flushes. Where the flush fails, no byte of the write is counted.
 fn write_and_flush<D: Write>(writer: &mut D, bytes: &[u8]) -> Result<usize, DeviceFault>
     ensures { IfOk result (λ count. count ≤ length bytes.now) }
 {
