@@ -32,7 +32,7 @@ pub enum FaultKind {
     TooFew,
 }
 
-/// The first fault of a file.
+/// The first fault of a file, by the order of checks in this crate's documentation.
 #[derive(Clone, Copy, Debug, PartialEq, Eq)]
 pub struct ReadFault {
     /// The line, counted from 1. At the end it is the number of lines and one.

@@ -3,6 +3,25 @@
 //! It stands on `ch_graph`, for graphs and arcs. Proved of it: memory aside, a reader answers the value
 //! that the bytes name, exactly where they name one, and the first fault of the first faulty line,
 //! exactly where there is one; each list of bytes names one value or has one fault, and not both.
+//!
+//! # The order of checks
+//!
+//! Lines without words, and those whose first word begins with `c`, are skipped. The others are judged
+//! in order, and the first line that fails a check decides, with the first check that it fails:
+//!
+//! | line | check | where it fails |
+//! |---|---|---|
+//! | any | its first word is `p` or the letter of the file's items | `UnknownLine` |
+//! | `p` | no problem line came before | `SecondProblem` |
+//! | `p` | it has the words of its form, and numbers in their places | `BadProblem` |
+//! | `p` | at most 2^25 nodes and 2^27 arcs; 2^24 queries; 65,536 listed nodes | `Size` |
+//! | item | a problem line came before | `NoProblem` |
+//! | item | it has numbers in their places, and no other words | `BadLine` |
+//! | item | fewer items than declared came before | `TooMany` |
+//! | item | each node is from 1 to the number of nodes | `NodeRange` |
+//! | arc | the number of nodes times its weight is at most 2^60 | `Sum` |
+//! | after the last | there was a problem line | `NoProblem` |
+//! | after the last | there were no fewer items than declared | `TooFew` |
 #![tactic(auto)]
 
 mod check;

@@ -42,7 +42,7 @@ pub trait Input {
     /// Reads into the front of `buffer`, and gives the number of bytes read.
     ///
     /// `Ok(0)` into a buffer with room is the end of the input. An `Err` raises the count of
-    /// failures by one, and has given no byte.
+    /// failures by one, and has given no byte where the input tells its bytes.
     fn read(&mut self, buffer: &mut [u8]) -> Result<usize, DeviceFault>
         requires { failed self.old < 2 ^ 64 - 1 }
         ensures fits { IfOk result (λ n. n ≤ length buffer.new) }
@@ -67,7 +67,8 @@ pub trait Output {
 
     /// Writes from the front of `bytes`, and gives the number of bytes taken.
     ///
-    /// An `Err` raises the count of failures by one, and has taken no byte.
+    /// An `Err` raises the count of failures by one, and has taken no byte where the output tells
+    /// its bytes. One that doesn't may have taken some, which are not counted.
     fn write(&mut self, bytes: &[u8]) -> Result<usize, DeviceFault>
         requires failures { failed self.old < 2 ^ 64 - 1 }
         requires zeros { idle self.old < 2 ^ 64 - 1 }

@@ -73,7 +73,7 @@ pub enum RunFault {
     /// This input couldn't be opened or read.
     #[error("chtab: cannot read {0}")]
     Device(Which),
-    /// The output couldn't be written past so many bytes.
+    /// A write failed, or took no byte, after so many bytes had been written and flushed.
     #[error("chtab: cannot write after {0} bytes")]
     Write(u64),
 }

@@ -104,6 +104,7 @@ pub fn refused(alloc: Global, text: &str) -> LineFault {
     }
 }
 
+/// The fault that is told for an error of clap.
 fn fault_of(alloc: Global, error: &clap::Error) -> LineFault
     ensures { IsToldOf (kind_of error.now) result }
 {

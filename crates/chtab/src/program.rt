@@ -49,6 +49,7 @@ fn words_of<R: Env + AllocGlobal>(rt: &R) -> Result<Vec<String>, LineFault> {
     }
 }
 
+/// The words as texts, which clap reads.
 fn texts_of<'a>(alloc: Global, words: &'a [String]) -> Result<Vec<&'a str>, AllocError> {
     let mut texts = Vec::new(alloc);
     for word in words {
@@ -57,6 +58,7 @@ fn texts_of<'a>(alloc: Global, words: &'a [String]) -> Result<Vec<&'a str>, Allo
     Ok(texts)
 }
 
+/// Opens the file of an input.
 fn opened<R: Files>(rt: &R, path: &str, which: Which) -> Result<R::File, RunFault> {
     match fs::open(rt, path) {
         Ok(file) => Ok(file),
@@ -111,6 +113,7 @@ fn table<R: Files + Print + Threads + Sync + AllocGlobal>(
     )
 }
 
+/// Reads the words, and does what they name.
 fn answered<R: Env + Files + Print + Threads + Sync + AllocGlobal>(
     rt: &R,
 ) -> Result<(), ProgramFault> {
@@ -123,6 +126,7 @@ fn answered<R: Env + Files + Print + Threads + Sync + AllocGlobal>(
     }
 }
 
+/// Writes the text of help to standard output.
 fn help_written<R: Print>(rt: &R, text: &str) -> Result<(), RunFault> {
     write_all(&mut WriterOutput::new(io::writer(rt)), text.as_bytes()).map_err(RunFault::Write)
 }

@@ -146,7 +146,7 @@ fn push_number(text: &mut Vec<u8>, number: u64) -> Result<(), AllocError>
     push_all(text, buffer.format(number).as_bytes())
 }
 
-/// Adds a few bytes, one by one after one reservation: faster here than a copy of the slice.
+/// Adds bytes, for all of which room is reserved first.
 fn push_all(text: &mut Vec<u8>, bytes: &[u8]) -> Result<(), AllocError>
     ensures { OnOk result (text.new.items ≡ text.old.items ++ bytes.now) }
 {

@@ -1,7 +1,9 @@
 //! Devices over the readers and writers of `std`, as files and standard output, which don't tell
 //! their bytes.
 
-ghost use Rattle.std.specs.Prelude.{◌≡◌, ◌≤◌, None, IfOk, length};
+ghost use Rattle.std.specs.Prelude.{◌≡◌, ◌+◌, ◌-◌, ◌^◌, ◌<◌, ◌≤◌, None, IfOk, length, take};
+ghost use Rattle.std.specs.Io.KnownBytes.{Appends, Keeps, ReadConsumes, WriteAppends};
+ghost use Rattle.chtab.specs.Device.{idle_writes, raised};
 
 use super::{DeviceFault, Input, Output};
 use std::io::{ErrorKind, Read, Write};
@@ -25,8 +27,10 @@ impl<D: Read + Drop> ReaderInput<D> {
     }
 }
 
+/// Reads once, and again after each read that was interrupted.
 fn read_uninterrupted<D: Read>(reader: &mut D, buffer: &mut [u8]) -> Result<usize, DeviceFault>
-    ensures { IfOk result (λ count. count ≤ length buffer.new) }
+    ensures fits { IfOk result (λ count. count ≤ length buffer.new) }
+    ensures given { ReadConsumes (D.remaining reader.old) (D.remaining reader.new) result buffer.new }
 {
     for _ in 0..u64::MAX {
         match reader.read(buffer) {
@@ -43,7 +47,13 @@ impl<D: Read + Drop> Input for ReaderInput<D> {
 
     ghost left = { λ _. None };
 
-    fn read(&mut self, buffer: &mut [u8]) -> Result<usize, DeviceFault> {
+    // What it gives is what the reader tells that it gave.
+    fn read(&mut self, buffer: &mut [u8]) -> Result<usize, DeviceFault>
+        requires { self.old.failures < 2 ^ 64 - 1 }
+        ensures fits { IfOk result (λ count. count ≤ length buffer.new) }
+        ensures failures { self.new.failures ≡ self.old.failures + raised result }
+        ensures given { ReadConsumes (D.remaining self.old.reader) (D.remaining self.new.reader) result buffer.new }
+    {
         let answer = read_uninterrupted(&mut self.reader, buffer);
         if answer.is_err() {
             self.failures += 1;
@@ -58,6 +68,9 @@ impl<D: Read + Drop> Input for ReaderInput<D> {
 
 /// An output to a writer, which is flushed within each write. An interrupted write or flush is
 /// made again.
+///
+/// Where a flush fails, the write does: what the system took of its bytes is unknown then, and none
+/// of them are counted.
 #[derive(Drop)]
 pub struct WriterOutput<D: Write + Drop> {
     writer: D,
@@ -79,8 +92,10 @@ impl<D: Write + Drop> WriterOutput<D> {
     }
 }
 
+/// Writes once, and again after each write that was interrupted.
 fn write_uninterrupted<D: Write>(writer: &mut D, bytes: &[u8]) -> Result<usize, DeviceFault>
-    ensures { IfOk result (λ count. count ≤ length bytes.now) }
+    ensures fits { IfOk result (λ count. count ≤ length bytes.now) }
+    ensures taken { WriteAppends (D.contents writer.old) (D.contents writer.new) result bytes.now }
 {
     for _ in 0..u64::MAX {
         match writer.write(bytes) {
@@ -92,7 +107,10 @@ fn write_uninterrupted<D: Write>(writer: &mut D, bytes: &[u8]) -> Result<usize, 
     Err(DeviceFault)
 }
 
-fn flush_uninterrupted<D: Write>(writer: &mut D) -> Result<(), DeviceFault> {
+/// Flushes once, and again after each flush that was interrupted.
+fn flush_uninterrupted<D: Write>(writer: &mut D) -> Result<(), DeviceFault>
+    ensures { Keeps (D.contents writer.old) (D.contents writer.new) }
+{
     for _ in 0..u64::MAX {
         match writer.flush() {
             Ok(()) => return Ok(()),
@@ -103,8 +121,10 @@ fn flush_uninterrupted<D: Write>(writer: &mut D) -> Result<(), DeviceFault> {
     Err(DeviceFault)
 }
 
+/// Writes once and then flushes. Where the flush fails, no byte of the write is counted.
 fn write_and_flush<D: Write>(writer: &mut D, bytes: &[u8]) -> Result<usize, DeviceFault>
-    ensures { IfOk result (λ count. count ≤ length bytes.now) }
+    ensures fits { IfOk result (λ count. count ≤ length bytes.now) }
+    ensures taken { IfOk result (λ count. Appends (D.contents writer.old) (D.contents writer.new) (take count bytes.now)) }
 {
     let count = write_uninterrupted(writer, bytes)?;
     flush_uninterrupted(writer)?;
@@ -118,7 +138,15 @@ impl<D: Write + Drop> Output for WriterOutput<D> {
 
     ghost taken = { λ _. None };
 
-    fn write(&mut self, bytes: &[u8]) -> Result<usize, DeviceFault> {
+    // What it took is what the writer tells that it took.
+    fn write(&mut self, bytes: &[u8]) -> Result<usize, DeviceFault>
+        requires failures { self.old.failures < 2 ^ 64 - 1 }
+        requires zeros { self.old.zeros < 2 ^ 64 - 1 }
+        ensures fits { IfOk result (λ count. count ≤ length bytes.now) }
+        ensures failures { self.new.failures ≡ self.old.failures + raised result }
+        ensures zeros { self.new.zeros ≡ self.old.zeros + idle_writes result bytes.now }
+        ensures taken { IfOk result (λ count. Appends (D.contents self.old.writer) (D.contents self.new.writer) (take count bytes.now)) }
+    {
         let answer = write_and_flush(&mut self.writer, bytes);
         match answer {
             Ok(0) if !bytes.is_empty() => self.zeros += 1,

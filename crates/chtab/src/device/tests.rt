@@ -153,6 +153,27 @@ fn an_interrupted_call_is_made_again(rt: HostRuntime) -> Result<(), Fail> {
     Ok(())
 }
 
+/// A writer that takes all bytes, and whose flushes fail.
+#[derive(Drop)]
+struct Unflushed;
+
+impl Write for Unflushed {
+    fn write(&mut self, bytes: &[u8]) -> io::Result<usize> {
+        Ok(bytes.len())
+    }
+
+    fn flush(&mut self) -> io::Result<()> {
+        Err(io::Error::from(ErrorKind::Other))
+    }
+}
+
+#[test]
+fn bytes_of_a_write_that_is_not_flushed_are_not_counted(rt: HostRuntime) {
+    let mut output = WriterOutput::new(Unflushed);
+    assert_eq!(rt; write_all(&mut output, TEXT), Err(0));
+    assert_eq!(rt; (output.failures(), output.zeros()), (1, 0));
+}
+
 /// A reader and a writer that fail at every call.
 #[derive(Drop)]
 struct Broken;

@@ -11,6 +11,7 @@ use clap::builder::ValueParser;
 use clap::{Arg, ArgAction, Command};
 use std::alloc::{AllocError, Global};
 
+/// A flag.
 fn flag<'a>(alloc: Global, name: &'a str, help: &'a str) -> Arg<'a>
     ensures rule { rule_of result ≡ flag_rule name.entry.now }
     ensures local { result.global ≡ false }
@@ -21,6 +22,7 @@ fn flag<'a>(alloc: Global, name: &'a str, help: &'a str) -> Arg<'a>
         .help(help)
 }
 
+/// A file that must be named.
 fn file<'a>(alloc: Global, name: &'a str, help: &'a str) -> Arg<'a>
     ensures rule { rule_of result ≡ file_rule name.entry.now }
     ensures local { result.global ≡ false }
@@ -62,6 +64,7 @@ fn with_numbers<'a>(alloc: Global, command: Command<'a>) -> Result<Command<'a>, 
     command.arg(workers)?.arg(piece)?.arg(hops)
 }
 
+/// The file of the graph.
 fn graph<'a>(alloc: Global) -> Arg<'a>
     ensures rule { rule_of result ≡ file_rule (codes "GRAPH") }
     ensures local { result.global ≡ false }
@@ -74,6 +77,7 @@ fn graph<'a>(alloc: Global) -> Arg<'a>
     )
 }
 
+/// What clap reads after `dist`.
 fn dist_command<'a>(alloc: Global) -> Result<Command<'a>, AllocError>
     ensures form { IfOk result (λ c. app_of c ≡ form_of Dist) }
     ensures local { IfOk result (λ c. (fields_of c).has_globals ≡ false) }
@@ -102,6 +106,7 @@ fn dist_command<'a>(alloc: Global) -> Result<Command<'a>, AllocError>
     ))
 }
 
+/// What clap reads after `table`.
 fn table_command<'a>(alloc: Global) -> Result<Command<'a>, AllocError>
     ensures form { IfOk result (λ c. app_of c ≡ form_of Table) }
     ensures local { IfOk result (λ c. (fields_of c).has_globals ≡ false) }

@@ -52,12 +52,14 @@ fn number_of(matches: &ArgMatches<'_>, name: &str, most: u32) -> Result<u32, All
     }
 }
 
+/// Whether the flag of this name is given.
 fn flag_of(matches: &ArgMatches<'_>, name: &str) -> bool
     ensures { IsFlagIn (rows_of (found_of matches.now)) name.now result }
 {
     matches.get_flag(name)
 }
 
+/// The plan that the words give.
 fn plan_of(matches: &ArgMatches<'_>) -> Result<Plan, AllocError>
     ensures limits { IfOk result IsWithinLimits }
     ensures given { IfOk result (IsPlanIn (rows_of (found_of matches.now))) }

@@ -1,13 +1,11 @@
 //! Runs that answer queries.
-ghost use Rattle.std.specs.Prelude.{◌≡◌, ◌+◌, ◌-◌, ◌^◌, ◌<◌, ◌≤◌, ◌↔◌, ℕ, List, length, take, IfOk, IfErr, OnOk, IsErrAnd};
+ghost use Rattle.std.specs.Prelude.{◌≡◌, ◌-◌, ◌^◌, ◌<◌, ◌≤◌, ◌↔◌, ◌⊎◌, length, IfOk, IfErr, IsErrAnd};
 ghost use Rattle.std.specs.List.{AllZip};
-ghost use Rattle.ch_graph.specs.Graph.{Network};
 ghost use Rattle.ch_read.specs.declared.fault.ReadFault.{ReadFault as FaultAt};
 ghost use Rattle.ch_contract.specs.Legs.{IsHopBound};
 ghost use Rattle.ch_query.specs.Answers.{AreQueries};
-ghost use Rattle.chtab.specs.Device.{HasTaken};
 ghost use Rattle.chtab.specs.Text.{AnswersShortly, IsText};
-ghost use Rattle.chtab.specs.Run.{IsAnsweredBy, IsGraphRefused, IsQueriesRefused, IsWrite, Reading, ReadsGraph, StopsAt};
+ghost use Rattle.chtab.specs.Run.{AcceptsGraph, AcceptsQueries, Delivers, GoesPast, HasQueriesRefused, IsAnsweredBy, IsGraphRefused, IsOfDist, IsWrite, reading};
 
 use super::inputs::{graph_from, queries_from};
 use crate::device::{Input, Output, write_all};
@@ -46,31 +44,29 @@ pub fn run_dist<R: Threads + Sync, I: Input, J: Input, O: Output, G: Gate>(
     requires hops { IsHopBound options.now.hops }
 
     // What is written is the text that answers what was read: all of it, or its first bytes.
-    ensures written { let graph_read : Reading = record { before = I.left graph.old; after = I.left graph.new } in
-        let queries_read : Reading = record { before = J.left queries.old; after = J.left queries.new } in
-        OnOk result ((text : List ℕ) × IsAnsweredBy options.now graph_read queries_read text × HasTaken (O.taken output.old) (O.taken output.new) text) }
-    ensures cut { let graph_read : Reading = record { before = I.left graph.old; after = I.left graph.new } in
-        let queries_read : Reading = record { before = J.left queries.old; after = J.left queries.new } in
-        (count : ℕ) → result ≡ Err (RunFault.Write count) → (text : List ℕ) × IsAnsweredBy options.now graph_read queries_read text × (count < length text) × HasTaken (O.taken output.old) (O.taken output.new) (take count text) }
+    ensures written { Delivers result (O.taken output.old) (O.taken output.new)
+        (IsAnsweredBy options.now (reading I.left graph.old graph.new) (reading J.left queries.old queries.new)) }
 
-    // A file is refused for its own fault.
-    ensures graph_refused { let graph_read : Reading = record { before = I.left graph.old; after = I.left graph.new } in
-        (fault : FaultAt) → result ≡ Err (RunFault.Graph fault) → IsGraphRefused graph_read fault }
-    ensures queries_refused { let graph_read : Reading = record { before = I.left graph.old; after = I.left graph.new } in
-        let queries_read : Reading = record { before = J.left queries.old; after = J.left queries.new } in
-        (fault : FaultAt) → result ≡ Err (RunFault.Queries fault) → (g : Network) × ReadsGraph graph_read g × IsQueriesRefused queries_read g.nodes fault }
+    // A run ends in a fault of its own, and a file is refused for what it holds.
+    ensures own { IfErr result IsOfDist }
+    ensures graph_refused { (fault : FaultAt) → result ≡ Err (RunFault.Graph fault) →
+        IsGraphRefused (reading I.left graph.old graph.new) fault }
+    ensures queries_refused { (fault : FaultAt) → result ≡ Err (RunFault.Queries fault) →
+        HasQueriesRefused (reading I.left graph.old graph.new) (reading J.left queries.old queries.new) fault }
 
     // A device's fault is told exactly where the device counted one.
     ensures graph_device { (result ≡ Err (RunFault.Device Which.Graph)) ↔ (I.failed graph.old < I.failed graph.new) }
     ensures queries_device { (result ≡ Err (RunFault.Device Which.Queries)) ↔ (J.failed queries.old < J.failed queries.new) }
-    ensures output_device { IsErrAnd result IsWrite ↔ (O.failed output.old + O.idle output.old < O.failed output.new + O.idle output.new) }
+    ensures output_device { IsErrAnd result IsWrite ↔ ((O.failed output.old < O.failed output.new) ⊎ (O.idle output.old < O.idle output.new)) }
 
-    // Nothing is touched before its turn.
-    ensures unread { IfErr result (λ fault. StopsAt Which.Graph fault → queries.new ≡ queries.old) }
-    ensures unwritten { IfErr result (λ fault. (IsWrite fault → ⊥) → output.new ≡ output.old) }
+    // Nothing is touched before all that comes earlier was accepted.
+    ensures queries_unread { (queries.new ≡ queries.old)
+        ⊎ (GoesPast Which.Graph result × AcceptsGraph (reading I.left graph.old graph.new)) }
+    ensures unwritten { (output.new ≡ output.old)
+        ⊎ (IfErr result IsWrite × AcceptsQueries (reading I.left graph.old graph.new) (reading J.left queries.old queries.new)) }
 {
     let graph = graph_from(alloc, graph)?;
-    let queries = queries_from(alloc, queries, graph.nodes())?;
+    let queries = queries_from(alloc, queries, &graph)?;
     let text = text_of(rt, alloc, &graph, &queries, options, plan, gate)?;
     match write_all(output, &text) {
         Ok(()) => Ok(()),

@@ -1,11 +1,9 @@
 //! Runs that make tables.
-ghost use Rattle.std.specs.Prelude.{◌≡◌, ◌+◌, ◌-◌, ◌^◌, ◌<◌, ◌≤◌, ◌↔◌, ℕ, List, length, take, All, IfOk, IfErr, OnOk, IsErrAnd};
-ghost use Rattle.ch_graph.specs.Graph.{Network};
+ghost use Rattle.std.specs.Prelude.{◌≡◌, ◌-◌, ◌^◌, ◌<◌, ◌≤◌, ◌↔◌, ◌⊎◌, length, All, IfOk, IfErr, IsErrAnd};
 ghost use Rattle.ch_read.specs.declared.fault.ReadFault.{ReadFault as FaultAt};
 ghost use Rattle.ch_contract.specs.Legs.{IsHopBound};
-ghost use Rattle.chtab.specs.Device.{HasTaken};
 ghost use Rattle.chtab.specs.TableText.{IsTableText};
-ghost use Rattle.chtab.specs.Run.{HasCellsRefused, HasTooManyCells, IsGraphRefused, IsListRefused, IsTabledBy, IsWrite, Reading, ReadsGraph, ReadsNodes, StopsAt};
+ghost use Rattle.chtab.specs.Run.{AcceptsGraph, AcceptsLists, AcceptsSources, Delivers, GoesPast, HasCellsRefused, HasSourcesRefused, HasTargetsRefused, HasTooManyCells, IsGraphRefused, IsOfTable, IsTabledBy, IsWrite, reading};
 
 use super::inputs::{graph_from, nodes_from};
 use crate::device::{Input, Output, write_all};
@@ -51,45 +49,39 @@ pub fn run_table<R: Threads + Sync, I: Input, J: Input, L: Input, O: Output, G: 
     requires hops { IsHopBound options.now.hops }
 
     // What is written is the table of what was read: all of it, or its first bytes.
-    ensures written { let graph_read : Reading = record { before = I.left graph.old; after = I.left graph.new } in
-        let sources_read : Reading = record { before = J.left sources.old; after = J.left sources.new } in
-        let targets_read : Reading = record { before = L.left targets.old; after = L.left targets.new } in
-        OnOk result ((text : List ℕ) × IsTabledBy graph_read sources_read targets_read text × HasTaken (O.taken output.old) (O.taken output.new) text) }
-    ensures cut { let graph_read : Reading = record { before = I.left graph.old; after = I.left graph.new } in
-        let sources_read : Reading = record { before = J.left sources.old; after = J.left sources.new } in
-        let targets_read : Reading = record { before = L.left targets.old; after = L.left targets.new } in
-        (count : ℕ) → result ≡ Err (RunFault.Write count) → (text : List ℕ) × IsTabledBy graph_read sources_read targets_read text × (count < length text) × HasTaken (O.taken output.old) (O.taken output.new) (take count text) }
+    ensures written { Delivers result (O.taken output.old) (O.taken output.new)
+        (IsTabledBy (reading I.left graph.old graph.new) (reading J.left sources.old sources.new) (reading L.left targets.old targets.new)) }
 
-    // A file is refused for its own fault, and the lists where they make too many cells.
-    ensures graph_refused { let graph_read : Reading = record { before = I.left graph.old; after = I.left graph.new } in
-        (fault : FaultAt) → result ≡ Err (RunFault.Graph fault) → IsGraphRefused graph_read fault }
-    ensures sources_refused { let graph_read : Reading = record { before = I.left graph.old; after = I.left graph.new } in
-        let sources_read : Reading = record { before = J.left sources.old; after = J.left sources.new } in
-        (fault : FaultAt) → result ≡ Err (RunFault.Sources fault) → (g : Network) × ReadsGraph graph_read g × IsListRefused sources_read g.nodes fault }
-    ensures targets_refused { let graph_read : Reading = record { before = I.left graph.old; after = I.left graph.new } in
-        let sources_read : Reading = record { before = J.left sources.old; after = J.left sources.new } in
-        let targets_read : Reading = record { before = L.left targets.old; after = L.left targets.new } in
-        (fault : FaultAt) → result ≡ Err (RunFault.Targets fault) →
-        (g : Network) × (from : List ℕ) × ReadsGraph graph_read g × ReadsNodes sources_read g.nodes from × IsListRefused targets_read g.nodes fault }
-    ensures cells_refused { let graph_read : Reading = record { before = I.left graph.old; after = I.left graph.new } in
-        let sources_read : Reading = record { before = J.left sources.old; after = J.left sources.new } in
-        let targets_read : Reading = record { before = L.left targets.old; after = L.left targets.new } in
-        result ≡ Err RunFault.Cells → HasCellsRefused graph_read sources_read targets_read }
+    // A run ends in a fault of its own, a file is refused for what it holds, and the lists where they make too many cells.
+    ensures own { IfErr result IsOfTable }
+    ensures graph_refused { (fault : FaultAt) → result ≡ Err (RunFault.Graph fault) →
+        IsGraphRefused (reading I.left graph.old graph.new) fault }
+    ensures sources_refused { (fault : FaultAt) → result ≡ Err (RunFault.Sources fault) →
+        HasSourcesRefused (reading I.left graph.old graph.new) (reading J.left sources.old sources.new) fault }
+    ensures targets_refused { (fault : FaultAt) → result ≡ Err (RunFault.Targets fault) →
+        HasTargetsRefused (reading I.left graph.old graph.new) (reading J.left sources.old sources.new) (reading L.left targets.old targets.new) fault }
+    ensures cells_refused { result ≡ Err RunFault.Cells →
+        HasCellsRefused (reading I.left graph.old graph.new) (reading J.left sources.old sources.new) (reading L.left targets.old targets.new) }
 
     // A device's fault is told exactly where the device counted one.
     ensures graph_device { (result ≡ Err (RunFault.Device Which.Graph)) ↔ (I.failed graph.old < I.failed graph.new) }
     ensures sources_device { (result ≡ Err (RunFault.Device Which.Sources)) ↔ (J.failed sources.old < J.failed sources.new) }
     ensures targets_device { (result ≡ Err (RunFault.Device Which.Targets)) ↔ (L.failed targets.old < L.failed targets.new) }
-    ensures output_device { IsErrAnd result IsWrite ↔ (O.failed output.old + O.idle output.old < O.failed output.new + O.idle output.new) }
+    ensures output_device { IsErrAnd result IsWrite ↔ ((O.failed output.old < O.failed output.new) ⊎ (O.idle output.old < O.idle output.new)) }
 
-    // Nothing is touched before its turn.
-    ensures sources_unread { IfErr result (λ fault. StopsAt Which.Graph fault → sources.new ≡ sources.old) }
-    ensures targets_unread { IfErr result (λ fault. (StopsAt Which.Graph fault → targets.new ≡ targets.old) × (StopsAt Which.Sources fault → targets.new ≡ targets.old)) }
-    ensures unwritten { IfErr result (λ fault. (IsWrite fault → ⊥) → output.new ≡ output.old) }
+    // Nothing is touched before all that comes earlier was accepted.
+    ensures sources_unread { (sources.new ≡ sources.old)
+        ⊎ (GoesPast Which.Graph result × AcceptsGraph (reading I.left graph.old graph.new)) }
+    ensures targets_unread { (targets.new ≡ targets.old)
+        ⊎ (GoesPast Which.Graph result × GoesPast Which.Sources result
+            × AcceptsSources (reading I.left graph.old graph.new) (reading J.left sources.old sources.new)) }
+    ensures unwritten { (output.new ≡ output.old)
+        ⊎ (IfErr result IsWrite
+            × AcceptsLists (reading I.left graph.old graph.new) (reading J.left sources.old sources.new) (reading L.left targets.old targets.new)) }
 {
     let graph = graph_from(alloc, graph)?;
-    let sources = nodes_from(alloc, sources, graph.nodes(), Which::Sources)?;
-    let targets = nodes_from(alloc, targets, graph.nodes(), Which::Targets)?;
+    let sources = nodes_from(alloc, sources, &graph, Which::Sources)?;
+    let targets = nodes_from(alloc, targets, &graph, Which::Targets)?;
     if sources.len() * targets.len() > MOST_CELLS {
         return Err(RunFault::Cells);
     }

@@ -73,6 +73,9 @@ fn run<R: Threads + Sync>(
     Ok((result, output))
 }
 
+/// Room for the text of a table of the most cells.
+const TABLE_ROOM: usize = 1 << 24;
+
 /// The answer of a run that makes a table of these files, and what it wrote.
 fn run_lists<R: Threads + Sync>(
     rt: &R,
@@ -82,7 +85,7 @@ fn run_lists<R: Threads + Sync>(
     targets: &[u8],
     plan: &Plan,
 ) -> Result<(Result<(), RunFault>, MemoryOutput), AllocError> {
-    let mut output = MemoryOutput::new(alloc, 4096, 4096)?;
+    let mut output = MemoryOutput::new(alloc, TABLE_ROOM, 4096)?;
     let result = run_table(
         rt,
         alloc,

@@ -150,6 +150,19 @@ fn table_from<'a, R: Threads + Sync>(
 }
 
 #[test]
+fn judges_the_sources_before_it_reads_the_targets(rt: HostRuntime) -> Result<(), Fail> {
+    let mut sources = MemoryInput::new(b"p aux sp ss 1\ns 4\n", 64);
+    let mut targets = MemoryInput::new(b"p aux sp ss 1\ns 1\n", 64).failing_after(0);
+    let result = table_from(&rt, rt.alloc(), &mut sources, &mut targets)?;
+    assert_eq!(rt;
+        result,
+        Err(RunFault::Sources(refused(2, FaultKind::NodeRange)))
+    );
+    assert_eq!(rt; targets.failures(), 0);
+    Ok(())
+}
+
+#[test]
 fn tells_which_list_failed(rt: HostRuntime) -> Result<(), Fail> {
     let list: &[u8] = b"p aux sp ss 1\ns 1\n";
     let mut sources = MemoryInput::new(list, 64).failing_after(0);

@@ -1,8 +1,45 @@
 //! Worked tables.
 
 use super::{LINE, RING, run_lists};
+use crate::fault::RunFault;
 use crate::plan::Plan;
+use std::alloc::{AllocError, Global};
 use std::test::Fail;
+
+/// A text, another so many times, and a third.
+fn repeated(
+    alloc: Global,
+    front: &[u8],
+    part: &[u8],
+    count: usize,
+    back: &[u8],
+) -> Result<Vec<u8>, AllocError> {
+    let mut bytes = front.to_vec(alloc)?;
+    for _ in 0..count {
+        bytes.extend_from_slice(part)?;
+    }
+    bytes.extend_from_slice(back)?;
+    Ok(bytes)
+}
+
+#[test]
+fn a_table_of_the_most_cells_is_made_and_one_more_source_is_refused(
+    rt: HostRuntime,
+) -> Result<(), Fail> {
+    let list = repeated(rt.alloc(), b"p aux sp ss 2048\n", b"s 1\n", 2048, b"")?;
+    let row = repeated(rt.alloc(), b"t 1", b" 0", 2048, b"\n")?;
+    let plan = Plan::new(1, 64, 64);
+    let (result, output) = run_lists(&rt, rt.alloc(), LINE, &list, &list, &plan)?;
+    assert_eq!(rt; result, Ok(()));
+    let text = repeated(rt.alloc(), b"", &row, 2048, b"")?;
+    assert!(rt; output.bytes() == text.as_slice());
+
+    let longer = repeated(rt.alloc(), b"p aux sp ss 2049\n", b"s 1\n", 2049, b"")?;
+    let (result, output) = run_lists(&rt, rt.alloc(), LINE, &longer, &list, &plan)?;
+    assert_eq!(rt; result, Err(RunFault::Cells));
+    assert_eq!(rt; output.bytes(), b"".as_slice());
+    Ok(())
+}
 
 #[test]
 fn a_row_stands_for_each_source(rt: HostRuntime) -> Result<(), Fail> {
