@@ -7,7 +7,7 @@ ghost use Rattle.chtab.specs.Text.{answer_text, arc_text, distance_text, node_te
 ghost use Rattle.chtab.specs.TableText.{cell_text, row_text};
 
 use ch_graph::InArc;
-use ch_query::{Answer, Arcs};
+use ch_query::Answer;
 use ch_table::Table;
 use itoa::Buffer;
 use std::alloc::{AllocError, Global};
@@ -88,10 +88,9 @@ fn push_distance(text: &mut Vec<u8>, answer: &Answer) -> Result<(), AllocError>
 }
 
 /// Adds the lines of a route: the number of its arcs, and the arcs.
-fn push_route(text: &mut Vec<u8>, arcs: &Arcs) -> Result<(), AllocError>
+fn push_route(text: &mut Vec<u8>, arcs: &[InArc]) -> Result<(), AllocError>
     ensures { OnOk result (text.new.items ≡ text.old.items ++ route_text (Some arcs.now)) }
 {
-    let arcs = arcs.as_slice();
     push_all(text, b"r ")?;
     push_number(text, arcs.len() as u64)?;
     push_all(text, b"\n")?;
