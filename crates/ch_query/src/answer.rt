@@ -9,7 +9,7 @@ use crate::query::{distance, route};
 use crate::scratch::Scratch;
 use ch_contract::Hierarchy;
 use ch_graph::InArc;
-use ch_work::{Gate, Job, Plan, joined, run_pieces};
+use ch_work::{Gate, ListJob, Plan, run_list};
 use std::alloc::{AllocError, Global};
 use std::marker::Model;
 use std::thread::Threads;
@@ -37,8 +37,7 @@ impl Model for Answer {
 }
 
 /// The answers to the queries, in their order, with the arcs of the routes where `routes` says so. Workers
-/// share the queries as the plan says: a piece has a scratch of its own, and answers one query after the
-/// other.
+/// share the queries as the plan says: each makes a scratch once, and answers one query after the other.
 ///
 /// # Errors
 /// `AllocError` where there is no memory.
@@ -56,69 +55,53 @@ pub fn answer_all<R: Threads + Sync, G: Gate>(
     requires count { length queries.now ≤ 2 ^ 24 }
     ensures { IfOk result (λ answers. AllZip (IsReply hierarchy.now routes) queries.now answers.items) }
 {
-    let job = QueryJob {
-        hierarchy,
-        queries,
-        routes,
-    };
-    // The getter tells the proof that a piece has an item.
-    let _ = plan.piece();
-    let lists = run_pieces(rt, alloc, queries.len() as u32, plan, gate, &job)?;
-    joined(alloc, lists)
+    let job = QueryJob { hierarchy, routes };
+    run_list(rt, alloc, queries, plan, gate, &job)
 }
 
-/// The answers to queries, a range of them at a time.
+/// What is to be answered to each query.
 #[derive(Drop)]
 struct QueryJob<'a> {
     hierarchy: &'a Hierarchy,
-    queries: &'a [(u32, u32)],
     routes: bool,
 }
 
 impl<'a> Model for QueryJob<'a> {
-    ghost use Rattle.ch_query.specs.Tasks.{Task, IsTask};
+    ghost use Rattle.ch_query.specs.Distance.{IsKeptForSome};
+    ghost use Rattle.ch_query.specs.Tasks.{Task};
 
     ghost Value = { Task };
 
-    ghost view = { λ job. record { hierarchy = job.hierarchy.now; queries = job.queries.now; routes = job.routes } };
+    ghost view = { λ job. record { hierarchy = job.hierarchy.now; routes = job.routes } };
 
-    ghost invariant = { λ job. IsTask (record { hierarchy = job.hierarchy.now; queries = job.queries.now; routes = job.routes }) };
+    ghost invariant = { λ job. IsKeptForSome job.hierarchy.now };
 }
 
-impl Job for QueryJob<'_> {
-    ghost use Rattle.std.specs.List.{slice_range};
+impl ListJob for QueryJob<'_> {
+    type Item = (u32, u32);
 
-    type Out = Vec<Answer>;
+    type Room = Scratch;
 
-    ghost size = { λ task. length task.queries };
+    type Out = Answer;
 
-    ghost meaning = { λ task from to list.
-        AllZip (IsReply task.hierarchy task.routes) (slice_range task.queries from to) list.items };
+    ghost takes = { λ task query. (query.0 < nodes_of task.hierarchy) × (query.1 < nodes_of task.hierarchy) };
 
-    fn piece(&self, alloc: Global, from: u32, to: u32) -> Result<Vec<Answer>, AllocError> {
-        let queries = &self.queries[from as usize..to as usize];
-        replies(alloc, self.hierarchy, queries, self.routes)
+    ghost meaning = { λ task query answer. IsReply task.hierarchy task.routes query answer };
+
+    ghost clean = { λ task scratch. scratch ≡ nodes_of task.hierarchy };
+
+    fn room(&self, alloc: Global) -> Result<Scratch, AllocError> {
+        Scratch::new(alloc, self.hierarchy.nodes())
     }
-}
 
-/// The answers to these queries, by one scratch.
-fn replies(
-    alloc: Global,
-    hierarchy: &Hierarchy,
-    queries: &[(u32, u32)],
-    routes: bool,
-) -> Result<Vec<Answer>, AllocError>
-    requires kept { IsKeptForSome hierarchy.now }
-    requires queries { AreQueries (nodes_of hierarchy.now) queries.now }
-    ensures { IfOk result (λ answers. AllZip (IsReply hierarchy.now routes) queries.now answers.items) }
-{
-    let mut scratch = Scratch::new(alloc, hierarchy.nodes())?;
-    let mut answers = Vec::with_capacity(alloc, queries.len())?;
-    for query in queries {
-        let answer = reply(alloc, hierarchy, &mut scratch, *query, routes)?;
-        answers.push(answer)?;
+    fn value(
+        &self,
+        alloc: Global,
+        room: &mut Scratch,
+        item: &(u32, u32),
+    ) -> Result<Answer, AllocError> {
+        reply(alloc, self.hierarchy, room, *item, self.routes)
     }
-    Ok(answers)
 }
 
 /// The answer to one query.

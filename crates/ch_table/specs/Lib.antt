@@ -1,5 +1,5 @@
 pub mod Buckets
 pub mod Entries
 pub mod Row
-pub mod Sources
+pub mod Columns
 pub mod Table

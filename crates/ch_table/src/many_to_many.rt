@@ -3,8 +3,6 @@ ghost use Rattle.std.specs.Prelude.{◌≡◌, ◌*◌, ◌^◌, ◌<◌, ◌≤
 ghost use Rattle.std.specs.List.{AllZip};
 ghost use Rattle.ch_contract.specs.Hierarchy.{nodes_of};
 ghost use Rattle.ch_query.specs.Distance.{IsKeptForSome};
-ghost use Rattle.ch_table.specs.Buckets.{AreBuckets};
-ghost use Rattle.ch_table.specs.Sources.{AreRowsBy};
 ghost use Rattle.ch_table.specs.Table.{IsRowBy};
 
 use crate::buckets::Buckets;
@@ -12,7 +10,7 @@ use crate::cells::Table;
 use crate::row::row;
 use ch_contract::Hierarchy;
 use ch_query::Scratch;
-use ch_work::{Gate, Job, Plan, joined, run_pieces};
+use ch_work::{Gate, ListJob, Plan, run_list};
 use std::alloc::{AllocError, Global};
 use std::marker::Model;
 use std::thread::Threads;
@@ -21,7 +19,8 @@ use std::thread::Threads;
 ///
 /// Each target is spread once, down its paths to higher nodes, and leaves its weight in the bucket of each
 /// node that it reaches. Each source is then spread once, up, and reads the buckets of the nodes that it
-/// reaches (Knopp, Sanders, Schultes, Schulz and Wagner 2007). The workers share the sources.
+/// reaches (Knopp, Sanders, Schultes, Schulz and Wagner 2007). The workers share the sources, each with a
+/// scratch that it makes once.
 ///
 /// # Errors
 /// `AllocError` where there is no memory.
@@ -45,78 +44,53 @@ pub fn table<R: Threads + Sync, G: Gate>(
     let job = SourceRows {
         hierarchy,
         buckets: &buckets,
-        sources,
         targets,
     };
-    // The getter tells the proof that a piece has an item.
-    let _ = plan.piece();
-    let pieces = run_pieces(rt, alloc, sources.len() as u32, plan, gate, &job)?;
-    let rows = joined(alloc, pieces)?;
+    let rows = run_list(rt, alloc, sources, plan, gate, &job)?;
     Ok(Table { rows })
 }
 
-/// The rows of ranges of sources.
+/// The rows of sources.
 #[derive(Drop)]
 struct SourceRows<'a> {
     hierarchy: &'a Hierarchy,
     buckets: &'a Buckets,
-    sources: &'a [u32],
     targets: &'a [u32],
 }
 
 impl<'a> Model for SourceRows<'a> {
-    ghost use Rattle.ch_table.specs.Sources.{Sources, AreSources};
+    ghost use Rattle.ch_table.specs.Columns.{Columns, AreColumns};
 
-    ghost Value = { Sources };
+    ghost Value = { Columns };
 
-    ghost view = { λ job. record { levels = job.hierarchy.now; sources = job.sources.now; targets = job.targets.now } };
+    ghost view = { λ job. record { levels = job.hierarchy.now; targets = job.targets.now } };
 
-    ghost invariant = { λ job. AreSources job.hierarchy.now job.buckets.now job.sources.now job.targets.now };
+    ghost invariant = { λ job. AreColumns job.hierarchy.now job.buckets.now job.targets.now };
 }
 
-impl<'a> Job for SourceRows<'a> {
-    ghost use Rattle.std.specs.List.{slice_range};
+impl<'a> ListJob for SourceRows<'a> {
+    type Item = u32;
 
-    type Out = Vec<Vec<Option<u64>>>;
+    type Room = Scratch;
 
-    ghost size = { λ job. length job.sources };
+    type Out = Vec<Option<u64>>;
 
-    ghost meaning = { λ job from to rows. AreRowsBy job.levels job.targets (slice_range job.sources from to) rows.items };
+    ghost takes = { λ job source. source < nodes_of job.levels };
 
-    fn piece(
+    ghost meaning = { λ job source row. IsRowBy job.levels job.targets source row.items };
+
+    ghost clean = { λ job scratch. scratch ≡ nodes_of job.levels };
+
+    fn room(&self, alloc: Global) -> Result<Scratch, AllocError> {
+        Scratch::new(alloc, self.hierarchy.nodes())
+    }
+
+    fn value(
         &self,
         alloc: Global,
-        from: u32,
-        to: u32,
-    ) -> Result<Vec<Vec<Option<u64>>>, AllocError> {
-        rows(
-            alloc,
-            self.hierarchy,
-            self.buckets,
-            &self.sources[from as usize..to as usize],
-            self.targets,
-        )
+        room: &mut Scratch,
+        item: &u32,
+    ) -> Result<Vec<Option<u64>>, AllocError> {
+        row(alloc, self.hierarchy, self.buckets, room, *item, self.targets)
     }
-}
-
-/// The rows of these sources.
-fn rows(
-    alloc: Global,
-    hierarchy: &Hierarchy,
-    buckets: &Buckets,
-    sources: &[u32],
-    targets: &[u32],
-) -> Result<Vec<Vec<Option<u64>>>, AllocError>
-    requires kept { IsKeptForSome hierarchy.now }
-    requires buckets { AreBuckets hierarchy.now.down targets.now buckets.now }
-    requires sources { All (λ s. s < nodes_of hierarchy.now) sources.now }
-    ensures { IfOk result (λ rows. AreRowsBy hierarchy.now targets.now sources.now rows.items) }
-{
-    let mut scratch = Scratch::new(alloc, hierarchy.nodes())?;
-    let mut rows = Vec::with_capacity(alloc, sources.len())?;
-    for source in sources {
-        let cells = row(alloc, hierarchy, buckets, &mut scratch, *source, targets)?;
-        rows.push(cells)?;
-    }
-    Ok(rows)
 }
