@@ -1,2 +1,6 @@
 pub mod Values
 pub mod PieceLists
+pub mod Totals
+pub mod Moves
+pub mod Ends
+pub mod Gathers
