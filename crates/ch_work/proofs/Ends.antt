@@ -1,19 +1,18 @@
 -- Looks, how views are cut and taken in, and what who has all parts knows.
-use Rattle.std.proofs.Common.{◌≡◌, ◌≢◌, ◌⊎◌, ℕ, zero, suc, ◌+◌, ◌-◌, ◌%◌, ◌^◌, ◌<◌, ◌≤◌, ◌==◌, ◌&&◌, nat_lt, min, List, [], ◌∷◌, ◌++◌, length, set, refl, sym, ap, ◌∙◌, subst, inl, inr, ⊎_elim, arith, add-one, replicate}
-use Rattle.std.specs.Prelude.{slice_index, slice_set}
+use Rattle.std.proofs.Common.{◌≡◌, ◌≢◌, ℕ, zero, suc, ◌+◌, ◌-◌, ◌<◌, ◌==◌, ◌&&◌, nat_lt, min, List, [], ◌∷◌, ◌++◌, set, refl, sym, ap, ◌∙◌, subst, inl, inr, ⊎_elim, arith, add-one, replicate}
+use Rattle.std.specs.Prelude.{slice_index}
 use Rattle.std.proofs.lemmas.List.{set-get_or, length-replicate, get_or-replicate}
-use Rattle.std.proofs.lemmas.Bool.Decides.{nat_tests}
 use mathlib.Core.Logic.{dite}
 use mathlib.Core.Option.{Option, some, none, some-ne-none, some-injective}
 use native.Mathlib.Decide.{dec_lt}
 use lib.ListN.{get_elem?}
-use Rattle.atomic_table.specs.Table.{State, Me, Step, step, Act, Valid, stepped, carried_after, Allows, Splits, Joins, Enters, opening, keeps}
+use Rattle.atomic_table.specs.Table.{step, Act, Valid, stepped, carried_after, Allows, Splits, Joins, Enters, opening, keeps}
 use Rattle.atomic_table.proofs.Lists.{at_set, at_snoc, set_again}
 use Rattle.ch_work.specs.declared.board.known.Known.{Known}
 use Rattle.ch_work.specs.declared.board.known.Size.{Size}
 use Rattle.ch_work.specs.Counts.{bit, total, times, times_at}
-use Rattle.ch_work.specs.Rule.{none_yet, Fits, Numbers, Cells, AllFit, Holds, Kept, Settled, Known_whole, Sums}
-use Rattle.ch_work.specs.Steps.{fresh, looked, Knows, Looks, less_one, one_part, both}
+use Rattle.ch_work.specs.Rule.{none_yet, Fits, Holds, Kept, Known_whole}
+use Rattle.ch_work.specs.Steps.{fresh, looked, Looks, less_one, one_part, both}
 use Rattle.ch_work.proofs.Totals.{total_grow, total_append, total_push, total_split, total_join, total_whole, pair_cases, bit_one, none_below}
 use Rattle.ch_work.proofs.Moves.{fits_set, numbers_same, cells_same, knows_below}
 

@@ -1,13 +1,11 @@
 -- Views that are taken in one after the other.
-use Rattle.std.proofs.Common.{◌≡◌, ℕ, zero, suc, ◌+◌, ◌<◌, ◌==◌, ◌&&◌, List, [], ◌∷◌, ◌++◌, map, length, refl, sym, ap, ◌∙◌, subst, arith, length-append, append_assoc, slice_index_or, All, Bool, true, false, cond, ◌≢◌, ◌≤◌, add-one, Option, Some, None, Result, Ok, Err, IfOk}
+use Rattle.std.proofs.Common.{◌≡◌, ℕ, zero, suc, ◌+◌, ◌<◌, ◌==◌, ◌&&◌, List, [], ◌∷◌, ◌++◌, map, length, refl, sym, ◌∙◌, subst, arith, slice_index_or, Bool, true, false, cond, ◌≢◌, add-one, Option, Some, None, Result, Ok, Err, IfOk}
 use Rattle.std.specs.Prelude.{slice_index}
 use Rattle.std.proofs.lemmas.Bool.Decides.{nat_tests}
 use native.Mathlib.Decide.{dec_lt}
-use mathlib.Core.Logic.{dite}
 use mathlib.Core.Option.{some, some-ne-none, some-injective}
 use lib.ListN.{get_elem?}
-use Rattle.std.proofs.lemmas.List.{get_or_append_left}
-use Rattle.atomic_table.specs.Table.{State, Final, Seen}
+use Rattle.atomic_table.specs.Table.{Final, Seen}
 use Rattle.ch_work.specs.declared.board.known.Known.{Known}
 use Rattle.ch_work.specs.declared.board.known.Size.{Size}
 use Rattle.ch_work.specs.declared.board.Pass.{Pass}
@@ -29,28 +27,6 @@ sums_push v vs w s = record {
   offers = λ i x. let t = total_push (λ (u : Known). times_at i x u.offers) vs w in let e = s.offers i x in let a = total_append (λ (p : ℕ × ℕ). bit ((p.0 == i) && (p.1 == x))) v.offers w.offers in omega arith;
   shown = λ i x. let t = total_push (λ (u : Known). times_at i x u.shown) vs w in let e = s.shown i x in let a = total_append (λ (p : ℕ × ℕ). bit ((p.0 == i) && (p.1 == x))) v.shown w.shown in omega arith;
 }
-
-module _ {A B : Type 0} (f : A → B) where
-  pub map_push : (xs : List A) (x : A) → map f (xs ++ x ∷ []) ≡ map f xs ++ f x ∷ []
-  map_push [] x = refl
-  map_push (y ∷ ys) x = ap (λ (l : List B). f y ∷ l) (map_push ys x)
-
-module _ {A : Type 0} where
-  item_here : (xs ys : List A) (x : A) (zs : List A) (d : A) → zs ≡ xs ++ x ∷ ys → slice_index_or zs (length xs) d ≡ x
-  item_here [] ys x zs d e = rw e refl
-  item_here (y ∷ xs) ys x zs d e = rw e (item_here xs ys x (xs ++ x ∷ ys) d refl)
-
-  item_within : (xs ys : List A) (x : A) (zs : List A) → zs ≡ xs ++ x ∷ ys → length xs < length zs
-  item_within xs ys x zs e = rw e (omega (arith, length-append xs (x ∷ ys)))
-
-  pub all_at : (P : A → Type 0) (zs : List A) → All P zs → (xs ys : List A) (x : A) → zs ≡ xs ++ x ∷ ys → P x
-  all_at P zs all xs ys x e = subst P (item_here xs ys x zs x e) (all (length xs) x (item_within xs ys x zs e))
-
-  pub next_split : (zs xs rest : List A) (x : A) (ys : List A) → zs ≡ xs ++ rest → rest ≡ x ∷ ys → zs ≡ xs ++ x ∷ ys
-  next_split zs xs rest x ys e f = rw (e, f) refl
-
-  pub next_done : (zs xs ys : List A) (x : A) → zs ≡ xs ++ x ∷ ys → zs ≡ (xs ++ x ∷ []) ++ ys
-  next_done zs xs ys x e = e ∙ sym (append_assoc xs (x ∷ []) ys)
 
 -- each pass has one part
 pub parts_count : (ps : List Pass) → total (λ (u : Known). u.parts) (map view_of ps) ≡ length ps
@@ -113,12 +89,6 @@ some_of n false e ne = refl
 
 pub read_some : (n : ℕ) → n ≢ none_yet → n < 18446744073709551616 → IsRead n (Some n)
 read_some n ne fits = (some_of n (n == none_yet) refl ne, fits)
-
-module _ {A : Type 0} (Q : ℕ → A → Type 0) where
-  pub each_push : (xs : List A) (n : ℕ) (x : A) → length xs ≡ n → ((j : ℕ) (d : A) → j < n → Q j (slice_index_or xs j d)) → Q n x → (j : ℕ) (d : A) → j < n + 1 → Q j (slice_index_or (xs ++ x ∷ []) j d)
-  each_push xs n x len each mine j d lt = dite (dec_lt j n)
-      (λ l. subst (λ (y : A). Q j y) (sym (get_or_append_left xs (x ∷ []) d j (omega arith))) (each j d l))
-      (λ ge. let e : length xs ≡ j = omega arith in subst (λ (y : A). Q j y) (sym (item_here xs [] x (xs ++ x ∷ []) d refl) ∙ ap (λ (m : ℕ). slice_index_or (xs ++ x ∷ []) m d) e) (let e' : n ≡ j = omega arith in subst (λ (m : ℕ). Q m x) e' mine))
 
 pub both_ok : {T E : Type 0} (r : Result T E) (P Q R : T → Type 0) → IfOk r P → IfOk r Q → ((v : T) → P v → Q v → R v) → IfOk r R
 both_ok (Ok v) P Q R p q f = f v p q

@@ -1,3 +1,4 @@
+pub mod Items
 pub mod Values
 pub mod PieceLists
 pub mod Totals

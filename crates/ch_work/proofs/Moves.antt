@@ -1,18 +1,18 @@
 -- Each step keeps the rule.
-use Rattle.std.proofs.Common.{◌≡◌, ◌≢◌, ◌⊎◌, ℕ, zero, suc, ◌+◌, ◌-◌, ◌%◌, ◌^◌, ◌<◌, ◌≤◌, ◌==◌, ◌&&◌, cond, nat_lt, min, List, [], ◌∷◌, ◌++◌, length, set, All, refl, sym, ap, ◌∙◌, subst, inl, inr, ⊎_elim, arith, get_or-set_same, get_or-set_other, length-set, add-one}
-use Rattle.std.specs.Prelude.{slice_index, slice_set}
+use Rattle.std.proofs.Common.{◌≡◌, ◌≢◌, ℕ, suc, ◌+◌, ◌-◌, ◌%◌, ◌<◌, ◌≤◌, ◌==◌, ◌&&◌, nat_lt, min, List, ◌∷◌, length, set, refl, sym, ap, ◌∙◌, subst, inl, inr, ⊎_elim, arith, get_or-set_same, get_or-set_other, length-set, add-one}
+use Rattle.std.specs.Prelude.{slice_index}
 use mathlib.Core.Logic.{dite}
-use mathlib.Core.Option.{Option, some, none, some-ne-none, some-injective}
+use mathlib.Core.Option.{Option, some, none}
 use native.Mathlib.Decide.{dec_lt, ℕ_discrete}
 use lib.ListN.{get_elem?}
-use Rattle.atomic_table.specs.Table.{State, Me, Step, step, Act, Valid, stepped, carried_after, Allows, Splits, Joins, keeps}
-use Rattle.atomic_table.proofs.Lists.{at_set, at_snoc}
+use Rattle.atomic_table.specs.Table.{step, Act, Valid, stepped, carried_after, Allows, keeps}
+use Rattle.atomic_table.proofs.Lists.{at_set}
 use Rattle.ch_work.specs.declared.board.known.Known.{Known}
 use Rattle.ch_work.specs.declared.board.known.Size.{Size}
 use Rattle.ch_work.specs.Counts.{bit, total, times, times_at}
 use Rattle.ch_work.specs.Rule.{none_yet, Fits, Numbers, Cells, AllFit, Holds, Kept}
-use Rattle.ch_work.specs.Steps.{fresh, claimed, finished, offered, looked, Knows, Claims, Offers, Looks, less_one, one_part, both}
-use Rattle.ch_work.proofs.Totals.{total_set, total_grow, total_append, total_push, total_at, total_split, total_le, total_join, total_whole, one_same, below_next, below_is, pair_same, pair_cases}
+use Rattle.ch_work.specs.Steps.{claimed, finished, offered, Knows, Claims, Offers}
+use Rattle.ch_work.proofs.Totals.{total_grow, total_push, total_at, total_le, below_next, below_is, pair_same, pair_cases}
 
 pub fits_set : (k : Size) (views : List Known) (i : ℕ) (w : Known) → Fits k w → AllFit k views → AllFit k (set views i w)
 fits_set k views i w mine others j u e = ⊎_elim (λ (t : (j ≡ i) × (w ≡ u)). subst (λ (y : Known). Fits k y) t.1 mine) (λ (t : (j ≢ i) × (get_elem? views j ≡ some u)). others j u t.1) (at_set views i j w u e)

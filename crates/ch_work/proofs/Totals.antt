@@ -1,9 +1,9 @@
 -- Totals over views, when one view changes, is cut in two or taken in.
-use Rattle.std.proofs.Common.{◌≡◌, ◌≢◌, ◌⊎◌, ℕ, zero, suc, ◌+◌, ◌<◌, ◌≤◌, ◌==◌, ◌&&◌, cond, nat_lt, List, [], ◌∷◌, ◌++◌, length, set, All, refl, sym, ap, ◌∙◌, subst, inl, inr, ⊎_elim, true, false, Bool, arith}
+use Rattle.std.proofs.Common.{◌≡◌, ◌⊎◌, ℕ, zero, suc, ◌+◌, ◌<◌, ◌≤◌, ◌==◌, ◌&&◌, nat_lt, List, [], ◌∷◌, ◌++◌, set, refl, sym, ap, true, false, Bool, arith}
 use mathlib.Core.Option.{some, some-ne-none, some-injective}
 use lib.ListN.{get_elem?}
 use Rattle.std.proofs.lemmas.Bool.Decides.{nat_tests}
-use Rattle.ch_work.specs.Counts.{bit, total, times, times_at}
+use Rattle.ch_work.specs.Counts.{bit, total}
 
 module _ {A : Type 0} (f : A → ℕ) where
   pub total_set : (views : List A) (j : ℕ) (v w : A) → get_elem? views j ≡ some v → total f (set views j w) + f v ≡ total f views + f w

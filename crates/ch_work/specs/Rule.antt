@@ -1,5 +1,5 @@
 -- What holds of a board between any two steps.
-use Rattle.std.specs.Prelude.{MatchOption, slice_index_or, ◌≡◌, ℕ, ◌+◌, ◌<◌, ◌≤◌, ◌^◌, min, cond, nat_lt, List, [], ◌∷◌, length, slice_index}
+use Rattle.std.specs.Prelude.{MatchOption, slice_index_or, ◌≡◌, ℕ, ◌+◌, ◌<◌, ◌≤◌, min, cond, nat_lt, List, [], ◌∷◌, length, slice_index}
 use Rattle.std.specs.Prelude.{Option, Some, None, ◌==◌}
 use mathlib.Core.Option.{some}
 use lib.ListN.{get_elem?}

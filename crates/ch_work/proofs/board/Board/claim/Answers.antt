@@ -1,4 +1,4 @@
-use Rattle.std.proofs.Common.{rules, ◌≡◌, ◌<◌, ◌+◌, arith, ap, ◌∙◌, true, false}
+use Rattle.std.proofs.Common.{◌≡◌, ◌+◌, arith, ap, ◌∙◌}
 use Rattle.ch_work.specs.Counts.{bit}
 use Rattle.ch_work.proofs.Moves.{claims}
 use Rattle.ch_work.proofs.board.Board.claim.Goals as goal

@@ -1,4 +1,4 @@
-use Rattle.std.proofs.Common.{rules, ◌≡◌, ◌+◌, ◌∙◌, ◌<◌, sym, subst, ℕ, slice_index, slice_index_or, arith, ap, map, length, vec_len, [], ◌∷◌}
+use Rattle.std.proofs.Common.{rules, ◌≡◌, ◌+◌, ◌∙◌, ◌<◌, sym, ℕ, slice_index, slice_index_or, arith, map, length}
 use Rattle.std.specs.Slots.{slots_items}
 use Rattle.ch_work.specs.Rule.{IsRead, Settled}
 use Rattle.ch_work.specs.Passes.{view_of}

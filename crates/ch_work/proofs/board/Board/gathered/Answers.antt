@@ -1,8 +1,8 @@
-use Rattle.std.proofs.Common.{rules, ◌≡◌, ◌+◌, ◌++◌, ◌∷◌, [], map, subst, sym, arith, ◌∙◌}
-use Rattle.ch_work.specs.Rule.{Sums}
+use Rattle.std.proofs.Common.{◌≡◌, ◌+◌, map, arith, ◌∙◌}
 use Rattle.ch_work.specs.Passes.{view_of}
 use Rattle.ch_work.proofs.Ends.{enters}
-use Rattle.ch_work.proofs.Gathers.{sums_none, sums_push, map_push, all_at, next_split, next_done}
+use Rattle.ch_work.proofs.Gathers.{sums_push}
+use Rattle.ch_work.proofs.Items.{map_push, next_split, next_done}
 use Rattle.ch_work.proofs.board.Board.gathered.Goals as goal
 
 pub load_new_seat-all-requires : goal.load_new_seat-all-requires

@@ -1,4 +1,4 @@
-use Rattle.std.proofs.Common.{rules, ◌≡◌, ◌+◌, arith}
+use Rattle.std.proofs.Common.{◌≡◌, ◌+◌, arith}
 use Rattle.ch_work.proofs.Ends.{joins}
 use Rattle.ch_work.proofs.board.Board.take_in.Goals as goal
 

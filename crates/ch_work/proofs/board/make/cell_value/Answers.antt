@@ -1,6 +1,5 @@
-use Rattle.std.proofs.Common.{rules, ◌≡◌, ◌+◌, ◌∙◌, sym, subst, ℕ, slice_index, arith, ap, None, Some}
+use Rattle.std.proofs.Common.{rules, ◌+◌, ◌∙◌, slice_index}
 use Rattle.std.specs.Slots.{slots_items}
-use Rattle.ch_work.specs.Rule.{IsRead}
 use Rattle.ch_work.proofs.Gathers.{index_is, read_none, read_some}
 use Rattle.ch_work.proofs.board.make.cell_value.Goals as goal
 

@@ -1,4 +1,4 @@
-use Rattle.std.proofs.Common.{◌≡◌, ◌-◌, ◌+◌, ◌<◌, [], vec_len, All}
+use Rattle.std.proofs.Common.{◌≡◌, ◌-◌, [], vec_len, All}
 use Rattle.ch_work.specs.Steps.{fresh}
 use Rattle.ch_work.proofs.board.make.passes_of.Given as goal
 

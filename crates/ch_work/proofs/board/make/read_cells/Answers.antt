@@ -1,7 +1,7 @@
-use Rattle.std.proofs.Common.{rules, ◌≡◌, ◌+◌, ◌∙◌, sym, subst, ℕ, slice_index, slice_index_or, arith, ap, length-append, [], ◌∷◌}
+use Rattle.std.proofs.Common.{◌+◌, slice_index, arith, length-append, [], ◌∷◌}
 use Rattle.std.specs.Slots.{slots_items}
 use Rattle.ch_work.specs.Rule.{IsRead}
-use Rattle.ch_work.proofs.Gathers.{each_push}
+use Rattle.ch_work.proofs.Items.{each_push}
 use Rattle.ch_work.proofs.board.make.read_cells.Goals as goal
 
 pub loop-cell-preserved : goal.loop-cell-preserved
