@@ -1,2 +1,7 @@
+pub mod Items
 pub mod Values
 pub mod PieceLists
+pub mod Totals
+pub mod Moves
+pub mod Ends
+pub mod Gathers

@@ -1,5 +1,5 @@
 -- Values of consecutive pieces: one more, and two lists of them after each other.
-use Rattle.std.proofs.Common.{slice_index_or, append_assoc, ◌∙◌, ◌≡◌, ℕ, ◌+◌, ◌*◌, ◌<◌, min, List, [], ◌∷◌, ◌++◌, length, subst, sym, refl, arith, length-append}
+use Rattle.std.proofs.Common.{◌≡◌, ℕ, ◌+◌, ◌*◌, min, List, [], ◌∷◌, ◌++◌, length, subst, refl, arith, length-append}
 use Rattle.ch_work.specs.Pieces.{MeanEach, AreValues}
 
 module _ {X : Type 0} (m : ℕ → ℕ → X → Type 0) (n p : ℕ) where
@@ -15,26 +15,3 @@ module _ {X : Type 0} (m : ℕ → ℕ → X → Type 0) (n p : ℕ) where
   -- one value more
   pub values-push : (xs : List X) (x : X) (a k : ℕ) → AreValues m n p a k xs → m (k * p) (min (k * p + p) n) x → AreValues m n p a (k + 1) (xs ++ x ∷ [])
   values-push xs x a k hx h = values-append xs (x ∷ []) a k (k + 1) hx (refl, (h, tt))
-
-module _ {A : Type 0} where
-  -- where an item of a list stands
-  pub item_here : (xs ys : List A) (x : A) (zs : List A) (d : A) → zs ≡ xs ++ x ∷ ys → slice_index_or zs (length xs) d ≡ x
-  item_here [] ys x zs d e = rw e refl
-  item_here (y ∷ xs) ys x zs d e = rw e (item_here xs ys x (xs ++ x ∷ ys) d refl)
-
-  -- it stands within the list
-  pub item_within : (xs ys : List A) (x : A) (zs : List A) → zs ≡ xs ++ x ∷ ys → length xs < length zs
-  item_within xs ys x zs e = rw e (omega (arith, length-append xs (x ∷ ys)))
-
-  -- what holds at each place holds of an item at its place
-  pub item_has : (Q : ℕ → A → Type 0) (zs : List A) (n : ℕ) → length zs ≡ n → ((i : ℕ) (d : A) → i < n → Q i (slice_index_or zs i d)) →
-      (xs ys : List A) (x : A) → zs ≡ xs ++ x ∷ ys → Q (length xs) x
-  item_has Q zs n len each xs ys x e = subst (Q (length xs)) (item_here xs ys x zs x e) (each (length xs) x (omega (arith, len, item_within xs ys x zs e)))
-
-  -- what is left of a list begins with the next item
-  pub next_split : (zs xs rest : List A) (x : A) (ys : List A) → zs ≡ xs ++ rest → rest ≡ x ∷ ys → zs ≡ xs ++ x ∷ ys
-  next_split zs xs rest x ys e f = rw (e, f) refl
-
-  -- once the item is taken, it is the last of those that were
-  pub next_done : (zs xs ys : List A) (x : A) → zs ≡ xs ++ x ∷ ys → zs ≡ (xs ++ x ∷ []) ++ ys
-  next_done zs xs ys x e = e ∙ sym (append_assoc xs (x ∷ []) ys)

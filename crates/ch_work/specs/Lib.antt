@@ -1,2 +1,6 @@
 pub mod Plan
 pub mod Pieces
+pub mod Counts
+pub mod Rule
+pub mod Steps
+pub mod Passes

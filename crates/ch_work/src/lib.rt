@@ -7,6 +7,7 @@
 //! [`joined`] puts lists that pieces made after one another.
 #![tactic(auto)]
 
+mod board;
 mod gate;
 mod gates;
 mod job;
@@ -15,6 +16,7 @@ mod lists;
 mod pieces;
 mod plan;
 
+pub use board::{Board, Known, Pass, Size};
 pub use gate::{Gate, Open};
 pub use gates::{CountingGate, MeetingGate};
 pub use job::{Job, RoomJob};

@@ -1,6 +1,7 @@
 use Rattle.std.proofs.Common.{rules, ℕ, ◌≡◌, ◌∷◌, [], ◌++◌, ◌+◌, arith, length, length-append, IfOk}
 use Rattle.ch_work.specs.Pieces.{pieces_of, share_start, IsShare}
-use Rattle.ch_work.proofs.Values.{values-append, item_has, next_split, next_done}
+use Rattle.ch_work.proofs.Values.{values-append}
+use Rattle.ch_work.proofs.Items.{item_has, next_split, next_done}
 use Rattle.ch_work.proofs.pieces.Work.in_order.Goals as goal
 
 pub loop-share-preserved : goal.loop-share-preserved

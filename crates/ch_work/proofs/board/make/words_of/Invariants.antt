@@ -1,0 +1,6 @@
+use Rattle.std.proofs.Common.{◌≡◌, ◌∷◌, replicate}
+use Rattle.ch_work.specs.Rule.{none_yet}
+use Rattle.ch_work.proofs.board.make.words_of.Given as goal
+
+abbrev pub invariant-loop : goal.invariant-loop
+invariant-loop l = l.words.items ≡ 0 ∷ replicate l.counter none_yet

@@ -1,0 +1,54 @@
+-- What a step does to the view of its pass.
+use Rattle.std.specs.Prelude.{◌≡◌, ℕ, ◌+◌, ◌-◌, ◌<◌, ◌≤◌, ◌⊎◌, [], ◌∷◌, ◌++◌}
+use Rattle.atomic_table.specs.Table.{Me, Step}
+use Rattle.ch_work.specs.declared.board.known.Known.{Known}
+use Rattle.ch_work.specs.Counts.{times, times_at}
+use Rattle.ch_work.specs.Rule.{none_yet}
+
+abbrev pub fresh : ℕ → ℕ → Known
+fresh pieces parts = record { pieces = pieces; parts = parts; ended = 0; claims = []; offers = []; shown = [] }
+
+abbrev pub claimed : Known → ℕ → Known
+claimed v x = record v { claims = v.claims ++ x ∷ [] }
+
+abbrev pub finished : Known → Known
+finished v = record v { ended = v.ended + 1 }
+
+abbrev pub offered : Known → ℕ → ℕ → Known
+offered v cell x = record v { offers = v.offers ++ (cell, x) ∷ [] }
+
+abbrev pub looked : Known → ℕ → ℕ → Known
+looked v cell x = record v { shown = v.shown ++ (cell, x) ∷ [] }
+
+-- the pass offered or was shown the weight x at the cell
+abbrev pub Knows : Known → ℕ → ℕ → Type 0
+Knows v cell x = 0 < times_at cell x v.offers + times_at cell x v.shown
+
+abbrev pub Claims : Step (Unit {0}) → Me (Unit {0}) Known → ℕ → Me (Unit {0}) Known → Type 0
+Claims s me n me' =
+    (me'.1 ≡ me.1)
+    × (((n < me.0.pieces) × (me'.0 ≡ claimed me.0 n) × ((y : ℕ) → 0 < times y me.0.claims → y < n))
+    ⊎ ((me.0.pieces ≤ n) × (me'.0 ≡ finished me.0)))
+
+abbrev pub Offers : Step (Unit {0}) → Me (Unit {0}) Known → ℕ → Me (Unit {0}) Known → Type 0
+Offers s me n me' = (me'.1 ≡ me.1) × (me'.0 ≡ offered me.0 (s.word - 1) s.first)
+
+abbrev pub Looks : Step (Unit {0}) → Me (Unit {0}) Known → ℕ → Me (Unit {0}) Known → Type 0
+Looks s me n me' =
+    (me'.1 ≡ me.1)
+    × (((n ≤ 2305843009213693952) × (me'.0 ≡ looked me.0 (s.word - 1) n) × ((x : ℕ) → Knows me.0 (s.word - 1) x → n ≤ x))
+    ⊎ ((n ≡ none_yet) × (me'.0 ≡ me.0) × ((x : ℕ) → Knows me.0 (s.word - 1) x → ⊥)))
+
+-- how a pass is cut off, and taken in
+abbrev pub less_one : Known → Known
+less_one v = record v { parts = v.parts - 1 }
+
+abbrev pub one_part : Known → Known
+one_part v = fresh v.pieces 1
+
+abbrev pub both : Known → Known → Known
+both v w = record { pieces = w.pieces; parts = v.parts + w.parts; ended = v.ended + w.ended; claims = v.claims ++ w.claims; offers = v.offers ++ w.offers; shown = v.shown ++ w.shown }
+
+-- a new pass with no part
+abbrev pub Enters : Step (Unit {0}) → Me (Unit {0}) Known → ℕ → Me (Unit {0}) Known → Type 0
+Enters s me n me' = me'.0 ≡ fresh 0 0

@@ -1,0 +1,42 @@
+//! A board that passes share, each in a thread of its own: a counter from which they claim the numbers of
+//! pieces, and cells to which they offer weights, of which the least stays.
+
+mod known;
+mod make;
+mod rule;
+mod steps;
+
+pub use known::{Known, Size};
+
+ghost use Rattle.std.specs.Prelude.{◌≡◌, ◌+◌, []};
+ghost use Rattle.ch_work.specs.Counts.{bit};
+
+use atomic_table::{Seat, Table};
+use rule::Rule;
+use std::alloc::Global;
+
+/// A claim counter and cells of least weights, which passes share. A call on it is one atomic operation at
+/// most, on a word of its own: it waits for no other, and takes no memory.
+#[derive(Drop)]
+pub struct Board {
+    table: Table<(), Known, Size, Rule, Global>,
+    alloc: Global,
+    cells: u32,
+    passes: u32,
+    ghost words: { table.shared.table_id.words ≡ cells + 1 },
+    ghost no_slots: { table.shared.table_id.slots ≡ 0 },
+    ghost size_cells: { table.shared.key.cells ≡ cells },
+    ghost size_passes: { table.shared.key.passes ≡ passes },
+}
+
+/// One worker's part of a board.
+#[derive(Drop)]
+pub struct Pass {
+    seat: Seat<(), Known>,
+    pieces: u32,
+    ended: bool,
+    ghost no_slot: { seat.me.1 ≡ [] },
+    ghost one_part: { seat.me.0.parts ≡ 1 },
+    ghost same_pieces: { seat.me.0.pieces ≡ pieces },
+    ghost same_end: { seat.me.0.ended ≡ bit ended },
+}

@@ -1,0 +1,69 @@
+//! The steps of a pass.
+ghost use Rattle.std.specs.Prelude.{None, ◌≡◌, ℕ, ◌<◌, ◌≤◌, ◌^◌, IfSome, IfNone};
+ghost use Rattle.ch_work.specs.Counts.{times};
+ghost use Rattle.ch_work.specs.Passes.{view_of, size_of, IsPassOf, HasEnded};
+ghost use Rattle.ch_work.specs.Steps.{claimed, offered, looked, Knows};
+
+use crate::board::rule::{Claim, Look, Offer};
+use crate::board::{Board, Pass};
+
+impl Board {
+    /// The next number of a piece that no pass has claimed, and `None` where there is none left. Then the
+    /// pass has ended, and is answered `None` from then on without a step.
+    pub fn claim(&self, pass: &mut Pass) -> Option<u32>
+        requires { IsPassOf self.now pass.old }
+        ensures board { IsPassOf self.now pass.new }
+        ensures ended { HasEnded pass.old → result ≡ None }
+        ensures some { IfSome result (λ number. (number < (view_of pass.old).pieces)
+            × (view_of pass.new ≡ claimed (view_of pass.old) number)
+            × ((earlier : ℕ) → 0 < times earlier (view_of pass.old).claims → earlier < number)) }
+        ensures none { IfNone result (HasEnded pass.new
+            × ((view_of pass.new).claims ≡ (view_of pass.old).claims)
+            × ((view_of pass.new).offers ≡ (view_of pass.old).offers)
+            × ((view_of pass.new).shown ≡ (view_of pass.old).shown)) }
+    {
+        if pass.ended {
+            return None;
+        }
+        let found = self.table.shared.fetch_add::<Claim>(&mut pass.seat, 0, 1);
+        if found < u64::from(pass.pieces) {
+            Some(found as u32)
+        } else {
+            pass.ended = true;
+            None
+        }
+    }
+
+    /// Offers a weight of at most 2^61 to a cell, whose weight becomes the lesser of the two.
+    pub fn offer(&self, pass: &mut Pass, cell: u32, weight: u64)
+        requires board { IsPassOf self.now pass.old }
+        requires cell { cell < (size_of self.now).cells }
+        requires weight { weight ≤ 2 ^ 61 }
+        ensures board { IsPassOf self.now pass.new }
+        ensures ended { HasEnded pass.old → HasEnded pass.new }
+        ensures view { view_of pass.new ≡ offered (view_of pass.old) cell weight }
+    {
+        self.table
+            .shared
+            .fetch_min::<Offer>(&mut pass.seat, cell as usize + 1, weight);
+    }
+
+    /// The weight of a cell, and `None` where none was offered there yet.
+    pub fn look(&self, pass: &mut Pass, cell: u32) -> Option<u64>
+        requires board { IsPassOf self.now pass.old }
+        requires cell { cell < (size_of self.now).cells }
+        ensures board { IsPassOf self.now pass.new }
+        ensures ended { HasEnded pass.old → HasEnded pass.new }
+        ensures some { IfSome result (λ weight. (weight ≤ 2 ^ 61)
+            × (view_of pass.new ≡ looked (view_of pass.old) cell weight)
+            × ((known : ℕ) → Knows (view_of pass.old) cell known → weight ≤ known)) }
+        ensures none { IfNone result ((view_of pass.new ≡ view_of pass.old)
+            × ((known : ℕ) → ¬ Knows (view_of pass.old) cell known)) }
+    {
+        let found = self
+            .table
+            .shared
+            .load::<Look>(&mut pass.seat, cell as usize + 1);
+        if found == u64::MAX { None } else { Some(found) }
+    }
+}
