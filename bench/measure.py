@@ -1,0 +1,71 @@
+"""For the measurements: inputs from a fixed seed, and runs of the built program with their time and memory."""
+import os
+import pathlib
+import random
+import statistics
+import subprocess
+import tempfile
+import time
+
+ROOT = pathlib.Path(__file__).resolve().parent.parent
+PROGRAM = ROOT / "crates" / "chtab" / "out" / "chtab"
+
+
+def built():
+    """Proves and builds the program where that has to be done."""
+    subprocess.run([ROOT / "chtab", "--help"], stdout=subprocess.DEVNULL, check=True)
+
+
+def run(*command):
+    """The seconds and the megabytes at the peak of one run."""
+    start = time.perf_counter()
+    process = subprocess.Popen([str(word) for word in command], stdout=subprocess.DEVNULL)
+    _, status, usage = os.wait4(process.pid, 0)
+    seconds = time.perf_counter() - start
+    if status:
+        raise SystemExit(f"{command} ended with {status}")
+    return seconds, usage.ru_maxrss / 1024
+
+
+def alternating(rounds, commands):
+    """The median of the seconds of each command of a dictionary, each run once a round."""
+    taken = {name: [] for name in commands}
+    for _ in range(rounds):
+        for name, command in commands.items():
+            taken[name].append(run(*command)[0])
+    return {name: statistics.median(seconds) for name, seconds in taken.items()}
+
+
+class Inputs:
+    """A folder of inputs on a road network of so many nodes, gone after `with`."""
+
+    def __init__(self, nodes):
+        self.nodes = nodes
+
+    def __enter__(self):
+        self.kept = tempfile.TemporaryDirectory()
+        self.folder = pathlib.Path(self.kept.name)
+        self.graph = self.folder / "roads.gr"
+        subprocess.run([ROOT / "bench" / "roads.py", str(self.nodes), self.graph], check=True)
+        return self
+
+    def __exit__(self, *fault):
+        self.kept.cleanup()
+
+    def listed(self, count, kind, letter, width):
+        """A file of items with `width` nodes each."""
+        path = self.folder / f"{count}.{letter}"
+        draw = random.Random(letter)
+        with open(path, "w") as file:
+            print("p aux sp", kind, count, file=file)
+            for _ in range(count):
+                print(letter, *(draw.randint(1, self.nodes) for _ in range(width)), file=file)
+        return path
+
+    def queries(self, count):
+        """A file of so many queries."""
+        return self.listed(count, "p2p", "q", 2)
+
+    def listing(self, count):
+        """A file of so many sources or targets."""
+        return self.listed(count, "ss", "s", 1)
