@@ -1,5 +1,5 @@
 -- Lists that are taken apart item by item, and lists that grow.
-use Rattle.std.proofs.Common.{All, slice_index_or, append_assoc, ◌∙◌, ◌≡◌, ℕ, ◌+◌, ◌<◌, List, [], ◌∷◌, ◌++◌, length, map, ap, subst, sym, refl, arith, length-append}
+use Rattle.std.proofs.Common.{All, append-nil, slice_index_or, append_assoc, ◌∙◌, ◌≡◌, ℕ, ◌+◌, ◌<◌, List, [], ◌∷◌, ◌++◌, length, map, ap, subst, sym, refl, arith, length-append}
 use Rattle.std.proofs.lemmas.List.{get_or_append_left}
 use mathlib.Core.Logic.{dite}
 use native.Mathlib.Decide.{dec_lt}
@@ -26,6 +26,11 @@ module _ {A : Type 0} where
   -- once the item is taken, it is the last of those that were
   pub next_done : (zs xs ys : List A) (x : A) → zs ≡ xs ++ x ∷ ys → zs ≡ (xs ++ x ∷ []) ++ ys
   next_done zs xs ys x e = e ∙ sym (append_assoc xs (x ∷ []) ys)
+
+  -- once no item is left, all were taken
+  pub all_done : (zs xs rest : List A) → zs ≡ xs ++ rest → length rest ≡ 0 → zs ≡ xs
+  all_done zs xs [] e none = e ∙ append-nil xs
+  all_done zs xs (y ∷ ys) e none = absurd (omega arith)
 
   -- what holds of all items holds of one
   pub all_at : (P : A → Type 0) (zs : List A) → All P zs → (xs ys : List A) (x : A) → zs ≡ xs ++ x ∷ ys → P x

@@ -5,3 +5,4 @@ pub mod Totals
 pub mod Moves
 pub mod Ends
 pub mod Gathers
+pub mod Claims

@@ -1,5 +1,5 @@
 -- Totals over views, when one view changes, is cut in two or taken in.
-use Rattle.std.proofs.Common.{◌≡◌, ◌⊎◌, ℕ, zero, suc, ◌+◌, ◌<◌, ◌≤◌, ◌==◌, ◌&&◌, nat_lt, List, [], ◌∷◌, ◌++◌, set, refl, sym, ap, true, false, Bool, arith}
+use Rattle.std.proofs.Common.{◌≡◌, ◌≢◌, ◌⊎◌, ℕ, zero, suc, ◌+◌, ◌<◌, ◌≤◌, ◌==◌, ◌&&◌, nat_lt, List, [], ◌∷◌, ◌++◌, set, refl, sym, ap, true, false, Bool, arith}
 use mathlib.Core.Option.{some, some-ne-none, some-injective}
 use lib.ListN.{get_elem?}
 use Rattle.std.proofs.lemmas.Bool.Decides.{nat_tests}
@@ -81,3 +81,6 @@ below_true x c h = grind (arith, nat_tests)
 
 pub none_below : (x : ℕ) → bit (nat_lt x 0) ≡ 0
 none_below x = grind (arith, nat_tests)
+
+pub one_other : (x y : ℕ) → x ≢ y → bit (x == y) ≡ 0
+one_other x y n = grind (arith, nat_tests)

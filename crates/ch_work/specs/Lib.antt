@@ -4,3 +4,4 @@ pub mod Counts
 pub mod Rule
 pub mod Steps
 pub mod Passes
+pub mod Claims

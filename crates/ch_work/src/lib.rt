@@ -8,6 +8,7 @@
 #![tactic(auto)]
 
 mod board;
+mod done;
 mod gate;
 mod gates;
 mod job;
@@ -15,6 +16,8 @@ mod list;
 mod lists;
 mod pieces;
 mod plan;
+mod shared;
+mod work;
 
 pub use board::{Board, Known, Pass, Size};
 pub use gate::{Gate, Open};

@@ -1,0 +1,9 @@
+use Rattle.std.proofs.Common.{◌≡◌, ◌++◌, length, vec_len}
+use Rattle.ch_work.specs.Claims.{AreGathered}
+use Rattle.ch_work.proofs.shared.gathered.Given as goal
+
+abbrev pub invariant-loop-pass : goal.invariant-loop-pass
+invariant-loop-pass g l =
+    (vec_len l.passes ≡ length l.yielded)
+    × AreGathered (g.J.RoomJob.meaning l.work.job.now) l.work.items l.work.piece l.board l.passes.items l.all.items
+    × (l.fn.worked.items ≡ l.yielded ++ l.pass-iterator.rest.items)

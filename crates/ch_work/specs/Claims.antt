@@ -1,0 +1,38 @@
+-- What workers have done of the pieces that they claimed.
+use Rattle.std.specs.Prelude.{◌≡◌, ℕ, ◌+◌, ◌-◌, ◌*◌, ◌<◌, ◌≤◌, min, List, map, All, Result, Vec, IfOk}
+use Rattle.std.specs.declared.alloc.Global.{Global}
+use Rattle.ch_work.specs.declared.board.known.Known.{Known}
+use Rattle.ch_work.specs.declared.board.Board.{Board}
+use Rattle.ch_work.specs.declared.board.Pass.{Pass}
+use Rattle.ch_work.specs.declared.done.Done.{Done}
+use Rattle.ch_work.specs.Counts.{total, times}
+use Rattle.ch_work.specs.Passes.{view_of, IsPassOf, HasEnded}
+use Rattle.ch_work.specs.Pieces.{pieces_of}
+
+-- the numbers of the pieces that were done
+abbrev pub numbers : {X : Type 0} → List (Done X) → List ℕ
+numbers done = map (λ d. d.number) done
+
+-- the number is one of a piece, and the value meets the meaning on its range
+abbrev pub IsDone : {X : Type 0} → (ℕ → ℕ → X → Type 0) → ℕ → ℕ → Done X → Type 0
+IsDone meaning n p d = (d.number < pieces_of n p) × meaning (d.number * p) (min (d.number * p + p) n) d.value
+
+-- where a worker stands: what it claimed it has done, and `next` is 0 or follows its last claim
+pub record Working {X : Type 0} (meaning : ℕ → ℕ → X → Type 0) (n p : ℕ) (view : Known) (next : ℕ) (done : List (Done X)) : Type 0 where
+  pub pieces : view.pieces ≡ pieces_of n p
+  pub next_in : next ≤ pieces_of n p
+  pub last : 0 < next → 0 < times (next - 1) view.claims
+  pub claims : view.claims ≡ numbers done
+  pub each : All (IsDone meaning n p) done
+
+-- what a worker hands back: its pass and, where it was refused no memory, the pieces that it claimed until there was none
+abbrev pub HasWorked : {X E : Type 0} → (ℕ → ℕ → X → Type 0) → ℕ → ℕ → Board → Pass → Result (Vec (Done X) Global) E → Type 0
+HasWorked meaning n p board pass outcome =
+    IsPassOf board pass × IfOk outcome (λ done. HasEnded pass × ((view_of pass).claims ≡ numbers done.items) × All (IsDone meaning n p) done.items)
+
+-- the passes have ended, and the pieces that they claimed were done
+pub record AreGathered {X : Type 0} (meaning : ℕ → ℕ → X → Type 0) (n p : ℕ) (board : Board) (passes : List Pass) (done : List (Done X)) : Type 0 where
+  pub board_of : All (IsPassOf board) passes
+  pub ended : All HasEnded passes
+  pub claims : (number : ℕ) → times number (numbers done) ≡ total (λ view. times number view.claims) (map view_of passes)
+  pub each : All (IsDone meaning n p) done

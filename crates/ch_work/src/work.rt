@@ -1,0 +1,102 @@
+//! What one worker does.
+ghost use Rattle.std.specs.Prelude.{◌≡◌, ◌+◌, ◌*◌, ◌<◌, min, All, IfOk, OnOk};
+ghost use Rattle.ch_work.specs.Claims.{IsDone, HasWorked};
+ghost use Rattle.ch_work.specs.Passes.{view_of, IsPassOf};
+ghost use Rattle.ch_work.specs.Pieces.{pieces_of, AreValues};
+ghost use Rattle.ch_work.specs.Steps.{fresh};
+
+use crate::board::{Board, Pass};
+use crate::done::Done;
+use crate::gate::Gate;
+use crate::job::RoomJob;
+use std::alloc::{AllocError, Global};
+
+/// A job cut into pieces of `piece` items, and the gate that its workers pass.
+#[derive(Drop)]
+pub(crate) struct Work<'a, G, J: RoomJob> {
+    pub(crate) gate: &'a G,
+    pub(crate) job: &'a J,
+    pub(crate) items: u32,
+    pub(crate) piece: u32,
+    ghost size: { items ≡ J.size job.now },
+    ghost some_item: { 0 < piece },
+}
+
+impl<'a, G: Gate, J: RoomJob> Work<'a, G, J> {
+    /// How many pieces cover the items.
+    pub(crate) fn count(&self) -> u32
+        ensures { result ≡ pieces_of self.now.items self.now.piece }
+    {
+        self.items.div_ceil(self.piece)
+    }
+
+    /// The values of all pieces, by one worker.
+    pub(crate) fn values(&self, alloc: Global) -> Result<Vec<J::Out>, AllocError>
+        ensures { IfOk result (λ v. AreValues (J.meaning self.now.job.now) self.now.items self.now.piece 0 (pieces_of self.now.items self.now.piece) v.items) }
+    {
+        let count = self.count();
+        let mut room = self.job.room(alloc)?;
+        let mut values = Vec::with_capacity(alloc, count as usize)?;
+        for number in 0..count {
+            values.push(self.value(alloc, &mut room, number)?)?;
+        }
+        Ok(values)
+    }
+
+    /// What a worker does with its pass, and the pass.
+    pub(crate) fn worked_off(
+        &self,
+        alloc: Global,
+        board: &Board,
+        pass: Pass,
+    ) -> (Pass, Result<Vec<Done<J::Out>>, AllocError>)
+        requires board { IsPassOf board.now pass }
+        requires fresh { view_of pass ≡ fresh (pieces_of self.now.items self.now.piece) 1 }
+        ensures { HasWorked (J.meaning self.now.job.now) self.now.items self.now.piece board.now result.0 result.1 }
+    {
+        let mut pass = pass;
+        let done = self.claimed(alloc, board, &mut pass);
+        (pass, done)
+    }
+
+    /// The pieces that a pass claims, done in the worker's room.
+    fn claimed(
+        &self,
+        alloc: Global,
+        board: &Board,
+        pass: &mut Pass,
+    ) -> Result<Vec<Done<J::Out>>, AllocError>
+        requires board { IsPassOf board.now pass.old }
+        requires fresh { view_of pass.old ≡ fresh (pieces_of self.now.items self.now.piece) 1 }
+        ensures { HasWorked (J.meaning self.now.job.now) self.now.items self.now.piece board.now pass.new result }
+    {
+        let mut room = self.job.room(alloc)?;
+        let mut done = Vec::new(alloc);
+        // The number after the last claim: it rises, so that the claims end.
+        let mut next = 0;
+        while let Some(number) = board.claim(pass) {
+            let value = self.value(alloc, &mut room, number)?;
+            done.push(Done { number, value })?;
+            next = number + 1;
+        }
+        Ok(done)
+    }
+
+    /// The value of the piece of this number, once it has passed the gate.
+    fn value(
+        &self,
+        alloc: Global,
+        room: &mut J::Room,
+        number: u32,
+    ) -> Result<J::Out, AllocError>
+        requires inside { number * self.now.piece < self.now.items }
+        requires clean { J.clean self.now.job.now room.old }
+        ensures value { IfOk result (λ x. J.meaning self.now.job.now (number * self.now.piece) (min (number * self.now.piece + self.now.piece) self.now.items) x) }
+        ensures clean { OnOk result (J.clean self.now.job.now room.new) }
+    {
+        self.gate.pass(number);
+        let from = number * self.piece;
+        let to = from + self.piece.min(self.items - from);
+        self.job.piece(alloc, room, from, to)
+    }
+}
