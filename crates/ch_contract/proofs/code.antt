@@ -1,7 +1,6 @@
 -- What the calls of the code do.
 pub mod Entries
 pub mod Puts
-pub mod Opening
 pub mod Rounds
 pub mod SearchSteps
 pub mod ShortcutLemmas

@@ -6,6 +6,7 @@ pub mod Hierarchy
 pub mod Paths
 pub mod Kept
 pub mod Remaining
+pub mod Links
 pub mod Search
 pub mod ShortcutLists
 pub mod Plain

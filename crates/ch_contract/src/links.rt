@@ -4,7 +4,8 @@ ghost use Rattle.ch_graph.specs.declared.arc.InArc.{InArc};
 ghost use Rattle.ch_contract.specs.Legs.{SameLegs};
 ghost use Rattle.ch_contract.specs.Contraction.{IsPairBefore, contracted, overridden};
 ghost use Rattle.ch_contract.specs.Rows.{AreLegsFrom, AreLegsTo};
-ghost use Rattle.ch_contract.specs.Remaining.{legs_in, ArcsOpen};
+ghost use Rattle.ch_contract.specs.Links.{legs_in};
+ghost use Rattle.ch_contract.specs.Legs.{ArcsOpen};
 
 use crate::leg::Leg;
 use crate::shortcut::Shortcut;
@@ -38,8 +39,8 @@ pub type Links = BTreeMap<(u32, u32), Link>;
 /// Puts the arc in as a leg, if it is lighter than the leg between its ends.
 pub fn put_arc(links: &mut Links, arc: InArc) -> Result<(), AllocError>
     ensures { OnOk result
-        ((arcs : List InArc) → ArcsOpen arcs links.old.entries →
-        ArcsOpen (arcs ++ arc ∷ []) links.new.entries) }
+        ((arcs : List InArc) → ArcsOpen arcs (legs_in links.old.entries) →
+        ArcsOpen (arcs ++ arc ∷ []) (legs_in links.new.entries)) }
 {
     let weight = match links.get(&(arc.from, arc.to)) {
         Some(link) => link.cost.weight.min(arc.weight),

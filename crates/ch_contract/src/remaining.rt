@@ -29,13 +29,14 @@ pub struct Remaining {
 }
 
 impl Model for Remaining {
-    ghost use Rattle.ch_contract.specs.Remaining.{LegMap, IsWithinLimits};
+    ghost use Rattle.ch_contract.specs.Remaining.{RemainingLegs};
+    ghost use Rattle.ch_contract.specs.Links.{IsWithinLimits, rows_in};
 
-    ghost Value = { LegMap };
+    ghost Value = { RemainingLegs };
 
-    ghost view = { λ r. record { nodes = r.nodes; entries = r.links.entries } };
+    ghost view = { λ r. record { nodes = r.nodes; rows = rows_in r.nodes r.links.entries } };
 
-    ghost invariant = { λ r. IsWithinLimits (record { nodes = r.nodes; entries = r.links.entries }) };
+    ghost invariant = { λ r. IsWithinLimits r.nodes r.links.entries };
 }
 
 /// The legs of a contracted node, each list in order of the other node.

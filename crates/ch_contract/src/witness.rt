@@ -2,7 +2,7 @@
 ghost use Rattle.std.specs.Prelude.{◌≡◌, ◌+◌, ◌^◌, ◌<◌, ◌≤◌, length, MatchOption};
 ghost use Rattle.ch_graph.specs.Cost.{IsAtMost, cost_sum};
 ghost use Rattle.ch_contract.specs.Legs.{AreLegsWithin};
-ghost use Rattle.ch_contract.specs.Remaining.{legs_in};
+ghost use Rattle.ch_contract.specs.Links.{legs_in};
 ghost use Rattle.ch_contract.specs.Search.{AreSmall, IsLegOf, IsOnlyLeg, Lowers, Puts};
 
 use crate::links::Links;

@@ -1,6 +1,6 @@
 -- The entries of a map as legs.
-use Rattle.std.proofs.Common.{◌≡◌, ℕ, suc, zero, ◌<◌, ◌≤◌, Bool, true, false, cond, List, [], ◌∷◌, ◌++◌, Option, Some, None, All, Contains, refl, sym, ◌∙◌, ap, subst, arith}
-use Rattle.std.specs.Prelude.{◌==◌, ◌&&◌, if◌then◌else◌, find, option_map, filter_map}
+use Rattle.std.proofs.Common.{◌≡◌, ℕ, suc, zero, ◌<◌, ◌≤◌, Bool, true, false, cond, List, [], ◌∷◌, ◌++◌, Option, Some, None, All, Contains, refl, sym, ◌∙◌, ap, subst, arith, inl, inr}
+use Rattle.std.specs.Prelude.{◌==◌, ◌&&◌, if◌then◌else◌, option_map, filter_map}
 use Rattle.std.specs.List.{cons_option, AllByRecursion}
 use Rattle.std.specs.List.Sorted.{IsStrictlySortedBy}
 use Rattle.std.specs.Map.{lookup, keys_of}
@@ -12,15 +12,19 @@ use Rattle.std.proofs.lemmas.List.Elements.{All-cons, All-nil, All-contains}
 use Rattle.std.proofs.lemmas.List.Kept.{AllPairs-cons}
 use Rattle.std.proofs.lemmas.List.{append-nil}
 use Rattle.std.proofs.lemmas.Option.{same_Some, none-some}
+use Rattle.std.specs.List.{range_with_len}
+use Rattle.std.proofs.lemmas.Bool.{cases_lt}
+use Rattle.std.proofs.lemmas.List.{get_or_past, length-map}
+use Rattle.std.proofs.lemmas.List.FromFn.{get_or-map-range_with_len, length-range_with_len}
+use Rattle.ch_contract.specs.Remaining.{RemainingLegs, legs_of}
+use Rattle.ch_contract.proofs.theory.RowLegs.{none_unless}
 use Rattle.ch_contract.specs.declared.leg.Leg.{Leg}
 use Rattle.ch_contract.specs.declared.links.Link.{Link}
-use Rattle.ch_contract.specs.Legs.{Label}
-use Rattle.ch_contract.specs.Rows.{IsRow, row_leg, label_of, AreLegsFrom, AreLegsTo}
-use Rattle.ch_contract.specs.Remaining.{pair_cmp, legs_in, label_of_link}
-
--- a leg with its two ends
-abbrev pub Entry : Type 0
-Entry = (ℕ × ℕ) × Link
+use Rattle.ch_contract.specs.Legs.{Label, AreLegsWithin}
+use Rattle.ch_contract.proofs.theory.Ordered.{same_ends}
+use Rattle.ch_contract.proofs.theory.RowLegs.{row_leg_cons}
+use Rattle.ch_contract.specs.Rows.{IsRow, row, row_leg, AreLegsFrom, AreLegsTo}
+use Rattle.ch_contract.specs.Links.{Entry, pair_cmp, legs_in, label_of_link, leg_at, leg_from, rows_in}
 
 -- the leg from u to w
 abbrev pub entry : ℕ → ℕ → Link → Entry
@@ -30,34 +34,13 @@ entry u w k = ((u, w), k)
 pub same_pair : (u w a b : ℕ) → is_eq (pair_cmp (u, w) (a, b)) ≡ (a == u && b == w)
 same_pair u w a b = grind (arith, nat_tests)
 
--- what the test of two pairs says
-pub same_ends : (u w a b : ℕ) → (a == u && b == w) ≡ true → (a ≡ u) × (b ≡ w)
-same_ends u w a b e = (grind (arith, nat_tests), grind (arith, nat_tests))
-
 -- what the order of two pairs says
 pub pair_below : (a b u w : ℕ) → pair_cmp (a, b) (u, w) ≡ Less → (a ≤ u) × (u ≤ a → b < w)
 pair_below a b u w e = (grind (arith, nat_tests), λ le. grind (arith, nat_tests))
 
--- the leg as a node has it whose other node is x
-abbrev pub leg_at : ℕ → Link → Leg
-leg_at x k = record { node = x; cost = k.cost; middle = k.middle }
-
--- the entry as a leg from v, if it is one
-abbrev pub leg_from : ℕ → Entry → Option Leg
-leg_from v e = if e.0.0 == v then Some (leg_at e.0.1 e.1) else None
-
 -- the entry as a leg to v, if it is one
 abbrev pub leg_to : ℕ → Entry → Option Leg
 leg_to v e = if e.0.1 == v then Some (leg_at e.0.0 e.1) else None
-
--- a leg in front
-pub row_leg_cons : (l : Leg) (legs : List Leg) (x : ℕ) →
-    row_leg (l ∷ legs) x ≡ (if l.node == x then Some (label_of l) else row_leg legs x)
-row_leg_cons l legs x = at (l.node == x)
-  where
-    at : (b : Bool) → option_map label_of (cond b (Some l) (find (λ k. k.node == x) legs)) ≡ cond b (Some (label_of l)) (row_leg legs x)
-    at true = refl
-    at false = refl
 
 -- an entry in front
 pub legs_in_cons : (e : Entry) (es : List Entry) (u w : ℕ) →
@@ -182,3 +165,20 @@ leg_entry (x ∷ es) u w l e = at (x.0.0 == u && x.0.1 == w) refl (sym (legs_in_
         (legs_in es u w ≡ Some l → (k : Link) × Contains es (entry u w k) × (label_of_link k ≡ l)) → (k : Link) × Contains (x ∷ es) (entry u w k) × (label_of_link k ≡ l)
     at true f g more = let is = same_ends u w x.0.0 x.0.1 f in (x.1, (zero, omega arith, λ i. ((is.0 i, is.1 i), x.1)), same_Some _ _ g)
     at false f g more = let h = more g in (h.0, (suc h.1.0, omega (arith, h.1.1), h.1.2), h.2)
+
+-- the rows of the first n nodes have the legs of the map, where these stay among the nodes
+pub row_in : (n : ℕ) (es : List Entry) (u w : ℕ) → AreLegsWithin n (legs_in es) → row_leg (row (rows_in n es) u) w ≡ legs_in es u w
+row_in n es u w within = elim (cases_lt u n) [
+  | inl lt ↦ ap (λ l. row_leg l w) (get_or-map-range_with_len (λ v. filter_map (leg_from v) es) 0 n u u [] lt (omega arith)) ∙ legs_from_are u w es
+  | inr past ↦
+      let none : row (rows_in n es) u ≡ [] = get_or_past (rows_in n es) u [] (omega (arith, length-map (range_with_len 0 n) (λ (v : ℕ). filter_map (leg_from v) es), length-range_with_len 0 n)) in
+      ap (λ l. row_leg l w) none ∙ sym (none_unless (legs_in es u w) (λ l e. let ends = (within u w l e).ends in omega arith))
+]
+
+-- so a caller sees the legs of the map
+pub seen : (n : ℕ) (es : List Entry) (r : RemainingLegs) → AreLegsWithin n (legs_in es) → record { nodes = n; rows = rows_in n es } ≡ r → legs_in es ≡ legs_of r
+unfolding legs_of
+seen n es r within e = sym (λ i u w. row_in n es u w within i) ∙ ap legs_of e
+
+pub seen_within : (n : ℕ) (es : List Entry) (r : RemainingLegs) → AreLegsWithin n (legs_in es) → record { nodes = n; rows = rows_in n es } ≡ r → AreLegsWithin r.nodes (legs_of r)
+seen_within n es r within e = subst (λ m. AreLegsWithin m (legs_of r)) (ap (λ (m : RemainingLegs). m.nodes) e) (subst (AreLegsWithin n) (seen n es r within e) within)

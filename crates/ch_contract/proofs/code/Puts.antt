@@ -13,8 +13,11 @@ use Rattle.ch_contract.specs.declared.shortcut.Shortcut.{Shortcut}
 use Rattle.ch_contract.specs.Contraction.{IsPairBefore, contracted, overridden, shortcut_label}
 use Rattle.ch_contract.specs.declared.links.Link.{Link}
 use Rattle.ch_contract.specs.Legs.{Label, SameLegs, arc_label, arc_label_of, least_weight, lesser_weight}
-use Rattle.ch_contract.specs.Remaining.{pair_cmp, legs_in, label_of_link, ArcsOpen}
-use Rattle.ch_contract.proofs.code.Entries.{Entry, same_pair, same_ends}
+use Rattle.ch_contract.specs.Links.{pair_cmp, legs_in, label_of_link}
+use Rattle.ch_contract.specs.Legs.{ArcsOpen}
+use Rattle.ch_contract.specs.Links.{Entry}
+use Rattle.ch_contract.proofs.code.Entries.{same_pair}
+use Rattle.ch_contract.proofs.theory.Ordered.{same_ends}
 
 -- two pairs tie where they are equal
 tie : (a b u w : ℕ) → is_eq (pair_cmp (a, b) (u, w)) ≡ (a == u && b == w)
@@ -97,7 +100,7 @@ least_weight_push u w (x ∷ arcs) a = at (x.from == u && x.to == w) (a.from == 
     at false q e = e
 
 -- what is known between the arc's ends, in the code's words
-pub known_weight : (arcs : List InArc) (es : List Entry) (u w x : ℕ) (o : Option Link) → ArcsOpen arcs es →
+pub known_weight : (arcs : List InArc) (es : List Entry) (u w x : ℕ) (o : Option Link) → ArcsOpen arcs (legs_in es) →
     lookup (λ k. is_eq (pair_cmp (u, w) k)) es ≡ o →
     lesser_weight x (least_weight u w arcs) ≡ lesser_weight x (option_map (λ k. k.cost.weight) o)
 known_weight arcs es u w x o opened e = ap (lesser_weight x) (at (least_weight u w arcs) o (sym (opened u w) ∙ ap (option_map label_of_link) e))
@@ -112,9 +115,9 @@ known_weight arcs es u w x o opened e = ap (lesser_weight x) (at (least_weight u
     at (Some y) (Some k) h = ap Some (ap (λ (l : Label). l.cost.weight) (same_Some _ _ h))
 
 -- the lightest arcs, with one more
-pub put_arc_opens : (arcs : List InArc) (a : InArc) (es fs : List Entry) (x : ℕ) → ArcsOpen arcs es →
+pub put_arc_opens : (arcs : List InArc) (a : InArc) (es fs : List Entry) (x : ℕ) → ArcsOpen arcs (legs_in es) →
     x ≡ lesser_weight a.weight (least_weight a.from a.to arcs) →
-    ((u w : ℕ) → legs_in fs u w ≡ (if a.from == u && a.to == w then Some (arc_label x) else legs_in es u w)) → ArcsOpen (arcs ++ a ∷ []) fs
+    ((u w : ℕ) → legs_in fs u w ≡ (if a.from == u && a.to == w then Some (arc_label x) else legs_in es u w)) → ArcsOpen (arcs ++ a ∷ []) (legs_in fs)
 put_arc_opens arcs a es fs x opened is says u w = says u w ∙ at (a.from == u && a.to == w) refl ∙ sym (ap arc_label_of (least_weight_push u w arcs a))
   where
     at : (t : Bool) → (a.from == u && a.to == w) ≡ t →

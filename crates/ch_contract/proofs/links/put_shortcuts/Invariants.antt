@@ -1,6 +1,6 @@
 use Rattle.std.proofs.Common.{◌≡◌, ℕ, take}
 use Rattle.ch_contract.specs.Contraction.{overridden}
-use Rattle.ch_contract.specs.Remaining.{legs_in}
+use Rattle.ch_contract.specs.Links.{legs_in}
 use Rattle.ch_contract.proofs.links.put_shortcuts.Given as goal
 
 abbrev pub invariant-loop-shortcut : goal.invariant-loop-shortcut

@@ -1,6 +1,6 @@
 use Rattle.std.proofs.Common.{◌≡◌, List, ◌++◌}
 use Rattle.ch_contract.specs.Search.{Lowers}
-use Rattle.ch_contract.proofs.code.Entries.{Entry}
+use Rattle.ch_contract.specs.Links.{Entry}
 use Rattle.ch_contract.proofs.code.SearchSteps.{IsAmong}
 use Rattle.ch_contract.proofs.witness.extend.Given as goal
 

@@ -1,5 +1,5 @@
 use Rattle.std.proofs.Common.{◌≡◌, length}
-use Rattle.ch_contract.specs.Remaining.{legs_in}
+use Rattle.ch_contract.specs.Links.{legs_in}
 use Rattle.ch_contract.specs.Search.{AreKnown}
 use Rattle.ch_contract.proofs.remaining.Remaining.has_witness.Given as goal
 
