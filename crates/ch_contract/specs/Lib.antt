@@ -9,7 +9,7 @@ pub mod Remaining
 pub mod Links
 pub mod Search
 pub mod ShortcutLists
-pub mod Plain
+pub mod Reference
 pub mod Examples
 pub mod Laws
 pub mod OneOrder
