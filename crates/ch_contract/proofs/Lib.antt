@@ -29,3 +29,4 @@ pub mod UpAndDown
 pub mod BuiltKept
 pub mod LegWalks
 pub mod KeptWalks
+pub mod code

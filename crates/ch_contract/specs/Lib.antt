@@ -16,3 +16,7 @@ pub mod Priorities
 pub mod Construction
 pub mod Keeping
 pub mod KeptLaws
+pub mod Heads
+pub mod LegLists
+pub mod Meeting
+pub mod Turned
