@@ -8,7 +8,7 @@ use Rattle.ch_contract.specs.declared.search.Wanted.{Wanted}
 use Rattle.ch_contract.specs.declared.search.Step.{Step}
 use Rattle.ch_contract.specs.declared.search.Heads.{Heads}
 use Rattle.ch_contract.specs.Legs.{Label, Legs, IsChain, chain_cost}
-use Rattle.ch_contract.specs.Rows.{row, row_leg}
+use Rattle.ch_contract.specs.Rows.{row}
 
 -- the cost at a node to which no chain is known, which is more than any that is wanted
 abbrev pub never : Cost
@@ -20,10 +20,6 @@ head_in costs x = slice_index_or costs x never
 
 abbrev pub head_at : Heads → ℕ → Cost
 head_at h x = head_in h.costs.items x
-
--- the legs, where the list of each node has those to it
-abbrev pub legs_into : List (List Leg) → Legs
-legs_into lists u x = row_leg (row lists x) u
 
 -- a chain of at most k legs from x to the wanted end costs d, and never touches the avoided node
 pub record IsReached (L : Legs) (s : Wanted) (k x : ℕ) (d : Cost) : Type 0 where

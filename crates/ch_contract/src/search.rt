@@ -133,8 +133,8 @@ pub(crate) struct Search {
 
 impl Search {
     ghost use Rattle.std.specs.Prelude.{ℕ};
-    ghost use Rattle.ch_contract.specs.LegLists.{AreRows};
-    ghost use Rattle.ch_contract.specs.Heads.{AreTouched, IsClean, AreHeads, legs_into};
+    ghost use Rattle.ch_contract.specs.LegLists.{AreRows, legs_into};
+    ghost use Rattle.ch_contract.specs.Heads.{AreTouched, IsClean, AreHeads};
     ghost use Rattle.ch_contract.specs.Meeting.{AreListsWithin, AreSmall, IsLegLight, IsMet, IsMetAt, IsMetBeyond};
 
     /// Room for searches among so many nodes.

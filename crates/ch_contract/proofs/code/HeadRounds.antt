@@ -12,8 +12,8 @@ use Rattle.ch_contract.specs.declared.search.Step.{Step}
 use Rattle.ch_contract.specs.declared.search.Wanted.{Wanted}
 use Rattle.ch_contract.specs.Legs.{Label, Legs, IsChain, chain_cost, leg_cost, AreLegsWithin}
 use Rattle.ch_contract.specs.Rows.{row, label_of}
-use Rattle.ch_contract.specs.LegLists.{AreRows}
-use Rattle.ch_contract.specs.Heads.{never, head_in, head_at, Lowers, IsOnly, IsClean, IsUnderway, IsRoomFor, AreTouched, IsOneMoreOf, step_to, legs_into, IsWanted, AreHeads, IsSpread, AreSteps, IsFront}
+use Rattle.ch_contract.specs.LegLists.{AreRows, legs_into}
+use Rattle.ch_contract.specs.Heads.{never, head_in, head_at, Lowers, IsOnly, IsClean, IsUnderway, IsRoomFor, AreTouched, IsOneMoreOf, step_to, IsWanted, AreHeads, IsSpread, AreSteps, IsFront}
 use Rattle.ch_contract.proofs.RowLegs.{row_has, row_member, leg_at}
 use Rattle.ch_contract.proofs.RowLemmas.{no_leg}
 use Rattle.ch_graph.proofs.CostOrder.{IsAtMost_refl, IsAtMost_trans, IsAtMost-no_cost}

@@ -13,7 +13,7 @@ take-requires c =
     let inside = c.requires.nodes c.loop-leg.leg-index no_leg c.loop-leg-test.true in
     record {
       node = omega (arith, inside, c.loop-leg.invariant.size);
-      rows = c.loop-leg.invariant.rows (get_or c.args.others.now c.loop-leg.leg-index no_leg).node;
+      rows = c.loop-leg.invariant.rows;
     }
 
 pub loop-leg-preserved : goal.loop-leg-preserved
@@ -21,10 +21,8 @@ loop-leg-preserved c =
     let others = c.args.others.now in
     let i = c.loop-leg.leg-index in
     let l = get_or others i no_leg in
-    let inside = c.requires.nodes i no_leg c.loop-leg-test.true in
-    let within : l.node < length c.loop-leg.self = omega (arith, inside, c.loop-leg.invariant.size) in
     subst (λ z. AreTaken c.args.v z c.args.self.now c.take.new.self) (sym (take_more others i no_leg c.loop-leg-test.true))
-    (taken_more c.args.v (take i others) l c.args.self.now c.loop-leg.self c.take.new.self c.loop-leg.invariant within c.take.ensures.lists c.take.ensures.row c.take.ensures.legs)
+    (taken_more c.args.v (take i others) l c.args.self.now c.loop-leg.self c.take.new.self c.loop-leg.invariant c.take.ensures)
 
 pub returns : goal.returns
 returns c =

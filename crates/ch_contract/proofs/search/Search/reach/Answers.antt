@@ -2,7 +2,8 @@ use Rattle.std.proofs.Common.{refl, sym, ◌∙◌, ap, subst, arith, length, Al
 use Rattle.std.specs.Prelude.{◌≡◌, ◌<◌, ◌≤◌}
 use Rattle.ch_contract.specs.declared.search.Step.{Step}
 use Rattle.ch_contract.specs.Rows.{row}
-use Rattle.ch_contract.specs.Heads.{Lowers, IsOneMoreOf, IsRoomFor, AreHeads, legs_into}
+use Rattle.ch_contract.specs.Heads.{Lowers, IsOneMoreOf, IsRoomFor, AreHeads}
+use Rattle.ch_contract.specs.LegLists.{legs_into}
 use Rattle.ch_contract.proofs.code.HeadRounds.{underway_start, underway_next, steps_room}
 use Rattle.ch_contract.proofs.search.Search.reach.Goals as goal
 

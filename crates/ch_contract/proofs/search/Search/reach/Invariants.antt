@@ -1,4 +1,5 @@
-use Rattle.ch_contract.specs.Heads.{IsUnderway, legs_into}
+use Rattle.ch_contract.specs.Heads.{IsUnderway}
+use Rattle.ch_contract.specs.LegLists.{legs_into}
 use Rattle.std.proofs.Common.{length}
 use Rattle.ch_contract.proofs.search.Search.reach.Given as goal
 
