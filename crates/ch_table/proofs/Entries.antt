@@ -12,7 +12,7 @@ use Rattle.ch_graph.specs.Rows.{AreRowsOf, values_of}
 use Rattle.ch_contract.specs.declared.leg.Leg.{Leg}
 use Rattle.ch_contract.specs.Hierarchy.{Levels, nodes_of, AreLegsUp, IsLegUp, IsLevelled}
 use Rattle.ch_contract.specs.Paths.{IsUpwardPath, IsLeastUpwardPath}
-use Rattle.ch_contract.proofs.Ordered.{contains_none}
+use Rattle.ch_contract.proofs.theory.Ordered.{contains_none}
 use Rattle.ch_query.specs.declared.side.Side.{Side}
 use Rattle.ch_query.specs.declared.side.Side.TheVariants.{Up, Down}
 use Rattle.ch_query.specs.Spread.{IsSpread}

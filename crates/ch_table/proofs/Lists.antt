@@ -4,7 +4,7 @@ use Rattle.std.specs.Prelude.{◌⊎◌, AllPairs}
 use Rattle.std.specs.List.{AllZip, filter}
 use Rattle.std.proofs.lemmas.Bool.{false≢true}
 use Rattle.std.proofs.lemmas.List.Elements.{Contains-append_cases}
-use Rattle.ch_contract.proofs.Ordered.{contains_head, contains_tail, contains_cons, contains_none, pairs_tail, pairs_head, pairs_cons}
+use Rattle.ch_contract.proofs.theory.Ordered.{contains_head, contains_tail, contains_cons, contains_none, pairs_tail, pairs_head, pairs_cons}
 
 module _ {X Y : Type 0} (f : X → Y) where
   -- the image of what is in a list is in the list of images

@@ -7,7 +7,7 @@ use Rattle.std.proofs.lemmas.List.Elements.{Contains-push_cases}
 use Rattle.ch_contract.specs.Legs.{Label, Legs}
 use Rattle.ch_contract.specs.Contraction.{IsPairBefore, shortcut_label}
 use Rattle.ch_contract.specs.declared.shortcut.Shortcut.{Shortcut}
-use Rattle.ch_contract.proofs.Puts.{next_shortcut}
+use Rattle.ch_contract.proofs.code.Puts.{next_shortcut}
 use Rattle.ch_contract.specs.LegLists.{AreRows, IsAmong, HaveAll, IsSet, AreTaken, AreOverridden, legs_from, legs_into}
 use Rattle.std.proofs.lemmas.List.{get_or-set_same, get_or-set_other, get_or-map, map-set, length-map, length-set}
 use Rattle.smallvec.specs.SmallVec.{SmallVec}

@@ -1,7 +1,7 @@
 use Rattle.std.proofs.Common.{sym, subst}
 use Rattle.ch_contract.specs.Hierarchy.{IsHierarchy}
-use Rattle.ch_contract.proofs.Underway.{underway_at_start, underway_next, underway_count, underway_at_end, underway_within, underway_levelled}
-use Rattle.ch_contract.proofs.BuiltKept.{hierarchies_kept}
+use Rattle.ch_contract.proofs.code.Underway.{underway_at_start, underway_next, underway_count, underway_at_end, underway_within, underway_levelled}
+use Rattle.ch_contract.proofs.theory.BuiltKept.{hierarchies_kept}
 use Rattle.ch_contract.proofs.construction.build.Goals as goal
 
 pub loop-node-init : goal.loop-node-init

@@ -1,5 +1,5 @@
 use Rattle.std.proofs.Common.{◌-◌}
-use Rattle.ch_contract.proofs.Underway.{IsUnderway}
+use Rattle.ch_contract.proofs.code.Underway.{IsUnderway}
 use Rattle.ch_contract.proofs.construction.build.Given as goal
 
 abbrev pub invariant-loop-node : goal.invariant-loop-node

@@ -1,4 +1,4 @@
-use Rattle.ch_contract.proofs.BuiltKept.{hierarchies_kept}
+use Rattle.ch_contract.proofs.theory.BuiltKept.{hierarchies_kept}
 use Rattle.ch_contract.proofs.keeping.hierarchies_are_kept.Goals as goal
 
 pub returns : goal.returns

@@ -1,4 +1,4 @@
-use Rattle.ch_contract.proofs.KeptWalks.{tight_paths_are_least}
+use Rattle.ch_contract.proofs.theory.KeptWalks.{tight_paths_are_least}
 use Rattle.ch_contract.proofs.kept_laws.kept_hierarchies_are_tight.Goals as goal
 
 pub returns : goal.returns

@@ -1,4 +1,4 @@
-use Rattle.ch_contract.proofs.KeptWalks.{meetings_are_distances}
+use Rattle.ch_contract.proofs.theory.KeptWalks.{meetings_are_distances}
 use Rattle.ch_contract.proofs.kept_laws.kept_hierarchies_give_distances.Goals as goal
 
 pub returns : goal.returns

@@ -1,4 +1,4 @@
-use Rattle.ch_contract.proofs.LegWalks.{leg_walk}
+use Rattle.ch_contract.proofs.theory.LegWalks.{leg_walk}
 use Rattle.ch_contract.proofs.kept_laws.legs_are_walks.Goals as goal
 
 pub returns : goal.returns

@@ -1,4 +1,4 @@
-use Rattle.ch_contract.proofs.PlainSearch.{witness_found, witness_covered}
+use Rattle.ch_contract.proofs.theory.PlainSearch.{witness_found, witness_covered}
 use Rattle.ch_contract.proofs.laws.plain_search.Goals as goal
 
 pub returns : goal.returns

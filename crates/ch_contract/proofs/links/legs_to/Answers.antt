@@ -3,7 +3,7 @@ use Rattle.std.specs.Map.Iter.{deref_pair}
 use Rattle.std.proofs.lemmas.Map.Iter.{rest_all}
 use Rattle.ch_contract.specs.Remaining.{legs_in}
 use Rattle.ch_contract.specs.Rows.{AreLegsTo}
-use Rattle.ch_contract.proofs.Entries.{leg_to, legs_to_row, listed}
+use Rattle.ch_contract.proofs.code.Entries.{leg_to, legs_to_row, listed}
 use Rattle.ch_contract.proofs.links.legs_to.Goals as goal
 
 pub returns : goal.returns

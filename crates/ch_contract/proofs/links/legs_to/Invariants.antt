@@ -1,6 +1,6 @@
 use Rattle.std.proofs.Common.{◌≡◌, ◌++◌}
 use Rattle.std.specs.Prelude.{filter_map}
-use Rattle.ch_contract.proofs.Entries.{leg_to}
+use Rattle.ch_contract.proofs.code.Entries.{leg_to}
 use Rattle.ch_contract.proofs.links.legs_to.Given as goal
 
 -- what is listed, and the legs of the entries that are left

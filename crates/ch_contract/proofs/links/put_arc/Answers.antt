@@ -1,6 +1,6 @@
 use Rattle.std.proofs.Common.{◌≡◌, sym, ◌∙◌, arith}
 use Rattle.ch_contract.specs.Legs.{lesser_weight, least_weight}
-use Rattle.ch_contract.proofs.Puts.{put_arc_opens, put_leg, known_weight}
+use Rattle.ch_contract.proofs.code.Puts.{put_arc_opens, put_leg, known_weight}
 use Rattle.ch_contract.proofs.links.put_arc.Goals.{in-Some, in-None}
 use Rattle.ch_contract.proofs.links.put_arc.Goals as goal
 

@@ -1,5 +1,5 @@
 use Rattle.std.proofs.Common.{◌∙◌}
-use Rattle.ch_contract.proofs.Puts.{put_leg, next_shortcut}
+use Rattle.ch_contract.proofs.code.Puts.{put_leg, next_shortcut}
 use Rattle.ch_contract.proofs.links.put_shortcuts.Goals as goal
 
 pub loop-shortcut-preserved : goal.loop-shortcut-preserved

@@ -1,7 +1,7 @@
 use Rattle.std.proofs.Common.{rules}
 use Rattle.std.specs.Prelude.{◌==◌, ◌&&◌, not}
 use Rattle.std.proofs.lemmas.Map.Made.{filter_same_pairs}
-use Rattle.ch_contract.proofs.Puts.{without_touching}
+use Rattle.ch_contract.proofs.code.Puts.{without_touching}
 use Rattle.ch_contract.proofs.links.remove_touching.Goals as goal
 
 pub returns : goal.returns

@@ -1,5 +1,5 @@
 use Rattle.ch_contract.proofs.code.RowEdits.{row_from}
-use Rattle.ch_contract.proofs.RowLemmas.{no_leg}
+use Rattle.ch_contract.proofs.theory.RowLemmas.{no_leg}
 use Rattle.ch_contract.proofs.lists.place_of.Goals as goal
 
 pub returns-then-leg-node-clause-after : goal.returns-then-leg-node-clause-after

@@ -1,7 +1,7 @@
 use Rattle.std.proofs.Common.{◌≡◌, ◌<◌, ◌≤◌, ℕ, List, length, get_or, subst, arith}
 use Rattle.std.specs.Prelude.{◌≢◌}
 use Rattle.ch_contract.specs.declared.leg.Leg.{Leg}
-use Rattle.ch_contract.proofs.RowLemmas.{no_leg}
+use Rattle.ch_contract.proofs.theory.RowLemmas.{no_leg}
 use Rattle.ch_contract.proofs.code.RowEdits.{taken, not_there}
 use Rattle.ch_contract.proofs.lists.take_leg.Goals.{else-place-len-via-then-place-len+else-as_slice-place, else-place-len-via-else-place-len}
 use Rattle.ch_contract.proofs.lists.take_leg.Goals as goal

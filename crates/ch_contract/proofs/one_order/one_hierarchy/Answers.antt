@@ -1,4 +1,4 @@
-use Rattle.ch_contract.proofs.OneOrder.{one_hierarchy}
+use Rattle.ch_contract.proofs.theory.OneOrder.{one_hierarchy}
 use Rattle.ch_contract.proofs.one_order.one_hierarchy.Goals as goal
 
 pub returns : goal.returns

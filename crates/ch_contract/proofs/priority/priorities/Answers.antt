@@ -5,7 +5,7 @@ use Rattle.std.proofs.lemmas.List.FromFn.{length-range_with_len}
 use Rattle.std.proofs.lemmas.Result.{IfOk-weaker}
 use Rattle.ch_contract.specs.Priorities.{ArePrioritiesOf}
 use Rattle.ch_contract.specs.Remaining.{legs_of}
-use Rattle.ch_contract.proofs.KeptPriorities.{numbers_below, priorities_in_order}
+use Rattle.ch_contract.proofs.code.KeptPriorities.{numbers_below, priorities_in_order}
 use Rattle.ch_contract.proofs.priority.priorities.Goals as goal
 
 pub invariant_of-job : goal.invariant_of-job

@@ -2,8 +2,8 @@ use Rattle.std.proofs.Common.{length, ◌∷◌, ◌++◌, sym, ◌∙◌, ap, a
 use Rattle.std.specs.Map.Iter.{deref_pair}
 use Rattle.std.proofs.lemmas.List.{append_assoc}
 use Rattle.std.proofs.lemmas.Map.Iter.{rest_more, rest_all}
-use Rattle.ch_contract.proofs.Entries.{Entry}
-use Rattle.ch_contract.proofs.SearchSteps.{lowers_none, lowers_more, lowers_all, next_within}
+use Rattle.ch_contract.proofs.code.Entries.{Entry}
+use Rattle.ch_contract.proofs.code.SearchSteps.{lowers_none, lowers_more, lowers_all, next_within}
 use Rattle.ch_contract.proofs.witness.extend.Goals as goal
 
 pub relax-requires : goal.relax-requires

@@ -1,7 +1,7 @@
 use Rattle.std.proofs.Common.{◌≡◌, List, ◌++◌}
 use Rattle.ch_contract.specs.Search.{Lowers}
-use Rattle.ch_contract.proofs.Entries.{Entry}
-use Rattle.ch_contract.proofs.SearchSteps.{IsAmong}
+use Rattle.ch_contract.proofs.code.Entries.{Entry}
+use Rattle.ch_contract.proofs.code.SearchSteps.{IsAmong}
 use Rattle.ch_contract.proofs.witness.extend.Given as goal
 
 -- the entries that were taken have lowered the known costs

@@ -2,7 +2,7 @@ use Rattle.std.proofs.Common.{sym, ◌∙◌, subst, arith}
 use Rattle.std.proofs.lemmas.Bool.Decides.{nat_tests}
 use Rattle.std.proofs.lemmas.Option.{same_Some, none-some}
 use Rattle.ch_graph.specs.Cost.{IsAtMost}
-use Rattle.ch_contract.proofs.SearchSteps.{puts_new}
+use Rattle.ch_contract.proofs.code.SearchSteps.{puts_new}
 use Rattle.ch_contract.proofs.witness.lower.Goals.{in-Some+else-le, in_default}
 use Rattle.ch_contract.proofs.witness.lower.Goals as goal
 

@@ -6,7 +6,7 @@ use Rattle.ch_contract.specs.declared.construction.Construction.{Construction}
 use Rattle.ch_contract.specs.declared.leg.Leg.{Leg}
 use Rattle.ch_contract.specs.Legs.{Legs}
 use Rattle.ch_contract.specs.Priorities.{AreRefreshed, neighbours_in}
-use Rattle.ch_contract.proofs.ConstructionCalls.{stepped, neighbours_within, neighbours_count}
+use Rattle.ch_contract.proofs.code.ConstructionCalls.{stepped, neighbours_within, neighbours_count}
 use Rattle.ch_contract.proofs.construction.Construction.contract.Goals as goal
 
 -- the neighbours, as they are lent, are those of the rows

@@ -1,5 +1,5 @@
 use Rattle.std.proofs.Common.{refl, ◌∙◌, ap, replicate}
-use Rattle.ch_contract.proofs.ConstructionCalls.{opened}
+use Rattle.ch_contract.proofs.code.ConstructionCalls.{opened}
 use Rattle.ch_contract.proofs.construction.Construction.open.Goals as goal
 
 pub returns : goal.returns

@@ -1,7 +1,7 @@
 use Rattle.std.proofs.Common.{◌≤◌, ◌<◌, length, get_or, take, subst, sym, arith}
 use Rattle.std.proofs.lemmas.List.{take_more, take_all}
 use Rattle.ch_contract.specs.LegLists.{AreTaken}
-use Rattle.ch_contract.proofs.RowLemmas.{no_leg}
+use Rattle.ch_contract.proofs.theory.RowLemmas.{no_leg}
 use Rattle.ch_contract.proofs.code.ListEdits.{taken_none, taken_more, taken_all}
 use Rattle.ch_contract.proofs.lists.LegLists.take_from.Goals as goal
 

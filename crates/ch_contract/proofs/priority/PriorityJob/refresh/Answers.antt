@@ -6,7 +6,7 @@ use Rattle.std.proofs.lemmas.List.{take_all}
 use Rattle.ch_contract.specs.Priorities.{AreRefreshed}
 use Rattle.ch_contract.specs.Remaining.{legs_of}
 use Rattle.ch_contract.specs.Contraction.{IsPriority}
-use Rattle.ch_contract.proofs.KeptPriorities.{refreshed_more, zipped_at}
+use Rattle.ch_contract.proofs.code.KeptPriorities.{refreshed_more, zipped_at}
 use Rattle.ch_contract.proofs.priority.PriorityJob.refresh.Goals as goal
 
 pub loop-node-preserved : goal.loop-node-preserved

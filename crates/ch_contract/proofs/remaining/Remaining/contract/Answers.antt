@@ -1,8 +1,8 @@
 use Rattle.std.proofs.Common.{◌≡◌, ℕ, sym, ◌∙◌, ap, subst}
 use Rattle.ch_contract.specs.Contraction.{AreShortcuts, contracted, overridden}
 use Rattle.ch_contract.specs.Remaining.{LegMap, legs_of, legs_in}
-use Rattle.ch_contract.proofs.Opening.{same_within}
-use Rattle.ch_contract.proofs.Contracting.{after, contracted_within}
+use Rattle.ch_contract.proofs.code.Opening.{same_within}
+use Rattle.ch_contract.proofs.theory.Contracting.{after, contracted_within}
 use Rattle.ch_contract.proofs.remaining.Remaining.contract.Goals as goal
 
 pub invariant_of-remaining : goal.invariant_of-remaining

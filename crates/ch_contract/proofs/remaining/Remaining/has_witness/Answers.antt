@@ -6,7 +6,7 @@ use Rattle.ch_contract.specs.Legs.{HasWitness}
 use Rattle.ch_contract.specs.declared.witness.Wanted.{Wanted}
 use Rattle.ch_contract.specs.Remaining.{LegMap, legs_of, legs_in}
 use Rattle.ch_contract.specs.Search.{AreSmall, AreKnown, known_at, Lowers, IsLegOf}
-use Rattle.ch_contract.proofs.Rounds.{known_start, known_next, known_small, known_witness, written}
+use Rattle.ch_contract.proofs.code.Rounds.{known_start, known_next, known_small, known_witness, written}
 use Rattle.ch_contract.proofs.remaining.Remaining.has_witness.Goals as goal
 
 pub loop-round-init : goal.loop-round-init

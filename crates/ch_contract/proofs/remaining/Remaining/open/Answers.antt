@@ -1,8 +1,8 @@
 use Rattle.std.proofs.Common.{◌≤◌, ◌^◌, sym, subst}
 use Rattle.ch_contract.specs.Legs.{AreLegsWithin}
 use Rattle.ch_contract.specs.Remaining.{legs_of, legs_in}
-use Rattle.ch_contract.proofs.Opening.{opens, same_within}
-use Rattle.ch_contract.proofs.OpeningLegs.{opening_within}
+use Rattle.ch_contract.proofs.code.Opening.{opens, same_within}
+use Rattle.ch_contract.proofs.theory.OpeningLegs.{opening_within}
 use Rattle.ch_contract.proofs.remaining.Remaining.open.Goals as goal
 
 pub invariant_of-result : goal.invariant_of-result

@@ -1,7 +1,7 @@
 use Rattle.std.proofs.Common.{take}
 use Rattle.std.specs.Prelude.{filter}
 use Rattle.ch_contract.specs.Remaining.{ArcsOpen}
-use Rattle.ch_contract.proofs.Opening.{joins}
+use Rattle.ch_contract.proofs.code.Opening.{joins}
 use Rattle.ch_contract.proofs.remaining.Remaining.open.Given as goal
 
 abbrev pub invariant-loop-arc : goal.invariant-loop-arc

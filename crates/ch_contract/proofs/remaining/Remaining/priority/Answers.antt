@@ -1,7 +1,7 @@
 use Rattle.std.proofs.Common.{arith}
 use Rattle.std.proofs.lemmas.Int.{ints}
 use Rattle.ch_contract.specs.Remaining.{legs_of}
-use Rattle.ch_contract.proofs.Counts.{rows_touching}
+use Rattle.ch_contract.proofs.theory.Counts.{rows_touching}
 use Rattle.ch_contract.proofs.remaining.Remaining.priority.Goals as goal
 
 pub returns : goal.returns

@@ -1,8 +1,8 @@
 use Rattle.std.proofs.Common.{◌+◌, get_or, sym, ◌∙◌, ap, subst}
 use Rattle.ch_contract.specs.Remaining.{legs_of}
 use Rattle.ch_contract.specs.ShortcutLists.{AreShortcutsBefore}
-use Rattle.ch_contract.proofs.RowLemmas.{leg_from_at, no_leg}
-use Rattle.ch_contract.proofs.ShortcutLemmas.{boundary_next, before_next_up, before_end_up, before_push, before_skip}
+use Rattle.ch_contract.proofs.theory.RowLemmas.{leg_from_at, no_leg}
+use Rattle.ch_contract.proofs.code.ShortcutLemmas.{boundary_next, before_next_up, before_end_up, before_push, before_skip}
 use Rattle.ch_contract.proofs.remaining.Remaining.push_shortcuts.Goals.{in-Some+in_ok-push, in_default}
 use Rattle.ch_contract.proofs.remaining.Remaining.push_shortcuts.Goals as goal
 

@@ -1,8 +1,8 @@
 use Rattle.std.proofs.Common.{◌+◌, get_or, sym, subst}
 use Rattle.ch_contract.specs.Rows.{AreLegsTo}
 use Rattle.ch_contract.specs.Remaining.{legs_of}
-use Rattle.ch_contract.proofs.RowLemmas.{leg_to_at, no_leg}
-use Rattle.ch_contract.proofs.ShortcutLemmas.{boundary_next, before_next_down, before_end_down}
+use Rattle.ch_contract.proofs.theory.RowLemmas.{leg_to_at, no_leg}
+use Rattle.ch_contract.proofs.code.ShortcutLemmas.{boundary_next, before_next_down, before_end_down}
 use Rattle.ch_contract.proofs.remaining.Remaining.shortcuts.Goals as goal
 
 pub push_shortcuts-requires-clause-first : goal.push_shortcuts-requires-clause-first

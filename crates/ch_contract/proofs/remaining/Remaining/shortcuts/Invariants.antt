@@ -1,7 +1,7 @@
 use Rattle.std.proofs.Common.{ℕ}
 use Rattle.ch_contract.specs.Remaining.{legs_of}
 use Rattle.ch_contract.specs.ShortcutLists.{AreShortcutsBefore}
-use Rattle.ch_contract.proofs.ShortcutLemmas.{IsBoundary}
+use Rattle.ch_contract.proofs.code.ShortcutLemmas.{IsBoundary}
 use Rattle.ch_contract.proofs.remaining.Remaining.shortcuts.Given as goal
 
 -- the list has the shortcuts before some boundary between the legs that were taken and the others

@@ -2,7 +2,7 @@ use Rattle.std.proofs.Common.{◌≡◌, sym, subst, take, get_or, ◌∷◌, �
 use Rattle.std.proofs.lemmas.List.{take_more}
 use Rattle.ch_graph.specs.Cost.{IsAtMost}
 use Rattle.ch_contract.specs.Heads.{Lowers, IsOneMore, IsOnly}
-use Rattle.ch_contract.proofs.RowLemmas.{no_leg}
+use Rattle.ch_contract.proofs.theory.RowLemmas.{no_leg}
 use Rattle.ch_contract.proofs.code.Lowering.{one_leg_more, one_leg_less}
 use Rattle.ch_contract.proofs.search.Heads.spread.Goals.{then-is_at_most+then-leg-wanted+in_ok-lower, else-is_at_most, else-is_at_most-via-then-is_at_most+else-leg-wanted, else-is_at_most-via-else-is_at_most}
 use Rattle.ch_contract.proofs.search.Heads.spread.Goals as goal

@@ -1,7 +1,7 @@
 use Rattle.std.proofs.Common.{sym, ◌∙◌, ap, subst, arith, length, ◌≡◌, ◌≤◌, true, Contains, inl, inr}
 use Rattle.ch_contract.specs.declared.leg.Leg.{Leg}
 use Rattle.ch_contract.specs.Meeting.{IsMetAt}
-use Rattle.ch_contract.proofs.RowLemmas.{no_leg}
+use Rattle.ch_contract.proofs.theory.RowLemmas.{no_leg}
 use Rattle.ch_contract.proofs.code.Meetings.{all_taken, one_more_taken}
 use Rattle.ch_contract.proofs.search.Search.meets.Goals.{else-leg-avoided-via-then-leg-avoided+else-meets_at, else-leg-avoided-via-else-leg-avoided}
 use Rattle.ch_contract.proofs.search.Search.meets.Goals as goal

@@ -4,7 +4,7 @@ use Rattle.ch_graph.specs.Cost.{IsAtMost, cost_sum}
 use Rattle.ch_graph.proofs.CostOrder.{IsAtMost_trans}
 use Rattle.ch_contract.specs.declared.leg.Leg.{Leg}
 use Rattle.ch_contract.specs.Heads.{head_at, never}
-use Rattle.ch_contract.proofs.RowLemmas.{no_leg}
+use Rattle.ch_contract.proofs.theory.RowLemmas.{no_leg}
 use Rattle.ch_contract.proofs.code.Meetings.{all_taken, one_more_taken}
 use Rattle.ch_contract.proofs.search.Search.meets_beyond.Goals.{else-is_at_most-via-then-is_at_most+else-is_at_most-2, else-is_at_most-via-else-is_at_most}
 use Rattle.ch_contract.proofs.search.Search.meets_beyond.Goals as goal

@@ -8,8 +8,8 @@ use Rattle.ch_contract.specs.Legs.{Legs}
 use Rattle.ch_contract.specs.Rows.{row, IsRow}
 use Rattle.ch_contract.specs.Hierarchy.{Levels, IsLevelled, IsLegUp, AreLegsUp, nodes_of}
 use Rattle.ch_graph.specs.Graph.{Network}
-use Rattle.ch_contract.proofs.KeptCosts.{IsAfter}
-use Rattle.ch_contract.proofs.BuiltLegs.{IsBuilt, step_of, up_step_leg, down_step_leg}
+use Rattle.ch_contract.proofs.theory.KeptCosts.{IsAfter}
+use Rattle.ch_contract.proofs.theory.BuiltLegs.{IsBuilt, step_of, up_step_leg, down_step_leg}
 
 module _ {g : Network} {h : ℕ} {H : Levels} {order : List ℕ} {L : ℕ → Legs} (built : IsBuilt g h H order L) where
   -- a node that is left after step i is higher than the node of step i

@@ -18,9 +18,9 @@ use Rattle.ch_contract.specs.Hierarchy.{Levels}
 use Rattle.ch_contract.specs.Paths.{IsUpwardPath, path_cost, IsUp, IsDown, IsMeeting, NeverMeets}
 use Rattle.ch_contract.specs.Kept.{IsLeg, IsKept}
 use Rattle.ch_contract.specs.KeptLaws.{HasWalks, IsLeastMeeting, MeetingsAreDistances, IsTightUp, IsTightDown, TightPathsAreLeast}
-use Rattle.ch_contract.proofs.LegPaths.{IsHighPath, HasHighPath, path_cost-cons}
-use Rattle.ch_contract.proofs.MeetingPaths.{HasMeetingPaths, meeting_paths_within, matched}
-use Rattle.ch_contract.proofs.LegWalks.{rises, falls}
+use Rattle.ch_contract.proofs.theory.LegPaths.{IsHighPath, HasHighPath, path_cost-cons}
+use Rattle.ch_contract.proofs.theory.MeetingPaths.{HasMeetingPaths, meeting_paths_within, matched}
+use Rattle.ch_contract.proofs.theory.LegWalks.{rises, falls}
 
 module _ (g : Network) (H : Levels) (limits : IsWithinLimits g) (kept : IsKept g H) where
   -- each walk has a path of legs of no greater cost: a leg for each arc that is no loop

@@ -13,7 +13,7 @@ use Rattle.ch_contract.specs.Legs.{Label, Legs, IsChain, chain_cost, leg_cost, A
 use Rattle.ch_contract.specs.Search.{known_at, Covers, IsReached, AreKnown, IsLegOf, IsOneMore, Lowers, AreSmall}
 use Rattle.ch_graph.proofs.CostOrder.{IsAtMost_refl, IsAtMost_trans, IsAtMost-no_cost}
 use Rattle.ch_graph.proofs.CostSums.{IsAtMost-cost_sum}
-use Rattle.ch_contract.proofs.PlainSearch.{some_of, nonempty}
+use Rattle.ch_contract.proofs.theory.PlainSearch.{some_of, nonempty}
 
 -- nothing is known at first but the empty chain
 pub known_start : (n : ℕ) (L : Legs) (s : Wanted) (known : List (Option Cost)) → s.end < n →

@@ -14,7 +14,7 @@ use Rattle.ch_contract.specs.Contraction.{IsPairBefore, contracted, overridden, 
 use Rattle.ch_contract.specs.declared.links.Link.{Link}
 use Rattle.ch_contract.specs.Legs.{Label, SameLegs, arc_label, arc_label_of, least_weight, lesser_weight}
 use Rattle.ch_contract.specs.Remaining.{pair_cmp, legs_in, label_of_link, ArcsOpen}
-use Rattle.ch_contract.proofs.Entries.{Entry, same_pair, same_ends}
+use Rattle.ch_contract.proofs.code.Entries.{Entry, same_pair, same_ends}
 
 -- two pairs tie where they are equal
 tie : (a b u w : ℕ) → is_eq (pair_cmp (a, b) (u, w)) ≡ (a == u && b == w)

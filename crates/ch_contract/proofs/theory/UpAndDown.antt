@@ -15,14 +15,14 @@ use Rattle.ch_contract.specs.Legs.{Label, Legs, IsChain, chain_cost}
 use Rattle.ch_contract.specs.Rows.{row}
 use Rattle.ch_contract.specs.Hierarchy.{Levels}
 use Rattle.ch_contract.specs.Paths.{IsUpwardPath, path_cost, IsUp, IsDown, IsMeeting}
-use Rattle.ch_contract.proofs.PlainSearch.{some_of}
-use Rattle.ch_contract.proofs.RowLegs.{leg_at}
-use Rattle.ch_contract.proofs.LegPaths.{path_cost-cons, rises_along, falls_along}
-use Rattle.ch_contract.proofs.MeetingPaths.{HasMeetingPaths}
-use Rattle.ch_contract.proofs.Chains.{chain_cost-cons, chain_cost-one}
-use Rattle.ch_contract.proofs.StepLegs.{step_leg}
-use Rattle.ch_contract.proofs.KeptCosts.{IsAfter, IsChainCost, chain_walk, least_chain}
-use Rattle.ch_contract.proofs.BuiltLegs.{IsBuilt, contraction, step_of, up_leg, down_leg, up_walk, down_walk}
+use Rattle.ch_contract.proofs.theory.PlainSearch.{some_of}
+use Rattle.ch_contract.proofs.theory.RowLegs.{leg_at}
+use Rattle.ch_contract.proofs.theory.LegPaths.{path_cost-cons, rises_along, falls_along}
+use Rattle.ch_contract.proofs.theory.MeetingPaths.{HasMeetingPaths}
+use Rattle.ch_contract.proofs.theory.Chains.{chain_cost-cons, chain_cost-one}
+use Rattle.ch_contract.proofs.theory.StepLegs.{step_leg}
+use Rattle.ch_contract.proofs.theory.KeptCosts.{IsAfter, IsChainCost, chain_walk, least_chain}
+use Rattle.ch_contract.proofs.theory.BuiltLegs.{IsBuilt, contraction, step_of, up_leg, down_leg, up_walk, down_walk}
 
 -- the empty paths meet where they begin
 stays : (H : Levels) (s : ℕ) (c : Cost) → HasMeetingPaths H s s c

@@ -12,8 +12,8 @@ use Rattle.ch_contract.specs.Contraction.{IsPairBefore, AreShortcuts, contracted
 use Rattle.ch_contract.specs.Order.{are_neighbours, IsLastTouch, IsPriorityAfter, IsOrder}
 use Rattle.ch_contract.specs.Rows.{row, AreLegsFrom, AreLegsTo}
 use Rattle.ch_contract.specs.Hierarchy.{Levels, IsHierarchyOf, IsHierarchy}
-use Rattle.ch_contract.proofs.Ordered.{ordered_same, every_number}
-use Rattle.ch_contract.proofs.RowLegs.{one_row}
+use Rattle.ch_contract.proofs.theory.Ordered.{ordered_same, every_number}
+use Rattle.ch_contract.proofs.theory.RowLegs.{one_row}
 
 -- legs that are the same at each pair are one map
 pub one_map : (L M : Legs) → SameLegs L M → L ≡ M

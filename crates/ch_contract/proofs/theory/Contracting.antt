@@ -7,7 +7,7 @@ use Rattle.ch_contract.specs.declared.shortcut.Shortcut.{Shortcut}
 use Rattle.ch_contract.specs.Legs.{Label, Legs, SameLegs, AreLegsWithin, IsLegWithin}
 use Rattle.ch_contract.specs.Contraction.{IsShortcut, AreShortcuts, shortcut_label, overridden, contracted}
 use Rattle.ch_contract.specs.Remaining.{legs_in}
-use Rattle.ch_contract.proofs.Entries.{Entry, same_ends}
+use Rattle.ch_contract.proofs.code.Entries.{Entry, same_ends}
 
 -- one of the shortcuts stands between the two nodes
 abbrev pub IsOverridden : ℕ → List Shortcut → ℕ → ℕ → Option Label → Type 0

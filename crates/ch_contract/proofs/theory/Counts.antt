@@ -6,11 +6,11 @@ use Rattle.ch_contract.specs.declared.leg.Leg.{Leg}
 use Rattle.ch_contract.specs.Legs.{Label, Legs, AreLegsWithin}
 use Rattle.ch_contract.specs.Contraction.{count_below, touching}
 use Rattle.ch_contract.specs.Rows.{IsRow, row_leg, AreLegsFrom, AreLegsTo}
-use Rattle.ch_contract.proofs.PlainSearch.{not_eqb, eqb-refl}
-use Rattle.ch_contract.proofs.Entries.{row_leg_cons}
-use Rattle.ch_contract.proofs.Ordered.{pairs_tail, pairs_head}
-use Rattle.ch_contract.proofs.RowLegs.{row_member, leg_at}
-use Rattle.ch_contract.proofs.RowLemmas.{leg_from_at, leg_to_at}
+use Rattle.ch_contract.proofs.theory.PlainSearch.{not_eqb, eqb-refl}
+use Rattle.ch_contract.proofs.code.Entries.{row_leg_cons}
+use Rattle.ch_contract.proofs.theory.Ordered.{pairs_tail, pairs_head}
+use Rattle.ch_contract.proofs.theory.RowLegs.{row_member, leg_at}
+use Rattle.ch_contract.proofs.theory.RowLemmas.{leg_from_at, leg_to_at}
 
 -- 1 where the test passes
 abbrev one_if : Bool → ℕ

@@ -12,7 +12,7 @@ use Rattle.ch_contract.specs.Rows.{row}
 use Rattle.ch_contract.specs.Hierarchy.{Levels}
 use Rattle.ch_contract.specs.Paths.{IsUpwardPath, path_cost}
 use Rattle.ch_contract.specs.Kept.{IsKept, IsLeg, IsFounded}
-use Rattle.ch_contract.proofs.LegPaths.{up_leg, down_leg, rises_along, falls_along}
+use Rattle.ch_contract.proofs.theory.LegPaths.{up_leg, down_leg, rises_along, falls_along}
 
 module _ (g : Network) (H : Levels) (kept : IsKept g H) where
   -- the legs of the nodes below level n are walks

@@ -13,7 +13,7 @@ use Rattle.ch_contract.specs.declared.leg.Leg.{Leg}
 use Rattle.ch_contract.specs.Hierarchy.{Levels, nodes_of}
 use Rattle.ch_contract.specs.Paths.{IsUpwardPath, path_cost}
 use Rattle.ch_contract.specs.Kept.{IsKept}
-use Rattle.ch_contract.proofs.LegPaths.{IsHighPath, HasHighPath, high_start, high_end, high_append, last_leg, meeting_high, Rises, Falls, rises_or_falls, path_cost-cons, path_cost-append}
+use Rattle.ch_contract.proofs.theory.LegPaths.{IsHighPath, HasHighPath, high_start, high_end, high_append, last_leg, meeting_high, Rises, Falls, rises_or_falls, path_cost-cons, path_cost-append}
 
 -- an upward path from s and one from t that meet, and cost at most c together
 pub record HasMeetingPaths (H : Levels) (s t : ℕ) (c : Cost) : Type 0 where

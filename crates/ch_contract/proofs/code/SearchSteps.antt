@@ -10,7 +10,7 @@ use Rattle.ch_contract.specs.declared.witness.Wanted.{Wanted}
 use Rattle.ch_contract.specs.Legs.{Label, AreLegsWithin, IsLegWithin}
 use Rattle.ch_contract.specs.Search.{known_at, Covers, IsLegOf, IsOnlyLeg, IsOneMore, Lowers, Puts}
 use Rattle.ch_contract.specs.Remaining.{legs_in, label_of_link}
-use Rattle.ch_contract.proofs.Entries.{Entry, entry, AreEntries, entry_leg, leg_entry}
+use Rattle.ch_contract.proofs.code.Entries.{Entry, entry, AreEntries, entry_leg, leg_entry}
 use Rattle.ch_graph.proofs.CostOrder.{IsAtMost_refl, IsAtMost_trans}
 
 -- a cost that is less than what is known is put in

@@ -17,15 +17,15 @@ use Rattle.ch_contract.specs.Hierarchy.{Levels}
 use Rattle.ch_contract.specs.Paths.{IsMeeting}
 use Rattle.ch_contract.specs.Kept.{IsLeg, IsFounded, IsKept}
 use Rattle.ch_contract.specs.Keeping.{IsLeft, ContractionKeepsLeastCosts, HierarchiesAreKept}
-use Rattle.ch_contract.proofs.RowLegs.{leg_at}
-use Rattle.ch_contract.proofs.Chains.{HasLeg}
-use Rattle.ch_contract.proofs.OpeningLegs.{opening_covers}
-use Rattle.ch_contract.proofs.OneContraction.{leg_kept}
-use Rattle.ch_contract.proofs.StepLegs.{IsMade, IsContraction, step_leg, step_at}
-use Rattle.ch_contract.proofs.KeptCosts.{IsAfter, chain_walk, least_chain}
-use Rattle.ch_contract.proofs.BuiltLegs.{IsBuilt, contraction, step_of, after_earlier, up_leg, down_leg, up_step, down_step, up_step_leg, down_step_leg}
-use Rattle.ch_contract.proofs.BuiltLevels.{built_levelled}
-use Rattle.ch_contract.proofs.UpAndDown.{up_and_down}
+use Rattle.ch_contract.proofs.theory.RowLegs.{leg_at}
+use Rattle.ch_contract.proofs.theory.Chains.{HasLeg}
+use Rattle.ch_contract.proofs.theory.OpeningLegs.{opening_covers}
+use Rattle.ch_contract.proofs.theory.OneContraction.{leg_kept}
+use Rattle.ch_contract.proofs.theory.StepLegs.{IsMade, IsContraction, step_leg, step_at}
+use Rattle.ch_contract.proofs.theory.KeptCosts.{IsAfter, chain_walk, least_chain}
+use Rattle.ch_contract.proofs.theory.BuiltLegs.{IsBuilt, contraction, step_of, after_earlier, up_leg, down_leg, up_step, down_step, up_step_leg, down_step_leg}
+use Rattle.ch_contract.proofs.theory.BuiltLevels.{built_levelled}
+use Rattle.ch_contract.proofs.theory.UpAndDown.{up_and_down}
 
 -- going up and down costs no more than c
 abbrev MeetsWithin : Levels → ℕ → ℕ → Cost → Type 0

@@ -14,9 +14,9 @@ use Rattle.ch_contract.specs.Rows.{AreLegsFrom, AreLegsTo}
 use Rattle.ch_contract.specs.Remaining.{legs_of}
 use Rattle.ch_contract.specs.Priorities.{ArePriorities, AreRefreshed, has_node, neighbours_in, priority_at}
 use Rattle.ch_contract.specs.Construction.{levels_of, IsSized, IsOpen, IsStep}
-use Rattle.ch_contract.proofs.OneOrder.{one_map}
-use Rattle.ch_contract.proofs.Counts.{rows_touching}
-use Rattle.ch_contract.proofs.Neighbours.{neighbour_listed, not_listed, neighbour_within}
+use Rattle.ch_contract.proofs.theory.OneOrder.{one_map}
+use Rattle.ch_contract.proofs.theory.Counts.{rows_touching}
+use Rattle.ch_contract.proofs.code.Neighbours.{neighbour_listed, not_listed, neighbour_within}
 
 -- where each level is 0, all nodes are left
 all_left : (levels : List ℕ) (n : ℕ) → levels ≡ replicate n 0 → (x : ℕ) → slice_index levels x ≡ 0

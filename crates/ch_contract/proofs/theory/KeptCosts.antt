@@ -12,11 +12,11 @@ use Rattle.ch_graph.proofs.CostSums.{cost_sum_comm, IsAtMost-cost_sum_self}
 use Rattle.ch_graph.proofs.WalkCosts.{cost_of-cons, IsWalkCost-no_cost, IsWalkCost-cost_sum, IsLeast-again}
 use Rattle.ch_graph.proofs.SimpleWalks.{IsLeast-arcs, IsLeast-weight}
 use Rattle.ch_contract.specs.Legs.{Legs, SameLegs, IsChain, chain_cost, opening}
-use Rattle.ch_contract.proofs.PlainSearch.{some_of}
-use Rattle.ch_contract.proofs.Chains.{HasChain, IsLight, no_chain, leg_then_chain, chain_at_most, chain_cost-cons}
-use Rattle.ch_contract.proofs.OpeningLegs.{opening_covers}
-use Rattle.ch_contract.proofs.OneContraction.{chain_stays}
-use Rattle.ch_contract.proofs.StepLegs.{IsContraction, step_leg, step_at}
+use Rattle.ch_contract.proofs.theory.PlainSearch.{some_of}
+use Rattle.ch_contract.proofs.theory.Chains.{HasChain, IsLight, no_chain, leg_then_chain, chain_at_most, chain_cost-cons}
+use Rattle.ch_contract.proofs.theory.OpeningLegs.{opening_covers}
+use Rattle.ch_contract.proofs.theory.OneContraction.{chain_stays}
+use Rattle.ch_contract.proofs.theory.StepLegs.{IsContraction, step_leg, step_at}
 
 -- x is none of the first i nodes of the order
 abbrev pub IsAfter : List ℕ → ℕ → ℕ → Type 0

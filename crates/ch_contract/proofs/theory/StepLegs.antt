@@ -9,9 +9,9 @@ use Rattle.ch_graph.specs.WalkLaws.{IsWalkCost}
 use Rattle.ch_graph.proofs.WalkCosts.{IsWalkCost-arc, IsWalkCost-cost_sum}
 use Rattle.ch_contract.specs.Legs.{Label, Legs, SameLegs, IsLegWithin, IsHopBound, opening}
 use Rattle.ch_contract.specs.Contraction.{Contracts}
-use Rattle.ch_contract.proofs.Chains.{IsLight}
-use Rattle.ch_contract.proofs.OpeningLegs.{arc, opening_leg, opening_within}
-use Rattle.ch_contract.proofs.OneContraction.{IsOneContraction, old_or_shortcut, untouched}
+use Rattle.ch_contract.proofs.theory.Chains.{IsLight}
+use Rattle.ch_contract.proofs.theory.OpeningLegs.{arc, opening_leg, opening_within}
+use Rattle.ch_contract.proofs.theory.OneContraction.{IsOneContraction, old_or_shortcut, untouched}
 
 -- a leg is an arc, or the sum of two legs that its middle had just before it was contracted, within the first i steps
 abbrev pub IsMade : Network → List ℕ → (ℕ → Legs) → ℕ → ℕ → ℕ → Cost → Option ℕ → Type 0

@@ -7,7 +7,7 @@ use Rattle.ch_graph.specs.declared.arc.InArc.{InArc}
 use Rattle.ch_graph.specs.Graph.{Network}
 use Rattle.ch_contract.specs.Legs.{Legs, AreLegsWithin, SameLegs, opening, arc_label_of, least_weight, lesser_weight}
 use Rattle.ch_contract.specs.Remaining.{legs_in, ArcsOpen}
-use Rattle.ch_contract.proofs.Entries.{Entry, same_ends}
+use Rattle.ch_contract.proofs.code.Entries.{Entry, same_ends}
 
 -- the arc leads to another node
 abbrev pub joins : InArc → Bool

@@ -13,9 +13,9 @@ use Rattle.ch_contract.specs.Legs.{Label, Legs, AreLegsWithin, opening}
 use Rattle.ch_contract.specs.Contraction.{shortcut_label, overridden, contracted, Contracts}
 use Rattle.ch_contract.specs.Rows.{row, IsRow, label_of}
 use Rattle.ch_contract.specs.Hierarchy.{Levels, IsLegUp, AreLegsUp, IsLevelled, IsHierarchyOf}
-use Rattle.ch_contract.proofs.Contracting.{override_cases, contracted_within}
-use Rattle.ch_contract.proofs.OneOrder.{taken_at, one_map}
-use Rattle.ch_contract.proofs.RowLegs.{row_has}
+use Rattle.ch_contract.proofs.theory.Contracting.{override_cases, contracted_within}
+use Rattle.ch_contract.proofs.theory.OneOrder.{taken_at, one_map}
+use Rattle.ch_contract.proofs.theory.RowLegs.{row_has}
 
 -- a leg after shortcuts are put in was there before, or is the leg of a shortcut
 abbrev IsMade : ℕ → List Shortcut → ℕ → ℕ → Label → Type 0

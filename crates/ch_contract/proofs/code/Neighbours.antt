@@ -8,8 +8,8 @@ use Rattle.ch_contract.specs.Legs.{Label, Legs, AreLegsWithin}
 use Rattle.ch_contract.specs.Order.{are_neighbours}
 use Rattle.ch_contract.specs.Rows.{AreLegsFrom, AreLegsTo, label_of, row_leg}
 use Rattle.ch_contract.specs.Priorities.{has_node, neighbours_in}
-use Rattle.ch_contract.proofs.Ordered.{contains_head, contains_tail, contains_cons, contains_none}
-use Rattle.ch_contract.proofs.RowLegs.{leg_at, row_has, row_member}
+use Rattle.ch_contract.proofs.theory.Ordered.{contains_head, contains_tail, contains_cons, contains_none}
+use Rattle.ch_contract.proofs.theory.RowLegs.{leg_at, row_has, row_member}
 
 -- what is in a list has its value among the values
 contains_map : {X Y : Type 0} (f : X → Y) (xs : List X) (x : X) → Contains xs x → Contains (map f xs) (f x)

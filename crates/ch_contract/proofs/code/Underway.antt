@@ -16,9 +16,9 @@ use Rattle.ch_contract.specs.Hierarchy.{IsLevelled, IsHierarchyOf, IsHierarchy}
 use Rattle.ch_contract.specs.Remaining.{legs_of}
 use Rattle.ch_contract.specs.Priorities.{priority_at, NoneIsLeft, IsNext}
 use Rattle.ch_contract.specs.Construction.{levels_of, IsSized, IsOpen, IsStep}
-use Rattle.ch_contract.proofs.Ordered.{contains_or_not, distinct_most, whole_least, pairs_push}
-use Rattle.ch_contract.proofs.Levelled.{within_steps, levelled}
-use Rattle.ch_contract.proofs.OneOrder.{Agree, one_map, priority_along}
+use Rattle.ch_contract.proofs.theory.Ordered.{contains_or_not, distinct_most, whole_least, pairs_push}
+use Rattle.ch_contract.proofs.theory.Levelled.{within_steps, levelled}
+use Rattle.ch_contract.proofs.theory.OneOrder.{Agree, one_map, priority_along}
 
 -- the nodes of this list were contracted in order, with the legs L i left after the first i steps
 pub record IsBegun (g : Network) (h : ℕ) (order : List ℕ) (L : ℕ → Legs) : Type 0 where

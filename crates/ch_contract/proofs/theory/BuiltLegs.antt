@@ -8,10 +8,10 @@ use Rattle.ch_contract.specs.declared.leg.Leg.{Leg}
 use Rattle.ch_contract.specs.Legs.{Label, Legs, IsHopBound}
 use Rattle.ch_contract.specs.Rows.{row, label_of}
 use Rattle.ch_contract.specs.Hierarchy.{Levels, IsHierarchyOf}
-use Rattle.ch_contract.proofs.Ordered.{contains_none, every_number}
-use Rattle.ch_contract.proofs.RowLegs.{leg_at, row_has, row_member}
-use Rattle.ch_contract.proofs.StepLegs.{IsContraction, IsStepLeg, step_leg}
-use Rattle.ch_contract.proofs.KeptCosts.{IsAfter}
+use Rattle.ch_contract.proofs.theory.Ordered.{contains_none, every_number}
+use Rattle.ch_contract.proofs.theory.RowLegs.{leg_at, row_has, row_member}
+use Rattle.ch_contract.proofs.theory.StepLegs.{IsContraction, IsStepLeg, step_leg}
+use Rattle.ch_contract.proofs.theory.KeptCosts.{IsAfter}
 
 -- the hierarchy of a graph within the limits
 pub record IsBuilt (g : Network) (h : ℕ) (H : Levels) (order : List ℕ) (L : ℕ → Legs) : Type 0 where
