@@ -6,6 +6,7 @@ pub mod Counts
 pub mod Chains
 pub mod Contracting
 pub mod OneContraction
+pub mod Opening
 pub mod OpeningLegs
 pub mod StepLegs
 pub mod KeptCosts

@@ -6,8 +6,8 @@ pub mod Hierarchy
 pub mod Paths
 pub mod Kept
 pub mod Remaining
-pub mod Search
 pub mod ShortcutLists
+pub mod Lines
 pub mod Plain
 pub mod Examples
 pub mod Laws

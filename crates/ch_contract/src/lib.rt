@@ -14,7 +14,6 @@ pub mod keeping;
 pub mod kept_laws;
 pub mod laws;
 mod leg;
-mod links;
 mod lists;
 pub mod one_order;
 mod order;
@@ -22,7 +21,6 @@ mod priority;
 mod remaining;
 mod search;
 mod shortcut;
-mod witness;
 pub mod worked;
 
 pub use construction::build;

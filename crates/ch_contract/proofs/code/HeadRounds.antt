@@ -16,12 +16,9 @@ use Rattle.ch_contract.specs.LegLists.{AreRows, legs_into}
 use Rattle.ch_contract.specs.Heads.{never, head_in, head_at, Lowers, IsOnly, IsClean, IsUnderway, IsRoomFor, AreTouched, IsOneMoreOf, step_to, IsWanted, AreHeads, IsSpread, AreSteps, IsFront}
 use Rattle.ch_contract.proofs.theory.RowLegs.{row_has, row_member, leg_at}
 use Rattle.ch_contract.proofs.theory.RowLemmas.{no_leg}
+use Rattle.ch_contract.proofs.theory.PlainSearch.{some_of}
 use Rattle.ch_graph.proofs.CostOrder.{IsAtMost_refl, IsAtMost_trans, IsAtMost-no_cost}
 use Rattle.ch_graph.proofs.CostSums.{IsAtMost-cost_sum}
-
-pub some_of : {A : Type 0} (o : Option A) → IsSome o → (x : A) × (o ≡ Some x)
-some_of (Some x) _ = (x, refl)
-some_of None h = cc
 
 -- a chain of at most k legs is one of at most k + 1 legs
 pub wanted_more : (L : Legs) (s : Wanted) (k x : ℕ) (d : Cost) → IsWanted L s k x d → IsWanted L s (k + 1) x d
@@ -191,7 +188,7 @@ underway_next lists n s k before mid new rows costs touched none u low =
     }
 
 -- a chain stands for fewer than n arcs a leg
-pub chain_arcs : (n : ℕ) (L : Legs) (u w : ℕ) (xs : List ℕ) → AreLegsWithin n L → IsChain L u w xs → (chain_cost L u xs).arcs ≤ length xs * n
+chain_arcs : (n : ℕ) (L : Legs) (u w : ℕ) (xs : List ℕ) → AreLegsWithin n L → IsChain L u w xs → (chain_cost L u xs).arcs ≤ length xs * n
 chain_arcs n L u w [] limits chain = omega arith
 chain_arcs n L u w (x ∷ xs) limits chain =
     let l = some_of (L u x) chain.0 in
@@ -203,6 +200,12 @@ chain_arcs n L u w (x ∷ xs) limits chain =
 -- 16 legs of fewer than 2 ^ 25 arcs
 product : (k n : ℕ) → k ≤ 16 → n ≤ 2 ^ 25 → k * n ≤ 2 ^ 60
 product k n h m = omega (arith, mul-le-mul_right {m = k} {n = 16} n h)
+
+-- so a chain of at most 16 legs stands for few arcs
+pub chain_small : (n : ℕ) (L : Legs) (u w : ℕ) (xs : List ℕ) → AreLegsWithin n L → n ≤ 2 ^ 25 → length xs ≤ 16 → IsChain L u w xs → (chain_cost L u xs).arcs ≤ 2 ^ 60
+chain_small n L u w xs limits small few chain =
+    let arcs = chain_arcs n L u w xs limits chain in
+    let bound = product (length xs) n few small in omega arith
 
 -- a wanted chain is among the n nodes, and its cost is small
 pub wanted_small : (n : ℕ) (L : Legs) (s : Wanted) (k x : ℕ) (d : Cost) → AreLegsWithin n L → n ≤ 2 ^ 25 → k ≤ 16 → s.end < n → s.most.weight ≤ 2 ^ 60 →
@@ -219,9 +222,7 @@ wanted_small n L s k x d limits small few inside most w = (node w.0.nodes w.0.ch
     arcs : d.arcs ≤ 2 ^ 60
     arcs =
         let short = w.0.short in
-        let is = chain_arcs n L x s.end w.0.nodes limits w.0.chain in
-        let bound = product (length w.0.nodes) n (omega arith) small in
-        subst (λ z. z.arcs ≤ 2 ^ 60) w.0.cost (omega arith)
+        subst (λ z. z.arcs ≤ 2 ^ 60) w.0.cost (chain_small n L x s.end w.0.nodes limits small (omega arith) w.0.chain)
 
 -- so there is room for one leg more in front of each step
 pub steps_room : (lists : List (List Leg)) (n : ℕ) (s : Wanted) (k : ℕ) (front : List Step) → AreRows lists → AreLegsWithin n (legs_into lists) → n ≤ 2 ^ 25 → k ≤ 16 →

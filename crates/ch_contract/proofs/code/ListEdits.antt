@@ -134,6 +134,13 @@ overridden_more read v xs i d old mid new lt ordered so_far size rows legs = rec
   legs = λ u w. legs u w ∙ next_shortcut v xs i d u w (read mid u w) (read old u w) lt ordered (so_far.legs u w);
 }
 
+-- two tests in either order
+pub turn : {A : Type 0} (p q : Bool) (a b : A) → (if p && q then a else b) ≡ (if q && p then a else b)
+turn true true a b = refl
+turn true false a b = refl
+turn false true a b = refl
+turn false false a b = refl
+
 -- in the list of its first node
 pub overridden_from : (v : ℕ) (xs : List Shortcut) (i : ℕ) (d : Shortcut) (old mid new : List (List Leg)) → i < length xs →
     AllPairs IsPairBefore xs → AreOverridden legs_from v (take i xs) old mid →
@@ -147,12 +154,6 @@ pub overridden_into : (v : ℕ) (xs : List Shortcut) (i : ℕ) (d : Shortcut) (o
 overridden_into v xs i d old mid new lt ordered so_far s =
     overridden_more legs_into v xs i d old mid new lt ordered so_far s.size s.rows
     (λ u w. s.legs w u ∙ turn ((get_or xs i d).to == w) ((get_or xs i d).from == u) (Some (shortcut_label v (get_or xs i d))) (legs_into mid u w))
-  where
-    turn : (p q : Bool) (a b : Option Label) → (if p && q then a else b) ≡ (if q && p then a else b)
-    turn true true a b = refl
-    turn true false a b = refl
-    turn false true a b = refl
-    turn false false a b = refl
 
 -- what stands past the end of a list of shortcuts
 abbrev pub no_shortcut : Shortcut

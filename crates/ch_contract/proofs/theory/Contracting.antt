@@ -6,8 +6,7 @@ use Rattle.std.proofs.lemmas.Option.{same_Some, none-some}
 use Rattle.ch_contract.specs.declared.shortcut.Shortcut.{Shortcut}
 use Rattle.ch_contract.specs.Legs.{Label, Legs, SameLegs, AreLegsWithin, IsLegWithin}
 use Rattle.ch_contract.specs.Contraction.{IsShortcut, AreShortcuts, shortcut_label, overridden, contracted}
-use Rattle.ch_contract.specs.Remaining.{legs_in}
-use Rattle.ch_contract.proofs.code.Entries.{Entry, same_ends}
+use Rattle.ch_contract.proofs.theory.Ordered.{same_ends}
 
 -- one of the shortcuts stands between the two nodes
 abbrev pub IsOverridden : ℕ → List Shortcut → ℕ → ℕ → Option Label → Type 0
@@ -60,8 +59,7 @@ module _ (n h : ℕ) (L : Legs) (v : ℕ) (list : List Shortcut) (limits : AreLe
         | inr s ↦ subst (IsLegWithin n u w) (same_Some _ _ (sym s.4 ∙ f)) (subst (λ z. IsLegWithin n z w (shortcut_label v s.0)) s.2 (subst (λ z. IsLegWithin n s.0.from z (shortcut_label v s.0)) s.3 (shortcut_within s.0 (are.sound s.0 s.1))))
       ]
 
--- what removal and the shortcuts put in leave, in a map of entries
-pub after : (n h v : ℕ) (es removed fs : List Entry) (list : List Shortcut) → AreLegsWithin n (legs_in es) →
-    AreShortcuts n h (legs_in es) v list →
-    SameLegs (legs_in removed) (contracted (legs_in es) v []) → ((u w : ℕ) → legs_in fs u w ≡ overridden v list u w (legs_in removed u w)) → SameLegs (legs_in fs) (contracted (legs_in es) v list)
-after n h v es removed fs list limits are gone put u w = put u w ∙ ap (overridden v list u w) (gone u w) ∙ put_over n h (legs_in es) v list limits are u w
+-- what removal and the shortcuts put in leave
+pub after : (n h v : ℕ) (L removed M : Legs) (list : List Shortcut) → AreLegsWithin n L → AreShortcuts n h L v list →
+    SameLegs removed (contracted L v []) → ((u w : ℕ) → M u w ≡ overridden v list u w (removed u w)) → SameLegs M (contracted L v list)
+after n h v L removed M list limits are gone put u w = put u w ∙ ap (overridden v list u w) (gone u w) ∙ put_over n h L v list limits are u w

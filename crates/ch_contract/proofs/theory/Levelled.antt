@@ -15,7 +15,7 @@ use Rattle.ch_contract.specs.Rows.{row, IsRow, label_of}
 use Rattle.ch_contract.specs.Hierarchy.{Levels, IsLegUp, AreLegsUp, IsLevelled, IsHierarchyOf}
 use Rattle.ch_contract.proofs.theory.Contracting.{override_cases, contracted_within}
 use Rattle.ch_contract.proofs.theory.OneOrder.{taken_at, one_map}
-use Rattle.ch_contract.proofs.theory.RowLegs.{row_has}
+use Rattle.ch_contract.proofs.theory.RowLegs.{none_unless, row_has}
 
 -- a leg after shortcuts are put in was there before, or is the leg of a shortcut
 abbrev IsMade : ℕ → List Shortcut → ℕ → ℕ → Label → Type 0
@@ -39,11 +39,6 @@ within_more n h L v M within step u w l e = contracted_within n h L v step.0 wit
 -- no leg touches z
 abbrev pub IsGone : Legs → ℕ → Type 0
 IsGone L z = (x : ℕ) → (L z x ≡ None) × (L x z ≡ None)
-
--- what has no value is none
-none_unless : {A : Type 0} (o : Option A) → ((x : A) → o ≡ Some x → ⊥) → o ≡ None
-none_unless None f = refl
-none_unless (Some x) f = absurd (f x refl)
 
 -- no leg touches a contracted node
 gone_next : (n h : ℕ) (L : Legs) (v : ℕ) (M : Legs) → Contracts n h L v M → IsGone M v

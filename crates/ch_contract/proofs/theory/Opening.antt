@@ -5,9 +5,8 @@ use Rattle.std.proofs.lemmas.Bool.{eqb-true, eqb-false}
 use Rattle.std.proofs.lemmas.List.{take_all}
 use Rattle.ch_graph.specs.declared.arc.InArc.{InArc}
 use Rattle.ch_graph.specs.Graph.{Network}
-use Rattle.ch_contract.specs.Legs.{Legs, AreLegsWithin, SameLegs, opening, arc_label_of, least_weight, lesser_weight}
-use Rattle.ch_contract.specs.Remaining.{legs_in, ArcsOpen}
-use Rattle.ch_contract.proofs.code.Entries.{Entry, same_ends}
+use Rattle.ch_contract.specs.Legs.{Legs, AreLegsWithin, SameLegs, ArcsOpen, opening, arc_label_of, least_weight, lesser_weight}
+use Rattle.ch_contract.proofs.theory.Ordered.{same_ends}
 
 -- the arc leads to another node
 abbrev pub joins : InArc → Bool
@@ -48,9 +47,9 @@ without_loops u w (a ∷ arcs) = at (a.from == a.to) (a.from == u && a.to == w) 
         kept false s f g more = more
 
 -- where all arcs are put in, the opening legs stand
-pub opens : (g : Network) (es : List Entry) (arcs : List InArc) (i : ℕ) → arcs ≡ g.arcs → length arcs ≤ i →
-    ArcsOpen (filter joins (take i arcs)) es → SameLegs (legs_in es) (opening g)
-opens g es arcs i same all opened u w =
+pub opens : (g : Network) (L : Legs) (arcs : List InArc) (i : ℕ) → arcs ≡ g.arcs → length arcs ≤ i →
+    ArcsOpen (filter joins (take i arcs)) L → SameLegs L (opening g)
+opens g L arcs i same all opened u w =
     opened u w ∙ ap (λ l. arc_label_of (least_weight u w (filter joins l))) (take_all i arcs all ∙ same) ∙ ap arc_label_of (without_loops u w g.arcs) ∙ at (u == w)
   where
     at : (b : Bool) → arc_label_of (cond b None (least_weight u w g.arcs)) ≡ cond b None (arc_label_of (least_weight u w g.arcs))
