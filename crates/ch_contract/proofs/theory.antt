@@ -20,4 +20,4 @@ pub mod LegWalks
 pub mod KeptWalks
 pub mod OneOrder
 pub mod Levelled
-pub mod PlainSearch
+pub mod ReferenceSearch

@@ -8,7 +8,7 @@ pub mod Kept
 pub mod Remaining
 pub mod ShortcutLists
 pub mod Lines
-pub mod Plain
+pub mod Reference
 pub mod Examples
 pub mod Laws
 pub mod OneOrder

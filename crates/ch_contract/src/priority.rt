@@ -81,7 +81,6 @@ impl PriorityJob<'_> {
         ensures { IfOk result (λ list. ArePrioritiesOf self.now.remaining.now.nodes self.now.hops
             (legs_of self.now.remaining.now) self.now.nodes.now list.items) }
     {
-        // Gives that a piece has an item.
         // The getter tells the proof that a piece has an item.
         let _ = plan.piece();
         let count = self.nodes.len() as u32;

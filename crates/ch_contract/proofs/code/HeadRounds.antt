@@ -16,7 +16,7 @@ use Rattle.ch_contract.specs.LegLists.{AreRows, legs_into}
 use Rattle.ch_contract.specs.Heads.{never, head_in, head_at, Lowers, IsOnly, IsClean, IsUnderway, IsRoomFor, AreTouched, IsOneMoreOf, step_to, IsWanted, AreHeads, IsSpread, AreSteps, IsFront}
 use Rattle.ch_contract.proofs.theory.RowLegs.{row_has, row_member, leg_at}
 use Rattle.ch_contract.proofs.theory.RowLemmas.{no_leg}
-use Rattle.ch_contract.proofs.theory.PlainSearch.{some_of}
+use Rattle.ch_contract.proofs.theory.ReferenceSearch.{some_of}
 use Rattle.ch_graph.proofs.CostOrder.{IsAtMost_refl, IsAtMost_trans, IsAtMost-no_cost}
 use Rattle.ch_graph.proofs.CostSums.{IsAtMost-cost_sum}
 

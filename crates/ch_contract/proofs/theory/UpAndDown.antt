@@ -15,7 +15,7 @@ use Rattle.ch_contract.specs.Legs.{Label, Legs, IsChain, chain_cost}
 use Rattle.ch_contract.specs.Rows.{row}
 use Rattle.ch_contract.specs.Hierarchy.{Levels}
 use Rattle.ch_contract.specs.Paths.{IsUpwardPath, path_cost, IsUp, IsDown, IsMeeting}
-use Rattle.ch_contract.proofs.theory.PlainSearch.{some_of}
+use Rattle.ch_contract.proofs.theory.ReferenceSearch.{some_of}
 use Rattle.ch_contract.proofs.theory.RowLegs.{leg_at}
 use Rattle.ch_contract.proofs.theory.LegPaths.{path_cost-cons, rises_along, falls_along}
 use Rattle.ch_contract.proofs.theory.MeetingPaths.{HasMeetingPaths}

@@ -1,4 +1,4 @@
--- The plain search finds exactly the witnesses.
+-- The search of the reference program finds exactly the witnesses.
 use Rattle.std.proofs.Common.{◌≡◌, ℕ, suc, zero, ◌<◌, ◌≤◌, Bool, true, false, cond, eqb, List, [], ◌∷◌, length, Option, Some, None, refl, sym, ◌∙◌, ap, subst, arith, inl, inr}
 use Rattle.std.specs.Prelude.{◌⊎◌, ◌≢◌, ◌==◌, IsSome}
 use Rattle.std.specs.List.{AllByRecursion}
@@ -8,7 +8,7 @@ use Rattle.std.proofs.lemmas.Option.{same_Some, none-some}
 use Rattle.ch_graph.specs.declared.cost.Cost.{Cost}
 use Rattle.ch_graph.specs.Cost.{IsAtMost, cost_sum, no_cost}
 use Rattle.ch_contract.specs.Legs.{Label, Legs, IsChain, chain_cost, leg_cost, HasWitness}
-use Rattle.ch_contract.specs.Plain.{cheapest, cheapest_below, cheaper, is_at_most, plus_cost, costs_at_most, has_witness}
+use Rattle.ch_contract.specs.Reference.{cheapest, cheapest_below, cheaper, is_at_most, plus_cost, costs_at_most, has_witness}
 use Rattle.ch_contract.specs.Laws.{LeadsWithin}
 use Rattle.ch_graph.proofs.CostOrder.{IsAtMost_refl, IsAtMost_trans, IsAtMost-no_cost}
 use Rattle.ch_graph.proofs.CostSums.{IsAtMost-cost_sum}

@@ -212,6 +212,24 @@ fn a_detour_at_two_legs_and_at_three(rt: HostRuntime) -> Result<(), Fail> {
     expect(&rt, rt.alloc(), 3, &example)
 }
 
+/// From node 1 to node 3 two arcs weigh as much as three: nothing.
+#[test]
+fn fewer_arcs_at_the_same_weight(rt: HostRuntime) -> Result<(), Fail> {
+    let example = Example {
+        nodes: 5,
+        arcs: &[(1, 5, 0), (5, 3, 0), (1, 2, 0), (2, 4, 0), (4, 3, 0)],
+        order: &[1, 3, 2, 4, 5],
+        legs: &[
+            (1, 2, 0, 1, 0),
+            (1, 5, 0, 1, 0),
+            (4, 3, 0, 1, 0),
+            (5, 3, 0, 1, 0),
+            (2, 4, 0, 1, 0),
+        ],
+    };
+    expect(&rt, rt.alloc(), 5, &example)
+}
+
 #[test]
 fn a_ring(rt: HostRuntime) -> Result<(), Fail> {
     let example = Example {

@@ -1,7 +1,7 @@
-//! The definitions computed on small graphs by the plain program beside them.
+//! The definitions computed on small graphs by the reference program.
 ghost use Rattle.std.specs.Prelude.{◌≡◌, [], ◌∷◌, pos, negsuc, map, length, Some, None, true, false};
 ghost use Rattle.ch_contract.specs.Legs.{opening};
-ghost use Rattle.ch_contract.specs.Plain.{has_witness, shortcuts_of, priority_of, order_of, hierarchy_of, meet_of};
+ghost use Rattle.ch_contract.specs.Reference.{has_witness, shortcuts_of, priority_of, order_of, hierarchy_of, meet_of};
 ghost use Rattle.ch_contract.specs.Examples as examples;
 ghost use Rattle.ch_contract.specs.Examples.{cost, leg, leg_through};
 

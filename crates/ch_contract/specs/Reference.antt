@@ -1,4 +1,4 @@
--- A plain program beside the definitions, which computes them on small graphs.
+-- The reference program: the definitions computed on small graphs.
 use Rattle.std.specs.Prelude.{ℕ, zero, suc, ◌+◌, ◌^◌, ◌==◌, ◌&&◌, ◌||◌, not, nat_lt, nat_le, filter_map, option_map, find, Bool, true, false, if◌then◌else◌, List, [], ◌∷◌, length, map, flat_map, filter, unwrap_or, Option, Some, None, ℤ, pos, ◌-ℤ◌, int_lt}
 use Rattle.std.specs.List.{range_with_len}
 use Rattle.std.specs.Option.{option_and_then}
