@@ -6,9 +6,8 @@ pub mod Hierarchy
 pub mod Paths
 pub mod Kept
 pub mod Remaining
-pub mod Links
-pub mod Search
 pub mod ShortcutLists
+pub mod Lines
 pub mod Reference
 pub mod Examples
 pub mod Laws
@@ -18,3 +17,7 @@ pub mod Progress
 pub mod Construction
 pub mod Keeping
 pub mod KeptLaws
+pub mod Heads
+pub mod LegLists
+pub mod Meeting
+pub mod Turned

@@ -12,12 +12,12 @@ mod construction;
 mod hierarchy;
 pub mod laws;
 mod leg;
-mod links;
+mod lists;
 mod order;
 mod priority;
 mod remaining;
+mod search;
 mod shortcut;
-mod witness;
 
 pub use construction::build;
 pub use hierarchy::Hierarchy;

@@ -1,5 +1,9 @@
-use Rattle.ch_contract.proofs.code.Entries.{seen_within}
+use Rattle.std.proofs.Common.{subst}
+use Rattle.ch_contract.specs.Legs.{AreLegsWithin}
+use Rattle.ch_contract.specs.Remaining.{legs_of}
+use Rattle.ch_contract.specs.LegLists.{legs_from}
 use Rattle.ch_contract.proofs.remaining.Remaining.nodes.Goals as goal
 
 pub returns-clause-limits : goal.returns-clause-limits
-returns-clause-limits c = seen_within _ _ _ c.self.invariant.legs c.self.view_is
+unfolding legs_of
+returns-clause-limits c = subst (λ m. AreLegsWithin m.nodes (legs_from m.rows)) c.self.view_is c.self.invariant.legs
