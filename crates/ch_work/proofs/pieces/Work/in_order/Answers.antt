@@ -1,13 +1,14 @@
 use Rattle.std.proofs.Common.{rules, ℕ, ◌≡◌, ◌∷◌, [], ◌++◌, ◌+◌, arith, length, length-append, IfOk}
 use Rattle.ch_work.specs.Pieces.{pieces_of, share_start, IsShare}
 use Rattle.ch_work.proofs.Values.{values-append, item_has, next_split, next_done}
-use Rattle.ch_work.proofs.pieces.in_order.Goals as goal
+use Rattle.ch_work.proofs.pieces.Work.in_order.Goals as goal
 
 pub loop-share-preserved : goal.loop-share-preserved
 loop-share-preserved g c =
-    let meaning = g.J.Job.meaning c.args.job.now in
-    let items = c.args.items in
-    let piece = c.args.piece in
+    let work = c.args.self.now in
+    let meaning = g.J.RoomJob.meaning work.job.now in
+    let items = work.items in
+    let piece = work.piece in
     let workers = c.args.workers in
     let shares = c.args.shares.items in
     let start : ℕ → ℕ = share_start (pieces_of items piece) workers in
