@@ -1,4 +1,4 @@
-use Rattle.std.proofs.Common.{◌≤◌, ◌<◌, length, get_or, take, subst, sym, arith}
+use Rattle.std.proofs.Common.{◌≤◌, length, get_or, take, subst, sym, arith}
 use Rattle.std.proofs.lemmas.List.{take_more, take_all}
 use Rattle.ch_contract.specs.LegLists.{AreTaken}
 use Rattle.ch_contract.proofs.theory.RowLemmas.{no_leg}

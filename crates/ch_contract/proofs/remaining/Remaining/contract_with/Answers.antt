@@ -1,8 +1,8 @@
-use Rattle.std.proofs.Common.{◌≡◌, ◌<◌, ◌≤◌, ℕ, length, List, All, sym, ◌∙◌, ap, subst, arith}
+use Rattle.std.proofs.Common.{◌<◌, length, List, All, sym, ◌∙◌, ap, subst}
 use Rattle.std.proofs.lemmas.List.{length-set}
 use Rattle.ch_contract.specs.declared.leg.Leg.{Leg}
 use Rattle.ch_contract.specs.declared.shortcut.Shortcut.{Shortcut}
-use Rattle.ch_contract.specs.Legs.{Legs, SameLegs}
+use Rattle.ch_contract.specs.Legs.{SameLegs}
 use Rattle.ch_contract.specs.Contraction.{AreShortcuts, contracted}
 use Rattle.ch_contract.specs.Rows.{AreLegsFrom, AreLegsTo}
 use Rattle.ch_contract.specs.LegLists.{HaveAll, legs_from}

@@ -1,4 +1,3 @@
-use Rattle.std.proofs.Common.{arith}
 use Rattle.ch_contract.specs.Remaining.{legs_of}
 use Rattle.ch_contract.proofs.code.Lines.{capped_witness}
 use Rattle.ch_contract.proofs.remaining.Remaining.has_witness.Goals as goal

@@ -1,7 +1,6 @@
-use Rattle.std.proofs.Common.{get_or, sym, subst}
+use Rattle.std.proofs.Common.{sym, subst}
 use Rattle.std.specs.Prelude.{filter}
 use Rattle.std.proofs.Common.{◌+◌, take}
-use Rattle.ch_graph.specs.declared.arc.InArc.{InArc}
 use Rattle.ch_contract.specs.Remaining.{legs_of}
 use Rattle.ch_contract.proofs.theory.Opening.{joins}
 use Rattle.ch_contract.proofs.code.OpenLists.{AreOpenLists, no_arc, open_next, open_skips, open_all}
