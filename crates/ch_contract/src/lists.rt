@@ -132,7 +132,11 @@ impl LegLists {
     }
 
     /// Puts the shortcuts of `v` in, each in the list of the node to which it leads.
-    pub(crate) fn put_all_turned(&mut self, v: u32, shortcuts: &[Shortcut]) -> Result<(), AllocError>
+    pub(crate) fn put_all_turned(
+        &mut self,
+        v: u32,
+        shortcuts: &[Shortcut],
+    ) -> Result<(), AllocError>
         requires nodes { All (λ s. s.to < length self.old) shortcuts.now }
         requires rows { AreRows self.old }
         requires ordered { AllPairs IsPairBefore shortcuts.now }

@@ -2,4 +2,5 @@
 
 mod calls;
 mod hierarchies;
+mod searches;
 mod workers;

@@ -1,5 +1,5 @@
 -- The lists that a contraction leaves.
-use Rattle.std.proofs.Common.{◌≡◌, ℕ, ◌<◌, Bool, true, false, cond, List, [], length, set, get_or, Option, Some, None, All, Contains, refl, sym, ◌∙◌, ap, subst, arith, inl, inr}
+use Rattle.std.proofs.Common.{◌≡◌, ℕ, ◌<◌, Bool, true, false, List, [], length, set, None, All, Contains, refl, sym, ◌∙◌, ap, subst, arith, inl, inr}
 use Rattle.std.specs.Prelude.{◌⊎◌, ◌≢◌, ◌==◌, ◌||◌, if◌then◌else◌}
 use Rattle.std.proofs.lemmas.Bool.{cases_eq, eqb-true, eqb-false}
 use Rattle.std.proofs.lemmas.Bool.Decides.{nat_tests}
@@ -7,7 +7,7 @@ use Rattle.std.proofs.lemmas.List.{length-set, get_or-set_same, get_or-set_other
 use Rattle.std.proofs.lemmas.List.Elements.{All-from_get_or, Contains-get_or}
 use Rattle.ch_contract.specs.declared.leg.Leg.{Leg}
 use Rattle.ch_contract.specs.declared.shortcut.Shortcut.{Shortcut}
-use Rattle.ch_contract.specs.Legs.{Label, Legs, SameLegs, AreLegsWithin}
+use Rattle.ch_contract.specs.Legs.{SameLegs}
 use Rattle.ch_contract.specs.Contraction.{AreShortcuts, contracted}
 use Rattle.ch_contract.specs.Rows.{row, row_leg, label_of, IsRow}
 use Rattle.ch_contract.specs.LegLists.{AreRows, HaveAll, AreOverridden, IsWithinLimits, legs_from, legs_into}

@@ -15,7 +15,6 @@ use Rattle.ch_contract.specs.Rows.{row, label_of, AreLegsFrom, AreLegsTo}
 use Rattle.ch_contract.specs.Heads.{head_at, AreHeads}
 use Rattle.ch_contract.specs.LegLists.{IsWithinLimits, legs_from, legs_into}
 use Rattle.ch_contract.specs.Meeting.{IsMet, IsLegLight, AreListsWithin, AreSmall}
-use Rattle.ch_contract.specs.Remaining.{RemainingLegs}
 use Rattle.ch_contract.proofs.theory.RowLegs.{row_has}
 use Rattle.ch_contract.proofs.theory.RowLemmas.{no_leg, leg_from_at}
 use Rattle.ch_contract.proofs.code.HeadRounds.{wanted_small, chain_small}

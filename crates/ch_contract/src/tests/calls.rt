@@ -162,6 +162,19 @@ fn a_ring_is_contracted(rt: HostRuntime) -> Result<(), Fail> {
     Ok(())
 }
 
+#[test]
+fn legs_are_lent_in_order(rt: HostRuntime) -> Result<(), Fail> {
+    let legs = star(rt.alloc())?;
+    let others = [leg(1, 1, 1, None), leg(2, 1, 1, None), leg(3, 1, 1, None)];
+    assert_eq!(rt; legs.out_legs(0), others.as_slice());
+    assert_eq!(rt; legs.in_legs(0), others.as_slice());
+    let (legs, _) = ring(rt.alloc())?.contract(0, 5)?;
+    assert_eq!(rt; legs.out_legs(0).len() + legs.in_legs(0).len(), 0);
+    assert_eq!(rt; legs.out_legs(4), [leg(1, 2, 2, Some(0))].as_slice());
+    assert_eq!(rt; legs.in_legs(4), [leg(3, 1, 1, None)].as_slice());
+    Ok(())
+}
+
 /// What a call answers, tried a second time where the first was refused memory.
 macro_rules! again {
     ($call:expr) => {
