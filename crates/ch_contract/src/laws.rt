@@ -1,7 +1,7 @@
-//! Laws of the definitions, each the contract of a function that does nothing.
-ghost use Rattle.ch_contract.specs.Laws.{PlainSearchFindsWitnesses};
+//! Laws, each the contract of a function that does nothing, and worked examples of the definitions.
 
-/// The plain search of the definitions answers true exactly where there is a witness.
-pub fn plain_search()
-    ensures { PlainSearchFindsWitnesses }
-{}
+pub mod keeping;
+pub mod kept;
+pub mod one_order;
+pub mod reference;
+pub mod worked;

@@ -3,25 +3,21 @@
 //!
 //! It stands on ch_graph and ch_work. Proved of it: each call of [`Remaining`] is its definition, also
 //! the search for witnesses, which walks no chain past its bound; [`build`] makes the hierarchy that the
-//! rules name, however workers share its priorities, which is one ([`one_order`]), and which is kept for
-//! its graph ([`keeping`]); in a hierarchy that is kept for a graph, of any origin, going up and then down
-//! costs least what a walk costs least ([`kept_laws`]).
+//! rules name, however workers share its priorities, which is one ([`laws::one_order`]), and which is kept for
+//! its graph ([`laws::keeping`]); in a hierarchy that is kept for a graph, of any origin, going up and then down
+//! costs least what a walk costs least ([`laws::kept`]).
 #![tactic(auto)]
 
 mod construction;
 mod hierarchy;
-pub mod keeping;
-pub mod kept_laws;
 pub mod laws;
 mod leg;
-mod links;
-pub mod one_order;
+mod lists;
 mod order;
 mod priority;
 mod remaining;
+mod search;
 mod shortcut;
-mod witness;
-pub mod worked;
 
 pub use construction::build;
 pub use hierarchy::Hierarchy;
@@ -30,8 +26,4 @@ pub use remaining::{Remaining, Removed};
 pub use shortcut::Shortcut;
 
 #[cfg(test)]
-mod hierarchies;
-#[cfg(test)]
 mod tests;
-#[cfg(test)]
-mod workers;

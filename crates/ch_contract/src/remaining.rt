@@ -1,22 +1,28 @@
 //! The legs among the nodes that are left.
-ghost use Rattle.std.specs.Prelude.{◌≡◌, ◌≢◌, ◌+◌, ◌^◌, ◌<◌, ◌≤◌, ◌↔◌, IfOk, OnOk, IsTrue, Some};
+ghost use Rattle.std.specs.Prelude.{◌≡◌, ◌≢◌, ℕ, ◌+◌, ◌-◌, ◌^◌, ◌<◌, ◌≤◌, ◌↔◌, All, IfOk, OnOk, IsTrue, Some};
+ghost use Rattle.ch_graph.specs.Cost.{IsAtMost};
 ghost use Rattle.ch_contract.specs.Legs.{SameLegs, AreLegsWithin, HasWitness, IsHopBound, opening};
-ghost use Rattle.ch_contract.specs.Contraction.{AreShortcuts, Contracts, IsPriority};
+ghost use Rattle.ch_contract.specs.Contraction.{AreShortcuts, Contracts, IsPriority, contracted};
 ghost use Rattle.ch_contract.specs.Rows.{AreLegsFrom, AreLegsTo, label_of};
 ghost use Rattle.ch_contract.specs.ShortcutLists.{AreShortcutsBefore, IsShortcutBetween};
+ghost use Rattle.ch_contract.specs.Heads.{IsClean, AreTouched};
+ghost use Rattle.ch_contract.specs.Lines.{IsKnown, IsMostFor};
 ghost use Rattle.ch_contract.specs.Remaining.{legs_of};
 
 use crate::leg::Leg;
-use crate::links::{self, Links};
+use crate::lists::LegLists;
+use crate::search::{Search, Wanted, is_at_most};
 use crate::shortcut::Shortcut;
-use crate::witness::{Wanted, extend};
 use ch_graph::{Cost, Graph};
 use std::alloc::{AllocError, Global};
-use std::collections::BTreeMap;
 use std::marker::Model;
 
 /// The most that a leg may weigh. A least walk between two nodes weighs no more.
 const MOST_WEIGHT: u64 = 1 << 60;
+
+/// More arcs than any chain of legs that a search knows stands for, and fewer than those at a node to
+/// which none is known.
+const MOST_ARCS: u64 = 1 << 61;
 
 /// The legs among the nodes that are not contracted yet: at most one from each node to each other node.
 ///
@@ -24,18 +30,22 @@ const MOST_WEIGHT: u64 = 1 << 60;
 #[derive(Drop)]
 pub struct Remaining {
     nodes: u32,
-    links: Links,
+    /// The legs from each node.
+    outs: LegLists,
+    /// The legs to each node, which are the same.
+    ins: LegLists,
     alloc: Global,
 }
 
 impl Model for Remaining {
-    ghost use Rattle.ch_contract.specs.Remaining.{LegMap, IsWithinLimits};
+    ghost use Rattle.ch_contract.specs.Remaining.{RemainingLegs};
+    ghost use Rattle.ch_contract.specs.LegLists.{IsWithinLimits};
 
-    ghost Value = { LegMap };
+    ghost Value = { RemainingLegs };
 
-    ghost view = { λ r. record { nodes = r.nodes; entries = r.links.entries } };
+    ghost view = { λ r. record { nodes = r.nodes; rows = r.outs } };
 
-    ghost invariant = { λ r. IsWithinLimits (record { nodes = r.nodes; entries = r.links.entries }) };
+    ghost invariant = { λ r. IsWithinLimits r.nodes r.outs r.ins };
 }
 
 /// The legs of a contracted node, each list in order of the other node.
@@ -57,15 +67,19 @@ impl Remaining {
         ensures nodes { IfOk result (λ r. r.nodes ≡ graph.now.nodes) }
         ensures legs { IfOk result (λ r. SameLegs (legs_of r) (opening graph.now)) }
     {
-        let mut links = BTreeMap::new(alloc);
+        let nodes = graph.nodes();
+        let mut outs = LegLists::new(alloc, nodes)?;
+        let mut ins = LegLists::new(alloc, nodes)?;
         for arc in graph.arcs() {
             if arc.from != arc.to {
-                links::put_arc(&mut links, *arc)?;
+                outs.put_arc(arc.from, arc.to, arc.weight)?;
+                ins.put_arc(arc.to, arc.from, arc.weight)?;
             }
         }
         Ok(Remaining {
-            nodes: graph.nodes(),
-            links,
+            nodes,
+            outs,
+            ins,
             alloc,
         })
     }
@@ -79,9 +93,24 @@ impl Remaining {
         self.nodes
     }
 
+    /// The legs from `v`, ordered by the node to which they lead. It takes no memory.
+    pub fn out_legs(&self, v: u32) -> &[Leg]
+        requires { v < self.now.nodes }
+        ensures { AreLegsFrom (legs_of self.now) v result.now }
+    {
+        self.outs.at(v)
+    }
+
+    /// The legs to `v`, ordered by the node from which they come. It takes no memory.
+    pub fn in_legs(&self, v: u32) -> &[Leg]
+        requires { v < self.now.nodes }
+        ensures { AreLegsTo (legs_of self.now) v result.now }
+    {
+        self.ins.at(v)
+    }
+
     /// Whether a chain of 1 to `hops` legs leads from `u` to `w`, never touches `v`, and costs at most
-    /// `cost`. The search goes back from `w`: after k rounds it knows the least costs of chains of at most
-    /// k legs, as far as they are at most `cost`.
+    /// `cost`. The search goes forward from `u` until two legs are left, and these back from `w`.
     pub fn has_witness(
         &self,
         v: u32,
@@ -96,19 +125,19 @@ impl Remaining {
         requires hops { IsHopBound hops }
         ensures { IfOk result (λ found. IsTrue found ↔ HasWitness (legs_of self.now) v u w cost hops) }
     {
-        let wanted = Wanted {
-            end: w,
-            avoided: v,
-            most: cost,
+        let nodes = self.nodes();
+        let most = Cost {
+            weight: cost.weight,
+            arcs: cost.arcs.min(MOST_ARCS),
         };
-        let mut known = vec![in self.alloc; None; self.nodes as usize]?;
-        let mut before = vec![in self.alloc; None; self.nodes as usize]?;
-        known[w as usize] = Some(Cost { weight: 0, arcs: 0 });
-        for _round in 0..hops {
-            before.copy_from_slice(&known);
-            extend(&self.links, wanted, &before, &mut known);
-        }
-        Ok(known[u as usize].is_some())
+        let wanted = Wanted {
+            end: u,
+            avoided: v,
+            most,
+        };
+        let mut search = Search::new(self.alloc, nodes)?;
+        self.reach(&mut search, wanted, hops)?;
+        Ok(self.is_witnessed(&search, wanted, w, most, hops))
     }
 
     /// The shortcuts that the contraction of `v` would leave, ordered by their ends: for two legs to `v`
@@ -118,12 +147,9 @@ impl Remaining {
         requires hops { IsHopBound hops }
         ensures { IfOk result (λ list. AreShortcuts self.now.nodes hops (legs_of self.now) v list.items) }
     {
-        let down = self.legs_to(v)?;
-        let up = self.legs_from(v)?;
+        let mut search = Search::new(self.alloc, self.nodes)?;
         let mut list = Vec::new(self.alloc);
-        for first in &down {
-            self.push_shortcuts(&mut list, v, *first, &up, hops)?;
-        }
+        self.fill_shortcuts(&mut search, &mut list, v, hops)?;
         Ok(list)
     }
 
@@ -133,10 +159,9 @@ impl Remaining {
         requires hops { IsHopBound hops }
         ensures { IfOk result (λ p. IsPriority self.now.nodes hops (legs_of self.now) v p) }
     {
-        let shortcuts = self.shortcuts(v, hops)?;
-        let down = self.legs_to(v)?;
-        let up = self.legs_from(v)?;
-        Ok(shortcuts.len() as i64 - (up.len() + down.len()) as i64)
+        let mut search = Search::new(self.alloc, self.nodes)?;
+        let mut list = Vec::new(self.alloc);
+        self.priority_in(&mut search, &mut list, v, hops)
     }
 
     /// Takes `v` out with all legs that touch it, and puts its shortcuts in. A shortcut takes the place of
@@ -150,41 +175,94 @@ impl Remaining {
         ensures down { IfOk result (λ r. AreLegsTo (legs_of self) v r.1.down.items) }
     {
         let shortcuts = self.shortcuts(v, hops)?;
-        let down = self.legs_to(v)?;
-        let up = self.legs_from(v)?;
+        self.contract_with(v, shortcuts.as_slice())
+    }
+
+    /// Takes `v` out with all legs that touch it, and puts these shortcuts in, which are those of `v`.
+    pub(crate) fn contract_with(
+        self,
+        v: u32,
+        shortcuts: &[Shortcut],
+    ) -> Result<(Remaining, Removed), AllocError>
+        requires node { v < self.nodes }
+        requires shortcuts { (h : ℕ) × AreShortcuts self.nodes h (legs_of self) v shortcuts.now }
+        ensures nodes { IfOk result (λ r. r.0.nodes ≡ self.nodes) }
+        ensures legs { IfOk result (λ r. SameLegs (legs_of r.0) (contracted (legs_of self) v shortcuts.now)) }
+        ensures up { IfOk result (λ r. AreLegsFrom (legs_of self) v r.1.up.items) }
+        ensures down { IfOk result (λ r. AreLegsTo (legs_of self) v r.1.down.items) }
+    {
+        let up = Vec::from_slice(self.alloc, self.outs.at(v))?;
+        let down = Vec::from_slice(self.alloc, self.ins.at(v))?;
         let Remaining {
             nodes,
-            mut links,
+            mut outs,
+            mut ins,
             alloc,
         } = self;
-        links::remove_touching(&mut links, v);
-        links::put_shortcuts(&mut links, v, &shortcuts)?;
+        outs.take_from(v, down.as_slice());
+        ins.take_from(v, up.as_slice());
+        outs.clear_at(alloc, v);
+        ins.clear_at(alloc, v);
+        outs.put_all(v, shortcuts)?;
+        ins.put_all_turned(v, shortcuts)?;
         let remaining = Remaining {
             nodes,
-            links,
+            outs,
+            ins,
             alloc,
         };
         Ok((remaining, Removed { up, down }))
     }
 
-    /// The legs from `v`, ordered by the node to which they lead.
-    fn legs_from(&self, v: u32) -> Result<Vec<Leg>, AllocError>
-        ensures row { IfOk result (λ legs. AreLegsFrom (legs_of self.now) v legs.items) }
-        ensures limits { AreLegsWithin self.now.nodes (legs_of self.now) }
+    /// The priority of `v`, judged in this room for searches. The list becomes that of its shortcuts.
+    pub(crate) fn priority_in(
+        &self,
+        search: &mut Search,
+        list: &mut Vec<Shortcut>,
+        v: u32,
+        hops: u32,
+    ) -> Result<i64, AllocError>
+        requires node { v < self.now.nodes }
+        requires hops { IsHopBound hops }
+        requires clean { IsClean self.now.nodes search.old.heads }
+        ensures priority { IfOk result (λ p. IsPriority self.now.nodes hops (legs_of self.now) v p) }
+        ensures list { OnOk result (AreShortcuts self.now.nodes hops (legs_of self.now) v list.new.items) }
+        ensures clean { OnOk result (IsClean self.now.nodes search.new.heads) }
     {
-        links::legs_from(self.alloc, &self.links, v)
+        let _nodes = self.nodes();
+        self.fill_shortcuts(search, list, v, hops)?;
+        let touching = self.out_legs(v).len() + self.in_legs(v).len();
+        Ok(list.len() as i64 - touching as i64)
     }
 
-    /// The legs to `v`, ordered by the node from which they come.
-    fn legs_to(&self, v: u32) -> Result<Vec<Leg>, AllocError>
-        ensures { IfOk result (λ legs. AreLegsTo (legs_of self.now) v legs.items) }
+    /// Makes the list that of the shortcuts of `v`, judged in this room for searches. It takes memory only
+    /// where the room or the list has to grow.
+    pub(crate) fn fill_shortcuts(
+        &self,
+        search: &mut Search,
+        list: &mut Vec<Shortcut>,
+        v: u32,
+        hops: u32,
+    ) -> Result<(), AllocError>
+        requires node { v < self.now.nodes }
+        requires hops { IsHopBound hops }
+        requires clean { IsClean self.now.nodes search.old.heads }
+        ensures list { OnOk result (AreShortcuts self.now.nodes hops (legs_of self.now) v list.new.items) }
+        ensures clean { OnOk result (IsClean self.now.nodes search.new.heads) }
     {
-        links::legs_to(self.alloc, &self.links, v)
+        list.clear();
+        let up = self.out_legs(v);
+        for first in self.in_legs(v) {
+            self.push_shortcuts(search, list, v, *first, up, hops)?;
+        }
+        Ok(())
     }
 
-    /// Puts the shortcuts of `v` at the end of the list that begin with this leg to `v`.
+    /// Puts the shortcuts of `v` at the end of the list that begin with this leg to `v`: one search for all
+    /// of them.
     fn push_shortcuts(
         &self,
+        search: &mut Search,
         list: &mut Vec<Shortcut>,
         v: u32,
         first: Leg,
@@ -195,48 +273,108 @@ impl Remaining {
         requires hops { IsHopBound hops }
         requires first { legs_of self.now first.node v ≡ Some (label_of first) }
         requires up { AreLegsFrom (legs_of self.now) v up.now }
+        requires clean { IsClean self.now.nodes search.old.heads }
         requires list { AreShortcutsBefore self.now.nodes hops (legs_of self.now) v first.node 0 list.old.items }
-        ensures { OnOk result
+        ensures list { OnOk result
             (AreShortcutsBefore self.now.nodes hops (legs_of self.now) v (first.node + 1) 0 list.new.items) }
+        ensures clean { OnOk result (IsClean self.now.nodes search.new.heads) }
     {
+        let nodes = self.nodes();
+        let wanted = Wanted {
+            end: first.node,
+            avoided: v,
+            most: most_cost(nodes, first.cost, up),
+        };
+        self.reach(search, wanted, hops)?;
         for second in up {
-            if let Some(shortcut) = self.shortcut(v, first, *second, hops)? {
+            if let Some(shortcut) = self.shortcut(search, wanted, first, *second, hops) {
                 list.push(shortcut)?;
             }
         }
+        search.clear();
         Ok(())
     }
 
-    /// The shortcut of `v` for two legs, the first to `v` and the second from it.
+    /// Learns the costs of the chains from the wanted end that leave two legs to go of the `hops` that a
+    /// witness may have.
+    fn reach(&self, search: &mut Search, wanted: Wanted, hops: u32) -> Result<(), AllocError>
+        requires hops { IsHopBound hops }
+        requires clean { IsClean self.now.nodes search.old.heads }
+        requires end { (wanted.end < self.now.nodes) × (wanted.end ≢ wanted.avoided) }
+        requires most { (wanted.most.weight ≤ 2 ^ 60) × (wanted.most.arcs < 2 ^ 62) }
+        ensures known { OnOk result (IsKnown self.now wanted hops search.new.heads) }
+        ensures touched { OnOk result (AreTouched search.new.heads) }
+    {
+        search.reach(&self.outs, wanted, hops.saturating_sub(2))
+    }
+
+    /// Whether the chains that are known show a witness from the wanted end to `w`, of at most `hops` legs
+    /// and this cost.
+    fn is_witnessed(&self, search: &Search, wanted: Wanted, w: u32, cost: Cost, hops: u32) -> bool
+        requires hops { IsHopBound hops }
+        requires known { IsKnown self.now wanted hops search.now.heads }
+        requires node { w < self.now.nodes }
+        requires end { wanted.end < self.now.nodes }
+        requires apart { (w ≢ wanted.avoided) × (w ≢ wanted.end) }
+        requires cost { (cost.weight ≤ 2 ^ 60) × (cost.arcs < 2 ^ 62) }
+        requires most { IsAtMost cost wanted.most × (wanted.most.weight ≤ 2 ^ 60) }
+        ensures { IsTrue result ↔ HasWitness (legs_of self.now) wanted.avoided wanted.end w cost hops }
+    {
+        search.meets(&self.ins, wanted.avoided, w, cost, hops)
+    }
+
+    /// The shortcut of the avoided node for two legs, the first to it and the second from it, where the
+    /// chains from the first node are known.
     fn shortcut(
         &self,
-        v: u32,
+        search: &Search,
+        wanted: Wanted,
         first: Leg,
         second: Leg,
         hops: u32,
-    ) -> Result<Option<Shortcut>, AllocError>
-        requires node { v < self.now.nodes }
+    ) -> Option<Shortcut>
         requires hops { IsHopBound hops }
-        requires first { legs_of self.now first.node v ≡ Some (label_of first) }
-        requires second { legs_of self.now v second.node ≡ Some (label_of second) }
-        ensures { IfOk result
-            (IsShortcutBetween self.now.nodes hops (legs_of self.now) v first.node second.node) }
+        requires end { wanted.end ≡ first.node }
+        requires first { legs_of self.now first.node wanted.avoided ≡ Some (label_of first) }
+        requires second { legs_of self.now wanted.avoided second.node ≡ Some (label_of second) }
+        requires known { IsKnown self.now wanted hops search.now.heads }
+        requires small { wanted.most.weight ≤ 2 ^ 60 }
+        requires most { IsMostFor self.now.nodes first.cost wanted.most second }
+        ensures { IsShortcutBetween self.now.nodes hops (legs_of self.now) wanted.avoided first.node second.node result }
     {
         let nodes = self.nodes();
         if first.node == second.node {
-            return Ok(None);
+            return None;
         }
         let cost = first.cost.plus(second.cost);
         if cost.weight > MOST_WEIGHT || cost.arcs >= nodes as u64 {
-            return Ok(None);
+            return None;
         }
-        if self.has_witness(v, first.node, second.node, cost, hops)? {
-            return Ok(None);
+        if self.is_witnessed(search, wanted, second.node, cost, hops) {
+            return None;
         }
-        Ok(Some(Shortcut {
+        Some(Shortcut {
             from: first.node,
             to: second.node,
             cost,
-        }))
+        })
     }
+}
+
+/// The greatest cost that this and a leg make together, of those that keep the limits.
+fn most_cost(nodes: u32, first: Cost, up: &[Leg]) -> Cost
+    requires first { (first.weight ≤ 2 ^ 60) × (first.arcs ≤ 2 ^ 60) }
+    requires up { All (λ l. (l.cost.weight ≤ 2 ^ 60) × (l.cost.arcs ≤ 2 ^ 60)) up.now }
+    ensures weight { result.weight ≤ 2 ^ 60 }
+    ensures arcs { result.arcs < 2 ^ 32 }
+    ensures most { All (IsMostFor nodes first result) up.now }
+{
+    let mut most = Cost { weight: 0, arcs: 0 };
+    for second in up {
+        let cost = first.plus(second.cost);
+        if cost.weight <= MOST_WEIGHT && cost.arcs < nodes as u64 && is_at_most(most, cost) {
+            most = cost;
+        }
+    }
+    most
 }

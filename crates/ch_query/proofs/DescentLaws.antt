@@ -7,7 +7,7 @@ use Rattle.ch_graph.proofs.CostSums.{cost_sum_comm}
 use Rattle.ch_contract.specs.declared.leg.Leg.{Leg}
 use Rattle.ch_contract.specs.Rows.{row, IsRow}
 use Rattle.ch_contract.specs.Paths.{path_cost, IsLeastUpwardPath}
-use Rattle.ch_contract.proofs.LegPaths.{path_cost-cons}
+use Rattle.ch_contract.proofs.theory.LegPaths.{path_cost-cons}
 use Rattle.ch_query.specs.Routes.{DescentStep, IsDescent}
 use Rattle.ch_query.proofs.Parents.{least_same}
 use Rattle.ch_query.proofs.Rows.{row_one}

@@ -11,7 +11,7 @@ use Rattle.ch_contract.specs.declared.leg.Leg.{Leg}
 use Rattle.ch_contract.specs.Rows.{row, IsRow}
 use Rattle.ch_contract.specs.Hierarchy.{Levels, nodes_of}
 use Rattle.ch_contract.specs.Paths.{IsUpwardPath, path_cost, IsLeastUpwardPath}
-use Rattle.ch_contract.proofs.LegPaths.{path_cost-cons}
+use Rattle.ch_contract.proofs.theory.LegPaths.{path_cost-cons}
 use Rattle.ch_query.specs.declared.side.Side.{Side}
 use Rattle.ch_query.specs.declared.side.Side.TheVariants.{Up, Down}
 use Rattle.ch_query.specs.declared.search.Search.{Search}

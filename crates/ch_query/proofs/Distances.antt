@@ -5,7 +5,7 @@ use Rattle.std.specs.Option.{option_map}
 use Rattle.ch_graph.specs.declared.cost.Cost.{Cost}
 use Rattle.ch_contract.specs.Hierarchy.{Levels}
 use Rattle.ch_contract.specs.Paths.{IsMeet, NeverMeets}
-use Rattle.ch_contract.proofs.KeptWalks.{meetings_are_distances}
+use Rattle.ch_contract.proofs.theory.KeptWalks.{meetings_are_distances}
 use Rattle.ch_query.specs.Distance.{IsDistanceBy, IsLeastWeight}
 
 module _ (H : Levels) (s t : ℕ) where

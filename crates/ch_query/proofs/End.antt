@@ -8,7 +8,7 @@ use Rattle.ch_contract.specs.Paths.{IsUpwardPath, path_cost, IsLeastUpwardPath}
 use Rattle.ch_graph.proofs.CostOrder.{IsAtMost_refl, IsAtMost_trans, IsBelow_not, IsAtMost_antisymm}
 use Rattle.ch_query.specs.Search.{IsSettled, IsSearch, AvoidsIdle, IsEmpty}
 use Rattle.ch_graph.proofs.CostSums.{cost_sum_assoc, no_cost-cost_sum, IsAtMost-cost_sum, IsAtMost-cost_sum_self}
-use Rattle.ch_contract.proofs.LegPaths.{path_cost-cons}
+use Rattle.ch_contract.proofs.theory.LegPaths.{path_cost-cons}
 
 module _ (rows : List (List Leg)) (s : ℕ) (Idle : ℕ → Cost → Type 0) (best queue : List (Option Cost)) (p : IsSearch rows s Idle best queue)
     (m : ℕ) (c : Cost) (light : c.weight ≤ 2 ^ 60) (past : (x : ℕ) (d : Cost) → cost_at queue x ≡ Some d → IsBelow c d) (avoids : AvoidsIdle rows Idle m c) where

@@ -11,7 +11,7 @@ use Rattle.ch_contract.specs.Hierarchy.{Levels}
 use Rattle.ch_contract.specs.Paths.{IsUpwardPath, path_cost, IsLeastUpwardPath, IsMeet}
 use Rattle.ch_contract.specs.Kept.{IsKept}
 use Rattle.ch_contract.specs.KeptLaws.{HasWalks}
-use Rattle.ch_contract.proofs.KeptWalks.{kept_has_walks, meetings_are_distances}
+use Rattle.ch_contract.proofs.theory.KeptWalks.{kept_has_walks, meetings_are_distances}
 use Rattle.ch_query.specs.declared.side.Side.{Side}
 use Rattle.ch_query.specs.declared.side.Side.TheVariants.{Up, Down}
 use Rattle.ch_query.specs.declared.search.Search.{Search}

@@ -19,7 +19,7 @@ use Rattle.ch_query.specs.Underway.{back_of, IsUnderway}
 use Rattle.ch_query.specs.Side.{rows_of}
 use Rattle.ch_query.specs.Meeting.{AreMeeting}
 use Rattle.ch_graph.proofs.CostSums.{cost_sum_comm, cost_sum-no_cost}
-use Rattle.ch_contract.proofs.LegPaths.{path_cost-cons}
+use Rattle.ch_contract.proofs.theory.LegPaths.{path_cost-cons}
 use Rattle.ch_query.proofs.LeastMeeting.{end_some, end_none}
 
 -- a path of one leg costs what the leg costs

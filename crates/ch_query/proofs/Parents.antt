@@ -12,7 +12,7 @@ use Rattle.ch_graph.proofs.CostOrder.{IsAtMost_refl, IsAtMost_trans, IsAtMost_an
 use Rattle.ch_query.specs.Search.{IsSettled, IsRelaxedFrom, IsSearch, IsExpanding, OrNode, WouldLower, AvoidsIdle}
 use Rattle.ch_query.specs.Parents.{IsParent, IsNoEarlier, AreParents, IsChosen}
 use Rattle.ch_graph.proofs.CostSums.{cost_sum_assoc, IsAtMost-cost_sum, IsAtMost-cost_sum_self, cost_sum_cancel_right}
-use Rattle.ch_contract.proofs.LegPaths.{path_cost-cons, path_cost-append}
+use Rattle.ch_contract.proofs.theory.LegPaths.{path_cost-cons, path_cost-append}
 use Rattle.ch_query.proofs.PathLaws.{then_below, cost_push, path_push}
 use Rattle.ch_query.proofs.Steps.{popped_settled, lowered_settled, lowered_stays}
 use Rattle.ch_query.proofs.End.{matched}

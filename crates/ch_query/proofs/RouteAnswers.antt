@@ -10,7 +10,7 @@ use Rattle.ch_graph.specs.declared.cost.Cost.{Cost}
 use Rattle.ch_graph.proofs.SimpleWalks.{IsLeast-arcs}
 use Rattle.ch_contract.specs.Hierarchy.{Levels, nodes_of}
 use Rattle.ch_contract.specs.Paths.{IsMeet, NeverMeets}
-use Rattle.ch_contract.proofs.KeptWalks.{meetings_are_distances}
+use Rattle.ch_contract.proofs.theory.KeptWalks.{meetings_are_distances}
 use Rattle.ch_query.specs.declared.side.Side.TheVariants.{Up, Down}
 use Rattle.ch_query.specs.declared.search.Search.{Search}
 use Rattle.ch_query.specs.declared.routes.Route.{Route}

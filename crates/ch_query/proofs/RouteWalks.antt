@@ -11,7 +11,7 @@ use Rattle.ch_graph.proofs.WalkLemmas.{walk_append}
 use Rattle.ch_graph.proofs.WalkCosts.{cost_of-append}
 use Rattle.ch_contract.specs.Hierarchy.{Levels, IsLevelled}
 use Rattle.ch_contract.specs.Kept.{IsKept}
-use Rattle.ch_contract.proofs.KeptWalks.{meetings_are_distances}
+use Rattle.ch_contract.proofs.theory.KeptWalks.{meetings_are_distances}
 use Rattle.ch_query.specs.declared.side.Side.TheVariants.{Up, Down}
 use Rattle.ch_query.specs.declared.routes.Route.{Route}
 use Rattle.ch_query.specs.Routes.{DescentStep, IsDescent, AreUpArcs, AreDownArcs, IsRoute, IsLeastWalk}

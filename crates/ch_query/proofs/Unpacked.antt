@@ -15,8 +15,8 @@ use Rattle.ch_contract.specs.declared.leg.Leg.{Leg}
 use Rattle.ch_contract.specs.Rows.{row}
 use Rattle.ch_contract.specs.Hierarchy.{Levels, IsLevelled}
 use Rattle.ch_contract.specs.Kept.{IsKept, IsLeg}
-use Rattle.ch_contract.proofs.LegPaths.{rises_or_falls}
-use Rattle.ch_contract.proofs.LegWalks.{leg_walk}
+use Rattle.ch_contract.proofs.theory.LegPaths.{rises_or_falls}
+use Rattle.ch_contract.proofs.theory.LegWalks.{leg_walk}
 use Rattle.ch_query.specs.declared.side.Side.TheVariants.{Up, Down}
 use Rattle.ch_query.specs.Routes.{IsUnpacked, arc, shortcut}
 use Rattle.ch_query.proofs.Rows.{row_one, rows_ordered}

@@ -12,7 +12,7 @@ use Rattle.ch_graph.specs.Cost.{cost_sum}
 use Rattle.ch_contract.specs.Hierarchy.{Levels}
 use Rattle.ch_contract.specs.Paths.{IsUp, IsMeeting}
 use Rattle.ch_graph.proofs.Lists.{contains_none}
-use Rattle.ch_contract.proofs.KeptWalks.{kept_has_walks, meetings_are_distances}
+use Rattle.ch_contract.proofs.theory.KeptWalks.{kept_has_walks, meetings_are_distances}
 use Rattle.ch_query.specs.Distance.{IsKeptForSome, IsLeastWeight}
 use Rattle.ch_query.specs.Spread.{IsSpread}
 use Rattle.ch_query.proofs.Distances.{weight_is_distance}

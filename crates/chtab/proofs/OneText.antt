@@ -9,8 +9,8 @@ use Rattle.ch_graph.specs.Walk.{IsAnswer, IsDistance}
 use Rattle.ch_contract.specs.Legs.{IsHopBound}
 use Rattle.ch_contract.specs.Hierarchy.{Levels}
 use Rattle.ch_contract.specs.Kept.{IsKept}
-use Rattle.ch_contract.proofs.BuiltKept.{hierarchies_kept}
-use Rattle.ch_contract.proofs.OneOrder.{one_hierarchy}
+use Rattle.ch_contract.proofs.theory.BuiltKept.{hierarchies_kept}
+use Rattle.ch_contract.proofs.theory.OneOrder.{one_hierarchy}
 use Rattle.ch_query.specs.declared.answer.Answer.{Answer}
 use Rattle.ch_query.specs.declared.routes.Route.{Route}
 use Rattle.ch_query.specs.Answers.{HasArcs}

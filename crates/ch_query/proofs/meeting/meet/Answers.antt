@@ -1,5 +1,5 @@
 use Rattle.std.proofs.Common.{◌∙◌}
-use Rattle.ch_contract.proofs.KeptWalks.{kept_has_walks}
+use Rattle.ch_contract.proofs.theory.KeptWalks.{kept_has_walks}
 use Rattle.ch_query.proofs.MeetingEnd.{meeting_least}
 use Rattle.ch_query.proofs.meeting.meet.Goals as goal
 

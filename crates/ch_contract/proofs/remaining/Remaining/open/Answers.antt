@@ -1,20 +1,33 @@
-use Rattle.std.proofs.Common.{◌≤◌, ◌^◌, sym, subst}
-use Rattle.ch_contract.specs.Legs.{AreLegsWithin}
-use Rattle.ch_contract.specs.Remaining.{legs_of, legs_in}
-use Rattle.ch_contract.proofs.Opening.{opens, same_within}
-use Rattle.ch_contract.proofs.OpeningLegs.{opening_within}
+use Rattle.std.proofs.Common.{sym, subst}
+use Rattle.std.specs.Prelude.{filter}
+use Rattle.std.proofs.Common.{◌+◌, take}
+use Rattle.ch_contract.specs.Remaining.{legs_of}
+use Rattle.ch_contract.proofs.theory.Opening.{joins}
+use Rattle.ch_contract.proofs.code.OpenLists.{AreOpenLists, no_arc, open_next, open_skips, open_all}
+use Rattle.ch_contract.proofs.remaining.Remaining.open.Goals.{then-arc+in_ok-put_arc+in_ok-put_arc-2, else-arc}
 use Rattle.ch_contract.proofs.remaining.Remaining.open.Goals as goal
+
+pub loop-arc-preserved : goal.loop-arc-preserved
+loop-arc-preserved c =
+    let n = c.nodes-nodes.result in
+    let arcs = c.arcs-arc-items.result.now in
+    let i = c.loop-arc.arc-index in
+    elim c.if-arc.branch [
+      | then-arc+in_ok-put_arc+in_ok-put_arc-2 w ↦
+          subst (λ z. AreOpenLists n (filter joins (take (i + 1) arcs)) z c.if-arc.ins) (sym w.outs-is)
+          (subst (λ z. AreOpenLists n (filter joins (take (i + 1) arcs)) w.put_arc.new.self z) (sym w.ins-is)
+          (open_next n arcs i no_arc c.loop-arc.outs c.loop-arc.ins w.put_arc.new.self w.put_arc-then-arc.new.self c.loop-arc-test.true w.if-arc.true c.loop-arc.invariant w.in_ok-put_arc.ensures w.in_ok-put_arc-2.ensures))
+      | else-arc w ↦
+          subst (λ z. AreOpenLists n (filter joins (take (i + 1) arcs)) z c.if-arc.ins) (sym w.outs-is)
+          (subst (λ z. AreOpenLists n (filter joins (take (i + 1) arcs)) c.loop-arc.outs z) (sym w.ins-is)
+          (open_skips n arcs i no_arc c.loop-arc.outs c.loop-arc.ins c.loop-arc-test.true w.if-arc.false c.loop-arc.invariant))
+    ]
 
 pub invariant_of-result : goal.invariant_of-result
 invariant_of-result c =
-    let g = c.args.graph.now in
-    let limits = c.arcs-arc-items.ensures.limits in
-    let within = same_within g.nodes _ _ (opens g c.loop-arc.links.entries _ c.loop-arc.arc-index c.arcs-arc-items.ensures.arcs c.loop-arc-test.false c.loop-arc.invariant) (opening_within g limits) in
-    record {
-      nodes = subst (λ n. n ≤ 2 ^ 25) (sym c.nodes.ensures) limits.size.0;
-      legs = subst (λ n. AreLegsWithin n (legs_in c.loop-arc.links.entries)) (sym c.nodes.ensures) within;
-    }
+    (open_all c.args.graph.now c.nodes-nodes.result c.arcs-arc-items.result.now c.loop-arc.arc-index c.loop-arc.outs c.loop-arc.ins c.arcs-arc-items.ensures.limits c.nodes-nodes.ensures c.arcs-arc-items.ensures.arcs c.loop-arc-test.false c.loop-arc.invariant).0
 
 pub returns-clause-legs : goal.returns-clause-legs
 unfolding legs_of
-returns-clause-legs c = opens c.args.graph.now c.loop-arc.links.entries _ c.loop-arc.arc-index c.arcs-arc-items.ensures.arcs c.loop-arc-test.false c.loop-arc.invariant
+returns-clause-legs c =
+    (open_all c.args.graph.now c.nodes-nodes.result c.arcs-arc-items.result.now c.loop-arc.arc-index c.loop-arc.outs c.loop-arc.ins c.arcs-arc-items.ensures.limits c.nodes-nodes.ensures c.arcs-arc-items.ensures.arcs c.loop-arc-test.false c.loop-arc.invariant).1

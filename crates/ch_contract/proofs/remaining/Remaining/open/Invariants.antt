@@ -1,8 +1,9 @@
 use Rattle.std.proofs.Common.{take}
 use Rattle.std.specs.Prelude.{filter}
-use Rattle.ch_contract.specs.Remaining.{ArcsOpen}
-use Rattle.ch_contract.proofs.Opening.{joins}
+use Rattle.ch_contract.proofs.theory.Opening.{joins}
+use Rattle.ch_contract.proofs.code.OpenLists.{AreOpenLists}
 use Rattle.ch_contract.proofs.remaining.Remaining.open.Given as goal
 
+-- the arcs so far are put in on both sides, but for loops
 abbrev pub invariant-loop-arc : goal.invariant-loop-arc
-invariant-loop-arc l = ArcsOpen (filter joins (take l.arc-index l.arc-items)) l.links.entries
+invariant-loop-arc l = AreOpenLists l.nodes (filter joins (take l.arc-index l.arc-items)) l.outs l.ins

@@ -1,8 +1,9 @@
 use Rattle.std.proofs.Common.{◌+◌, get_or, sym, ◌∙◌, ap, subst}
 use Rattle.ch_contract.specs.Remaining.{legs_of}
 use Rattle.ch_contract.specs.ShortcutLists.{AreShortcutsBefore}
-use Rattle.ch_contract.proofs.RowLemmas.{leg_from_at, no_leg}
-use Rattle.ch_contract.proofs.ShortcutLemmas.{boundary_next, before_next_up, before_end_up, before_push, before_skip}
+use Rattle.ch_contract.proofs.theory.RowLemmas.{leg_from_at, no_leg}
+use Rattle.ch_contract.proofs.code.ShortcutLemmas.{boundary_next, before_next_up, before_end_up, before_push, before_skip}
+use Rattle.ch_contract.proofs.code.Lines.{up_light}
 use Rattle.ch_contract.proofs.remaining.Remaining.push_shortcuts.Goals.{in-Some+in_ok-push, in_default}
 use Rattle.ch_contract.proofs.remaining.Remaining.push_shortcuts.Goals as goal
 
@@ -21,18 +22,21 @@ loop-second-preserved c =
     before_next_up n c.args.hops L c.args.v c.args.first.node so_far.0 i no_leg up c.loop-second.list.items c.requires.up so_far.1 c.loop-second-test.true so_far.2 in (
       to + 1,
       boundary_next up i no_leg c.requires.up.0 c.loop-second-test.true,
-      elim c.match-branch-2.branch [
+      elim c.match-shortcut.branch [
         | in-Some+in_ok-push w ↦
-            let is = rw w.in-Some.is at c.in_ok-shortcut.ensures in
+            let is = rw w.in-Some.is at c.shortcut.ensures in
             subst (AreShortcutsBefore n c.args.hops L c.args.v c.args.first.node (to + 1)) (sym (ap (λ v. v.items) w.list-is ∙ w.in_ok-push.ensures.items))
             (before_push n c.args.hops L c.args.v c.args.first.node to c.loop-second.list.items w.in-Some.shortcut next is.0 is.1 is.2)
         | in_default w ↦
-            let is = rw w.in_default.is at c.in_ok-shortcut.ensures in
+            let is = rw w.in_default.is at c.shortcut.ensures in
             rw w.list-is (before_skip n c.args.hops L c.args.v c.args.first.node to c.loop-second.list.items next is)
       ],
     )
 
-pub returns : goal.returns
-returns c =
+pub returns-clause-list : goal.returns-clause-list
+returns-clause-list c =
     let so_far = c.loop-second.invariant in
     before_end_up _ _ _ _ c.args.first.node so_far.0 c.loop-second.second-index c.args.up.now c.loop-second.list.items c.requires.up so_far.1 c.loop-second-test.false so_far.2
+
+pub most_cost-requires-clause-up : goal.most_cost-requires-clause-up
+most_cost-requires-clause-up c = up_light c.args.self.now.nodes (legs_of c.args.self.now) c.args.v c.args.up.now c.nodes-nodes.ensures.limits c.nodes-nodes.ensures.count c.requires.up

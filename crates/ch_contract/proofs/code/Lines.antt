@@ -1,0 +1,119 @@
+-- The searches for the shortcuts of a node, one for each leg to it.
+use Rattle.std.proofs.Common.{◌≡◌, ℕ, ◌+◌, ◌-◌, ◌^◌, ◌<◌, ◌≤◌, List, [], ◌∷◌, ◌++◌, length, get_or, All, Some, Contains, refl, sym, ◌∙◌, subst, arith, inl, inr}
+use Rattle.std.specs.Prelude.{◌≢◌, ◌↔◌, Result, Ok, Err, OnOk, take, min}
+use Rattle.std.specs.declared.alloc.AllocError.{AllocError}
+use Rattle.ch_contract.specs.Lines.{IsKnown, IsMostFor}
+use Rattle.ch_graph.proofs.CostOrder.{IsAtMost_refl, IsAtMost_trans}
+use Rattle.std.proofs.lemmas.List.Elements.{All-from_get_or, All-push, Contains-get_or}
+use Rattle.ch_graph.specs.declared.cost.Cost.{Cost}
+use Rattle.ch_graph.specs.Cost.{IsAtMost, cost_sum}
+use Rattle.ch_contract.specs.declared.leg.Leg.{Leg}
+use Rattle.ch_contract.specs.declared.search.Heads.{Heads}
+use Rattle.ch_contract.specs.declared.search.Wanted.{Wanted}
+use Rattle.ch_contract.specs.Legs.{Legs, AreLegsWithin, HasWitness, chain_cost}
+use Rattle.ch_contract.specs.Rows.{row, label_of, AreLegsFrom, AreLegsTo}
+use Rattle.ch_contract.specs.Heads.{head_at, AreHeads}
+use Rattle.ch_contract.specs.LegLists.{IsWithinLimits, legs_from, legs_into}
+use Rattle.ch_contract.specs.Meeting.{IsMet, IsLegLight, AreListsWithin, AreSmall}
+use Rattle.ch_contract.proofs.theory.RowLegs.{row_has}
+use Rattle.ch_contract.proofs.theory.RowLemmas.{no_leg, leg_from_at}
+use Rattle.ch_contract.proofs.code.HeadRounds.{wanted_small, chain_small}
+use Rattle.ch_contract.proofs.code.Meetings.{met_is_witness}
+use Rattle.ch_contract.proofs.code.Turning.{turned_witness}
+
+module _ (n : ℕ) (outs ins : List (List Leg)) (within : IsWithinLimits n outs ins) where
+  -- turned legs are legs within the limits
+  pub into_within : AreLegsWithin n (legs_into outs)
+  into_within u w l e =
+      let is = within.legs w u l e in
+      record { ends = (is.ends.1, is.ends.0, (λ same. is.ends.2 (sym same))); weight = is.weight; arcs = is.arcs; middle = is.middle }
+
+  pub from_rows : (v : ℕ) → AreLegsFrom (legs_from outs) v (row outs v)
+  from_rows v = (within.rows.0 v, λ x. refl)
+
+  pub to_rows : (v : ℕ) → AreLegsTo (legs_from outs) v (row ins v)
+  to_rows v = (within.rows.1 v, λ x. sym (within.agree x v))
+
+  -- the legs to a node are the turned legs from it
+  pub turned_rows : (v : ℕ) → AreLegsFrom (legs_into outs) v (row ins v)
+  turned_rows v = to_rows v
+
+  -- a leg may be added to a known chain
+  pub ins_light : AreListsWithin n ins
+  ins_light x = All-from_get_or (IsLegLight n) (row ins x) no_leg (λ i lt. light _ (Contains-get_or (row ins x) i no_leg lt))
+    where
+      light : (l : Leg) → Contains (row ins x) l → IsLegLight n l
+      light l c =
+          let is = within.legs l.node x (label_of l) (within.agree l.node x ∙ row_has (row ins x) l (within.rows.1 x) c) in
+          let count = within.nodes in
+          record { node = is.ends.0; weight = is.weight; arcs = omega (arith, is.arcs) }
+
+  -- so are the known costs
+  pub heads_small : (s : Wanted) (k : ℕ) (h : Heads) → k ≤ 16 → s.end < n → s.most.weight ≤ 2 ^ 60 → AreHeads (legs_into outs) s k h → AreSmall h
+  heads_small s k h few inside most heads x = elim (heads.sound x) [
+    | inl none ↦ subst (λ (z : Cost). (z.weight ≤ 2 ^ 60) × (z.arcs ≤ 2 ^ 62)) (sym none) (omega arith, omega arith)
+    | inr w ↦ let is = wanted_small n (legs_into outs) s k x (head_at h x) into_within within.nodes few inside most w in (is.1, omega (arith, is.2))
+  ]
+
+  -- what the search meets is a witness
+  pub met_witness : (s : Wanted) (hops : ℕ) (h : Heads) (w : ℕ) (most : Cost) → AreHeads (legs_into outs) s (hops - 2) h →
+      (most.weight ≤ 2 ^ 60) × (most.arcs < 2 ^ 62) → IsAtMost most s.most → 1 ≤ hops → w ≢ s.avoided → w ≢ s.end →
+      IsMet h ins s.avoided w most hops ↔ HasWitness (legs_from outs) s.avoided s.end w most hops
+  met_witness s hops h w most heads small wanted one off apart =
+      let met = met_is_witness n (legs_into outs) ins s hops h w most turned_rows heads small wanted one off apart in
+      let turned = turned_witness (legs_from outs) s.avoided s.end w most hops in
+      ((λ m. turned.0 (met.0 m)), λ x. met.1 (turned.1 x))
+
+  -- two legs may be added
+  pub legs_sum : (u v x w : ℕ) (a b : Leg) → legs_from outs u v ≡ Some (label_of a) → legs_from outs x w ≡ Some (label_of b) →
+      (a.cost.weight + b.cost.weight ≤ 2 ^ 61) × (a.cost.arcs + b.cost.arcs < 2 ^ 64)
+  legs_sum u v x w a b e f =
+      let p = within.legs u v (label_of a) e in
+      let q = within.legs x w (label_of b) f in
+      let count = within.nodes in
+      (omega (arith, p.weight, q.weight), omega (arith, p.arcs, q.arcs))
+
+  -- the leg at a place of a list
+  pub out_at : (v i : ℕ) (d : Leg) → i < length (row outs v) → legs_from outs v (get_or (row outs v) i d).node ≡ Some (label_of (get_or (row outs v) i d))
+  out_at v i d lt = row_has (row outs v) (get_or (row outs v) i d) (within.rows.0 v) (Contains-get_or (row outs v) i d lt)
+
+  -- a leg leads from one of the nodes to another
+  pub leg_ends : (u v : ℕ) (a : Leg) → legs_from outs u v ≡ Some (label_of a) → (u < n) × (v < n) × (u ≢ v)
+  leg_ends u v a e = (within.legs u v (label_of a) e).ends
+
+  -- what a search has learned
+  pub known_after : (s : Wanted) (hops k : ℕ) (h : Heads) (o : Result (Unit {0}) AllocError) → k ≡ hops - 2 →
+      OnOk o (length h.costs.items ≡ length outs) → OnOk o (AreHeads (legs_into outs) s k h) → OnOk o (IsKnown (record { nodes = n; rows = outs }) s hops h)
+  known_after s hops k h (Ok x) e size heads = record { size = size ∙ within.sizes.0; heads = subst (λ j. AreHeads (legs_into outs) s j h) e heads }
+  known_after s hops k h (Err x) e size heads = heads
+
+-- a leg more, of which the sum is the greatest so far
+pub most_more : (n : ℕ) (first most : Cost) (up : List Leg) (i : ℕ) (l : Leg) → IsAtMost most (cost_sum first l.cost) →
+    All (IsMostFor n first most) (take i up) → All (IsMostFor n first (cost_sum first l.cost)) (take i up ++ l ∷ [])
+most_more n first most up i l le so_far = All-push (IsMostFor n first (cost_sum first l.cost)) (take i up) l
+    (λ k d lt weight arcs. IsAtMost_trans _ most _ (so_far k d lt weight arcs) le) (λ weight arcs. IsAtMost_refl _)
+
+-- a leg more, of which the sum breaks the limits or is no greater
+pub most_kept : (n : ℕ) (first most : Cost) (up : List Leg) (i : ℕ) (l : Leg) → IsMostFor n first most l →
+    All (IsMostFor n first most) (take i up) → All (IsMostFor n first most) (take i up ++ l ∷ [])
+most_kept n first most up i l is so_far = All-push (IsMostFor n first most) (take i up) l so_far is
+
+-- the legs from a node may be added to a leg
+pub up_light : (n : ℕ) (L : Legs) (v : ℕ) (up : List Leg) → AreLegsWithin n L → n ≤ 2 ^ 25 → AreLegsFrom L v up →
+    All (λ l. (l.cost.weight ≤ 2 ^ 60) × (l.cost.arcs ≤ 2 ^ 60)) up
+up_light n L v up limits small row = All-from_get_or (λ l. (l.cost.weight ≤ 2 ^ 60) × (l.cost.arcs ≤ 2 ^ 60)) up no_leg
+    (λ i lt. let is = limits v (get_or up i no_leg).node _ (leg_from_at L v up i no_leg row lt) in (is.weight, omega (arith, is.arcs)))
+
+-- no witness stands for more arcs than 2 ^ 61, so the bound on its arcs may be capped
+pub capped_witness : (n : ℕ) (L : Legs) (v u w hops : ℕ) (cost : Cost) (arcs : ℕ) → AreLegsWithin n L → n ≤ 2 ^ 25 → hops ≤ 16 → arcs ≡ min cost.arcs (2 ^ 61) →
+    HasWitness L v u w (record { weight = cost.weight; arcs = arcs }) hops ↔ HasWitness L v u w cost hops
+capped_witness n L v u w hops cost arcs limits small few is = (
+  λ x. (x.0, record { chain = x.1.chain; hops = x.1.hops; away = x.1.away; cheap = loose (chain_cost L u x.0) x.1.cheap }),
+  λ x. (x.0, record { chain = x.1.chain; hops = x.1.hops; away = x.1.away; cheap = tight (chain_cost L u x.0) (chain_small n L u w x.0 limits small (omega (arith, x.1.hops.1)) x.1.chain) x.1.cheap }),
+)
+  where
+    loose : (d : Cost) → IsAtMost d (record { weight = cost.weight; arcs = arcs }) → IsAtMost d cost
+    loose d le = let weight = le.0 in (weight, λ e. let more = le.1 e in omega arith)
+
+    tight : (d : Cost) → d.arcs ≤ 2 ^ 60 → IsAtMost d cost → IsAtMost d (record { weight = cost.weight; arcs = arcs })
+    tight d less le = let weight = le.0 in (weight, λ e. let more = le.1 e in omega arith)

@@ -1,0 +1,160 @@
+-- One list of many is changed.
+use Rattle.std.proofs.Common.{◌≡◌, ℕ, ◌+◌, ◌<◌, Bool, true, false, List, [], ◌∷◌, ◌++◌, length, set, get_or, take, Option, Some, None, Contains, inl, inr, refl, sym, ◌∙◌, ap, subst, arith}
+use Rattle.std.specs.Prelude.{map, ◌⊎◌, ◌≢◌, ◌==◌, ◌&&◌, if◌then◌else◌, AllPairs}
+use Rattle.std.proofs.lemmas.Bool.{cases_eq, eqb-true, eqb-false}
+use Rattle.std.proofs.lemmas.Bool.Decides.{nat_tests}
+use Rattle.std.proofs.lemmas.List.Elements.{Contains-push_cases}
+use Rattle.ch_contract.specs.Legs.{Label, Legs}
+use Rattle.ch_contract.specs.Contraction.{IsPairBefore, shortcut_label}
+use Rattle.ch_contract.specs.declared.shortcut.Shortcut.{Shortcut}
+use Rattle.ch_contract.proofs.code.Puts.{next_shortcut}
+use Rattle.ch_contract.specs.LegLists.{AreRows, IsAmong, HaveAll, IsSet, AreTaken, AreOverridden, legs_from, legs_into}
+use Rattle.std.proofs.lemmas.List.{get_or-set_same, get_or-set_other, get_or-map, map-set, length-map, length-set}
+use Rattle.smallvec.specs.SmallVec.{SmallVec}
+use Rattle.ch_contract.specs.declared.leg.Leg.{Leg}
+use Rattle.ch_contract.specs.Rows.{row, row_leg, IsRow}
+
+abbrev pub rows_of : List (SmallVec Leg) → List (List Leg)
+rows_of lists = map (λ v. v.items) lists
+
+-- the row of a node is what its list holds
+pub row_of : (lists : List (SmallVec Leg)) (x : ℕ) (d : SmallVec Leg) → x < length lists → row (rows_of lists) x ≡ (get_or lists x d).items
+row_of lists x d lt = get_or-map (λ (v : SmallVec Leg). v.items) lists x d [] lt
+
+-- and it alone is changed with it
+pub rows_set : (lists : List (SmallVec Leg)) (x : ℕ) (v : SmallVec Leg) → x < length lists →
+    (row (rows_of (set lists x v)) x ≡ v.items) × (rows_of (set lists x v) ≡ set (rows_of lists) x (row (rows_of (set lists x v)) x))
+rows_set lists x v lt = (here, whole ∙ ap (set (rows_of lists) x) (sym here))
+  where
+    whole : rows_of (set lists x v) ≡ set (rows_of lists) x v.items
+    whole = map-set (λ (w : SmallVec Leg). w.items) lists x v
+
+    here : row (rows_of (set lists x v)) x ≡ v.items
+    here = ap (λ z. row z x) whole ∙ get_or-set_same (rows_of lists) x v.items [] (omega (arith, length-map lists (λ (w : SmallVec Leg). w.items)))
+
+-- the list of one node is changed at one other node
+pub set_row : (node other : ℕ) (label : Option Label) (old new : List (List Leg)) → node < length old → AreRows old →
+    new ≡ set old node (row new node) → IsRow (row new node) →
+    ((y : ℕ) → row_leg (row new node) y ≡ (if other == y then label else row_leg (row old node) y)) → IsSet node other label old new
+set_row node other label old new inside rows is row_is legs = record {
+  size = ap length is ∙ length-set old node (row new node);
+  rows = λ x. rows_at x (cases_eq x node);
+  legs = λ x y. legs_at x y (node == x) refl;
+}
+  where
+    elsewhere : (x : ℕ) → x ≢ node → row new x ≡ row old x
+    elsewhere x ne = ap (λ z. row z x) is ∙ get_or-set_other old node x (row new node) [] ne
+
+    rows_at : (x : ℕ) → (x ≡ node) ⊎ (x ≢ node) → IsRow (row new x)
+    rows_at x (inl e) = subst (λ z. IsRow (row new z)) (sym e) row_is
+    rows_at x (inr ne) = subst IsRow (sym (elsewhere x ne)) (rows x)
+
+    legs_at : (x y : ℕ) (b : Bool) → (node == x) ≡ b → row_leg (row new x) y ≡ (if b && other == y then label else row_leg (row old x) y)
+    legs_at x y true e = let same = eqb-true node x e in subst (λ z. row_leg (row new z) y ≡ (if other == y then label else row_leg (row old z) y)) same (legs y)
+    legs_at x y false e = let ne = eqb-false node x e in ap (λ z. row_leg z y) (elsewhere x (λ same. ne (sym same)))
+
+-- there the leg is new
+pub set_here : (node other : ℕ) (label : Option Label) (old new : List (List Leg)) → IsSet node other label old new → row_leg (row new node) other ≡ label
+set_here node other label old new s =
+    let first : (node == node) ≡ true = grind (arith, nat_tests) in
+    let second : (other == other) ≡ true = grind (arith, nat_tests) in
+    s.legs node other ∙ rw (first, second) refl
+
+-- and everywhere else the one before
+pub set_off : (node other : ℕ) (label : Option Label) (old new : List (List Leg)) → IsSet node other label old new →
+    (x y : ℕ) → (node ≡ x → other ≡ y → ⊥) → row_leg (row new x) y ≡ row_leg (row old x) y
+set_off node other label old new s x y off = s.legs x y ∙ at (node == x) (other == y) refl refl
+  where
+    at : (p q : Bool) → (node == x) ≡ p → (other == y) ≡ q → (if p && q then label else row_leg (row old x) y) ≡ row_leg (row old x) y
+    at true true e f = absurd (off (eqb-true node x e) (eqb-true other y f))
+    at true false e f = refl
+    at false q e f = refl
+
+not_among : (x : ℕ) → IsAmong [] x → ⊥
+not_among x m = let at = m.1.1 in omega arith
+
+-- at first nothing is taken
+pub taken_none : (v : ℕ) (lists : List (List Leg)) → AreRows lists → AreTaken v [] lists lists
+taken_none v lists rows = record { size = refl; rows = rows; kept = λ x y ne. refl; here = λ x m. absurd (not_among x m); there = λ x. inl refl }
+
+-- one more
+pub taken_more : (v : ℕ) (others : List Leg) (l : Leg) (old mid new : List (List Leg)) → AreTaken v others old mid →
+    IsSet l.node v None mid new → AreTaken v (others ++ l ∷ []) old new
+taken_more v others l old mid new t s = record {
+  size = s.size ∙ t.size;
+  rows = s.rows;
+  kept = λ x y ne. set_off l.node v None mid new s x y (λ _ same. ne (sym same)) ∙ t.kept x y ne;
+  here = λ x m. here x (cases_eq x l.node) (Contains-push_cases others l m.0 m.1) m.2;
+  there = λ x. there x (cases_eq x l.node) (t.there x);
+}
+  where
+    gone : (x : ℕ) → x ≡ l.node → row_leg (row new x) v ≡ None
+    gone x e = subst (λ z. row_leg (row new z) v ≡ None) (sym e) (set_here l.node v None mid new s)
+
+    stays : (x : ℕ) → x ≢ l.node → row_leg (row new x) v ≡ row_leg (row mid x) v
+    stays x ne = set_off l.node v None mid new s x v (λ same _. ne (sym same))
+
+    here : (x : ℕ) → (x ≡ l.node) ⊎ (x ≢ l.node) → {k : Leg} → Contains others k ⊎ (l ≡ k) → k.node ≡ x → row_leg (row new x) v ≡ None
+    here x (inl e) _ _ = gone x e
+    here x (inr ne) {k} (inl c) f = stays x ne ∙ t.here x (k, c, f)
+    here x (inr ne) {k} (inr e) f = absurd (ne (sym f ∙ ap (λ (z : Leg). z.node) (sym e)))
+
+    there : (x : ℕ) → (x ≡ l.node) ⊎ (x ≢ l.node) → (row_leg (row mid x) v ≡ row_leg (row old x) v) ⊎ (row_leg (row mid x) v ≡ None) →
+        (row_leg (row new x) v ≡ row_leg (row old x) v) ⊎ (row_leg (row new x) v ≡ None)
+    there x (inl e) _ = inr (gone x e)
+    there x (inr ne) (inl same) = inl (stays x ne ∙ same)
+    there x (inr ne) (inr none) = inr (stays x ne ∙ none)
+
+-- all that have one are among them
+pub taken_all : (v : ℕ) (others : List Leg) (old new : List (List Leg)) → AreTaken v others old new → HaveAll old v others →
+    (x y : ℕ) → row_leg (row new x) y ≡ (if v == y then None else row_leg (row old x) y)
+taken_all v others old new t all x y = at (v == y) refl
+  where
+    none : (o : Option Label) → row_leg (row old x) v ≡ o → (row_leg (row new x) v ≡ row_leg (row old x) v) ⊎ (row_leg (row new x) v ≡ None) → row_leg (row new x) v ≡ None
+    none o e (inr gone) = gone
+    none None e (inl same) = same ∙ e
+    none (Some m) e (inl same) = t.here x (all x m e)
+
+    at : (b : Bool) → (v == y) ≡ b → row_leg (row new x) y ≡ (if b then None else row_leg (row old x) y)
+    at true e = let same : v ≡ y = grind (arith, nat_tests) in subst (λ z. row_leg (row new x) z ≡ None) same (none (row_leg (row old x) v) refl (t.there x))
+    at false e = t.kept x y (let differs : y ≢ v = grind (arith, nat_tests) in differs)
+
+-- at first no shortcut is put in
+pub overridden_none : (read : List (List Leg) → Legs) (v : ℕ) (lists : List (List Leg)) → AreRows lists → AreOverridden read v [] lists lists
+overridden_none read v lists rows = record { size = refl; rows = rows; legs = λ u w. refl }
+
+-- the next shortcut is put in
+overridden_more : (read : List (List Leg) → Legs) (v : ℕ) (xs : List Shortcut) (i : ℕ) (d : Shortcut) (old mid new : List (List Leg)) → i < length xs →
+    AllPairs IsPairBefore xs → AreOverridden read v (take i xs) old mid → length new ≡ length mid → AreRows new →
+    ((u w : ℕ) → read new u w ≡ (if (get_or xs i d).from == u && (get_or xs i d).to == w then Some (shortcut_label v (get_or xs i d)) else read mid u w)) →
+    AreOverridden read v (take (i + 1) xs) old new
+overridden_more read v xs i d old mid new lt ordered so_far size rows legs = record {
+  size = size ∙ so_far.size;
+  rows = rows;
+  legs = λ u w. legs u w ∙ next_shortcut v xs i d u w (read mid u w) (read old u w) lt ordered (so_far.legs u w);
+}
+
+-- two tests in either order
+pub turn : {A : Type 0} (p q : Bool) (a b : A) → (if p && q then a else b) ≡ (if q && p then a else b)
+turn true true a b = refl
+turn true false a b = refl
+turn false true a b = refl
+turn false false a b = refl
+
+-- in the list of its first node
+pub overridden_from : (v : ℕ) (xs : List Shortcut) (i : ℕ) (d : Shortcut) (old mid new : List (List Leg)) → i < length xs →
+    AllPairs IsPairBefore xs → AreOverridden legs_from v (take i xs) old mid →
+    IsSet (get_or xs i d).from (get_or xs i d).to (Some (shortcut_label v (get_or xs i d))) mid new → AreOverridden legs_from v (take (i + 1) xs) old new
+overridden_from v xs i d old mid new lt ordered so_far s = overridden_more legs_from v xs i d old mid new lt ordered so_far s.size s.rows s.legs
+
+-- in the list of its second node
+pub overridden_into : (v : ℕ) (xs : List Shortcut) (i : ℕ) (d : Shortcut) (old mid new : List (List Leg)) → i < length xs →
+    AllPairs IsPairBefore xs → AreOverridden legs_into v (take i xs) old mid →
+    IsSet (get_or xs i d).to (get_or xs i d).from (Some (shortcut_label v (get_or xs i d))) mid new → AreOverridden legs_into v (take (i + 1) xs) old new
+overridden_into v xs i d old mid new lt ordered so_far s =
+    overridden_more legs_into v xs i d old mid new lt ordered so_far s.size s.rows
+    (λ u w. s.legs w u ∙ turn ((get_or xs i d).to == w) ((get_or xs i d).from == u) (Some (shortcut_label v (get_or xs i d))) (legs_into mid u w))
+
+-- what stands past the end of a list of shortcuts
+abbrev pub no_shortcut : Shortcut
+no_shortcut = record { from = 0; to = 0; cost = record { weight = 0; arcs = 0 } }

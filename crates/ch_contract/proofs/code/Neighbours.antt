@@ -1,0 +1,113 @@
+-- The neighbours of a node, listed from its rows.
+use Rattle.std.proofs.Common.{◌≡◌, ℕ, zero, ◌<◌, Bool, true, false, cond, not, List, [], ◌∷◌, map, Option, Some, None, refl, sym, ◌∙◌, ap, subst, arith, inl, inr, Contains}
+use Rattle.std.specs.Prelude.{◌⊎◌, ◌==◌, ◌||◌, filter, is_some}
+use Rattle.std.proofs.lemmas.Bool.{eqb-true, false≢true}
+use Rattle.std.proofs.lemmas.List.Elements.{Contains-append_left, Contains-append_right, Contains-append_cases}
+use Rattle.ch_contract.specs.declared.leg.Leg.{Leg}
+use Rattle.ch_contract.specs.Legs.{Label, Legs, AreLegsWithin}
+use Rattle.ch_contract.specs.Order.{are_neighbours}
+use Rattle.ch_contract.specs.Rows.{AreLegsFrom, AreLegsTo, label_of, row_leg}
+use Rattle.ch_contract.specs.Priorities.{has_node, neighbours_in}
+use Rattle.ch_contract.proofs.theory.Ordered.{contains_head, contains_tail, contains_cons, contains_none}
+use Rattle.ch_contract.proofs.theory.RowLegs.{leg_at, row_has, row_member}
+
+-- what is in a list has its value among the values
+contains_map : {X Y : Type 0} (f : X → Y) (xs : List X) (x : X) → Contains xs x → Contains (map f xs) (f x)
+contains_map f [] x c = absurd (contains_none x c)
+contains_map f (y ∷ xs) x c = elim (contains_cons y x xs c) [
+  | inl e ↦ (zero, omega arith, ap f e)
+  | inr later ↦ contains_tail (f x) (f y) (map f xs) (contains_map f xs x later)
+]
+
+-- a value comes from a member
+map_contains : {X Y : Type 0} (f : X → Y) (xs : List X) (y : Y) → Contains (map f xs) y → (x : X) × Contains xs x × (f x ≡ y)
+map_contains f [] y c = absurd (contains_none y c)
+map_contains f (x ∷ xs) y c = elim (contains_cons (f x) y (map f xs) c) [
+  | inl e ↦ (x, contains_head x xs, e)
+  | inr later ↦ let r = map_contains f xs y later in (r.0, contains_tail r.0 x xs r.1, r.2)
+]
+
+-- a member that passes is kept
+contains_filter : {X : Type 0} (p : X → Bool) (xs : List X) (x : X) → p x ≡ true → Contains xs x → Contains (filter p xs) x
+contains_filter p [] x t c = absurd (contains_none x c)
+contains_filter p (y ∷ xs) x t c = at (p y) refl (contains_cons y x xs c) (contains_filter p xs x t)
+  where
+    at : (b : Bool) → p y ≡ b → (y ≡ x) ⊎ Contains xs x → (Contains xs x → Contains (filter p xs) x) → Contains (cond b (y ∷ filter p xs) (filter p xs)) x
+    at true e (inl same) more = (zero, omega arith, same)
+    at true e (inr later) more = contains_tail x y (filter p xs) (more later)
+    at false e (inl same) more = absurd (false≢true (sym e ∙ ap p same ∙ t))
+    at false e (inr later) more = more later
+
+-- what is kept is a member
+filter_contains : {X : Type 0} (p : X → Bool) (xs : List X) (x : X) → Contains (filter p xs) x → Contains xs x
+filter_contains p [] x c = c
+filter_contains p (y ∷ xs) x c = at (p y) c (filter_contains p xs x)
+  where
+    at : (b : Bool) → Contains (cond b (y ∷ filter p xs) (filter p xs)) x → (Contains (filter p xs) x → Contains xs x) → Contains (y ∷ xs) x
+    at true k more = elim (contains_cons y x (filter p xs) k) [ inl e ↦ (zero, omega arith, e) | inr later ↦ contains_tail x y xs (more later) ]
+    at false k more = contains_tail x y xs (more k)
+
+-- where the test finds a node, a leg has it
+node_found : (legs : List Leg) (x : ℕ) → has_node legs x ≡ true → (l : Leg) × Contains legs l × (l.node ≡ x)
+node_found [] x e = cc
+node_found (k ∷ legs) x e = at (k.node == x) refl e (node_found legs x)
+  where
+    at : (b : Bool) → (k.node == x) ≡ b → (b || has_node legs x) ≡ true → (has_node legs x ≡ true → (l : Leg) × Contains legs l × (l.node ≡ x)) → (l : Leg) × Contains (k ∷ legs) l × (l.node ≡ x)
+    at true t f more = (k, contains_head k legs, eqb-true k.node x t)
+    at false t f more = let r = more f in (r.0, contains_tail r.0 k legs r.1, r.2)
+
+module _ (L : Legs) (v : ℕ) (up down : List Leg) (from : AreLegsFrom L v up) (to : AreLegsTo L v down) where
+  -- x is listed
+  abbrev listed : ℕ → Type 0
+  listed x = Contains (neighbours_in up down) x
+
+  -- the node of a leg from v is listed
+  in_up : (l : Leg) (x : ℕ) → Contains up l → l.node ≡ x → listed x
+  in_up l x c e = Contains-append_left (map (λ (k : Leg). k.node) up) _ x (subst (Contains (map (λ (k : Leg). k.node) up)) e (contains_map (λ (k : Leg). k.node) up l c))
+
+  -- the node of a leg to v is listed
+  in_down : (b : Bool) (l : Leg) → has_node up l.node ≡ b → Contains down l → listed l.node
+  in_down true l t c = let r = node_found up l.node t in in_up r.0 l.node r.1 r.2
+  in_down false l t c =
+      let passes : not (has_node up l.node) ≡ true = ap not t in
+      Contains-append_right (map (λ (k : Leg). k.node) up) _ l.node (contains_map (λ (k : Leg). k.node) (filter (λ (k : Leg). not (has_node up k.node)) down) l (contains_filter (λ (k : Leg). not (has_node up k.node)) down l passes c))
+
+  -- a neighbour is listed
+  pub neighbour_listed : (x : ℕ) → are_neighbours L v x ≡ true → Contains (neighbours_in up down) x
+  neighbour_listed x e = at (L v x) (L x v) refl refl e
+    where
+      at : (a b : Option Label) → L v x ≡ a → L x v ≡ b → (is_some a || is_some b) ≡ true → listed x
+      at (Some l) b p q t = in_up (leg_at x l) x (row_member up x l (from.1 x ∙ p)) refl
+      at None (Some l) p q t = in_down (has_node up x) (leg_at x l) refl (row_member down x l (to.1 x ∙ q))
+      at None None p q t = cc
+
+  -- what is listed is a neighbour
+  pub listed_neighbour : (x : ℕ) → Contains (neighbours_in up down) x → are_neighbours L v x ≡ true
+  listed_neighbour x c = elim (Contains-append_cases (map (λ (k : Leg). k.node) up) _ x c) [
+    | inl first ↦
+        let r = map_contains (λ (k : Leg). k.node) up x first in
+        let leg : L v x ≡ Some (label_of r.0) = sym (from.1 x) ∙ subst (λ z. row_leg up z ≡ Some (label_of r.0)) r.2 (row_has up r.0 from.0 r.1) in
+        ap (λ o. is_some o || is_some (L x v)) leg
+    | inr second ↦
+        let r = map_contains (λ (k : Leg). k.node) _ x second in
+        let c = filter_contains (λ (k : Leg). not (has_node up k.node)) down r.0 r.1 in
+        let leg : L x v ≡ Some (label_of r.0) = sym (to.1 x) ∙ subst (λ z. row_leg down z ≡ Some (label_of r.0)) r.2 (row_has down r.0 to.0 c) in
+        some_right (is_some (L v x)) (L x v) (label_of r.0) leg
+  ]
+    where
+      some_right : (b : Bool) (o : Option Label) (l : Label) → o ≡ Some l → (b || is_some o) ≡ true
+      some_right true o l e = refl
+      some_right false o l e = ap is_some e
+
+  -- what is no neighbour is not listed
+  pub not_listed : (x : ℕ) → are_neighbours L v x ≡ false → Contains (neighbours_in up down) x → ⊥
+  not_listed x e c = false≢true (sym e ∙ listed_neighbour x c)
+
+  -- a neighbour is a node
+  pub neighbour_within : (n x : ℕ) → AreLegsWithin n L → Contains (neighbours_in up down) x → x < n
+  neighbour_within n x within c = at (L v x) (L x v) refl refl (listed_neighbour x c)
+    where
+      at : (a b : Option Label) → L v x ≡ a → L x v ≡ b → (is_some a || is_some b) ≡ true → x < n
+      at (Some l) b p q t = (within v x l p).ends.1
+      at None (Some l) p q t = (within x v l q).ends.0
+      at None None p q t = cc

@@ -1,5 +1,0 @@
-use Rattle.ch_contract.proofs.BuiltKept.{least_costs_kept}
-use Rattle.ch_contract.proofs.keeping.contraction_keeps_least_costs.Goals as goal
-
-pub returns : goal.returns
-returns c = least_costs_kept

@@ -1,5 +1,0 @@
-use Rattle.ch_contract.proofs.BuiltKept.{hierarchies_kept}
-use Rattle.ch_contract.proofs.keeping.hierarchies_are_kept.Goals as goal
-
-pub returns : goal.returns
-returns c = hierarchies_kept

@@ -1,5 +1,0 @@
-use Rattle.ch_contract.proofs.KeptWalks.{tight_paths_are_least}
-use Rattle.ch_contract.proofs.kept_laws.kept_hierarchies_are_tight.Goals as goal
-
-pub returns : goal.returns
-returns c = tight_paths_are_least

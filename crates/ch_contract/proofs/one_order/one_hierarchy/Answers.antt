@@ -1,5 +1,0 @@
-use Rattle.ch_contract.proofs.OneOrder.{one_hierarchy}
-use Rattle.ch_contract.proofs.one_order.one_hierarchy.Goals as goal
-
-pub returns : goal.returns
-returns c g h H K p q = one_hierarchy g h H K p q

@@ -1,0 +1,12 @@
+use Rattle.std.proofs.Common.{sym, subst}
+use Rattle.ch_contract.specs.Rows.{AreLegsFrom}
+use Rattle.ch_contract.specs.Remaining.{legs_of}
+use Rattle.ch_contract.specs.LegLists.{legs_from}
+use Rattle.ch_contract.proofs.code.Lines.{from_rows}
+use Rattle.ch_contract.proofs.remaining.Remaining.out_legs.Goals as goal
+
+pub returns : goal.returns
+unfolding legs_of
+returns c =
+    subst (λ m. AreLegsFrom (legs_from m.rows) c.args.v c.at.result.now) c.self.view_is
+    (subst (AreLegsFrom (legs_from c.self.inside.outs) c.args.v) (sym c.at.ensures) (from_rows _ _ _ c.self.invariant c.args.v))

@@ -1,0 +1,26 @@
+use Rattle.std.proofs.Common.{sym, ◌∙◌, ap, subst, arith, length, ◌≡◌, ◌≤◌, true, Contains, inl, inr}
+use Rattle.ch_contract.specs.declared.leg.Leg.{Leg}
+use Rattle.ch_contract.specs.Meeting.{IsMetAt}
+use Rattle.ch_contract.proofs.theory.RowLemmas.{no_leg}
+use Rattle.ch_contract.proofs.code.Meetings.{all_taken, one_more_taken}
+use Rattle.ch_contract.proofs.search.Search.meets.Goals.{else-leg-avoided-via-then-leg-avoided+else-meets_at, else-leg-avoided-via-else-leg-avoided}
+use Rattle.ch_contract.proofs.search.Search.meets.Goals as goal
+
+pub loop-leg-preserved : goal.loop-leg-preserved
+loop-leg-preserved c k among off met =
+    let legs = c.at-leg-items.result.now in
+    let i = c.loop-leg.leg-index in
+    elim (one_more_taken legs i no_leg k c.loop-leg-test.true among) [
+      | inl early ↦ c.loop-leg.invariant k early off met
+      | inr here ↦ elim c.else-leg-avoided.branch [
+        | else-leg-avoided-via-then-leg-avoided+else-meets_at w ↦
+            let yes : w.meets_at.result ≡ true = w.meets_at.ensures.1 (subst (λ (z : Leg). IsMetAt c.args.self.now.heads c.args.lists.now z c.args.most c.args.hops) (sym here) met) in cc
+        | else-leg-avoided-via-else-leg-avoided w ↦ off (ap (λ (z : Leg). z.node) (sym here) ∙ w.if-leg-avoided.false)
+      ]
+    ]
+
+pub returns : goal.returns
+returns c =
+    let legs = c.at-leg-items.result.now in
+    let past : length legs ≤ c.loop-leg.leg-index = omega arith in
+    ((λ e. cc), λ m. absurd (c.loop-leg.invariant m.0 (all_taken legs c.loop-leg.leg-index m.0 past (subst (λ z. Contains z m.0) (sym c.at-leg-items.ensures) m.1)) m.2 m.3))

@@ -1,0 +1,27 @@
+-- Legs as functions: what contraction keeps, and what kept hierarchies give, whatever lists hold the legs.
+pub mod Ordered
+pub mod RowLegs
+pub mod RowLemmas
+pub mod Counts
+pub mod Chains
+pub mod Contracting
+pub mod OneContraction
+pub mod Opening
+pub mod OpeningLegs
+pub mod StepLegs
+pub mod KeptCosts
+pub mod BuiltLegs
+pub mod BuiltLevels
+pub mod BuiltKept
+pub mod UpAndDown
+pub mod LegPaths
+pub mod MeetingPaths
+pub mod LegWalks
+pub mod KeptWalks
+pub mod OneOrder
+pub mod Levelled
+pub mod ReferenceSearch
+pub mod OrderSteps
+pub mod PrioritySteps
+pub mod RowSteps
+pub mod Underway

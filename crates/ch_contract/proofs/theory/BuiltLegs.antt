@@ -1,0 +1,98 @@
+-- The legs of a built hierarchy are those that each node had when it was contracted.
+use Rattle.std.proofs.Common.{◌≡◌, ℕ, ◌<◌, ◌≤◌, List, [], length, Some, Contains, slice_index, sym, ◌∙◌, subst, arith, inl, inr}
+use Rattle.std.proofs.lemmas.Bool.{cases_lt}
+use Rattle.std.proofs.lemmas.List.{get_or_default, get_or_past}
+use Rattle.ch_graph.specs.Graph.{Network, IsWithinLimits}
+use Rattle.ch_graph.specs.WalkLaws.{IsWalkCost}
+use Rattle.ch_contract.specs.declared.leg.Leg.{Leg}
+use Rattle.ch_contract.specs.Legs.{Label, Legs, IsHopBound}
+use Rattle.ch_contract.specs.Rows.{row, label_of}
+use Rattle.ch_contract.specs.Hierarchy.{Levels, IsHierarchyOf}
+use Rattle.ch_contract.proofs.theory.Ordered.{contains_none, every_number}
+use Rattle.ch_contract.proofs.theory.RowLegs.{leg_at, row_has, row_member}
+use Rattle.ch_contract.proofs.theory.StepLegs.{IsContraction, IsStepLeg, step_leg}
+use Rattle.ch_contract.proofs.theory.KeptCosts.{IsAfter}
+
+-- the hierarchy of a graph within the limits
+pub record IsBuilt (g : Network) (h : ℕ) (H : Levels) (order : List ℕ) (L : ℕ → Legs) : Type 0 where
+  pub limits : IsWithinLimits g
+  pub hops : IsHopBound h
+  pub hierarchy : IsHierarchyOf g h H order L
+
+-- a node that has a leg is one of the nodes
+row_node : (rows : List (List Leg)) (n v : ℕ) (l : Leg) → length rows ≡ n → Contains (row rows v) l → v < n
+row_node rows n v l size has = elim (cases_lt v n) [
+  | inl lt ↦ lt
+  | inr past ↦ absurd (contains_none l (subst (λ legs. Contains legs l) (get_or_past rows v [] (omega arith)) has))
+]
+
+module _ {g : Network} {h : ℕ} {H : Levels} {order : List ℕ} {L : ℕ → Legs} (built : IsBuilt g h H order L) where
+  -- all nodes are contracted
+  pub contraction : IsContraction g h order L g.nodes
+  contraction = record { limits = built.limits; hops = built.hops; start = built.hierarchy.order_is.start; step = built.hierarchy.order_is.step }
+
+  -- each node is contracted in some step
+  pub step_of : (x : ℕ) → x < g.nodes → (i : ℕ) × (i < g.nodes) × (slice_index order i ≡ x)
+  step_of x lt =
+      let nodes = built.hierarchy.order_is.nodes in
+      let size = nodes.0 in
+      let c = every_number order g.nodes x size nodes.1 nodes.2 lt in
+      let within = c.1 in
+      (c.0, omega arith, get_or_default order c.0 0 x within ∙ c.2)
+
+  -- and in one step alone
+  step_once : (i j : ℕ) → i < g.nodes → j < g.nodes → slice_index order i ≡ slice_index order j → i ≡ j
+  step_once i j li lj e =
+      let nodes = built.hierarchy.order_is.nodes in
+      let size = nodes.0 in
+      elim (cases_lt i j) [
+        | inl before ↦ absurd (nodes.2 i j 0 before (omega arith) e)
+        | inr no_before ↦ elim (cases_lt j i) [
+          | inl after ↦ absurd (nodes.2 j i 0 after (omega arith) (sym e))
+          | inr no_after ↦ omega arith
+        ]
+      ]
+
+  -- the node of a step is not contracted in an earlier one
+  pub after_earlier : (i k : ℕ) → i ≤ k → k < g.nodes → IsAfter order i (slice_index order k)
+  after_earlier i k le lt j below e = let same : j ≡ k = step_once j k (omega arith) lt e in absurd (omega arith)
+
+  -- each leg from a node, when it is contracted, stands among its up legs
+  pub up_leg : (i x : ℕ) (m : Label) → i < g.nodes → L i (slice_index order i) x ≡ Some m → Contains (row H.up (slice_index order i)) (leg_at x m)
+  up_leg i x m lt e = row_member (row H.up (slice_index order i)) x m ((built.hierarchy.up i lt).1 x ∙ e)
+
+  -- each leg to it stands among its down legs
+  pub down_leg : (i x : ℕ) (m : Label) → i < g.nodes → L i x (slice_index order i) ≡ Some m → Contains (row H.down (slice_index order i)) (leg_at x m)
+  down_leg i x m lt e = row_member (row H.down (slice_index order i)) x m ((built.hierarchy.down i lt).1 x ∙ e)
+
+  -- each up leg was a leg from the node when it was contracted
+  up_leg_was : (i : ℕ) (l : Leg) → i < g.nodes → Contains (row H.up (slice_index order i)) l → L i (slice_index order i) l.node ≡ Some (label_of l)
+  up_leg_was i l lt has = sym ((built.hierarchy.up i lt).1 l.node) ∙ row_has (row H.up (slice_index order i)) l (built.hierarchy.up i lt).0 has
+
+  -- each down leg was a leg to it
+  down_leg_was : (i : ℕ) (l : Leg) → i < g.nodes → Contains (row H.down (slice_index order i)) l → L i l.node (slice_index order i) ≡ Some (label_of l)
+  down_leg_was i l lt has = sym ((built.hierarchy.down i lt).1 l.node) ∙ row_has (row H.down (slice_index order i)) l (built.hierarchy.down i lt).0 has
+
+  -- an up leg of the node of step i is a leg before that step
+  pub up_step_leg : (i : ℕ) (l : Leg) → i < g.nodes → Contains (row H.up (slice_index order i)) l → IsStepLeg g order L i (slice_index order i) l.node (label_of l)
+  up_step_leg i l lt has = step_leg contraction i (omega arith) (slice_index order i) l.node (label_of l) (up_leg_was i l lt has)
+
+  -- and so is a down leg
+  pub down_step_leg : (i : ℕ) (l : Leg) → i < g.nodes → Contains (row H.down (slice_index order i)) l → IsStepLeg g order L i l.node (slice_index order i) (label_of l)
+  down_step_leg i l lt has = step_leg contraction i (omega arith) l.node (slice_index order i) (label_of l) (down_leg_was i l lt has)
+
+  -- a node that has an up leg is that of a step
+  pub up_step : (v : ℕ) (l : Leg) → Contains (row H.up v) l → (i : ℕ) × (i < g.nodes) × (slice_index order i ≡ v)
+  up_step v l has = step_of v (row_node H.up g.nodes v l built.hierarchy.sizes.1 has)
+
+  -- so is one that has a down leg
+  pub down_step : (v : ℕ) (l : Leg) → Contains (row H.down v) l → (i : ℕ) × (i < g.nodes) × (slice_index order i ≡ v)
+  down_step v l has = step_of v (row_node H.down g.nodes v l built.hierarchy.sizes.2 has)
+
+  -- each up leg is a walk
+  pub up_walk : (v : ℕ) (l : Leg) → Contains (row H.up v) l → IsWalkCost g v l.node l.cost
+  up_walk v l has = let s = up_step v l has in subst (λ x. IsWalkCost g x l.node l.cost) s.2 (up_step_leg s.0 l s.1 (subst (λ x. Contains (row H.up x) l) (sym s.2) has)).walk
+
+  -- and each down leg
+  pub down_walk : (v : ℕ) (l : Leg) → Contains (row H.down v) l → IsWalkCost g l.node v l.cost
+  down_walk v l has = let s = down_step v l has in subst (λ x. IsWalkCost g l.node x l.cost) s.2 (down_step_leg s.0 l s.1 (subst (λ x. Contains (row H.down x) l) (sym s.2) has)).walk

@@ -1,0 +1,175 @@
+-- Each hierarchy by the rules has levels from 1 to the number of nodes, each once, and legs to higher nodes, within the limits.
+use Rattle.std.proofs.Common.{◌≡◌, ℕ, suc, zero, ◌+◌, ◌^◌, ◌<◌, ◌≤◌, Bool, true, false, cond, List, [], length, get_or, Option, Some, None, refl, sym, ◌∙◌, ap, subst, arith, inl, inr, Contains}
+use Rattle.std.specs.Prelude.{◌⊎◌, ◌≢◌, ◌==◌, ◌||◌, All, slice_index}
+use Rattle.std.proofs.lemmas.Bool.{cases_eq, cases_lt}
+use Rattle.std.proofs.lemmas.Bool.Decides.{nat_tests}
+use Rattle.std.proofs.lemmas.Option.{same_Some, none-some}
+use Rattle.std.proofs.lemmas.List.{get_or_default, get_or_past}
+use Rattle.std.proofs.lemmas.List.Elements.{All-nil, Contains-get_or}
+use Rattle.ch_graph.specs.Graph.{Network}
+use Rattle.ch_contract.specs.declared.leg.Leg.{Leg}
+use Rattle.ch_contract.specs.declared.shortcut.Shortcut.{Shortcut}
+use Rattle.ch_contract.specs.Legs.{Label, Legs, AreLegsWithin, opening}
+use Rattle.ch_contract.specs.Contraction.{shortcut_label, overridden, contracted, Contracts}
+use Rattle.ch_contract.specs.Rows.{row, IsRow, label_of}
+use Rattle.ch_contract.specs.Hierarchy.{Levels, IsLegUp, AreLegsUp, IsLevelled, IsHierarchyOf}
+use Rattle.ch_contract.proofs.theory.Contracting.{override_cases, contracted_within}
+use Rattle.ch_contract.proofs.theory.OneOrder.{taken_at, one_map}
+use Rattle.ch_contract.proofs.theory.RowLegs.{none_unless, row_has}
+
+-- a leg after shortcuts are put in was there before, or is the leg of a shortcut
+abbrev IsMade : ℕ → List Shortcut → ℕ → ℕ → Label → Type 0
+IsMade v list u w l = (s : Shortcut) × Contains list s × (s.from ≡ u) × (s.to ≡ w) × (shortcut_label v s ≡ l)
+
+-- so it is after a contraction
+contracted_cases : (L : Legs) (v : ℕ) (list : List Shortcut) (u w : ℕ) (l : Label) → contracted L v list u w ≡ Some l → (L u w ≡ Some l) ⊎ IsMade v list u w l
+contracted_cases L v list u w l e = at (u == v || w == v) e
+  where
+    at : (b : Bool) → cond b None (overridden v list u w (L u w)) ≡ Some l → (L u w ≡ Some l) ⊎ IsMade v list u w l
+    at true f = absurd (none-some _ f)
+    at false f = elim (override_cases v list u w (L u w)) [
+      | inl stays ↦ inl (sym stays ∙ f)
+      | inr s ↦ inr (s.0, s.1, s.2, s.3, same_Some _ _ (sym s.4 ∙ f))
+    ]
+
+-- a contraction keeps the limits
+pub within_more : (n h : ℕ) (L : Legs) (v : ℕ) (M : Legs) → AreLegsWithin n L → Contracts n h L v M → AreLegsWithin n M
+within_more n h L v M within step u w l e = contracted_within n h L v step.0 within step.1 u w l (sym (step.2 u w) ∙ e)
+
+-- no leg touches z
+abbrev pub IsGone : Legs → ℕ → Type 0
+IsGone L z = (x : ℕ) → (L z x ≡ None) × (L x z ≡ None)
+
+-- no leg touches a contracted node
+gone_next : (n h : ℕ) (L : Legs) (v : ℕ) (M : Legs) → Contracts n h L v M → IsGone M v
+gone_next n h L v M step x =
+    let same : (v == v) ≡ true = grind (arith, nat_tests) in
+    (step.2 v x ∙ rw same refl, step.2 x v ∙ last (x == v) _ same)
+  where
+    last : (a : Bool) (o : Option Label) → (v == v) ≡ true → cond (a || (v == v)) None o ≡ None
+    last true o e = refl
+    last false o e = rw e refl
+
+-- no leg comes back to a node that has none
+gone_more : (n h : ℕ) (L : Legs) (v : ℕ) (M : Legs) (z : ℕ) → IsGone L z → Contracts n h L v M → IsGone M z
+gone_more n h L v M z gone step x = (
+  none_unless (M z x) (λ l e. elim (contracted_cases L v step.0 z x l (sym (step.2 z x) ∙ e)) [
+    | inl old ↦ none-some _ (sym (gone x).0 ∙ old)
+    | inr made ↦ let is = step.1.sound made.0 made.1 in none-some _ (sym (gone v).0 ∙ ap (λ q. L q v) (sym made.2) ∙ is.legs.2)
+  ]),
+  none_unless (M x z) (λ l e. elim (contracted_cases L v step.0 x z l (sym (step.2 x z) ∙ e)) [
+    | inl old ↦ none-some _ (sym (gone x).1 ∙ old)
+    | inr made ↦ let is = step.1.sound made.0 made.1 in none-some _ (sym (gone v).1 ∙ ap (L v) (sym made.3) ∙ is.legs.3)
+  ]),
+)
+
+-- the legs after each step are within the limits
+pub within_steps : (n h m : ℕ) (order : List ℕ) (L : ℕ → Legs) → AreLegsWithin n (L 0) → ((i : ℕ) → i < m → Contracts n h (L i) (slice_index order i) (L (i + 1))) → (k : ℕ) → k ≤ m → AreLegsWithin n (L k)
+within_steps n h m order L start step zero le = start
+within_steps n h m order L start step (suc k) le =
+    let e : k + 1 ≡ suc k = omega arith in
+    subst (λ z. AreLegsWithin n (L z)) e (within_more n h (L k) (slice_index order k) (L (k + 1)) (within_steps n h m order L start step k (omega arith)) (step k (omega arith)))
+
+-- no leg touches a node after the step that contracted it
+pub gone_steps : (n h m : ℕ) (order : List ℕ) (L : ℕ → Legs) → ((i : ℕ) → i < m → Contracts n h (L i) (slice_index order i) (L (i + 1))) → (j k : ℕ) → j < k → k ≤ m → IsGone (L k) (slice_index order j)
+gone_steps n h m order L step j zero lt le = absurd (omega arith)
+gone_steps n h m order L step j (suc k) lt le =
+    let e : k + 1 ≡ suc k = omega arith in
+    subst (λ z. IsGone (L z) (slice_index order j)) e (at (gone_steps n h m order L step j k))
+  where
+    at : (j < k → k ≤ m → IsGone (L k) (slice_index order j)) → IsGone (L (k + 1)) (slice_index order j)
+    at before = elim (cases_eq j k) [
+      | inl same ↦ subst (λ z. IsGone (L (k + 1)) (slice_index order z)) (sym same) (gone_next n h (L k) (slice_index order k) (L (k + 1)) (step k (omega arith)))
+      | inr ne ↦ gone_more n h (L k) (slice_index order k) (L (k + 1)) (slice_index order j) (before (omega arith) (omega arith)) (step k (omega arith))
+    ]
+
+module _ (g : Network) (h : ℕ) (H : Levels) (order : List ℕ) (L : ℕ → Legs) (p : IsHierarchyOf g h H order L) (small : g.nodes ≤ 2 ^ 25) (start : AreLegsWithin g.nodes (opening g)) where
+  -- the legs before each step are within the limits
+  within : (k : ℕ) → k ≤ g.nodes → AreLegsWithin g.nodes (L k)
+  within = within_steps g.nodes h g.nodes order L (subst (AreLegsWithin g.nodes) (sym (one_map (L 0) (opening g) p.order_is.start)) start) p.order_is.step
+
+  -- no leg touches the nodes of earlier steps
+  gone : (j k : ℕ) → j < k → k ≤ g.nodes → IsGone (L k) (slice_index order j)
+  gone = gone_steps g.nodes h g.nodes order L p.order_is.step
+
+  -- each node has the level of its step
+  level_of : (x : ℕ) → x < g.nodes → (i : ℕ) × (i < g.nodes) × (slice_index order i ≡ x) × (slice_index H.level x ≡ i + 1)
+  level_of x lt = let at = taken_at g h order L x p.order_is lt in (at.0, at.1, at.2, ap (slice_index H.level) (sym at.2) ∙ p.level at.0 at.1)
+
+  -- a leg of the node of step i leads to a node that is contracted later
+  leg_up : (i : ℕ) (l : Leg) → i < g.nodes → l.node < g.nodes → l.node ≢ slice_index order i → ((j : ℕ) → j < i → slice_index order j ≡ l.node → ⊥) → l.cost.weight ≤ 2 ^ 60 → l.cost.arcs < g.nodes → IsLegUp H (slice_index order i) l
+  leg_up i l lt node apart later weight arcs =
+      let size = p.sizes.0 in
+      let at = level_of l.node node in
+      let mine = p.level i lt in
+      let its = at.3 in
+      let after : i < at.0 = elim (cases_lt i at.0) [
+        | inl past ↦ past
+        | inr le ↦ elim (cases_eq at.0 i) [
+          | inl same ↦ absurd (apart (sym at.2 ∙ ap (slice_index order) same))
+          | inr ne ↦ absurd (later at.0 (omega arith) at.2)
+        ]
+      ] in
+      record { node = omega arith; higher = omega arith; weight = weight; arcs = omega arith }
+
+  -- the legs from the node of a step lead up
+  up_row : (i : ℕ) → i < g.nodes → IsRow (row H.up (slice_index order i)) × All (IsLegUp H (slice_index order i)) (row H.up (slice_index order i))
+  up_row i lt =
+      let v : ℕ = slice_index order i in
+      let r = p.up i lt in (
+        r.0,
+        λ k d inside.
+            let l : Leg = get_or (row H.up v) k d in
+            let leg : L i v l.node ≡ Some (label_of l) = sym (r.1 l.node) ∙ row_has (row H.up v) l r.0 (Contains-get_or (row H.up v) k d inside) in
+            let w = within i (omega arith) v l.node (label_of l) leg in
+            leg_up i l lt w.ends.1 (λ e. w.ends.2 (sym e)) (λ j before e. none-some _ (sym (gone j i before (omega arith) v).1 ∙ ap (L i v) e ∙ leg)) w.weight w.arcs,
+      )
+
+  -- the legs to the node of a step come from above
+  down_row : (i : ℕ) → i < g.nodes → IsRow (row H.down (slice_index order i)) × All (IsLegUp H (slice_index order i)) (row H.down (slice_index order i))
+  down_row i lt =
+      let v : ℕ = slice_index order i in
+      let r = p.down i lt in (
+        r.0,
+        λ k d inside.
+            let l : Leg = get_or (row H.down v) k d in
+            let leg : L i l.node v ≡ Some (label_of l) = sym (r.1 l.node) ∙ row_has (row H.down v) l r.0 (Contains-get_or (row H.down v) k d inside) in
+            let w = within i (omega arith) l.node v (label_of l) leg in
+            leg_up i l lt w.ends.0 w.ends.2 (λ j before e. none-some _ (sym (gone j i before (omega arith) v).0 ∙ ap (λ q. L i q v) e ∙ leg)) w.weight w.arcs,
+      )
+
+  -- rows of which each leads up, for each node
+  legs_up : (rows : List (List Leg)) → length rows ≡ g.nodes → ((i : ℕ) → i < g.nodes → IsRow (row rows (slice_index order i)) × All (IsLegUp H (slice_index order i)) (row rows (slice_index order i))) → AreLegsUp H rows
+  legs_up rows size each = (
+    size ∙ sym p.sizes.0,
+    λ v. elim (cases_lt v g.nodes) [
+      | inl lt ↦ let at = taken_at g h order L v p.order_is lt in subst (λ z. IsRow (row rows z) × All (IsLegUp H z) (row rows z)) at.2 (each at.0 at.1)
+      | inr past ↦
+          let none : row rows v ≡ [] = get_or_past rows v [] (omega arith) in
+          subst (λ z. IsRow z × All (IsLegUp H v) z) (sym none) ((λ i j d lt inside. absurd (omega arith)), All-nil (IsLegUp H v))
+    ],
+  )
+
+  -- so the hierarchy is levelled
+  pub levelled : IsLevelled H
+  levelled = record {
+    count = let size = p.sizes.0 in omega arith;
+    levels = (
+      (λ k d lt.
+          let size = p.sizes.0 in
+          let at = level_of k (omega arith) in
+          let value : get_or H.level k d ≡ at.0 + 1 = get_or_default H.level k d 0 lt ∙ at.3 in
+          (omega arith, omega arith)),
+      (λ i j d lt inside same.
+          let size = p.sizes.0 in
+          let one = level_of i (omega arith) in
+          let two = level_of j (omega arith) in
+          let first : get_or H.level i d ≡ one.0 + 1 = get_or_default H.level i d 0 (omega arith) ∙ one.3 in
+          let second : get_or H.level j d ≡ two.0 + 1 = get_or_default H.level j d 0 inside ∙ two.3 in
+          let step : one.0 ≡ two.0 = omega arith in
+          let node : i ≡ j = sym one.2 ∙ ap (slice_index order) step ∙ two.2 in
+          omega arith),
+    );
+    up = legs_up H.up p.sizes.1 up_row;
+    down = legs_up H.down p.sizes.2 down_row;
+  }

@@ -1,0 +1,90 @@
+//! The definitions computed on small graphs by the reference program.
+ghost use Rattle.std.specs.Prelude.{◌≡◌, [], ◌∷◌, pos, negsuc, map, length, Some, None, true, false};
+ghost use Rattle.ch_contract.specs.Legs.{opening};
+ghost use Rattle.ch_contract.specs.Reference.{has_witness, shortcuts_of, priority_of, order_of, hierarchy_of, meet_of};
+ghost use Rattle.ch_contract.specs.Examples as examples;
+ghost use Rattle.ch_contract.specs.Examples.{cost, leg, leg_through};
+
+/// Witnesses, shortcuts and priorities before any contraction. Nodes count from 0.
+pub fn openings()
+    ensures detour_of_two { has_witness 5 (opening examples.detour) 1 0 2 (cost 2 2) 2 ≡ false }
+    ensures detour_of_three { has_witness 5 (opening examples.detour) 1 0 2 (cost 2 2) 3 ≡ true }
+    ensures detour_too_long { has_witness 5 (opening examples.detour) 1 0 2 (cost 0 2) 3 ≡ false }
+    ensures detour_as_long { has_witness 5 (opening examples.detour) 1 0 2 (cost 0 3) 3 ≡ true }
+    ensures diamond_of_one { has_witness 4 (opening examples.diamond) 1 0 3 (cost 2 2) 1 ≡ false }
+    ensures diamond_of_two { has_witness 4 (opening examples.diamond) 1 0 3 (cost 2 2) 2 ≡ true }
+    ensures diamond_too_dear { has_witness 4 (opening examples.diamond) 1 0 3 (cost 2 1) 2 ≡ false }
+    ensures star_shortcuts { length (shortcuts_of 4 5 (opening examples.star) 0) ≡ 6 }
+    ensures star_priority { priority_of 4 5 (opening examples.star) 0 ≡ pos 0 }
+    ensures detour_priority { priority_of 5 2 (opening examples.detour) 1 ≡ negsuc 0 }
+    ensures detour_priority_of_three { priority_of 5 3 (opening examples.detour) 1 ≡ negsuc 1 }
+{}
+
+/// Orders, each node after the priority at which it is taken.
+pub fn orders()
+    ensures line { order_of examples.line 5 ≡ (negsuc 0, 0) ∷ (negsuc 0, 1) ∷ (pos 0, 2) ∷ [] }
+    ensures star { order_of examples.star 5 ≡ (negsuc 1, 1) ∷ (negsuc 1, 0) ∷ (negsuc 1, 2) ∷ (pos 0, 3) ∷ [] }
+    ensures diamond { order_of examples.diamond 5 ≡ (negsuc 1, 0) ∷ (negsuc 1, 3) ∷ (pos 0, 1) ∷ (pos 0, 2) ∷ [] }
+    ensures triangle { map (λ e. e.1) (order_of examples.triangle 5) ≡ 0 ∷ 1 ∷ 2 ∷ [] }
+    ensures loop_and_tail { order_of examples.loop_and_tail 5 ≡ (negsuc 0, 0) ∷ (negsuc 1, 1) ∷ (negsuc 0, 2) ∷ (pos 0, 3) ∷ [] }
+    ensures detour_of_two { map (λ e. e.1) (order_of examples.detour 2) ≡ 0 ∷ 2 ∷ 3 ∷ 1 ∷ 4 ∷ [] }
+    ensures detour_of_three { map (λ e. e.1) (order_of examples.detour 3) ≡ 0 ∷ 2 ∷ 3 ∷ 1 ∷ 4 ∷ [] }
+    ensures ring { map (λ e. e.1) (order_of examples.ring 5) ≡ 0 ∷ 1 ∷ 2 ∷ 3 ∷ 4 ∷ [] }
+    ensures fewer_arcs { map (λ e. e.1) (order_of examples.fewer_arcs 5) ≡ 0 ∷ 2 ∷ 1 ∷ 3 ∷ 4 ∷ [] }
+{}
+
+/// Hierarchies.
+pub fn hierarchies()
+    ensures line { hierarchy_of examples.line 5 ≡ record {
+      level = 1 ∷ 2 ∷ 3 ∷ [];
+      up = (leg 2 4 1 ∷ []) ∷ (leg 3 5 1 ∷ []) ∷ [] ∷ [];
+      down = [] ∷ [] ∷ [] ∷ [];
+    } }
+    ensures star { hierarchy_of examples.star 5 ≡ record {
+      level = 2 ∷ 1 ∷ 3 ∷ 4 ∷ [];
+      up = (leg 3 1 1 ∷ leg 4 1 1 ∷ []) ∷ (leg 1 1 1 ∷ []) ∷ (leg_through 1 4 2 2 ∷ []) ∷ [] ∷ [];
+      down = (leg 3 1 1 ∷ leg 4 1 1 ∷ []) ∷ (leg 1 1 1 ∷ []) ∷ (leg_through 1 4 2 2 ∷ []) ∷ [] ∷ [];
+    } }
+    ensures diamond { hierarchy_of examples.diamond 5 ≡ record {
+      level = 1 ∷ 3 ∷ 4 ∷ 2 ∷ [];
+      up = (leg 2 1 1 ∷ leg 3 1 1 ∷ []) ∷ [] ∷ [] ∷ [] ∷ [];
+      down = [] ∷ [] ∷ [] ∷ (leg 2 1 1 ∷ leg 3 1 1 ∷ []) ∷ [];
+    } }
+    ensures triangle { hierarchy_of examples.triangle 5 ≡ record {
+      level = 1 ∷ 2 ∷ 3 ∷ [];
+      up = (leg 2 0 1 ∷ leg 3 0 1 ∷ []) ∷ (leg 3 0 1 ∷ []) ∷ [] ∷ [];
+      down = [] ∷ [] ∷ [] ∷ [];
+    } }
+    ensures loop_and_tail { hierarchy_of examples.loop_and_tail 5 ≡ record {
+      level = 1 ∷ 2 ∷ 3 ∷ 4 ∷ [];
+      up = (leg 2 0 1 ∷ []) ∷ (leg 3 0 1 ∷ []) ∷ (leg 4 2 1 ∷ []) ∷ [] ∷ [];
+      down = (leg 3 0 1 ∷ []) ∷ (leg_through 1 3 0 2 ∷ []) ∷ [] ∷ [] ∷ [];
+    } }
+    ensures ring { hierarchy_of examples.ring 5 ≡ record {
+      level = 1 ∷ 2 ∷ 3 ∷ 4 ∷ 5 ∷ [];
+      up = (leg 2 1 1 ∷ []) ∷ (leg 3 1 1 ∷ []) ∷ (leg 4 1 1 ∷ []) ∷ (leg 5 1 1 ∷ []) ∷ [] ∷ [];
+      down = (leg 5 1 1 ∷ []) ∷ (leg_through 1 5 2 2 ∷ []) ∷ (leg_through 2 5 3 3 ∷ []) ∷ (leg_through 3 5 4 4 ∷ []) ∷ [] ∷ [];
+    } }
+{}
+
+/// The hierarchy of the detour, the same at two hops and at three.
+pub fn detours()
+    ensures of_two { hierarchy_of examples.detour 2 ≡ record {
+      level = 1 ∷ 4 ∷ 2 ∷ 3 ∷ 5 ∷ [];
+      up = (leg 2 1 1 ∷ leg 4 0 1 ∷ []) ∷ [] ∷ [] ∷ (leg 5 0 1 ∷ []) ∷ [] ∷ [];
+      down = [] ∷ [] ∷ (leg 2 1 1 ∷ leg 5 0 1 ∷ []) ∷ [] ∷ [] ∷ [];
+    } }
+    ensures of_three { hierarchy_of examples.detour 3 ≡ hierarchy_of examples.detour 2 }
+{}
+
+/// Where the paths of both ends meet, and what they cost together.
+pub fn meets()
+    ensures line_forward { meet_of (hierarchy_of examples.line 5) 0 2 ≡ Some (2, cost 9 2) }
+    ensures line_back { meet_of (hierarchy_of examples.line 5) 2 0 ≡ None }
+    ensures star { meet_of (hierarchy_of examples.star 5) 2 3 ≡ Some (3, cost 2 2) }
+    ensures diamond { meet_of (hierarchy_of examples.diamond 5) 0 3 ≡ Some (1, cost 2 2) }
+    ensures triangle { meet_of (hierarchy_of examples.triangle 5) 0 2 ≡ Some (2, cost 0 1) }
+    ensures loop_and_tail { meet_of (hierarchy_of examples.loop_and_tail 5) 0 3 ≡ Some (3, cost 2 3) }
+    ensures detour { meet_of (hierarchy_of examples.detour 2) 0 2 ≡ Some (4, cost 0 3) }
+    ensures fewer_arcs { meet_of (hierarchy_of examples.fewer_arcs 5) 0 2 ≡ Some (4, cost 0 2) }
+{}
