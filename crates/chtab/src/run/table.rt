@@ -74,10 +74,10 @@ pub fn run_table<R: Threads + Sync, I: Input, J: Input, L: Input, O: Output, G: 
         ⊎ (GoesPast Which.Graph result × AcceptsGraph (reading I.left graph.old graph.new)) }
     ensures targets_unread { (targets.new ≡ targets.old)
         ⊎ (GoesPast Which.Graph result × GoesPast Which.Sources result
-            × AcceptsSources (reading I.left graph.old graph.new) (reading J.left sources.old sources.new)) }
+        × AcceptsSources (reading I.left graph.old graph.new) (reading J.left sources.old sources.new)) }
     ensures unwritten { (output.new ≡ output.old)
         ⊎ (IfErr result IsWrite
-            × AcceptsLists (reading I.left graph.old graph.new) (reading J.left sources.old sources.new) (reading L.left targets.old targets.new)) }
+        × AcceptsLists (reading I.left graph.old graph.new) (reading J.left sources.old sources.new) (reading L.left targets.old targets.new)) }
 {
     let graph = graph_from(alloc, graph)?;
     let sources = nodes_from(alloc, sources, &graph, Which::Sources)?;
