@@ -13,11 +13,3 @@ MeanEach meaning n p k (x ∷ xs) = meaning (k * p) (min (k * p + p) n) x × Mea
 -- the values of the pieces from `first` up to `last`, in order
 abbrev pub AreValues : {X : Type 0} → (ℕ → ℕ → X → Type 0) → ℕ → ℕ → ℕ → ℕ → List X → Type 0
 AreValues meaning n p first last xs = (first + length xs ≡ last) × MeanEach meaning n p first xs
-
--- the piece with which the share of worker i begins: the first count % workers shares have one piece more than the others
-abbrev pub share_start : ℕ → ℕ → ℕ → ℕ
-share_start count workers i = i * (count / workers) + min i (count % workers)
-
--- the values of the share of worker i
-abbrev pub IsShare : {X : Type 0} → (ℕ → ℕ → X → Type 0) → ℕ → ℕ → ℕ → ℕ → List X → Type 0
-IsShare meaning n p workers i xs = AreValues meaning n p (share_start (pieces_of n p) workers i) (share_start (pieces_of n p) workers (i + 1)) xs

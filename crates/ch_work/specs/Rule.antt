@@ -1,5 +1,5 @@
 -- What holds of a board between any two steps.
-use Rattle.std.specs.Prelude.{MatchOption, slice_index_or, ◌≡◌, ℕ, ◌+◌, ◌<◌, ◌≤◌, min, cond, nat_lt, List, [], ◌∷◌, length, slice_index}
+use Rattle.std.specs.Prelude.{◌-◌, ◌^◌, MatchOption, slice_index_or, ◌≡◌, ℕ, ◌+◌, ◌<◌, ◌≤◌, min, cond, nat_lt, List, [], ◌∷◌, length, slice_index}
 use Rattle.std.specs.Prelude.{Option, Some, None, ◌==◌}
 use mathlib.Core.Option.{some}
 use lib.ListN.{get_elem?}
@@ -9,7 +9,7 @@ use Rattle.ch_work.specs.declared.board.known.Size.{Size}
 use Rattle.ch_work.specs.Counts.{bit, total, times, times_at}
 
 abbrev pub none_yet : ℕ
-none_yet = 18446744073709551615
+none_yet = 2 ^ 64 - 1
 
 -- a pass with no part has done nothing, and a pass has not ended more often than it has parts
 pub record Fits (k : Size) (v : Known) : Type 0 where
@@ -31,7 +31,7 @@ pub record Cells (k : Size) (ws : List ℕ) (views : List Known) : Type 0 where
   pub hit : (i : ℕ) → i < k.cells → slice_index ws i < none_yet → 0 < total (λ v. times_at i (slice_index ws i) v.offers) views
   -- and no less was
   pub low : (i x : ℕ) → 0 < total (λ v. times_at i x v.offers) views → slice_index ws i ≤ x
-  pub small : (i x : ℕ) → 0 < total (λ v. times_at i x v.offers) views → (i < k.cells) × (x ≤ 2305843009213693952)
+  pub small : (i x : ℕ) → 0 < total (λ v. times_at i x v.offers) views → (i < k.cells) × (x ≤ 2 ^ 61)
   -- what was shown was offered
   pub shown : (i x : ℕ) → 0 < total (λ v. times_at i x v.shown) views → 0 < total (λ v. times_at i x v.offers) views
 
@@ -39,7 +39,7 @@ abbrev pub AllFit : Size → List Known → Type 0
 AllFit k views = (j : ℕ) (v : Known) → get_elem? views j ≡ some v → Fits k v
 
 pub record Holds (k : Size) (c : ℕ) (ws : List ℕ) (views : List Known) : Type 0 where
-  pub room : k.pieces + k.passes + 1 < 18446744073709551616
+  pub room : k.pieces + k.passes + 1 < 2 ^ 64
   pub cells : length ws ≡ k.cells
   pub numbers : Numbers k c views
   pub values : Cells k ws views
@@ -74,7 +74,7 @@ pub record Known_whole (k : Size) (v : Known) (ws : List ℕ) : Type 0 where
   pub every : 0 < v.ended → (x : ℕ) → x < k.pieces → times x v.claims ≡ 1
   pub hit : (i : ℕ) → i < k.cells → slice_index ws i < none_yet → 0 < times_at i (slice_index ws i) v.offers
   pub low : (i x : ℕ) → 0 < times_at i x v.offers → slice_index ws i ≤ x
-  pub small : (i x : ℕ) → 0 < times_at i x v.offers → (i < k.cells) × (x ≤ 2305843009213693952)
+  pub small : (i x : ℕ) → 0 < times_at i x v.offers → (i < k.cells) × (x ≤ 2 ^ 61)
   pub shown : (i x : ℕ) → 0 < times_at i x v.shown → 0 < times_at i x v.offers
 
 -- one view has all that these views have
@@ -90,4 +90,4 @@ abbrev pub read_cell : ℕ → Option ℕ
 read_cell n = cond (n == none_yet) None (Some n)
 
 abbrev pub IsRead : ℕ → Option ℕ → Type 0
-IsRead n o = (o ≡ read_cell n) × (n < 18446744073709551616)
+IsRead n o = (o ≡ read_cell n) × (n < 2 ^ 64)
