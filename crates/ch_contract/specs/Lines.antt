@@ -1,5 +1,5 @@
 -- The search for the shortcuts of a node that begin with one leg to it.
-use Rattle.std.specs.Prelude.{◌≡◌, ℕ, ◌+◌, ◌-◌, ◌^◌, ◌<◌, ◌≤◌, length}
+use Rattle.std.specs.Prelude.{◌≡◌, ◌≢◌, ℕ, ◌+◌, ◌-◌, ◌^◌, ◌<◌, ◌≤◌, List, length, All, Option, MatchOption}
 use Rattle.ch_graph.specs.declared.cost.Cost.{Cost}
 use Rattle.ch_graph.specs.Cost.{IsAtMost, cost_sum}
 use Rattle.ch_contract.specs.declared.leg.Leg.{Leg}
@@ -14,6 +14,16 @@ pub record IsKnown (r : RemainingLegs) (s : Wanted) (hops : ℕ) (h : Heads) : T
   pub size : length h.costs.items ≡ r.nodes
   pub heads : AreHeads (legs_into r.rows) s (hops - 2) h
 
--- this cost and the leg make together at most that one, where they keep the limits
-abbrev pub IsMostFor : ℕ → Cost → Cost → Leg → Type 0
-IsMostFor n first most l = first.weight + l.cost.weight ≤ 2 ^ 60 → first.arcs + l.cost.arcs < n → IsAtMost (cost_sum first l.cost) most
+-- the two legs, one to a node and one from it, lead on to another node, and together keep the limits
+pub record IsCandidate (n : ℕ) (first second : Leg) : Type 0 where
+  pub apart : first.node ≢ second.node
+  pub weight : first.cost.weight + second.cost.weight ≤ 2 ^ 60
+  pub arcs : first.cost.arcs + second.cost.arcs < n
+
+-- a candidate costs no more than this
+abbrev pub IsMostFor : ℕ → Leg → Cost → Leg → Type 0
+IsMostFor n first most second = IsCandidate n first second → IsAtMost (cost_sum first.cost second.cost) most
+
+-- no leg of the list makes a candidate, or none that costs more than this
+abbrev pub AreBounded : ℕ → Leg → List Leg → Option Cost → Type 0
+AreBounded n first up o = MatchOption o (All (λ l. IsCandidate n first l → ⊥) up) (λ most. (most.weight ≤ 2 ^ 60) × (most.arcs < 2 ^ 32) × All (IsMostFor n first most) up)

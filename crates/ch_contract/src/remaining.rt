@@ -1,12 +1,12 @@
 //! The legs among the nodes that are left.
-ghost use Rattle.std.specs.Prelude.{◌≡◌, ◌≢◌, ℕ, ◌+◌, ◌-◌, ◌^◌, ◌<◌, ◌≤◌, ◌↔◌, All, IfOk, OnOk, IsTrue, Some};
-ghost use Rattle.ch_graph.specs.Cost.{IsAtMost};
+ghost use Rattle.std.specs.Prelude.{◌≡◌, ◌≢◌, ℕ, ◌+◌, ◌-◌, ◌^◌, ◌<◌, ◌≤◌, ◌↔◌, ◌⊎◌, All, IfOk, OnOk, MatchOption, IsTrue, Some};
+ghost use Rattle.ch_graph.specs.Cost.{IsAtMost, cost_sum};
 ghost use Rattle.ch_contract.specs.Legs.{SameLegs, AreLegsWithin, HasWitness, IsHopBound, opening};
 ghost use Rattle.ch_contract.specs.Contraction.{AreShortcuts, Contracts, IsPriority, contracted};
 ghost use Rattle.ch_contract.specs.Rows.{AreLegsFrom, AreLegsTo, label_of};
 ghost use Rattle.ch_contract.specs.ShortcutLists.{AreShortcutsBefore, IsShortcutBetween};
 ghost use Rattle.ch_contract.specs.Heads.{IsClean, AreTouched};
-ghost use Rattle.ch_contract.specs.Lines.{IsKnown, IsMostFor};
+ghost use Rattle.ch_contract.specs.Lines.{IsKnown, IsCandidate, IsMostFor, AreBounded};
 ghost use Rattle.ch_contract.specs.Remaining.{legs_of};
 
 use crate::leg::Leg;
@@ -280,10 +280,13 @@ impl Remaining {
         ensures clean { OnOk result (IsClean self.now.nodes search.new.heads) }
     {
         let nodes = self.nodes();
+        let Some(most) = most_cost(nodes, first, up) else {
+            return Ok(());
+        };
         let wanted = Wanted {
             end: first.node,
             avoided: v,
-            most: most_cost(nodes, first.cost, up),
+            most,
         };
         self.reach(search, wanted, hops)?;
         for second in up {
@@ -339,17 +342,11 @@ impl Remaining {
         requires second { legs_of self.now wanted.avoided second.node ≡ Some (label_of second) }
         requires known { IsKnown self.now wanted hops search.now.heads }
         requires small { wanted.most.weight ≤ 2 ^ 60 }
-        requires most { IsMostFor self.now.nodes first.cost wanted.most second }
+        requires most { IsMostFor self.now.nodes first wanted.most second }
         ensures { IsShortcutBetween self.now.nodes hops (legs_of self.now) wanted.avoided first.node second.node result }
     {
         let nodes = self.nodes();
-        if first.node == second.node {
-            return None;
-        }
-        let cost = first.cost.plus(second.cost);
-        if cost.weight > MOST_WEIGHT || cost.arcs >= nodes as u64 {
-            return None;
-        }
+        let cost = joined(nodes, first, second)?;
         if self.is_witnessed(search, wanted, second.node, cost, hops) {
             return None;
         }
@@ -361,20 +358,48 @@ impl Remaining {
     }
 }
 
-/// The greatest cost that this and a leg make together, of those that keep the limits.
-fn most_cost(nodes: u32, first: Cost, up: &[Leg]) -> Cost
-    requires first { (first.weight ≤ 2 ^ 60) × (first.arcs ≤ 2 ^ 60) }
+/// The greatest cost that this leg to a node makes together with one from it, of those that lead on to
+/// another node and keep the limits. `None` where there is none.
+fn most_cost(nodes: u32, first: Leg, up: &[Leg]) -> Option<Cost>
+    requires first { (first.cost.weight ≤ 2 ^ 60) × (first.cost.arcs ≤ 2 ^ 60) }
     requires up { All (λ l. (l.cost.weight ≤ 2 ^ 60) × (l.cost.arcs ≤ 2 ^ 60)) up.now }
-    ensures weight { result.weight ≤ 2 ^ 60 }
-    ensures arcs { result.arcs < 2 ^ 32 }
-    ensures most { All (IsMostFor nodes first result) up.now }
+    ensures { AreBounded nodes first up.now result }
 {
-    let mut most = Cost { weight: 0, arcs: 0 };
+    let mut most = None;
     for second in up {
-        let cost = first.plus(second.cost);
-        if cost.weight <= MOST_WEIGHT && cost.arcs < nodes as u64 && is_at_most(most, cost) {
-            most = cost;
+        if let Some(cost) = joined(nodes, first, *second) {
+            most = Some(greatest(most, cost));
         }
     }
     most
+}
+
+/// The greater of a cost and the one so far.
+fn greatest(so_far: Option<Cost>, cost: Cost) -> Cost
+    ensures cost { IsAtMost cost result }
+    ensures so_far { MatchOption so_far (result ≡ cost) (λ c. IsAtMost c result × ((result ≡ cost) ⊎ (result ≡ c))) }
+{
+    match so_far {
+        Some(most) if is_at_most(cost, most) => most,
+        _ => cost,
+    }
+}
+
+/// What a leg to a node and one from it cost together, where they lead on to another node and keep the
+/// limits.
+#[inline]
+fn joined(nodes: u32, first: Leg, second: Leg) -> Option<Cost>
+    requires weight { first.cost.weight + second.cost.weight ≤ 2 ^ 61 }
+    requires arcs { first.cost.arcs + second.cost.arcs < 2 ^ 64 }
+    ensures { MatchOption result (IsCandidate nodes first second → ⊥)
+        (λ c. (c ≡ cost_sum first.cost second.cost) × IsCandidate nodes first second) }
+{
+    if first.node == second.node {
+        return None;
+    }
+    let cost = first.cost.plus(second.cost);
+    if cost.weight > MOST_WEIGHT || cost.arcs >= nodes as u64 {
+        return None;
+    }
+    Some(cost)
 }

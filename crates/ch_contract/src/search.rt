@@ -58,6 +58,7 @@ impl Heads {
     }
 
     /// Puts the cost in where a greater one is known.
+    #[inline]
     fn lower(&mut self, node: u32, cost: Cost) -> Result<(), AllocError>
         requires { node < length self.old.costs.items }
         ensures { OnOk result (Lowers (IsOnly node cost) self.old self.new) }
@@ -72,6 +73,7 @@ impl Heads {
     }
 
     /// Puts each leg in front of the chain of this step.
+    #[inline]
     fn spread(&mut self, legs: &[Leg], step: Step, wanted: Wanted) -> Result<(), AllocError>
         requires { IsRoomFor (length self.old.costs.items) legs.now step }
         ensures { OnOk result (Lowers (IsOneMore legs.now step wanted) self.old self.new) }
@@ -211,10 +213,9 @@ impl Search {
         requires most { most.weight ≤ 2 ^ 60 }
         ensures { IsTrue result ↔ IsMetAt self.now.heads lists.now leg most hops }
     {
-        is_at_most(self.heads.costs[leg.node as usize].plus(leg.cost), most)
-            || (hops > 1
-                && is_at_most(leg.cost, most)
-                && self.meets_beyond(lists.at(leg.node), leg.cost, most))
+        is_at_most(leg.cost, most)
+            && (is_at_most(self.heads.costs[leg.node as usize].plus(leg.cost), most)
+                || (hops > 1 && self.meets_beyond(lists.at(leg.node), leg.cost, most)))
     }
 
     /// Whether a known chain after a leg of these, after a leg of this cost, costs at most `most`.

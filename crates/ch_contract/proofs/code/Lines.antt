@@ -1,22 +1,28 @@
 -- The searches for the shortcuts of a node, one for each leg to it.
-use Rattle.std.proofs.Common.{◌≡◌, ℕ, ◌+◌, ◌-◌, ◌^◌, ◌<◌, ◌≤◌, List, [], ◌∷◌, ◌++◌, length, get_or, All, Some, Contains, refl, sym, ◌∙◌, subst, arith, inl, inr}
-use Rattle.std.specs.Prelude.{◌≢◌, ◌↔◌, Result, Ok, Err, OnOk, take, min}
+use Rattle.std.proofs.Common.{◌≡◌, ℕ, ◌+◌, ◌-◌, ◌^◌, ◌<◌, ◌≤◌, List, [], ◌∷◌, ◌++◌, length, get_or, All, Option, Some, None, Contains, refl, sym, ◌∙◌, ap, subst, arith, inl, inr}
+use Rattle.std.specs.Prelude.{◌≢◌, ◌↔◌, Result, Ok, Err, OnOk, min, ◌⊎◌, MatchOption}
 use Rattle.std.specs.declared.alloc.AllocError.{AllocError}
-use Rattle.ch_contract.specs.Lines.{IsKnown, IsMostFor}
+use Rattle.ch_contract.specs.Lines.{IsKnown, IsCandidate, IsMostFor, AreBounded}
 use Rattle.ch_graph.proofs.CostOrder.{IsAtMost_refl, IsAtMost_trans}
-use Rattle.std.proofs.lemmas.List.Elements.{All-from_get_or, All-push, Contains-get_or}
+use Rattle.std.proofs.lemmas.List.Elements.{All-contains, All-from_get_or, All-push, Contains-get_or}
 use Rattle.ch_graph.specs.declared.cost.Cost.{Cost}
 use Rattle.ch_graph.specs.Cost.{IsAtMost, cost_sum}
 use Rattle.ch_contract.specs.declared.leg.Leg.{Leg}
 use Rattle.ch_contract.specs.declared.search.Heads.{Heads}
 use Rattle.ch_contract.specs.declared.search.Wanted.{Wanted}
-use Rattle.ch_contract.specs.Legs.{Legs, AreLegsWithin, HasWitness, chain_cost}
+use Rattle.ch_contract.specs.Legs.{Label, Legs, AreLegsWithin, HasWitness, chain_cost}
 use Rattle.ch_contract.specs.Rows.{row, label_of, AreLegsFrom, AreLegsTo}
 use Rattle.ch_contract.specs.Heads.{head_at, AreHeads}
 use Rattle.ch_contract.specs.LegLists.{IsWithinLimits, legs_from, legs_into}
 use Rattle.ch_contract.specs.Meeting.{IsMet, IsLegLight, AreListsWithin, AreSmall}
-use Rattle.ch_contract.proofs.theory.RowLegs.{row_has}
+use Rattle.ch_contract.proofs.theory.RowLegs.{row_has, row_member, leg_at}
 use Rattle.ch_contract.proofs.theory.RowLemmas.{no_leg, leg_from_at}
+use Rattle.std.proofs.lemmas.Bool.{cases_eq, cases_lt}
+use Rattle.std.proofs.lemmas.Option.{same_Some}
+use Rattle.ch_contract.specs.declared.shortcut.Shortcut.{Shortcut}
+use Rattle.ch_contract.specs.Contraction.{IsShortcut}
+use Rattle.ch_contract.specs.ShortcutLists.{AreShortcutsBefore, EndsBefore}
+use Rattle.ch_contract.proofs.code.ShortcutLemmas.{before_raise}
 use Rattle.ch_contract.proofs.code.HeadRounds.{wanted_small, chain_small}
 use Rattle.ch_contract.proofs.code.Meetings.{met_is_witness}
 use Rattle.ch_contract.proofs.code.Turning.{turned_witness}
@@ -87,16 +93,55 @@ module _ (n : ℕ) (outs ins : List (List Leg)) (within : IsWithinLimits n outs 
   known_after s hops k h (Ok x) e size heads = record { size = size ∙ within.sizes.0; heads = subst (λ j. AreHeads (legs_into outs) s j h) e heads }
   known_after s hops k h (Err x) e size heads = heads
 
--- a leg more, of which the sum is the greatest so far
-pub most_more : (n : ℕ) (first most : Cost) (up : List Leg) (i : ℕ) (l : Leg) → IsAtMost most (cost_sum first l.cost) →
-    All (IsMostFor n first most) (take i up) → All (IsMostFor n first (cost_sum first l.cost)) (take i up ++ l ∷ [])
-most_more n first most up i l le so_far = All-push (IsMostFor n first (cost_sum first l.cost)) (take i up) l
-    (λ k d lt weight arcs. IsAtMost_trans _ most _ (so_far k d lt weight arcs) le) (λ weight arcs. IsAtMost_refl _)
+-- one leg more, which makes a candidate
+pub bounded_more : (n : ℕ) (first l : Leg) (up : List Leg) (so_far : Option Cost) (cost most : Cost) → cost ≡ cost_sum first.cost l.cost → IsCandidate n first l → n < 2 ^ 32 →
+    IsAtMost cost most → MatchOption so_far (most ≡ cost) (λ c. IsAtMost c most × ((most ≡ cost) ⊎ (most ≡ c))) → AreBounded n first up so_far → AreBounded n first (up ++ l ∷ []) (Some most)
+bounded_more n first l up None cost most is can few le same none = (
+  subst (λ (z : Cost). z.weight ≤ 2 ^ 60) (sym (same ∙ is)) can.weight,
+  subst (λ (z : Cost). z.arcs < 2 ^ 32) (sym (same ∙ is)) (omega (arith, can.arcs)),
+  All-push (IsMostFor n first most) up l (λ k d lt other. absurd (none k d lt other)) (λ it. subst (λ z. IsAtMost z most) is le),
+)
+bounded_more n first l up (Some c) cost most is can few le more all = elim more.1 [
+  | inl same ↦ (
+    subst (λ (z : Cost). z.weight ≤ 2 ^ 60) (sym (same ∙ is)) can.weight,
+    subst (λ (z : Cost). z.arcs < 2 ^ 32) (sym (same ∙ is)) (omega (arith, can.arcs)),
+    All-push (IsMostFor n first most) up l (λ k d lt other. IsAtMost_trans _ c most (all.2 k d lt other) more.0) (λ it. subst (λ z. IsAtMost z most) is le),
+  )
+  | inr same ↦ (
+    subst (λ (z : Cost). z.weight ≤ 2 ^ 60) (sym same) all.0,
+    subst (λ (z : Cost). z.arcs < 2 ^ 32) (sym same) all.1,
+    All-push (IsMostFor n first most) up l (λ k d lt other. IsAtMost_trans _ c most (all.2 k d lt other) more.0) (λ it. subst (λ z. IsAtMost z most) is le),
+  )
+]
 
--- a leg more, of which the sum breaks the limits or is no greater
-pub most_kept : (n : ℕ) (first most : Cost) (up : List Leg) (i : ℕ) (l : Leg) → IsMostFor n first most l →
-    All (IsMostFor n first most) (take i up) → All (IsMostFor n first most) (take i up ++ l ∷ [])
-most_kept n first most up i l is so_far = All-push (IsMostFor n first most) (take i up) l so_far is
+-- and one that makes none
+pub bounded_skip : (n : ℕ) (first l : Leg) (up : List Leg) (so_far : Option Cost) → (IsCandidate n first l → ⊥) → AreBounded n first up so_far → AreBounded n first (up ++ l ∷ []) so_far
+bounded_skip n first l up None never none = All-push (λ (k : Leg). IsCandidate n first k → ⊥) up l none never
+bounded_skip n first l up (Some c) never all = (all.0, all.1, All-push (IsMostFor n first c) up l all.2 (λ it. absurd (never it)))
+
+-- where no leg from a node makes a candidate with this leg to it, no shortcut begins with this leg
+pub before_no_candidate : (n h : ℕ) (L : Legs) (v : ℕ) (first : Leg) (up : List Leg) (list : List Shortcut) → L first.node v ≡ Some (label_of first) → AreLegsFrom L v up →
+    All (λ l. IsCandidate n first l → ⊥) up → AreShortcutsBefore n h L v first.node 0 list → AreShortcutsBefore n h L v (first.node + 1) 0 list
+before_no_candidate n h L v first up list here row none are =
+    before_raise n h L v first.node 0 (first.node + 1) 0 list are (omega arith, λ e. absurd (omega arith)) (λ s is e. early s is e (cases_eq first.node s.from))
+  where
+    early : (s : Shortcut) → IsShortcut n h L v s → EndsBefore s (first.node + 1) 0 → (first.node ≡ s.from) ⊎ (first.node ≢ s.from) → EndsBefore s first.node 0
+    early s is e (inr ne) = elim (cases_lt s.from (first.node + 1)) [
+      | inl lt ↦ (omega arith, λ le. absurd (ne (omega arith)))
+      | inr ge ↦ let no = e.1 ge in absurd (omega (arith, no))
+    ]
+    early s is e (inl same) =
+        let legs = is.legs in
+        let m : Contains up (leg_at s.to legs.1) = row_member up s.to legs.1 (row.1 s.to ∙ legs.3) in
+        let begins : label_of first ≡ legs.0 = same_Some _ _ (sym here ∙ ap (λ z. L z v) same ∙ legs.2) in
+        let sum : s.cost ≡ cost_sum first.cost legs.1.cost = legs.4 ∙ ap (λ (z : Label). cost_sum z.cost legs.1.cost) (sym begins) in
+        let weight = is.weight in
+        let arcs = is.arcs in
+        absurd (All-contains (λ (l : Leg). IsCandidate n first l → ⊥) up (leg_at s.to legs.1) none m (record {
+          apart = λ e. is.apart (sym same ∙ e);
+          weight = subst (λ (z : Cost). z.weight ≤ 2 ^ 60) sum is.weight;
+          arcs = subst (λ (z : Cost). z.arcs < n) sum is.arcs;
+        }))
 
 -- the legs from a node may be added to a leg
 pub up_light : (n : ℕ) (L : Legs) (v : ℕ) (up : List Leg) → AreLegsWithin n L → n ≤ 2 ^ 25 → AreLegsFrom L v up →

@@ -1,10 +1,11 @@
-use Rattle.std.proofs.Common.{◌+◌, get_or, sym, ◌∙◌, ap, subst}
+use Rattle.ch_contract.specs.Lines.{IsCandidate}
+use Rattle.std.proofs.Common.{All, ◌+◌, get_or, sym, ◌∙◌, ap, subst}
 use Rattle.ch_contract.specs.Remaining.{legs_of}
 use Rattle.ch_contract.specs.ShortcutLists.{AreShortcutsBefore}
 use Rattle.ch_contract.proofs.theory.RowLemmas.{leg_from_at, no_leg}
 use Rattle.ch_contract.proofs.code.ShortcutLemmas.{boundary_next, before_next_up, before_end_up, before_push, before_skip}
-use Rattle.ch_contract.proofs.code.Lines.{up_light}
-use Rattle.ch_contract.proofs.remaining.Remaining.push_shortcuts.Goals.{in-Some+in_ok-push, in_default}
+use Rattle.ch_contract.proofs.code.Lines.{up_light, before_no_candidate}
+use Rattle.ch_contract.proofs.remaining.Remaining.push_shortcuts.Goals.{in-Some-shortcut+in_ok-push, in_default-shortcut}
 use Rattle.ch_contract.proofs.remaining.Remaining.push_shortcuts.Goals as goal
 
 pub shortcut-requires-clause-second : goal.shortcut-requires-clause-second
@@ -23,12 +24,12 @@ loop-second-preserved c =
       to + 1,
       boundary_next up i no_leg c.requires.up.0 c.loop-second-test.true,
       elim c.match-shortcut.branch [
-        | in-Some+in_ok-push w ↦
-            let is = rw w.in-Some.is at c.shortcut.ensures in
+        | in-Some-shortcut+in_ok-push w ↦
+            let is = rw w.in-Some-shortcut.is at c.shortcut.ensures in
             subst (AreShortcutsBefore n c.args.hops L c.args.v c.args.first.node (to + 1)) (sym (ap (λ v. v.items) w.list-is ∙ w.in_ok-push.ensures.items))
-            (before_push n c.args.hops L c.args.v c.args.first.node to c.loop-second.list.items w.in-Some.shortcut next is.0 is.1 is.2)
-        | in_default w ↦
-            let is = rw w.in_default.is at c.shortcut.ensures in
+            (before_push n c.args.hops L c.args.v c.args.first.node to c.loop-second.list.items w.in-Some-shortcut.shortcut next is.0 is.1 is.2)
+        | in_default-shortcut w ↦
+            let is = rw w.in_default-shortcut.is at c.shortcut.ensures in
             rw w.list-is (before_skip n c.args.hops L c.args.v c.args.first.node to c.loop-second.list.items next is)
       ],
     )
@@ -40,3 +41,8 @@ returns-clause-list c =
 
 pub most_cost-requires-clause-up : goal.most_cost-requires-clause-up
 most_cost-requires-clause-up c = up_light c.args.self.now.nodes (legs_of c.args.self.now) c.args.v c.args.up.now c.nodes-nodes.ensures.limits c.nodes-nodes.ensures.count c.requires.up
+
+pub returns-in_default-clause-list : goal.returns-in_default-clause-list
+returns-in_default-clause-list c =
+    let none = rw c.in_default.is at c.most_cost.ensures in
+    before_no_candidate c.args.self.now.nodes c.args.hops (legs_of c.args.self.now) c.args.v c.args.first c.args.up.now c.args.list.now.items c.requires.first c.requires.up (subst (λ n. All (λ l. IsCandidate n c.args.first l → ⊥) c.args.up.now) c.nodes-nodes.ensures.nodes none) c.requires.list
