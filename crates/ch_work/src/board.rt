@@ -6,12 +6,11 @@ mod make;
 mod rule;
 mod steps;
 
-pub use known::{Known, Size};
-
 ghost use Rattle.std.specs.Prelude.{◌≡◌, ◌+◌, []};
 ghost use Rattle.ch_work.specs.Counts.{bit};
 
 use atomic_table::{Seat, Table};
+pub use known::{Known, Size};
 use rule::Rule;
 use std::alloc::Global;
 

@@ -1,11 +1,13 @@
 //! What no clause of [`run_pieces`] says: that it succeeds, passes the gate once for each piece, and
 //! has two workers at work at once.
 
+mod boards;
 mod rooms;
 
-use crate::{CountingGate, Job, MeetingGate, Open, Plan, run_pieces};
+use crate::{CountingGate, Gate, Job, MeetingGate, Open, Plan, run_pieces};
 use std::alloc::{AllocError, Global};
 use std::process::Abort;
+use std::sync::atomic::{AtomicBool, Ordering};
 use std::test::Fail;
 use std::thread::Threads;
 
@@ -113,6 +115,69 @@ fn two_pieces_at_once(rt: HostRuntime) -> Result<(), Fail> {
     let plan = Plan::new(2, 1, 64);
     run_pieces(&rt, rt.alloc(), 2, &plan, &gate, &Numbers { items: 2 })?;
     assert!(rt; gate.has_met());
+    Ok(())
+}
+
+#[test]
+fn a_refused_piece_ends_its_worker_alone(rt: HostRuntime) -> Result<(), Fail> {
+    let gate = CountingGate::new(rt.alloc(), 4)?;
+    let job = Refused { items: 4, item: 0 };
+    let plan = Plan::new(2, 1, 64);
+    assert!(rt; run_pieces(&rt, rt.alloc(), 4, &plan, &gate, &job).is_err());
+    for piece in 0..4 {
+        assert_eq!(rt; gate.passes(piece), Some(1), "piece {piece}");
+    }
+    Ok(())
+}
+
+/// Holds piece 0 up until pieces 1, 2 and 3 have come, for at most 1,000,000,000 turns.
+#[derive(Drop)]
+struct SlowGate {
+    come: [AtomicBool; 4],
+    seen: AtomicBool,
+}
+
+impl SlowGate {
+    /// Whether pieces 1, 2 and 3 have come.
+    fn others_have_come(&self) -> bool {
+        self.come[1].load(Ordering::SeqCst)
+            && self.come[2].load(Ordering::SeqCst)
+            && self.come[3].load(Ordering::SeqCst)
+    }
+}
+
+impl Gate for SlowGate {
+    fn pass(&self, piece: u32) {
+        if let Some(come) = self.come.get(piece as usize) {
+            come.store(true, Ordering::SeqCst);
+        }
+        if piece != 0 {
+            return;
+        }
+        for _ in 0..1_000_000_000 {
+            if self.others_have_come() {
+                self.seen.store(true, Ordering::SeqCst);
+                return;
+            }
+        }
+    }
+}
+
+/// While one worker is held up in piece 0, the other does the rest.
+#[test]
+fn one_slow_piece(rt: HostRuntime) -> Result<(), Fail> {
+    let gate = SlowGate {
+        come: [
+            AtomicBool::new(false),
+            AtomicBool::new(false),
+            AtomicBool::new(false),
+            AtomicBool::new(false),
+        ],
+        seen: AtomicBool::new(false),
+    };
+    let plan = Plan::new(2, 1, 64);
+    run_pieces(&rt, rt.alloc(), 4, &plan, &gate, &Numbers { items: 4 })?;
+    assert!(rt; gate.seen.load(Ordering::SeqCst));
     Ok(())
 }
 

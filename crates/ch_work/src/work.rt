@@ -83,12 +83,7 @@ impl<'a, G: Gate, J: RoomJob> Work<'a, G, J> {
     }
 
     /// The value of the piece of this number, once it has passed the gate.
-    fn value(
-        &self,
-        alloc: Global,
-        room: &mut J::Room,
-        number: u32,
-    ) -> Result<J::Out, AllocError>
+    fn value(&self, alloc: Global, room: &mut J::Room, number: u32) -> Result<J::Out, AllocError>
         requires inside { number * self.now.piece < self.now.items }
         requires clean { J.clean self.now.job.now room.old }
         ensures value { IfOk result (λ x. J.meaning self.now.job.now (number * self.now.piece) (min (number * self.now.piece + self.now.piece) self.now.items) x) }

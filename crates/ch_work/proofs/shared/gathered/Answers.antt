@@ -23,8 +23,7 @@ loop-pass-preserved g c =
     let has = item_has (λ i r. HasWorked meaning work.items work.piece board r.0 r.1) all (vec_len c.args.worked) len c.requires before rest (c.in-Some.pass, c.in-Some.outcome) now in
     let is = rw c.in_ok-outcome.was at has in
     let more = c.in_ok-outcome.field-0.items in
-    let gathered = gathers_one meaning work.items work.piece board c.loop-pass.passes.items c.loop-pass.all.items c.in-Some.pass more c.loop-pass.invariant.1 is.0 is.1.0 is.1.1 is.1.2 in
-    (
+    let gathered = gathers_one meaning work.items work.piece board c.loop-pass.passes.items c.loop-pass.all.items c.in-Some.pass more c.loop-pass.invariant.1 is.0 is.1.0 is.1.1 is.1.2 in (
       omega (arith, c.in_ok-push.ensures.len, c.loop-pass.invariant.0, length-append before ((c.in-Some.pass, c.in-Some.outcome) ∷ [])),
       rw (c.in_ok-push.ensures.items, c.in_ok-append.ensures.items) gathered,
       next_done all before rest (c.in-Some.pass, c.in-Some.outcome) now,
