@@ -7,33 +7,33 @@ use Rattle.ch_contract.specs.Order.{IsOrder}
 use Rattle.ch_contract.specs.Rows.{row, IsRow, AreLegsFrom, AreLegsTo}
 
 -- what contracts see of a hierarchy: the level of each node, its legs to higher nodes, and those from higher nodes to it
-pub record Levels : Type 0 where
+pub record LevelsAndLegs : Type 0 where
   pub level : List ℕ
   pub up : List (List Leg)
   pub down : List (List Leg)
 
-abbrev pub nodes_of : Levels → ℕ
+abbrev pub nodes_of : LevelsAndLegs → ℕ
 nodes_of H = length H.level
 
 -- a leg of node v leads to a higher node or comes from one, and is within the limits
-pub record IsLegUp (H : Levels) (v : ℕ) (l : Leg) : Type 0 where
+pub record IsLegUp (H : LevelsAndLegs) (v : ℕ) (l : Leg) : Type 0 where
   pub node : l.node < nodes_of H
   pub higher : slice_index H.level v < slice_index H.level l.node
   pub weight : l.cost.weight ≤ 2 ^ 60
   pub arcs : l.cost.arcs < nodes_of H
 
-abbrev pub AreLegsUp : Levels → List (List Leg) → Type 0
+abbrev pub AreLegsUp : LevelsAndLegs → List (List Leg) → Type 0
 AreLegsUp H rows = (length rows ≡ nodes_of H) × ((v : ℕ) → IsRow (row rows v) × All (IsLegUp H v) (row rows v))
 
 -- levels from 1 to the number of nodes, each once, and legs to higher nodes, one for a pair
-pub record IsLevelled (H : Levels) : Type 0 where
+pub record IsLevelled (H : LevelsAndLegs) : Type 0 where
   pub count : nodes_of H ≤ 2 ^ 25
   pub levels : All (λ l. (1 ≤ l) × (l ≤ nodes_of H)) H.level × AllPairs ◌≢◌ H.level
   pub up : AreLegsUp H H.up
   pub down : AreLegsUp H H.down
 
 -- node order[i] has level i + 1; its up legs are those from it just before it was contracted, its down legs those to it
-pub record IsHierarchyOf (g : Network) (h : ℕ) (H : Levels) (order : List ℕ) (L : ℕ → Legs) : Type 0 where
+pub record IsHierarchyOf (g : Network) (h : ℕ) (H : LevelsAndLegs) (order : List ℕ) (L : ℕ → Legs) : Type 0 where
   pub order_is : IsOrder g h order L
   pub sizes : (length H.level ≡ g.nodes) × (length H.up ≡ g.nodes) × (length H.down ≡ g.nodes)
   pub level : (i : ℕ) → i < g.nodes → slice_index H.level (slice_index order i) ≡ i + 1
@@ -41,5 +41,5 @@ pub record IsHierarchyOf (g : Network) (h : ℕ) (H : Levels) (order : List ℕ)
   pub down : (i : ℕ) → i < g.nodes → AreLegsTo (L i) (slice_index order i) (row H.down (slice_index order i))
 
 -- the contraction hierarchy of a graph, where a witness has at most h legs
-abbrev pub IsHierarchy : Network → ℕ → Levels → Type 0
+abbrev pub IsHierarchy : Network → ℕ → LevelsAndLegs → Type 0
 IsHierarchy g h H = (order : List ℕ) × (L : ℕ → Legs) × IsHierarchyOf g h H order L

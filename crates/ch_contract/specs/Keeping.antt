@@ -6,7 +6,7 @@ use Rattle.ch_graph.specs.Graph.{Network, IsWithinLimits}
 use Rattle.ch_graph.specs.Walk.{IsLeast}
 use Rattle.ch_contract.specs.Legs.{Legs, IsChain, chain_cost, IsHopBound}
 use Rattle.ch_contract.specs.Order.{IsOrder}
-use Rattle.ch_contract.specs.Hierarchy.{Levels, IsHierarchy}
+use Rattle.ch_contract.specs.Hierarchy.{LevelsAndLegs, IsHierarchy}
 use Rattle.ch_contract.specs.Kept.{IsKept}
 
 -- c is the least cost of a chain of legs from u to w
@@ -25,4 +25,4 @@ ContractionKeepsLeastCosts = (g : Network) (h : ℕ) (order : List ℕ) (L : ℕ
 
 -- the contraction hierarchy of a graph is right for the graph, whatever the bound on hops
 abbrev pub HierarchiesAreKept : Type 0
-HierarchiesAreKept = (g : Network) (h : ℕ) (H : Levels) → IsWithinLimits g → IsHopBound h → IsHierarchy g h H → IsKept g H
+HierarchiesAreKept = (g : Network) (h : ℕ) (H : LevelsAndLegs) → IsWithinLimits g → IsHopBound h → IsHierarchy g h H → IsKept g H

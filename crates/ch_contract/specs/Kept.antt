@@ -7,19 +7,19 @@ use Rattle.ch_graph.specs.Graph.{Network}
 use Rattle.ch_contract.specs.declared.leg.Leg.{Leg}
 use Rattle.ch_contract.specs.Legs.{arc_label}
 use Rattle.ch_contract.specs.Rows.{row}
-use Rattle.ch_contract.specs.Hierarchy.{Levels, nodes_of, IsLevelled}
+use Rattle.ch_contract.specs.Hierarchy.{LevelsAndLegs, nodes_of, IsLevelled}
 use Rattle.ch_contract.specs.Paths.{IsMeeting}
 
 -- a leg from u to w: it stands at the lower of the two
-abbrev pub IsLeg : Levels → ℕ → ℕ → Cost → Option ℕ → Type 0
+abbrev pub IsLeg : LevelsAndLegs → ℕ → ℕ → Cost → Option ℕ → Type 0
 IsLeg H u w c m = (l : Leg) × (l.cost ≡ c) × (l.middle ≡ m) × ((Contains (row H.up u) l × (l.node ≡ w)) ⊎ (Contains (row H.down w) l × (l.node ≡ u)))
 
 -- a leg without middle is an arc, one with a middle the two legs that its middle has
-abbrev pub IsFounded : Network → Levels → ℕ → ℕ → Cost → Option ℕ → Type 0
+abbrev pub IsFounded : Network → LevelsAndLegs → ℕ → ℕ → Cost → Option ℕ → Type 0
 IsFounded g H u w c None = (c.arcs ≡ 1) × Contains g.arcs (record { from = u; to = w; weight = c.weight })
 IsFounded g H u w c (Some v) = (a b : Leg) × Contains (row H.down v) a × (a.node ≡ u) × Contains (row H.up v) b × (b.node ≡ w) × (c ≡ cost_sum a.cost b.cost)
 
-pub record IsKept (g : Network) (H : Levels) : Type 0 where
+pub record IsKept (g : Network) (H : LevelsAndLegs) : Type 0 where
   pub nodes : nodes_of H ≡ g.nodes
   pub levelled : IsLevelled H
   pub founded : (u w : ℕ) (c : Cost) (m : Option ℕ) → IsLeg H u w c m → IsFounded g H u w c m

@@ -7,7 +7,7 @@ use Rattle.ch_contract.specs.Legs.{Legs, SameLegs, AreLegsWithin, opening}
 use Rattle.ch_contract.specs.Contraction.{Contracts, IsPriority}
 use Rattle.ch_contract.specs.Order.{are_neighbours, ComesFirst}
 use Rattle.ch_contract.specs.Rows.{row, AreLegsFrom, AreLegsTo}
-use Rattle.ch_contract.specs.Hierarchy.{Levels}
+use Rattle.ch_contract.specs.Hierarchy.{LevelsAndLegs}
 
 -- the legs that are left, a queue of the nodes that are left by their priorities, and the level and the rows of each contracted node
 pub record Progress : Type 0 where
@@ -51,7 +51,7 @@ pub record IsStep (n h : ℕ) (before : Progress) (v : ℕ) (after : Progress) :
   pub kept : (x : ℕ) → x ≢ v → are_neighbours before.legs v x ≡ false → key_of after.keys x ≡ key_of before.keys x
 
 -- these levels and rows are those of all n nodes
-pub record AreAll (n : ℕ) (p : Progress) (H : Levels) : Type 0 where
+pub record AreAll (n : ℕ) (p : Progress) (H : LevelsAndLegs) : Type 0 where
   pub level : H.level ≡ p.levels
   pub sizes : (length p.levels ≡ n) × (length H.up ≡ n) × (length H.down ≡ n)
   pub rows : (x : ℕ) → x < n → (row H.up x ≡ p.up x) × (row H.down x ≡ p.down x)

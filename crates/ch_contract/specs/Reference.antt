@@ -11,7 +11,7 @@ use Rattle.ch_contract.specs.Legs.{Label, Legs, opening}
 use Rattle.ch_contract.specs.Contraction.{contracted, touching}
 use Rattle.ch_contract.specs.Order.{are_neighbours}
 use Rattle.ch_contract.specs.Rows.{row}
-use Rattle.ch_contract.specs.Hierarchy.{Levels, nodes_of}
+use Rattle.ch_contract.specs.Hierarchy.{LevelsAndLegs, nodes_of}
 
 abbrev pub is_at_most : Cost → Cost → Bool
 is_at_most a b = nat_lt a.weight b.weight || (a.weight == b.weight && nat_le a.arcs b.arcs)
@@ -103,7 +103,7 @@ abbrev pub level_at : List Step → ℕ → ℕ
 level_at [] v = 0
 level_at (s ∷ steps) v = if s.node == v then 1 else 1 + level_at steps v
 
-abbrev pub hierarchy_of : Network → ℕ → Levels
+abbrev pub hierarchy_of : Network → ℕ → LevelsAndLegs
 hierarchy_of g h =
     let steps : List Step = steps_of g h in
     record {
@@ -122,7 +122,7 @@ upward rows zero b a = if a == b then Some no_cost else None
 upward rows (suc k) b a = if a == b then Some no_cost else cheapest_of (map (λ l. plus_cost l.cost (upward rows k b l.node)) (row rows a))
 
 -- the cost of going up from s to m and down to t
-abbrev pub over : Levels → ℕ → ℕ → ℕ → Option Cost
+abbrev pub over : LevelsAndLegs → ℕ → ℕ → ℕ → Option Cost
 over H s t m = option_and_then (λ c. plus_cost c (upward H.down (nodes_of H) m t)) (upward H.up (nodes_of H) m s)
 
 abbrev pub same_cost : Option Cost → Option Cost → Bool
@@ -131,7 +131,7 @@ same_cost (Some a) None = false
 same_cost (Some a) (Some b) = a.weight == b.weight && a.arcs == b.arcs
 
 -- the least numbered node where going up and down costs least, and that cost
-abbrev pub meet_of : Levels → ℕ → ℕ → Option (ℕ × Cost)
+abbrev pub meet_of : LevelsAndLegs → ℕ → ℕ → Option (ℕ × Cost)
 meet_of H s t =
     let nodes : List ℕ = range_with_len 0 (nodes_of H) in
     let least : Option Cost = cheapest_of (map (over H s t) nodes) in

@@ -71,7 +71,7 @@ impl Construction {
     ghost use Rattle.ch_queue.specs.Queue.{HasNone};
     ghost use Rattle.ch_contract.specs.Legs.{AreLegsWithin};
     ghost use Rattle.ch_contract.specs.Remaining.{legs_of};
-    ghost use Rattle.ch_contract.specs.Hierarchy.{Levels, IsLevelled};
+    ghost use Rattle.ch_contract.specs.Hierarchy.{LevelsAndLegs, IsLevelled};
     ghost use Rattle.ch_contract.specs.Progress.{AreAll, IsNext, IsOpen, IsStep};
     ghost use Rattle.ch_contract.specs.Construction.{IsSized, progress_of};
 
@@ -176,7 +176,7 @@ impl Construction {
     /// The hierarchy, once every node is contracted. What it doesn't need is freed before its rows are made.
     fn finish(self, alloc: Global) -> Result<Hierarchy, AllocError>
         requires sizes { IsSized self }
-        requires levelled { (H : Levels) → AreAll self.remaining.nodes (progress_of self) H → IsLevelled H }
+        requires levelled { (H : LevelsAndLegs) → AreAll self.remaining.nodes (progress_of self) H → IsLevelled H }
         ensures { IfOk result (AreAll self.remaining.nodes (progress_of self)) }
     {
         let Construction {

@@ -17,9 +17,9 @@ pub struct Hierarchy {
 }
 
 impl Model for Hierarchy {
-    ghost use Rattle.ch_contract.specs.Hierarchy.{Levels, IsLevelled};
+    ghost use Rattle.ch_contract.specs.Hierarchy.{LevelsAndLegs, IsLevelled};
 
-    ghost Value = { Levels };
+    ghost Value = { LevelsAndLegs };
 
     ghost view = { λ h. record { level = h.levels.items; up = h.ups; down = h.downs } };
 

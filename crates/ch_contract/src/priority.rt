@@ -138,12 +138,9 @@ impl PriorityJob<'_> {
         ensures clean { OnOk result (IsClean self.now.remaining.now.nodes room.new.search.heads) }
     {
         for node in nodes {
-            let priority = self.remaining.priority_in(
-                &mut room.search,
-                &mut room.shortcuts,
-                *node,
-                self.hops,
-            )?;
+            let priority = self
+                .remaining
+                .priority_in(&mut room.search, &mut room.shortcuts, *node, self.hops)?;
             waiting.set(*node, priority);
         }
         Ok(())

@@ -9,7 +9,7 @@ use Rattle.ch_graph.proofs.CostOrder.{IsAtMost_refl}
 use Rattle.ch_graph.proofs.CostSums.{cost_sum_assoc, cost_sum-no_cost}
 use Rattle.ch_contract.specs.declared.leg.Leg.{Leg}
 use Rattle.ch_contract.specs.Rows.{row, IsRow}
-use Rattle.ch_contract.specs.Hierarchy.{Levels, nodes_of}
+use Rattle.ch_contract.specs.Hierarchy.{LevelsAndLegs, nodes_of}
 use Rattle.ch_contract.specs.Paths.{IsUpwardPath, path_cost, IsLeastUpwardPath}
 use Rattle.ch_contract.proofs.theory.LegPaths.{path_cost-cons}
 use Rattle.ch_query.specs.declared.side.Side.{Side}
@@ -29,7 +29,7 @@ use Rattle.ch_query.proofs.Rows.{row_one, rows_ordered, has_row}
 use Rattle.ch_query.proofs.Touched.{some_within}
 
 -- the chosen steps from m back to x were appended, and x lies on a least path to m
-pub record IsPartlyTraced (H : Levels) (y : Search) (m x : ℕ) (c : Cost) (old : List PendingLeg) (new : Vec PendingLeg Global) : Type 0 where
+pub record IsPartlyTraced (H : LevelsAndLegs) (y : Search) (m x : ℕ) (c : Cost) (old : List PendingLeg) (new : Vec PendingLeg Global) : Type 0 where
   pub cost : Cost
   pub known : cost_at y.costs.items x ≡ Some cost
   pub least : IsLeastUpwardPath (rows_of H y.side) y.source x cost
@@ -42,7 +42,7 @@ pub record IsPartlyTraced (H : Levels) (y : Search) (m x : ℕ) (c : Cost) (old 
   pub room : vec_len new + cost.arcs ≤ vec_capacity new
 
 -- a leg of a row is one of the hierarchy
-pub step_pending : (H : Levels) (side : Side) (step : DescentStep) → Contains (row (rows_of H side) step.low) step.leg → IsPending H (pending_of side step)
+pub step_pending : (H : LevelsAndLegs) (side : Side) (step : DescentStep) → Contains (row (rows_of H side) step.low) step.leg → IsPending H (pending_of side step)
 step_pending H Up step has = (step.leg, refl, refl, inl (has, refl))
 step_pending H Down step has = (step.leg, refl, refl, inr (has, refl))
 
@@ -52,7 +52,7 @@ step_arcs Up step = refl
 step_arcs Down step = refl
 
 -- at the meet
-pub tracing_starts : (H : Levels) (y : Search) (m : ℕ) (pending : Vec PendingLeg Global) (r : HasReachedWithRoom H y m pending) →
+pub tracing_starts : (H : LevelsAndLegs) (y : Search) (m : ℕ) (pending : Vec PendingLeg Global) (r : HasReachedWithRoom H y m pending) →
     IsPartlyTraced H y m m r.0 pending.items pending
 tracing_starts H y m pending r = record {
   cost = r.0;
@@ -67,7 +67,7 @@ tracing_starts H y m pending r = record {
   room = r.2;
 }
 
-module _ (H : Levels) (k : IsKeptForSome H) (y : Search) (m x : ℕ) (c : Cost) (r : HasReached H y m c) (old : List PendingLeg) (pending : Vec PendingLeg Global)
+module _ (H : LevelsAndLegs) (k : IsKeptForSome H) (y : Search) (m x : ℕ) (c : Cost) (r : HasReached H y m c) (old : List PendingLeg) (pending : Vec PendingLeg Global)
     (t : IsPartlyTraced H y m x c old pending) where
   -- at the source
   pub tracing_ends : x ≡ y.source → IsTraced H y m old pending.items

@@ -3,12 +3,12 @@ use Rattle.std.proofs.Common.{ℕ, Option, Some, None, refl}
 use Rattle.std.specs.Prelude.{MatchOption}
 use Rattle.std.specs.Option.{option_map}
 use Rattle.ch_graph.specs.declared.cost.Cost.{Cost}
-use Rattle.ch_contract.specs.Hierarchy.{Levels}
+use Rattle.ch_contract.specs.Hierarchy.{LevelsAndLegs}
 use Rattle.ch_contract.specs.Paths.{IsMeet, NeverMeets}
 use Rattle.ch_contract.proofs.theory.KeptWalks.{meetings_are_distances}
 use Rattle.ch_query.specs.Distance.{IsDistanceBy, IsLeastWeight}
 
-module _ (H : Levels) (s t : ℕ) where
+module _ (H : LevelsAndLegs) (s t : ℕ) where
   -- the weight at the meet is the least one
   pub least_weight : (o : Option (Cost × ℕ)) → MatchOption o (NeverMeets H s t) (λ e. IsMeet H s t e.1 e.0) → IsLeastWeight H s t (option_map (λ e. e.0.weight) o)
   least_weight None never = never

@@ -9,7 +9,7 @@ use Rattle.ch_graph.specs.declared.cost.Cost.{Cost}
 use Rattle.ch_graph.specs.Cost.{cost_sum, cost_at}
 use Rattle.ch_contract.specs.declared.leg.Leg.{Leg}
 use Rattle.ch_contract.specs.Rows.{row}
-use Rattle.ch_contract.specs.Hierarchy.{Levels, nodes_of, IsLevelled, IsLegUp}
+use Rattle.ch_contract.specs.Hierarchy.{LevelsAndLegs, nodes_of, IsLevelled, IsLegUp}
 use Rattle.ch_contract.specs.Paths.{path_cost}
 use Rattle.ch_query.specs.declared.side.Side.{Side}
 use Rattle.ch_query.specs.declared.side.Side.TheVariants.{Up, Down}
@@ -23,24 +23,24 @@ use Rattle.ch_query.proofs.PathLaws.{AreRising, path_arcs}
 use Rattle.ch_query.proofs.Steps.{lowered, lowered_settled, lowered_keeps, lowered_relaxes, lowered_counts, expanded}
 
 -- a leg of a row leads to a higher node, and is within the limits
-pub leg_up : (H : Levels) → IsLevelled H → (side : Side) (v : ℕ) (l : Leg) → Contains (row (rows_of H side) v) l → IsLegUp H v l
+pub leg_up : (H : LevelsAndLegs) → IsLevelled H → (side : Side) (v : ℕ) (l : Leg) → Contains (row (rows_of H side) v) l → IsLegUp H v l
 leg_up H k Up v l has = All-contains (IsLegUp H v) (row H.up v) l (k.up.1 v).1 has
 leg_up H k Down v l has = All-contains (IsLegUp H v) (row H.down v) l (k.down.1 v).1 has
 
 -- there is a row for each node
-pub rows_size : (H : Levels) → IsLevelled H → (side : Side) → length (rows_of H side) ≡ nodes_of H
+pub rows_size : (H : LevelsAndLegs) → IsLevelled H → (side : Side) → length (rows_of H side) ≡ nodes_of H
 rows_size H k Up = k.up.0
 rows_size H k Down = k.down.0
 
 -- no level is above the number of nodes
-level_small : (H : Levels) → IsLevelled H → (v : ℕ) → slice_index H.level v ≤ nodes_of H
+level_small : (H : LevelsAndLegs) → IsLevelled H → (v : ℕ) → slice_index H.level v ≤ nodes_of H
 level_small H k v = elim (cases_lt v (length H.level)) [
   | inl lt ↦ (All-get_or (λ l. (1 ≤ l) × (l ≤ nodes_of H)) H.level v 0 lt k.levels.0).1
   | inr ge ↦ let e = get_or_past H.level v 0 ge in omega arith
 ]
 
 -- a path has few arcs: fewer for each leg than there are nodes, and no more legs than levels
-pub reached_arcs : (H : Levels) → IsLevelled H → (side : Side) (s v : ℕ) (c : Cost) → IsUpwardCost (rows_of H side) s v c → c.arcs ≤ 2 ^ 50
+pub reached_arcs : (H : LevelsAndLegs) → IsLevelled H → (side : Side) (s v : ℕ) (c : Cost) → IsUpwardCost (rows_of H side) s v c → c.arcs ≤ 2 ^ 50
 reached_arcs H k side s v c r =
     let n = nodes_of H in
     let rising : AreRising n (slice_index H.level) (rows_of H side) = λ x l has. let u = leg_up H k side x l has in (u.higher, u.arcs) in
@@ -53,22 +53,22 @@ reached_arcs H k side s v c r =
     omega arith
 
 -- what a search of the program asks for, part by part
-ExpandingOf : Levels → Side → ℕ → Bool → List (Option Cost) → List (Option Cost) → ℕ → Cost → Type 0
+ExpandingOf : LevelsAndLegs → Side → ℕ → Bool → List (Option Cost) → List (Option Cost) → ℕ → Cost → Type 0
 ExpandingOf H side s stalls best queue v c = IsExpanding (rows_of H side) s (OrNode (IsStalled (rows_of H side) (back_of H side stalls) s) v) best queue v c
 
 -- it is asked of equal parts too
-moved : (H : Levels) (side side' : Side) (s s' : ℕ) (stalls stalls' : Bool) (best queue : List (Option Cost)) (v : ℕ) (c : Cost) → side' ≡ side → s' ≡ s →
+moved : (H : LevelsAndLegs) (side side' : Side) (s s' : ℕ) (stalls stalls' : Bool) (best queue : List (Option Cost)) (v : ℕ) (c : Cost) → side' ≡ side → s' ≡ s →
     stalls' ≡ stalls → ExpandingOf H side s stalls best queue v c → ExpandingOf H side' s' stalls' best queue v c
 moved H side side' s s' stalls stalls' best queue v c a b d x =
     subst (λ q. ExpandingOf H side' s' q best queue v c) (sym d)
     (subst (λ q. ExpandingOf H side' q stalls best queue v c) (sym b) (subst (λ q. ExpandingOf H q s stalls best queue v c) (sym a) x))
 
 -- the same of parents
-ParentsOf : Levels → Side → ℕ → Bool → List (Option Cost) → List (Option Cost) → List ℕ → ℕ → Type 0
+ParentsOf : LevelsAndLegs → Side → ℕ → Bool → List (Option Cost) → List (Option Cost) → List ℕ → ℕ → Type 0
 ParentsOf H side s stalls best queue parents v = AreParents (rows_of H side) s (OrNode (IsStalled (rows_of H side) (back_of H side stalls) s) v) best queue parents
 
 -- it is asked of equal parts too
-moved_parents : (H : Levels) (side side' : Side) (s s' : ℕ) (stalls stalls' : Bool) (best best' queue queue' : List (Option Cost)) (parents parents' : List ℕ)
+moved_parents : (H : LevelsAndLegs) (side side' : Side) (s s' : ℕ) (stalls stalls' : Bool) (best best' queue queue' : List (Option Cost)) (parents parents' : List ℕ)
     (v : ℕ) → side' ≡ side → s' ≡ s → stalls' ≡ stalls → best' ≡ best → queue' ≡ queue → parents' ≡ parents →
     ParentsOf H side s stalls best queue parents v → ParentsOf H side' s' stalls' best' queue' parents' v
 moved_parents H side side' s s' stalls stalls' best best' queue queue' parents parents' v a b d e f g x =
@@ -81,7 +81,7 @@ same_then : (x y z : Search) → IsSameSearch x y → IsSameSearch y z → IsSam
 same_then x y z a b = record { side = b.side ∙ a.side; source = b.source ∙ a.source; stalls = b.stalls ∙ a.stalls; most = b.most ∙ a.most }
 
 -- the leg shows nothing cheaper
-module _ (H : Levels) (x y z : Search) (v : ℕ) (c : Cost) (legs : List Leg) (l : Leg) (p : IsPartlyExpanded H x y v c legs) (e : z.costs.items ≡ y.costs.items)
+module _ (H : LevelsAndLegs) (x y z : Search) (v : ℕ) (c : Cost) (legs : List Leg) (l : Leg) (p : IsPartlyExpanded H x y v c legs) (e : z.costs.items ≡ y.costs.items)
     (f : z.queue ≡ y.queue) (t : IsTouched z.costs.items z.touched) (same : IsSameSearch y z)
     (parents : AreParents (rows_of H y.side) y.source (OrNode (idle_of H y) v) y.costs.items y.queue z.parents.items)
     (relaxed : (k : Leg) → Contains (legs ++ l ∷ []) k → IsRelaxedFrom y.costs.items c k × IsNoEarlier y.costs.items z.parents.items v c k) where
@@ -106,7 +106,7 @@ module _ (H : Levels) (x y z : Search) (v : ℕ) (c : Cost) (legs : List Leg) (l
   }
 
 -- one leg more is taken
-pub partly_more : (H : Levels) (x y z : Search) (v : ℕ) (c : Cost) (legs : List Leg) (l : Leg) → IsPartlyExpanded H x y v c legs →
+pub partly_more : (H : LevelsAndLegs) (x y z : Search) (v : ℕ) (c : Cost) (legs : List Leg) (l : Leg) → IsPartlyExpanded H x y v c legs →
     Contains (row (rows_of H y.side) v) l → l.node < length y.costs.items → RelaxesIn y v c l z → IsTouched z.costs.items z.touched →
     IsSameSearch y z → IsPartlyExpanded H x z v c (legs ++ l ∷ [])
 unfolding ExpandingOf ParentsOf
@@ -172,7 +172,7 @@ partly_more H x y z v c legs l p has within (inr (light, lower, e, f, g)) t same
     }
 
 -- no leg is taken yet
-pub partly_none : (H : Levels) (x : Search) (v : ℕ) (c : Cost) → IsExpandingAt H x v c → IsPartlyExpanded H x x v c []
+pub partly_none : (H : LevelsAndLegs) (x : Search) (v : ℕ) (c : Cost) → IsExpandingAt H x v c → IsPartlyExpanded H x x v c []
 partly_none H x v c e = record {
   same = record { side = refl; source = refl; stalls = refl; most = refl };
   expanding = e;
@@ -182,7 +182,7 @@ partly_none H x v c e = record {
 }
 
 -- all legs are taken
-pub partly_whole : (H : Levels) (x y : Search) (v : ℕ) (c : Cost) (legs : List Leg) → IsPartlyExpanded H x y v c legs → legs ≡ row (rows_of H x.side) v →
+pub partly_whole : (H : LevelsAndLegs) (x y : Search) (v : ℕ) (c : Cost) (legs : List Leg) → IsPartlyExpanded H x y v c legs → legs ≡ row (rows_of H x.side) v →
     IsUnderway H y
 partly_whole H x y v c legs p e =
     let whole : (l : Leg) → Contains (row (rows_of H y.side) v) l → Contains legs l = λ l of. subst (λ xs. Contains xs l) (ap (λ q. row (rows_of H q) v) p.same.side ∙ sym e) of in
@@ -195,12 +195,12 @@ partly_whole H x y v c legs p e =
     }
 
 -- the leg that the program reads
-pub leg_read : (H : Levels) (x y : Search) (v : ℕ) (c : Cost) (legs items : List Leg) (i : ℕ) (d : Leg) → IsPartlyExpanded H x y v c legs →
+pub leg_read : (H : LevelsAndLegs) (x y : Search) (v : ℕ) (c : Cost) (legs items : List Leg) (i : ℕ) (d : Leg) → IsPartlyExpanded H x y v c legs →
     items ≡ row (rows_of H x.side) v → i < length items → Contains (row (rows_of H y.side) v) (get_or items i d)
 leg_read H x y v c legs items i d p e lt = subst (λ xs. Contains xs (get_or items i d)) (e ∙ ap (λ q. row (rows_of H q) v) (sym p.same.side)) (Contains-get_or items i d lt)
 
 -- its node is there, and its sum does not overflow
-pub leg_bounds : (H : Levels) (x y : Search) (v : ℕ) (c : Cost) (legs : List Leg) (l : Leg) → IsPartlyExpanded H x y v c legs →
+pub leg_bounds : (H : LevelsAndLegs) (x y : Search) (v : ℕ) (c : Cost) (legs : List Leg) (l : Leg) → IsPartlyExpanded H x y v c legs →
     Contains (row (rows_of H y.side) v) l →
     (l.node < length y.costs.items) × (c.weight ≤ 2 ^ 60) × (l.cost.weight ≤ 2 ^ 60) × (c.arcs + l.cost.arcs < 2 ^ 64)
 leg_bounds H x y v c legs l p has =
@@ -216,7 +216,7 @@ leg_bounds H x y v c legs l p has =
     (omega arith, here.weight, u.weight, omega arith)
 
 -- the leg that the program reads is taken
-pub partly_step : (H : Levels) (x y z : Search) (v : ℕ) (c : Cost) (items : List Leg) (i : ℕ) (d : Leg) → IsPartlyExpanded H x y v c (take i items) →
+pub partly_step : (H : LevelsAndLegs) (x y z : Search) (v : ℕ) (c : Cost) (items : List Leg) (i : ℕ) (d : Leg) → IsPartlyExpanded H x y v c (take i items) →
     items ≡ row (rows_of H x.side) v → i < length items →
     RelaxesIn y v c (get_or items i d) z → IsTouched z.costs.items z.touched → IsSameSearch y z → IsPartlyExpanded H x z v c (take (i + 1) items)
 partly_step H x y z v c items i d p e lt r t same =

@@ -9,7 +9,7 @@ use Rattle.ch_graph.specs.WalkLaws.{IsWalkCost}
 use Rattle.ch_contract.specs.KeptLaws.{HasWalks}
 use Rattle.ch_graph.proofs.WalkCosts.{IsWalkCost-cost_sum, IsLeast-IsAtMost}
 use Rattle.ch_contract.specs.declared.leg.Leg.{Leg}
-use Rattle.ch_contract.specs.Hierarchy.{Levels}
+use Rattle.ch_contract.specs.Hierarchy.{LevelsAndLegs}
 use Rattle.ch_contract.specs.Paths.{IsUpwardPath, path_cost, IsLeastUpwardPath, IsMeeting, IsMeet, NeverMeets}
 use Rattle.ch_graph.proofs.CostOrder.{same_costs, IsAtMost_refl, IsAtMost_trans, IsAtMost_antisymm, IsBelow_not}
 use Rattle.ch_query.specs.Search.{IsSettled, IsUpwardCost, IsSearch, AvoidsIdle}
@@ -19,11 +19,11 @@ use Rattle.ch_query.proofs.PathLaws.{below_then, then_below, below_sum}
 use Rattle.ch_query.proofs.End.{matched}
 
 -- what s reaches upwards it reaches by a walk
-reached_up : (g : Network) (H : Levels) → HasWalks g H → (s m : ℕ) (a : Cost) → IsUpwardCost H.up s m a → IsWalkCost g s m a
+reached_up : (g : Network) (H : LevelsAndLegs) → HasWalks g H → (s m : ℕ) (a : Cost) → IsUpwardCost H.up s m a → IsWalkCost g s m a
 reached_up g H k s m a r = subst (IsWalkCost g s m) r.path.2 (k.rises s m r.path.0 r.path.1)
 
 -- from what t reaches there is a walk to t
-reached_down : (g : Network) (H : Levels) → HasWalks g H → (t m : ℕ) (b : Cost) → IsUpwardCost H.down t m b → IsWalkCost g m t b
+reached_down : (g : Network) (H : LevelsAndLegs) → HasWalks g H → (t m : ℕ) (b : Cost) → IsUpwardCost H.down t m b → IsWalkCost g m t b
 reached_down g H k t m b r = subst (IsWalkCost g m t) r.path.2 (k.falls t m r.path.0 r.path.1)
 
 -- the end of a least path is reached
@@ -31,11 +31,11 @@ least_reached : (rows : List (List Leg)) (s m : ℕ) (a : Cost) → IsLeastUpwar
 least_reached rows s m a l = record { path = l.path; weight = l.weight }
 
 -- a meeting costs what a walk costs
-meeting_walks : (g : Network) (H : Levels) → HasWalks g H → (s t m : ℕ) (d : Cost) → IsMeeting H s t m d → IsWalkCost g s t d
+meeting_walks : (g : Network) (H : LevelsAndLegs) → HasWalks g H → (s t m : ℕ) (d : Cost) → IsMeeting H s t m d → IsWalkCost g s t d
 meeting_walks g H k s t m d h = subst (IsWalkCost g s t) h.4 (IsWalkCost-cost_sum g s m t h.0 h.1
     (reached_up g H k s m h.0 (least_reached H.up s m h.0 h.2)) (reached_down g H k t m h.1 (least_reached H.down t m h.1 h.3)))
 
-module _ (g : Network) (H : Levels) (k : HasWalks g H) (s t : ℕ) (best_up queue_up best_down queue_down : List (Option Cost)) (least : Option (Cost × ℕ))
+module _ (g : Network) (H : LevelsAndLegs) (k : HasWalks g H) (s t : ℕ) (best_up queue_up best_down queue_down : List (Option Cost)) (least : Option (Cost × ℕ))
     (up : IsSearch H.up s (IdleUp g s) best_up queue_up) (down : IsSearch H.down t (IdleDown g t) best_down queue_down)
     (seen : IsSeen best_up queue_up best_down queue_down least) (found : IsFound H s t least) (past_up : IsPast queue_up least)
     (past_down : IsPast queue_down least) where

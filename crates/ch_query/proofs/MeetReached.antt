@@ -7,7 +7,7 @@ use Rattle.ch_graph.specs.Walk.{IsLeast}
 use Rattle.ch_graph.proofs.CostOrder.{IsAtMost_refl, IsAtMost_antisymm}
 use Rattle.ch_graph.proofs.SimpleWalks.{IsLeast-weight}
 use Rattle.ch_contract.specs.declared.leg.Leg.{Leg}
-use Rattle.ch_contract.specs.Hierarchy.{Levels}
+use Rattle.ch_contract.specs.Hierarchy.{LevelsAndLegs}
 use Rattle.ch_contract.specs.Paths.{IsUpwardPath, path_cost, IsLeastUpwardPath, IsMeet}
 use Rattle.ch_contract.specs.Kept.{IsKept}
 use Rattle.ch_contract.specs.KeptLaws.{HasWalks}
@@ -25,7 +25,7 @@ use Rattle.ch_query.proofs.LeastMeeting.{above, avoids_up, avoids_down, low_up, 
 use Rattle.ch_query.proofs.MeetingEnd.{idle_up, idle_down, search_up, search_down, found}
 
 -- no stalled node lies on a path to m that costs at most c
-AvoidsBy : Levels → Side → Bool → ℕ → ℕ → Cost → Type 0
+AvoidsBy : LevelsAndLegs → Side → Bool → ℕ → ℕ → Cost → Type 0
 AvoidsBy H side stalls s m c = AvoidsIdle (rows_of H side) (IsStalled (rows_of H side) (back_of H side stalls) s) m c
 
 -- a cost that is reached and at most the least one is the least one
@@ -33,7 +33,7 @@ reached_least : (rows : List (List Leg)) (s m : ℕ) (a b : Cost) → IsLeastUpw
 reached_least rows s m a b l r le =
     IsAtMost_antisymm b a le (subst (IsAtMost a) r.path.2 (l.least r.path.0 r.path.1 (subst (λ (q : Cost). q.weight ≤ 2 ^ 60) (sym r.path.2) r.weight)))
 
-module _ (g : Network) (H : Levels) (limits : IsWithinLimits g) (kept : IsKept g H) (x y : Search) (m : ℕ) (c : Cost) (meeting : AreMeeting H x y (Some (c, m)))
+module _ (g : Network) (H : LevelsAndLegs) (limits : IsWithinLimits g) (kept : IsKept g H) (x y : Search) (m : ℕ) (c : Cost) (meeting : AreMeeting H x y (Some (c, m)))
     (past_here : IsPast x.queue (Some (c, m))) (past_there : IsPast y.queue (Some (c, m))) (up : x.side ≡ Up) (down : y.side ≡ Down)
     (meet : IsMeet H x.source y.source m c) where
   k : HasWalks g H

@@ -8,7 +8,7 @@ use Rattle.ch_graph.specs.WalkLaws.{IsWalkCost}
 use Rattle.ch_contract.specs.KeptLaws.{HasWalks}
 use Rattle.ch_graph.proofs.WalkCosts.{IsWalkCost-cost_sum}
 use Rattle.ch_contract.specs.declared.leg.Leg.{Leg}
-use Rattle.ch_contract.specs.Hierarchy.{Levels}
+use Rattle.ch_contract.specs.Hierarchy.{LevelsAndLegs}
 use Rattle.ch_contract.specs.Paths.{path_cost, IsMeet, NeverMeets}
 use Rattle.ch_query.specs.declared.side.Side.{Side}
 use Rattle.ch_query.specs.declared.side.Side.TheVariants.{Up, Down}
@@ -27,7 +27,7 @@ one_leg : (l : Leg) → path_cost (l ∷ []) ≡ l.cost
 one_leg l = path_cost-cons l [] ∙ cost_sum-no_cost l.cost
 
 -- where a search from s stalls, there is a cheaper walk from s
-pub idle_up : (g : Network) (H : Levels) → HasWalks g H → (s v : ℕ) (c : Cost) → IsStalled H.up H.down s v c → IdleUp g s v c
+pub idle_up : (g : Network) (H : LevelsAndLegs) → HasWalks g H → (s v : ℕ) (c : Cost) → IsStalled H.up H.down s v c → IdleUp g s v c
 idle_up g H k s v c i = (
   cost_sum i.cost i.leg.cost,
   IsWalkCost-cost_sum g s i.leg.node v i.cost i.leg.cost (subst (IsWalkCost g s i.leg.node) i.reached.path.2 (k.rises s i.leg.node i.reached.path.0 i.reached.path.1))
@@ -36,7 +36,7 @@ idle_up g H k s v c i = (
 )
 
 -- where a search from t stalls, there is a cheaper walk to t
-pub idle_down : (g : Network) (H : Levels) → HasWalks g H → (t v : ℕ) (c : Cost) → IsStalled H.down H.up t v c → IdleDown g t v c
+pub idle_down : (g : Network) (H : LevelsAndLegs) → HasWalks g H → (t v : ℕ) (c : Cost) → IsStalled H.down H.up t v c → IdleDown g t v c
 idle_down g H k t v c i = (
   cost_sum i.leg.cost i.cost,
   IsWalkCost-cost_sum g v i.leg.node t i.leg.cost i.cost (subst (IsWalkCost g v i.leg.node) (one_leg i.leg) (k.rises v i.leg.node (i.leg ∷ []) (i.has, refl)))
@@ -57,18 +57,18 @@ weaker rows s I J best queue f p = record {
 }
 
 -- a search by parts
-SearchBy : Levels → Side → ℕ → Bool → List (Option Cost) → List (Option Cost) → Type 0
+SearchBy : LevelsAndLegs → Side → ℕ → Bool → List (Option Cost) → List (Option Cost) → Type 0
 SearchBy H side s stalls best queue = IsSearch (rows_of H side) s (IsStalled (rows_of H side) (back_of H side stalls) s) best queue
 
 -- a search underway, by its parts
-by_parts : (H : Levels) (x : Search) (side : Side) (s : ℕ) → IsUnderway H x → x.side ≡ side → x.source ≡ s → x.stalls ≡ true →
+by_parts : (H : LevelsAndLegs) (x : Search) (side : Side) (s : ℕ) → IsUnderway H x → x.side ≡ side → x.source ≡ s → x.stalls ≡ true →
     SearchBy H side s true x.costs.items x.queue
 unfolding SearchBy
 by_parts H x side s u a b d =
     subst (λ q. SearchBy H side s q x.costs.items x.queue) d (subst (λ q. SearchBy H side q x.stalls x.costs.items x.queue) b
     (subst (λ q. SearchBy H q x.source x.stalls x.costs.items x.queue) a u.search))
 
-module _ (g : Network) (H : Levels) (k : HasWalks g H) (x y : Search) (s t : ℕ) (least : Option (Cost × ℕ)) (m : AreMeeting H x y least) (up : x.side ≡ Up)
+module _ (g : Network) (H : LevelsAndLegs) (k : HasWalks g H) (x y : Search) (s t : ℕ) (least : Option (Cost × ℕ)) (m : AreMeeting H x y least) (up : x.side ≡ Up)
     (down : y.side ≡ Down) (xs : x.source ≡ s) (yt : y.source ≡ t)
     (past_here : IsPast x.queue least) (past_there : IsPast y.queue least) where
   -- the search from s

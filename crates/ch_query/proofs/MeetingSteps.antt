@@ -3,7 +3,7 @@ use Rattle.std.proofs.Common.{◌≡◌, ℕ, ◌^◌, ◌≤◌, List, Option, 
 use Rattle.std.proofs.lemmas.Option.{same_Some, none-some}
 use Rattle.ch_graph.specs.declared.cost.Cost.{Cost}
 use Rattle.ch_graph.specs.Cost.{IsAtMost, cost_sum, cost_at}
-use Rattle.ch_contract.specs.Hierarchy.{Levels}
+use Rattle.ch_contract.specs.Hierarchy.{LevelsAndLegs}
 use Rattle.ch_graph.proofs.CostOrder.{IsAtMost_refl, IsAtMost_trans, IsAtMost_antisymm}
 use Rattle.ch_query.specs.declared.search.Search.{Search}
 use Rattle.ch_query.specs.Search.{IsSettled, IsLeastKey, IsUpwardCost}
@@ -29,7 +29,7 @@ first_trans a b c h k = (
 )
 
 -- each side is the other's other side
-pub swapped : (H : Levels) (x y : Search) (least : Option (Cost × ℕ)) → AreMeeting H x y least → AreMeeting H y x least
+pub swapped : (H : LevelsAndLegs) (x y : Search) (least : Option (Cost × ℕ)) → AreMeeting H x y least → AreMeeting H y x least
 swapped H x y least m = record {
   here = m.there;
   there = m.here;
@@ -39,7 +39,7 @@ swapped H x y least m = record {
 }
 
 -- one side settles v at cost c
-module _ (H : Levels) (x y : Search) (least : Option (Cost × ℕ)) (m : AreMeeting H x y least) (q : List (Option Cost)) (v : ℕ) (c : Cost)
+module _ (H : LevelsAndLegs) (x y : Search) (least : Option (Cost × ℕ)) (m : AreMeeting H x y least) (q : List (Option Cost)) (v : ℕ) (c : Cost)
     (l : IsLeastKey x.queue v c) (e : q ≡ set x.queue v None)
     (least' : Option (Cost × ℕ)) (met : IsMet (cost_at y.costs.items v) v c least least') where
   -- v is known at c here
@@ -92,5 +92,5 @@ module _ (H : Levels) (x y : Search) (least : Option (Cost × ℕ)) (m : AreMeet
   }
 
 -- a known cost is within the limits
-pub known_arcs : (H : Levels) (x : Search) (v : ℕ) (c : Cost) → IsUnderway H x → cost_at x.costs.items v ≡ Some c → (c.weight ≤ 2 ^ 60) × (c.arcs ≤ 2 ^ 50)
+pub known_arcs : (H : LevelsAndLegs) (x : Search) (v : ℕ) (c : Cost) → IsUnderway H x → cost_at x.costs.items v ≡ Some c → (c.weight ≤ 2 ^ 60) × (c.arcs ≤ 2 ^ 50)
 known_arcs H x v c u known = let r = u.search.sound v c known in (r.weight, reached_arcs H u.levelled x.side x.source v c r)

@@ -9,7 +9,7 @@ use Rattle.ch_graph.specs.declared.cost.Cost.{Cost}
 use Rattle.ch_graph.specs.Cost.{cost_sum}
 use Rattle.ch_contract.specs.declared.leg.Leg.{Leg}
 use Rattle.ch_contract.specs.Rows.{row, IsRow}
-use Rattle.ch_contract.specs.Hierarchy.{Levels, nodes_of}
+use Rattle.ch_contract.specs.Hierarchy.{LevelsAndLegs, nodes_of}
 use Rattle.ch_contract.specs.Kept.{IsFounded}
 use Rattle.ch_query.specs.declared.side.Side.TheVariants.{Up, Down}
 use Rattle.ch_query.specs.declared.unpacking.PendingLeg.{PendingLeg}
@@ -23,7 +23,7 @@ use Rattle.ch_query.proofs.Unpacked.{halves_one, leg_has_arc}
 abbrev pub unpackings : List PendingLeg → ℕ
 unpackings pending = sum_by (λ p. p.cost.arcs + p.cost.arcs - 1) pending
 
-module _ (H : Levels) where
+module _ (H : LevelsAndLegs) where
   -- the arcs of a leg on top come first
   pub pending_arcs_pop : (pending : List PendingLeg) (p : PendingLeg) (arcs : List InArc) → ArePendingArcs H (pending ++ p ∷ []) arcs →
       (here after : List InArc) × IsUnpacked H p.from p.to p.cost.weight p.middle here × ArePendingArcs H pending after × (arcs ≡ here ++ after)

@@ -9,7 +9,7 @@ use Rattle.std.proofs.lemmas.Option.{none-some}
 use Rattle.ch_graph.specs.declared.cost.Cost.{Cost}
 use Rattle.ch_graph.specs.Cost.{IsAtMost, IsBelow, cost_cmp, cost_at}
 use Rattle.ch_graph.proofs.CostOrder.{IsAtMost_refl, IsBelow-IsAtMost, cost_cmp_tells}
-use Rattle.ch_contract.specs.Hierarchy.{Levels}
+use Rattle.ch_contract.specs.Hierarchy.{LevelsAndLegs}
 use Rattle.ch_queue.specs.Queue.{IsLeastEntry}
 use Rattle.ch_query.specs.declared.search.Search.{Search}
 use Rattle.ch_query.specs.Search.{IsLeastKey, IsExpanding, OrNode, unsettled}
@@ -39,7 +39,7 @@ abbrev pub with_queue : Search → List (Option Cost) → Search
 with_queue x q = record x { queue = q }
 
 -- a search underway whose least node leaves the queue
-module _ (H : Levels) (x : Search) (q : List (Option Cost)) (v : ℕ) (c : Cost) (u : IsUnderway H x) (l : IsLeastKey x.queue v c) (e : q ≡ set x.queue v None) where
+module _ (H : LevelsAndLegs) (x : Search) (q : List (Option Cost)) (v : ℕ) (c : Cost) (u : IsUnderway H x) (l : IsLeastKey x.queue v c) (e : q ≡ set x.queue v None) where
   -- the node is there
   within : v < length x.queue
   within = key_within x.queue v c l.has

@@ -1,6 +1,6 @@
 -- A route is what is answered to its query.
 use Rattle.std.proofs.Common.{ℕ, true, Some, None, refl, sym, subst}
-use Rattle.ch_contract.specs.Hierarchy.{Levels}
+use Rattle.ch_contract.specs.Hierarchy.{LevelsAndLegs}
 use Rattle.ch_contract.specs.Paths.{NeverMeets}
 use Rattle.ch_query.specs.declared.routes.Route.{Route}
 use Rattle.ch_query.specs.Answers.{IsReply}
@@ -8,7 +8,7 @@ use Rattle.ch_query.specs.Distance.{IsLeastWeight}
 use Rattle.ch_query.specs.Routes.{IsRoute}
 use Rattle.ch_query.proofs.Distances.{least_weight, weight_is_distance}
 
-module _ (H : Levels) (s t : ℕ) where
+module _ (H : LevelsAndLegs) (s t : ℕ) where
   -- no route
   pub reply_none : NeverMeets H s t → IsReply H true (s, t) (record { from = s; to = t; weight = None; arcs = None })
   reply_none never = record { from = refl; to = refl; least = never; distance = weight_is_distance H s t None never; arcs = refl }

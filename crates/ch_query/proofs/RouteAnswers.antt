@@ -8,7 +8,7 @@ use Rattle.std.proofs.lemmas.Result.{IfOk-weaker}
 use Rattle.ch_graph.specs.declared.arc.InArc.{InArc}
 use Rattle.ch_graph.specs.declared.cost.Cost.{Cost}
 use Rattle.ch_graph.proofs.SimpleWalks.{IsLeast-arcs}
-use Rattle.ch_contract.specs.Hierarchy.{Levels, nodes_of}
+use Rattle.ch_contract.specs.Hierarchy.{LevelsAndLegs, nodes_of}
 use Rattle.ch_contract.specs.Paths.{IsMeet, NeverMeets}
 use Rattle.ch_contract.proofs.theory.KeptWalks.{meetings_are_distances}
 use Rattle.ch_query.specs.declared.side.Side.TheVariants.{Up, Down}
@@ -27,10 +27,10 @@ use Rattle.ch_query.proofs.RouteArcs.{traced_pending, traced_arcs, turned_pendin
 use Rattle.ch_query.proofs.RouteWalks.{route_least_walk}
 
 -- the route over the meet, where one is found
-abbrev pub FindsRoute : Levels → ℕ → ℕ → Option Route → Type 0
+abbrev pub FindsRoute : LevelsAndLegs → ℕ → ℕ → Option Route → Type 0
 FindsRoute H s t answer = (route : Route) × (answer ≡ Some route) × IsRoute H s t route
 
-module _ (H : Levels) (s t : ℕ) where
+module _ (H : LevelsAndLegs) (s t : ℕ) where
   -- no meeting, no walk
   pub never_walks : NeverMeets H s t → IsRouteBy H s t None
   never_walks never g limits kept = ((meetings_are_distances g H limits kept).never s t).1 never
@@ -63,7 +63,7 @@ module _ (H : Levels) (s t : ℕ) where
     found_few k within = IfOk-weaker r (FindsRoute H s t) Few (λ answer f. subst Few (sym f.1) (route_few k within f.0 f.2)) finds
 
 -- what each call asks for, from the meet on
-module _ (H : Levels) (k : IsKeptForSome H) (x y : Search) (m : ℕ) (c : Cost) (meeting : AreMeeting H x y (Some (c, m)))
+module _ (H : LevelsAndLegs) (k : IsKeptForSome H) (x y : Search) (m : ℕ) (c : Cost) (meeting : AreMeeting H x y (Some (c, m)))
     (past : IsPast x.queue (Some (c, m)) × IsPast y.queue (Some (c, m))) (sides : (x.side ≡ Up) × (y.side ≡ Down)) (meet : IsMeet H x.source y.source m c)
     (start : Vec PendingLeg Global) (none : start.items ≡ []) (len : vec_len start ≡ 0) (exact : vec_capacity start ≡ c.arcs) where
   up : Cost

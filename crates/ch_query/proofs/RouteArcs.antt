@@ -8,7 +8,7 @@ use Rattle.std.proofs.lemmas.List.Sums.{sum_by-cons, sum_by-append}
 use Rattle.ch_graph.specs.declared.arc.InArc.{InArc}
 use Rattle.ch_graph.specs.declared.cost.Cost.{Cost}
 use Rattle.ch_contract.specs.declared.leg.Leg.{Leg}
-use Rattle.ch_contract.specs.Hierarchy.{Levels}
+use Rattle.ch_contract.specs.Hierarchy.{LevelsAndLegs}
 use Rattle.ch_contract.specs.Paths.{IsMeet}
 use Rattle.ch_query.specs.declared.side.Side.{Side}
 use Rattle.ch_query.specs.declared.side.Side.TheVariants.{Up, Down}
@@ -23,7 +23,7 @@ use Rattle.ch_query.proofs.DescentSteps.{step_pending, step_arcs}
 use Rattle.ch_query.proofs.PendingLegs.{pending_arcs_pop}
 
 -- the legs of chosen steps are those of the hierarchy
-steps_pending : (H : Levels) (side : Side) (a x : ℕ) (steps : List DescentStep) → IsDescent (rows_of H side) a x steps → ArePending H (map (pending_of side) steps)
+steps_pending : (H : LevelsAndLegs) (side : Side) (a x : ℕ) (steps : List DescentStep) → IsDescent (rows_of H side) a x steps → ArePending H (map (pending_of side) steps)
 steps_pending H side a x [] d p (i, lt, e) = absurd (omega arith)
 steps_pending H side a x (step ∷ steps) d p (zero, lt, e) = subst (IsPending H) e (step_pending H side step d.1.last.0)
 steps_pending H side a x (step ∷ steps) d p (suc i, lt, e) = steps_pending H side a step.low steps d.2 p (i, omega arith, e)
@@ -39,7 +39,7 @@ steps_arcs side (step ∷ steps) =
     omega arith
 
 -- what a way back appends are legs of the hierarchy, that stand for as many arcs as the meet's cost there has
-module _ (H : Levels) (x : Search) (m : ℕ) (c : Cost) (r : HasReached H x m c) (old new : List PendingLeg) (t : IsTraced H x m old new) where
+module _ (H : LevelsAndLegs) (x : Search) (m : ℕ) (c : Cost) (r : HasReached H x m c) (old new : List PendingLeg) (t : IsTraced H x m old new) where
   pub traced_pending : ArePending H old → ArePending H new
   traced_pending are = subst (ArePending H) (sym t.pushed) (λ p has. elim (Contains-append_cases old (map (pending_of x.side) t.steps) p has) [
     | inl before ↦ are p before
@@ -55,14 +55,14 @@ module _ (H : Levels) (x : Search) (m : ℕ) (c : Cost) (r : HasReached H x m c)
       omega arith
 
 -- turned round, legs stay legs of the hierarchy
-pub turned_pending : (H : Levels) (old new : List PendingLeg) → IsPermutation old new → ArePending H old → ArePending H new
+pub turned_pending : (H : LevelsAndLegs) (old new : List PendingLeg) → IsPermutation old new → ArePending H old → ArePending H new
 turned_pending H old new same are p has = are p (Contains-permutation new old p (IsPermutation-sym old new same) has)
 
 -- and stand for as many arcs
 pub turned_arcs : (old new : List PendingLeg) → IsPermutation old new → pending_arcs new ≡ pending_arcs old
 turned_arcs old new same = sum_by-IsPermutation (λ p. p.cost.arcs) old new same
 
-module _ (H : Levels) where
+module _ (H : LevelsAndLegs) where
   -- the arcs of two lists of legs: those of the second come first
   pending_arcs_append : (xs ys : List PendingLeg) (arcs : List InArc) → ArePendingArcs H (xs ++ ys) arcs →
       (first second : List InArc) × ArePendingArcs H ys first × ArePendingArcs H xs second × (arcs ≡ first ++ second)
@@ -85,15 +85,15 @@ module _ (H : Levels) where
       (r.0, r.1, r.2, are_down_arcs steps r.1 r.3, r.4)
 
 -- a way back on this side, by its parts
-TracedBy : Levels → Side → ℕ → ℕ → List PendingLeg → List PendingLeg → Type 0
+TracedBy : LevelsAndLegs → Side → ℕ → ℕ → List PendingLeg → List PendingLeg → Type 0
 TracedBy H side s m old new = (steps : List DescentStep) × IsDescent (rows_of H side) s m steps × (new ≡ old ++ map (pending_of side) steps)
 
-traced_by : (H : Levels) (x : Search) (m : ℕ) (old new : List PendingLeg) (side : Side) → x.side ≡ side → IsTraced H x m old new → TracedBy H side x.source m old new
+traced_by : (H : LevelsAndLegs) (x : Search) (m : ℕ) (old new : List PendingLeg) (side : Side) → x.side ≡ side → IsTraced H x m old new → TracedBy H side x.source m old new
 unfolding TracedBy
 traced_by H x m old new side is t = subst (λ q. TracedBy H q x.source m old new) is (t.steps, t.descent, t.pushed)
 
 -- the arcs of both ways back are a route
-pub route_found : (H : Levels) (x y : Search) → x.side ≡ Up → y.side ≡ Down → (m : ℕ) (c : Cost) → IsMeet H x.source y.source m c → (falling turned both : List PendingLeg) →
+pub route_found : (H : LevelsAndLegs) (x y : Search) → x.side ≡ Up → y.side ≡ Down → (m : ℕ) (c : Cost) → IsMeet H x.source y.source m c → (falling turned both : List PendingLeg) →
     IsTraced H y m [] falling → turned ≡ reverse falling → IsTraced H x m turned both → (arcs : List InArc) → ArePendingArcs H both arcs →
     IsRoute H x.source y.source (record { weight = c.weight; arcs = arcs })
 unfolding TracedBy

@@ -9,7 +9,7 @@ use Rattle.ch_graph.proofs.CostOrder.{IsAtMost_antisymm}
 use Rattle.ch_graph.proofs.CostSums.{cost_sum_comm}
 use Rattle.ch_graph.proofs.WalkLemmas.{walk_append}
 use Rattle.ch_graph.proofs.WalkCosts.{cost_of-append}
-use Rattle.ch_contract.specs.Hierarchy.{Levels, IsLevelled}
+use Rattle.ch_contract.specs.Hierarchy.{LevelsAndLegs, IsLevelled}
 use Rattle.ch_contract.specs.Kept.{IsKept}
 use Rattle.ch_contract.proofs.theory.KeptWalks.{meetings_are_distances}
 use Rattle.ch_query.specs.declared.side.Side.TheVariants.{Up, Down}
@@ -19,7 +19,7 @@ use Rattle.ch_query.proofs.Rows.{rows_ordered}
 use Rattle.ch_query.proofs.DescentLaws.{steps_cost, steps_cost-cons, descent_cost, descent_one}
 use Rattle.ch_query.proofs.Unpacked.{unpacked_one, unpacked_walk}
 
-module _ (g : Network) (H : Levels) (kept : IsKept g H) where
+module _ (g : Network) (H : LevelsAndLegs) (kept : IsKept g H) where
   -- the arcs of the steps up to m are a walk of their cost
   pub up_walk : (s m : ℕ) (steps : List DescentStep) (arcs : List InArc) → IsDescent H.up s m steps → AreUpArcs H steps arcs → IsWalk g s m arcs × (cost_of arcs ≡ steps_cost steps)
   up_walk s m [] arcs d e = (subst (IsWalk g s m) (sym e) (sym d), ap cost_of e)
@@ -60,7 +60,7 @@ module _ (g : Network) (H : Levels) (kept : IsKept g H) where
         r.weight ∙ sym (ap (λ (q : Cost). q.weight) cost),
       )
 
-module _ (H : Levels) (k : IsLevelled H) where
+module _ (H : LevelsAndLegs) (k : IsLevelled H) where
   -- the steps up have one list of arcs
   up_arcs_one : (steps : List DescentStep) (xs ys : List InArc) → AreUpArcs H steps xs → AreUpArcs H steps ys → xs ≡ ys
   up_arcs_one [] xs ys a b = a ∙ sym b

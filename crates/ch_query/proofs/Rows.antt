@@ -3,7 +3,7 @@ use Rattle.std.proofs.Common.{◌≡◌, ℕ, ◌<◌, List, [], Contains, sym, 
 use Rattle.std.proofs.lemmas.Bool.{cases_lt}
 use Rattle.std.proofs.lemmas.List.{get_or_default, get_or_past}
 use Rattle.ch_contract.specs.declared.leg.Leg.{Leg}
-use Rattle.ch_contract.specs.Hierarchy.{Levels, nodes_of, IsLevelled}
+use Rattle.ch_contract.specs.Hierarchy.{LevelsAndLegs, nodes_of, IsLevelled}
 use Rattle.ch_contract.specs.Rows.{row, IsRow}
 use Rattle.ch_query.specs.declared.side.Side.{Side}
 use Rattle.ch_query.specs.declared.side.Side.TheVariants.{Up, Down}
@@ -24,12 +24,12 @@ row_one legs order a b ha hb same = elim (cases_lt ha.0 hb.0) [
     at_b = get_or_default legs hb.0 a b hb.1 ∙ hb.2
 
 -- each row is in order of node
-pub rows_ordered : (H : Levels) → IsLevelled H → (side : Side) (v : ℕ) → IsRow (row (rows_of H side) v)
+pub rows_ordered : (H : LevelsAndLegs) → IsLevelled H → (side : Side) (v : ℕ) → IsRow (row (rows_of H side) v)
 rows_ordered H k Up v = (k.up.1 v).0
 rows_ordered H k Down v = (k.down.1 v).0
 
 -- what has a leg is a node
-pub has_row : (H : Levels) → IsLevelled H → (side : Side) (v : ℕ) (l : Leg) → Contains (row (rows_of H side) v) l → v < nodes_of H
+pub has_row : (H : LevelsAndLegs) → IsLevelled H → (side : Side) (v : ℕ) (l : Leg) → Contains (row (rows_of H side) v) l → v < nodes_of H
 has_row H k side v l has = elim (cases_lt v (length (rows_of H side))) [
   | inl lt ↦ let size = rows_size H k side in omega arith
   | inr ge ↦ absurd (let none = ap length (get_or_past (rows_of H side) v [] ge) in let lt = has.1 in omega arith)

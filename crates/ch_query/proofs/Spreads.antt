@@ -16,7 +16,7 @@ use Rattle.ch_graph.specs.declared.cost.Cost.{Cost}
 use Rattle.ch_graph.specs.Cost.{no_cost, cost_at}
 use Rattle.ch_graph.proofs.Numbers.{not_eqb, eqb_flips}
 use Rattle.ch_contract.specs.declared.leg.Leg.{Leg}
-use Rattle.ch_contract.specs.Hierarchy.{Levels}
+use Rattle.ch_contract.specs.Hierarchy.{LevelsAndLegs}
 use Rattle.ch_contract.specs.Rows.{row}
 use Rattle.ch_query.specs.declared.side.Side.{Side}
 use Rattle.ch_query.specs.declared.search.Search.{Search}
@@ -53,11 +53,11 @@ none_in_row : (v : ℕ) (l : Leg) → Contains (row [] v) l → ⊥
 none_in_row v l h = let lt = h.1 in omega arith
 
 -- a search that does not stall leaves no node idle
-never_idle : (H : Levels) (x : Search) → x.stalls ≡ false → (v : ℕ) (c : Cost) → idle_of H x v c → ⊥
+never_idle : (H : LevelsAndLegs) (x : Search) → x.stalls ≡ false → (v : ℕ) (c : Cost) → idle_of H x v c → ⊥
 never_idle H x off v c idle = none_in_row v idle.leg (subst (λ b. Contains (row (back_of H x.side b) v) idle.leg) off idle.has)
 
 -- a search that ended without stalling, and its touched nodes in order
-module _ (H : Levels) (x : Search) (u : IsUnderway H x) (off : x.stalls ≡ false) (done : IsEmpty x.queue) (nodes : List ℕ) (rises : AllPairs (λ a b. a < b) nodes)
+module _ (H : LevelsAndLegs) (x : Search) (u : IsUnderway H x) (off : x.stalls ≡ false) (done : IsEmpty x.queue) (nodes : List ℕ) (rises : AllPairs (λ a b. a < b) nodes)
     (reached : (v : ℕ) → Contains nodes v → is_some (cost_at x.costs.items v) ≡ true) (all : (v : ℕ) → is_some (cost_at x.costs.items v) ≡ true → Contains nodes v) where
   -- an entry of the list, by its place
   at : (i : ℕ) (d : ℕ × Cost) → i < length nodes → get_or (map (entry x.costs.items) nodes) i d ≡ entry x.costs.items (get_or nodes i 0)
@@ -96,7 +96,7 @@ module _ (H : Levels) (x : Search) (u : IsUnderway H x) (off : x.stalls ≡ fals
   }
 
 -- the nodes of a search that ended without stalling, once they are sorted
-pub spread_of : (H : Levels) (x : Search) (sorted : Vec ℕ Global) (s : ℕ) (side : Side) → IsUnderway H x → x.stalls ≡ false → x.source ≡ s → x.side ≡ side → IsEmpty x.queue →
+pub spread_of : (H : LevelsAndLegs) (x : Search) (sorted : Vec ℕ Global) (s : ℕ) (side : Side) → IsUnderway H x → x.stalls ≡ false → x.source ≡ s → x.side ≡ side → IsEmpty x.queue →
     IsPermutation x.touched.items sorted.items → IsSorted nat_cmp sorted.items → IsSpread (rows_of H side) s (map (entry x.costs.items) sorted.items)
 spread_of H x sorted s side u off source is done p order =
     let spread = spread_is H x u off done sorted.items (sorted_rises x.touched.items sorted.items u.touched.distinct p order)

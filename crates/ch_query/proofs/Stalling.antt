@@ -4,7 +4,7 @@ use Rattle.ch_graph.specs.declared.cost.Cost.{Cost}
 use Rattle.ch_graph.specs.Cost.{IsBelow, cost_sum, cost_at}
 use Rattle.ch_contract.specs.declared.leg.Leg.{Leg}
 use Rattle.ch_contract.specs.Rows.{row}
-use Rattle.ch_contract.specs.Hierarchy.{Levels}
+use Rattle.ch_contract.specs.Hierarchy.{LevelsAndLegs}
 use Rattle.ch_query.specs.declared.side.Side.{Side}
 use Rattle.ch_query.specs.declared.search.Search.{Search}
 use Rattle.ch_query.specs.Underway.{back_of, idle_of, IsUnderway, IsExpandingAt}
@@ -15,11 +15,11 @@ use Rattle.std.proofs.lemmas.List.Elements.{Contains-get_or}
 use Rattle.ch_query.proofs.Expanding.{leg_up, rows_size, reached_arcs}
 
 -- a leg that the stall test reads leads to a node
-pub record IsBackLeg (H : Levels) (x : Search) (v : ℕ) (l : Leg) : Type 0 where
+pub record IsBackLeg (H : LevelsAndLegs) (x : Search) (v : ℕ) (l : Leg) : Type 0 where
   pub has : Contains (row (rows_of H (other x.side)) v) l
   pub within : l.node < length x.costs.items
 
-module _ (H : Levels) (x : Search) (v : ℕ) (c : Cost) (u : IsExpandingAt H x v c) where
+module _ (H : LevelsAndLegs) (x : Search) (v : ℕ) (c : Cost) (u : IsExpandingAt H x v c) where
   -- the test reads such legs
   pub back_leg : (side : Side) (legs : List Leg) (i : ℕ) (d : Leg) → side ≡ other x.side → legs ≡ row (rows_of H side) v → i < length legs → IsBackLeg H x v (get_or legs i d)
   back_leg side legs i d turned e lt =

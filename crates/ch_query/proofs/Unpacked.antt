@@ -13,7 +13,7 @@ use Rattle.ch_graph.proofs.WalkLemmas.{walk_append}
 use Rattle.ch_graph.proofs.WalkCosts.{cost_of-cons, cost_of-append}
 use Rattle.ch_contract.specs.declared.leg.Leg.{Leg}
 use Rattle.ch_contract.specs.Rows.{row}
-use Rattle.ch_contract.specs.Hierarchy.{Levels, IsLevelled}
+use Rattle.ch_contract.specs.Hierarchy.{LevelsAndLegs, IsLevelled}
 use Rattle.ch_contract.specs.Kept.{IsKept, IsLeg}
 use Rattle.ch_contract.proofs.theory.LegPaths.{rises_or_falls}
 use Rattle.ch_contract.proofs.theory.LegWalks.{leg_walk}
@@ -22,12 +22,12 @@ use Rattle.ch_query.specs.Routes.{IsUnpacked, arc, shortcut}
 use Rattle.ch_query.proofs.Rows.{row_one, rows_ordered}
 
 -- the middle's two legs are one pair
-pub halves_one : (H : Levels) → IsLevelled H → (u v w : ℕ) (a b a' b' : Leg) → Contains (row H.down v) a → a.node ≡ u → Contains (row H.up v) b → b.node ≡ w →
+pub halves_one : (H : LevelsAndLegs) → IsLevelled H → (u v w : ℕ) (a b a' b' : Leg) → Contains (row H.down v) a → a.node ≡ u → Contains (row H.up v) b → b.node ≡ w →
     Contains (row H.down v) a' → a'.node ≡ u → Contains (row H.up v) b' → b'.node ≡ w → (a ≡ a') × (b ≡ b')
 halves_one H k u v w a b a' b' ha na hb nb ha' na' hb' nb' =
     (row_one (row H.down v) (rows_ordered H k Down v) a a' ha ha' (na ∙ sym na'), row_one (row H.up v) (rows_ordered H k Up v) b b' hb hb' (nb ∙ sym nb'))
 
-module _ (H : Levels) (k : IsLevelled H) where
+module _ (H : LevelsAndLegs) (k : IsLevelled H) where
   -- a leg has one list of arcs
   pub unpacked_one : {u w weight : ℕ} {middle : Option ℕ} {xs ys : List InArc} → IsUnpacked H u w weight middle xs → IsUnpacked H u w weight middle ys → xs ≡ ys
   unpacked_one arc arc = refl
@@ -37,7 +37,7 @@ module _ (H : Levels) (k : IsLevelled H) where
       let second = unpacked_one q (subst (λ (l : Leg). IsUnpacked H v w l.cost.weight l.middle ys') (sym one.1) q') in
       λ i. first i ++ second i
 
-module _ (g : Network) (H : Levels) (kept : IsKept g H) where
+module _ (g : Network) (H : LevelsAndLegs) (kept : IsKept g H) where
   -- a leg stands for at least one arc
   pub leg_has_arc : (u w : ℕ) (c : Cost) (middle : Option ℕ) → IsLeg H u w c middle → 0 < c.arcs
   leg_has_arc u w c middle l = let walk = leg_walk g H kept u w c middle l in some walk.0 walk.1 walk.2

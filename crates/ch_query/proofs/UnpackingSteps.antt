@@ -6,7 +6,7 @@ use Rattle.std.proofs.lemmas.List.{append_assoc, append-nil}
 use Rattle.std.proofs.lemmas.List.Sums.{sum_by_push}
 use Rattle.ch_graph.specs.declared.arc.InArc.{InArc}
 use Rattle.ch_graph.specs.declared.cost.Cost.{Cost}
-use Rattle.ch_contract.specs.Hierarchy.{Levels}
+use Rattle.ch_contract.specs.Hierarchy.{LevelsAndLegs}
 use Rattle.ch_query.specs.declared.unpacking.PendingLeg.{PendingLeg}
 use Rattle.ch_query.specs.Distance.{IsKeptForSome}
 use Rattle.ch_query.specs.Routes.{IsUnpacked, arc}
@@ -14,14 +14,14 @@ use Rattle.ch_query.specs.Unpacking.{IsPending, ArePending, pending_arcs, ArePen
 use Rattle.ch_query.proofs.PendingLegs.{unpackings, pending_arcs_push, pending_pop, pending_has_arc, pending_few, halves, split_pending, split_sum, split_nearer, split_arcs}
 
 -- these arcs and those of the pending legs are what the legs at the start stand for, and there is room
-pub record IsPartlyUnpacked (H : Levels) (start : List PendingLeg) (pending : Vec PendingLeg Global) (arcs : Vec InArc Global) : Type 0 where
+pub record IsPartlyUnpacked (H : LevelsAndLegs) (start : List PendingLeg) (pending : Vec PendingLeg Global) (arcs : Vec InArc Global) : Type 0 where
   pub legs : ArePending H pending.items
   pub rest : (after : List InArc) → ArePendingArcs H pending.items after → ArePendingArcs H start (arcs.items ++ after)
   pub room : pending_arcs pending.items ≤ vec_capacity pending
   pub space : vec_len arcs + pending_arcs pending.items ≤ vec_capacity arcs
 
 -- at the end
-pub unpacking_ends : (H : Levels) (start : List PendingLeg) (pending : Vec PendingLeg Global) (arcs : Vec InArc Global) → IsPartlyUnpacked H start pending arcs →
+pub unpacking_ends : (H : LevelsAndLegs) (start : List PendingLeg) (pending : Vec PendingLeg Global) (arcs : Vec InArc Global) → IsPartlyUnpacked H start pending arcs →
     vec_len pending ≡ 0 → ArePendingArcs H start arcs.items
 unpacking_ends H start pending arcs u none =
     subst (ArePendingArcs H start) (append-nil arcs.items) (u.rest [] (nothing pending.items (let ok = pending.ok in omega arith)))
@@ -30,7 +30,7 @@ unpacking_ends H start pending arcs u none =
     nothing [] e = refl
     nothing (p ∷ legs) e = absurd (omega arith)
 
-module _ (H : Levels) (k : IsKeptForSome H) (start : List PendingLeg) (pending : Vec PendingLeg Global) (arcs : Vec InArc Global)
+module _ (H : LevelsAndLegs) (k : IsKeptForSome H) (start : List PendingLeg) (pending : Vec PendingLeg Global) (arcs : Vec InArc Global)
     (u : IsPartlyUnpacked H start pending arcs)
     (popped : Vec PendingLeg Global) (p : PendingLeg) (items : pending.items ≡ popped.items ++ p ∷ []) (capacity : vec_capacity popped ≡ vec_capacity pending) where
   -- the legs below, and the one on top

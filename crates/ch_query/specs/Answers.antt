@@ -1,7 +1,7 @@
 -- What is answered to queries.
 use Rattle.std.specs.Prelude.{◌≡◌, ℕ, ◌<◌, Bool, true, false, List, All, Option, Some, None}
 use Rattle.ch_graph.specs.declared.arc.InArc.{InArc}
-use Rattle.ch_contract.specs.Hierarchy.{Levels}
+use Rattle.ch_contract.specs.Hierarchy.{LevelsAndLegs}
 use Rattle.ch_query.specs.declared.answer.Answer.{Answer}
 use Rattle.ch_query.specs.Distance.{IsDistanceBy, IsLeastWeight}
 use Rattle.ch_query.specs.Routes.{IsRoute}
@@ -11,14 +11,14 @@ abbrev pub AreQueries : ℕ → List (ℕ × ℕ) → Type 0
 AreQueries nodes queries = All (λ query. (query.0 < nodes) × (query.1 < nodes)) queries
 
 -- the arcs of the route stand exactly where routes are wanted and there is a walk
-abbrev pub HasArcs : Levels → Bool → ℕ → ℕ → Option ℕ → Option (List InArc) → Type 0
+abbrev pub HasArcs : LevelsAndLegs → Bool → ℕ → ℕ → Option ℕ → Option (List InArc) → Type 0
 HasArcs H false s t weight arcs = arcs ≡ None
 HasArcs H true s t None arcs = arcs ≡ None
 HasArcs H true s t (Some x) None = ⊥
 HasArcs H true s t (Some x) (Some arcs) = IsRoute H s t (record { weight = x; arcs = arcs })
 
 -- the query's own nodes, their distance, and where routes are wanted the route
-pub record IsReply (H : Levels) (routes : Bool) (query : ℕ × ℕ) (a : Answer) : Type 0 where
+pub record IsReply (H : LevelsAndLegs) (routes : Bool) (query : ℕ × ℕ) (a : Answer) : Type 0 where
   pub from : a.from ≡ query.0
   pub to : a.to ≡ query.1
   pub least : IsLeastWeight H query.0 query.1 a.weight

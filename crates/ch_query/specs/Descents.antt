@@ -3,7 +3,7 @@ use Rattle.std.specs.Prelude.{◌≡◌, ℕ, ◌+◌, ◌≤◌, List, ◌++◌
 use Rattle.std.specs.declared.alloc.Global.{Global}
 use Rattle.ch_graph.specs.declared.cost.Cost.{Cost}
 use Rattle.ch_graph.specs.Cost.{IsBelow, cost_at}
-use Rattle.ch_contract.specs.Hierarchy.{Levels}
+use Rattle.ch_contract.specs.Hierarchy.{LevelsAndLegs}
 use Rattle.ch_contract.specs.Paths.{IsLeastUpwardPath}
 use Rattle.ch_query.specs.declared.side.Side.{Side}
 use Rattle.ch_query.specs.declared.side.Side.TheVariants.{Up, Down}
@@ -15,7 +15,7 @@ use Rattle.ch_query.specs.Side.{rows_of}
 use Rattle.ch_query.specs.Routes.{DescentStep, IsDescent}
 
 -- the search reached m at the least cost c, stalled on no path to it of that cost, and has taken all nodes up to that cost out of its queue
-pub record HasReached (H : Levels) (x : Search) (m : ℕ) (c : Cost) : Type 0 where
+pub record HasReached (H : LevelsAndLegs) (x : Search) (m : ℕ) (c : Cost) : Type 0 where
   pub underway : IsUnderway H x
   pub known : cost_at x.costs.items m ≡ Some c
   pub least : IsLeastUpwardPath (rows_of H x.side) x.source m c
@@ -23,7 +23,7 @@ pub record HasReached (H : Levels) (x : Search) (m : ℕ) (c : Cost) : Type 0 wh
   pub avoids : AvoidsIdle (rows_of H x.side) (idle_of H x) m c
 
 -- and there is room for as many pending legs as c has arcs
-abbrev pub HasReachedWithRoom : Levels → Search → ℕ → Vec PendingLeg Global → Type 0
+abbrev pub HasReachedWithRoom : LevelsAndLegs → Search → ℕ → Vec PendingLeg Global → Type 0
 HasReachedWithRoom H x m pending = (c : Cost) × HasReached H x m c × (vec_len pending + c.arcs ≤ vec_capacity pending)
 
 -- the leg of a step of this side, from the node where it begins to the one where it ends
@@ -32,7 +32,7 @@ pending_of Up step = record { from = step.low; to = step.leg.node; cost = step.l
 pending_of Down step = record { from = step.leg.node; to = step.low; cost = step.leg.cost; middle = step.leg.middle }
 
 -- the legs of the chosen steps back to the source were appended
-pub record IsTraced (H : Levels) (x : Search) (m : ℕ) (old new : List PendingLeg) : Type 0 where
+pub record IsTraced (H : LevelsAndLegs) (x : Search) (m : ℕ) (old new : List PendingLeg) : Type 0 where
   pub steps : List DescentStep
   pub descent : IsDescent (rows_of H x.side) x.source m steps
   pub pushed : new ≡ old ++ map (pending_of x.side) steps

@@ -3,19 +3,19 @@ use Rattle.std.specs.Prelude.{◌≡◌, ℕ, Option, MatchOption}
 use Rattle.ch_graph.specs.declared.cost.Cost.{Cost}
 use Rattle.ch_graph.specs.Graph.{Network, IsWithinLimits}
 use Rattle.ch_graph.specs.Walk.{IsAnswer}
-use Rattle.ch_contract.specs.Hierarchy.{Levels}
+use Rattle.ch_contract.specs.Hierarchy.{LevelsAndLegs}
 use Rattle.ch_contract.specs.Paths.{NeverMeets}
 use Rattle.ch_contract.specs.Kept.{IsKept}
 use Rattle.ch_contract.specs.KeptLaws.{IsLeastMeeting}
 
 -- the hierarchy is right for some graph
-abbrev pub IsKeptForSome : Levels → Type 0
+abbrev pub IsKeptForSome : LevelsAndLegs → Type 0
 IsKeptForSome H = (g : Network) × IsWithinLimits g × IsKept g H
 
 -- the distance from s to t in each graph for which the hierarchy is right, and none exactly where there is no walk
-abbrev pub IsDistanceBy : Levels → ℕ → ℕ → Option ℕ → Type 0
+abbrev pub IsDistanceBy : LevelsAndLegs → ℕ → ℕ → Option ℕ → Type 0
 IsDistanceBy H s t answer = (g : Network) → IsWithinLimits g → IsKept g H → IsAnswer g s t answer
 
 -- the weight of the least cost of going up from s and down to t, and none exactly where no node is reached from both
-abbrev pub IsLeastWeight : Levels → ℕ → ℕ → Option ℕ → Type 0
+abbrev pub IsLeastWeight : LevelsAndLegs → ℕ → ℕ → Option ℕ → Type 0
 IsLeastWeight H s t answer = MatchOption answer (NeverMeets H s t) (λ x. (c : Cost) × IsLeastMeeting H s t c × (c.weight ≡ x))

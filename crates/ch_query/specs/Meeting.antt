@@ -2,7 +2,7 @@
 use Rattle.std.specs.Prelude.{◌≡◌, ℕ, ◌⊎◌, true, Option, Some, None}
 use Rattle.ch_graph.specs.declared.cost.Cost.{Cost}
 use Rattle.ch_graph.specs.Cost.{cost_sum}
-use Rattle.ch_contract.specs.Hierarchy.{Levels}
+use Rattle.ch_contract.specs.Hierarchy.{LevelsAndLegs}
 use Rattle.ch_query.specs.declared.search.Search.{Search}
 use Rattle.ch_query.specs.Search.{IsSettled, IsUpwardCost}
 use Rattle.ch_query.specs.TwoSided.{MeetsFirst, IsSeen}
@@ -21,12 +21,12 @@ IsMet None v c least result = result ≡ least
 IsMet (Some d) v c least result = IsFirst least (cost_sum c d, v) result
 
 -- what is known is the sum of two paths
-abbrev pub IsFoundBy : Levels → Search → Search → Option (Cost × ℕ) → Type 0
+abbrev pub IsFoundBy : LevelsAndLegs → Search → Search → Option (Cost × ℕ) → Type 0
 IsFoundBy H x y least =
     (e : Cost × ℕ) → least ≡ Some e → (a b : Cost) × IsUpwardCost (rows_of H x.side) x.source e.1 a × IsUpwardCost (rows_of H y.side) y.source e.1 b × (cost_sum a b ≡ e.0)
 
 -- two searches underway that stall, and the least sum that they know: it covers all nodes that both settled
-pub record AreMeeting (H : Levels) (x y : Search) (least : Option (Cost × ℕ)) : Type 0 where
+pub record AreMeeting (H : LevelsAndLegs) (x y : Search) (least : Option (Cost × ℕ)) : Type 0 where
   pub here : IsUnderway H x
   pub there : IsUnderway H y
   pub stalls : (x.stalls ≡ true) × (y.stalls ≡ true)

@@ -6,7 +6,7 @@ use Rattle.ch_graph.specs.Graph.{Network, IsWithinLimits}
 use Rattle.ch_graph.specs.Walk.{IsWalk, IsLeast, IsUnreachable, cost_of, weight_of}
 use Rattle.ch_contract.specs.declared.leg.Leg.{Leg}
 use Rattle.ch_contract.specs.Rows.{row}
-use Rattle.ch_contract.specs.Hierarchy.{Levels}
+use Rattle.ch_contract.specs.Hierarchy.{LevelsAndLegs}
 use Rattle.ch_contract.specs.Paths.{IsMeet}
 use Rattle.ch_contract.specs.Kept.{IsKept}
 use Rattle.ch_query.specs.declared.routes.Route.{Route}
@@ -23,25 +23,25 @@ IsDescent rows a x [] = x ≡ a
 IsDescent rows a x (step ∷ steps) = (x ≢ a) × IsChosen rows a x step.low step.leg × IsDescent rows a step.low steps
 
 -- the arcs for which a leg from u to w stands: an arc is itself, and a shortcut is the two legs that its middle has
-pub data IsUnpacked (H : Levels) : ℕ → ℕ → ℕ → Option ℕ → List InArc → Type 0 where
+pub data IsUnpacked (H : LevelsAndLegs) : ℕ → ℕ → ℕ → Option ℕ → List InArc → Type 0 where
   arc : {u w weight : ℕ} → IsUnpacked H u w weight None (record { from = u; to = w; weight = weight } ∷ [])
   shortcut : {u w weight v : ℕ} {a b : Leg} {xs ys : List InArc} → Contains (row H.down v) a → a.node ≡ u → Contains (row H.up v) b → b.node ≡ w →
       IsUnpacked H u v a.cost.weight a.middle xs → IsUnpacked H v w b.cost.weight b.middle ys → IsUnpacked H u w weight (Some v) (xs ++ ys)
 
 -- the arcs of steps back down to the start, in the order of travel: up, the last step first
-abbrev pub AreUpArcs : Levels → List DescentStep → List InArc → Type 0
+abbrev pub AreUpArcs : LevelsAndLegs → List DescentStep → List InArc → Type 0
 AreUpArcs H [] arcs = arcs ≡ []
 AreUpArcs H (step ∷ steps) arcs =
     (before here : List InArc) × AreUpArcs H steps before × IsUnpacked H step.low step.leg.node step.leg.cost.weight step.leg.middle here × (arcs ≡ before ++ here)
 
 -- the arcs of steps down to the end, in the order of travel
-abbrev pub AreDownArcs : Levels → List DescentStep → List InArc → Type 0
+abbrev pub AreDownArcs : LevelsAndLegs → List DescentStep → List InArc → Type 0
 AreDownArcs H [] arcs = arcs ≡ []
 AreDownArcs H (step ∷ steps) arcs =
     (here after : List InArc) × IsUnpacked H step.leg.node step.low step.leg.cost.weight step.leg.middle here × AreDownArcs H steps after × (arcs ≡ here ++ after)
 
 -- the route from s to t: from s up to the meet, and from there down to t
-pub record IsRoute (H : Levels) (s t : ℕ) (route : Route) : Type 0 where
+pub record IsRoute (H : LevelsAndLegs) (s t : ℕ) (route : Route) : Type 0 where
   pub meet : ℕ
   pub cost : Cost
   pub meets : IsMeet H s t meet cost
@@ -62,6 +62,6 @@ pub record IsLeastWalk (g : Network) (s t : ℕ) (arcs : List InArc) : Type 0 wh
   pub least : IsLeast g s t (cost_of arcs)
 
 -- a walk of the least cost with its weight, in each graph for which the hierarchy is right, and none exactly where there is no walk
-abbrev pub IsRouteBy : Levels → ℕ → ℕ → Option Route → Type 0
+abbrev pub IsRouteBy : LevelsAndLegs → ℕ → ℕ → Option Route → Type 0
 IsRouteBy H s t answer = (g : Network) → IsWithinLimits g → IsKept g H →
     MatchOption answer (IsUnreachable g s t) (λ route. IsLeastWalk g s t route.arcs × (route.weight ≡ weight_of route.arcs))

@@ -1,12 +1,12 @@
 -- The two directions of a search.
 use Rattle.std.specs.Prelude.{List}
 use Rattle.ch_contract.specs.declared.leg.Leg.{Leg}
-use Rattle.ch_contract.specs.Hierarchy.{Levels}
+use Rattle.ch_contract.specs.Hierarchy.{LevelsAndLegs}
 use Rattle.ch_query.specs.declared.side.Side.{Side}
 use Rattle.ch_query.specs.declared.side.Side.TheVariants.{Up, Down}
 
 -- the legs by node in this direction
-abbrev pub rows_of : Levels → Side → List (List Leg)
+abbrev pub rows_of : LevelsAndLegs → Side → List (List Leg)
 rows_of H Up = H.up
 rows_of H Down = H.down
 

@@ -1,8 +1,8 @@
 -- What workers share when they answer queries.
 use Rattle.std.specs.Prelude.{Bool}
-use Rattle.ch_contract.specs.Hierarchy.{Levels}
+use Rattle.ch_contract.specs.Hierarchy.{LevelsAndLegs}
 
 -- a hierarchy in which queries are answered, and whether routes are wanted
 pub record Task : Type 0 where
-  pub hierarchy : Levels
+  pub hierarchy : LevelsAndLegs
   pub routes : Bool

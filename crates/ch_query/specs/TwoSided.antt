@@ -4,7 +4,7 @@ use Rattle.ch_graph.specs.declared.cost.Cost.{Cost}
 use Rattle.ch_graph.specs.Cost.{IsAtMost, IsBelow, cost_sum, cost_at}
 use Rattle.ch_graph.specs.Graph.{Network}
 use Rattle.ch_graph.specs.WalkLaws.{IsWalkCost}
-use Rattle.ch_contract.specs.Hierarchy.{Levels}
+use Rattle.ch_contract.specs.Hierarchy.{LevelsAndLegs}
 use Rattle.ch_query.specs.Search.{IsSettled, IsUpwardCost}
 
 -- some walk from s to v costs less than c
@@ -25,7 +25,7 @@ IsSeen best_up queue_up best_down queue_down least =
     (v : ℕ) (a b : Cost) → IsSettled best_up queue_up v a → IsSettled best_down queue_down v b → (e : Cost × ℕ) × (least ≡ Some e) × MeetsFirst e (cost_sum a b, v)
 
 -- what is known is the sum of two paths
-abbrev pub IsFound : Levels → ℕ → ℕ → Option (Cost × ℕ) → Type 0
+abbrev pub IsFound : LevelsAndLegs → ℕ → ℕ → Option (Cost × ℕ) → Type 0
 IsFound H s t least = (e : Cost × ℕ) → least ≡ Some e → (a b : Cost) × IsUpwardCost H.up s e.1 a × IsUpwardCost H.down t e.1 b × (cost_sum a b ≡ e.0)
 
 -- each key that is left is more than what is known

@@ -4,7 +4,7 @@ use Rattle.std.specs.List.{count_by}
 use Rattle.std.specs.declared.alloc.Global.{Global}
 use Rattle.ch_graph.specs.declared.cost.Cost.{Cost}
 use Rattle.ch_contract.specs.declared.leg.Leg.{Leg}
-use Rattle.ch_contract.specs.Hierarchy.{Levels, nodes_of, IsLevelled}
+use Rattle.ch_contract.specs.Hierarchy.{LevelsAndLegs, nodes_of, IsLevelled}
 use Rattle.ch_query.specs.declared.side.Side.{Side}
 use Rattle.ch_query.specs.declared.search.Search.{Search}
 use Rattle.ch_query.specs.Side.{rows_of, other}
@@ -13,7 +13,7 @@ use Rattle.ch_graph.specs.Cost.{cost_at}
 use Rattle.ch_query.specs.Search.{IsSettled, IsSearch, IsExpanding, OrNode, IsStalled, IsEmpty, IsRelaxedFrom, Relaxes, unsettled}
 
 -- the legs by which a search that stalls sees a cheaper way: those from higher nodes back to a node
-abbrev pub back_of : Levels → Side → Bool → List (List Leg)
+abbrev pub back_of : LevelsAndLegs → Side → Bool → List (List Leg)
 back_of H side false = []
 back_of H side true = rows_of H (other side)
 
@@ -44,11 +44,11 @@ pub record IsSameSearch (x y : Search) : Type 0 where
   pub most : y.most ≡ x.most
 
 -- v need not be expanded at this cost
-abbrev pub idle_of : Levels → Search → ℕ → Cost → Type 0
+abbrev pub idle_of : LevelsAndLegs → Search → ℕ → Cost → Type 0
 idle_of H x v c = IsStalled (rows_of H x.side) (back_of H x.side x.stalls) x.source v c
 
 -- a search between two nodes
-pub record IsUnderway (H : Levels) (x : Search) : Type 0 where
+pub record IsUnderway (H : LevelsAndLegs) (x : Search) : Type 0 where
   pub levelled : IsLevelled H
   pub search : IsSearch (rows_of H x.side) x.source (idle_of H x) x.costs.items x.queue
   pub parents : AreParents (rows_of H x.side) x.source (idle_of H x) x.costs.items x.queue x.parents.items
@@ -56,7 +56,7 @@ pub record IsUnderway (H : Levels) (x : Search) : Type 0 where
   pub most : x.most ≡ 2 ^ 60
 
 -- a search that takes the legs of v, which was settled last, at cost c
-pub record IsExpandingAt (H : Levels) (x : Search) (v : ℕ) (c : Cost) : Type 0 where
+pub record IsExpandingAt (H : LevelsAndLegs) (x : Search) (v : ℕ) (c : Cost) : Type 0 where
   pub levelled : IsLevelled H
   pub within : v < nodes_of H
   pub search : IsExpanding (rows_of H x.side) x.source (OrNode (idle_of H x) v) x.costs.items x.queue v c
@@ -73,7 +73,7 @@ abbrev pub KeepsSettled : Search → Search → Type 0
 KeepsSettled x y = (v : ℕ) (c : Cost) → IsSettled y.costs.items y.queue v c → IsSettled x.costs.items x.queue v c
 
 -- y is what x became when these legs of v were taken
-pub record IsPartlyExpanded (H : Levels) (x y : Search) (v : ℕ) (c : Cost) (legs : List Leg) : Type 0 where
+pub record IsPartlyExpanded (H : LevelsAndLegs) (x y : Search) (v : ℕ) (c : Cost) (legs : List Leg) : Type 0 where
   pub same : IsSameSearch x y
   pub expanding : IsExpandingAt H y v c
   pub relaxed : (l : Leg) → Contains legs l → IsRelaxedFrom y.costs.items c l × IsNoEarlier y.costs.items y.parents.items v c l

@@ -5,16 +5,16 @@ use Rattle.std.specs.declared.alloc.Global.{Global}
 use Rattle.ch_graph.specs.declared.arc.InArc.{InArc}
 use Rattle.ch_contract.specs.declared.leg.Leg.{Leg}
 use Rattle.ch_contract.specs.Rows.{row}
-use Rattle.ch_contract.specs.Hierarchy.{Levels}
+use Rattle.ch_contract.specs.Hierarchy.{LevelsAndLegs}
 use Rattle.ch_contract.specs.Kept.{IsLeg}
 use Rattle.ch_query.specs.declared.unpacking.PendingLeg.{PendingLeg}
 use Rattle.ch_query.specs.Routes.{IsUnpacked}
 
 -- it is a leg of the hierarchy
-abbrev pub IsPending : Levels → PendingLeg → Type 0
+abbrev pub IsPending : LevelsAndLegs → PendingLeg → Type 0
 IsPending H p = IsLeg H p.from p.to p.cost p.middle
 
-abbrev pub ArePending : Levels → List PendingLeg → Type 0
+abbrev pub ArePending : LevelsAndLegs → List PendingLeg → Type 0
 ArePending H pending = (p : PendingLeg) → Contains pending p → IsPending H p
 
 -- for how many arcs the legs stand
@@ -28,18 +28,18 @@ pub record HasRoomToUnpack (pending : Vec PendingLeg Global) (arcs : Vec InArc G
   pub empty : vec_len arcs ≡ 0
 
 -- the arcs for which the legs stand, from the last leg on
-abbrev pub ArePendingArcs : Levels → List PendingLeg → List InArc → Type 0
+abbrev pub ArePendingArcs : LevelsAndLegs → List PendingLeg → List InArc → Type 0
 ArePendingArcs H [] arcs = arcs ≡ []
 ArePendingArcs H (p ∷ pending) arcs =
     (before here : List InArc) × ArePendingArcs H pending before × IsUnpacked H p.from p.to p.cost.weight p.middle here × (arcs ≡ before ++ here)
 
 -- the leg from u to w through v
-pub record AreHalves (H : Levels) (u v w : ℕ) (a b : Leg) : Type 0 where
+pub record AreHalves (H : LevelsAndLegs) (u v w : ℕ) (a b : Leg) : Type 0 where
   pub first : Contains (row H.down v) a × (a.node ≡ u)
   pub second : Contains (row H.up v) b × (b.node ≡ w)
 
 -- the two legs through v take the place of one, that from u on top
-pub record IsSplit (H : Levels) (u v w : ℕ) (old new : List PendingLeg) : Type 0 where
+pub record IsSplit (H : LevelsAndLegs) (u v w : ℕ) (old new : List PendingLeg) : Type 0 where
   pub a : Leg
   pub b : Leg
   pub halves : AreHalves H u v w a b

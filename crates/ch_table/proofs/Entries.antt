@@ -10,7 +10,7 @@ use Rattle.std.proofs.lemmas.List.Kept.{AllPairs-filter}
 use Rattle.ch_graph.specs.declared.cost.Cost.{Cost}
 use Rattle.ch_graph.specs.Rows.{AreRowsOf, values_of}
 use Rattle.ch_contract.specs.declared.leg.Leg.{Leg}
-use Rattle.ch_contract.specs.Hierarchy.{Levels, nodes_of, AreLegsUp, IsLegUp, IsLevelled}
+use Rattle.ch_contract.specs.Hierarchy.{LevelsAndLegs, nodes_of, AreLegsUp, IsLegUp, IsLevelled}
 use Rattle.ch_contract.specs.Paths.{IsUpwardPath, IsLeastUpwardPath}
 use Rattle.ch_graph.proofs.Lists.{contains_none}
 use Rattle.ch_query.specs.declared.side.Side.{Side}
@@ -22,7 +22,7 @@ use Rattle.ch_table.specs.Entries.{entry_at, AreEntries}
 use Rattle.ch_graph.proofs.Lists.{contains_map, contains_map_of, contains_filter, contains_filter_of, pairs_map, pairs_append}
 
 -- an upward path from a node ends at a node
-pub path_within : (H : Levels) (rows : List (List Leg)) → AreLegsUp H rows → (a b : ℕ) (legs : List Leg) → a < nodes_of H → IsUpwardPath rows a b legs → b < nodes_of H
+pub path_within : (H : LevelsAndLegs) (rows : List (List Leg)) → AreLegsUp H rows → (a b : ℕ) (legs : List Leg) → a < nodes_of H → IsUpwardPath rows a b legs → b < nodes_of H
 path_within H rows up a b [] lt p = subst (λ q. q < nodes_of H) p lt
 path_within H rows up a b (l ∷ legs) lt p = path_within H rows up l.node b legs (All-contains (IsLegUp H a) _ l (up.1 a).1 p.0).node p.1
 
@@ -70,7 +70,7 @@ module _ (rows : List (List Leg)) (nodes : List ℕ) where
     }
 
   module _ (entries : List (ℕ × (ℕ × ℕ))) (h : AreEntries rows nodes (length nodes) entries) where
-    module _ (H : Levels) (up : AreLegsUp H rows) (below : All (λ x. x < nodes_of H) nodes) where
+    module _ (H : LevelsAndLegs) (up : AreLegsUp H rows) (below : All (λ x. x < nodes_of H) nodes) where
       -- a node that a node of the list reaches is a node
       reached_within : (v j : ℕ) (c : Cost) → j < length nodes → IsLeastUpwardPath rows (slice_index nodes j) v c → v < nodes_of H
       reached_within v j c lt p = path_within H rows up (slice_index nodes j) v p.path.0 (All-get_or (λ x. x < nodes_of H) nodes j 0 lt below) p.path.1
@@ -123,6 +123,6 @@ module _ (rows : List (List Leg)) (nodes : List ℕ) where
       }
 
 -- the legs of either side lead to higher nodes
-pub rows_up : (H : Levels) (side : Side) → IsLevelled H → AreLegsUp H (rows_of H side)
+pub rows_up : (H : LevelsAndLegs) (side : Side) → IsLevelled H → AreLegsUp H (rows_of H side)
 rows_up H Up levelled = levelled.up
 rows_up H Down levelled = levelled.down

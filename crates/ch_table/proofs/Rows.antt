@@ -9,7 +9,7 @@ use Rattle.std.proofs.lemmas.List.{length-replicate, get_or-replicate}
 use Rattle.std.proofs.lemmas.List.Elements.{Contains-append_left, Contains-push, Contains-push_cases, Contains-get_or}
 use Rattle.ch_graph.specs.declared.cost.Cost.{Cost}
 use Rattle.ch_graph.specs.Cost.{cost_sum}
-use Rattle.ch_contract.specs.Hierarchy.{Levels}
+use Rattle.ch_contract.specs.Hierarchy.{LevelsAndLegs}
 use Rattle.ch_contract.specs.Paths.{IsUp, IsMeeting}
 use Rattle.ch_graph.proofs.Lists.{contains_none}
 use Rattle.ch_contract.proofs.theory.KeptWalks.{kept_has_walks, meetings_are_distances}
@@ -139,7 +139,7 @@ all_zip_at R d e [] (y ∷ ys) size h = absurd (omega arith)
 all_zip_at R d e (x ∷ xs) [] size h = absurd (omega arith)
 all_zip_at R d e (x ∷ xs) (y ∷ ys) size h = (h zero (omega arith), all_zip_at R d e xs ys (omega arith) (λ j lt. h (suc j) (omega arith)))
 
-module _ (H : Levels) (s : ℕ) (targets : List ℕ) (reached : List (ℕ × Cost)) (buckets : List (List (ℕ × ℕ)))
+module _ (H : LevelsAndLegs) (s : ℕ) (targets : List ℕ) (reached : List (ℕ × Cost)) (buckets : List (List (ℕ × ℕ)))
     (spread : IsSpread H.up s reached) (filled : AreBuckets H.down targets buckets) where
   -- a meeting is a sum
   meeting_sum : (j v : ℕ) (c : Cost) → j < length targets → IsMeeting H s (slice_index targets j) v c → IsSum reached buckets j c.weight

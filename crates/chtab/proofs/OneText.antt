@@ -7,7 +7,7 @@ use Rattle.ch_graph.specs.declared.arc.InArc.{InArc}
 use Rattle.ch_graph.specs.Graph.{Network, IsWithinLimits}
 use Rattle.ch_graph.specs.Walk.{IsAnswer, IsDistance}
 use Rattle.ch_contract.specs.Legs.{IsHopBound}
-use Rattle.ch_contract.specs.Hierarchy.{Levels}
+use Rattle.ch_contract.specs.Hierarchy.{LevelsAndLegs}
 use Rattle.ch_contract.specs.Kept.{IsKept}
 use Rattle.ch_contract.proofs.theory.BuiltKept.{hierarchies_kept}
 use Rattle.ch_contract.proofs.theory.OneOrder.{one_hierarchy}
@@ -63,7 +63,7 @@ one_short g query a b h k =
     same_answers a b (h.0.from ∙ sym k.0.from) (h.0.to ∙ sym k.0.to) (one_cell g query.0 query.1 a.weight b.weight h.0.weight k.0.weight) (h.1 ∙ sym k.1)
 
 -- at one weight the arcs are one
-one_arcs : (g : Network) (H : Levels) → IsKept g H → (s t : ℕ) (w : Option ℕ) (xs ys : Option (List InArc)) → HasArcs H true s t w xs → HasArcs H true s t w ys → xs ≡ ys
+one_arcs : (g : Network) (H : LevelsAndLegs) → IsKept g H → (s t : ℕ) (w : Option ℕ) (xs ys : Option (List InArc)) → HasArcs H true s t w xs → HasArcs H true s t w ys → xs ≡ ys
 one_arcs g H kept s t None xs ys h k = h ∙ sym k
 one_arcs g H kept s t (Some x) None ys h k = absurd h
 one_arcs g H kept s t (Some x) (Some xs) None h k = absurd k
@@ -73,7 +73,7 @@ one_arcs g H kept s t (Some x) (Some xs) (Some ys) h k =
     ap (λ (r : Route). Some r.arcs) (route_one H kept.levelled s t a b h k)
 
 -- a query has one answer with a route
-one_routed : (g : Network) (H : Levels) → IsKept g H → (query : ℕ × ℕ) (a b : Answer) → AnswersWithRoute g H query a → AnswersWithRoute g H query b → a ≡ b
+one_routed : (g : Network) (H : LevelsAndLegs) → IsKept g H → (query : ℕ × ℕ) (a b : Answer) → AnswersWithRoute g H query a → AnswersWithRoute g H query b → a ≡ b
 one_routed g H kept query a b h k =
     let weight = one_cell g query.0 query.1 a.weight b.weight h.answers.weight k.answers.weight in
     let arcs = one_arcs g H kept query.0 query.1 b.weight a.arcs b.arcs (subst (λ w. HasArcs H true query.0 query.1 w a.arcs) weight h.route) k.route in
@@ -89,7 +89,7 @@ one_text_by false g h limits hops queries text other t u = one_answers_text (Ans
 one_text_by true g h limits hops queries text other t u =
     let same = one_hierarchy g h u.0 t.0 u.1 t.1 in
     let kept = hierarchies_kept g h t.0 limits hops t.1 in
-    one_answers_text (AnswersWithRoute g t.0) (one_routed g t.0 kept) queries text other t.2 (subst (λ (H : Levels). HasText (AnswersWithRoute g H) queries other) same u.2)
+    one_answers_text (AnswersWithRoute g t.0) (one_routed g t.0 kept) queries text other t.2 (subst (λ (H : LevelsAndLegs). HasText (AnswersWithRoute g H) queries other) same u.2)
 
 -- a graph is named by its bytes
 same_graph : (graph : Reading) (bytes : List ℕ) (g h : Network) → graph.before ≡ Some bytes → ReadsGraph graph g → ReadsGraph graph h → g ≡ h

@@ -5,7 +5,7 @@ use Rattle.std.proofs.lemmas.Slice.Zip.{all_zipped_more, length-zip, get_or-zip}
 use Rattle.std.specs.List.{AllZip, zip, flat_map}
 use Rattle.ch_graph.specs.declared.arc.InArc.{InArc}
 use Rattle.ch_graph.specs.Graph.{Network, IsWithinLimits}
-use Rattle.ch_contract.specs.Hierarchy.{Levels, IsHierarchy}
+use Rattle.ch_contract.specs.Hierarchy.{LevelsAndLegs, IsHierarchy}
 use Rattle.ch_contract.specs.Kept.{IsKept}
 use Rattle.ch_query.specs.declared.answer.Answer.{Answer}
 use Rattle.ch_query.specs.Answers.{HasArcs, IsReply}
@@ -53,11 +53,11 @@ each_weaker P Q so (x ∷ xs) [] h = absurd h
 each_weaker P Q so (x ∷ xs) (y ∷ ys) h = (so x y h.0, each_weaker P Q so xs ys h.1)
 
 -- an answer of a hierarchy that is right for a graph is an answer on the graph
-reply_answers : (g : Network) (H : Levels) → IsWithinLimits g → IsKept g H → (routes : Bool) (query : ℕ × ℕ) (a : Answer) → IsReply H routes query a → Answers g query a
+reply_answers : (g : Network) (H : LevelsAndLegs) → IsWithinLimits g → IsKept g H → (routes : Bool) (query : ℕ × ℕ) (a : Answer) → IsReply H routes query a → Answers g query a
 reply_answers g H limits kept routes query a r = record { from = r.from; to = r.to; weight = r.distance g limits kept }
 
 -- the arcs of a reply are a walk of least cost
-reply_walks : (g : Network) (H : Levels) → IsWithinLimits g → IsKept g H → (s t : ℕ) (weight : Option ℕ) (found : Option (List InArc)) → HasArcs H true s t weight found →
+reply_walks : (g : Network) (H : LevelsAndLegs) → IsWithinLimits g → IsKept g H → (s t : ℕ) (weight : Option ℕ) (found : Option (List InArc)) → HasArcs H true s t weight found →
     (arcs : List InArc) → found ≡ Some arcs → IsLeastWalk g s t arcs
 reply_walks g H limits kept s t None found h arcs is = absurd (none-some arcs (sym h ∙ is))
 reply_walks g H limits kept s t (Some x) None h arcs is = absurd h
@@ -65,7 +65,7 @@ reply_walks g H limits kept s t (Some x) (Some xs) h arcs is =
     subst (IsLeastWalk g s t) (same_Some xs arcs is) (route_least_walk g H kept limits s t (record { weight = x; arcs = xs }) h).0
 
 -- what a graph's hierarchy answers to the queries, written out, is the text that is asked for
-pub replies_text : (g : Network) (h : ℕ) (H : Levels) → IsWithinLimits g → IsHierarchy g h H → IsKept g H → (routes : Bool) (queries : List (ℕ × ℕ)) (answers : List Answer) (text : List ℕ) →
+pub replies_text : (g : Network) (h : ℕ) (H : LevelsAndLegs) → IsWithinLimits g → IsHierarchy g h H → IsKept g H → (routes : Bool) (queries : List (ℕ × ℕ)) (answers : List Answer) (text : List ℕ) →
     AllZip (IsReply H routes) queries answers → text ≡ flat_map answer_text answers → IsTextBy routes g h queries text
 replies_text g h H limits hierarchy kept false queries answers text replies is =
     (answers, each_weaker (IsReply H false) (AnswersShortly g) (λ query a r. (reply_answers g H limits kept false query a r, r.arcs)) queries answers replies, is)
@@ -78,7 +78,7 @@ replies_text g h H limits hierarchy kept true queries answers text replies is =
     (H, hierarchy, (answers, each_weaker (IsReply H true) (AnswersWithRoute g H) routed queries answers replies, is))
 
 -- a table of a hierarchy that is right for a graph, written out, is the table of the graph
-pub cells_text : (g : Network) (H : Levels) → IsWithinLimits g → IsKept g H → (sources targets : List ℕ) (rows : List (List (Option ℕ))) (text : List ℕ) →
+pub cells_text : (g : Network) (H : LevelsAndLegs) → IsWithinLimits g → IsKept g H → (sources targets : List ℕ) (rows : List (List (Option ℕ))) (text : List ℕ) →
     AllZip (IsRowBy H targets) sources rows → text ≡ flat_map row_text (zip sources rows) → IsTableText g sources targets text
 cells_text g H limits kept sources targets rows text table is = (
   rows,

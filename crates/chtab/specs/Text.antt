@@ -4,7 +4,7 @@ use Rattle.std.specs.List.{AllZip}
 use Rattle.ch_graph.specs.declared.arc.InArc.{InArc}
 use Rattle.ch_graph.specs.Graph.{Network}
 use Rattle.ch_graph.specs.Walk.{IsAnswer}
-use Rattle.ch_contract.specs.Hierarchy.{Levels, IsHierarchy}
+use Rattle.ch_contract.specs.Hierarchy.{LevelsAndLegs, IsHierarchy}
 use Rattle.ch_query.specs.declared.answer.Answer.{Answer}
 use Rattle.ch_query.specs.Routes.{IsLeastWalk}
 use Rattle.ch_query.specs.Answers.{HasArcs}
@@ -43,7 +43,7 @@ abbrev pub AnswersShortly : Network → ℕ × ℕ → Answer → Type 0
 AnswersShortly g query a = Answers g query a × (a.arcs ≡ None)
 
 -- an answer with the arcs of the route, which are a walk of least weight and of these of the fewest arcs
-pub record AnswersWithRoute (g : Network) (H : Levels) (query : ℕ × ℕ) (a : Answer) : Type 0 where
+pub record AnswersWithRoute (g : Network) (H : LevelsAndLegs) (query : ℕ × ℕ) (a : Answer) : Type 0 where
   pub answers : Answers g query a
   pub route : HasArcs H true query.0 query.1 a.weight a.arcs
   pub walk : (arcs : List InArc) → a.arcs ≡ Some arcs → IsLeastWalk g query.0 query.1 arcs
@@ -58,7 +58,7 @@ IsDistanceText g queries text = HasText (AnswersShortly g) queries text
 
 -- distances and routes, by the contraction hierarchy where a witness has at most h legs
 abbrev pub IsRouteText : Network → ℕ → List (ℕ × ℕ) → List ℕ → Type 0
-IsRouteText g h queries text = (H : Levels) × IsHierarchy g h H × HasText (AnswersWithRoute g H) queries text
+IsRouteText g h queries text = (H : LevelsAndLegs) × IsHierarchy g h H × HasText (AnswersWithRoute g H) queries text
 
 -- routes are written where they are wanted and a hierarchy is built
 abbrev pub writes_routes : Options → Bool

@@ -21,7 +21,7 @@ use Rattle.ch_contract.specs.Contraction.{Contracts, count_below}
 use Rattle.ch_contract.specs.Order.{are_neighbours, ComesFirst}
 use Rattle.ch_contract.specs.Rows.{AreLegsFrom, AreLegsTo}
 use Rattle.ch_contract.specs.Heads.{IsClean}
-use Rattle.ch_contract.specs.Hierarchy.{Levels}
+use Rattle.ch_contract.specs.Hierarchy.{LevelsAndLegs}
 use Rattle.ch_contract.specs.Remaining.{legs_of}
 use Rattle.ch_contract.specs.Progress.{Progress, IsNext, IsOpen, IsStep, AreAll}
 use Rattle.ch_contract.specs.Priorities.{ArePriorities, AreRefreshed, has_node, neighbours_in}
@@ -165,7 +165,7 @@ sized_still h before v up down after node sizes s clean =
     }
 
 -- the rows of all nodes, made of the pairs
-pub all_rows : (c : Construction) (H : Levels) → IsSized c → H.level ≡ c.levels.items → AreRowsOf c.remaining.nodes c.ups.items H.up → AreRowsOf c.remaining.nodes c.downs.items H.down → AreAll c.remaining.nodes (progress_of c) H
+pub all_rows : (c : Construction) (H : LevelsAndLegs) → IsSized c → H.level ≡ c.levels.items → AreRowsOf c.remaining.nodes c.ups.items H.up → AreRowsOf c.remaining.nodes c.downs.items H.down → AreAll c.remaining.nodes (progress_of c) H
 all_rows c H sizes level ups downs = record {
   level = level;
   sizes = (sizes.levels, ups.count, downs.count);

@@ -13,7 +13,7 @@ use Rattle.ch_graph.proofs.LeastSearch.{IsLeast-of_walk}
 use Rattle.ch_contract.specs.declared.leg.Leg.{Leg}
 use Rattle.ch_contract.specs.Legs.{Legs, arc_label}
 use Rattle.ch_contract.specs.Rows.{row}
-use Rattle.ch_contract.specs.Hierarchy.{Levels}
+use Rattle.ch_contract.specs.Hierarchy.{LevelsAndLegs}
 use Rattle.ch_contract.specs.Paths.{IsMeeting}
 use Rattle.ch_contract.specs.Kept.{IsLeg, IsFounded, IsKept}
 use Rattle.ch_contract.specs.Keeping.{IsLeft, ContractionKeepsLeastCosts, HierarchiesAreKept}
@@ -28,10 +28,10 @@ use Rattle.ch_contract.proofs.theory.BuiltLevels.{built_levelled}
 use Rattle.ch_contract.proofs.theory.UpAndDown.{up_and_down}
 
 -- going up and down costs no more than c
-abbrev MeetsWithin : Levels → ℕ → ℕ → Cost → Type 0
+abbrev MeetsWithin : LevelsAndLegs → ℕ → ℕ → Cost → Type 0
 MeetsWithin H s t c = (m : ℕ) × (d : Cost) × IsMeeting H s t m d × IsAtMost d c
 
-module _ {g : Network} {h : ℕ} {H : Levels} {order : List ℕ} {L : ℕ → Legs} (built : IsBuilt g h H order L) where
+module _ {g : Network} {h : ℕ} {H : LevelsAndLegs} {order : List ℕ} {L : ℕ → Legs} (built : IsBuilt g h H order L) where
   -- what is made of an arc, or of two legs of its middle, is founded
   made_founded : (i u w : ℕ) (c : Cost) (m : Option ℕ) → i < g.nodes → IsMade g order L i u w c m → IsFounded g H u w c m
   made_founded i u w c None lt made = made

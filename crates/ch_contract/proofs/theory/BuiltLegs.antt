@@ -7,14 +7,14 @@ use Rattle.ch_graph.specs.WalkLaws.{IsWalkCost}
 use Rattle.ch_contract.specs.declared.leg.Leg.{Leg}
 use Rattle.ch_contract.specs.Legs.{Label, Legs, IsHopBound}
 use Rattle.ch_contract.specs.Rows.{row, label_of}
-use Rattle.ch_contract.specs.Hierarchy.{Levels, IsHierarchyOf}
+use Rattle.ch_contract.specs.Hierarchy.{LevelsAndLegs, IsHierarchyOf}
 use Rattle.ch_contract.proofs.theory.Ordered.{contains_none, every_number}
 use Rattle.ch_contract.proofs.theory.RowLegs.{leg_at, row_has, row_member}
 use Rattle.ch_contract.proofs.theory.StepLegs.{IsContraction, IsStepLeg, step_leg}
 use Rattle.ch_contract.proofs.theory.KeptCosts.{IsAfter}
 
 -- the hierarchy of a graph within the limits
-pub record IsBuilt (g : Network) (h : ℕ) (H : Levels) (order : List ℕ) (L : ℕ → Legs) : Type 0 where
+pub record IsBuilt (g : Network) (h : ℕ) (H : LevelsAndLegs) (order : List ℕ) (L : ℕ → Legs) : Type 0 where
   pub limits : IsWithinLimits g
   pub hops : IsHopBound h
   pub hierarchy : IsHierarchyOf g h H order L
@@ -26,7 +26,7 @@ row_node rows n v l size has = elim (cases_lt v n) [
   | inr past ↦ absurd (contains_none l (subst (λ legs. Contains legs l) (get_or_past rows v [] (omega arith)) has))
 ]
 
-module _ {g : Network} {h : ℕ} {H : Levels} {order : List ℕ} {L : ℕ → Legs} (built : IsBuilt g h H order L) where
+module _ {g : Network} {h : ℕ} {H : LevelsAndLegs} {order : List ℕ} {L : ℕ → Legs} (built : IsBuilt g h H order L) where
   -- all nodes are contracted
   pub contraction : IsContraction g h order L g.nodes
   contraction = record { limits = built.limits; hops = built.hops; start = built.hierarchy.order_is.start; step = built.hierarchy.order_is.step }

@@ -6,12 +6,12 @@ use Rattle.std.proofs.lemmas.List.Elements.{All-from_get_or, All-nil, Contains-g
 use Rattle.ch_contract.specs.declared.leg.Leg.{Leg}
 use Rattle.ch_contract.specs.Legs.{Legs}
 use Rattle.ch_contract.specs.Rows.{row, IsRow}
-use Rattle.ch_contract.specs.Hierarchy.{Levels, IsLevelled, IsLegUp, AreLegsUp, nodes_of}
+use Rattle.ch_contract.specs.Hierarchy.{LevelsAndLegs, IsLevelled, IsLegUp, AreLegsUp, nodes_of}
 use Rattle.ch_graph.specs.Graph.{Network}
 use Rattle.ch_contract.proofs.theory.KeptCosts.{IsAfter}
 use Rattle.ch_contract.proofs.theory.BuiltLegs.{IsBuilt, step_of, up_step_leg, down_step_leg}
 
-module _ {g : Network} {h : ℕ} {H : Levels} {order : List ℕ} {L : ℕ → Legs} (built : IsBuilt g h H order L) where
+module _ {g : Network} {h : ℕ} {H : LevelsAndLegs} {order : List ℕ} {L : ℕ → Legs} (built : IsBuilt g h H order L) where
   -- a node that is left after step i is higher than the node of step i
   higher : (i x : ℕ) → i < g.nodes → x < g.nodes → IsAfter order i x → slice_index order i ≢ x → slice_index H.level (slice_index order i) < slice_index H.level x
   higher i x li lx p ne =

@@ -14,7 +14,7 @@ use Rattle.ch_graph.proofs.WalkCosts.{IsAtMost_between, cost_of-cons, IsBelow-co
 use Rattle.ch_graph.proofs.SimpleWalks.{IsLeast-weight}
 use Rattle.ch_graph.proofs.LeastSearch.{IsLeast-decided, IsLeast-IsDistance, IsDistance-IsLeast}
 use Rattle.ch_contract.specs.declared.leg.Leg.{Leg}
-use Rattle.ch_contract.specs.Hierarchy.{Levels}
+use Rattle.ch_contract.specs.Hierarchy.{LevelsAndLegs}
 use Rattle.ch_contract.specs.Paths.{IsUpwardPath, path_cost, IsUp, IsDown, IsMeeting, NeverMeets}
 use Rattle.ch_contract.specs.Kept.{IsLeg, IsKept}
 use Rattle.ch_contract.specs.KeptLaws.{HasWalks, IsLeastMeeting, MeetingsAreDistances, IsTightUp, IsTightDown, TightPathsAreLeast}
@@ -22,7 +22,7 @@ use Rattle.ch_contract.proofs.theory.LegPaths.{IsHighPath, HasHighPath, path_cos
 use Rattle.ch_contract.proofs.theory.MeetingPaths.{HasMeetingPaths, meeting_paths_within, matched}
 use Rattle.ch_contract.proofs.theory.LegWalks.{rises, falls}
 
-module _ (g : Network) (H : Levels) (limits : IsWithinLimits g) (kept : IsKept g H) where
+module _ (g : Network) (H : LevelsAndLegs) (limits : IsWithinLimits g) (kept : IsKept g H) where
   -- each walk has a path of legs of no greater cost: a leg for each arc that is no loop
   walk_path : (s t : ℕ) (arcs : List InArc) → IsWalk g s t arcs → HasHighPath H 0 s t (cost_of arcs)
   walk_path s t [] w = record { legs = []; is_path = (w, omega arith); cheap = IsAtMost_refl no_cost }

@@ -12,7 +12,7 @@ use Rattle.ch_graph.proofs.CostSums.{cost_sum_assoc, cost_sum_comm, cost_sum-no_
 use Rattle.ch_graph.proofs.WalkCosts.{IsWalkCost-no_cost, IsWalkCost-cost_sum}
 use Rattle.ch_contract.specs.declared.leg.Leg.{Leg}
 use Rattle.ch_contract.specs.Rows.{row}
-use Rattle.ch_contract.specs.Hierarchy.{Levels, IsLegUp}
+use Rattle.ch_contract.specs.Hierarchy.{LevelsAndLegs, IsLegUp}
 use Rattle.ch_contract.specs.Paths.{IsUpwardPath, path_cost, IsMeeting}
 use Rattle.ch_contract.specs.Kept.{IsLeg, IsKept}
 
@@ -40,7 +40,7 @@ falls_along g rows walk a b (l ∷ legs) p =
     let back = IsWalkCost-cost_sum g b l.node a (path_cost legs) l.cost (falls_along g rows walk l.node b legs p.1) (walk a l p.0) in
     subst (IsWalkCost g b a) (cost_sum_comm (path_cost legs) l.cost ∙ sym (path_cost-cons l legs)) back
 
-module _ (H : Levels) where
+module _ (H : LevelsAndLegs) where
   -- the legs lead from s to t, over nodes of level k and above
   abbrev pub IsHighPath : ℕ → ℕ → ℕ → List Leg → Type 0
   IsHighPath k s t [] = (s ≡ t) × (k ≤ slice_index H.level t)
@@ -112,7 +112,7 @@ module _ (H : Levels) where
   abbrev pub Falls : ℕ → ℕ → Cost → Type 0
   Falls u w c = (l : Leg) × Contains (row H.down w) l × (l.node ≡ u) × (l.cost ≡ c) × (slice_index H.level w < slice_index H.level u)
 
-module _ (g : Network) (H : Levels) (kept : IsKept g H) where
+module _ (g : Network) (H : LevelsAndLegs) (kept : IsKept g H) where
   -- an up leg of a node
   pub up_leg : (v : ℕ) (l : Leg) → Contains (row H.up v) l → IsLegUp H v l
   up_leg v l has = All-contains (IsLegUp H v) (row H.up v) l (kept.levelled.up.1 v).1 has

@@ -9,12 +9,12 @@ use Rattle.ch_graph.proofs.CostOrder.{same_costs}
 use Rattle.ch_graph.proofs.WalkCosts.{IsWalkCost-arc, IsWalkCost-cost_sum}
 use Rattle.ch_contract.specs.declared.leg.Leg.{Leg}
 use Rattle.ch_contract.specs.Rows.{row}
-use Rattle.ch_contract.specs.Hierarchy.{Levels}
+use Rattle.ch_contract.specs.Hierarchy.{LevelsAndLegs}
 use Rattle.ch_contract.specs.Paths.{IsUpwardPath, path_cost}
 use Rattle.ch_contract.specs.Kept.{IsKept, IsLeg, IsFounded}
 use Rattle.ch_contract.proofs.theory.LegPaths.{up_leg, down_leg, rises_along, falls_along}
 
-module _ (g : Network) (H : Levels) (kept : IsKept g H) where
+module _ (g : Network) (H : LevelsAndLegs) (kept : IsKept g H) where
   -- the legs of the nodes below level n are walks
   AreWalks : ℕ → Type 0
   AreWalks n = ((v : ℕ) (l : Leg) → slice_index H.level v < n → Contains (row H.up v) l → IsWalkCost g v l.node l.cost)

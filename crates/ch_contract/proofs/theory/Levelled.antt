@@ -12,7 +12,7 @@ use Rattle.ch_contract.specs.declared.shortcut.Shortcut.{Shortcut}
 use Rattle.ch_contract.specs.Legs.{Label, Legs, AreLegsWithin, opening}
 use Rattle.ch_contract.specs.Contraction.{shortcut_label, overridden, contracted, Contracts}
 use Rattle.ch_contract.specs.Rows.{row, IsRow, label_of}
-use Rattle.ch_contract.specs.Hierarchy.{Levels, IsLegUp, AreLegsUp, IsLevelled, IsHierarchyOf}
+use Rattle.ch_contract.specs.Hierarchy.{LevelsAndLegs, IsLegUp, AreLegsUp, IsLevelled, IsHierarchyOf}
 use Rattle.ch_contract.proofs.theory.Contracting.{override_cases, contracted_within}
 use Rattle.ch_contract.proofs.theory.OneOrder.{taken_at, one_map}
 use Rattle.ch_contract.proofs.theory.RowLegs.{none_unless, row_has}
@@ -83,7 +83,7 @@ gone_steps n h m order L step j (suc k) lt le =
       | inr ne ↦ gone_more n h (L k) (slice_index order k) (L (k + 1)) (slice_index order j) (before (omega arith) (omega arith)) (step k (omega arith))
     ]
 
-module _ (g : Network) (h : ℕ) (H : Levels) (order : List ℕ) (L : ℕ → Legs) (p : IsHierarchyOf g h H order L) (small : g.nodes ≤ 2 ^ 25) (start : AreLegsWithin g.nodes (opening g)) where
+module _ (g : Network) (h : ℕ) (H : LevelsAndLegs) (order : List ℕ) (L : ℕ → Legs) (p : IsHierarchyOf g h H order L) (small : g.nodes ≤ 2 ^ 25) (start : AreLegsWithin g.nodes (opening g)) where
   -- the legs before each step are within the limits
   within : (k : ℕ) → k ≤ g.nodes → AreLegsWithin g.nodes (L k)
   within = within_steps g.nodes h g.nodes order L (subst (AreLegsWithin g.nodes) (sym (one_map (L 0) (opening g) p.order_is.start)) start) p.order_is.step

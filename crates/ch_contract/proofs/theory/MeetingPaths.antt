@@ -10,13 +10,13 @@ use Rattle.ch_graph.proofs.CostOrder.{IsAtMost_refl, IsAtMost_trans}
 use Rattle.ch_graph.proofs.CostSums.{cost_sum_assoc, cost_sum_comm, IsAtMost-cost_sum}
 use Rattle.ch_graph.proofs.WalkCosts.{IsAtMost_between, IsAtMost-cost_sum_more}
 use Rattle.ch_contract.specs.declared.leg.Leg.{Leg}
-use Rattle.ch_contract.specs.Hierarchy.{Levels, nodes_of}
+use Rattle.ch_contract.specs.Hierarchy.{LevelsAndLegs, nodes_of}
 use Rattle.ch_contract.specs.Paths.{IsUpwardPath, path_cost}
 use Rattle.ch_contract.specs.Kept.{IsKept}
 use Rattle.ch_contract.proofs.theory.LegPaths.{IsHighPath, HasHighPath, high_start, high_end, high_append, last_leg, meeting_high, Rises, Falls, rises_or_falls, path_cost-cons, path_cost-append}
 
 -- an upward path from s and one from t that meet, and cost at most c together
-pub record HasMeetingPaths (H : Levels) (s t : ℕ) (c : Cost) : Type 0 where
+pub record HasMeetingPaths (H : LevelsAndLegs) (s t : ℕ) (c : Cost) : Type 0 where
   pub node : ℕ
   pub ups : List Leg
   pub downs : List Leg
@@ -25,7 +25,7 @@ pub record HasMeetingPaths (H : Levels) (s t : ℕ) (c : Cost) : Type 0 where
   pub cheap : IsAtMost (cost_sum (path_cost ups) (path_cost downs)) c
 
 -- what is within one bound is within a greater one
-pub meeting_paths_within : (H : Levels) (s t : ℕ) (c d : Cost) → IsAtMost c d → HasMeetingPaths H s t c → HasMeetingPaths H s t d
+pub meeting_paths_within : (H : LevelsAndLegs) (s t : ℕ) (c d : Cost) → IsAtMost c d → HasMeetingPaths H s t c → HasMeetingPaths H s t d
 meeting_paths_within H s t c d le p = record {
   node = p.node;
   ups = p.ups;
@@ -36,10 +36,10 @@ meeting_paths_within H s t c d le p = record {
 }
 
 -- the level of v is above k
-abbrev pub IsAbove : Levels → ℕ → ℕ → Type 0
+abbrev pub IsAbove : LevelsAndLegs → ℕ → ℕ → Type 0
 IsAbove H k v = k < slice_index H.level v
 
-module _ (g : Network) (H : Levels) (kept : IsKept g H) where
+module _ (g : Network) (H : LevelsAndLegs) (kept : IsKept g H) where
   -- a leg down and a leg up lead back to the same node, or a path over higher nodes costs no more
   over_lower : (k s m t : ℕ) (c d : Cost) → Falls H s m c → Rises H m t d → IsAbove H k s → IsAbove H k t → (s ≡ t) ⊎ HasHighPath H (k + 1) s t (cost_sum c d)
   over_lower k s m t c d fall rise above_s above_t =

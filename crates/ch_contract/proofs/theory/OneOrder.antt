@@ -11,7 +11,7 @@ use Rattle.ch_contract.specs.Legs.{Legs, SameLegs}
 use Rattle.ch_contract.specs.Contraction.{IsPairBefore, AreShortcuts, contracted, Contracts, IsPriority, touching}
 use Rattle.ch_contract.specs.Order.{are_neighbours, IsLastTouch, IsPriorityAfter, IsOrder}
 use Rattle.ch_contract.specs.Rows.{row, AreLegsFrom, AreLegsTo}
-use Rattle.ch_contract.specs.Hierarchy.{Levels, IsHierarchyOf, IsHierarchy}
+use Rattle.ch_contract.specs.Hierarchy.{LevelsAndLegs, IsHierarchyOf, IsHierarchy}
 use Rattle.ch_contract.proofs.theory.Ordered.{ordered_same, every_number}
 use Rattle.ch_contract.proofs.theory.RowLegs.{one_row}
 
@@ -153,7 +153,7 @@ taken_at g h order L x p lt =
 same_rows : (n : ℕ) (xs ys : List (List Leg)) → length xs ≡ n → length ys ≡ n → ((x : ℕ) → x < n → row xs x ≡ row ys x) → xs ≡ ys
 same_rows n xs ys a b each = same_lists xs ys (a ∙ sym b) (λ k d lt. get_or_default xs k d [] lt ∙ each k (omega arith) ∙ sym (get_or_default ys k d [] (omega arith)))
 
-module _ (g : Network) (h : ℕ) (H K : Levels) (order : List ℕ) (L : ℕ → Legs) (other : List ℕ) (M : ℕ → Legs) (p : IsHierarchyOf g h H order L) (q : IsHierarchyOf g h K other M) where
+module _ (g : Network) (h : ℕ) (H K : LevelsAndLegs) (order : List ℕ) (L : ℕ → Legs) (other : List ℕ) (M : ℕ → Legs) (p : IsHierarchyOf g h H order L) (q : IsHierarchyOf g h K other M) where
   -- the orders agree
   all : Agree g.nodes order L other M
   all = agree g h order L other M p.order_is q.order_is g.nodes (omega arith)
@@ -182,7 +182,7 @@ module _ (g : Network) (h : ℕ) (H K : Levels) (order : List ℕ) (L : ℕ → 
       one_row (λ u. L at.0 u x) (row H.down x) (row K.down x) one.0 two.0 one.1 two.1)
 
 -- the two hierarchies are equal
-pub one_hierarchy : (g : Network) (h : ℕ) (H K : Levels) → IsHierarchy g h H → IsHierarchy g h K → H ≡ K
+pub one_hierarchy : (g : Network) (h : ℕ) (H K : LevelsAndLegs) → IsHierarchy g h H → IsHierarchy g h K → H ≡ K
 one_hierarchy g h H K p q =
     let level = levels g h H K p.0 p.1 q.0 q.1 p.2 q.2 in
     let up = ups g h H K p.0 p.1 q.0 q.1 p.2 q.2 in

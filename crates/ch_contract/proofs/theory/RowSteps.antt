@@ -26,7 +26,7 @@ module _ (order : List ℕ) (v : ℕ) (left : Contains order v → ⊥) where
   pub levels_more : (L : ℕ → Legs) (M : Legs) (levels after : List ℕ) → v < length levels → after ≡ slice_set levels v (length order + 1) → AreLevels order levels → AreLevels (order ++ v ∷ []) after
   levels_more L M levels after within e are i lt = elim (cases_eq i (length order)) [
     | inl last ↦ subst (λ z. slice_index after (slice_index (more order L v M) z) ≡ z + 1) (sym last)
-    (ap (slice_index after) (here order L v M) ∙ ap (λ l. slice_index l v) e ∙ get_or-set_same levels v (length order + 1) 0 within)
+        (ap (slice_index after) (here order L v M) ∙ ap (λ l. slice_index l v) e ∙ get_or-set_same levels v (length order + 1) 0 within)
     | inr ne ↦
         let size = length_push order v in
         let below : i < length order = omega arith in

@@ -9,7 +9,7 @@ use Rattle.ch_contract.specs.Legs.{Legs, SameLegs, AreLegsWithin, opening}
 use Rattle.ch_contract.specs.Contraction.{Contracts}
 use Rattle.ch_contract.specs.Order.{are_neighbours}
 use Rattle.ch_contract.specs.Rows.{row, AreLegsFrom, AreLegsTo}
-use Rattle.ch_contract.specs.Hierarchy.{Levels, IsLevelled, IsHierarchyOf, IsHierarchy}
+use Rattle.ch_contract.specs.Hierarchy.{LevelsAndLegs, IsLevelled, IsHierarchyOf, IsHierarchy}
 use Rattle.ch_contract.specs.Progress.{Progress, HasPriority, IsNext, IsOpen, IsStep, AreAll}
 use Rattle.ch_contract.proofs.theory.Levelled.{within_steps, gone_steps, levelled}
 use Rattle.ch_contract.proofs.theory.OneOrder.{one_map}
@@ -92,15 +92,15 @@ module _ (g : Network) (h : ℕ) (order : List ℕ) (L : ℕ → Legs) (p : Prog
         size = ap length s.levels ∙ length-set p.levels v q.contracted ∙ u.size;
         levels = levels_more order v left L q.legs p.levels q.levels (let size = u.size in omega (arith, within)) (s.levels ∙ ap (slice_set p.levels v) count) u.levels;
         priorities = kept_more g.nodes h order L p.keys u.priorities v q.legs q.keys s.size s.taken left
-        (subst (λ (M : Legs). (x : ℕ) → are_neighbours M v x ≡ true → HasPriority g.nodes h q.legs q.keys x) same s.anew)
-        (subst (λ (M : Legs). (x : ℕ) → x ≢ v → are_neighbours M v x ≡ false → key_of q.keys x ≡ key_of p.keys x) same s.kept)
-        none_earlier;
+            (subst (λ (M : Legs). (x : ℕ) → are_neighbours M v x ≡ true → HasPriority g.nodes h q.legs q.keys x) same s.anew)
+            (subst (λ (M : Legs). (x : ℕ) → x ≢ v → are_neighbours M v x ≡ false → key_of q.keys x ≡ key_of p.keys x) same s.kept)
+            none_earlier;
         up = rows_more order v left AreLegsFrom L q.legs p.up q.up s.up.0 (subst (λ (M : Legs). AreLegsFrom M v s.up.0) same s.up.1) s.up.2 (λ x ne. (s.rows x ne).0) u.up;
         down = rows_more order v left AreLegsTo L q.legs p.down q.down s.down.0 (subst (λ (M : Legs). AreLegsTo M v s.down.0) same s.down.1) s.down.2 (λ x ne. (s.rows x ne).1) u.down;
       }
 
 -- at the end the levels and rows are a hierarchy by the rules
-after_all : (g : Network) (h : ℕ) (order : List ℕ) (L : ℕ → Legs) (p : Progress) → IsAfter g h order L p → HasNone p.keys → (H : Levels) → AreAll g.nodes p H → IsHierarchyOf g h H order L
+after_all : (g : Network) (h : ℕ) (order : List ℕ) (L : ℕ → Legs) (p : Progress) → IsAfter g h order L p → HasNone p.keys → (H : LevelsAndLegs) → AreAll g.nodes p H → IsHierarchyOf g h H order L
 after_all g h order L p u none H all =
     let order_is = begun_all g h order L u.begun (all_taken g.nodes h order L p.keys u.priorities none) in
     let size = order_is.nodes.0 in
@@ -134,8 +134,8 @@ underway_within g h p u =
     subst (AreLegsWithin g.nodes) (one_map (u.L n) p.legs a.legs) (within_steps g.nodes h n u.order u.L start a.begun.step n (omega arith))
 
 -- once no node is left, the levels and rows are the hierarchy
-pub underway_at_end : (g : Network) (h : ℕ) (p : Progress) → IsUnderway g h p → HasNone p.keys → (H : Levels) → AreAll g.nodes p H → IsHierarchy g h H
+pub underway_at_end : (g : Network) (h : ℕ) (p : Progress) → IsUnderway g h p → HasNone p.keys → (H : LevelsAndLegs) → AreAll g.nodes p H → IsHierarchy g h H
 underway_at_end g h p u none H all = (u.order, u.L, after_all g h u.order u.L p u.after none H all)
 
-pub underway_levelled : (g : Network) (h : ℕ) (p : Progress) → IsUnderway g h p → HasNone p.keys → g.nodes ≤ 2 ^ 25 → (H : Levels) → AreAll g.nodes p H → IsLevelled H
+pub underway_levelled : (g : Network) (h : ℕ) (p : Progress) → IsUnderway g h p → HasNone p.keys → g.nodes ≤ 2 ^ 25 → (H : LevelsAndLegs) → AreAll g.nodes p H → IsLevelled H
 underway_levelled g h p u none count H all = levelled g h H u.order u.L (after_all g h u.order u.L p u.after none H all) count u.after.limits

@@ -13,7 +13,7 @@ use Rattle.ch_graph.proofs.SimpleWalks.{IsLeast-weight}
 use Rattle.ch_contract.specs.declared.leg.Leg.{Leg}
 use Rattle.ch_contract.specs.Legs.{Label, Legs, IsChain, chain_cost}
 use Rattle.ch_contract.specs.Rows.{row}
-use Rattle.ch_contract.specs.Hierarchy.{Levels}
+use Rattle.ch_contract.specs.Hierarchy.{LevelsAndLegs}
 use Rattle.ch_contract.specs.Paths.{IsUpwardPath, path_cost, IsUp, IsDown, IsMeeting}
 use Rattle.ch_contract.proofs.theory.ReferenceSearch.{some_of}
 use Rattle.ch_contract.proofs.theory.RowLegs.{leg_at}
@@ -25,11 +25,11 @@ use Rattle.ch_contract.proofs.theory.KeptCosts.{IsAfter, IsChainCost, chain_walk
 use Rattle.ch_contract.proofs.theory.BuiltLegs.{IsBuilt, contraction, step_of, up_leg, down_leg, up_walk, down_walk}
 
 -- the empty paths meet where they begin
-stays : (H : Levels) (s : ℕ) (c : Cost) → HasMeetingPaths H s s c
+stays : (H : LevelsAndLegs) (s : ℕ) (c : Cost) → HasMeetingPaths H s s c
 stays H s c = record { node = s; ups = []; downs = []; rise = refl; fall = refl; cheap = IsAtMost-no_cost c }
 
 -- an up leg in front
-up_first : (H : Levels) (s t : ℕ) (l : Leg) (c : Cost) → Contains (row H.up s) l → HasMeetingPaths H l.node t c → HasMeetingPaths H s t (cost_sum l.cost c)
+up_first : (H : LevelsAndLegs) (s t : ℕ) (l : Leg) (c : Cost) → Contains (row H.up s) l → HasMeetingPaths H l.node t c → HasMeetingPaths H s t (cost_sum l.cost c)
 up_first H s t l c has r = record {
   node = r.node;
   ups = l ∷ r.ups;
@@ -41,7 +41,7 @@ up_first H s t l c has r = record {
 }
 
 -- a down leg at the end
-down_last : (H : Levels) (s t : ℕ) (l : Leg) (c : Cost) → Contains (row H.down t) l → HasMeetingPaths H s l.node c → HasMeetingPaths H s t (cost_sum c l.cost)
+down_last : (H : LevelsAndLegs) (s t : ℕ) (l : Leg) (c : Cost) → Contains (row H.down t) l → HasMeetingPaths H s l.node c → HasMeetingPaths H s t (cost_sum c l.cost)
 down_last H s t l c has r = record {
   node = r.node;
   ups = r.ups;
@@ -86,7 +86,7 @@ last_leg L u w x (y ∷ xs) chain =
       sum = chain_cost-cons L u x (y ∷ xs) l.0 l.1 ∙ ap (cost_sum l.0.cost) r.sum ∙ sym (cost_sum_assoc l.0.cost r.cost r.label.cost);
     }
 
-module _ {g : Network} {h : ℕ} {H : Levels} {order : List ℕ} {L : ℕ → Legs} (built : IsBuilt g h H order L) where
+module _ {g : Network} {h : ℕ} {H : LevelsAndLegs} {order : List ℕ} {L : ℕ → Legs} (built : IsBuilt g h H order L) where
   -- what is after i and not the node of step i is after i + 1
   after_next : (i x : ℕ) → IsAfter order i x → slice_index order i ≢ x → IsAfter order (suc i) x
   after_next i x p ne j lt = elim (cases_eq j i) [
