@@ -91,6 +91,13 @@ impl<'a> ListJob for SourceRows<'a> {
         room: &mut Scratch,
         item: &u32,
     ) -> Result<Vec<Option<u64>>, AllocError> {
-        row(alloc, self.hierarchy, self.buckets, room, *item, self.targets)
+        row(
+            alloc,
+            self.hierarchy,
+            self.buckets,
+            room,
+            *item,
+            self.targets,
+        )
     }
 }
