@@ -1,5 +1,5 @@
 -- Looks, how views are cut and taken in, and what who has all parts knows.
-use Rattle.std.proofs.Common.{◌≡◌, ◌≢◌, ℕ, zero, suc, ◌+◌, ◌-◌, ◌<◌, ◌==◌, ◌&&◌, nat_lt, min, List, [], ◌∷◌, ◌++◌, set, refl, sym, ap, ◌∙◌, subst, inl, inr, ⊎_elim, arith, add-one, replicate}
+use Rattle.std.proofs.Common.{◌^◌, ◌≡◌, ◌≢◌, ℕ, zero, suc, ◌+◌, ◌-◌, ◌<◌, ◌==◌, ◌&&◌, nat_lt, min, List, [], ◌∷◌, ◌++◌, set, refl, sym, ap, ◌∙◌, subst, inl, inr, ⊎_elim, arith, add-one, replicate}
 use Rattle.std.specs.Prelude.{slice_index}
 use Rattle.std.proofs.lemmas.List.{set-get_or, length-replicate, get_or-replicate}
 use mathlib.Core.Logic.{dite}
@@ -11,12 +11,13 @@ use Rattle.atomic_table.proofs.Lists.{at_set, at_snoc, set_again}
 use Rattle.ch_work.specs.declared.board.known.Known.{Known}
 use Rattle.ch_work.specs.declared.board.known.Size.{Size}
 use Rattle.ch_work.specs.Counts.{bit, total, times, times_at}
-use Rattle.ch_work.specs.Rule.{none_yet, Fits, Holds, Kept, Known_whole}
+use Rattle.ch_work.specs.Rule.{none_yet, Fits, Holds, Kept, IsWhole}
 use Rattle.ch_work.specs.Steps.{fresh, looked, Looks, less_one, one_part, both}
 use Rattle.ch_work.proofs.Totals.{total_grow, total_append, total_push, total_split, total_join, total_whole, pair_cases, bit_one, none_below}
 use Rattle.ch_work.proofs.Moves.{fits_set, numbers_same, cells_same, knows_below}
 
 module _ (k : Size) (c : ℕ) (ws : List ℕ) (views : List Known) (h : Holds k c ws views) (id : ℕ) (v : Known) (at : get_elem? views id ≡ some v) (cell : ℕ) where
+  -- a look keeps the rule
   pub looks_holds : cell < k.cells → slice_index ws cell < none_yet → 0 < v.parts → Holds k c ws (set views id (looked v cell (slice_index ws cell)))
   looks_holds inside less part =
       let x = slice_index ws cell in
@@ -45,12 +46,14 @@ module _ (k : Size) (c : ℕ) (ws : List ℕ) (views : List Known) (h : Holds k 
         fits = fits_set k views id w (let f = h.fits id v at in record { pieces = f.pieces; ended = f.ended; idle = λ z. absurd (omega arith) }) h.fits;
       }
 
+-- the step of a look at these words
 LooksAt : Size → ℕ → ℕ → Known → List (ℕ × Unit {0}) → ℕ → List (Option (Unit {0})) → List Known → List ℕ → Type 0
 LooksAt k slots id v c word homes views words =
     (w : Known) × (a : Act (Unit {0})) × Valid homes c a
     × Kept k (stepped record { words = words; homes = homes; views = views } word (slice_index words word) id c w a)
     × Looks (step slots word 0 0 none) (v, c) (slice_index words word) (w, carried_after c a)
 
+-- a look of a pass
 pub looks : (k : Size) (slots id : ℕ) (v : Known) (c : List (ℕ × Unit {0})) (cell : ℕ) → 0 < v.parts → cell < k.cells
     → Allows (Kept k) slots id (v, c) (cell + 1) (λ n. n) (Looks (step slots (cell + 1) 0 0 none) (v, c))
 unfolding LooksAt
@@ -59,7 +62,7 @@ looks k slots id v c cell part inside s kept homes at fits =
     let ws = kept.values in
     let h = kept.holds in
     let n = slice_index ws cell in
-    let fits' : n < 18446744073709551616 = (let P : ℕ × List ℕ → Type 0 = λ z. slice_index z.1 z.0 < 18446744073709551616 in subst P (λ i. (add-one cell i, kept.words i)) fits) in
+    let fits' : n < 2 ^ 64 = (let P : ℕ × List ℕ → Type 0 = λ z. slice_index z.1 z.0 < 2 ^ 64 in subst P (λ i. (add-one cell i, kept.words i)) fits) in
     let again : set ws cell n ≡ ws = set-get_or ws cell 0 in
     let e : suc cell - 1 ≡ cell = omega arith in
     let here : LooksAt k slots id v c (suc cell) s.homes s.views (x ∷ ws) =
@@ -109,6 +112,7 @@ splits k id p n some_part s kept at =
       };
     }
 
+-- a pass is joined to others
 pub joins : (k : Size) (id : ℕ) (v : Known) (other : ℕ) (w : Known) → 0 < w.parts → Joins (Kept k) id v other w (both v w) (fresh 0 0)
 joins k id v other w some_w s kept at apart there =
     let h = kept.holds in
@@ -165,7 +169,7 @@ enters k slots s kept homes fits =
     )
 
 -- a board at its start
-pub opens : (pieces cells passes : ℕ) → pieces + passes + 1 < 18446744073709551616 → Kept record { pieces = pieces; cells = cells; passes = passes } (opening (0 ∷ replicate cells none_yet) [] (fresh pieces passes))
+pub opens : (pieces cells passes : ℕ) → pieces + passes + 1 < 2 ^ 64 → Kept record { pieces = pieces; cells = cells; passes = passes } (opening (0 ∷ replicate cells none_yet) [] (fresh pieces passes))
 opens pieces cells passes room =
     let k : Size = record { pieces = pieces; cells = cells; passes = passes } in
     let v = fresh pieces passes in record {
@@ -190,7 +194,8 @@ opens pieces cells passes room =
     one zero u e = let k : Size = record { pieces = pieces; cells = cells; passes = passes } in subst (λ (y : Known). Fits k y) (some-injective _ _ e) record { pieces = λ q. refl; ended = omega arith; idle = λ z. (refl, refl, refl) }
     one (suc j) u e = absurd (some-ne-none u (sym e))
 
-pub settles : (k : Size) (c : ℕ) (ws : List ℕ) (views : List Known) → Holds k c ws views → (id : ℕ) (v : Known) → get_elem? views id ≡ some v → v.parts ≡ k.passes → Known_whole k v ws
+-- the view that has all parts knows all that was done
+pub settles : (k : Size) (c : ℕ) (ws : List ℕ) (views : List Known) → Holds k c ws views → (id : ℕ) (v : Known) → get_elem? views id ≡ some v → v.parts ≡ k.passes → IsWhole k v ws
 settles k c ws views h id v at all =
     let whole : total (λ (u : Known). u.parts) views ≡ v.parts = h.numbers.parts ∙ sym all in
     let claims : (x : ℕ) → total (λ (u : Known). times x u.claims) views ≡ times x v.claims

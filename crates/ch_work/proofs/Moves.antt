@@ -1,5 +1,5 @@
 -- Each step keeps the rule.
-use Rattle.std.proofs.Common.{◌≡◌, ◌≢◌, ℕ, suc, ◌+◌, ◌-◌, ◌%◌, ◌<◌, ◌≤◌, ◌==◌, ◌&&◌, nat_lt, min, List, ◌∷◌, length, set, refl, sym, ap, ◌∙◌, subst, inl, inr, ⊎_elim, arith, get_or-set_same, get_or-set_other, length-set, add-one}
+use Rattle.std.proofs.Common.{◌^◌, ◌≡◌, ◌≢◌, ℕ, suc, ◌+◌, ◌-◌, ◌%◌, ◌<◌, ◌≤◌, ◌==◌, ◌&&◌, nat_lt, min, List, ◌∷◌, length, set, refl, sym, ap, ◌∙◌, subst, inl, inr, ⊎_elim, arith, get_or-set_same, get_or-set_other, length-set, add-one}
 use Rattle.std.specs.Prelude.{slice_index}
 use mathlib.Core.Logic.{dite}
 use mathlib.Core.Option.{Option, some, none}
@@ -14,9 +14,11 @@ use Rattle.ch_work.specs.Rule.{none_yet, Fits, Numbers, Cells, AllFit, Holds, Ke
 use Rattle.ch_work.specs.Steps.{claimed, finished, offered, Knows, Claims, Offers}
 use Rattle.ch_work.proofs.Totals.{total_grow, total_push, total_at, total_le, below_next, below_is, pair_same, pair_cases}
 
+-- all views fit after one is put for another that fits
 pub fits_set : (k : Size) (views : List Known) (i : ℕ) (w : Known) → Fits k w → AllFit k views → AllFit k (set views i w)
 fits_set k views i w mine others j u e = ⊎_elim (λ (t : (j ≡ i) × (w ≡ u)). subst (λ (y : Known). Fits k y) t.1 mine) (λ (t : (j ≢ i) × (get_elem? views j ≡ some u)). others j u t.1) (at_set views i j w u e)
 
+-- the numbers stand where views change and their totals of claims, ends and parts do not
 pub numbers_same : (k : Size) (c : ℕ) (views now : List Known) → Numbers k c views
     → total (λ v. v.ended) now ≡ total (λ v. v.ended) views
     → ((x : ℕ) → total (λ v. times x v.claims) now ≡ total (λ v. times x v.claims) views)
@@ -24,6 +26,7 @@ pub numbers_same : (k : Size) (c : ℕ) (views now : List Known) → Numbers k c
     → Numbers k c now
 numbers_same k c views now h e cl p = record { counted = h.counted ∙ ap (λ n. min c k.pieces + n) (sym e); claimed = λ x. cl x ∙ h.claimed x; parts = p ∙ h.parts }
 
+-- the cells stand where views change and their totals of offers and of what was shown do not
 pub cells_same : (k : Size) (ws : List ℕ) (views now : List Known) → Cells k ws views
     → ((i x : ℕ) → total (λ v. times_at i x v.offers) now ≡ total (λ v. times_at i x v.offers) views)
     → ((i x : ℕ) → total (λ v. times_at i x v.shown) now ≡ total (λ v. times_at i x v.shown) views)
@@ -40,6 +43,7 @@ module _ (k : Size) (c : ℕ) (ws : List ℕ) (views : List Known) (h : Holds k 
   pub claims_below : (x : ℕ) → 0 < times x v.claims → x < min c k.pieces
   claims_below x p = let t = total_at (λ (u : Known). times x u.claims) views id v at in let e = h.numbers.claimed x in below_is x (min c k.pieces) (omega arith)
 
+  -- a claim of a number below the pieces keeps the rule
   pub claims_holds : c < k.pieces → 0 < v.parts → Holds k (c + 1) ws (set views id (claimed v c))
   claims_holds lt part =
       let w = claimed v c in
@@ -59,6 +63,7 @@ module _ (k : Size) (c : ℕ) (ws : List ℕ) (views : List Known) (h : Holds k 
         fits = fits_set k views id w (let f = h.fits id v at in record { pieces = f.pieces; ended = f.ended; idle = λ z. absurd (omega arith) }) h.fits;
       }
 
+  -- a claim of a number past the pieces, which ends the pass, keeps the rule
   pub ends_holds : k.pieces ≤ c → v.ended < v.parts → Holds k (c + 1) ws (set views id (finished v))
   ends_holds le part =
       let w = finished v in record {
@@ -75,13 +80,16 @@ module _ (k : Size) (c : ℕ) (ws : List ℕ) (views : List Known) (h : Holds k 
         fits = fits_set k views id w (let f = h.fits id v at in record { pieces = f.pieces; ended = omega arith; idle = λ z. absurd (omega arith) }) h.fits;
       }
 
+  -- no more passes have ended than there are
   total_ended_le : total (λ (u : Known). u.ended) views ≤ k.passes
   total_ended_le = let t = total_le (λ (u : Known). u.ended) (λ (u : Known). u.parts) views (λ j u e. (h.fits j u e).ended) in let p = h.numbers.parts in omega arith
 
-  pub fits_next : c + 1 < 18446744073709551616
+  -- the counter does not wrap
+  pub fits_next : c + 1 < 2 ^ 64
   fits_next = let t = total_ended_le in let n = h.numbers.counted in let r = h.room in omega arith
 
-  pub knows_below : (i x : ℕ) → Knows v i x → (slice_index ws i ≤ x) × (x ≤ 2305843009213693952)
+  -- what a pass knows of a cell is at least the word that stands there
+  pub knows_below : (i x : ℕ) → Knows v i x → (slice_index ws i ≤ x) × (x ≤ 2 ^ 61)
   knows_below i x p =
       let o = total_at (λ (u : Known). times_at i x u.offers) views id v at in
       let q = total_at (λ (u : Known). times_at i x u.shown) views id v at in
@@ -92,15 +100,16 @@ module _ (k : Size) (c : ℕ) (ws : List ℕ) (views : List Known) (h : Holds k 
       (λ n. let z : 0 < b = omega arith in h.values.shown i x (omega arith)) in
       (h.values.low i x some_offer, (h.values.small i x some_offer).1)
 
+-- the step of a claim at these words
 ClaimsAt : Size → ℕ → ℕ → Known → List (ℕ × Unit {0}) → List (Option (Unit {0})) → List Known → List ℕ → Type 0
 ClaimsAt k slots id v c homes views words =
     (w : Known) × (a : Act (Unit {0})) × Valid homes c a
-    × Kept k (stepped record { words = words; homes = homes; views = views } 0 ((slice_index words 0 + 1) % 18446744073709551616) id c w a)
+    × Kept k (stepped record { words = words; homes = homes; views = views } 0 ((slice_index words 0 + 1) % 2 ^ 64) id c w a)
     × Claims (step slots 0 1 0 none) (v, c) (slice_index words 0) (w, carried_after c a)
 
 -- a claim of a pass that has not ended
 pub claims : (k : Size) (slots id : ℕ) (v : Known) (c : List (ℕ × Unit {0})) → 0 < v.parts → v.ended < v.parts
-    → Allows (Kept k) slots id (v, c) 0 (λ n. (n + 1) % 18446744073709551616) (Claims (step slots 0 1 0 none) (v, c))
+    → Allows (Kept k) slots id (v, c) 0 (λ n. (n + 1) % 2 ^ 64) (Claims (step slots 0 1 0 none) (v, c))
 unfolding ClaimsAt
 claims k slots id v c part opn s kept homes at fits =
     let x = kept.counter in
@@ -108,7 +117,7 @@ claims k slots id v c part opn s kept homes at fits =
     let h = kept.holds in
     let same : v.pieces ≡ k.pieces = (h.fits id v at).pieces part in
     let next = fits_next k x ws s.views h id v at in
-    let m : (x + 1) % 18446744073709551616 ≡ x + 1 = omega arith in
+    let m : (x + 1) % 2 ^ 64 ≡ x + 1 = omega arith in
     let H : ℕ → List Known → Type 0 = λ n views. Holds k n ws views in
     let here : ClaimsAt k slots id v c s.homes s.views (x ∷ ws) =
     dite (dec_lt x k.pieces)
@@ -116,19 +125,20 @@ claims k slots id v c part opn s kept homes at fits =
       claimed v x,
       keeps,
       tt,
-      record { counter = (x + 1) % 18446744073709551616; values = ws; words = refl; holds = subst (λ (n : ℕ). Holds k n ws (set s.views id (claimed v x))) (sym m) (claims_holds k x ws s.views h id v at lt part) },
+      record { counter = (x + 1) % 2 ^ 64; values = ws; words = refl; holds = subst (λ (n : ℕ). Holds k n ws (set s.views id (claimed v x))) (sym m) (claims_holds k x ws s.views h id v at lt part) },
       (refl, inl (omega arith, refl, λ y p. let b = claims_below k x ws s.views h id v at y p in omega arith)),
     ))
     (λ ge. (
       finished v,
       keeps,
       tt,
-      record { counter = (x + 1) % 18446744073709551616; values = ws; words = refl; holds = subst (λ (n : ℕ). Holds k n ws (set s.views id (finished v))) (sym m) (ends_holds k x ws s.views h id v at (omega arith) opn) },
+      record { counter = (x + 1) % 2 ^ 64; values = ws; words = refl; holds = subst (λ (n : ℕ). Holds k n ws (set s.views id (finished v))) (sym m) (ends_holds k x ws s.views h id v at (omega arith) opn) },
       (refl, inr (omega arith, refl)),
     )) in
     subst (λ (l : List ℕ). ClaimsAt k slots id v c s.homes s.views l) (sym kept.words) here
 
 module _ (ws : List ℕ) (cell : ℕ) (y : ℕ) (inside : cell < length ws) where
+  -- the value that was put into a cell stands there
   put_here : slice_index (set ws cell y) cell ≡ y
   put_here = get_or-set_same ws cell y 0 inside
 
@@ -139,13 +149,16 @@ module _ (ws : List ℕ) (cell : ℕ) (y : ℕ) (inside : cell < length ws) wher
       (λ n. let e : slice_index (set ws cell y) i ≡ slice_index ws i = get_or-set_other ws cell i y 0 n in omega arith)
 
 module _ (k : Size) (c : ℕ) (ws : List ℕ) (views : List Known) (h : Holds k c ws views) (id : ℕ) (v : Known) (at : get_elem? views id ≡ some v) (cell weight : ℕ) (inside : cell < k.cells) where
+  -- the offers of all passes after one more
   more_offers : (i x : ℕ) → total (λ (u : Known). times_at i x u.offers) (set views id (offered v cell weight)) ≡ total (λ (u : Known). times_at i x u.offers) views + bit ((cell == i) && (weight == x))
   more_offers i x = total_grow (λ (u : Known). times_at i x u.offers) views id v (offered v cell weight) (bit ((cell == i) && (weight == x))) at (total_push (λ (p : ℕ × ℕ). bit ((p.0 == i) && (p.1 == x))) v.offers (cell, weight))
 
+  -- an offer shows nothing
   same_shown : (i x : ℕ) → total (λ (u : Known). times_at i x u.shown) (set views id (offered v cell weight)) ≡ total (λ (u : Known). times_at i x u.shown) views
   same_shown i x = let e = total_grow (λ (u : Known). times_at i x u.shown) views id v (offered v cell weight) 0 at (omega arith) in omega arith
 
-  module _ (new : ℕ) (is_new : new ≡ min (slice_index ws cell) weight) (bound : weight ≤ 2305843009213693952) where
+  module _ (new : ℕ) (is_new : new ≡ min (slice_index ws cell) weight) (bound : weight ≤ 2 ^ 61) where
+    -- after an offer each cell has a word that was offered there
     hit_after : (i : ℕ) → i < k.cells → slice_index (set ws cell new) i < none_yet → 0 < total (λ (u : Known). times_at i (slice_index (set ws cell new) i) u.offers) (set views id (offered v cell weight))
     hit_after i lt less = dite (ℕ_discrete i cell)
         (λ e. let P : ℕ → Type 0 = λ j. 0 < total (λ (u : Known). times_at j (slice_index (set ws cell new) j) u.offers) (set views id (offered v cell weight)) in
@@ -164,18 +177,20 @@ module _ (k : Size) (c : ℕ) (ws : List ℕ) (views : List Known) (h : Holds k 
             let Q : ℕ → Type 0 = λ z. 0 < total (λ (u : Known). times_at cell z u.offers) (set views id (offered v cell weight)) in
             subst Q (sym e) (let m = more_offers cell weight in let o = pair_same cell weight in omega arith))
 
-    low_after : (i x : ℕ) → 0 < total (λ (u : Known). times_at i x u.offers) (set views id (offered v cell weight)) → (slice_index (set ws cell new) i ≤ x) × (i < k.cells) × (x ≤ 2305843009213693952)
+    -- after an offer no lesser word was offered than stands there
+    low_after : (i x : ℕ) → 0 < total (λ (u : Known). times_at i x u.offers) (set views id (offered v cell weight)) → (slice_index (set ws cell new) i ≤ x) × (i < k.cells) × (x ≤ 2 ^ 61)
     low_after i x some_now =
         let in_ws : cell < length ws = rw h.cells inside in
         let less = put_less ws cell new in_ws (omega arith) i in
         let m = more_offers i x in
         ⊎_elim
-        (λ (t : (cell ≡ i) × (weight ≡ x)). let P : ℕ × ℕ → Type 0 = λ z. (slice_index (set ws cell new) z.0 ≤ z.1) × (z.0 < k.cells) × (z.1 ≤ 2305843009213693952) in
+        (λ (t : (cell ≡ i) × (weight ≡ x)). let P : ℕ × ℕ → Type 0 = λ z. (slice_index (set ws cell new) z.0 ≤ z.1) × (z.0 < k.cells) × (z.1 ≤ 2 ^ 61) in
         subst P (λ j. (t.0 j, t.1 j)) (rw (put_here ws cell new in_ws) (omega arith), inside, bound))
         (λ (z : bit ((cell == i) && (weight == x)) ≡ 0). let was : 0 < total (λ (u : Known). times_at i x u.offers) views = omega arith in
         let l = h.values.low i x was in let s = h.values.small i x was in (omega arith, s.0, s.1))
         (pair_cases cell weight i x)
 
+    -- an offer keeps the rule
     pub offers_holds : 0 < v.parts → Holds k c (set ws cell new) (set views id (offered v cell weight))
     offers_holds part = let w = offered v cell weight in record {
       room = h.room;
@@ -193,13 +208,15 @@ module _ (k : Size) (c : ℕ) (ws : List ℕ) (views : List Known) (h : Holds k 
       fits = fits_set k views id w (let f = h.fits id v at in record { pieces = f.pieces; ended = f.ended; idle = λ z. absurd (omega arith) }) h.fits;
     }
 
+-- the step of an offer at these words
 OffersAt : Size → ℕ → ℕ → Known → List (ℕ × Unit {0}) → ℕ → ℕ → List (Option (Unit {0})) → List Known → List ℕ → Type 0
 OffersAt k slots id v c word weight homes views words =
     (w : Known) × (a : Act (Unit {0})) × Valid homes c a
     × Kept k (stepped record { words = words; homes = homes; views = views } word (min (slice_index words word) weight) id c w a)
     × Offers (step slots word weight 0 none) (v, c) (slice_index words word) (w, carried_after c a)
 
-pub offers : (k : Size) (slots id : ℕ) (v : Known) (c : List (ℕ × Unit {0})) (cell weight : ℕ) → 0 < v.parts → cell < k.cells → weight ≤ 2305843009213693952
+-- an offer of a pass
+pub offers : (k : Size) (slots id : ℕ) (v : Known) (c : List (ℕ × Unit {0})) (cell weight : ℕ) → 0 < v.parts → cell < k.cells → weight ≤ 2 ^ 61
     → Allows (Kept k) slots id (v, c) (cell + 1) (λ n. min n weight) (Offers (step slots (cell + 1) weight 0 none) (v, c))
 unfolding OffersAt
 offers k slots id v c cell weight part inside bound s kept homes at fits =

@@ -8,6 +8,7 @@ use Rattle.ch_work.specs.declared.board.known.Known.{Known}
 use Rattle.ch_work.specs.declared.board.known.Size.{Size}
 use Rattle.ch_work.specs.Counts.{bit, total, times, times_at}
 
+-- the word of a cell to which nothing was offered
 abbrev pub none_yet : ℕ
 none_yet = 2 ^ 64 - 1
 
@@ -35,9 +36,11 @@ pub record Cells (k : Size) (ws : List ℕ) (views : List Known) : Type 0 where
   -- what was shown was offered
   pub shown : (i x : ℕ) → 0 < total (λ v. times_at i x v.shown) views → 0 < total (λ v. times_at i x v.offers) views
 
+-- each view fits
 abbrev pub AllFit : Size → List Known → Type 0
 AllFit k views = (j : ℕ) (v : Known) → get_elem? views j ≡ some v → Fits k v
 
+-- the counter is c and the cells are ws: the rule
 pub record Holds (k : Size) (c : ℕ) (ws : List ℕ) (views : List Known) : Type 0 where
   pub room : k.pieces + k.passes + 1 < 2 ^ 64
   pub cells : length ws ≡ k.cells
@@ -45,6 +48,7 @@ pub record Holds (k : Size) (c : ℕ) (ws : List ℕ) (views : List Known) : Typ
   pub values : Cells k ws views
   pub fits : AllFit k views
 
+-- the rule, of the words of a table: the counter, and then the cells
 pub record Kept (k : Size) (s : State (Unit {0}) Known) : Type 0 where
   pub counter : ℕ
   pub values : List ℕ
@@ -55,7 +59,7 @@ pub record Kept (k : Size) (s : State (Unit {0}) Known) : Type 0 where
 abbrev pub IsLeast : List Known → ℕ → Option ℕ → Type 0
 IsLeast views i o = MatchOption o ((x : ℕ) → total (λ v. times_at i x v.offers) views ≡ 0) (λ x. (0 < total (λ v. times_at i x v.offers) views) × ((y : ℕ) → 0 < total (λ v. times_at i y v.offers) views → x ≤ y))
 
--- What is known of a closed board with these cells, where the views are those of all its passes
+-- what is known of a closed board with these cells, where the views are those of all its passes
 pub record Settled (k : Size) (views : List Known) (cells : List (Option ℕ)) : Type 0 where
   pub count : length cells ≡ k.cells
   -- no number was claimed twice
@@ -67,7 +71,7 @@ pub record Settled (k : Size) (views : List Known) (cells : List (Option ℕ)) :
   pub shown : (i x : ℕ) → 0 < total (λ v. times_at i x v.shown) views → 0 < total (λ v. times_at i x v.offers) views
 
 -- what the words of a closed board say of one view, that of all its passes
-pub record Known_whole (k : Size) (v : Known) (ws : List ℕ) : Type 0 where
+pub record IsWhole (k : Size) (v : Known) (ws : List ℕ) : Type 0 where
   pub cells : length ws ≡ k.cells
   pub once : (x : ℕ) → times x v.claims ≤ 1
   pub below : (x : ℕ) → 0 < times x v.claims → x < k.pieces
@@ -89,5 +93,6 @@ pub record Sums (v : Known) (views : List Known) : Type 0 where
 abbrev pub read_cell : ℕ → Option ℕ
 read_cell n = cond (n == none_yet) None (Some n)
 
+-- the value that is read of a word
 abbrev pub IsRead : ℕ → Option ℕ → Type 0
 IsRead n o = (o ≡ read_cell n) × (n < 2 ^ 64)

@@ -5,18 +5,23 @@ use Rattle.ch_work.specs.declared.board.known.Known.{Known}
 use Rattle.ch_work.specs.Counts.{times, times_at}
 use Rattle.ch_work.specs.Rule.{none_yet}
 
+-- what so many passes know that have done nothing
 abbrev pub fresh : ℕ → ℕ → Known
 fresh pieces parts = record { pieces = pieces; parts = parts; ended = 0; claims = []; offers = []; shown = [] }
 
+-- a number more is claimed
 abbrev pub claimed : Known → ℕ → Known
 claimed v x = record v { claims = v.claims ++ x ∷ [] }
 
+-- a pass more has ended
 abbrev pub finished : Known → Known
 finished v = record v { ended = v.ended + 1 }
 
+-- a weight more is offered
 abbrev pub offered : Known → ℕ → ℕ → Known
 offered v cell x = record v { offers = v.offers ++ (cell, x) ∷ [] }
 
+-- a weight more is shown
 abbrev pub looked : Known → ℕ → ℕ → Known
 looked v cell x = record v { shown = v.shown ++ (cell, x) ∷ [] }
 
@@ -24,15 +29,18 @@ looked v cell x = record v { shown = v.shown ++ (cell, x) ∷ [] }
 abbrev pub Knows : Known → ℕ → ℕ → Type 0
 Knows v cell x = 0 < times_at cell x v.offers + times_at cell x v.shown
 
+-- the claim of a number below the pieces, which is greater than all that the pass claimed, or the end
 abbrev pub Claims : Step (Unit {0}) → Me (Unit {0}) Known → ℕ → Me (Unit {0}) Known → Type 0
 Claims s me n me' =
     (me'.1 ≡ me.1)
     × (((n < me.0.pieces) × (me'.0 ≡ claimed me.0 n) × ((y : ℕ) → 0 < times y me.0.claims → y < n))
     ⊎ ((me.0.pieces ≤ n) × (me'.0 ≡ finished me.0)))
 
+-- the offer of the weight to the cell of that word
 abbrev pub Offers : Step (Unit {0}) → Me (Unit {0}) Known → ℕ → Me (Unit {0}) Known → Type 0
 Offers s me n me' = (me'.1 ≡ me.1) × (me'.0 ≡ offered me.0 (s.word - 1) s.first)
 
+-- the look at the cell of that word: a weight that is no greater than any that the pass knows, or nothing where it knows nothing
 abbrev pub Looks : Step (Unit {0}) → Me (Unit {0}) Known → ℕ → Me (Unit {0}) Known → Type 0
 Looks s me n me' =
     (me'.1 ≡ me.1)
@@ -43,9 +51,11 @@ Looks s me n me' =
 abbrev pub less_one : Known → Known
 less_one v = record v { parts = v.parts - 1 }
 
+-- the pass that is cut off
 abbrev pub one_part : Known → Known
 one_part v = fresh v.pieces 1
 
+-- the views of two passes together
 abbrev pub both : Known → Known → Known
 both v w = record { pieces = w.pieces; parts = v.parts + w.parts; ended = v.ended + w.ended; claims = v.claims ++ w.claims; offers = v.offers ++ w.offers; shown = v.shown ++ w.shown }
 

@@ -1,10 +1,16 @@
 //! How work is cut among workers.
 //!
-//! It stands on std alone. A [`Plan`] says how many workers there are and how large the pieces are, a
-//! [`Job`] makes a value of each piece, and [`run_pieces`] has workers do them, each of which calls a
-//! [`Gate`] before it does a piece. Proved of it: a plan gives back what it was made of, and keeps the
-//! limits; the values of a job's pieces are given in the order of the pieces, whichever the plan is; and
-//! [`joined`] puts lists that pieces made after one another.
+//! It stands on std and on `atomic_table`. A [`Plan`] says how many workers there are and how large the
+//! pieces are. A [`Job`] makes a value of each piece, a [`RoomJob`] does so in a room that each worker makes
+//! once, and a [`ListJob`] makes a value of each item of a list. [`run_pieces`], [`run_pieces_with_rooms`] and
+//! [`run_list`] have workers do them: each claims the next piece from a [`Board`], and calls a [`Gate`] before
+//! it does it.
+//!
+//! Proved of it: a plan gives back what it was made of, and keeps the limits; the values of a job stand in the
+//! order of its pieces or items, whichever the plan is and whoever made them; a room is lent clean to each piece;
+//! and [`joined`] puts lists that pieces made after one another. Of a board it is proved, over all
+//! interleavings of its passes' steps, that no number is claimed twice, that all were claimed where a pass has
+//! ended, that a closed cell has the least weight that was offered there, and that only such weights were shown.
 #![tactic(auto)]
 
 mod board;

@@ -1,5 +1,5 @@
 //! The steps of a pass.
-ghost use Rattle.std.specs.Prelude.{None, ◌≡◌, ℕ, ◌<◌, ◌≤◌, ◌^◌, IfSome, IfNone};
+ghost use Rattle.std.specs.Prelude.{None, ◌↔◌, ◌≡◌, ℕ, ◌<◌, ◌≤◌, ◌^◌, IfSome, IfNone};
 ghost use Rattle.ch_work.specs.Counts.{times};
 ghost use Rattle.ch_work.specs.Passes.{view_of, size_of, IsPassOf, HasEnded};
 ghost use Rattle.ch_work.specs.Steps.{claimed, offered, looked, Knows};
@@ -40,7 +40,7 @@ impl Board {
         requires cell { cell < (size_of self.now).cells }
         requires weight { weight ≤ 2 ^ 61 }
         ensures board { IsPassOf self.now pass.new }
-        ensures ended { HasEnded pass.old → HasEnded pass.new }
+        ensures ended { HasEnded pass.new ↔ HasEnded pass.old }
         ensures view { view_of pass.new ≡ offered (view_of pass.old) cell weight }
     {
         self.table
@@ -53,7 +53,7 @@ impl Board {
         requires board { IsPassOf self.now pass.old }
         requires cell { cell < (size_of self.now).cells }
         ensures board { IsPassOf self.now pass.new }
-        ensures ended { HasEnded pass.old → HasEnded pass.new }
+        ensures ended { HasEnded pass.new ↔ HasEnded pass.old }
         ensures some { IfSome result (λ weight. (weight ≤ 2 ^ 61)
             × (view_of pass.new ≡ looked (view_of pass.old) cell weight)
             × ((known : ℕ) → Knows (view_of pass.old) cell known → weight ≤ known)) }

@@ -1,6 +1,5 @@
-use Rattle.std.proofs.Common.{rules, ◌≡◌, ◌<◌, ◌∙◌, ap, arith, length, vec_len}
+use Rattle.std.proofs.Common.{rules, ◌≡◌, ◌<◌, arith, length, vec_len}
 use Rattle.ch_work.specs.Passes.{size_of}
-use Rattle.ch_work.specs.Pieces.{pieces_of}
 use Rattle.ch_work.proofs.Claims.{every_done}
 use Rattle.ch_work.proofs.shared.values_by_workers.Goals as goal
 
@@ -9,8 +8,8 @@ in_order-requires-clause-every g c κs lives number within =
     let work = c.args.work.now in
     let board = c.in_ok-board.board in
     let passes = c.in_ok-passes.passes in
-    let pieces : (size_of board).pieces ≡ pieces_of work.items work.piece = ap (λ k. k.pieces) c.in_ok-board.ensures.size ∙ c.count.ensures in
+    let pieces : (size_of board).pieces ≡ c.count.result = λ i. (c.in_ok-board.ensures.size i).pieces in
     let len : length passes.items ≡ vec_len passes = search rules in
     let some_pass : 0 < length passes.items = omega (arith, len, c.in_ok-passes.ensures.len, c.in_ok-worked.ensures.len, c.in_ok-board.ensures.count, c.requires.0) in
     every_done (g.J.RoomJob.meaning work.job.now) work.items work.piece board (size_of board) passes.items c.in_ok-passes.done.items c.in_ok-close.field-0.items
-    c.in_ok-passes.ensures.all some_pass c.in_ok-close.ensures number (omega (arith, pieces, within))
+    c.in_ok-passes.ensures.all some_pass c.in_ok-close.ensures number (omega (arith, pieces, c.count.ensures, within))
