@@ -13,4 +13,3 @@ pub mod ShortcutLemmas
 pub mod Neighbours
 pub mod KeptPriorities
 pub mod ConstructionCalls
-pub mod Underway

@@ -21,3 +21,7 @@ pub mod KeptWalks
 pub mod OneOrder
 pub mod Levelled
 pub mod ReferenceSearch
+pub mod OrderSteps
+pub mod PrioritySteps
+pub mod RowSteps
+pub mod Underway

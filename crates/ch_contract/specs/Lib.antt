@@ -13,6 +13,7 @@ pub mod Examples
 pub mod Laws
 pub mod OneOrder
 pub mod Priorities
+pub mod Progress
 pub mod Construction
 pub mod Keeping
 pub mod KeptLaws

@@ -1,5 +1,5 @@
 //! The hierarchy of a graph, made by contracting one node after the other.
-ghost use Rattle.std.specs.Prelude.{◌≡◌, IfOk, length};
+ghost use Rattle.std.specs.Prelude.{◌≡◌, ◌<◌, ◌++◌, All, IfOk, OnOk, map};
 ghost use Rattle.ch_graph.specs.Graph.{IsWithinLimits};
 ghost use Rattle.ch_contract.specs.Legs.{IsHopBound};
 ghost use Rattle.ch_contract.specs.Hierarchy.{IsHierarchy};
@@ -7,10 +7,11 @@ ghost use Rattle.ch_contract.specs.Kept.{IsKept};
 
 use crate::hierarchy::Hierarchy;
 use crate::leg::Leg;
-use crate::order::{first_left, neighbours};
-use crate::priority::{PriorityJob, priorities};
+use crate::order::neighbours;
+use crate::priority::{PriorityJob, Room, opening_queue};
 use crate::remaining::Remaining;
-use ch_graph::Graph;
+use ch_graph::{Graph, Rows};
+use ch_queue::KeyQueue;
 use ch_work::{Gate, Plan};
 use std::alloc::{AllocError, Global};
 use std::thread::Threads;
@@ -38,35 +39,41 @@ pub fn build<R: Threads + Sync, G: Gate>(
     ensures kept { IfOk result (IsKept graph.now) }
     ensures limits { IsWithinLimits graph.now }
 {
+    // The getter tells the proof that the graph keeps the limits.
     let _ = graph.arcs();
     let mut construction = Construction::open(rt, alloc, graph, hops, plan, gate)?;
     while let Some(node) = construction.next() {
         construction = construction.contract(rt, alloc, node, hops, plan, gate)?;
     }
-    Ok(construction.finish())
+    construction.finish(alloc)
 }
 
 /// A hierarchy of which some nodes are contracted.
 #[derive(Drop)]
 struct Construction {
     remaining: Remaining,
-    /// The priority of each node that is left.
-    priorities: Vec<i64>,
-    /// The level of each contracted node, and 0 for each node that is left.
+    /// The caller's own, lent to each step.
+    room: Room,
+    /// The nodes that are left, by their priorities.
+    waiting: KeyQueue<i64>,
+    /// The level of each contracted node.
     levels: Vec<u32>,
-    ups: Vec<Vec<Leg>>,
-    downs: Vec<Vec<Leg>>,
+    /// Each contracted node with each leg from it.
+    ups: Vec<(u32, Leg)>,
+    /// Each contracted node with each leg to it.
+    downs: Vec<(u32, Leg)>,
     /// How many nodes are contracted.
     contracted: u32,
 }
 
 impl Construction {
-    ghost use Rattle.std.specs.Prelude.{◌<◌, MatchOption};
+    ghost use Rattle.std.specs.Prelude.{MatchOption};
+    ghost use Rattle.ch_queue.specs.Queue.{HasNone};
     ghost use Rattle.ch_contract.specs.Legs.{AreLegsWithin};
     ghost use Rattle.ch_contract.specs.Remaining.{legs_of};
-    ghost use Rattle.ch_contract.specs.Hierarchy.{IsLevelled};
-    ghost use Rattle.ch_contract.specs.Priorities.{NoneIsLeft, IsNext};
-    ghost use Rattle.ch_contract.specs.Construction.{IsOpen, IsSized, IsStep, levels_of};
+    ghost use Rattle.ch_contract.specs.Hierarchy.{Levels, IsLevelled};
+    ghost use Rattle.ch_contract.specs.Progress.{AreAll, IsNext, IsOpen, IsStep};
+    ghost use Rattle.ch_contract.specs.Construction.{IsSized, progress_of};
 
     /// No node is contracted yet.
     fn open<R: Threads + Sync, G: Gate>(
@@ -78,30 +85,32 @@ impl Construction {
         gate: &G,
     ) -> Result<Construction, AllocError>
         requires { IsHopBound hops }
-        ensures { IfOk result (IsOpen graph.now hops) }
+        ensures sizes { IfOk result IsSized }
+        ensures nodes { IfOk result (λ c. c.remaining.nodes ≡ graph.now.nodes) }
+        ensures begun { IfOk result (λ c. IsOpen graph.now hops (progress_of c)) }
     {
         let remaining = Remaining::open(alloc, graph)?;
-        let nodes = remaining.nodes() as usize;
-        let priorities = priorities(rt, alloc, &remaining, hops, plan, gate)?;
-        let levels = vec![in alloc; 0; nodes]?;
-        let ups = no_rows(alloc, nodes)?;
-        let downs = no_rows(alloc, nodes)?;
+        let nodes = remaining.nodes();
+        let waiting = opening_queue(rt, alloc, &remaining, hops, plan, gate)?;
+        let room = Room::new(alloc, nodes)?;
+        let levels = vec![in alloc; 0; nodes as usize]?;
         Ok(Construction {
             remaining,
-            priorities,
+            room,
+            waiting,
             levels,
-            ups,
-            downs,
+            ups: Vec::new(alloc),
+            downs: Vec::new(alloc),
             contracted: 0,
         })
     }
 
     /// The node that is contracted next, `None` where none is left.
     fn next(&self) -> Option<u32>
-        requires { IsSized self.now }
-        ensures { MatchOption result (NoneIsLeft self.now.levels.items) (IsNext self.now.priorities.items self.now.levels.items) }
+        ensures { MatchOption result (HasNone self.now.waiting) (IsNext self.now.waiting) }
     {
-        first_left(self.priorities.as_slice(), self.levels.as_slice())
+        let (_, node) = self.waiting.least()?;
+        Some(node)
     }
 
     /// Contracts a node, and keeps its level and its legs.
@@ -116,34 +125,47 @@ impl Construction {
     ) -> Result<Construction, AllocError>
         requires sizes { IsSized self }
         requires limits { AreLegsWithin self.remaining.nodes (legs_of self.remaining) }
-        requires next { IsNext self.priorities.items self.levels.items node }
+        requires node { node < self.remaining.nodes }
         requires count { self.contracted < self.remaining.nodes }
         requires hops { IsHopBound hops }
-        ensures { IfOk result (IsStep hops self node) }
+        ensures sizes { IfOk result IsSized }
+        ensures nodes { IfOk result (λ c. c.remaining.nodes ≡ self.remaining.nodes) }
+        ensures step { IfOk result (λ c. IsStep self.remaining.nodes hops (progress_of self) node (progress_of c)) }
     {
         let Construction {
             remaining,
-            mut priorities,
+            mut room,
+            mut waiting,
             mut levels,
             mut ups,
             mut downs,
             contracted,
         } = self;
-        let (remaining, removed) = remaining.contract(node, hops)?;
+        remaining.fill_shortcuts(&mut room.search, &mut room.shortcuts, node, hops)?;
+        let (remaining, removed) = remaining.contract_with(node, room.shortcuts.as_slice())?;
+        let _ = waiting.remove(node);
         let neighbours = neighbours(alloc, removed.up.as_slice(), removed.down.as_slice())?;
         let job = PriorityJob {
             remaining: &remaining,
-            nodes: neighbours.as_slice(),
             hops,
         };
-        job.refresh(rt, alloc, priorities.as_mut_slice(), plan, gate)?;
+        job.refresh(
+            rt,
+            alloc,
+            neighbours.as_slice(),
+            &mut room,
+            &mut waiting,
+            plan,
+            gate,
+        )?;
         let contracted = contracted + 1;
         levels[node as usize] = contracted;
-        ups[node as usize] = removed.up;
-        downs[node as usize] = removed.down;
+        push_row(&mut ups, node, removed.up.as_slice())?;
+        push_row(&mut downs, node, removed.down.as_slice())?;
         Ok(Construction {
             remaining,
-            priorities,
+            room,
+            waiting,
             levels,
             ups,
             downs,
@@ -151,22 +173,39 @@ impl Construction {
         })
     }
 
-    /// The hierarchy, once every node is contracted.
-    fn finish(self) -> Hierarchy
-        requires { IsLevelled (levels_of self) }
-        ensures { result ≡ levels_of self }
+    /// The hierarchy, once every node is contracted. What it doesn't need is freed before its rows are made.
+    fn finish(self, alloc: Global) -> Result<Hierarchy, AllocError>
+        requires sizes { IsSized self }
+        requires levelled { (H : Levels) → AreAll self.remaining.nodes (progress_of self) H → IsLevelled H }
+        ensures { IfOk result (AreAll self.remaining.nodes (progress_of self)) }
     {
-        Hierarchy::from_rows(self.levels, self.ups, self.downs)
+        let Construction {
+            remaining,
+            room,
+            waiting,
+            levels,
+            ups,
+            downs,
+            contracted: _,
+        } = self;
+        let nodes = remaining.nodes();
+        drop(remaining);
+        drop(room);
+        drop(waiting);
+        let up_rows = Rows::build(alloc, nodes, ups.as_slice())?;
+        drop(ups);
+        let down_rows = Rows::build(alloc, nodes, downs.as_slice())?;
+        drop(downs);
+        Ok(Hierarchy::from_rows(levels, up_rows, down_rows))
     }
 }
 
-/// An empty row for each node.
-fn no_rows(alloc: Global, nodes: usize) -> Result<Vec<Vec<Leg>>, AllocError>
-    ensures { IfOk result (λ rows. length rows.items ≡ nodes) }
+/// Puts the legs of a node behind those of other nodes.
+fn push_row(rows: &mut Vec<(u32, Leg)>, node: u32, legs: &[Leg]) -> Result<(), AllocError>
+    ensures { OnOk result (rows.new.items ≡ rows.old.items ++ map (λ l. (node, l)) legs.now) }
 {
-    let mut rows = Vec::with_capacity(alloc, nodes)?;
-    for _ in 0..nodes {
-        rows.push(Vec::new(alloc))?;
+    for leg in legs {
+        rows.push((node, *leg))?;
     }
-    Ok(rows)
+    Ok(())
 }

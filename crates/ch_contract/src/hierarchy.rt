@@ -4,6 +4,7 @@ ghost use Rattle.ch_contract.specs.Rows.{row};
 ghost use Rattle.ch_contract.specs.Hierarchy.{nodes_of, IsLevelled};
 
 use crate::leg::Leg;
+use ch_graph::Rows;
 use std::marker::Model;
 
 /// A contraction hierarchy: each node has a level, from 1 to the number of nodes, and legs to and from
@@ -11,28 +12,25 @@ use std::marker::Model;
 #[derive(Drop)]
 pub struct Hierarchy {
     levels: Vec<u32>,
-    ups: Vec<Vec<Leg>>,
-    downs: Vec<Vec<Leg>>,
+    ups: Rows<Leg>,
+    downs: Rows<Leg>,
 }
 
 impl Model for Hierarchy {
-    ghost use Rattle.std.specs.Prelude.{map};
     ghost use Rattle.ch_contract.specs.Hierarchy.{Levels, IsLevelled};
 
     ghost Value = { Levels };
 
-    ghost view = { λ h. record { level = h.levels.items; up = map (λ v. v.items) h.ups.items; down = map (λ v. v.items) h.downs.items } };
+    ghost view = { λ h. record { level = h.levels.items; up = h.ups; down = h.downs } };
 
-    ghost invariant = { λ h. IsLevelled (record { level = h.levels.items; up = map (λ v. v.items) h.ups.items; down = map (λ v. v.items) h.downs.items }) };
+    ghost invariant = { λ h. IsLevelled (record { level = h.levels.items; up = h.ups; down = h.downs }) };
 }
 
 impl Hierarchy {
-    ghost use Rattle.std.specs.Prelude.{map};
-
     /// The hierarchy of these levels and rows.
-    pub(crate) fn from_rows(levels: Vec<u32>, ups: Vec<Vec<Leg>>, downs: Vec<Vec<Leg>>) -> Hierarchy
-        requires { IsLevelled (record { level = levels.items; up = map (λ v. v.items) ups.items; down = map (λ v. v.items) downs.items }) }
-        ensures { result ≡ record { level = levels.items; up = map (λ v. v.items) ups.items; down = map (λ v. v.items) downs.items } }
+    pub(crate) fn from_rows(levels: Vec<u32>, ups: Rows<Leg>, downs: Rows<Leg>) -> Hierarchy
+        requires { IsLevelled (record { level = levels.items; up = ups; down = downs }) }
+        ensures { result ≡ record { level = levels.items; up = ups; down = downs } }
     {
         Hierarchy { levels, ups, downs }
     }
@@ -60,7 +58,7 @@ impl Hierarchy {
         ensures row { result.now ≡ row self.now.up v }
         ensures levelled { IsLevelled self.now }
     {
-        self.ups[v as usize].as_slice()
+        self.ups.row(v)
     }
 
     /// The legs from higher nodes to `v`, ordered by node.
@@ -69,6 +67,6 @@ impl Hierarchy {
         ensures row { result.now ≡ row self.now.down v }
         ensures levelled { IsLevelled self.now }
     {
-        self.downs[v as usize].as_slice()
+        self.downs.row(v)
     }
 }

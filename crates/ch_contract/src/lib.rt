@@ -1,11 +1,11 @@
 //! Contraction hierarchies (Geisberger, Sanders, Schultes and Delling 2008): nodes are contracted one
 //! after the other, and shortcuts keep the distances between those that are left.
 //!
-//! It stands on ch_graph and ch_work. Proved of it: each call of [`Remaining`] is its definition, also
-//! the search for witnesses, which walks no chain past its bound; [`build`] makes the hierarchy that the
-//! rules name, however workers share its priorities, which is one ([`laws::one_order`]), and which is kept for
-//! its graph ([`laws::keeping`]); in a hierarchy that is kept for a graph, of any origin, going up and then down
-//! costs least what a walk costs least ([`laws::kept`]).
+//! It stands on ch_graph, ch_queue and ch_work. Proved of it: each call of [`Remaining`] is its definition,
+//! also the search for witnesses, which walks no chain past its bound; [`build`] makes the hierarchy that
+//! the rules name, however workers share its priorities, which is one ([`laws::one_order`]), and which is
+//! kept for its graph ([`laws::keeping`]); in a hierarchy that is kept for a graph, of any origin, going up
+//! and then down costs least what a walk costs least ([`laws::kept`]).
 #![tactic(auto)]
 
 mod construction;

@@ -1,34 +1,58 @@
-//! Priorities of nodes, computed in pieces by workers.
-ghost use Rattle.std.specs.Prelude.{◌≡◌, ◌^◌, ◌<◌, length, All, IfOk};
-ghost use Rattle.std.specs.List.{range_with_len};
+//! Priorities of nodes, and the queue of the nodes that are left.
+ghost use Rattle.std.specs.Prelude.{◌≡◌, ◌^◌, ◌<◌, length, All, IfOk, OnOk};
+ghost use Rattle.std.specs.List.{AllZip, range_with_len};
 ghost use Rattle.ch_contract.specs.Legs.{IsHopBound};
+ghost use Rattle.ch_contract.specs.Contraction.{IsPriority};
+ghost use Rattle.ch_contract.specs.Heads.{IsClean};
 ghost use Rattle.ch_contract.specs.Remaining.{legs_of};
-ghost use Rattle.ch_contract.specs.Priorities.{ArePriorities, AreRefreshed, ArePrioritiesOf};
+ghost use Rattle.ch_contract.specs.Priorities.{ArePriorities, AreRefreshed};
 
 use crate::remaining::Remaining;
-use ch_work::{Gate, Job, Plan, joined, run_pieces};
+use crate::search::Search;
+use crate::shortcut::Shortcut;
+use ch_queue::KeyQueue;
+use ch_work::{Gate, ListJob, Plan, run_list};
 use std::alloc::{AllocError, Global};
 use std::thread::Threads;
 
-/// The priority of each node, computed by workers.
-pub(crate) fn priorities<R: Threads + Sync, G: Gate>(
+/// The room in which one worker judges nodes.
+#[derive(Drop)]
+pub(crate) struct Room {
+    pub(crate) search: Search,
+    /// The shortcuts of the node that was judged last.
+    pub(crate) shortcuts: Vec<Shortcut>,
+}
+
+impl Room {
+    /// A room for graphs of so many nodes.
+    pub(crate) fn new(alloc: Global, nodes: u32) -> Result<Room, AllocError>
+        ensures { IfOk result (λ room. IsClean nodes room.search.heads) }
+    {
+        Ok(Room {
+            search: Search::new(alloc, nodes)?,
+            shortcuts: Vec::new(alloc),
+        })
+    }
+}
+
+/// The queue of all nodes, each with its priority, which workers compute.
+pub(crate) fn opening_queue<R: Threads + Sync, G: Gate>(
     rt: &R,
     alloc: Global,
     remaining: &Remaining,
     hops: u32,
     plan: &Plan,
     gate: &G,
-) -> Result<Vec<i64>, AllocError>
+) -> Result<KeyQueue<i64>, AllocError>
     requires { IsHopBound hops }
-    ensures { IfOk result (λ list. ArePriorities remaining.now.nodes hops (legs_of remaining.now) list.items) }
+    ensures { IfOk result (ArePriorities remaining.now.nodes hops (legs_of remaining.now)) }
 {
     let nodes = all_nodes(alloc, remaining.nodes())?;
-    let job = PriorityJob {
-        remaining,
-        nodes: nodes.as_slice(),
-        hops,
-    };
-    job.by_workers(rt, alloc, plan, gate)
+    let job = PriorityJob { remaining, hops };
+    let priorities = run_list(rt, alloc, nodes.as_slice(), plan, gate, &job)?;
+    let mut waiting = KeyQueue::new(alloc, remaining.nodes())?;
+    job.set_all(nodes.as_slice(), priorities.as_slice(), &mut waiting);
+    Ok(waiting)
 }
 
 /// The nodes in order.
@@ -38,110 +62,104 @@ fn all_nodes(alloc: Global, nodes: u32) -> Result<Vec<u32>, AllocError>
     (0..nodes).collect(alloc)
 }
 
-/// The priorities of these nodes, a range of them at a time.
+/// The priorities of nodes, with the legs that are left.
 #[derive(Drop)]
 pub(crate) struct PriorityJob<'a> {
     pub(crate) remaining: &'a Remaining,
-    pub(crate) nodes: &'a [u32],
     pub(crate) hops: u32,
-    ghost count: { length nodes.now < 2 ^ 32 },
-    ghost within: { All (λ x. x < remaining.now.nodes) nodes.now },
     ghost bound: { IsHopBound hops },
 }
 
-impl Job for PriorityJob<'_> {
-    ghost use Rattle.std.specs.List.{slice_range};
+impl ListJob for PriorityJob<'_> {
+    type Item = u32;
 
-    type Out = Vec<i64>;
+    type Room = Room;
 
-    ghost size = { λ job. length job.nodes.now };
+    type Out = i64;
 
-    ghost meaning = { λ job from to list. ArePrioritiesOf job.remaining.now.nodes job.hops
-        (legs_of job.remaining.now) (slice_range job.nodes.now from to) list.items };
+    ghost takes = { λ job x. x < job.remaining.now.nodes };
 
-    fn piece(&self, alloc: Global, from: u32, to: u32) -> Result<Vec<i64>, AllocError> {
-        priorities_of(
-            alloc,
-            self.remaining,
-            &self.nodes[from as usize..to as usize],
-            self.hops,
-        )
+    ghost meaning = { λ job x p. IsPriority job.remaining.now.nodes job.hops (legs_of job.remaining.now) x p };
+
+    ghost clean = { λ job room. IsClean job.remaining.now.nodes room.search.heads };
+
+    fn room(&self, alloc: Global) -> Result<Room, AllocError> {
+        Room::new(alloc, self.remaining.nodes())
+    }
+
+    fn value(&self, _alloc: Global, room: &mut Room, item: &u32) -> Result<i64, AllocError> {
+        let Room { search, shortcuts } = room;
+        self.remaining
+            .priority_in(search, shortcuts, *item, self.hops)
     }
 }
 
 impl PriorityJob<'_> {
-    /// The priorities of all nodes of the job, computed by workers.
-    fn by_workers<R: Threads + Sync, G: Gate>(
-        &self,
-        rt: &R,
-        alloc: Global,
-        plan: &Plan,
-        gate: &G,
-    ) -> Result<Vec<i64>, AllocError>
-        ensures { IfOk result (λ list. ArePrioritiesOf self.now.remaining.now.nodes self.now.hops
-            (legs_of self.now.remaining.now) self.now.nodes.now list.items) }
-    {
-        // The getter tells the proof that a piece has an item.
-        let _ = plan.piece();
-        let count = self.nodes.len() as u32;
-        let lists = run_pieces(rt, alloc, count, plan, gate, self)?;
-        joined(alloc, lists)
-    }
-
-    /// The priorities of all nodes of the job, computed by workers where there are at least
-    /// `plan.wide()` of them.
-    fn computed<R: Threads + Sync, G: Gate>(
-        &self,
-        rt: &R,
-        alloc: Global,
-        plan: &Plan,
-        gate: &G,
-    ) -> Result<Vec<i64>, AllocError>
-        ensures { IfOk result (λ list. ArePrioritiesOf self.now.remaining.now.nodes self.now.hops
-            (legs_of self.now.remaining.now) self.now.nodes.now list.items) }
-    {
-        if self.nodes.len() < plan.wide() as usize {
-            priorities_of(alloc, self.remaining, self.nodes, self.hops)
-        } else {
-            self.by_workers(rt, alloc, plan, gate)
-        }
-    }
-
-    /// Computes the priorities of the nodes of the job anew.
+    /// Gives these nodes the priorities that they have now. Workers share them where there are at least
+    /// `plan.wide()`, and pass the gate; else the caller computes them in its own room.
     pub(crate) fn refresh<R: Threads + Sync, G: Gate>(
         &self,
         rt: &R,
         alloc: Global,
-        priorities: &mut [i64],
+        nodes: &[u32],
+        room: &mut Room,
+        waiting: &mut KeyQueue<i64>,
         plan: &Plan,
         gate: &G,
     ) -> Result<(), AllocError>
-        requires { length priorities.old ≡ self.now.remaining.now.nodes }
-        ensures { IfOk result (λ _. AreRefreshed self.now.remaining.now.nodes self.now.hops
-            (legs_of self.now.remaining.now) self.now.nodes.now priorities.old priorities.new) }
+        requires nodes { All (λ x. x < self.now.remaining.now.nodes) nodes.now }
+        requires count { length nodes.now < 2 ^ 32 }
+        requires size { length waiting.old ≡ self.now.remaining.now.nodes }
+        requires clean { IsClean self.now.remaining.now.nodes room.old.search.heads }
+        ensures anew { OnOk result (AreRefreshed self.now.remaining.now.nodes self.now.hops
+            (legs_of self.now.remaining.now) nodes.now waiting.old waiting.new) }
+        ensures clean { OnOk result (IsClean self.now.remaining.now.nodes room.new.search.heads) }
     {
-        let anew = self.computed(rt, alloc, plan, gate)?;
-        for (node, priority) in self.nodes.iter().zip(&anew) {
-            priorities[*node as usize] = *priority;
+        if nodes.len() < plan.wide() as usize {
+            return self.refresh_here(nodes, room, waiting);
+        }
+        let priorities = run_list(rt, alloc, nodes, plan, gate, self)?;
+        self.set_all(nodes, priorities.as_slice(), waiting);
+        Ok(())
+    }
+
+    /// Gives these nodes the priorities that they have now, computed in this room.
+    fn refresh_here(
+        &self,
+        nodes: &[u32],
+        room: &mut Room,
+        waiting: &mut KeyQueue<i64>,
+    ) -> Result<(), AllocError>
+        requires nodes { All (λ x. x < self.now.remaining.now.nodes) nodes.now }
+        requires size { length waiting.old ≡ self.now.remaining.now.nodes }
+        requires clean { IsClean self.now.remaining.now.nodes room.old.search.heads }
+        ensures anew { OnOk result (AreRefreshed self.now.remaining.now.nodes self.now.hops
+            (legs_of self.now.remaining.now) nodes.now waiting.old waiting.new) }
+        ensures clean { OnOk result (IsClean self.now.remaining.now.nodes room.new.search.heads) }
+    {
+        for node in nodes {
+            let priority = self.remaining.priority_in(
+                &mut room.search,
+                &mut room.shortcuts,
+                *node,
+                self.hops,
+            )?;
+            waiting.set(*node, priority);
         }
         Ok(())
     }
-}
 
-/// The priorities of these nodes, one after the other.
-fn priorities_of(
-    alloc: Global,
-    remaining: &Remaining,
-    nodes: &[u32],
-    hops: u32,
-) -> Result<Vec<i64>, AllocError>
-    requires nodes { All (λ x. x < remaining.now.nodes) nodes.now }
-    requires hops { IsHopBound hops }
-    ensures { IfOk result (λ list. ArePrioritiesOf remaining.now.nodes hops (legs_of remaining.now) nodes.now list.items) }
-{
-    let mut priorities = Vec::with_capacity(alloc, nodes.len())?;
-    for node in nodes {
-        priorities.push(remaining.priority(*node, hops)?)?;
+    /// Gives each of these nodes its priority, which stands at the same place.
+    fn set_all(&self, nodes: &[u32], priorities: &[i64], waiting: &mut KeyQueue<i64>)
+        requires nodes { All (λ x. x < self.now.remaining.now.nodes) nodes.now }
+        requires priorities { AllZip (IsPriority self.now.remaining.now.nodes self.now.hops
+            (legs_of self.now.remaining.now)) nodes.now priorities.now }
+        requires size { length waiting.old ≡ self.now.remaining.now.nodes }
+        ensures { AreRefreshed self.now.remaining.now.nodes self.now.hops
+            (legs_of self.now.remaining.now) nodes.now waiting.old waiting.new }
+    {
+        for (node, priority) in nodes.iter().zip(priorities) {
+            waiting.set(*node, *priority);
+        }
     }
-    Ok(priorities)
 }

@@ -14,17 +14,3 @@ pub struct Open;
 impl Gate for Open {
     fn pass(&self, _piece: u32) {}
 }
-
-#[cfg(test)]
-mod tests {
-    use super::{Gate, Open};
-
-    fn pass_first<G: Gate>(gate: &G) {
-        gate.pass(0);
-    }
-
-    #[test]
-    fn an_open_gate_lets_pass() {
-        pass_first(&Open);
-    }
-}

@@ -8,15 +8,19 @@
 #![tactic(auto)]
 
 mod gate;
+mod gates;
 mod job;
+mod list;
 mod lists;
 mod pieces;
 mod plan;
 
 pub use gate::{Gate, Open};
-pub use job::Job;
+pub use gates::{CountingGate, MeetingGate};
+pub use job::{Job, RoomJob};
+pub use list::{ListJob, run_list, values_in_room};
 pub use lists::joined;
-pub use pieces::run_pieces;
+pub use pieces::{run_pieces, run_pieces_with_rooms};
 pub use plan::Plan;
 
 #[cfg(test)]

@@ -1,10 +1,11 @@
 //! What no clause of [`run_pieces`] says: that it succeeds, passes the gate once for each piece, and
 //! has two workers at work at once.
 
-use crate::{Gate, Job, Open, Plan, run_pieces};
+mod rooms;
+
+use crate::{CountingGate, Job, MeetingGate, Open, Plan, run_pieces};
 use std::alloc::{AllocError, Global};
 use std::process::Abort;
-use std::sync::atomic::{AtomicBool, AtomicU64, Ordering};
 use std::test::Fail;
 use std::thread::Threads;
 
@@ -48,44 +49,6 @@ impl Job for Refused {
     }
 }
 
-/// Counts how often each piece passes.
-#[derive(Drop)]
-struct Counts {
-    passes: [AtomicU64; 4],
-}
-
-impl Gate for Counts {
-    fn pass(&self, piece: u32) {
-        if let Some(passes) = self.passes.get(piece as usize) {
-            passes.fetch_add(1, Ordering::SeqCst);
-        }
-    }
-}
-
-/// Sets the flag of a piece, and looks for the flag of the other.
-#[derive(Drop)]
-struct Meeting {
-    flags: [AtomicBool; 2],
-    seen: [AtomicBool; 2],
-}
-
-impl Gate for Meeting {
-    fn pass(&self, piece: u32) {
-        let (own, other) = match piece {
-            0 => (0, 1),
-            1 => (1, 0),
-            _ => return,
-        };
-        self.flags[own].store(true, Ordering::SeqCst);
-        for _ in 0..1_000_000_000 {
-            if self.flags[other].load(Ordering::SeqCst) {
-                self.seen[own].store(true, Ordering::SeqCst);
-                return;
-            }
-        }
-    }
-}
-
 /// The values have the numbers of all items in order, and there are as many as pieces.
 fn expect_numbers<R: Threads + Abort + Sync>(
     rt: &R,
@@ -122,19 +85,14 @@ fn every_plan_gives_the_same_numbers_in_order(rt: HostRuntime) -> Result<(), Fai
 #[test]
 fn each_piece_passes_the_gate_once(rt: HostRuntime) -> Result<(), Fail> {
     for workers in [1, 2, 64] {
-        let gate = Counts {
-            passes: [
-                AtomicU64::new(0),
-                AtomicU64::new(0),
-                AtomicU64::new(0),
-                AtomicU64::new(0),
-            ],
-        };
+        let gate = CountingGate::new(rt.alloc(), 4)?;
         let plan = Plan::new(workers, 3, 64);
         run_pieces(&rt, rt.alloc(), 7, &plan, &gate, &Numbers { items: 7 })?;
-        for (piece, passes) in gate.passes.iter().enumerate() {
-            let expected = if piece < 3 { 1 } else { 0 };
-            assert_eq!(rt; passes.load(Ordering::SeqCst), expected, "piece {piece}");
+        for (piece, expected) in [Some(1), Some(1), Some(1), Some(0), None]
+            .iter()
+            .enumerate()
+        {
+            assert_eq!(rt; gate.passes(piece as u32), *expected, "piece {piece}");
         }
     }
     Ok(())
@@ -151,15 +109,10 @@ fn want_of_memory_in_one_piece_is_answered(rt: HostRuntime) {
 
 #[test]
 fn two_pieces_at_once(rt: HostRuntime) -> Result<(), Fail> {
-    let gate = Meeting {
-        flags: [AtomicBool::new(false), AtomicBool::new(false)],
-        seen: [AtomicBool::new(false), AtomicBool::new(false)],
-    };
+    let gate = MeetingGate::new();
     let plan = Plan::new(2, 1, 64);
     run_pieces(&rt, rt.alloc(), 2, &plan, &gate, &Numbers { items: 2 })?;
-    for seen in &gate.seen {
-        assert!(rt; seen.load(Ordering::SeqCst));
-    }
+    assert!(rt; gate.has_met());
     Ok(())
 }
 

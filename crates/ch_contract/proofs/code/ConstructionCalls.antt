@@ -1,59 +1,113 @@
--- What opening a construction and one step of it give, from what their calls give.
-use Rattle.std.proofs.Common.{◌≡◌, ℕ, zero, suc, Bool, true, false, not, map, refl, ◌+◌, ◌*◌, ◌^◌, ◌<◌, ◌≤◌, List, length, get_or, replicate, sym, ◌∙◌, ap, subst, arith, inl, inr, Contains, length-append, length-set}
-use Rattle.std.specs.Prelude.{slice_index, slice_set, All, filter, is_some, if◌then◌else◌}
-use Rattle.std.proofs.lemmas.Bool.{cases_lt}
-use Rattle.std.proofs.lemmas.List.{get_or_past, get_or-replicate, length-replicate, length-map}
+-- What opening a construction, one step of it and its end give, from what their calls give.
+use Rattle.std.proofs.Common.{◌≡◌, ℕ, zero, suc, Bool, true, false, cond, not, map, refl, ◌+◌, ◌*◌, ◌^◌, ◌<◌, ◌≤◌, List, [], ◌∷◌, ◌++◌, length, get_or, set, replicate, Option, Some, None, sym, ◌∙◌, ap, subst, arith, inl, inr, Contains, length-append, length-set, get_or-set_same, get_or-set_other}
+use Rattle.std.specs.Prelude.{◌≢◌, ◌==◌, slice_index, slice_set, All, filter, is_some, ◌||◌, if◌then◌else◌, ℤ, ◌≤ℤ◌, ◌<ℤ◌}
+use Rattle.std.specs.Ordering.{is_gt, int_cmp, MatchOrdering}
+use Rattle.std.specs.declared.cmp.Ordering.{Ordering}
+use Rattle.std.specs.declared.cmp.Ordering.TheVariants.{Less, Equal, Greater}
+use Rattle.std.specs.Cmp.{int_ranks}
+use Rattle.std.proofs.lemmas.Int.{ints}
+use Rattle.std.proofs.lemmas.Bool.{cases_lt, eqb-true, eqb-false, true≢false}
+use Rattle.std.proofs.lemmas.Bool.Decides.{nat_tests}
+use Rattle.std.proofs.lemmas.List.{get_or_past, get_or-replicate, length-replicate, length-map, append-nil, map-append}
 use Rattle.std.proofs.lemmas.List.Filters.{length-filter_both}
-use Rattle.std.proofs.lemmas.List.Elements.{Contains-get_or}
+use Rattle.std.proofs.lemmas.List.Elements.{Contains-get_or, filter-append, All-append, All-cons, All-nil}
+use Rattle.ch_queue.specs.Queue.{key_of, IsLeastEntry, ComesFirst as EntryFirst}
 use Rattle.ch_graph.specs.Graph.{Network}
+use Rattle.ch_graph.specs.Rows.{values_of, AreRowsOf}
 use Rattle.ch_contract.specs.declared.leg.Leg.{Leg}
 use Rattle.ch_contract.specs.declared.construction.Construction.{Construction}
-use Rattle.ch_contract.specs.Legs.{Legs, SameLegs, AreLegsWithin, opening}
-use Rattle.ch_contract.specs.Contraction.{Contracts, IsPriority, count_below}
+use Rattle.ch_contract.specs.Legs.{Label, Legs, SameLegs, AreLegsWithin, opening}
+use Rattle.ch_contract.specs.Contraction.{Contracts, count_below}
+use Rattle.ch_contract.specs.Order.{are_neighbours, ComesFirst}
 use Rattle.ch_contract.specs.Rows.{AreLegsFrom, AreLegsTo}
+use Rattle.ch_contract.specs.Heads.{IsClean}
+use Rattle.ch_contract.specs.Hierarchy.{Levels}
 use Rattle.ch_contract.specs.Remaining.{legs_of}
-use Rattle.ch_contract.specs.Priorities.{ArePriorities, AreRefreshed, has_node, neighbours_in, priority_at}
-use Rattle.ch_contract.specs.Construction.{levels_of, IsSized, IsOpen, IsStep}
+use Rattle.ch_contract.specs.Progress.{Progress, IsNext, IsOpen, IsStep, AreAll}
+use Rattle.ch_contract.specs.Priorities.{ArePriorities, AreRefreshed, has_node, neighbours_in}
+use Rattle.ch_contract.specs.Construction.{progress_of, IsSized}
 use Rattle.ch_contract.proofs.theory.OneOrder.{one_map}
 use Rattle.ch_contract.proofs.theory.Counts.{rows_touching}
 use Rattle.ch_contract.proofs.code.Neighbours.{neighbour_listed, not_listed, neighbour_within}
 
--- where each level is 0, all nodes are left
-all_left : (levels : List ℕ) (n : ℕ) → levels ≡ replicate n 0 → (x : ℕ) → slice_index levels x ≡ 0
-all_left levels n e x = ap (λ l. slice_index l x) e ∙ elim (cases_lt x n) [
-  | inl lt ↦ get_or-replicate n x 0 0 lt
-  | inr past ↦ get_or_past (replicate n 0) x 0 (omega (arith, length-replicate {A = ℕ} n 0))
-]
+-- the values of a list of pairs of one key
+values_same : {X : Type 0} (v x : ℕ) (values : List X) → values_of x (map (λ a. (v, a)) values) ≡ (if v == x then values else [])
+values_same {X = X} v x [] = at (v == x)
+  where
+    none : List X
+    none = []
 
--- the parts of a construction of which no node is contracted
-pub record IsOpened (g : Network) (h : ℕ) (c : Construction) : Type 0 where
-  pub nodes : c.remaining.nodes ≡ g.nodes
-  pub legs : SameLegs (legs_of c.remaining) (opening g)
-  pub count : c.remaining.nodes ≤ 2 ^ 25
-  pub limits : AreLegsWithin c.remaining.nodes (legs_of c.remaining)
-  pub priorities : ArePriorities c.remaining.nodes h (legs_of c.remaining) c.priorities.items
-  pub levels : c.levels.items ≡ replicate c.remaining.nodes 0
-  pub rows : (length c.ups.items ≡ c.remaining.nodes) × (length c.downs.items ≡ c.remaining.nodes)
-  pub contracted : c.contracted ≡ 0
+    at : (b : Bool) → none ≡ cond b none none
+    at true = refl
+    at false = refl
+values_same {X = X} v x (a ∷ values) = at (v == x) (values_same v x values)
+  where
+    none : List X
+    none = []
 
--- so it is open
-pub opened : (g : Network) (h : ℕ) (c : Construction) → IsOpened g h c → IsOpen g h c
-opened g h c o =
-    let legs = one_map (legs_of c.remaining) (opening g) o.legs in
+    pair : X → ℕ × X
+    pair b = (v, b)
+
+    rest : List (ℕ × X)
+    rest = filter (λ (p : ℕ × X). p.0 == x) (map pair values)
+
+    second : ℕ × X → X
+    second p = p.1
+
+    at : (b : Bool) → map second rest ≡ cond b values none → map second (cond b ((v, a) ∷ rest) rest) ≡ cond b (a ∷ values) none
+    at true e = ap (λ l. a ∷ l) e
+    at false e = e
+
+-- the values of pairs that stand one behind the other
+values_append : {X : Type 0} (x : ℕ) (pairs more : List (ℕ × X)) → values_of x (pairs ++ more) ≡ values_of x pairs ++ values_of x more
+values_append x pairs more = ap (map (λ p. p.1)) (filter-append (λ p. p.0 == x) pairs more) ∙ map-append (λ p. p.1) (filter (λ p. p.0 == x) pairs) (filter (λ p. p.0 == x) more)
+
+-- the row of v grows by what is put in
+pub row_grows : {X : Type 0} (v : ℕ) (pairs after : List (ℕ × X)) (values : List X) → after ≡ pairs ++ map (λ a. (v, a)) values → values_of v after ≡ values_of v pairs ++ values
+row_grows v pairs after values e =
+    let same : (v == v) ≡ true = grind (arith, nat_tests) in
+    ap (values_of v) e ∙ values_append v pairs (map (λ a. (v, a)) values) ∙ ap (λ l. values_of v pairs ++ l) (values_same v v values ∙ ap (λ b. if b then values else []) same)
+
+-- the other rows stay
+pub row_stays : {X : Type 0} (v x : ℕ) (pairs after : List (ℕ × X)) (values : List X) → after ≡ pairs ++ map (λ a. (v, a)) values → x ≢ v → values_of x after ≡ values_of x pairs
+row_stays v x pairs after values e ne =
+    let other : (v == x) ≡ false = grind (arith, nat_tests) in
+    ap (values_of x) e ∙ values_append x pairs (map (λ a. (v, a)) values) ∙ ap (λ l. values_of x pairs ++ l) (values_same v x values ∙ ap (λ b. if b then values else []) other) ∙ append-nil (values_of x pairs)
+
+-- pairs of one key below n
+pairs_below : {X : Type 0} (n v : ℕ) (values : List X) → v < n → All (λ (p : ℕ × X). p.0 < n) (map (λ a. (v, a)) values)
+pairs_below {X = X} n v [] lt = All-nil (λ (p : ℕ × X). p.0 < n)
+pairs_below {X = X} n v (a ∷ values) lt = All-cons (λ (p : ℕ × X). p.0 < n) (v, a) (map (λ b. (v, b)) values) lt (pairs_below n v values lt)
+
+pub rows_below : {X : Type 0} (n v : ℕ) (pairs after : List (ℕ × X)) (values : List X) → after ≡ pairs ++ map (λ a. (v, a)) values → v < n → All (λ (p : ℕ × X). p.0 < n) pairs → All (λ (p : ℕ × X). p.0 < n) after
+rows_below {X = X} n v pairs after values e lt all = subst (All (λ (p : ℕ × X). p.0 < n)) (sym e) (All-append (λ (p : ℕ × X). p.0 < n) pairs (map (λ a. (v, a)) values) all (pairs_below n v values lt))
+
+-- of two entries of a queue of numbers the first has the lesser number, and of equal ones the lesser id
+first_of : (p : ℤ) (v : ℕ) (q : ℤ) (x : ℕ) → EntryFirst int_cmp (p, v) (q, x) → ComesFirst p v q x
+first_of p v q x f = at (int_cmp p q) (int_ranks p q) f.0 f.1
+  where
+    at : (o : Ordering) → MatchOrdering o (p <ℤ q) (p ≡ q) (q <ℤ p) → is_gt o ≡ false → (o ≡ Equal → v ≤ x) → ComesFirst p v q x
+    at Less lt past tie = (omega (arith, ints), λ back. absurd (omega (arith, ints)))
+    at Equal e past tie = (omega (arith, ints), λ back. tie refl)
+    at Greater gt past tie = absurd (true≢false past)
+
+-- the least entry of the queue is the node that is next
+pub is_next : (keys : List (Option ℤ)) (e : ℤ × ℕ) → IsLeastEntry int_cmp keys e → IsNext keys e.1
+is_next keys e l = record { priority = e.0; has = l.has; first = λ x q has. first_of e.0 e.1 q x (l.least x q has) }
+
+-- a construction of which no node is contracted
+pub opened : (g : Network) (h : ℕ) (c : Construction) → SameLegs (legs_of c.remaining) (opening g) → c.remaining.nodes ≡ g.nodes → AreLegsWithin c.remaining.nodes (legs_of c.remaining) → ArePriorities c.remaining.nodes h (legs_of c.remaining) c.waiting →
+    c.ups.items ≡ [] → c.downs.items ≡ [] → c.contracted ≡ 0 → IsOpen g h (progress_of c)
+opened g h c same nodes limits priorities ups downs contracted =
+    let legs = one_map (legs_of c.remaining) (opening g) same in
+    let all = subst (λ n. ArePriorities n h (opening g) c.waiting) nodes (subst (λ (M : Legs). ArePriorities c.remaining.nodes h M c.waiting) legs priorities) in
     record {
-      sizes = record {
-        nodes = o.count;
-        priorities = o.priorities.size;
-        levels = ap length o.levels ∙ length-replicate {A = ℕ} c.remaining.nodes 0;
-        rows = o.rows;
-        contracted = let zero = o.contracted in omega arith;
-      };
-      nodes = o.nodes;
-      legs = o.legs;
-      limits = subst (λ n. AreLegsWithin n (opening g)) o.nodes (subst (λ (M : Legs). AreLegsWithin c.remaining.nodes M) legs o.limits);
-      priorities = subst (λ n. ArePriorities n h (opening g) c.priorities.items) o.nodes (subst (λ (M : Legs). ArePriorities c.remaining.nodes h M c.priorities.items) legs o.priorities);
-      left = all_left c.levels.items c.remaining.nodes o.levels;
-      contracted = o.contracted;
+      legs = same;
+      limits = subst (λ n. AreLegsWithin n (opening g)) nodes (subst (λ (M : Legs). AreLegsWithin c.remaining.nodes M) legs limits);
+      size = all.size;
+      priorities = all.each;
+      rows = λ x. (ap (values_of x) ups, ap (values_of x) downs);
+      contracted = contracted;
     }
 
 -- the parts of a construction after v is contracted
@@ -62,34 +116,61 @@ pub record IsStepped (h : ℕ) (before : Construction) (v : ℕ) (up down : List
   pub legs : Contracts before.remaining.nodes h (legs_of before.remaining) v (legs_of after.remaining)
   pub from : AreLegsFrom (legs_of before.remaining) v up
   pub to : AreLegsTo (legs_of before.remaining) v down
-  pub refreshed : AreRefreshed after.remaining.nodes h (legs_of after.remaining) (neighbours_in up down) before.priorities.items after.priorities.items
+  pub refreshed : AreRefreshed after.remaining.nodes h (legs_of after.remaining) (neighbours_in up down) (slice_set before.waiting v None) after.waiting
   pub contracted : after.contracted ≡ before.contracted + 1
   pub levels : after.levels.items ≡ slice_set before.levels.items v after.contracted
-  pub ups : (levels_of after).up ≡ slice_set (levels_of before).up v up
-  pub downs : (levels_of after).down ≡ slice_set (levels_of before).down v down
-  pub rows : (length after.ups.items ≡ length before.ups.items) × (length after.downs.items ≡ length before.downs.items)
+  pub ups : after.ups.items ≡ before.ups.items ++ map (λ l. (v, l)) up
+  pub downs : after.downs.items ≡ before.downs.items ++ map (λ l. (v, l)) down
+
+-- a node is no neighbour of its own
+not_own : (n : ℕ) (L : Legs) (v : ℕ) → AreLegsWithin n L → are_neighbours L v v ≡ false
+not_own n L v within = at (L v v) refl
+  where
+    at : (o : Option Label) → L v v ≡ o → (is_some (L v v) || is_some (L v v)) ≡ false
+    at None e = rw e refl
+    at (Some l) e = absurd ((within v v l e).ends.2 refl)
 
 -- so it is one step on
-pub stepped : (h : ℕ) (before : Construction) (v : ℕ) (up down : List Leg) (after : Construction) → IsSized before → before.contracted < before.remaining.nodes → IsStepped h before v up down after → IsStep h before v after
-stepped h before v up down after sizes room s =
-    let nodes = s.nodes in
+pub stepped : (h : ℕ) (before : Construction) (v : ℕ) (up down : List Leg) (after : Construction) → v < before.remaining.nodes → AreLegsWithin before.remaining.nodes (legs_of before.remaining) → IsSized before → IsStepped h before v up down after →
+    IsStep before.remaining.nodes h (progress_of before) v (progress_of after)
+stepped h before v up down after node within sizes s =
+    let L = legs_of before.remaining in
+    let anew = subst (λ n. AreRefreshed n h (legs_of after.remaining) (neighbours_in up down) (slice_set before.waiting v None) after.waiting) s.nodes s.refreshed in
     record {
-      sizes = record {
-        nodes = let count = sizes.nodes in omega arith;
-        priorities = s.refreshed.size ∙ sizes.priorities ∙ sym nodes;
-        levels = ap length s.levels ∙ length-set before.levels.items v after.contracted ∙ sizes.levels ∙ sym nodes;
-        rows = (s.rows.0 ∙ sizes.rows.0 ∙ sym nodes, s.rows.1 ∙ sizes.rows.1 ∙ sym nodes);
-        contracted = let count = s.contracted in omega arith;
-      };
-      nodes = nodes;
       legs = s.legs;
       contracted = s.contracted;
       levels = s.levels;
-      up = (up, s.from, s.ups);
-      down = (down, s.to, s.downs);
-      anew = λ x e. subst (λ n. IsPriority n h (legs_of after.remaining) x (priority_at after.priorities.items x)) nodes (s.refreshed.anew x (neighbour_listed (legs_of before.remaining) v up down s.from s.to x e));
-      kept = λ x e. s.refreshed.kept x (not_listed (legs_of before.remaining) v up down s.from s.to x e);
+      up = (up, s.from, row_grows v before.ups.items after.ups.items up s.ups);
+      down = (down, s.to, row_grows v before.downs.items after.downs.items down s.downs);
+      rows = λ x ne. (row_stays v x before.ups.items after.ups.items up s.ups ne, row_stays v x before.downs.items after.downs.items down s.downs ne);
+      size = anew.size ∙ length-set before.waiting v None;
+      taken = anew.kept v (not_listed L v up down s.from s.to v (not_own before.remaining.nodes L v within)) ∙ get_or-set_same before.waiting v None None (let size = sizes.keys in omega arith);
+      anew = λ x e. anew.anew x (neighbour_listed L v up down s.from s.to x e);
+      kept = λ x ne e. anew.kept x (not_listed L v up down s.from s.to x e) ∙ get_or-set_other before.waiting v x None None ne;
     }
+
+-- and keeps its sizes
+pub sized_still : (h : ℕ) (before : Construction) (v : ℕ) (up down : List Leg) (after : Construction) → v < before.remaining.nodes → IsSized before → IsStepped h before v up down after →
+    IsClean after.remaining.nodes after.room.search.heads → IsSized after
+sized_still h before v up down after node sizes s clean =
+    let nodes = s.nodes in
+    let here : v < after.remaining.nodes = omega arith in
+    record {
+      nodes = let count = sizes.nodes in omega arith;
+      keys = s.refreshed.size ∙ length-set before.waiting v None ∙ sizes.keys ∙ sym nodes;
+      levels = ap length s.levels ∙ length-set before.levels.items v after.contracted ∙ sizes.levels ∙ sym nodes;
+      ups = rows_below after.remaining.nodes v before.ups.items after.ups.items up s.ups here (subst (λ n. All (λ p. p.0 < n) before.ups.items) (sym nodes) sizes.ups);
+      downs = rows_below after.remaining.nodes v before.downs.items after.downs.items down s.downs here (subst (λ n. All (λ p. p.0 < n) before.downs.items) (sym nodes) sizes.downs);
+      clean = clean;
+    }
+
+-- the rows of all nodes, made of the pairs
+pub all_rows : (c : Construction) (H : Levels) → IsSized c → H.level ≡ c.levels.items → AreRowsOf c.remaining.nodes c.ups.items H.up → AreRowsOf c.remaining.nodes c.downs.items H.down → AreAll c.remaining.nodes (progress_of c) H
+all_rows c H sizes level ups downs = record {
+  level = level;
+  sizes = (sizes.levels, ups.count, downs.count);
+  rows = λ x lt. (ups.each x lt, downs.each x lt);
+}
 
 -- the neighbours are nodes
 pub neighbours_within : (n : ℕ) (L : Legs) (v : ℕ) (up down : List Leg) (list : List ℕ) → AreLegsFrom L v up → AreLegsTo L v down → AreLegsWithin n L → list ≡ neighbours_in up down → All (λ x. x < n) list

@@ -71,7 +71,7 @@ within_steps n h m order L start step (suc k) le =
     subst (λ z. AreLegsWithin n (L z)) e (within_more n h (L k) (slice_index order k) (L (k + 1)) (within_steps n h m order L start step k (omega arith)) (step k (omega arith)))
 
 -- no leg touches a node after the step that contracted it
-gone_steps : (n h m : ℕ) (order : List ℕ) (L : ℕ → Legs) → ((i : ℕ) → i < m → Contracts n h (L i) (slice_index order i) (L (i + 1))) → (j k : ℕ) → j < k → k ≤ m → IsGone (L k) (slice_index order j)
+pub gone_steps : (n h m : ℕ) (order : List ℕ) (L : ℕ → Legs) → ((i : ℕ) → i < m → Contracts n h (L i) (slice_index order i) (L (i + 1))) → (j k : ℕ) → j < k → k ≤ m → IsGone (L k) (slice_index order j)
 gone_steps n h m order L step j zero lt le = absurd (omega arith)
 gone_steps n h m order L step j (suc k) lt le =
     let e : k + 1 ≡ suc k = omega arith in

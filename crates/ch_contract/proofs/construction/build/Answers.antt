@@ -1,36 +1,53 @@
-use Rattle.std.proofs.Common.{sym, subst}
+use Rattle.std.proofs.Common.{◌≡◌, ◌<◌, ◌≤◌, ◌^◌, ℕ, sym, ◌∙◌, subst, arith}
+use Rattle.std.proofs.lemmas.Result.{IfOk-weaker}
+use Rattle.ch_contract.specs.Legs.{AreLegsWithin}
 use Rattle.ch_contract.specs.Hierarchy.{IsHierarchy}
-use Rattle.ch_contract.proofs.code.Underway.{underway_at_start, underway_next, underway_count, underway_at_end, underway_within, underway_levelled}
+use Rattle.ch_contract.specs.Progress.{IsStep, AreAll}
+use Rattle.ch_contract.specs.Construction.{progress_of}
+use Rattle.ch_contract.specs.Remaining.{legs_of}
+use Rattle.ch_contract.proofs.theory.Underway.{underway_at_start, underway_next, underway_count, underway_node, underway_at_end, underway_within, underway_levelled}
 use Rattle.ch_contract.proofs.theory.BuiltKept.{hierarchies_kept}
 use Rattle.ch_contract.proofs.construction.build.Goals as goal
 
 pub loop-node-init : goal.loop-node-init
-loop-node-init g c = underway_at_start _ _ _ c.in_ok-construction.ensures
-
-pub next-requires : goal.next-requires
-next-requires g c = c.loop-node.invariant.after.sizes
-
-pub contract-requires-clause-sizes : goal.contract-requires-clause-sizes
-contract-requires-clause-sizes g c lifetimes within = c.loop-node.invariant.after.sizes
+loop-node-init g c =
+    let first = c.in_ok-construction.ensures in
+    (first.sizes, first.nodes, underway_at_start _ _ _ (first.sizes.levels ∙ first.nodes) first.begun)
 
 pub contract-requires-clause-limits : goal.contract-requires-clause-limits
-contract-requires-clause-limits g c lifetimes within = underway_within _ _ _ c.loop-node.invariant
+contract-requires-clause-limits g c lifetimes bounds =
+    let i = c.loop-node.invariant in
+    subst (λ n. AreLegsWithin n (legs_of c.loop-node.construction.remaining)) (sym i.1) (underway_within _ _ _ i.2)
 
 pub contract-requires-clause-count : goal.contract-requires-clause-count
-contract-requires-clause-count g c lifetimes within = underway_count _ _ _ _ c.loop-node.invariant c.in-Some.ensures
+contract-requires-clause-count g c lifetimes bounds =
+    let i = c.loop-node.invariant in
+    omega (arith, i.1, underway_count _ _ _ _ i.2 c.in-Some.ensures)
+
+pub loop-node-smaller : goal.loop-node-smaller
+loop-node-smaller g c =
+    let i = c.loop-node.invariant in
+    let next = c.in_ok-construction-2.ensures in
+    omega (arith, i.1, underway_count _ _ _ _ i.2 c.in-Some.ensures, next.nodes, next.step.contracted)
 
 pub loop-node-preserved : goal.loop-node-preserved
-loop-node-preserved g c = underway_next _ _ _ _ _ c.loop-node.invariant c.in-Some.ensures c.in_ok-construction-2.ensures
+loop-node-preserved g c =
+    let i = c.loop-node.invariant in
+    let next = c.in_ok-construction-2.ensures in
+    let step = subst (λ n. IsStep n c.args.hops (progress_of c.loop-node.construction) c.in-Some.node (progress_of c.in_ok-construction-2.construction)) i.1 next.step in
+    (next.sizes, next.nodes ∙ i.1, underway_next _ _ _ _ _ i.2 c.in-Some.ensures step)
 
-pub finish-requires : goal.finish-requires
-finish-requires g c = underway_levelled _ _ _ c.loop-node.invariant c.in_default.ensures
-
--- the hierarchy is that of the rules
-is_hierarchy : goal.returns-clause-hierarchy
-is_hierarchy g c = subst (IsHierarchy c.args.graph.now c.args.hops) (sym c.finish.ensures) (underway_at_end _ _ _ c.loop-node.invariant c.in_default.ensures)
+pub finish-requires-clause-levelled : goal.finish-requires-clause-levelled
+finish-requires-clause-levelled g c H all =
+    let i = c.loop-node.invariant in
+    let count = i.0.nodes in
+    underway_levelled _ _ _ i.2 c.in_default.ensures (omega (arith, count, i.1)) H (subst (λ n. AreAll n (progress_of c.loop-node.construction) H) i.1 all)
 
 pub returns-clause-hierarchy : goal.returns-clause-hierarchy
-returns-clause-hierarchy = is_hierarchy
+returns-clause-hierarchy g c =
+    let i = c.loop-node.invariant in
+    IfOk-weaker c.finish.result _ _ (λ H all. underway_at_end _ _ _ i.2 c.in_default.ensures H (subst (λ n. AreAll n (progress_of c.loop-node.construction) H) i.1 all)) c.finish.ensures
 
 pub returns-clause-kept : goal.returns-clause-kept
-returns-clause-kept g c = hierarchies_kept c.args.graph.now c.args.hops _ c.arcs.ensures.limits c.requires.hops (is_hierarchy g c)
+returns-clause-kept g c =
+    IfOk-weaker c.finish.result _ _ (λ H is. hierarchies_kept c.args.graph.now c.args.hops H c.arcs.ensures.limits c.requires.hops is) (returns-clause-hierarchy g c)

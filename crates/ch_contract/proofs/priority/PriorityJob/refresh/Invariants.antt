@@ -1,7 +1,0 @@
-use Rattle.std.proofs.Common.{take, length}
-use Rattle.ch_contract.specs.Remaining.{legs_of}
-use Rattle.ch_contract.specs.Priorities.{AreRefreshed}
-use Rattle.ch_contract.proofs.priority.PriorityJob.refresh.Given as goal
-
-abbrev pub invariant-loop-node : goal.invariant-loop-node
-invariant-loop-node g l = AreRefreshed l.self.remaining.now.nodes l.self.hops (legs_of l.self.remaining.now) (take (length l.yielded) l.self.nodes.now) l.fn.priorities l.priorities

@@ -1,0 +1,34 @@
+use Rattle.std.proofs.Common.{ℕ, List, ◌≡◌, ◌<◌, ◌≤◌, ◌^◌, ◌∙◌, None, ap, sym, subst, arith, length}
+use Rattle.std.specs.Prelude.{All}
+use Rattle.std.specs.List.{range_with_len}
+use Rattle.std.proofs.lemmas.List.{length-replicate}
+use Rattle.std.proofs.lemmas.List.FromFn.{length-range_with_len}
+use Rattle.ch_contract.specs.Priorities.{AreRefreshed}
+use Rattle.ch_contract.specs.Remaining.{legs_of}
+use Rattle.ch_contract.proofs.code.KeptPriorities.{numbers_below, all_refreshed}
+use Rattle.ch_contract.proofs.priority.opening_queue.Goals as goal
+
+-- a list of the numbers below n, as it is lent
+within : (n count : ℕ) (items lent : List ℕ) → lent ≡ items → items ≡ range_with_len 0 count → count ≡ n → All (λ x. x < n) lent
+within n count items lent a b e = subst (All (λ x. x < n)) (sym (a ∙ b ∙ ap (range_with_len 0) e)) (numbers_below n)
+
+few : (n count : ℕ) (items lent : List ℕ) → lent ≡ items → items ≡ range_with_len 0 count → count ≡ n → n ≤ 2 ^ 25 → length lent < 2 ^ 32
+few n count items lent a b e most = omega (arith, ap length (a ∙ b ∙ ap (range_with_len 0) e), length-range_with_len 0 n)
+
+pub run_list-requires-clause-takes : goal.run_list-requires-clause-takes
+run_list-requires-clause-takes g c lifetimes bounds = within _ _ _ _ c.as_slice.ensures.value c.in_ok-nodes.ensures c.nodes.ensures.nodes
+
+pub run_list-requires-clause-length : goal.run_list-requires-clause-length
+run_list-requires-clause-length g c lifetimes bounds = few _ _ _ _ c.as_slice.ensures.value c.in_ok-nodes.ensures c.nodes.ensures.nodes c.nodes.ensures.count
+
+pub set_all-requires-clause-nodes : goal.set_all-requires-clause-nodes
+set_all-requires-clause-nodes g c = within _ _ _ _ c.as_slice-2.ensures.value c.in_ok-nodes.ensures c.nodes.ensures.nodes
+
+pub returns : goal.returns
+returns g c =
+    let n = c.args.remaining.now.nodes in
+    let L = legs_of c.args.remaining.now in
+    let numbers = c.as_slice-2.ensures.value ∙ (c.in_ok-nodes.ensures ∙ ap (range_with_len 0) c.nodes.ensures.nodes) in
+    let size : length c.in_ok-waiting.waiting ≡ n = ap length c.in_ok-waiting.ensures ∙ length-replicate _ None ∙ c.nodes-2.ensures.nodes in
+    all_refreshed n c.args.hops L c.in_ok-waiting.waiting c.set_all.new.waiting size
+    (subst (λ (l : List ℕ). AreRefreshed n c.args.hops L l c.in_ok-waiting.waiting c.set_all.new.waiting) numbers c.set_all.ensures)

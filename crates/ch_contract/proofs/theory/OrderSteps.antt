@@ -1,0 +1,180 @@
+-- An order of contraction that grows by one node.
+use Rattle.std.proofs.Common.{◌≡◌, ℕ, ◌+◌, ◌-◌, ◌<◌, ◌≤◌, Bool, true, false, List, [], ◌∷◌, ◌++◌, length, take, refl, sym, ◌∙◌, ap, subst, arith, inl, inr, Contains}
+use Rattle.std.specs.Prelude.{◌≢◌, AllPairs, All, nat_le, if◌then◌else◌, slice_index, ℤ}
+use Rattle.std.proofs.lemmas.Bool.{cases_eq}
+use Rattle.std.proofs.lemmas.Bool.Decides.{nat_tests}
+use Rattle.std.proofs.lemmas.List.{take_all, take-append-le, get_or_default, get_or_append_left, get_or_push, length_push}
+use Rattle.std.proofs.lemmas.List.Elements.{All-push}
+use Rattle.ch_graph.specs.Graph.{Network}
+use Rattle.ch_contract.specs.Legs.{Legs, SameLegs, opening}
+use Rattle.ch_contract.specs.Contraction.{Contracts}
+use Rattle.ch_contract.specs.Order.{are_neighbours, IsLastTouch, IsPriorityAfter, ComesFirst, IsOrder}
+use Rattle.ch_contract.proofs.theory.Ordered.{contains_or_not, distinct_most, whole_least, pairs_push}
+use Rattle.ch_contract.proofs.theory.OneOrder.{Agree, priority_along}
+
+-- after the first i steps v comes before x
+abbrev pub ComesBefore : ℕ → ℕ → List ℕ → (ℕ → Legs) → ℕ → ℕ → ℕ → Type 0
+ComesBefore n h order L i v x = (p q : ℤ) × IsPriorityAfter n h order L i v p × IsPriorityAfter n h order L i x q × ComesFirst p v q x
+
+-- the nodes of this list were contracted in order, with the legs L i left after the first i steps
+pub record IsBegun (g : Network) (h : ℕ) (order : List ℕ) (L : ℕ → Legs) : Type 0 where
+  pub nodes : All (λ v. v < g.nodes) order × AllPairs ◌≢◌ order
+  pub start : SameLegs (L 0) (opening g)
+  pub step : (i : ℕ) → i < length order → Contracts g.nodes h (L i) (slice_index order i) (L (i + 1))
+  pub least : (i x : ℕ) → i < length order → x < g.nodes → (Contains (take i order) x → ⊥) → ComesBefore g.nodes h order L i (slice_index order i) x
+
+-- legs that go on with M after the first i steps
+abbrev pub then_legs : ℕ → (ℕ → Legs) → Legs → ℕ → Legs
+then_legs i L M k = if nat_le k i then L k else M
+
+-- up to the first i steps they are as before
+pub then_before : (i : ℕ) (L : ℕ → Legs) (M : Legs) (k : ℕ) → k ≤ i → then_legs i L M k ≡ L k
+then_before i L M k le = let t : nat_le k i ≡ true = grind (arith, nat_tests) in rw t refl
+
+-- and then they are M
+pub then_next : (i : ℕ) (L : ℕ → Legs) (M : Legs) (k : ℕ) → i < k → then_legs i L M k ≡ M
+then_next i L M k lt = let t : nat_le k i ≡ false = grind (arith, nat_tests) in rw t refl
+
+-- orders that agree up to a step agree up to each earlier one
+agree_less : (i k : ℕ) (order : List ℕ) (L : ℕ → Legs) (other : List ℕ) (M : ℕ → Legs) → k ≤ i → Agree i order L other M → Agree k order L other M
+agree_less i k order L other M le a = record { nodes = λ j lt. a.nodes j (omega arith); legs = λ j below. a.legs j (omega arith) }
+
+-- one more step that did not touch x
+pub untouched_more : (order : List ℕ) (L : ℕ → Legs) (i x j : ℕ) → are_neighbours (L i) (slice_index order i) x ≡ false → IsLastTouch order L i x j → IsLastTouch order L (i + 1) x j
+untouched_more order L i x j none t = record {
+  within = let le = t.within in omega arith;
+  touched = t.touched;
+  later = λ k le lt. elim (cases_eq k i) [
+    | inl e ↦ subst (λ z. are_neighbours (L z) (slice_index order z) x ≡ false) (sym e) none
+    | inr ne ↦ t.later k le (omega arith)
+  ];
+}
+
+-- one more step that touched x
+pub touched_more : (order : List ℕ) (L : ℕ → Legs) (i x : ℕ) → are_neighbours (L i) (slice_index order i) x ≡ true → IsLastTouch order L (i + 1) x (i + 1)
+touched_more order L i x touch = record {
+  within = omega arith;
+  touched = λ first. let e : i + 1 - 1 ≡ i = omega arith in subst (λ z. are_neighbours (L z) (slice_index order z) x ≡ true) (sym e) touch;
+  later = λ k le lt. absurd (omega arith);
+}
+
+-- no more nodes are contracted than there are
+pub begun_most : (g : Network) (order : List ℕ) → All (λ v. v < g.nodes) order → AllPairs ◌≢◌ order → length order ≤ g.nodes
+begun_most g order below distinct = distinct_most order g.nodes distinct (λ q has. subst (λ z. z < g.nodes) has.2 (below has.0 q has.1))
+
+module _ (order : List ℕ) (L : ℕ → Legs) (v : ℕ) (M : Legs) where
+  -- the order with one more node at its end
+  abbrev pub more : List ℕ
+  more = order ++ v ∷ []
+
+  -- the legs with those after its step
+  abbrev pub legs_more : ℕ → Legs
+  legs_more = then_legs (length order) L M
+
+  -- earlier nodes stand where they stood
+  pub before : (k : ℕ) → k < length order → slice_index order k ≡ slice_index more k
+  before k lt = sym (get_or_append_left order (v ∷ []) 0 k lt)
+
+  -- the next node stands at the end
+  pub here : slice_index more (length order) ≡ v
+  here = get_or_push order v 0 (length order) refl
+
+  -- the longer order agrees with the shorter one
+  pub agree : Agree (length order) order L more legs_more
+  agree = record { nodes = before; legs = λ k le. sym (then_before (length order) L M k le) }
+
+  -- the legs before the step and after it
+  pub now : legs_more (length order) ≡ L (length order)
+  now = then_before (length order) L M (length order) (omega arith)
+
+  pub next : legs_more (length order + 1) ≡ M
+  next = then_next (length order) L M (length order + 1) (omega arith)
+
+module _ (g : Network) (h : ℕ) (order : List ℕ) (L : ℕ → Legs) (b : IsBegun g h order L) (v : ℕ) (within : v < g.nodes) (left : Contains order v → ⊥) where
+  -- with one more node that is left the contracted nodes are different nodes
+  pub nodes_more : All (λ x. x < g.nodes) (more order L v (L 0)) × AllPairs ◌≢◌ (more order L v (L 0))
+  nodes_more = (All-push (λ x. x < g.nodes) order v b.nodes.0 within, pairs_push order v b.nodes.1 left)
+
+  -- fewer nodes are contracted than there are
+  pub begun_fewer : length order < g.nodes
+  begun_fewer = omega (arith, begun_most g (order ++ v ∷ []) nodes_more.0 nodes_more.1, length_push order v)
+
+module _ (g : Network) (h : ℕ) (order : List ℕ) (L : ℕ → Legs) (v : ℕ) (M : Legs) (b : IsBegun g h order L) (within : v < g.nodes) (left : Contains order v → ⊥) (step : Contracts g.nodes h (L (length order)) v M) (first : (x : ℕ) → x < g.nodes → (Contains order x → ⊥) → ComesBefore g.nodes h order L (length order) v x) where
+  -- the step is a contraction
+  step_here : Contracts g.nodes h (legs_more order L v M (length order)) (slice_index (more order L v M) (length order)) (legs_more order L v M (length order + 1))
+  step_here =
+      let two = subst (λ (N : Legs). Contracts g.nodes h N v M) (sym (now order L v M)) step in
+      let three = subst (λ x. Contracts g.nodes h (legs_more order L v M (length order)) x M) (sym (here order L v M)) two in
+      subst (λ (N : Legs). Contracts g.nodes h (legs_more order L v M (length order)) (slice_index (more order L v M) (length order)) N) (sym (next order L v M)) three
+
+  -- earlier steps are contractions
+  step_before : (k : ℕ) → k < length order → Contracts g.nodes h (legs_more order L v M k) (slice_index (more order L v M) k) (legs_more order L v M (k + 1))
+  step_before k lt =
+      let one = subst (λ (N : Legs). Contracts g.nodes h N (slice_index order k) (L (k + 1))) ((agree order L v M).legs k (omega arith)) (b.step k lt) in
+      let two = subst (λ x. Contracts g.nodes h (legs_more order L v M k) x (L (k + 1))) (before order L v M k lt) one in
+      subst (λ (N : Legs). Contracts g.nodes h (legs_more order L v M k) (slice_index (more order L v M) k) N) ((agree order L v M).legs (k + 1) (omega arith)) two
+
+  -- all steps are contractions
+  step_more : (k : ℕ) → k < length (more order L v M) → Contracts g.nodes h (legs_more order L v M k) (slice_index (more order L v M) k) (legs_more order L v M (k + 1))
+  step_more k lt = elim (cases_eq k (length order)) [
+    | inl e ↦ subst (λ z. Contracts g.nodes h (legs_more order L v M z) (slice_index (more order L v M) z) (legs_more order L v M (z + 1))) (sym e) step_here
+    | inr ne ↦ let size = length_push order v in step_before k (omega arith)
+  ]
+
+  -- at earlier steps the node came before all that were left
+  least_before : (k x : ℕ) → k < length order → x < g.nodes → (Contains (take k order) x → ⊥) → ComesBefore g.nodes h (more order L v M) (legs_more order L v M) k (slice_index (more order L v M) k) x
+  least_before k x lt inside away =
+      let r = b.least k x lt inside away in
+      let a = agree_less (length order) k order L (more order L v M) (legs_more order L v M) (omega arith) (agree order L v M) in
+      let one = priority_along g.nodes h k order L (more order L v M) (legs_more order L v M) (slice_index order k) r.0 a r.2 in
+      (r.0, r.1, subst (λ z. IsPriorityAfter g.nodes h (more order L v M) (legs_more order L v M) k z r.0) (before order L v M k lt) one, priority_along g.nodes h k order L (more order L v M) (legs_more order L v M) x r.1 a r.3, subst (λ z. ComesFirst r.0 z r.1 x) (before order L v M k lt) r.4)
+
+  -- and at this step
+  least_here : (x : ℕ) → x < g.nodes → (Contains order x → ⊥) → ComesBefore g.nodes h (more order L v M) (legs_more order L v M) (length order) (slice_index (more order L v M) (length order)) x
+  least_here x inside away =
+      let r = first x inside away in
+      let n : ℕ = length order in
+      let one = priority_along g.nodes h n order L (more order L v M) (legs_more order L v M) v r.0 (agree order L v M) r.2 in
+      (r.0, r.1, subst (λ z. IsPriorityAfter g.nodes h (more order L v M) (legs_more order L v M) n z r.0) (sym (here order L v M)) one, priority_along g.nodes h n order L (more order L v M) (legs_more order L v M) x r.1 (agree order L v M) r.3, subst (λ z. ComesFirst r.0 z r.1 x) (sym (here order L v M)) r.4)
+
+  -- so at all steps
+  least_more : (k x : ℕ) → k < length (more order L v M) → x < g.nodes → (Contains (take k (more order L v M)) x → ⊥) → ComesBefore g.nodes h (more order L v M) (legs_more order L v M) k (slice_index (more order L v M) k) x
+  least_more k x lt inside away = elim (cases_eq k (length order)) [
+    | inl e ↦
+        let whole : take k (more order L v M) ≡ order = take-append-le k order (v ∷ []) (omega arith) ∙ take_all k order (omega arith) in
+        subst (λ z. ComesBefore g.nodes h (more order L v M) (legs_more order L v M) z (slice_index (more order L v M) z) x) (sym e) (least_here x inside (λ has. away (subst (λ l. Contains l x) (sym whole) has)))
+    | inr ne ↦
+        let size = length_push order v in
+        let below : k < length order = omega arith in
+        let part : take k (more order L v M) ≡ take k order = take-append-le k order (v ∷ []) (omega arith) in
+        least_before k x below inside (λ has. away (subst (λ l. Contains l x) (sym part) has))
+  ]
+
+  -- so the longer order follows the rules
+  pub begun_more : IsBegun g h (order ++ v ∷ []) (then_legs (length order) L M)
+  begun_more = record {
+    nodes = nodes_more g h order L b v within left;
+    start = λ x y. ap (λ (N : Legs). N x y) (then_before (length order) L M 0 (omega arith)) ∙ b.start x y;
+    step = step_more;
+    least = least_more;
+  }
+
+-- an order that takes no node follows the rules
+pub begun_none : (g : Network) (h : ℕ) → IsBegun g h [] (λ i. opening g)
+begun_none g h = record {
+  nodes = (λ k d lt. absurd (omega arith), λ i j d lt inside. absurd (omega arith));
+  start = λ x y. refl;
+  step = λ i lt. absurd (omega arith);
+  least = λ i x lt inside away. absurd (omega arith);
+}
+
+-- one that takes all is the order
+pub begun_all : (g : Network) (h : ℕ) (order : List ℕ) (L : ℕ → Legs) → IsBegun g h order L → ((x : ℕ) → x < g.nodes → Contains order x) → IsOrder g h order L
+begun_all g h order L b each =
+    let size : length order ≡ g.nodes = omega (arith, whole_least order g.nodes each, begun_most g order b.nodes.0 b.nodes.1) in
+    record {
+      nodes = (size, b.nodes.0, b.nodes.1);
+      start = b.start;
+      step = λ i lt. b.step i (omega arith);
+      least = λ i x lt inside away. b.least i x (omega arith) inside away;
+    }

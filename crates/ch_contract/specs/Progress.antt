@@ -1,0 +1,57 @@
+-- What the contraction of one node after the other has come to.
+use Rattle.std.specs.Prelude.{◌≡◌, ◌≢◌, ℕ, ◌+◌, ◌<◌, true, false, List, [], ◌++◌, length, slice_set, Option, Some, None, ℤ}
+use Rattle.ch_queue.specs.Queue.{key_of}
+use Rattle.ch_graph.specs.Graph.{Network}
+use Rattle.ch_contract.specs.declared.leg.Leg.{Leg}
+use Rattle.ch_contract.specs.Legs.{Legs, SameLegs, AreLegsWithin, opening}
+use Rattle.ch_contract.specs.Contraction.{Contracts, IsPriority}
+use Rattle.ch_contract.specs.Order.{are_neighbours, ComesFirst}
+use Rattle.ch_contract.specs.Rows.{row, AreLegsFrom, AreLegsTo}
+use Rattle.ch_contract.specs.Hierarchy.{Levels}
+
+-- the legs that are left, a queue of the nodes that are left by their priorities, and the level and the rows of each contracted node
+pub record Progress : Type 0 where
+  pub legs : Legs
+  pub keys : List (Option ℤ)
+  pub levels : List ℕ
+  pub up : ℕ → List Leg
+  pub down : ℕ → List Leg
+  pub contracted : ℕ
+
+-- the key of x is its priority with these legs
+abbrev pub HasPriority : ℕ → ℕ → Legs → List (Option ℤ) → ℕ → Type 0
+HasPriority n h L keys x = (p : ℤ) × (key_of keys x ≡ Some p) × IsPriority n h L x p
+
+-- v has a key, and comes before all others that have one
+pub record IsNext (keys : List (Option ℤ)) (v : ℕ) : Type 0 where
+  pub priority : ℤ
+  pub has : key_of keys v ≡ Some priority
+  pub first : (x : ℕ) (q : ℤ) → key_of keys x ≡ Some q → ComesFirst priority v q x
+
+-- no node is contracted yet
+pub record IsOpen (g : Network) (h : ℕ) (p : Progress) : Type 0 where
+  pub legs : SameLegs p.legs (opening g)
+  pub limits : AreLegsWithin g.nodes (opening g)
+  pub size : length p.keys ≡ g.nodes
+  pub priorities : (x : ℕ) → x < g.nodes → HasPriority g.nodes h (opening g) p.keys x
+  pub rows : (x : ℕ) → (p.up x ≡ []) × (p.down x ≡ [])
+  pub contracted : p.contracted ≡ 0
+
+-- v is contracted: its rows are put in, its level is the number of contracted nodes, it leaves the queue, and its neighbours alone have new priorities
+pub record IsStep (n h : ℕ) (before : Progress) (v : ℕ) (after : Progress) : Type 0 where
+  pub legs : Contracts n h before.legs v after.legs
+  pub contracted : after.contracted ≡ before.contracted + 1
+  pub levels : after.levels ≡ slice_set before.levels v after.contracted
+  pub up : (row : List Leg) × AreLegsFrom before.legs v row × (after.up v ≡ before.up v ++ row)
+  pub down : (row : List Leg) × AreLegsTo before.legs v row × (after.down v ≡ before.down v ++ row)
+  pub rows : (x : ℕ) → x ≢ v → (after.up x ≡ before.up x) × (after.down x ≡ before.down x)
+  pub size : length after.keys ≡ length before.keys
+  pub taken : key_of after.keys v ≡ None
+  pub anew : (x : ℕ) → are_neighbours before.legs v x ≡ true → HasPriority n h after.legs after.keys x
+  pub kept : (x : ℕ) → x ≢ v → are_neighbours before.legs v x ≡ false → key_of after.keys x ≡ key_of before.keys x
+
+-- these levels and rows are those of all n nodes
+pub record AreAll (n : ℕ) (p : Progress) (H : Levels) : Type 0 where
+  pub level : H.level ≡ p.levels
+  pub sizes : (length p.levels ≡ n) × (length H.up ≡ n) × (length H.down ≡ n)
+  pub rows : (x : ℕ) → x < n → (row H.up x ≡ p.up x) × (row H.down x ≡ p.down x)

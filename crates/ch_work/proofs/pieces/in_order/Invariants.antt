@@ -1,8 +1,0 @@
-use Rattle.std.proofs.Common.{◌≡◌, ◌++◌, length}
-use Rattle.ch_work.specs.Pieces.{AreValues, share_start, pieces_of}
-use Rattle.ch_work.proofs.pieces.in_order.Given as goal
-
-abbrev pub invariant-loop-share : goal.invariant-loop-share
-invariant-loop-share g l =
-    AreValues (g.J.Job.meaning l.job) l.items l.piece 0 (share_start (pieces_of l.items l.piece) l.workers (length l.yielded)) l.all.items
-    × (l.fn.shares.items ≡ l.yielded ++ l.share-iterator.rest.items)
