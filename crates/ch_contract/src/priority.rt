@@ -95,8 +95,9 @@ impl ListJob for PriorityJob<'_> {
 }
 
 impl PriorityJob<'_> {
-    /// Gives these nodes the priorities that they have now. Workers share them where there are at least
-    /// `plan.wide()`, and pass the gate; else the caller computes them in its own room.
+    /// Gives these nodes the priorities that they have now. Where there are at least `plan.wide()` of them,
+    /// they are cut into pieces, which workers share and which pass the gate. A lone worker stays in the
+    /// caller's room.
     pub(crate) fn refresh<R: Threads + Sync, G: Gate>(
         &self,
         rt: &R,
@@ -118,8 +119,41 @@ impl PriorityJob<'_> {
         if nodes.len() < plan.wide() as usize {
             return self.refresh_here(nodes, room, waiting);
         }
+        if plan.workers() == 1 {
+            return self.refresh_alone(nodes, room, waiting, plan, gate);
+        }
         let priorities = run_list(rt, alloc, nodes, plan, gate, self)?;
         self.set_all(nodes, priorities.as_slice(), waiting);
+        Ok(())
+    }
+
+    /// Gives these nodes the priorities that they have now, computed in this room, piece after piece.
+    fn refresh_alone<G: Gate>(
+        &self,
+        nodes: &[u32],
+        room: &mut Room,
+        waiting: &mut KeyQueue<i64>,
+        plan: &Plan,
+        gate: &G,
+    ) -> Result<(), AllocError>
+        requires nodes { All (λ x. x < self.now.remaining.now.nodes) nodes.now }
+        requires count { length nodes.now < 2 ^ 32 }
+        requires size { length waiting.old ≡ self.now.remaining.now.nodes }
+        requires clean { IsClean self.now.remaining.now.nodes room.old.search.heads }
+        ensures anew { OnOk result (AreRefreshed self.now.remaining.now.nodes self.now.hops
+            (legs_of self.now.remaining.now) nodes.now waiting.old waiting.new) }
+        ensures clean { OnOk result (IsClean self.now.remaining.now.nodes room.new.search.heads) }
+    {
+        let piece = plan.piece() as usize;
+        let mut number = 0;
+        let mut from = 0;
+        while from < nodes.len() {
+            let to = nodes.len().min(from + piece);
+            gate.pass(number);
+            self.refresh_here(&nodes[from..to], room, waiting)?;
+            number += 1;
+            from = to;
+        }
         Ok(())
     }
 

@@ -1,10 +1,12 @@
 -- Priorities that are computed one after the other.
-use Rattle.std.proofs.Common.{◌≡◌, ℕ, zero, suc, ◌+◌, ◌<◌, List, [], ◌∷◌, ◌++◌, length, get_or, set, take, Option, Some, None, sym, ◌∙◌, subst, arith, inl, inr, Contains, length-set, get_or-set_same, get_or-set_other}
+use Rattle.std.proofs.Common.{◌≡◌, ℕ, zero, suc, ◌+◌, ◌-◌, ◌<◌, ◌≤◌, List, [], ◌∷◌, ◌++◌, length, get_or, set, take, Option, Some, None, sym, ◌∙◌, ap, subst, arith, inl, inr, Contains, length-set, get_or-set_same, get_or-set_other}
 use Rattle.std.specs.Prelude.{◌≢◌, All, ℤ}
 use Rattle.std.proofs.lemmas.Bool.{cases_eq}
 use Rattle.std.proofs.lemmas.List.{take_more}
-use Rattle.std.proofs.lemmas.List.Elements.{Contains-append_left, Contains-push, Contains-push_cases, Contains-get_or}
-use Rattle.std.specs.List.{AllZip, range_with_len}
+use Rattle.std.proofs.lemmas.List.Elements.{Contains-append_left, Contains-append_right, Contains-append_cases, Contains-push, Contains-push_cases, Contains-get_or}
+use Rattle.std.specs.List.{AllZip, range_with_len, slice_range}
+use Rattle.std.proofs.Math.Seq.{take-add}
+use Rattle.ch_contract.proofs.theory.Ordered.{contains_or_not}
 use Rattle.std.proofs.lemmas.List.FromFn.{length-range_with_len, get_or-range_with_len}
 use Rattle.ch_queue.specs.Queue.{key_of}
 use Rattle.ch_contract.specs.Legs.{Legs}
@@ -51,6 +53,27 @@ module _ (n h : ℕ) (L : Legs) where
             let ne : x ≢ v = λ e. away (subst (λ l. Contains l x) (sym more) (subst (Contains (take i nodes ++ v ∷ [])) (sym e) (Contains-push (take i nodes) v))) in
             get_or-set_other middle v x (Some p) None ne ∙ known.kept x (λ c. away (subst (λ l. Contains l x) (sym more) (Contains-append_left (take i nodes) (v ∷ []) x c)));
       }
+
+  -- one list of nodes after the other
+  pub refreshed_then : (xs ys : List ℕ) (before middle after : List (Option ℤ)) → AreRefreshed n h L xs before middle → AreRefreshed n h L ys middle after → AreRefreshed n h L (xs ++ ys) before after
+  refreshed_then xs ys before middle after r s = record {
+    size = s.size ∙ r.size;
+    anew = λ x c. elim (contains_or_not ys x) [
+      | inl later ↦ s.anew x later
+      | inr away ↦ elim (Contains-append_cases xs ys x c) [
+        | inl earlier ↦ let p = r.anew x earlier in (p.0, s.kept x away ∙ p.1, p.2)
+        | inr later ↦ absurd (away later)
+      ]
+    ];
+    kept = λ x away. s.kept x (λ c. away (Contains-append_right xs ys x c)) ∙ r.kept x (λ c. away (Contains-append_left xs ys x c));
+  }
+
+  -- one range of nodes after the nodes before it
+  pub refreshed_range : (nodes : List ℕ) (from to : ℕ) (before middle after : List (Option ℤ)) → from ≤ to → AreRefreshed n h L (take from nodes) before middle → AreRefreshed n h L (slice_range nodes from to) middle after → AreRefreshed n h L (take to nodes) before after
+  refreshed_range nodes from to before middle after le r s =
+      let size : from + (to - from) ≡ to = omega arith in
+      let all : take from nodes ++ slice_range nodes from to ≡ take to nodes = sym (take-add from (to - from) nodes) ∙ ap (λ z. take z nodes) size in
+      subst (λ l. AreRefreshed n h L l before after) all (refreshed_then (take from nodes) (slice_range nodes from to) before middle after r s)
 
   -- where all nodes are refreshed, all have their priorities
   pub all_refreshed : (before after : List (Option ℤ)) → length before ≡ n → AreRefreshed n h L (range_with_len 0 n) before after → ArePriorities n h L after
