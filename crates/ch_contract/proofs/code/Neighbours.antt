@@ -8,44 +8,8 @@ use Rattle.ch_contract.specs.Legs.{Label, Legs, AreLegsWithin}
 use Rattle.ch_contract.specs.Order.{are_neighbours}
 use Rattle.ch_contract.specs.Rows.{AreLegsFrom, AreLegsTo, label_of, row_leg}
 use Rattle.ch_contract.specs.Priorities.{has_node, neighbours_in}
-use Rattle.ch_contract.proofs.theory.Ordered.{contains_head, contains_tail, contains_cons, contains_none}
+use Rattle.ch_graph.proofs.Lists.{contains_head, contains_tail, contains_cons, contains_none, contains_map, contains_map_of, contains_filter, contains_filter_of}
 use Rattle.ch_contract.proofs.theory.RowLegs.{leg_at, row_has, row_member}
-
--- what is in a list has its value among the values
-contains_map : {X Y : Type 0} (f : X → Y) (xs : List X) (x : X) → Contains xs x → Contains (map f xs) (f x)
-contains_map f [] x c = absurd (contains_none x c)
-contains_map f (y ∷ xs) x c = elim (contains_cons y x xs c) [
-  | inl e ↦ (zero, omega arith, ap f e)
-  | inr later ↦ contains_tail (f x) (f y) (map f xs) (contains_map f xs x later)
-]
-
--- a value comes from a member
-map_contains : {X Y : Type 0} (f : X → Y) (xs : List X) (y : Y) → Contains (map f xs) y → (x : X) × Contains xs x × (f x ≡ y)
-map_contains f [] y c = absurd (contains_none y c)
-map_contains f (x ∷ xs) y c = elim (contains_cons (f x) y (map f xs) c) [
-  | inl e ↦ (x, contains_head x xs, e)
-  | inr later ↦ let r = map_contains f xs y later in (r.0, contains_tail r.0 x xs r.1, r.2)
-]
-
--- a member that passes is kept
-contains_filter : {X : Type 0} (p : X → Bool) (xs : List X) (x : X) → p x ≡ true → Contains xs x → Contains (filter p xs) x
-contains_filter p [] x t c = absurd (contains_none x c)
-contains_filter p (y ∷ xs) x t c = at (p y) refl (contains_cons y x xs c) (contains_filter p xs x t)
-  where
-    at : (b : Bool) → p y ≡ b → (y ≡ x) ⊎ Contains xs x → (Contains xs x → Contains (filter p xs) x) → Contains (cond b (y ∷ filter p xs) (filter p xs)) x
-    at true e (inl same) more = (zero, omega arith, same)
-    at true e (inr later) more = contains_tail x y (filter p xs) (more later)
-    at false e (inl same) more = absurd (false≢true (sym e ∙ ap p same ∙ t))
-    at false e (inr later) more = more later
-
--- what is kept is a member
-filter_contains : {X : Type 0} (p : X → Bool) (xs : List X) (x : X) → Contains (filter p xs) x → Contains xs x
-filter_contains p [] x c = c
-filter_contains p (y ∷ xs) x c = at (p y) c (filter_contains p xs x)
-  where
-    at : (b : Bool) → Contains (cond b (y ∷ filter p xs) (filter p xs)) x → (Contains (filter p xs) x → Contains xs x) → Contains (y ∷ xs) x
-    at true k more = elim (contains_cons y x (filter p xs) k) [ inl e ↦ (zero, omega arith, e) | inr later ↦ contains_tail x y xs (more later) ]
-    at false k more = contains_tail x y xs (more k)
 
 -- where the test finds a node, a leg has it
 node_found : (legs : List Leg) (x : ℕ) → has_node legs x ≡ true → (l : Leg) × Contains legs l × (l.node ≡ x)
@@ -70,7 +34,7 @@ module _ (L : Legs) (v : ℕ) (up down : List Leg) (from : AreLegsFrom L v up) (
   in_down true l t c = let r = node_found up l.node t in in_up r.0 l.node r.1 r.2
   in_down false l t c =
       let passes : not (has_node up l.node) ≡ true = ap not t in
-      Contains-append_right (map (λ (k : Leg). k.node) up) _ l.node (contains_map (λ (k : Leg). k.node) (filter (λ (k : Leg). not (has_node up k.node)) down) l (contains_filter (λ (k : Leg). not (has_node up k.node)) down l passes c))
+      Contains-append_right (map (λ (k : Leg). k.node) up) _ l.node (contains_map (λ (k : Leg). k.node) (filter (λ (k : Leg). not (has_node up k.node)) down) l (contains_filter (λ (k : Leg). not (has_node up k.node)) down l c passes))
 
   -- a neighbour is listed
   pub neighbour_listed : (x : ℕ) → are_neighbours L v x ≡ true → Contains (neighbours_in up down) x
@@ -85,12 +49,12 @@ module _ (L : Legs) (v : ℕ) (up down : List Leg) (from : AreLegsFrom L v up) (
   pub listed_neighbour : (x : ℕ) → Contains (neighbours_in up down) x → are_neighbours L v x ≡ true
   listed_neighbour x c = elim (Contains-append_cases (map (λ (k : Leg). k.node) up) _ x c) [
     | inl first ↦
-        let r = map_contains (λ (k : Leg). k.node) up x first in
+        let r = contains_map_of (λ (k : Leg). k.node) up x first in
         let leg : L v x ≡ Some (label_of r.0) = sym (from.1 x) ∙ subst (λ z. row_leg up z ≡ Some (label_of r.0)) r.2 (row_has up r.0 from.0 r.1) in
         ap (λ o. is_some o || is_some (L x v)) leg
     | inr second ↦
-        let r = map_contains (λ (k : Leg). k.node) _ x second in
-        let c = filter_contains (λ (k : Leg). not (has_node up k.node)) down r.0 r.1 in
+        let r = contains_map_of (λ (k : Leg). k.node) _ x second in
+        let c = (contains_filter_of (λ (k : Leg). not (has_node up k.node)) down r.0 r.1).0 in
         let leg : L x v ≡ Some (label_of r.0) = sym (to.1 x) ∙ subst (λ z. row_leg down z ≡ Some (label_of r.0)) r.2 (row_has down r.0 to.0 c) in
         some_right (is_some (L v x)) (L x v) (label_of r.0) leg
   ]

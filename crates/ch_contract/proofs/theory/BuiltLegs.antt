@@ -8,7 +8,8 @@ use Rattle.ch_contract.specs.declared.leg.Leg.{Leg}
 use Rattle.ch_contract.specs.Legs.{Label, Legs, IsHopBound}
 use Rattle.ch_contract.specs.Rows.{row, label_of}
 use Rattle.ch_contract.specs.Hierarchy.{LevelsAndLegs, IsHierarchyOf}
-use Rattle.ch_contract.proofs.theory.Ordered.{contains_none, every_number}
+use Rattle.ch_contract.proofs.theory.Ordered.{every_number}
+use Rattle.ch_graph.proofs.Lists.{contains_none}
 use Rattle.ch_contract.proofs.theory.RowLegs.{leg_at, row_has, row_member}
 use Rattle.ch_contract.proofs.theory.StepLegs.{IsContraction, IsStepLeg, step_leg}
 use Rattle.ch_contract.proofs.theory.KeptCosts.{IsAfter}

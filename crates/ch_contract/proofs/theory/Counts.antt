@@ -6,8 +6,8 @@ use Rattle.ch_contract.specs.declared.leg.Leg.{Leg}
 use Rattle.ch_contract.specs.Legs.{Label, Legs, AreLegsWithin}
 use Rattle.ch_contract.specs.Contraction.{count_below, touching}
 use Rattle.ch_contract.specs.Rows.{IsRow, row_leg, AreLegsFrom, AreLegsTo}
-use Rattle.ch_contract.proofs.theory.ReferenceSearch.{not_eqb, eqb-refl}
-use Rattle.ch_contract.proofs.theory.Ordered.{pairs_tail, pairs_head}
+use Rattle.ch_graph.proofs.Numbers.{not_eqb, eqb-refl}
+use Rattle.ch_graph.proofs.Lists.{pairs_tail, pairs_head}
 use Rattle.ch_contract.proofs.theory.RowLegs.{row_leg_cons, row_member, leg_at}
 use Rattle.ch_contract.proofs.theory.RowLemmas.{leg_from_at, leg_to_at}
 

@@ -13,8 +13,9 @@ use Rattle.ch_contract.specs.declared.shortcut.Shortcut.{Shortcut}
 use Rattle.ch_contract.specs.Legs.{Label, Legs, IsChain, chain_cost, HasWitness, AreLegsWithin}
 use Rattle.ch_contract.specs.Contraction.{IsShortcut, shortcut_label, overridden, Contracts}
 use Rattle.ch_contract.specs.Laws.{LeadsWithin}
-use Rattle.ch_contract.proofs.theory.ReferenceSearch.{witness_or_none, some_of, not_eqb, eqb-refl}
-use Rattle.ch_contract.proofs.theory.Ordered.{contains_head, contains_tail}
+use Rattle.ch_contract.proofs.theory.ReferenceSearch.{witness_or_none, some_of}
+use Rattle.ch_graph.proofs.Numbers.{not_eqb, eqb-refl}
+use Rattle.ch_graph.proofs.Lists.{contains_head, contains_tail}
 use Rattle.ch_contract.proofs.theory.Contracting.{IsOverridden, override_cases}
 use Rattle.ch_contract.proofs.theory.Chains.{HasChain, HasLeg, IsLight, light_left, light_right, chain_cost-cons, chain_cost-one, chain_of_leg, leg_then_chain, chain_then_chain, chain_at_most, no_loop}
 

@@ -9,8 +9,8 @@ use Rattle.std.proofs.lemmas.Option.{same_Some, none-some}
 use Rattle.ch_graph.specs.declared.arc.InArc.{InArc}
 use Rattle.ch_graph.specs.Graph.{Network, IsArcWithin, IsWithinLimits}
 use Rattle.ch_contract.specs.Legs.{Label, IsLegWithin, opening, least_weight, lesser_weight, arc_label, arc_label_of}
-use Rattle.ch_contract.proofs.theory.ReferenceSearch.{not_eqb, eqb-refl}
-use Rattle.ch_contract.proofs.theory.Ordered.{contains_tail}
+use Rattle.ch_graph.proofs.Numbers.{not_eqb, eqb-refl}
+use Rattle.ch_graph.proofs.Lists.{contains_tail}
 use Rattle.ch_contract.proofs.theory.Chains.{HasLeg}
 
 -- the arc from u to w of weight x

@@ -12,6 +12,7 @@ use Rattle.ch_contract.specs.Reference.{cheapest, cheapest_below, cheaper, is_at
 use Rattle.ch_contract.specs.Laws.{LeadsWithin}
 use Rattle.ch_graph.proofs.CostOrder.{IsAtMost_refl, IsAtMost_trans, IsAtMost-no_cost}
 use Rattle.ch_graph.proofs.CostSums.{IsAtMost-cost_sum}
+use Rattle.ch_graph.proofs.Numbers.{not_eqb, eqb-refl}
 
 -- what the test of two costs says
 pub is_at_most_true : (a b : Cost) → is_at_most a b ≡ true → IsAtMost a b
@@ -81,13 +82,6 @@ plus_cost_covers c (Some a) d h = (cost_sum c a, refl, IsAtMost-cost_sum c c a d
 pub some_of : {A : Type 0} (o : Option A) → IsSome o → (x : A) × (o ≡ Some x)
 some_of None h = cc
 some_of (Some x) h = (x, refl)
-
--- the test of two numbers
-pub not_eqb : (a b : ℕ) → (a ≡ b → ⊥) → eqb a b ≡ false
-not_eqb a b ne = grind (arith, nat_tests)
-
-pub eqb-refl : (a : ℕ) → eqb a a ≡ true
-eqb-refl a = grind (arith, nat_tests)
 
 module _ (n : ℕ) (L : Legs) (v w : ℕ) where
   -- one leg to x, and then the cheapest rest
