@@ -1,17 +1,17 @@
 -- What opening a construction, one step of it and its end give, from what their calls give.
-use Rattle.std.proofs.Common.{◌≡◌, ℕ, zero, suc, Bool, true, false, cond, not, map, refl, ◌+◌, ◌*◌, ◌^◌, ◌<◌, ◌≤◌, List, [], ◌∷◌, ◌++◌, length, get_or, set, replicate, Option, Some, None, sym, ◌∙◌, ap, subst, arith, inl, inr, Contains, length-append, length-set, get_or-set_same, get_or-set_other}
-use Rattle.std.specs.Prelude.{◌≢◌, ◌==◌, slice_index, slice_set, All, filter, is_some, ◌||◌, if◌then◌else◌, ℤ, ◌≤ℤ◌, ◌<ℤ◌}
+use Rattle.std.proofs.Common.{◌≡◌, ℕ, zero, suc, Bool, true, false, cond, not, map, refl, ◌+◌, ◌*◌, ◌<◌, ◌≤◌, List, [], ◌∷◌, ◌++◌, length, get_or, Option, Some, None, sym, ◌∙◌, ap, subst, arith, Contains, length-append, length-set, get_or-set_same, get_or-set_other}
+use Rattle.std.specs.Prelude.{◌≢◌, ◌==◌, slice_set, All, filter, is_some, ◌||◌, if◌then◌else◌, ℤ, ◌<ℤ◌}
 use Rattle.std.specs.Ordering.{is_gt, int_cmp, MatchOrdering}
 use Rattle.std.specs.declared.cmp.Ordering.{Ordering}
 use Rattle.std.specs.declared.cmp.Ordering.TheVariants.{Less, Equal, Greater}
 use Rattle.std.specs.Cmp.{int_ranks}
 use Rattle.std.proofs.lemmas.Int.{ints}
-use Rattle.std.proofs.lemmas.Bool.{cases_lt, eqb-true, eqb-false, true≢false}
+use Rattle.std.proofs.lemmas.Bool.{true≢false}
 use Rattle.std.proofs.lemmas.Bool.Decides.{nat_tests}
-use Rattle.std.proofs.lemmas.List.{get_or_past, get_or-replicate, length-replicate, length-map, append-nil, map-append}
+use Rattle.std.proofs.lemmas.List.{length-map, append-nil, map-append}
 use Rattle.std.proofs.lemmas.List.Filters.{length-filter_both}
 use Rattle.std.proofs.lemmas.List.Elements.{Contains-get_or, filter-append, All-append, All-cons, All-nil}
-use Rattle.ch_queue.specs.Queue.{key_of, IsLeastEntry, ComesFirst as EntryFirst}
+use Rattle.ch_queue.specs.Queue.{IsLeastEntry, ComesFirst as EntryFirst}
 use Rattle.ch_graph.specs.Graph.{Network}
 use Rattle.ch_graph.specs.Rows.{values_of, AreRowsOf}
 use Rattle.ch_contract.specs.declared.leg.Leg.{Leg}
@@ -23,7 +23,7 @@ use Rattle.ch_contract.specs.Rows.{AreLegsFrom, AreLegsTo}
 use Rattle.ch_contract.specs.Heads.{IsClean}
 use Rattle.ch_contract.specs.Hierarchy.{LevelsAndLegs}
 use Rattle.ch_contract.specs.Remaining.{legs_of}
-use Rattle.ch_contract.specs.Progress.{Progress, IsNext, IsOpen, IsStep, AreAll}
+use Rattle.ch_contract.specs.Progress.{IsNext, IsOpen, IsStep, AreAll}
 use Rattle.ch_contract.specs.Priorities.{ArePriorities, AreRefreshed, has_node, neighbours_in}
 use Rattle.ch_contract.specs.Construction.{progress_of, IsSized}
 use Rattle.ch_contract.proofs.theory.OneOrder.{one_map}

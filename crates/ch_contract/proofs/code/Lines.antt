@@ -3,7 +3,7 @@ use Rattle.std.proofs.Common.{◌≡◌, ℕ, ◌+◌, ◌-◌, ◌^◌, ◌<◌
 use Rattle.std.specs.Prelude.{◌≢◌, ◌↔◌, Result, Ok, Err, OnOk, min, ◌⊎◌, MatchOption}
 use Rattle.std.specs.declared.alloc.AllocError.{AllocError}
 use Rattle.ch_contract.specs.Lines.{IsKnown, IsCandidate, IsMostFor, AreBounded}
-use Rattle.ch_graph.proofs.CostOrder.{IsAtMost_refl, IsAtMost_trans}
+use Rattle.ch_graph.proofs.CostOrder.{IsAtMost_trans}
 use Rattle.std.proofs.lemmas.List.Elements.{All-contains, All-from_get_or, All-push, Contains-get_or}
 use Rattle.ch_graph.specs.declared.cost.Cost.{Cost}
 use Rattle.ch_graph.specs.Cost.{IsAtMost, cost_sum}

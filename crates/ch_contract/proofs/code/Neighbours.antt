@@ -1,6 +1,6 @@
 -- The neighbours of a node, listed from its rows.
-use Rattle.std.proofs.Common.{◌≡◌, ℕ, zero, ◌<◌, Bool, true, false, cond, not, List, [], ◌∷◌, map, Option, Some, None, refl, sym, ◌∙◌, ap, subst, arith, inl, inr, Contains}
-use Rattle.std.specs.Prelude.{◌⊎◌, ◌==◌, ◌||◌, filter, is_some}
+use Rattle.std.proofs.Common.{◌≡◌, ℕ, ◌<◌, Bool, true, false, not, List, [], ◌∷◌, map, Option, Some, None, refl, sym, ◌∙◌, ap, subst, inl, inr, Contains}
+use Rattle.std.specs.Prelude.{◌==◌, ◌||◌, filter, is_some}
 use Rattle.std.proofs.lemmas.Bool.{eqb-true, false≢true}
 use Rattle.std.proofs.lemmas.List.Elements.{Contains-append_left, Contains-append_right, Contains-append_cases}
 use Rattle.ch_contract.specs.declared.leg.Leg.{Leg}
@@ -8,7 +8,7 @@ use Rattle.ch_contract.specs.Legs.{Label, Legs, AreLegsWithin}
 use Rattle.ch_contract.specs.Order.{are_neighbours}
 use Rattle.ch_contract.specs.Rows.{AreLegsFrom, AreLegsTo, label_of, row_leg}
 use Rattle.ch_contract.specs.Priorities.{has_node, neighbours_in}
-use Rattle.ch_graph.proofs.Lists.{contains_head, contains_tail, contains_cons, contains_none, contains_map, contains_map_of, contains_filter, contains_filter_of}
+use Rattle.ch_graph.proofs.Lists.{contains_head, contains_tail, contains_map, contains_map_of, contains_filter, contains_filter_of}
 use Rattle.ch_contract.proofs.theory.RowLegs.{leg_at, row_has, row_member}
 
 -- where the test finds a node, a leg has it

@@ -1,15 +1,15 @@
 -- An order of contraction that grows by one node.
-use Rattle.std.proofs.Common.{◌≡◌, ℕ, ◌+◌, ◌-◌, ◌<◌, ◌≤◌, Bool, true, false, List, [], ◌∷◌, ◌++◌, length, take, refl, sym, ◌∙◌, ap, subst, arith, inl, inr, Contains}
+use Rattle.std.proofs.Common.{◌≡◌, ℕ, ◌+◌, ◌-◌, ◌<◌, ◌≤◌, true, false, List, [], ◌∷◌, ◌++◌, length, take, refl, sym, ◌∙◌, ap, subst, arith, inl, inr, Contains}
 use Rattle.std.specs.Prelude.{◌≢◌, AllPairs, All, nat_le, if◌then◌else◌, slice_index, ℤ}
 use Rattle.std.proofs.lemmas.Bool.{cases_eq}
 use Rattle.std.proofs.lemmas.Bool.Decides.{nat_tests}
-use Rattle.std.proofs.lemmas.List.{take_all, take-append-le, get_or_default, get_or_append_left, get_or_push, length_push}
+use Rattle.std.proofs.lemmas.List.{take_all, take-append-le, get_or_append_left, get_or_push, length_push}
 use Rattle.std.proofs.lemmas.List.Elements.{All-push}
 use Rattle.ch_graph.specs.Graph.{Network}
 use Rattle.ch_contract.specs.Legs.{Legs, SameLegs, opening}
 use Rattle.ch_contract.specs.Contraction.{Contracts}
 use Rattle.ch_contract.specs.Order.{are_neighbours, IsLastTouch, IsPriorityAfter, ComesFirst, IsOrder}
-use Rattle.ch_contract.proofs.theory.Ordered.{contains_or_not, distinct_most, whole_least, pairs_push}
+use Rattle.ch_contract.proofs.theory.Ordered.{distinct_most, whole_least, pairs_push}
 use Rattle.ch_contract.proofs.theory.OneOrder.{Agree, priority_along}
 
 -- after the first i steps v comes before x

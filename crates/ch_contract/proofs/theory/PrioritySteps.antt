@@ -1,15 +1,14 @@
 -- The priorities of the nodes that are left, as an order of contraction grows.
-use Rattle.std.proofs.Common.{◌≡◌, ℕ, ◌+◌, ◌<◌, ◌≤◌, Bool, true, false, List, [], ◌∷◌, ◌++◌, length, Option, Some, None, refl, sym, ◌∙◌, ap, subst, arith, inl, inr, Contains}
+use Rattle.std.proofs.Common.{◌≡◌, ℕ, ◌+◌, ◌<◌, Bool, true, false, List, [], ◌∷◌, ◌++◌, length, Option, Some, None, refl, sym, ◌∙◌, subst, arith, inl, inr, Contains}
 use Rattle.std.specs.Prelude.{◌≢◌, slice_index, ℤ}
 use Rattle.std.proofs.lemmas.Bool.{cases_lt}
 use Rattle.std.proofs.lemmas.List.{get_or_past, length_push}
 use Rattle.std.proofs.lemmas.List.Elements.{Contains-append_left, Contains-push, Contains-push_cases}
 use Rattle.std.proofs.lemmas.Option.{same_Some, none-some}
 use Rattle.ch_queue.specs.Queue.{key_of, HasNone}
-use Rattle.ch_graph.specs.Graph.{Network}
 use Rattle.ch_contract.specs.Legs.{Legs}
 use Rattle.ch_contract.specs.Contraction.{IsPriority}
-use Rattle.ch_contract.specs.Order.{are_neighbours, IsPriorityAfter, ComesFirst}
+use Rattle.ch_contract.specs.Order.{are_neighbours, IsPriorityAfter}
 use Rattle.ch_contract.specs.Progress.{HasPriority, IsNext}
 use Rattle.ch_contract.proofs.theory.Ordered.{contains_or_not}
 use Rattle.ch_contract.proofs.theory.OneOrder.{priority_along}

@@ -1,14 +1,13 @@
 -- What the contraction of one node after the other keeps, from the first to the last.
-use Rattle.std.proofs.Common.{◌≡◌, ℕ, ◌+◌, ◌^◌, ◌<◌, ◌≤◌, true, false, List, [], ◌∷◌, ◌++◌, length, refl, sym, ◌∙◌, ap, subst, arith, Contains, length-set}
+use Rattle.std.proofs.Common.{◌≡◌, ℕ, ◌+◌, ◌^◌, ◌<◌, ◌≤◌, true, false, List, [], ◌∷◌, ◌++◌, length, sym, ◌∙◌, ap, subst, arith, Contains, length-set}
 use Rattle.std.specs.Prelude.{◌≢◌, slice_index, slice_set, ◌||◌, is_some}
 use Rattle.std.proofs.lemmas.List.{length_push, get_or_default}
 use Rattle.ch_queue.specs.Queue.{key_of, HasNone}
 use Rattle.ch_graph.specs.Graph.{Network}
-use Rattle.ch_contract.specs.declared.leg.Leg.{Leg}
 use Rattle.ch_contract.specs.Legs.{Legs, SameLegs, AreLegsWithin, opening}
 use Rattle.ch_contract.specs.Contraction.{Contracts}
 use Rattle.ch_contract.specs.Order.{are_neighbours}
-use Rattle.ch_contract.specs.Rows.{row, AreLegsFrom, AreLegsTo}
+use Rattle.ch_contract.specs.Rows.{AreLegsFrom, AreLegsTo}
 use Rattle.ch_contract.specs.Hierarchy.{LevelsAndLegs, IsLevelled, IsHierarchyOf, IsHierarchy}
 use Rattle.ch_contract.specs.Progress.{Progress, HasPriority, IsNext, IsOpen, IsStep, AreAll}
 use Rattle.ch_contract.proofs.theory.Levelled.{within_steps, gone_steps, levelled}

@@ -1,11 +1,10 @@
-use Rattle.std.proofs.Common.{◌≡◌, ◌<◌, ◌≤◌, ◌^◌, ℕ, sym, ◌∙◌, subst, arith}
+use Rattle.std.proofs.Common.{sym, ◌∙◌, subst, arith}
 use Rattle.std.proofs.lemmas.Result.{IfOk-weaker}
 use Rattle.ch_contract.specs.Legs.{AreLegsWithin}
-use Rattle.ch_contract.specs.Hierarchy.{IsHierarchy}
 use Rattle.ch_contract.specs.Progress.{IsStep, AreAll}
 use Rattle.ch_contract.specs.Construction.{progress_of}
 use Rattle.ch_contract.specs.Remaining.{legs_of}
-use Rattle.ch_contract.proofs.theory.Underway.{underway_at_start, underway_next, underway_count, underway_node, underway_at_end, underway_within, underway_levelled}
+use Rattle.ch_contract.proofs.theory.Underway.{underway_at_start, underway_next, underway_count, underway_at_end, underway_within, underway_levelled}
 use Rattle.ch_contract.proofs.theory.BuiltKept.{hierarchies_kept}
 use Rattle.ch_contract.proofs.construction.build.Goals as goal
 
