@@ -19,8 +19,8 @@ abbrev pub IsPriorityAfter : ℕ → ℕ → List ℕ → (ℕ → Legs) → ℕ
 IsPriorityAfter n h order L i x p = (j : ℕ) × IsLastTouch order L i x j × IsPriority n h (L j) x p
 
 -- the lesser priority comes first, and of equal ones the lesser number
-abbrev pub ComesFirst : ℤ → ℕ → ℤ → ℕ → Type 0
-ComesFirst p v q x = (p ≤ℤ q) × (q ≤ℤ p → v ≤ x)
+abbrev pub IsContractedBefore : ℤ → ℕ → ℤ → ℕ → Type 0
+IsContractedBefore p v q x = (p ≤ℤ q) × (q ≤ℤ p → v ≤ x)
 
 -- the order in which the nodes of g are contracted, with the legs L i that are left after the first i steps
 pub record IsOrder (g : Network) (h : ℕ) (order : List ℕ) (L : ℕ → Legs) : Type 0 where
@@ -28,4 +28,4 @@ pub record IsOrder (g : Network) (h : ℕ) (order : List ℕ) (L : ℕ → Legs)
   pub start : SameLegs (L 0) (opening g)
   pub step : (i : ℕ) → i < g.nodes → Contracts g.nodes h (L i) (slice_index order i) (L (i + 1))
   pub least : (i x : ℕ) → i < g.nodes → x < g.nodes → (Contains (take i order) x → ⊥) →
-      (p q : ℤ) × IsPriorityAfter g.nodes h order L i (slice_index order i) p × IsPriorityAfter g.nodes h order L i x q × ComesFirst p (slice_index order i) q x
+      (p q : ℤ) × IsPriorityAfter g.nodes h order L i (slice_index order i) p × IsPriorityAfter g.nodes h order L i x q × IsContractedBefore p (slice_index order i) q x

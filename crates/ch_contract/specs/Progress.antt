@@ -5,7 +5,7 @@ use Rattle.ch_graph.specs.Graph.{Network}
 use Rattle.ch_contract.specs.declared.leg.Leg.{Leg}
 use Rattle.ch_contract.specs.Legs.{Legs, SameLegs, AreLegsWithin, opening}
 use Rattle.ch_contract.specs.Contraction.{Contracts, IsPriority}
-use Rattle.ch_contract.specs.Order.{are_neighbours, ComesFirst}
+use Rattle.ch_contract.specs.Order.{are_neighbours, IsContractedBefore}
 use Rattle.ch_contract.specs.Rows.{row, AreLegsFrom, AreLegsTo}
 use Rattle.ch_contract.specs.Hierarchy.{LevelsAndLegs}
 
@@ -26,7 +26,7 @@ HasPriority n h L keys x = (p : ℤ) × (key_of keys x ≡ Some p) × IsPriority
 pub record IsNext (keys : List (Option ℤ)) (v : ℕ) : Type 0 where
   pub priority : ℤ
   pub has : key_of keys v ≡ Some priority
-  pub first : (x : ℕ) (q : ℤ) → key_of keys x ≡ Some q → ComesFirst priority v q x
+  pub first : (x : ℕ) (q : ℤ) → key_of keys x ≡ Some q → IsContractedBefore priority v q x
 
 -- no node is contracted yet
 pub record IsOpen (g : Network) (h : ℕ) (p : Progress) : Type 0 where

@@ -75,13 +75,13 @@ abbrev pub legs_in_order : ℕ → (ℕ → Option Label) → List Leg
 legs_in_order n f = filter_map (λ x. option_map (λ l. record { node = x; cost = l.cost; middle = l.middle }) (f x)) (range_with_len 0 n)
 
 -- a contracted node, its priority, and the legs that it had
-pub record Step : Type 0 where
+pub record ContractedNode : Type 0 where
   pub node : ℕ
   pub priority : ℤ
   pub up : List Leg
   pub down : List Leg
 
-abbrev pub steps_from : ℕ → ℕ → ℕ → Legs → Waiting → List Step
+abbrev pub steps_from : ℕ → ℕ → ℕ → Legs → Waiting → List ContractedNode
 steps_from zero n h L list = []
 steps_from (suc k) n h L [] = []
 steps_from (suc k) n h L (e ∷ list) =
@@ -90,22 +90,22 @@ steps_from (suc k) n h L (e ∷ list) =
     record { node = first.1; priority = first.0; up = legs_in_order n (λ x. L first.1 x); down = legs_in_order n (λ x. L x first.1) } ∷ steps_from k n h M (refreshed n h L M first.1 (e ∷ list))
 
 -- the steps of contracting all nodes in order
-abbrev pub steps_of : Network → ℕ → List Step
+abbrev pub steps_of : Network → ℕ → List ContractedNode
 steps_of g h = steps_from g.nodes g.nodes h (opening g) (map (λ v. (priority_of g.nodes h (opening g) v, v)) (range_with_len 0 g.nodes))
 
 abbrev pub order_of : Network → ℕ → List (ℤ × ℕ)
 order_of g h = map (λ s. (s.priority, s.node)) (steps_of g h)
 
-abbrev pub step_at : List Step → ℕ → Step
+abbrev pub step_at : List ContractedNode → ℕ → ContractedNode
 step_at steps v = unwrap_or (find (λ s. s.node == v) steps) (record { node = v; priority = pos 0; up = []; down = [] })
 
-abbrev pub level_at : List Step → ℕ → ℕ
+abbrev pub level_at : List ContractedNode → ℕ → ℕ
 level_at [] v = 0
 level_at (s ∷ steps) v = if s.node == v then 1 else 1 + level_at steps v
 
 abbrev pub hierarchy_of : Network → ℕ → LevelsAndLegs
 hierarchy_of g h =
-    let steps : List Step = steps_of g h in
+    let steps : List ContractedNode = steps_of g h in
     record {
       level = map (level_at steps) (range_with_len 0 g.nodes);
       up = map (λ v. (step_at steps v).up) (range_with_len 0 g.nodes);

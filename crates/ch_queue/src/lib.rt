@@ -2,7 +2,7 @@
 //! that of the least id.
 //!
 //! [`KeyQueue`] holds the frontier of a shortest-path search: the nodes that are reached and not settled,
-//! by cost. The crate stands on std alone.
+//! by cost. In contraction it holds the nodes that are left, by priority. The crate stands on std alone.
 //!
 //! Proved for every key type with a lawful `Ord`: the queue is a finite map from the ids below a
 //! fixed number to keys, each method gives and changes what its contract says and leaves all other

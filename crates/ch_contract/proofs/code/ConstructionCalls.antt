@@ -11,14 +11,14 @@ use Rattle.std.proofs.lemmas.Bool.Decides.{nat_tests}
 use Rattle.std.proofs.lemmas.List.{length-map, append-nil, map-append}
 use Rattle.std.proofs.lemmas.List.Filters.{length-filter_both}
 use Rattle.std.proofs.lemmas.List.Elements.{Contains-get_or, filter-append, All-append, All-cons, All-nil}
-use Rattle.ch_queue.specs.Queue.{IsLeastEntry, ComesFirst as EntryFirst}
+use Rattle.ch_queue.specs.Queue.{IsLeastEntry, ComesFirst}
 use Rattle.ch_graph.specs.Graph.{Network}
 use Rattle.ch_graph.specs.Rows.{values_of, AreRowsOf}
 use Rattle.ch_contract.specs.declared.leg.Leg.{Leg}
 use Rattle.ch_contract.specs.declared.construction.Construction.{Construction}
 use Rattle.ch_contract.specs.Legs.{Label, Legs, SameLegs, AreLegsWithin, opening}
 use Rattle.ch_contract.specs.Contraction.{Contracts, count_below}
-use Rattle.ch_contract.specs.Order.{are_neighbours, ComesFirst}
+use Rattle.ch_contract.specs.Order.{are_neighbours, IsContractedBefore}
 use Rattle.ch_contract.specs.Rows.{AreLegsFrom, AreLegsTo}
 use Rattle.ch_contract.specs.Heads.{IsClean}
 use Rattle.ch_contract.specs.Hierarchy.{LevelsAndLegs}
@@ -83,10 +83,10 @@ pub rows_below : {X : Type 0} (n v : ℕ) (pairs after : List (ℕ × X)) (value
 rows_below {X = X} n v pairs after values e lt all = subst (All (λ (p : ℕ × X). p.0 < n)) (sym e) (All-append (λ (p : ℕ × X). p.0 < n) pairs (map (λ a. (v, a)) values) all (pairs_below n v values lt))
 
 -- of two entries of a queue of numbers the first has the lesser number, and of equal ones the lesser id
-first_of : (p : ℤ) (v : ℕ) (q : ℤ) (x : ℕ) → EntryFirst int_cmp (p, v) (q, x) → ComesFirst p v q x
+first_of : (p : ℤ) (v : ℕ) (q : ℤ) (x : ℕ) → ComesFirst int_cmp (p, v) (q, x) → IsContractedBefore p v q x
 first_of p v q x f = at (int_cmp p q) (int_ranks p q) f.0 f.1
   where
-    at : (o : Ordering) → MatchOrdering o (p <ℤ q) (p ≡ q) (q <ℤ p) → is_gt o ≡ false → (o ≡ Equal → v ≤ x) → ComesFirst p v q x
+    at : (o : Ordering) → MatchOrdering o (p <ℤ q) (p ≡ q) (q <ℤ p) → is_gt o ≡ false → (o ≡ Equal → v ≤ x) → IsContractedBefore p v q x
     at Less lt past tie = (omega (arith, ints), λ back. absurd (omega (arith, ints)))
     at Equal e past tie = (omega (arith, ints), λ back. tie refl)
     at Greater gt past tie = absurd (true≢false past)

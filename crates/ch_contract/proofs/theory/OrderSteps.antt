@@ -8,13 +8,13 @@ use Rattle.std.proofs.lemmas.List.Elements.{All-push}
 use Rattle.ch_graph.specs.Graph.{Network}
 use Rattle.ch_contract.specs.Legs.{Legs, SameLegs, opening}
 use Rattle.ch_contract.specs.Contraction.{Contracts}
-use Rattle.ch_contract.specs.Order.{are_neighbours, IsLastTouch, IsPriorityAfter, ComesFirst, IsOrder}
+use Rattle.ch_contract.specs.Order.{are_neighbours, IsLastTouch, IsPriorityAfter, IsContractedBefore, IsOrder}
 use Rattle.ch_contract.proofs.theory.Ordered.{distinct_most, whole_least, pairs_push}
 use Rattle.ch_contract.proofs.theory.OneOrder.{Agree, priority_along}
 
 -- after the first i steps v comes before x
 abbrev pub ComesBefore : ℕ → ℕ → List ℕ → (ℕ → Legs) → ℕ → ℕ → ℕ → Type 0
-ComesBefore n h order L i v x = (p q : ℤ) × IsPriorityAfter n h order L i v p × IsPriorityAfter n h order L i x q × ComesFirst p v q x
+ComesBefore n h order L i v x = (p q : ℤ) × IsPriorityAfter n h order L i v p × IsPriorityAfter n h order L i x q × IsContractedBefore p v q x
 
 -- the nodes of this list were contracted in order, with the legs L i left after the first i steps
 pub record IsBegun (g : Network) (h : ℕ) (order : List ℕ) (L : ℕ → Legs) : Type 0 where
@@ -127,7 +127,7 @@ module _ (g : Network) (h : ℕ) (order : List ℕ) (L : ℕ → Legs) (v : ℕ)
       let r = b.least k x lt inside away in
       let a = agree_less (length order) k order L (more order L v M) (legs_more order L v M) (omega arith) (agree order L v M) in
       let one = priority_along g.nodes h k order L (more order L v M) (legs_more order L v M) (slice_index order k) r.0 a r.2 in
-      (r.0, r.1, subst (λ z. IsPriorityAfter g.nodes h (more order L v M) (legs_more order L v M) k z r.0) (before order L v M k lt) one, priority_along g.nodes h k order L (more order L v M) (legs_more order L v M) x r.1 a r.3, subst (λ z. ComesFirst r.0 z r.1 x) (before order L v M k lt) r.4)
+      (r.0, r.1, subst (λ z. IsPriorityAfter g.nodes h (more order L v M) (legs_more order L v M) k z r.0) (before order L v M k lt) one, priority_along g.nodes h k order L (more order L v M) (legs_more order L v M) x r.1 a r.3, subst (λ z. IsContractedBefore r.0 z r.1 x) (before order L v M k lt) r.4)
 
   -- and at this step
   least_here : (x : ℕ) → x < g.nodes → (Contains order x → ⊥) → ComesBefore g.nodes h (more order L v M) (legs_more order L v M) (length order) (slice_index (more order L v M) (length order)) x
@@ -135,7 +135,7 @@ module _ (g : Network) (h : ℕ) (order : List ℕ) (L : ℕ → Legs) (v : ℕ)
       let r = first x inside away in
       let n : ℕ = length order in
       let one = priority_along g.nodes h n order L (more order L v M) (legs_more order L v M) v r.0 (agree order L v M) r.2 in
-      (r.0, r.1, subst (λ z. IsPriorityAfter g.nodes h (more order L v M) (legs_more order L v M) n z r.0) (sym (here order L v M)) one, priority_along g.nodes h n order L (more order L v M) (legs_more order L v M) x r.1 (agree order L v M) r.3, subst (λ z. ComesFirst r.0 z r.1 x) (sym (here order L v M)) r.4)
+      (r.0, r.1, subst (λ z. IsPriorityAfter g.nodes h (more order L v M) (legs_more order L v M) n z r.0) (sym (here order L v M)) one, priority_along g.nodes h n order L (more order L v M) (legs_more order L v M) x r.1 (agree order L v M) r.3, subst (λ z. IsContractedBefore r.0 z r.1 x) (sym (here order L v M)) r.4)
 
   -- so at all steps
   least_more : (k x : ℕ) → k < length (more order L v M) → x < g.nodes → (Contains (take k (more order L v M)) x → ⊥) → ComesBefore g.nodes h (more order L v M) (legs_more order L v M) k (slice_index (more order L v M) k) x

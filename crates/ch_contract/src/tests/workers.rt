@@ -3,48 +3,9 @@
 
 use crate::build;
 use ch_graph::{Graph, InArc};
-use ch_work::{Gate, Open, Plan};
+use ch_work::{CountingGate, MeetingGate, Open, Plan};
 use std::alloc::{AllocError, Global};
-use std::sync::atomic::{AtomicBool, AtomicU64, Ordering};
 use std::test::Fail;
-
-/// Counts how often each piece passes.
-#[derive(Drop)]
-struct Counts {
-    passes: [AtomicU64; 4],
-}
-
-impl Gate for Counts {
-    fn pass(&self, piece: u32) {
-        if let Some(passes) = self.passes.get(piece as usize) {
-            passes.fetch_add(1, Ordering::SeqCst);
-        }
-    }
-}
-
-/// Sets the flag of a piece, and looks for the flag of the other.
-#[derive(Drop)]
-struct Meeting {
-    flags: [AtomicBool; 2],
-    seen: [AtomicBool; 2],
-}
-
-impl Gate for Meeting {
-    fn pass(&self, piece: u32) {
-        let (own, other) = match piece {
-            0 => (0, 1),
-            1 => (1, 0),
-            _ => return,
-        };
-        self.flags[own].store(true, Ordering::SeqCst);
-        for _ in 0..1_000_000_000 {
-            if self.flags[other].load(Ordering::SeqCst) {
-                self.seen[own].store(true, Ordering::SeqCst);
-                return;
-            }
-        }
-    }
-}
 
 /// The arcs of a star with node 0 in the middle: one of weight 1 to each other node, and one back.
 fn star(alloc: Global, nodes: u32) -> Result<Vec<InArc>, AllocError> {
@@ -70,18 +31,11 @@ fn neighbours_are_shared_where_they_are_many(rt: HostRuntime) -> Result<(), Fail
     let graph = Graph::new(4, star(rt.alloc(), 4)?)?;
     for workers in [1, 2, 64] {
         for (wide, expected) in [(1, [4, 2, 1, 1]), (2, [2, 2, 1, 1]), (3, [1, 1, 1, 1])] {
-            let gate = Counts {
-                passes: [
-                    AtomicU64::new(0),
-                    AtomicU64::new(0),
-                    AtomicU64::new(0),
-                    AtomicU64::new(0),
-                ],
-            };
+            let gate = CountingGate::new(rt.alloc(), 4)?;
             let plan = Plan::new(workers, 1, wide);
             build(&rt, rt.alloc(), &graph, 5, &plan, &gate)?;
-            for (passes, expected) in gate.passes.iter().zip(&expected) {
-                assert_eq!(rt; passes.load(Ordering::SeqCst), *expected, "wide {wide}");
+            for (piece, expected) in (0..4).zip(&expected) {
+                assert_eq!(rt; gate.passes(piece), Some(*expected), "wide {wide}");
             }
         }
     }
@@ -91,14 +45,9 @@ fn neighbours_are_shared_where_they_are_many(rt: HostRuntime) -> Result<(), Fail
 #[test]
 fn two_pieces_at_once(rt: HostRuntime) -> Result<(), Fail> {
     let graph = Graph::new(2, star(rt.alloc(), 2)?)?;
-    let gate = Meeting {
-        flags: [AtomicBool::new(false), AtomicBool::new(false)],
-        seen: [AtomicBool::new(false), AtomicBool::new(false)],
-    };
+    let gate = MeetingGate::new();
     build(&rt, rt.alloc(), &graph, 5, &Plan::new(2, 1, 64), &gate)?;
-    for seen in &gate.seen {
-        assert!(rt; seen.load(Ordering::SeqCst));
-    }
+    assert!(rt; gate.has_met());
     Ok(())
 }
 

@@ -9,9 +9,8 @@ use ch_contract::{Hierarchy, build};
 use ch_graph::{Graph, InArc};
 use ch_query::answer_all;
 use ch_table::table;
-use ch_work::{Job, run_pieces};
+use ch_work::{Job, MeetingGate, run_pieces};
 use std::alloc::{AllocError, Global};
-use std::sync::atomic::{AtomicBool, Ordering};
 use std::test::Fail;
 use std::thread::Threads;
 
@@ -47,44 +46,6 @@ fn no_plan_changes_a_byte(rt: HostRuntime) -> Result<(), Fail> {
         }
     }
     Ok(())
-}
-
-/// Sets the flag of a piece, and looks for the flag of the other.
-#[derive(Drop)]
-struct Meeting {
-    flags: [AtomicBool; 2],
-    seen: [AtomicBool; 2],
-}
-
-impl Meeting {
-    fn new() -> Meeting {
-        Meeting {
-            flags: [AtomicBool::new(false), AtomicBool::new(false)],
-            seen: [AtomicBool::new(false), AtomicBool::new(false)],
-        }
-    }
-
-    /// Whether each of the two pieces saw the other's flag.
-    fn has_met(&self) -> bool {
-        self.seen[0].load(Ordering::SeqCst) && self.seen[1].load(Ordering::SeqCst)
-    }
-}
-
-impl Gate for Meeting {
-    fn pass(&self, piece: u32) {
-        let (own, other) = match piece {
-            0 => (0, 1),
-            1 => (1, 0),
-            _ => return,
-        };
-        self.flags[own].store(true, Ordering::SeqCst);
-        for _ in 0..1_000_000_000 {
-            if self.flags[other].load(Ordering::SeqCst) {
-                self.seen[own].store(true, Ordering::SeqCst);
-                return;
-            }
-        }
-    }
 }
 
 /// Two items, of which each piece gives the first.
@@ -125,13 +86,13 @@ fn arc(from: u32, to: u32, weight: u64) -> InArc {
 #[test]
 fn two_pieces_at_once(rt: HostRuntime) -> Result<(), Fail> {
     let plan = Plan::new(2, 1, 64);
-    let working = Meeting::new();
+    let working = MeetingGate::new();
     run_pieces(&rt, rt.alloc(), 2, &plan, &working, &TwoItems)?;
     assert!(rt; working.has_met());
-    let building = Meeting::new();
+    let building = MeetingGate::new();
     let hierarchy = two_nodes(&rt, rt.alloc(), &plan, &building)?;
     assert!(rt; building.has_met());
-    let answering = Meeting::new();
+    let answering = MeetingGate::new();
     let queries = [(0, 1), (1, 0)];
     answer_all(
         &rt,
@@ -143,7 +104,7 @@ fn two_pieces_at_once(rt: HostRuntime) -> Result<(), Fail> {
         &answering,
     )?;
     assert!(rt; answering.has_met());
-    let tabling = Meeting::new();
+    let tabling = MeetingGate::new();
     table(
         &rt,
         rt.alloc(),
