@@ -2,6 +2,7 @@
 pub mod RowEdits
 pub mod ListEdits
 pub mod Puts
+pub mod Rooms
 pub mod OpenLists
 pub mod ClearedLists
 pub mod Lowering

@@ -1,20 +1,23 @@
 -- A hierarchy under construction.
-use Rattle.std.specs.Prelude.{◌≡◌, ◌^◌, ◌<◌, ◌≤◌, length, All}
+use Rattle.std.specs.Prelude.{◌≡◌, ◌^◌, ◌<◌, ◌≤◌, ℕ, length, All}
 use Rattle.ch_graph.specs.Rows.{values_of}
 use Rattle.ch_contract.specs.declared.construction.Construction.{Construction}
-use Rattle.ch_contract.specs.Heads.{IsClean}
 use Rattle.ch_contract.specs.Progress.{Progress}
 use Rattle.ch_contract.specs.Remaining.{legs_of}
+use Rattle.ch_contract.specs.Rooms.{IsReady}
 
 -- what it has come to: the rows are made of pairs of a node and one of its legs
 abbrev pub progress_of : Construction → Progress
 progress_of c = record { legs = legs_of c.remaining; keys = c.waiting; levels = c.levels.items; up = λ x. values_of x c.ups.items; down = λ x. values_of x c.downs.items; contracted = c.contracted }
 
--- there is a key and a level for each node, the rows are those of nodes, and the room for searches is clean
+-- there is a key and a level for each node, and the rows are those of nodes
 pub record IsSized (c : Construction) : Type 0 where
   pub nodes : c.remaining.nodes ≤ 2 ^ 25
   pub keys : length c.waiting ≡ c.remaining.nodes
   pub levels : length c.levels.items ≡ c.remaining.nodes
   pub ups : All (λ p. p.0 < c.remaining.nodes) c.ups.items
   pub downs : All (λ p. p.0 < c.remaining.nodes) c.downs.items
-  pub clean : IsClean c.remaining.nodes c.room.search.heads
+
+-- its room is ready to judge nodes with the legs that are left
+abbrev pub IsJudging : ℕ → Construction → Type 0
+IsJudging h c = IsReady c.remaining.nodes h (legs_of c.remaining) c.room

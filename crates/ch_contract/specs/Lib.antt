@@ -21,3 +21,4 @@ pub mod Heads
 pub mod LegLists
 pub mod Meeting
 pub mod Turned
+pub mod Rooms

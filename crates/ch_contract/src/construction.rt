@@ -8,8 +8,9 @@ ghost use Rattle.ch_contract.specs.Kept.{IsKept};
 use crate::hierarchy::Hierarchy;
 use crate::leg::Leg;
 use crate::order::neighbours;
-use crate::priority::{PriorityJob, Room, opening_queue};
+use crate::priority::{PriorityJob, opening_queue};
 use crate::remaining::Remaining;
+use crate::room::Room;
 use ch_graph::{Graph, Rows};
 use ch_queue::KeyQueue;
 use ch_work::{Gate, Plan};
@@ -52,7 +53,8 @@ pub fn build<R: Threads + Sync, G: Gate>(
 #[derive(Drop)]
 struct Construction {
     remaining: Remaining,
-    /// The caller's own, lent to each step.
+    /// The caller's own, lent to each step. It keeps the shortcuts of the nodes that the last step judged,
+    /// among which the next node often is.
     room: Room,
     /// The nodes that are left, by their priorities.
     waiting: KeyQueue<i64>,
@@ -73,7 +75,7 @@ impl Construction {
     ghost use Rattle.ch_contract.specs.Remaining.{legs_of};
     ghost use Rattle.ch_contract.specs.Hierarchy.{LevelsAndLegs, IsLevelled};
     ghost use Rattle.ch_contract.specs.Progress.{AreAll, IsNext, IsOpen, IsStep};
-    ghost use Rattle.ch_contract.specs.Construction.{IsSized, progress_of};
+    ghost use Rattle.ch_contract.specs.Construction.{IsSized, IsJudging, progress_of};
 
     /// No node is contracted yet.
     fn open<R: Threads + Sync, G: Gate>(
@@ -88,6 +90,7 @@ impl Construction {
         ensures sizes { IfOk result IsSized }
         ensures nodes { IfOk result (λ c. c.remaining.nodes ≡ graph.now.nodes) }
         ensures begun { IfOk result (λ c. IsOpen graph.now hops (progress_of c)) }
+        ensures ready { IfOk result (IsJudging hops) }
     {
         let remaining = Remaining::open(alloc, graph)?;
         let nodes = remaining.nodes();
@@ -127,10 +130,12 @@ impl Construction {
         requires limits { AreLegsWithin self.remaining.nodes (legs_of self.remaining) }
         requires node { node < self.remaining.nodes }
         requires count { self.contracted < self.remaining.nodes }
+        requires ready { IsJudging hops self }
         requires hops { IsHopBound hops }
         ensures sizes { IfOk result IsSized }
         ensures nodes { IfOk result (λ c. c.remaining.nodes ≡ self.remaining.nodes) }
         ensures step { IfOk result (λ c. IsStep self.remaining.nodes hops (progress_of self) node (progress_of c)) }
+        ensures ready { IfOk result (IsJudging hops) }
     {
         let Construction {
             remaining,
@@ -141,8 +146,9 @@ impl Construction {
             mut downs,
             contracted,
         } = self;
-        remaining.fill_shortcuts(&mut room.search, &mut room.shortcuts, node, hops)?;
-        let (remaining, removed) = remaining.contract_with(node, room.shortcuts.as_slice())?;
+        let place = room.place_of(alloc, &remaining, node, hops)?;
+        let (remaining, removed) = remaining.contract_with(node, room.shortcuts(place))?;
+        room.forget();
         let _ = waiting.remove(node);
         let neighbours = neighbours(alloc, removed.up.as_slice(), removed.down.as_slice())?;
         let job = PriorityJob {

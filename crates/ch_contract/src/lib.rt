@@ -16,6 +16,7 @@ mod lists;
 mod order;
 mod priority;
 mod remaining;
+mod room;
 mod search;
 mod shortcut;
 

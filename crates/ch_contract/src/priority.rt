@@ -3,37 +3,16 @@ ghost use Rattle.std.specs.Prelude.{◌≡◌, ◌^◌, ◌<◌, length, All, If
 ghost use Rattle.std.specs.List.{AllZip, range_with_len};
 ghost use Rattle.ch_contract.specs.Legs.{IsHopBound};
 ghost use Rattle.ch_contract.specs.Contraction.{IsPriority};
-ghost use Rattle.ch_contract.specs.Heads.{IsClean};
+ghost use Rattle.ch_contract.specs.Rooms.{IsReady};
 ghost use Rattle.ch_contract.specs.Remaining.{legs_of};
 ghost use Rattle.ch_contract.specs.Priorities.{ArePriorities, AreRefreshed};
 
 use crate::remaining::Remaining;
-use crate::search::Search;
-use crate::shortcut::Shortcut;
+use crate::room::Room;
 use ch_queue::KeyQueue;
 use ch_work::{Gate, ListJob, Plan, run_list};
 use std::alloc::{AllocError, Global};
 use std::thread::Threads;
-
-/// The room in which one worker judges nodes.
-#[derive(Drop)]
-pub(crate) struct Room {
-    pub(crate) search: Search,
-    /// The shortcuts of the node that was judged last.
-    pub(crate) shortcuts: Vec<Shortcut>,
-}
-
-impl Room {
-    /// A room for graphs of so many nodes.
-    pub(crate) fn new(alloc: Global, nodes: u32) -> Result<Room, AllocError>
-        ensures { IfOk result (λ room. IsClean nodes room.search.heads) }
-    {
-        Ok(Room {
-            search: Search::new(alloc, nodes)?,
-            shortcuts: Vec::new(alloc),
-        })
-    }
-}
 
 /// The queue of all nodes, each with its priority, which workers compute.
 pub(crate) fn opening_queue<R: Threads + Sync, G: Gate>(
@@ -81,16 +60,15 @@ impl ListJob for PriorityJob<'_> {
 
     ghost meaning = { λ job x p. IsPriority job.remaining.now.nodes job.hops (legs_of job.remaining.now) x p };
 
-    ghost clean = { λ job room. IsClean job.remaining.now.nodes room.search.heads };
+    ghost clean = { λ job room. IsReady job.remaining.now.nodes job.hops (legs_of job.remaining.now) room };
 
     fn room(&self, alloc: Global) -> Result<Room, AllocError> {
         Room::new(alloc, self.remaining.nodes())
     }
 
-    fn value(&self, _alloc: Global, room: &mut Room, item: &u32) -> Result<i64, AllocError> {
-        let Room { search, shortcuts } = room;
-        self.remaining
-            .priority_in(search, shortcuts, *item, self.hops)
+    fn value(&self, alloc: Global, room: &mut Room, item: &u32) -> Result<i64, AllocError> {
+        room.forget();
+        room.judge(alloc, self.remaining, *item, self.hops)
     }
 }
 
@@ -111,25 +89,27 @@ impl PriorityJob<'_> {
         requires nodes { All (λ x. x < self.now.remaining.now.nodes) nodes.now }
         requires count { length nodes.now < 2 ^ 32 }
         requires size { length waiting.old ≡ self.now.remaining.now.nodes }
-        requires clean { IsClean self.now.remaining.now.nodes room.old.search.heads }
+        requires ready { IsReady self.now.remaining.now.nodes self.now.hops (legs_of self.now.remaining.now) room.old }
         ensures anew { OnOk result (AreRefreshed self.now.remaining.now.nodes self.now.hops
             (legs_of self.now.remaining.now) nodes.now waiting.old waiting.new) }
-        ensures clean { OnOk result (IsClean self.now.remaining.now.nodes room.new.search.heads) }
+        ensures ready { OnOk result (IsReady self.now.remaining.now.nodes self.now.hops
+            (legs_of self.now.remaining.now) room.new) }
     {
         if nodes.len() < plan.wide() as usize {
-            return self.refresh_here(nodes, room, waiting);
+            return self.refresh_here(alloc, nodes, room, waiting);
         }
         if plan.workers() == 1 {
-            return self.refresh_alone(nodes, room, waiting, plan, gate);
+            return self.refresh_alone(alloc, nodes, room, waiting, plan, gate);
         }
         let priorities = run_list(rt, alloc, nodes, plan, gate, self)?;
         self.set_all(nodes, priorities.as_slice(), waiting);
         Ok(())
     }
 
-    /// Gives these nodes the priorities that they have now, computed in this room, piece after piece.
+    /// Gives these nodes the priorities that they have now, judged in this room, piece after piece.
     fn refresh_alone<G: Gate>(
         &self,
+        alloc: Global,
         nodes: &[u32],
         room: &mut Room,
         waiting: &mut KeyQueue<i64>,
@@ -139,10 +119,11 @@ impl PriorityJob<'_> {
         requires nodes { All (λ x. x < self.now.remaining.now.nodes) nodes.now }
         requires count { length nodes.now < 2 ^ 32 }
         requires size { length waiting.old ≡ self.now.remaining.now.nodes }
-        requires clean { IsClean self.now.remaining.now.nodes room.old.search.heads }
+        requires ready { IsReady self.now.remaining.now.nodes self.now.hops (legs_of self.now.remaining.now) room.old }
         ensures anew { OnOk result (AreRefreshed self.now.remaining.now.nodes self.now.hops
             (legs_of self.now.remaining.now) nodes.now waiting.old waiting.new) }
-        ensures clean { OnOk result (IsClean self.now.remaining.now.nodes room.new.search.heads) }
+        ensures ready { OnOk result (IsReady self.now.remaining.now.nodes self.now.hops
+            (legs_of self.now.remaining.now) room.new) }
     {
         let piece = plan.piece() as usize;
         let mut number = 0;
@@ -150,31 +131,31 @@ impl PriorityJob<'_> {
         while from < nodes.len() {
             let to = nodes.len().min(from + piece);
             gate.pass(number);
-            self.refresh_here(&nodes[from..to], room, waiting)?;
+            self.refresh_here(alloc, &nodes[from..to], room, waiting)?;
             number += 1;
             from = to;
         }
         Ok(())
     }
 
-    /// Gives these nodes the priorities that they have now, computed in this room.
+    /// Gives these nodes the priorities that they have now, judged in this room.
     fn refresh_here(
         &self,
+        alloc: Global,
         nodes: &[u32],
         room: &mut Room,
         waiting: &mut KeyQueue<i64>,
     ) -> Result<(), AllocError>
         requires nodes { All (λ x. x < self.now.remaining.now.nodes) nodes.now }
         requires size { length waiting.old ≡ self.now.remaining.now.nodes }
-        requires clean { IsClean self.now.remaining.now.nodes room.old.search.heads }
+        requires ready { IsReady self.now.remaining.now.nodes self.now.hops (legs_of self.now.remaining.now) room.old }
         ensures anew { OnOk result (AreRefreshed self.now.remaining.now.nodes self.now.hops
             (legs_of self.now.remaining.now) nodes.now waiting.old waiting.new) }
-        ensures clean { OnOk result (IsClean self.now.remaining.now.nodes room.new.search.heads) }
+        ensures ready { OnOk result (IsReady self.now.remaining.now.nodes self.now.hops
+            (legs_of self.now.remaining.now) room.new) }
     {
         for node in nodes {
-            let priority = self
-                .remaining
-                .priority_in(&mut room.search, &mut room.shortcuts, *node, self.hops)?;
+            let priority = room.judge(alloc, self.remaining, *node, self.hops)?;
             waiting.set(*node, priority);
         }
         Ok(())

@@ -20,7 +20,6 @@ use Rattle.ch_contract.specs.Legs.{Label, Legs, SameLegs, AreLegsWithin, opening
 use Rattle.ch_contract.specs.Contraction.{Contracts, count_below}
 use Rattle.ch_contract.specs.Order.{are_neighbours, IsContractedBefore}
 use Rattle.ch_contract.specs.Rows.{AreLegsFrom, AreLegsTo}
-use Rattle.ch_contract.specs.Heads.{IsClean}
 use Rattle.ch_contract.specs.Hierarchy.{LevelsAndLegs}
 use Rattle.ch_contract.specs.Remaining.{legs_of}
 use Rattle.ch_contract.specs.Progress.{IsNext, IsOpen, IsStep, AreAll}
@@ -150,9 +149,8 @@ stepped h before v up down after node within sizes s =
     }
 
 -- and keeps its sizes
-pub sized_still : (h : ℕ) (before : Construction) (v : ℕ) (up down : List Leg) (after : Construction) → v < before.remaining.nodes → IsSized before → IsStepped h before v up down after →
-    IsClean after.remaining.nodes after.room.search.heads → IsSized after
-sized_still h before v up down after node sizes s clean =
+pub sized_still : (h : ℕ) (before : Construction) (v : ℕ) (up down : List Leg) (after : Construction) → v < before.remaining.nodes → IsSized before → IsStepped h before v up down after → IsSized after
+sized_still h before v up down after node sizes s =
     let nodes = s.nodes in
     let here : v < after.remaining.nodes = omega arith in
     record {
@@ -161,7 +159,6 @@ sized_still h before v up down after node sizes s clean =
       levels = ap length s.levels ∙ length-set before.levels.items v after.contracted ∙ sizes.levels ∙ sym nodes;
       ups = rows_below after.remaining.nodes v before.ups.items after.ups.items up s.ups here (subst (λ n. All (λ p. p.0 < n) before.ups.items) (sym nodes) sizes.ups);
       downs = rows_below after.remaining.nodes v before.downs.items after.downs.items down s.downs here (subst (λ n. All (λ p. p.0 < n) before.downs.items) (sym nodes) sizes.downs);
-      clean = clean;
     }
 
 -- the rows of all nodes, made of the pairs

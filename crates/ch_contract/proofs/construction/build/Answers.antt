@@ -11,7 +11,7 @@ use Rattle.ch_contract.proofs.construction.build.Goals as goal
 pub loop-node-init : goal.loop-node-init
 loop-node-init g c =
     let first = c.in_ok-construction.ensures in
-    (first.sizes, first.nodes, underway_at_start _ _ _ (first.sizes.levels ∙ first.nodes) first.begun)
+    (first.sizes, first.nodes, underway_at_start _ _ _ (first.sizes.levels ∙ first.nodes) first.begun, first.ready)
 
 pub contract-requires-clause-limits : goal.contract-requires-clause-limits
 contract-requires-clause-limits g c lifetimes bounds =
@@ -34,7 +34,7 @@ loop-node-preserved g c =
     let i = c.loop-node.invariant in
     let next = c.in_ok-construction-2.ensures in
     let step = subst (λ n. IsStep n c.args.hops (progress_of c.loop-node.construction) c.in-Some.node (progress_of c.in_ok-construction-2.construction)) i.1 next.step in
-    (next.sizes, next.nodes ∙ i.1, underway_next _ _ _ _ _ i.2 c.in-Some.ensures step)
+    (next.sizes, next.nodes ∙ i.1, underway_next _ _ _ _ _ i.2 c.in-Some.ensures step, next.ready)
 
 pub finish-requires-clause-levelled : goal.finish-requires-clause-levelled
 finish-requires-clause-levelled g c H all =

@@ -1,7 +1,11 @@
-use Rattle.std.proofs.Common.{◌≡◌, ◌+◌, ◌<◌, ◌++◌, ℕ, List, Option, map, refl, sym, ◌∙◌, ap, subst, arith}
-use Rattle.std.specs.Prelude.{All, ℤ}
+use Rattle.std.proofs.Common.{◌≡◌, ◌+◌, ◌<◌, ◌++◌, ℕ, List, Option, map, refl, sym, ◌∙◌, ap, subst, arith, length}
+use Rattle.std.specs.Prelude.{All, ℤ, slice_index}
 use Rattle.std.specs.Vec.{with_item}
+use Rattle.ch_contract.specs.Remaining.{legs_of}
 use Rattle.ch_contract.specs.declared.leg.Leg.{Leg}
+use Rattle.ch_contract.specs.declared.room.Room.{Room}
+use Rattle.ch_contract.specs.Heads.{IsClean}
+use Rattle.ch_contract.specs.Rooms.{IsReady, list_at}
 use Rattle.ch_contract.specs.declared.shortcut.Shortcut.{Shortcut}
 use Rattle.ch_contract.specs.Legs.{Legs, SameLegs}
 use Rattle.ch_contract.specs.Contraction.{AreShortcuts, Contracts, contracted}
@@ -15,14 +19,14 @@ listed ups downs up down items lent a b c d = d ∙ c ∙ ap (λ l. neighbours_i
 
 pub refresh-requires-clause-nodes : goal.refresh-requires-clause-nodes
 refresh-requires-clause-nodes g c lifetimes bounds =
-    let list = listed _ _ _ _ _ _ c.as_slice-2.ensures.value c.as_slice-3.ensures.value c.in_ok-neighbours.ensures c.as_slice-4.ensures.value in
+    let list = listed _ _ _ _ _ _ c.as_slice.ensures.value c.as_slice-2.ensures.value c.in_ok-neighbours.ensures c.as_slice-3.ensures.value in
     let up = c.in_ok-remaining.ensures.up in
     let down = c.in_ok-remaining.ensures.down in
-    subst (λ n. All (λ x. x < n) c.as_slice-4.result.now) (sym c.in_ok-remaining.ensures.nodes) (neighbours_within _ _ _ _ _ _ up down c.requires.limits list)
+    subst (λ n. All (λ x. x < n) c.as_slice-3.result.now) (sym c.in_ok-remaining.ensures.nodes) (neighbours_within _ _ _ _ _ _ up down c.requires.limits list)
 
 pub refresh-requires-clause-count : goal.refresh-requires-clause-count
 refresh-requires-clause-count g c lifetimes bounds =
-    let list = listed _ _ _ _ _ _ c.as_slice-2.ensures.value c.as_slice-3.ensures.value c.in_ok-neighbours.ensures c.as_slice-4.ensures.value in
+    let list = listed _ _ _ _ _ _ c.as_slice.ensures.value c.as_slice-2.ensures.value c.in_ok-neighbours.ensures c.as_slice-3.ensures.value in
     let few = neighbours_count _ _ _ _ _ _ c.requires.limits c.in_ok-remaining.ensures.up c.in_ok-remaining.ensures.down list in
     let most = c.requires.sizes.nodes in
     omega arith
@@ -30,6 +34,23 @@ refresh-requires-clause-count g c lifetimes bounds =
 -- the shortcuts, as they are lent, make the contraction
 contracts : (n h v : ℕ) (L M : Legs) (list lent : List Shortcut) → lent ≡ list → AreShortcuts n h L v list → SameLegs M (contracted L v lent) → Contracts n h L v M
 contracts n h v L M list lent e are same = (lent, subst (AreShortcuts n h L v) (sym e) are, same)
+
+-- the kept shortcuts at the place of v are those of v
+kept : (n h v place : ℕ) (L : Legs) (room : Room) → IsReady n h L room → (place < length room.judged.items) × (slice_index room.judged.items place ≡ v) → AreShortcuts n h L v (list_at room place)
+kept n h v place L room ready at = subst (λ x. AreShortcuts n h L x (list_at room place)) at.1 (ready.kept place at.0)
+
+pub shortcuts-requires : goal.shortcuts-requires
+shortcuts-requires g c =
+    let places = c.in_ok-place.ensures.ready.places in
+    let inside = c.in_ok-place.ensures.place.0 in
+    omega arith
+
+pub contract_with-requires-clause-shortcuts : goal.contract_with-requires-clause-shortcuts
+contract_with-requires-clause-shortcuts g c =
+    (c.args.hops, subst (AreShortcuts c.args.self.remaining.nodes c.args.hops (legs_of c.args.self.remaining) c.args.node) (sym c.shortcuts.ensures) (kept _ _ _ _ _ _ c.in_ok-place.ensures.ready c.in_ok-place.ensures.place))
+
+pub refresh-requires-clause-ready : goal.refresh-requires-clause-ready
+refresh-requires-clause-ready g c lifetimes bounds = c.forget.ensures _ _ _ (subst (λ n. IsClean n c.place_of.new.self.search.heads) (sym c.in_ok-remaining.ensures.nodes) c.in_ok-place.ensures.ready.clean)
 
 -- the neighbours that are refreshed
 refreshed : (n h : ℕ) (L : Legs) (nodes lent : List ℕ) (old before after : List (Option ℤ)) → lent ≡ nodes → before ≡ old → AreRefreshed n h L lent before after → AreRefreshed n h L nodes old after
@@ -49,21 +70,21 @@ pub is_stepped : (g : _) (c : goal.After-drop-removed-3 g) → IsStepped c.args.
   contracted = c.args.self.contracted + 1;
 })
 is_stepped g c =
-    let list = listed _ _ _ _ _ _ c.as_slice-2.ensures.value c.as_slice-3.ensures.value c.in_ok-neighbours.ensures c.as_slice-4.ensures.value in
+    let list = listed _ _ _ _ _ _ c.as_slice.ensures.value c.as_slice-2.ensures.value c.in_ok-neighbours.ensures c.as_slice-3.ensures.value in
     record {
       nodes = c.in_ok-remaining.ensures.nodes;
-      legs = contracts _ _ _ _ _ _ _ c.as_slice.ensures.value c.in_ok-fill_shortcuts.ensures.list c.in_ok-remaining.ensures.legs;
+      legs = contracts _ _ _ _ _ _ _ c.shortcuts.ensures (kept _ _ _ _ _ _ c.in_ok-place.ensures.ready c.in_ok-place.ensures.place) c.in_ok-remaining.ensures.legs;
       from = c.in_ok-remaining.ensures.up;
       to = c.in_ok-remaining.ensures.down;
       refreshed = refreshed _ _ _ _ _ _ _ _ list c.remove.ensures.rest c.in_ok-refresh.ensures.anew;
       contracted = refl;
       levels = refl;
-      ups = put_in _ _ _ _ _ c.as_slice-5.ensures.value c.in_ok-push_row.ensures;
-      downs = put_in _ _ _ _ _ c.as_slice-6.ensures.value c.in_ok-push_row-2.ensures;
+      ups = put_in _ _ _ _ _ c.as_slice-4.ensures.value c.in_ok-push_row.ensures;
+      downs = put_in _ _ _ _ _ c.as_slice-5.ensures.value c.in_ok-push_row-2.ensures;
     }
 
 pub returns-clause-sizes : goal.returns-clause-sizes
-returns-clause-sizes g c = sized_still _ _ _ _ _ _ c.requires.node c.requires.sizes (is_stepped g c) c.in_ok-refresh.ensures.clean
+returns-clause-sizes g c = sized_still _ _ _ _ _ _ c.requires.node c.requires.sizes (is_stepped g c)
 
 pub returns-clause-step : goal.returns-clause-step
 returns-clause-step g c = stepped _ _ _ _ _ _ c.requires.node c.requires.limits c.requires.sizes (is_stepped g c)

@@ -1,4 +1,6 @@
-use Rattle.std.proofs.Common.{rules, ◌≡◌, [], refl}
+use Rattle.std.proofs.Common.{rules, ◌≡◌, [], refl, subst}
+use Rattle.ch_contract.specs.Remaining.{legs_of}
+use Rattle.ch_contract.specs.Rooms.{IsReady}
 use Rattle.ch_contract.specs.declared.construction.Construction.{Construction}
 use Rattle.ch_contract.proofs.code.ConstructionCalls.{opened}
 use Rattle.ch_contract.proofs.construction.Construction.open.Goals as goal
@@ -17,3 +19,8 @@ returns-clause-begun g c =
       contracted = 0;
     } in
     opened _ _ first c.in_ok-remaining.ensures.legs c.in_ok-remaining.ensures.nodes c.nodes-nodes.ensures.limits c.in_ok-waiting.ensures ups downs refl
+
+pub returns-clause-ready : goal.returns-clause-ready
+returns-clause-ready g c =
+    let remaining = c.in_ok-remaining.remaining in
+    subst (λ n. IsReady n c.args.hops (legs_of remaining) c.in_ok-room.room) c.nodes-nodes.ensures.nodes (c.in_ok-room.ensures c.args.hops (legs_of remaining))

@@ -17,5 +17,5 @@ loop-from-preserved g c =
       omega (arith, i.0, past),
       inside,
       refreshed_range job.remaining.now.nodes job.hops (legs_of job.remaining.now) c.args.nodes.now c.loop-from.from c.min-to.result _ _ _ le i.2 c.in_ok-refresh_here.ensures.anew,
-      c.in_ok-refresh_here.ensures.clean,
+      c.in_ok-refresh_here.ensures.ready,
     )

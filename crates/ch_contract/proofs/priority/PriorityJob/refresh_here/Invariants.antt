@@ -1,5 +1,5 @@
 use Rattle.std.proofs.Common.{take}
-use Rattle.ch_contract.specs.Heads.{IsClean}
+use Rattle.ch_contract.specs.Rooms.{IsReady}
 use Rattle.ch_contract.specs.Remaining.{legs_of}
 use Rattle.ch_contract.specs.Priorities.{AreRefreshed}
 use Rattle.ch_contract.proofs.priority.PriorityJob.refresh_here.Given as goal
@@ -7,4 +7,4 @@ use Rattle.ch_contract.proofs.priority.PriorityJob.refresh_here.Given as goal
 abbrev pub invariant-loop-node : goal.invariant-loop-node
 invariant-loop-node l =
     AreRefreshed l.self.remaining.now.nodes l.self.hops (legs_of l.self.remaining.now) (take l.node-index l.nodes) l.fn.waiting l.waiting
-    × IsClean l.self.remaining.now.nodes l.room.search.heads
+    × IsReady l.self.remaining.now.nodes l.self.hops (legs_of l.self.remaining.now) l.room

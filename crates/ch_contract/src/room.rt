@@ -1,0 +1,111 @@
+//! The room in which nodes are judged.
+ghost use Rattle.std.specs.Prelude.{◌≡◌, ℕ, ◌<◌, ◌++◌, ◌∷◌, [], length, IfOk, IfSome, OnOk, slice_index};
+ghost use Rattle.ch_contract.specs.Legs.{Legs, IsHopBound};
+ghost use Rattle.ch_contract.specs.Contraction.{IsPriority};
+ghost use Rattle.ch_contract.specs.Heads.{IsClean};
+ghost use Rattle.ch_contract.specs.Remaining.{legs_of};
+
+use crate::remaining::Remaining;
+use crate::search::Search;
+use crate::shortcut::Shortcut;
+use std::alloc::{AllocError, Global};
+
+/// The room in which one worker judges nodes. It keeps the shortcuts of those that it has judged with the
+/// legs that are left now.
+#[derive(Drop)]
+pub(crate) struct Room {
+    pub(crate) search: Search,
+    /// The nodes that are judged.
+    pub(crate) judged: Vec<u32>,
+    /// Their shortcuts, at the same places. The lists after these are spare.
+    pub(crate) lists: Vec<Vec<Shortcut>>,
+}
+
+impl Room {
+    ghost use Rattle.ch_contract.specs.Rooms.{IsReady, list_at};
+
+    /// A room for graphs of so many nodes.
+    pub(crate) fn new(alloc: Global, nodes: u32) -> Result<Room, AllocError>
+        ensures { IfOk result (λ room. (h : ℕ) (L : Legs) → IsReady nodes h L room) }
+    {
+        Ok(Room {
+            search: Search::new(alloc, nodes)?,
+            judged: Vec::new(alloc),
+            lists: Vec::new(alloc),
+        })
+    }
+
+    /// Forgets the shortcuts, as is due where the legs are others now.
+    pub(crate) fn forget(&mut self)
+        ensures { (n h : ℕ) (L : Legs) → IsClean n self.old.search.heads → IsReady n h L self.new }
+    {
+        self.judged.clear();
+    }
+
+    /// Judges a node, and keeps its shortcuts. The answer is its priority.
+    pub(crate) fn judge(
+        &mut self,
+        alloc: Global,
+        remaining: &Remaining,
+        node: u32,
+        hops: u32,
+    ) -> Result<i64, AllocError>
+        requires node { node < remaining.now.nodes }
+        requires hops { IsHopBound hops }
+        requires ready { IsReady remaining.now.nodes hops (legs_of remaining.now) self.old }
+        ensures priority { IfOk result (IsPriority remaining.now.nodes hops (legs_of remaining.now) node) }
+        ensures ready { OnOk result (IsReady remaining.now.nodes hops (legs_of remaining.now) self.new) }
+        ensures judged { OnOk result (self.new.judged.items ≡ self.old.judged.items ++ node ∷ []) }
+    {
+        let place = self.judged.len();
+        if place == self.lists.len() {
+            self.lists.push(Vec::new(alloc))?;
+        }
+        let list = &mut self.lists[place];
+        let priority = remaining.priority_in(&mut self.search, list, node, hops)?;
+        self.judged.push(node)?;
+        Ok(priority)
+    }
+
+    /// The place of a node among the judged. It is judged first if it isn't yet.
+    pub(crate) fn place_of(
+        &mut self,
+        alloc: Global,
+        remaining: &Remaining,
+        node: u32,
+        hops: u32,
+    ) -> Result<usize, AllocError>
+        requires node { node < remaining.now.nodes }
+        requires hops { IsHopBound hops }
+        requires ready { IsReady remaining.now.nodes hops (legs_of remaining.now) self.old }
+        ensures ready { OnOk result (IsReady remaining.now.nodes hops (legs_of remaining.now) self.new) }
+        ensures place { IfOk result (λ k. (k < length self.new.judged.items) × (slice_index self.new.judged.items k ≡ node)) }
+    {
+        if let Some(place) = place_in(self.judged.as_slice(), node) {
+            return Ok(place);
+        }
+        let place = self.judged.len();
+        self.judge(alloc, remaining, node, hops)?;
+        Ok(place)
+    }
+
+    /// The shortcuts of the judged node at this place.
+    pub(crate) fn shortcuts(&self, place: usize) -> &[Shortcut]
+        requires { place < length self.now.lists.items }
+        ensures { result.now ≡ list_at self.now place }
+    {
+        self.lists[place].as_slice()
+    }
+}
+
+/// The place of a node in a list.
+fn place_in(nodes: &[u32], node: u32) -> Option<usize>
+    ensures { IfSome result (λ k. (k < length nodes.now) × (slice_index nodes.now k ≡ node)) }
+{
+    for (place, other) in nodes.iter().enumerate() {
+        if *other == node {
+            return Some(place);
+        }
+    }
+    None
+}
