@@ -63,7 +63,7 @@ impl ListJob for PriorityJob<'_> {
     ghost clean = { λ job room. IsReady job.remaining.now.nodes job.hops (legs_of job.remaining.now) room };
 
     fn room(&self, alloc: Global) -> Result<Room, AllocError> {
-        Room::new(alloc, self.remaining.nodes())
+        Ok(Room::new(alloc))
     }
 
     fn value(&self, alloc: Global, room: &mut Room, item: &u32) -> Result<i64, AllocError> {
