@@ -321,7 +321,12 @@ impl Remaining {
 
     /// Learns the costs of the chains from the wanted end that leave two legs to go of the `hops` that a
     /// witness may have.
-    fn reach<K: Head>(&self, search: &mut Search<K>, wanted: Wanted, hops: u32) -> Result<(), AllocError>
+    fn reach<K: Head>(
+        &self,
+        search: &mut Search<K>,
+        wanted: Wanted,
+        hops: u32,
+    ) -> Result<(), AllocError>
         requires hops { IsHopBound hops }
         requires light { AreLegsUpTo K.limit (legs_of self.now) }
         requires clean { IsClean self.now.nodes (known_of K.cost search.old.heads) }
@@ -335,7 +340,14 @@ impl Remaining {
 
     /// Whether the chains that are known show a witness from the wanted end to `w`, of at most `hops` legs
     /// and this cost.
-    fn is_witnessed<K: Head>(&self, search: &Search<K>, wanted: Wanted, w: u32, cost: Cost, hops: u32) -> bool
+    fn is_witnessed<K: Head>(
+        &self,
+        search: &Search<K>,
+        wanted: Wanted,
+        w: u32,
+        cost: Cost,
+        hops: u32,
+    ) -> bool
         requires hops { IsHopBound hops }
         requires light { AreLegsUpTo K.limit (legs_of self.now) }
         requires known { IsKnown self.now wanted hops (known_of K.cost search.now.heads) }

@@ -248,7 +248,9 @@ impl<K: Head> Search<K> {
     {
         let first = K::of(leg.cost);
         first.is_at_most(most)
-            && (self.heads.costs[leg.node as usize].plus(first).is_at_most(most)
+            && (self.heads.costs[leg.node as usize]
+                .plus(first)
+                .is_at_most(most)
                 || (hops > 1 && self.meets_beyond(lists.at(leg.node), first, most)))
     }
 
@@ -264,7 +266,9 @@ impl<K: Head> Search<K> {
         for leg in legs {
             let cost = K::of(leg.cost).plus(first);
             if cost.is_at_most(most)
-                && self.heads.costs[leg.node as usize].plus(cost).is_at_most(most)
+                && self.heads.costs[leg.node as usize]
+                    .plus(cost)
+                    .is_at_most(most)
             {
                 return true;
             }

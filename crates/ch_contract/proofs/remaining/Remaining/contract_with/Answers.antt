@@ -57,11 +57,13 @@ invariant_of-remaining c =
     let inside = subst (λ (m : RemainingLegs). c.args.v < m.nodes) (sym c.self.view_is) c.requires.node in
     let left = contraction_leaves c.self.inside.nodes c.self.inside.outs c.self.inside.ins c.self.invariant.0 c.args.v inside h c.args.shortcuts.now are _ _ _ _ _ _
     (record { size = c.take_from.ensures.size; rows = c.take_from.ensures.rows; legs = c.take_from.ensures.legs }) (record { size = c.take_from-2.ensures.size; rows = c.take_from-2.ensures.rows; legs = c.take_from-2.ensures.legs })
-    c.clear_at.ensures c.clear_at-2.ensures c.in_ok-put_all.ensures c.in_ok-put_all_turned.ensures in
-    (left.0, λ yes. elim c.if-light.branch [
-      | then-light w ↦ contracted_light (2 ^ 30 - 1) (legs_from c.self.inside.outs) c.args.v c.args.shortcuts.now (legs_from c.put_all.new.self) (c.self.invariant.1 w.if-light.true) (w.are_light.ensures (sym w.remaining-is ∙ yes)) left.1
-      | else-light w ↦ let no = sym w.remaining-is ∙ yes in cc
-    ])
+    c.clear_at.ensures c.clear_at-2.ensures c.in_ok-put_all.ensures c.in_ok-put_all_turned.ensures in (
+      left.0,
+      λ yes. elim c.if-light.branch [
+        | then-light w ↦ contracted_light (2 ^ 30 - 1) (legs_from c.self.inside.outs) c.args.v c.args.shortcuts.now (legs_from c.put_all.new.self) (c.self.invariant.1 w.if-light.true) (w.are_light.ensures (sym w.remaining-is ∙ yes)) left.1
+        | else-light w ↦ let no = sym w.remaining-is ∙ yes in cc
+      ],
+    )
 
 pub returns-clause-legs : goal.returns-clause-legs
 unfolding legs_of
