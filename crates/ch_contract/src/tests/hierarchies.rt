@@ -250,6 +250,28 @@ fn a_ring(rt: HostRuntime) -> Result<(), Fail> {
     expect(&rt, rt.alloc(), 5, &example)
 }
 
+/// The arcs weigh 2^29, so that the first shortcut is too heavy for searches over words.
+#[test]
+fn a_ring_whose_shortcuts_are_heavy(rt: HostRuntime) -> Result<(), Fail> {
+    const ARC: u64 = 1 << 29;
+    let example = Example {
+        nodes: 5,
+        arcs: &[(1, 2, ARC), (2, 3, ARC), (3, 4, ARC), (4, 5, ARC), (5, 1, ARC)],
+        order: &[1, 2, 3, 4, 5],
+        legs: &[
+            (1, 2, ARC, 1, 0),
+            (5, 1, ARC, 1, 0),
+            (2, 3, ARC, 1, 0),
+            (5, 2, 2 * ARC, 2, 1),
+            (3, 4, ARC, 1, 0),
+            (5, 3, 3 * ARC, 3, 2),
+            (4, 5, ARC, 1, 0),
+            (5, 4, 4 * ARC, 4, 3),
+        ],
+    };
+    expect(&rt, rt.alloc(), 5, &example)
+}
+
 #[test]
 fn a_graph_without_nodes(rt: HostRuntime) -> Result<(), Fail> {
     let example = Example {
