@@ -64,9 +64,9 @@ fn a_stalled_node_has_no_entry(rt: HostRuntime) -> Result<(), Fail> {
     for side in [Side::Up, Side::Down] {
         let all = again!(spread(alloc, &triangle, &mut scratch, 0, side));
         let whole = [(0, cost(0, 0)), (1, cost(10, 1)), (2, cost(1, 1))];
-        assert_eq!(rt; all.as_slice(), &whole);
+        assert_eq!(rt; all.as_slice(), whole.as_slice());
         let space = again!(search_space(alloc, &triangle, &mut scratch, 0, side));
-        assert_eq!(rt; space.as_slice(), &[(0, 0), (2, 1)]);
+        assert_eq!(rt; space.as_slice(), [(0, 0), (2, 1)].as_slice());
     }
     assert_eq!(rt; distance(&triangle, &mut scratch, 0, 1), Some(2));
     Ok(())
@@ -79,9 +79,9 @@ fn a_search_that_does_not_stall_lists_all(rt: HostRuntime) -> Result<(), Fail> {
     let mut scratch = again!(Scratch::new(alloc, 3));
     for side in [Side::Up, Side::Down] {
         let middle = again!(search_space(alloc, &triangle, &mut scratch, 1, side));
-        assert_eq!(rt; middle.as_slice(), &[(1, 0), (2, 1)]);
+        assert_eq!(rt; middle.as_slice(), [(1, 0), (2, 1)].as_slice());
         let top = again!(search_space(alloc, &triangle, &mut scratch, 2, side));
-        assert_eq!(rt; top.as_slice(), &[(2, 0)]);
+        assert_eq!(rt; top.as_slice(), [(2, 0)].as_slice());
     }
     Ok(())
 }
