@@ -1,5 +1,5 @@
 -- One side of a query, as the program keeps it.
-use Rattle.std.specs.Prelude.{◌≡◌, ◌≢◌, ℕ, ◌^◌, ◌<◌, ◌≤◌, ◌⊎◌, Bool, true, false, List, [], length, AllPairs, Contains, Option, Some, None, is_some, Vec, vec_len, vec_capacity}
+use Rattle.std.specs.Prelude.{◌≡◌, ◌≢◌, ℕ, ◌^◌, ◌<◌, ◌≤◌, ◌⊎◌, Bool, true, false, List, [], length, AllPairs, Contains, Option, Some, is_some, Vec, vec_len, vec_capacity}
 use Rattle.std.specs.List.{count_by}
 use Rattle.std.specs.declared.alloc.Global.{Global}
 use Rattle.ch_graph.specs.declared.cost.Cost.{Cost}
@@ -10,7 +10,7 @@ use Rattle.ch_query.specs.declared.search.Search.{Search}
 use Rattle.ch_query.specs.Side.{rows_of, other}
 use Rattle.ch_query.specs.Parents.{AreParents, IsNoEarlier}
 use Rattle.ch_graph.specs.Cost.{cost_at}
-use Rattle.ch_query.specs.Search.{IsSettled, IsUpwardCost, IsSearch, IsExpanding, OrNode, IsStalled, IsEmpty, IsRelaxedFrom, Relaxes, unsettled}
+use Rattle.ch_query.specs.Search.{IsSettled, IsSearch, IsExpanding, OrNode, IsStalled, IsEmpty, IsRelaxedFrom, Relaxes, unsettled}
 
 -- the legs by which a search that stalls sees a cheaper way: those from higher nodes back to a node
 abbrev pub back_of : LevelsAndLegs → Side → Bool → List (List Leg)
@@ -64,22 +64,17 @@ pub record IsExpandingAt (H : LevelsAndLegs) (x : Search) (v : ℕ) (c : Cost) :
   pub touched : IsTouched x.costs.items x.touched
   pub most : x.most ≡ 2 ^ 60
 
--- each known cost is that of a path, in a hierarchy with levels
-pub record KnowsPaths (H : LevelsAndLegs) (x : Search) : Type 0 where
-  pub levelled : IsLevelled H
-  pub nodes : length x.costs.items ≡ nodes_of H
-  pub sound : (v : ℕ) (c : Cost) → cost_at x.costs.items v ≡ Some c → IsUpwardCost (rows_of H x.side) x.source v c
+-- nodes that are settled, each once, and among them all that need to be expanded
+pub record AreUnstalled (H : LevelsAndLegs) (x : Search) (nodes : List ℕ) : Type 0 where
+  pub distinct : AllPairs ◌≢◌ nodes
+  pub settled : (v : ℕ) → Contains nodes v → (c : Cost) × IsSettled x.costs.items x.queue v c
+  pub whole : (v : ℕ) (c : Cost) → IsSettled x.costs.items x.queue v c → idle_of H x v c ⊎ Contains nodes v
 
--- the weight of what v is known to cost, and none only where the search stalls at v
-abbrev pub IsUnstalledWeight : LevelsAndLegs → Search → ℕ → Option ℕ → Type 0
-IsUnstalledWeight H x v None = (c : Cost) → cost_at x.costs.items v ≡ Some c → idle_of H x v c
-IsUnstalledWeight H x v (Some w) = (c : Cost) × (cost_at x.costs.items v ≡ Some c) × (c.weight ≡ w)
-
--- those of the nodes at which the search does not stall, in order of node, with the weights of what they cost
-pub record AreUnstalled (H : LevelsAndLegs) (x : Search) (nodes : List ℕ) (list : List (ℕ × ℕ)) : Type 0 where
+-- the nodes with the weights of what they are known to cost, in order of node
+pub record AreWeights (best : List (Option Cost)) (nodes : List ℕ) (list : List (ℕ × ℕ)) : Type 0 where
   pub order : AllPairs (λ a b. a.0 < b.0) list
-  pub sound : (v w : ℕ) → Contains list (v, w) → Contains nodes v × (c : Cost) × (cost_at x.costs.items v ≡ Some c) × (c.weight ≡ w)
-  pub whole : (v : ℕ) (c : Cost) → Contains nodes v → cost_at x.costs.items v ≡ Some c → idle_of H x v c ⊎ Contains list (v, c.weight)
+  pub sound : (v w : ℕ) → Contains list (v, w) → Contains nodes v × (c : Cost) × (cost_at best v ≡ Some c) × (c.weight ≡ w)
+  pub whole : (v : ℕ) (c : Cost) → Contains nodes v → cost_at best v ≡ Some c → Contains list (v, c.weight)
 
 -- what taking a leg of v, settled at cost c, changes
 abbrev pub RelaxesIn : Search → ℕ → Cost → Leg → Search → Type 0
@@ -95,6 +90,7 @@ pub record IsPartlyExpanded (H : LevelsAndLegs) (x y : Search) (v : ℕ) (c : Co
   pub expanding : IsExpandingAt H y v c
   pub relaxed : (l : Leg) → Contains legs l → IsRelaxedFrom y.costs.items c l × IsNoEarlier y.costs.items y.parents.items v c l
   pub settled : KeepsSettled x y
+  pub stays : KeepsSettled y x
   pub measure : unsettled_in y ≡ unsettled_in x
 
 -- a search for n nodes in which nothing is left of an earlier one

@@ -1,8 +1,8 @@
 //! One side of a query: Dijkstra's algorithm from a source, along legs to higher nodes.
-ghost use Rattle.std.specs.Prelude.{◌≡◌, ◌+◌, ◌^◌, ◌<◌, ◌≤◌, ◌↔◌, length, slice_set, Some, true, IsTrue, IfOk};
+ghost use Rattle.std.specs.Prelude.{◌≡◌, ◌+◌, ◌^◌, ◌<◌, ◌≤◌, ◌↔◌, length, slice_set, Some, true, false, IsTrue, IfOk};
 ghost use Rattle.ch_graph.specs.Cost.{IsBelow};
 ghost use Rattle.ch_contract.specs.Hierarchy.{nodes_of};
-ghost use Rattle.ch_query.specs.Underway.{idle_of, unsettled_in, IsTouched, IsRoom, KnowsPaths, RelaxesIn, IsSameSearch, IsUnderway, IsExpandingAt, KeepsSettled, IsClean};
+ghost use Rattle.ch_query.specs.Underway.{idle_of, unsettled_in, IsTouched, IsRoom, RelaxesIn, IsSameSearch, IsUnderway, IsExpandingAt, KeepsSettled, IsClean};
 ghost use Rattle.ch_query.specs.Meeting.{IsFresh};
 
 use crate::side::Side;
@@ -126,6 +126,7 @@ impl Search {
         ensures underway { IsUnderway hierarchy.now self.new }
         ensures same { IsSameSearch self.old self.new }
         ensures settled { KeepsSettled self.old self.new }
+        ensures stays { KeepsSettled self.new self.old }
         ensures measure { unsettled_in self.new ≡ unsettled_in self.old }
     {
         for leg in self.side.legs(hierarchy, node) {
@@ -134,9 +135,8 @@ impl Search {
     }
 
     /// Whether a leg from a higher node shows a way to `node` that costs less than `cost`.
-    pub(crate) fn is_stalled(&self, hierarchy: &Hierarchy, node: u32, cost: Cost) -> bool
-        requires paths { KnowsPaths hierarchy.now self.now }
-        requires node { node < nodes_of hierarchy.now }
+    fn is_stalled(&self, hierarchy: &Hierarchy, node: u32, cost: Cost) -> bool
+        requires expanding { IsExpandingAt hierarchy.now self.now node cost }
         requires stalls { self.now.stalls ≡ true }
         ensures { result ≡ true → idle_of hierarchy.now self.now node cost }
     {
@@ -150,18 +150,22 @@ impl Search {
         false
     }
 
-    /// Takes the legs of the node that was settled last, unless the search stalls at it.
-    pub(crate) fn settle(&mut self, hierarchy: &Hierarchy, node: u32, cost: Cost)
+    /// Takes the legs of the node that was settled last, unless the search stalls at it, and says whether it
+    /// did.
+    pub(crate) fn settle(&mut self, hierarchy: &Hierarchy, node: u32, cost: Cost) -> bool
         requires expanding { IsExpandingAt hierarchy.now self.old node cost }
         ensures underway { IsUnderway hierarchy.now self.new }
         ensures same { IsSameSearch self.old self.new }
         ensures settled { KeepsSettled self.old self.new }
+        ensures stays { KeepsSettled self.new self.old }
         ensures measure { unsettled_in self.new ≡ unsettled_in self.old }
+        ensures stalled { result ≡ false → idle_of hierarchy.now self.new node cost }
     {
         if self.stalls && self.is_stalled(hierarchy, node, cost) {
-            return;
+            return false;
         }
         self.expand(hierarchy, node, cost);
+        true
     }
 
     /// Takes all that is known away, in as many steps as nodes were touched.

@@ -1,9 +1,12 @@
 //! Search spaces: searches to their end that stall.
-ghost use Rattle.std.specs.Prelude.{◌≡◌, ◌<◌, true, IfOk, AllPairs};
+ghost use Rattle.std.specs.Prelude.{◌≡◌, ℕ, ◌<◌, true, is_some, IfOk, OnOk, AllPairs, Contains};
+ghost use Rattle.ch_graph.specs.Cost.{cost_at};
 ghost use Rattle.ch_contract.specs.Hierarchy.{nodes_of};
 ghost use Rattle.ch_query.specs.Distance.{IsKeptForSome};
+ghost use Rattle.ch_query.specs.Meeting.{IsFresh};
+ghost use Rattle.ch_query.specs.Search.{IsEmpty};
 ghost use Rattle.ch_query.specs.SearchSpace.{IsSearchSpace};
-ghost use Rattle.ch_query.specs.Underway.{KnowsPaths, IsUnstalledWeight, AreUnstalled, IsUnderway, IsClean};
+ghost use Rattle.ch_query.specs.Underway.{AreUnstalled, AreWeights, IsSameSearch, IsUnderway, IsClean};
 
 use crate::scratch::Scratch;
 use crate::search::Search;
@@ -12,34 +15,61 @@ use ch_contract::Hierarchy;
 use std::alloc::{AllocError, Global};
 
 impl Search {
-    /// The weight of a reached node, unless the search stalls at it.
-    fn unstalled_weight(&self, hierarchy: &Hierarchy, node: u32) -> Option<u64>
-        requires paths { KnowsPaths hierarchy.now self.now }
-        requires node { node < nodes_of hierarchy.now }
-        requires stalls { self.now.stalls ≡ true }
-        ensures { IsUnstalledWeight hierarchy.now self.now node result }
+    /// Settles all nodes that can be reached, but what is reached through stalled nodes alone, and gives those
+    /// at which the search did not stall.
+    fn explore_unstalled(
+        &mut self,
+        alloc: Global,
+        hierarchy: &Hierarchy,
+    ) -> Result<Vec<u32>, AllocError>
+        requires underway { IsUnderway hierarchy.now self.old }
+        requires fresh { IsFresh self.old }
+        ensures underway { IsUnderway hierarchy.now self.new }
+        ensures same { IsSameSearch self.old self.new }
+        ensures done { OnOk result (IsEmpty self.new.queue) }
+        ensures unstalled { IfOk result (λ nodes. AreUnstalled hierarchy.now self.new nodes.items) }
     {
-        let cost = self.costs[node as usize]?;
-        if self.is_stalled(hierarchy, node, cost) {
-            return None;
+        let mut nodes = Vec::new(alloc);
+        while let Some((cost, node)) = self.queue.pop() {
+            if self.settle(hierarchy, node, cost) {
+                nodes.push(node)?;
+            }
         }
-        Some(cost.weight)
+        Ok(nodes)
     }
 
-    /// The touched nodes at which the search does not stall, with their weights.
-    fn unstalled(&self, alloc: Global, hierarchy: &Hierarchy) -> Result<Vec<(u32, u64)>, AllocError>
-        requires underway { IsUnderway hierarchy.now self.now }
-        requires stalls { self.now.stalls ≡ true }
-        requires order { AllPairs (λ a b. a < b) self.now.touched.items }
-        ensures { IfOk result (λ list. AreUnstalled hierarchy.now self.now self.now.touched.items list.items) }
+    /// The nodes with the weights of what they cost.
+    fn weights(&self, alloc: Global, nodes: &[u32]) -> Result<Vec<(u32, u64)>, AllocError>
+        requires order { AllPairs (λ a b. a < b) nodes.now }
+        requires known { (v : ℕ) → Contains nodes.now v → is_some (cost_at self.now.costs.items v) ≡ true }
+        ensures { IfOk result (λ list. AreWeights self.now.costs.items nodes.now list.items) }
     {
-        let mut list = Vec::with_capacity(alloc, self.touched.len())?;
-        for node in &self.touched {
-            if let Some(weight) = self.unstalled_weight(hierarchy, *node) {
-                list.push_reserved((*node, weight));
+        let mut list = Vec::with_capacity(alloc, nodes.len())?;
+        for node in nodes {
+            if let Some(cost) = self.costs[*node as usize] {
+                list.push_reserved((*node, cost.weight));
             }
         }
         Ok(list)
+    }
+
+    /// The search space of the node where the search began.
+    fn space_from(
+        &mut self,
+        alloc: Global,
+        hierarchy: &Hierarchy,
+    ) -> Result<Vec<(u32, u64)>, AllocError>
+        requires kept { IsKeptForSome hierarchy.now }
+        requires underway { IsUnderway hierarchy.now self.old }
+        requires fresh { IsFresh self.old }
+        requires stalls { self.old.stalls ≡ true }
+        ensures space { IfOk result (λ list. IsSearchSpace hierarchy.now self.old.side self.old.source list.items) }
+        ensures underway { IsUnderway hierarchy.now self.new }
+        ensures side { self.new.side ≡ self.old.side }
+    {
+        let mut nodes = self.explore_unstalled(alloc, hierarchy)?;
+        nodes.sort_unstable();
+        self.weights(alloc, &nodes)
     }
 
     /// The search space of a node. The search is clean afterwards, also where there is no memory.
@@ -57,9 +87,7 @@ impl Search {
         ensures side { self.new.side ≡ self.old.side }
     {
         self.begin(hierarchy, source, true);
-        self.explore(hierarchy);
-        self.touched.sort_unstable();
-        let list = self.unstalled(alloc, hierarchy);
+        let list = self.space_from(alloc, hierarchy);
         self.clean();
         list
     }
