@@ -280,6 +280,8 @@ fn refused_in_turn(rt: HostRuntime) -> Result<(), Fail> {
     let sources = again!(from_zero(&rt, alloc, &hierarchy, &[1, 3]));
     let targets = again!(from_zero(&rt, alloc, &hierarchy, &[3, 2]));
     let buckets = again!(Buckets::fill_up(alloc, &hierarchy, &sources));
+    let nodes = hierarchy.nodes();
+    assert!(rt; nodes > 2);
     assert_eq!(rt; buckets.at(2), [(0, 9), (1, 0)].as_slice());
     for workers in [1, 2] {
         let plan = Plan::new(workers, 1, 1);
