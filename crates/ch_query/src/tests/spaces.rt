@@ -1,7 +1,7 @@
 //! Search spaces worked by hand, where a search that stalls and one that does not differ. Each test passes
 //! also under `rt try --test --fail-alloc N`, which refuses one request for memory. The call that meets the
 //! refusal answers `AllocError`, and called again answers as with ample memory.
-ghost use Rattle.std.specs.Prelude.{◌≡◌, IfOk};
+ghost use Rattle.std.specs.Prelude.{◌≡◌, ◌<◌, IfOk};
 ghost use Rattle.ch_contract.specs.Hierarchy.{nodes_of};
 ghost use Rattle.ch_query.specs.Distance.{IsKeptForSome};
 
@@ -10,6 +10,7 @@ use ch_contract::{Hierarchy, build};
 use ch_graph::{Cost, Graph, InArc};
 use ch_work::{Open, Plan};
 use std::alloc::{AllocError, Global};
+use std::process::Abort;
 use std::test::Fail;
 use std::thread::Threads;
 
@@ -56,18 +57,39 @@ fn cost(weight: u64, arcs: u64) -> Cost {
     Cost { weight, arcs }
 }
 
+/// Expects these entries of the search space of a node.
+fn expect_space(
+    rt: &impl Abort,
+    alloc: Global,
+    hierarchy: &Hierarchy,
+    scratch: &mut Scratch,
+    node: u32,
+    side: Side,
+    entries: &[(u32, u64)],
+) -> Result<(), Fail>
+    requires kept { IsKeptForSome hierarchy.now }
+    requires scratch { scratch.old ≡ nodes_of hierarchy.now }
+    requires node { node < nodes_of hierarchy.now }
+    ensures scratch { scratch.new ≡ scratch.old }
+{
+    let found = again!(search_space(alloc, hierarchy, scratch, node, side));
+    assert_eq!(rt; found.as_slice(), entries);
+    Ok(())
+}
+
 #[test]
 fn a_stalled_node_has_no_entry(rt: HostRuntime) -> Result<(), Fail> {
     let alloc = rt.alloc();
     let triangle = triangle_hierarchy(&rt, alloc)?;
     let mut scratch = again!(Scratch::new(alloc, 3));
-    for side in [Side::Up, Side::Down] {
-        let all = again!(spread(alloc, &triangle, &mut scratch, 0, side));
-        let whole = [(0, cost(0, 0)), (1, cost(10, 1)), (2, cost(1, 1))];
-        assert_eq!(rt; all.as_slice(), whole.as_slice());
-        let space = again!(search_space(alloc, &triangle, &mut scratch, 0, side));
-        assert_eq!(rt; space.as_slice(), [(0, 0), (2, 1)].as_slice());
-    }
+    let whole = [(0, cost(0, 0)), (1, cost(10, 1)), (2, cost(1, 1))];
+    let up = again!(spread(alloc, &triangle, &mut scratch, 0, Side::Up));
+    assert_eq!(rt; up.as_slice(), whole.as_slice());
+    let down = again!(spread(alloc, &triangle, &mut scratch, 0, Side::Down));
+    assert_eq!(rt; down.as_slice(), whole.as_slice());
+    let stalled = [(0, 0), (2, 1)];
+    expect_space(&rt, alloc, &triangle, &mut scratch, 0, Side::Up, &stalled)?;
+    expect_space(&rt, alloc, &triangle, &mut scratch, 0, Side::Down, &stalled)?;
     assert_eq!(rt; distance(&triangle, &mut scratch, 0, 1), Some(2));
     Ok(())
 }
@@ -77,11 +99,18 @@ fn a_search_that_does_not_stall_lists_all(rt: HostRuntime) -> Result<(), Fail> {
     let alloc = rt.alloc();
     let triangle = triangle_hierarchy(&rt, alloc)?;
     let mut scratch = again!(Scratch::new(alloc, 3));
-    for side in [Side::Up, Side::Down] {
-        let middle = again!(search_space(alloc, &triangle, &mut scratch, 1, side));
-        assert_eq!(rt; middle.as_slice(), [(1, 0), (2, 1)].as_slice());
-        let top = again!(search_space(alloc, &triangle, &mut scratch, 2, side));
-        assert_eq!(rt; top.as_slice(), [(2, 0)].as_slice());
-    }
+    let middle = [(1, 0), (2, 1)];
+    expect_space(&rt, alloc, &triangle, &mut scratch, 1, Side::Up, &middle)?;
+    expect_space(&rt, alloc, &triangle, &mut scratch, 1, Side::Down, &middle)?;
+    expect_space(&rt, alloc, &triangle, &mut scratch, 2, Side::Up, &[(2, 0)])?;
+    expect_space(
+        &rt,
+        alloc,
+        &triangle,
+        &mut scratch,
+        2,
+        Side::Down,
+        &[(2, 0)],
+    )?;
     Ok(())
 }
