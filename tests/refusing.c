@@ -2,6 +2,7 @@
    request for memory, read or write, and moves at most so many bytes at a call. What it is to do stands in the environment:
 
      REFUSE_MEMORY=N    the Nth request for memory or for a thread is refused; N+ for it and all that come after
+     REFUSE_THREADS=1   each request for a thread is refused
      REFUSE_READ=N      the Nth read answers REFUSE_WITH
      REFUSE_WRITE=N     the Nth write to standard output answers REFUSE_WITH
      REFUSE_WITH=E      this error, and 0 for a call that moves no byte (5, a failed device, if left out)
@@ -36,7 +37,7 @@ static struct counts *counts = &own_counts;
 
 /* Which call is refused, counted from 1: none where it is 0. */
 static size memory_at, read_at, write_at, most_bytes = ~0UL;
-static int all_after;
+static int all_after, no_threads;
 static int answer = DEVICE_FAILED;
 
 /* The value of a line NAME=VALUE of the environment, or none. */
@@ -74,6 +75,7 @@ __attribute__((constructor)) static void read_environment(int word_count, char *
         memory_at = number(value);
         for (; *value; value++) all_after |= *value == '+';
     }
+    no_threads = environment(lines, "REFUSE_THREADS") != 0;
     if ((value = environment(lines, "REFUSE_READ"))) read_at = number(value);
     if ((value = environment(lines, "REFUSE_WRITE"))) write_at = number(value);
     if ((value = environment(lines, "REFUSE_WITH"))) answer = (int)number(value);
@@ -121,7 +123,7 @@ int posix_memalign(void **room, size alignment, size bytes) {
 /* A thread that can't be made, as where the system has no room for its stack. */
 int pthread_create(void *thread, const void *attributes, void *(*run)(void *), void *argument) {
     static int (*create)(void *, const void *, void *(*)(void *), void *);
-    if (memory_is_refused()) return TRY_AGAIN;
+    if (memory_is_refused() || no_threads) return TRY_AGAIN;
     if (!create) create = dlsym((void *)-1, "pthread_create");
     return create(thread, attributes, run, argument);
 }
