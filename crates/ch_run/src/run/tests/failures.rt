@@ -121,7 +121,11 @@ fn expect<R: Threads + Abort + Sync>(
 {
     let (answer, output) = ended(rt, alloc, example, most, failing)?;
     assert_eq!(rt; answer, owed, "{most} at a call, {failing:?}");
-    assert_eq!(rt; Some(output.bytes()), example.text.get(..count), "{failing:?}");
+    assert_eq!(rt;
+        Some(output.bytes()),
+        example.text.get(..count),
+        "{failing:?}"
+    );
     Ok(())
 }
 
