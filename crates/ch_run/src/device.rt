@@ -123,6 +123,10 @@ fn buffer_of(alloc: Global, size: usize) -> Result<Vec<u8>, AllocError>
 }
 
 /// Reads the input to its end. A read that fails isn't tried again.
+///
+/// # Errors
+/// `Device` where a read failed, and `Memory` where there is no memory for the bytes: no read has failed then,
+/// and the input is where its reads left it.
 pub fn read_all<I: Input>(alloc: Global, input: &mut I) -> Result<Vec<u8>, ReadAllFault>
     requires { I.failed input.old < 2 ^ 64 - 1 }
     ensures bytes { IfOk result (λ bytes. HasGiven (I.left input.old) (I.left input.new) bytes.items) }

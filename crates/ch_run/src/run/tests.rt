@@ -12,6 +12,8 @@ use std::thread::Threads;
 
 mod devices;
 mod distances;
+mod failures;
+mod memory;
 mod refusals;
 mod routes;
 mod tables;
@@ -44,6 +46,13 @@ const ANSWERS: &[u8] = b"d 1 3 9\nd 3 1 -\n";
 
 /// Four nodes, each of the others tied to the first.
 const STAR: &[u8] = b"p sp 4 6\na 1 2 1\na 2 1 1\na 1 3 1\na 3 1 1\na 1 4 1\na 4 1 1\n";
+
+/// The sources and targets of a table of the three-node graph, and its text.
+const SOURCES: &[u8] = b"p aux sp ss 3\ns 1\ns 1\ns 3\n";
+
+const TARGETS: &[u8] = b"p aux sp ss 2\ns 3\ns 2\n";
+
+const TABLE: &[u8] = b"t 1 9 4\nt 1 9 4\nt 3 0 -\n";
 
 /// Five nodes, each with an arc to the next.
 const RING: &[u8] = b"p sp 5 5\na 1 2 1\na 2 3 1\na 3 4 1\na 4 5 1\na 5 1 1\n";

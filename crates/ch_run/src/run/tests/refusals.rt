@@ -1,9 +1,9 @@
 //! The first fault of the files, after which nothing is written.
 
-use super::{LINE, PLAIN, THERE_AND_BACK, refused, run, run_lists};
+use super::{LINE, PLAIN, STAR, THERE_AND_BACK, refused, run, run_lists};
 use crate::fault::RunFault;
 use crate::plan::Plan;
-use ch_read::FaultKind;
+use ch_read::{FaultKind, ReadFault};
 use std::test::Fail;
 
 #[test]
@@ -106,6 +106,46 @@ fn refuses_lists_in_their_order(rt: HostRuntime) -> Result<(), Fail> {
         let (result, output) = run_lists(&rt, rt.alloc(), graph, sources, targets, &plan)?;
         assert_eq!(rt; result, Err(fault));
         assert_eq!(rt; output.bytes(), b"".as_slice());
+    }
+    Ok(())
+}
+
+/// The fault of the first so many bytes of the star's graph, whose first line has 9 bytes and the others 8.
+fn fault_of_beginning(length: usize) -> Option<ReadFault> {
+    match length {
+        0 => Some(refused(1, FaultKind::NoProblem)),
+        1..=7 => Some(refused(1, FaultKind::BadProblem)),
+        8..=55 => {
+            let past = length - 8;
+            let line = 2 + past as u64 / 8;
+            if past % 8 < 2 {
+                Some(refused(line, FaultKind::TooFew))
+            } else {
+                Some(refused(line, FaultKind::BadLine))
+            }
+        }
+        _ => None,
+    }
+}
+
+#[test]
+fn answers_each_beginning_of_a_graph(rt: HostRuntime) -> Result<(), Fail> {
+    let plan = Plan::new(1, 64, 64);
+    let there: &[u8] = b"p aux sp p2p 1\nq 3 4\n";
+    for length in 0..STAR.len() + 1 {
+        let graph = &STAR[..length];
+        let (result, output) = run(&rt, rt.alloc(), graph, there, &PLAIN, &plan)?;
+        let text: &[u8] = match fault_of_beginning(length) {
+            Some(fault) => {
+                assert_eq!(rt; result, Err(RunFault::Graph(fault)), "at {length}");
+                b""
+            }
+            None => {
+                assert_eq!(rt; result, Ok(()), "at {length}");
+                b"d 3 4 2\n"
+            }
+        };
+        assert_eq!(rt; output.bytes(), text, "at {length}");
     }
     Ok(())
 }
