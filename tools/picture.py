@@ -169,7 +169,7 @@ def draw_reach(network, limit, count, targets, file):
         part = place / max(1, count - 1) * (len(NEAR_TO_FAR) - 1)
         low, high = NEAR_TO_FAR[math.floor(part)], NEAR_TO_FAR[math.ceil(part)]
         colour = "#" + "".join(f"{round(a + (b - a) * (part % 1)):02x}" for a, b in zip(low, high))
-        shapes.append(stroke(band, colour, 2))
+        shapes.append(stroke(band, colour, 1.6))
         legend.insert(0, (colour, f"up to {network.told(borders[place + 1])}"))
     legend.append(("#a3a39b", "not reached"))
     return [*shapes, circle(network.at[source], "#000000", "#ffffff")], legend
