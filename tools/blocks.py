@@ -174,7 +174,7 @@ def main():
         parser.error("a side is from 1 to 2,048, and there is at least one process")
     try:
         make(words)
-    except (Failed, OSError) as fault:
+    except (Failed, OSError, IndexError) as fault:
         sys.exit(f"blocks: {fault}")
 
 

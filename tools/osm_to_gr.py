@@ -41,10 +41,8 @@ SPEEDS = {
 }
 ACCESS = ("motorcar", "motor_vehicle", "vehicle", "access")
 CLOSED = {"no", "private", "agricultural", "forestry", "agricultural;forestry", "delivery", "emergency", "military", "bus", "psv"}
-OPEN_BARRIERS = {
-    "no", "border_control", "bump_gate", "cattle_grid", "entrance", "gate", "height_restrictor", "kerb", "lift_gate",
-    "sally_port", "swing_gate", "toll_booth",
-}
+OPEN_BARRIERS = {"no", "border_control", "bump_gate", "cattle_grid", "entrance", "gate", "height_restrictor", "kerb", "lift_gate"}
+OPEN_BARRIERS |= {"sally_port", "swing_gate", "toll_booth"}
 DIRECTIONS = {"yes": 1, "true": 1, "1": 1, "-1": -1, "reverse": -1, "no": 0, "false": 0, "0": 0}
 RADIUS = 6_371_008.8
 
@@ -65,9 +63,7 @@ def speed_of(tags):
 
 def road_of(nodes, tags):
     """The way as a road, or None where no car may use it."""
-    if tags.get("highway") not in SPEEDS or tags.get("area") == "yes" or access_of(tags) in CLOSED:
-        return None
-    if tags.get("oneway") == "reversible":
+    if tags.get("highway") not in SPEEDS or access_of(tags) in CLOSED or tags.get("area") == "yes" or tags.get("oneway") == "reversible":
         return None
     is_round = tags["highway"] == "motorway" or tags.get("junction") in ("roundabout", "circular")
     return Road(nodes, speed_of(tags), DIRECTIONS.get(tags.get("oneway"), 1 if is_round else 0))
@@ -133,11 +129,10 @@ def passable(way, nodes):
     for node in [*way.nodes, None]:
         if node in nodes:
             run.append(node)
-        elif len(run) > 1:
+            continue
+        if len(run) > 1:
             yield way._replace(nodes=run)
-            run = []
-        else:
-            run = []
+        run = []
 
 
 def at_crossings(road, uses):
@@ -246,4 +241,7 @@ def main():
 
 
 if __name__ == "__main__":
-    main()
+    try:
+        main()
+    except (OSError, RuntimeError, xml.etree.ElementTree.ParseError) as fault:
+        sys.exit(f"osm_to_gr: {fault}")

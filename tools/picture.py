@@ -229,4 +229,7 @@ def main():
 
 
 if __name__ == "__main__":
-    main()
+    try:
+        main()
+    except (OSError, ValueError, LookupError) as fault:
+        sys.exit(f"picture: {type(fault).__name__} {fault}")

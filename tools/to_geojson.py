@@ -124,4 +124,7 @@ def main():
 
 
 if __name__ == "__main__":
-    main()
+    try:
+        main()
+    except (OSError, ValueError, LookupError) as fault:
+        sys.exit(f"to_geojson: {type(fault).__name__} {fault}")
