@@ -1,7 +1,8 @@
 #!/usr/bin/env python3
 """Runs each command of docs/GUIDE.md as it stands on the page, in order, and compares what it prints with the lines below it.
 
-The pictures of the page are those that the commands make. The last line is 'N passed, N failed'.
+The pictures of the page are those that the commands make, and the code of docs/CALLING.md stands in the sources, where it is proved.
+The last line is 'N passed, N failed'.
 """
 import pathlib
 import re
@@ -40,6 +41,16 @@ def is_the_same(picture, folder):
     return False
 
 
+def stands_in_sources(page):
+    """The code of the page is part of a source file of its name."""
+    code = re.findall(r"^```rust\n(.*?)^```", page.read_text(), re.MULTILINE | re.DOTALL)
+    sources = [path.read_text() for path in ROOT.glob(f"crates/*/src/**/{page.stem.lower()}.rt")]
+    if code and all(any(part in source for source in sources) for part in code):
+        return True
+    print(f"failed: the code of {page.name} does not stand in the sources")
+    return False
+
+
 def main():
     text = PAGE.read_text()
     with tempfile.TemporaryDirectory() as kept:
@@ -50,6 +61,7 @@ def main():
         (folder / "chtab").chmod(0o755)
         outcomes = [outcome(command, wanted, folder) for command, wanted in commands(text)]
         outcomes += [is_the_same(picture, folder) for picture in ("routes.svg", "reach.svg")]
+    outcomes.append(stands_in_sources(ROOT / "docs" / "CALLING.md"))
     failed = outcomes.count(False)
     print(f"{len(outcomes) - failed} passed, {failed} failed")
     sys.exit(failed > 0)
