@@ -7,7 +7,7 @@ use Rattle.ch_contract.specs.Rows.{row}
 use Rattle.ch_contract.specs.Hierarchy.{LevelsAndLegs}
 use Rattle.ch_query.specs.declared.side.Side.{Side}
 use Rattle.ch_query.specs.declared.search.Search.{Search}
-use Rattle.ch_query.specs.Underway.{back_of, idle_of, IsUnderway, IsExpandingAt}
+use Rattle.ch_query.specs.Underway.{back_of, idle_of, KnowsPaths, IsUnderway, IsExpandingAt}
 use Rattle.ch_query.specs.Side.{rows_of, other}
 use Rattle.ch_query.proofs.Steps.{stalled}
 use Rattle.ch_query.proofs.Parents.{finish_parents}
@@ -19,21 +19,28 @@ pub record IsBackLeg (H : LevelsAndLegs) (x : Search) (v : ℕ) (l : Leg) : Type
   pub has : Contains (row (rows_of H (other x.side)) v) l
   pub within : l.node < length x.costs.items
 
-module _ (H : LevelsAndLegs) (x : Search) (v : ℕ) (c : Cost) (u : IsExpandingAt H x v c) where
+-- what is known while legs are taken is of paths
+pub expanding_knows : (H : LevelsAndLegs) (x : Search) (v : ℕ) (c : Cost) → IsExpandingAt H x v c → KnowsPaths H x
+expanding_knows H x v c u = record { levelled = u.levelled; nodes = u.search.search.sizes.0 ∙ rows_size H u.levelled x.side; sound = u.search.search.sound }
+
+-- and so it is between two nodes
+pub underway_knows : (H : LevelsAndLegs) (x : Search) → IsUnderway H x → KnowsPaths H x
+underway_knows H x u = record { levelled = u.levelled; nodes = u.search.sizes.0 ∙ rows_size H u.levelled x.side; sound = u.search.sound }
+
+module _ (H : LevelsAndLegs) (x : Search) (v : ℕ) (c : Cost) (u : KnowsPaths H x) where
   -- the test reads such legs
   pub back_leg : (side : Side) (legs : List Leg) (i : ℕ) (d : Leg) → side ≡ other x.side → legs ≡ row (rows_of H side) v → i < length legs → IsBackLeg H x v (get_or legs i d)
   back_leg side legs i d turned e lt =
       let has = subst (λ xs. Contains xs (get_or legs i d)) (e ∙ ap (λ q. row (rows_of H q) v) turned) (Contains-get_or legs i d lt) in
       let node = (leg_up H u.levelled (other x.side) v (get_or legs i d) has).node in
-      let size = u.search.search.sizes.0 in
-      let rows = rows_size H u.levelled x.side in
+      let size = u.nodes in
       record { has = has; within = omega arith }
 
   -- their sums do not overflow
   pub back_sum : (l : Leg) (e : Cost) → IsBackLeg H x v l → cost_at x.costs.items l.node ≡ Some e → (e.weight + l.cost.weight ≤ 2 ^ 61) × (e.arcs + l.cost.arcs < 2 ^ 64)
   back_sum l e b known =
       let up = leg_up H u.levelled (other x.side) v l b.has in
-      let r = u.search.search.sound l.node e known in
+      let r = u.sound l.node e known in
       let most = reached_arcs H u.levelled x.side x.source l.node e r in
       let weight = r.weight in
       let light = up.weight in
@@ -47,16 +54,16 @@ module _ (H : LevelsAndLegs) (x : Search) (v : ℕ) (c : Cost) (u : IsExpandingA
     leg = l;
     has = subst (λ s. Contains (row (back_of H x.side s) v) l) (sym on) b.has;
     cost = e;
-    reached = u.search.search.sound l.node e known;
+    reached = u.sound l.node e known;
     below = below;
   }
 
-  -- an idle node's legs need not be taken
-  pub stalled_underway : idle_of H x v c → IsUnderway H x
-  stalled_underway idle = record {
-    levelled = u.levelled;
-    search = stalled _ _ _ _ _ v c u.search idle;
-    parents = finish_parents _ _ _ _ _ _ v c u.search.here u.parents (inl idle);
-    touched = u.touched;
-    most = u.most;
-  }
+-- an idle node's legs need not be taken
+pub stalled_underway : (H : LevelsAndLegs) (x : Search) (v : ℕ) (c : Cost) → IsExpandingAt H x v c → idle_of H x v c → IsUnderway H x
+stalled_underway H x v c u idle = record {
+  levelled = u.levelled;
+  search = stalled _ _ _ _ _ v c u.search idle;
+  parents = finish_parents _ _ _ _ _ _ v c u.search.here u.parents (inl idle);
+  touched = u.touched;
+  most = u.most;
+}

@@ -1,5 +1,5 @@
 -- One side of a query, as the program keeps it.
-use Rattle.std.specs.Prelude.{◌≡◌, ◌≢◌, ℕ, ◌^◌, ◌<◌, ◌≤◌, Bool, true, false, List, [], length, AllPairs, Contains, Option, is_some, Vec, vec_len, vec_capacity}
+use Rattle.std.specs.Prelude.{◌≡◌, ◌≢◌, ℕ, ◌^◌, ◌<◌, ◌≤◌, ◌⊎◌, Bool, true, false, List, [], length, AllPairs, Contains, Option, Some, None, is_some, Vec, vec_len, vec_capacity}
 use Rattle.std.specs.List.{count_by}
 use Rattle.std.specs.declared.alloc.Global.{Global}
 use Rattle.ch_graph.specs.declared.cost.Cost.{Cost}
@@ -10,7 +10,7 @@ use Rattle.ch_query.specs.declared.search.Search.{Search}
 use Rattle.ch_query.specs.Side.{rows_of, other}
 use Rattle.ch_query.specs.Parents.{AreParents, IsNoEarlier}
 use Rattle.ch_graph.specs.Cost.{cost_at}
-use Rattle.ch_query.specs.Search.{IsSettled, IsSearch, IsExpanding, OrNode, IsStalled, IsEmpty, IsRelaxedFrom, Relaxes, unsettled}
+use Rattle.ch_query.specs.Search.{IsSettled, IsUpwardCost, IsSearch, IsExpanding, OrNode, IsStalled, IsEmpty, IsRelaxedFrom, Relaxes, unsettled}
 
 -- the legs by which a search that stalls sees a cheaper way: those from higher nodes back to a node
 abbrev pub back_of : LevelsAndLegs → Side → Bool → List (List Leg)
@@ -63,6 +63,23 @@ pub record IsExpandingAt (H : LevelsAndLegs) (x : Search) (v : ℕ) (c : Cost) :
   pub parents : AreParents (rows_of H x.side) x.source (OrNode (idle_of H x) v) x.costs.items x.queue x.parents.items
   pub touched : IsTouched x.costs.items x.touched
   pub most : x.most ≡ 2 ^ 60
+
+-- each known cost is that of a path, in a hierarchy with levels
+pub record KnowsPaths (H : LevelsAndLegs) (x : Search) : Type 0 where
+  pub levelled : IsLevelled H
+  pub nodes : length x.costs.items ≡ nodes_of H
+  pub sound : (v : ℕ) (c : Cost) → cost_at x.costs.items v ≡ Some c → IsUpwardCost (rows_of H x.side) x.source v c
+
+-- the weight of what v is known to cost, and none only where the search stalls at v
+abbrev pub IsUnstalledWeight : LevelsAndLegs → Search → ℕ → Option ℕ → Type 0
+IsUnstalledWeight H x v None = (c : Cost) → cost_at x.costs.items v ≡ Some c → idle_of H x v c
+IsUnstalledWeight H x v (Some w) = (c : Cost) × (cost_at x.costs.items v ≡ Some c) × (c.weight ≡ w)
+
+-- those of the nodes at which the search does not stall, in order of node, with the weights of what they cost
+pub record AreUnstalled (H : LevelsAndLegs) (x : Search) (nodes : List ℕ) (list : List (ℕ × ℕ)) : Type 0 where
+  pub order : AllPairs (λ a b. a.0 < b.0) list
+  pub sound : (v w : ℕ) → Contains list (v, w) → Contains nodes v × (c : Cost) × (cost_at x.costs.items v ≡ Some c) × (c.weight ≡ w)
+  pub whole : (v : ℕ) (c : Cost) → Contains nodes v → cost_at x.costs.items v ≡ Some c → idle_of H x v c ⊎ Contains list (v, c.weight)
 
 -- what taking a leg of v, settled at cost c, changes
 abbrev pub RelaxesIn : Search → ℕ → Cost → Leg → Search → Type 0

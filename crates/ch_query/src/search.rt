@@ -2,7 +2,7 @@
 ghost use Rattle.std.specs.Prelude.{◌≡◌, ◌+◌, ◌^◌, ◌<◌, ◌≤◌, ◌↔◌, length, slice_set, Some, true, IsTrue, IfOk};
 ghost use Rattle.ch_graph.specs.Cost.{IsBelow};
 ghost use Rattle.ch_contract.specs.Hierarchy.{nodes_of};
-ghost use Rattle.ch_query.specs.Underway.{idle_of, unsettled_in, IsTouched, IsRoom, RelaxesIn, IsSameSearch, IsUnderway, IsExpandingAt, KeepsSettled, IsClean};
+ghost use Rattle.ch_query.specs.Underway.{idle_of, unsettled_in, IsTouched, IsRoom, KnowsPaths, RelaxesIn, IsSameSearch, IsUnderway, IsExpandingAt, KeepsSettled, IsClean};
 ghost use Rattle.ch_query.specs.Meeting.{IsFresh};
 
 use crate::side::Side;
@@ -121,7 +121,7 @@ impl Search {
     }
 
     /// Takes each leg of the node that was settled last.
-    pub(crate) fn expand(&mut self, hierarchy: &Hierarchy, node: u32, cost: Cost)
+    fn expand(&mut self, hierarchy: &Hierarchy, node: u32, cost: Cost)
         requires expanding { IsExpandingAt hierarchy.now self.old node cost }
         ensures underway { IsUnderway hierarchy.now self.new }
         ensures same { IsSameSearch self.old self.new }
@@ -134,8 +134,9 @@ impl Search {
     }
 
     /// Whether a leg from a higher node shows a way to `node` that costs less than `cost`.
-    fn is_stalled(&self, hierarchy: &Hierarchy, node: u32, cost: Cost) -> bool
-        requires expanding { IsExpandingAt hierarchy.now self.now node cost }
+    pub(crate) fn is_stalled(&self, hierarchy: &Hierarchy, node: u32, cost: Cost) -> bool
+        requires paths { KnowsPaths hierarchy.now self.now }
+        requires node { node < nodes_of hierarchy.now }
         requires stalls { self.now.stalls ≡ true }
         ensures { result ≡ true → idle_of hierarchy.now self.now node cost }
     {
@@ -149,18 +150,18 @@ impl Search {
         false
     }
 
-    /// Takes the legs of the node that was settled last, unless it is stalled.
+    /// Takes the legs of the node that was settled last, unless the search stalls at it.
     pub(crate) fn settle(&mut self, hierarchy: &Hierarchy, node: u32, cost: Cost)
         requires expanding { IsExpandingAt hierarchy.now self.old node cost }
-        requires stalls { self.old.stalls ≡ true }
         ensures underway { IsUnderway hierarchy.now self.new }
         ensures same { IsSameSearch self.old self.new }
         ensures settled { KeepsSettled self.old self.new }
         ensures measure { unsettled_in self.new ≡ unsettled_in self.old }
     {
-        if !self.is_stalled(hierarchy, node, cost) {
-            self.expand(hierarchy, node, cost);
+        if self.stalls && self.is_stalled(hierarchy, node, cost) {
+            return;
         }
+        self.expand(hierarchy, node, cost);
     }
 
     /// Takes all that is known away, in as many steps as nodes were touched.

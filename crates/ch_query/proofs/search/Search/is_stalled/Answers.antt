@@ -14,7 +14,7 @@ unfolding blank
 index-requires c =
     let a = c.args in
     let legs = c.legs-leg-items in
-    let back = back_leg a.hierarchy.now a.self.now a.node a.cost c.requires.expanding c.other.result legs.result.now c.loop-leg.leg-index blank
+    let back = back_leg a.hierarchy.now a.self.now a.node a.cost c.requires.paths c.other.result legs.result.now c.loop-leg.leg-index blank
     c.other.ensures legs.ensures.row c.loop-leg-test.true in
     let within = back.within in
     let ok = a.self.now.costs.ok in
@@ -25,26 +25,26 @@ unfolding blank
 plus-requires-clause-weights c =
     let a = c.args in
     let legs = c.legs-leg-items in
-    let back = back_leg a.hierarchy.now a.self.now a.node a.cost c.requires.expanding c.other.result legs.result.now c.loop-leg.leg-index blank
+    let back = back_leg a.hierarchy.now a.self.now a.node a.cost c.requires.paths c.other.result legs.result.now c.loop-leg.leg-index blank
     c.other.ensures legs.ensures.row c.loop-leg-test.true in
-    (back_sum a.hierarchy.now a.self.now a.node a.cost c.requires.expanding _ _ back (sym (read _ _ _ back.within c.index.ensures) ∙ c.in-Some.is)).0
+    (back_sum a.hierarchy.now a.self.now a.node a.cost c.requires.paths _ _ back (sym (read _ _ _ back.within c.index.ensures) ∙ c.in-Some.is)).0
 
 pub plus-requires-clause-arcs : goal.plus-requires-clause-arcs
 unfolding blank
 plus-requires-clause-arcs c =
     let a = c.args in
     let legs = c.legs-leg-items in
-    let back = back_leg a.hierarchy.now a.self.now a.node a.cost c.requires.expanding c.other.result legs.result.now c.loop-leg.leg-index blank
+    let back = back_leg a.hierarchy.now a.self.now a.node a.cost c.requires.paths c.other.result legs.result.now c.loop-leg.leg-index blank
     c.other.ensures legs.ensures.row c.loop-leg-test.true in
-    (back_sum a.hierarchy.now a.self.now a.node a.cost c.requires.expanding _ _ back (sym (read _ _ _ back.within c.index.ensures) ∙ c.in-Some.is)).1
+    (back_sum a.hierarchy.now a.self.now a.node a.cost c.requires.paths _ _ back (sym (read _ _ _ back.within c.index.ensures) ∙ c.in-Some.is)).1
 
 pub returns-then-is_below : goal.returns-then-is_below
 unfolding blank
 returns-then-is_below c =
     let a = c.args in
     let legs = c.legs-leg-items in
-    let back = back_leg a.hierarchy.now a.self.now a.node a.cost c.requires.expanding c.other.result legs.result.now c.loop-leg.leg-index blank
+    let back = back_leg a.hierarchy.now a.self.now a.node a.cost c.requires.paths c.other.result legs.result.now c.loop-leg.leg-index blank
     c.other.ensures legs.ensures.row c.loop-leg-test.true in
     let known = sym (read _ _ _ back.within c.index.ensures) ∙ c.in-Some.is in
-    λ _. stalls_idle a.hierarchy.now a.self.now a.node a.cost c.requires.expanding _ c.in-Some.known c.requires.stalls back known
+    λ _. stalls_idle a.hierarchy.now a.self.now a.node a.cost c.requires.paths _ c.in-Some.known c.requires.stalls back known
     (subst (λ q. IsBelow q a.cost) c.plus.ensures (c.is_below.ensures.0 c.if-is_below.true))
