@@ -93,7 +93,7 @@ def check_graph(seed):
     lists = [[(draw.randint(1, nodes),) for _ in range(draw.choice((0, 1, 12)))] for _ in range(2)]
     wanted = [(start, end, costs[start].get(end)) for start, end in queries]
     distances = "".join(f"d {start} {end} {cost[0] if cost else '-'}\n" for start, end, cost in wanted)
-    rows = [["t", source, *(costs[source].get(target, "-")[0] for target, in lists[1])] for source, in lists[0]]
+    rows = [["t", source, *(costs[source].get(target, ["-"])[0] for target, in lists[1])] for source, in lists[0]]
     with tempfile.TemporaryDirectory() as kept:
         folder = Folder(kept)
         folder.write("graph.gr", f"sp {nodes}", "a", arcs)

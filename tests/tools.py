@@ -1,5 +1,5 @@
 #!/usr/bin/env python3
-"""Tests the tools of tools/ on small files, with no package installed; where scipy or Dask is there, with it too.
+"""Tests the tools of tools/ on small files, with no package installed; where pyosmium, scipy or Dask is there, with it too.
 
 The last line is 'N passed, N failed'.
 """
@@ -100,6 +100,20 @@ def maps_to_graphs():
     assert items(pathlib.Path("all.gr").read_text()) == BENDS
     assert pathlib.Path("all.nodes").read_text().split() == ["1", "2", "3", "4", "5", "6", "8", "9", "10", "11", "12", "13"]
     assert "python3-pyosmium" in tool("osm_to_gr", "none.osm.pbf", "none", status=1, env=without("osmium"))
+    if importlib.util.find_spec("osmium"):
+        write_pbf("village.osm.pbf")
+        tool("osm_to_gr", "village.osm.pbf", "pbf")
+        assert items(pathlib.Path("pbf.gr").read_text()) == CROSSINGS
+
+
+def write_pbf(path):
+    """The village as .pbf, by pyosmium."""
+    import osmium
+
+    writer = osmium.SimpleWriter(path)
+    calls = {"node": lambda _, node: writer.add_node(node), "way": lambda _, way: writer.add_way(way)}
+    type("Copy", (osmium.SimpleHandler,), calls)().apply_file(str(VILLAGE))
+    writer.close()
 
 
 def the_example_is_made_again():
@@ -205,7 +219,8 @@ def tables_in_blocks():
     fault = tool("blocks", *words, graph, "from.ss", "far.ss", "far.csv", status=1)
     assert "targets 5 to 6: status 1" in fault and "targets line 3: node out of range" in fault, fault
     assert not [name for name in os.listdir() if "far.csv" in name]
-    assert "python3-distributed" in tool("blocks", "--scheduler", "none", *words, graph, "from.ss", "to.ss", "o.csv", status=1, env=without("distributed"))
+    lists = [graph, "from.ss", "to.ss"]
+    assert "python3-distributed" in tool("blocks", "--scheduler", "none", *words, *lists, "o.csv", status=1, env=without("distributed"))
     if importlib.util.find_spec("distributed"):
         a_worker_is_lost(graph, pathlib.Path("table.csv").read_text())
 

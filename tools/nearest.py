@@ -13,7 +13,7 @@ Example:  echo "9.5209 47.1410 Vaduz" | tools/nearest.py examples/liechtenstein.
 
 OUT.co is the coordinate file of tools/osm_to_gr.py or of the challenge, in millionths of a degree. Of nodes at one point the
 least numbered is taken. The search goes by scipy's k-d tree where scipy is installed (Debian's package python3-scipy; it pays from
-some ten thousand places on), and else, or with --plain, by a grid.
+a few hundred places on), and else, or with --plain, by a grid.
 """
 import argparse
 import collections
@@ -22,7 +22,7 @@ import sys
 
 RADIUS = 6_371_008.8
 # Nodes in a cell of the grid, on average.
-CROWD = 2
+CROWD = 16
 
 
 def refuse(text):
