@@ -154,7 +154,8 @@ fn gates_passed(rt: HostRuntime) -> Result<(), Fail> {
     let result = run_on_the_star(&rt, alloc, &BY_HIERARCHY, &by_hierarchy)?;
     assert_eq!(rt; result, Ok(()));
     for (piece, expected) in [2, 1, 1, 1, 0].iter().enumerate() {
-        assert_eq!(rt; by_hierarchy.passes(piece as u32), Some(*expected), "piece {piece}");
+        let passes = by_hierarchy.passes(piece as u32);
+        assert_eq!(rt; passes, Some(*expected), "piece {piece}");
     }
     let plain = CountingGate::new(alloc, 5)?;
     let result = run_on_the_star(&rt, alloc, &PLAIN, &plain)?;
