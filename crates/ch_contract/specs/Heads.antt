@@ -1,25 +1,40 @@
 -- What a search for witnesses knows of each node.
-use Rattle.std.specs.Prelude.{◌≡◌, ◌≢◌, ℕ, ◌^◌, ◌<◌, ◌≤◌, List, [], length, slice_index_or, Contains, All, ◌⊎◌, Some}
+use Rattle.std.specs.Prelude.{◌≡◌, ◌≢◌, ℕ, ◌<◌, ◌≤◌, List, [], length, map, slice_index_or, Contains, All, ◌⊎◌, Some}
 use Rattle.std.specs.List.{AllByRecursion}
 use Rattle.ch_graph.specs.declared.cost.Cost.{Cost}
 use Rattle.ch_graph.specs.Cost.{IsAtMost, cost_sum}
 use Rattle.ch_contract.specs.declared.leg.Leg.{Leg}
 use Rattle.ch_contract.specs.declared.search.Wanted.{Wanted}
-use Rattle.ch_contract.specs.declared.search.Step.{Step}
 use Rattle.ch_contract.specs.declared.search.Heads.{Heads}
+use Rattle.ch_contract.specs.declared.search.Step.{Step}
+use Rattle.ch_contract.specs.HeldCosts.{never, IsLight, IsHeld}
 use Rattle.ch_contract.specs.Legs.{Label, Legs, IsChain, chain_cost}
 use Rattle.ch_contract.specs.Rows.{row}
 
--- the cost at a node to which no chain is known, which is more than any that is wanted
-abbrev pub never : Cost
-never = record { weight = 2 ^ 60; arcs = 2 ^ 62 }
+-- a node, and the cost of a chain from it
+pub record Begun : Type 0 where
+  pub node : ℕ
+  pub cost : Cost
+
+-- what a search knows: by node the least cost, the nodes where it was lowered, and those of the next front with their costs
+pub record Known : Type 0 where
+  pub costs : List Cost
+  pub touched : List ℕ
+  pub next : List Begun
+
+-- what is known where the heads stand for costs in this way
+abbrev pub begun_of : {K : Type 0} → (K → Cost) → Step K → Begun
+begun_of cost s = record { node = s.node; cost = cost s.cost }
+
+abbrev pub known_of : {K : Type 0} → (K → Cost) → Heads K → Known
+known_of cost h = record { costs = map cost h.costs.items; touched = h.touched.items; next = map (begun_of cost) h.next.items }
 
 -- the cost known at a node
 abbrev pub head_in : List Cost → ℕ → Cost
 head_in costs x = slice_index_or costs x never
 
-abbrev pub head_at : Heads → ℕ → Cost
-head_at h x = head_in h.costs.items x
+abbrev pub head_at : Known → ℕ → Cost
+head_at h x = head_in h.costs x
 
 -- a chain of at most k legs from x to the wanted end costs d, and never touches the avoided node
 pub record IsReached (L : Legs) (s : Wanted) (k x : ℕ) (d : Cost) : Type 0 where
@@ -34,69 +49,81 @@ abbrev pub IsWanted : Legs → Wanted → ℕ → ℕ → Cost → Type 0
 IsWanted L s k x d = IsReached L s k x d × IsAtMost d s.most
 
 -- the heads are the least costs of chains of at most k legs, as far as they are wanted
-pub record AreHeads (L : Legs) (s : Wanted) (k : ℕ) (h : Heads) : Type 0 where
+pub record AreHeads (L : Legs) (s : Wanted) (k : ℕ) (h : Known) : Type 0 where
   pub sound : (x : ℕ) → (head_at h x ≡ never) ⊎ IsWanted L s k x (head_at h x)
   pub whole : (x : ℕ) (d : Cost) → IsWanted L s k x d → IsAtMost (head_at h x) d
 
 -- a leg of the list, put in front of a chain that begins with this step, makes a wanted chain from x that costs d
-abbrev pub IsOneMore : List Leg → Step → Wanted → ℕ → Cost → Type 0
+abbrev pub IsOneMore : List Leg → Begun → Wanted → ℕ → Cost → Type 0
 IsOneMore legs f s x d = (l : Leg) × Contains legs l × (l.node ≡ x) × (x ≢ s.avoided) × (d ≡ cost_sum l.cost f.cost) × IsAtMost d s.most
 
 -- the same for any step of a front
-abbrev pub IsOneMoreOf : List (List Leg) → List Step → Wanted → ℕ → Cost → Type 0
-IsOneMoreOf lists front s x d = (f : Step) × Contains front f × IsOneMore (row lists f.node) f s x d
+abbrev pub IsOneMoreOf : List (List Leg) → List Begun → Wanted → ℕ → Cost → Type 0
+IsOneMoreOf lists front s x d = (f : Begun) × Contains front f × IsOneMore (row lists f.node) f s x d
 
 abbrev pub IsOnly : ℕ → Cost → ℕ → Cost → Type 0
 IsOnly node cost x d = (x ≡ node) × (d ≡ cost)
 
-abbrev pub step_to : ℕ → Cost → Step
+abbrev pub step_to : ℕ → Cost → Begun
 step_to x e = record { node = x; cost = e }
 
 -- the heads are lowered to the costs P, and the nodes where they are lowered stand in the next front and among the touched
-pub record Lowers (P : ℕ → Cost → Type 0) (old new : Heads) : Type 0 where
-  pub size : length new.costs.items ≡ length old.costs.items
+pub record Lowers (P : ℕ → Cost → Type 0) (old new : Known) : Type 0 where
+  pub size : length new.costs ≡ length old.costs
   pub sound : (x : ℕ) → (head_at new x ≡ head_at old x) ⊎ P x (head_at new x)
   pub lower : (x : ℕ) → IsAtMost (head_at new x) (head_at old x)
   pub whole : (x : ℕ) (d : Cost) → P x d → IsAtMost (head_at new x) d
-  pub fresh : (x : ℕ) → (head_at new x ≡ head_at old x) ⊎ (Contains new.next.items (step_to x (head_at new x)) × Contains new.touched.items x)
-  pub next : (f : Step) → Contains new.next.items f → Contains old.next.items f ⊎ P f.node f.cost
-  pub next_kept : (f : Step) → Contains old.next.items f → Contains new.next.items f
-  pub touched_kept : (x : ℕ) → Contains old.touched.items x → Contains new.touched.items x
-  pub touched : (x : ℕ) → Contains new.touched.items x → Contains old.touched.items x ⊎ (x < length old.costs.items)
+  pub fresh : (x : ℕ) → (head_at new x ≡ head_at old x) ⊎ (Contains new.next (step_to x (head_at new x)) × Contains new.touched x)
+  pub next : (f : Begun) → Contains new.next f → Contains old.next f ⊎ P f.node f.cost
+  pub next_kept : (f : Begun) → Contains old.next f → Contains new.next f
+  pub touched_kept : (x : ℕ) → Contains old.touched x → Contains new.touched x
+  pub touched : (x : ℕ) → Contains new.touched x → Contains old.touched x ⊎ (x < length old.costs)
 
 -- every leg to x, in front of a chain from x that costs e, has lowered the heads
-abbrev pub IsSpread : Legs → Wanted → Heads → ℕ → Cost → Type 0
+abbrev pub IsSpread : Legs → Wanted → Known → ℕ → Cost → Type 0
 IsSpread L s h x e = (y : ℕ) (l : Label) → L y x ≡ Some l → y ≢ s.avoided → IsAtMost (cost_sum l.cost e) s.most → IsAtMost (head_at h y) (cost_sum l.cost e)
 
 -- each step is a wanted chain of at most k legs
-abbrev pub AreSteps : Legs → Wanted → ℕ → List Step → Type 0
-AreSteps L s k steps = (f : Step) → Contains steps f → IsWanted L s k f.node f.cost
+abbrev pub AreSteps : Legs → Wanted → ℕ → List Begun → Type 0
+AreSteps L s k steps = (f : Begun) → Contains steps f → IsWanted L s k f.node f.cost
 
 -- each node that is reached stands in the front with its cost, or has been spread from at that cost
-abbrev pub IsFront : Legs → Wanted → Heads → List Step → Type 0
+abbrev pub IsFront : Legs → Wanted → Known → List Begun → Type 0
 IsFront L s h front = (x : ℕ) → IsAtMost (head_at h x) s.most → Contains front (step_to x (head_at h x)) ⊎ IsSpread L s h x (head_at h x)
 
 -- a node that isn't among the touched ones is at rest
-pub record AreTouched (h : Heads) : Type 0 where
-  pub each : (x : ℕ) → (head_at h x ≡ never) ⊎ Contains h.touched.items x
-  pub within : All (λ x. x < length h.costs.items) h.touched.items
+pub record AreTouched (h : Known) : Type 0 where
+  pub each : (x : ℕ) → (head_at h x ≡ never) ⊎ Contains h.touched x
+  pub within : All (λ x. x < length h.costs) h.touched
 
 -- all of n nodes are at rest
-pub record IsClean (n : ℕ) (h : Heads) : Type 0 where
-  pub size : length h.costs.items ≡ n
+pub record IsClean (n : ℕ) (h : Known) : Type 0 where
+  pub size : length h.costs ≡ n
   pub rest : (x : ℕ) → head_at h x ≡ never
-  pub touched : h.touched.items ≡ []
+  pub touched : h.touched ≡ []
+
+-- all nodes are at rest, however many they are
+abbrev pub IsIdle : Known → Type 0
+IsIdle h = IsClean (length h.costs) h
 
 -- after k rounds among n nodes: what is known, what is next, and what has to be cleaned
-pub record IsUnderway (n : ℕ) (L : Legs) (s : Wanted) (k : ℕ) (h : Heads) : Type 0 where
-  pub size : length h.costs.items ≡ n
+pub record IsUnderway (n : ℕ) (L : Legs) (s : Wanted) (k : ℕ) (h : Known) : Type 0 where
+  pub size : length h.costs ≡ n
   pub heads : AreHeads L s k h
-  pub steps : AreSteps L s k h.next.items
-  pub front : IsFront L s h h.next.items
+  pub steps : AreSteps L s k h.next
+  pub front : IsFront L s h h.next
   pub touched : AreTouched h
 
+-- no leg weighs more than the limit
+abbrev pub AreLegsUpTo : ℕ → Legs → Type 0
+AreLegsUpTo limit L = (u w : ℕ) (l : Label) → L u w ≡ Some l → l.cost.weight ≤ limit
+
+-- a leg to one of n nodes that may be added to a known chain
+pub record IsLegLight (limit n : ℕ) (l : Leg) : Type 0 where
+  pub node : l.node < n
+  pub cost : IsLight limit l.cost
+
 -- legs that may be put in front of a step among n nodes, so that no sum wraps
-pub record IsRoomFor (n : ℕ) (legs : List Leg) (f : Step) : Type 0 where
-  pub within : All (λ l. (l.node < n) × (l.cost.weight ≤ 2 ^ 60) × (l.cost.arcs ≤ 2 ^ 60)) legs
-  pub weight : f.cost.weight ≤ 2 ^ 60
-  pub arcs : f.cost.arcs ≤ 2 ^ 60
+pub record IsRoomFor (limit n : ℕ) (legs : List Leg) (f : Begun) : Type 0 where
+  pub within : All (IsLegLight limit n) legs
+  pub held : IsHeld limit f.cost

@@ -17,6 +17,7 @@ pub mod Progress
 pub mod Construction
 pub mod Keeping
 pub mod KeptLaws
+pub mod HeldCosts
 pub mod Heads
 pub mod LegLists
 pub mod Meeting

@@ -95,7 +95,7 @@ impl Construction {
         let remaining = Remaining::open(alloc, graph)?;
         let nodes = remaining.nodes();
         let waiting = opening_queue(rt, alloc, &remaining, hops, plan, gate)?;
-        let room = Room::new(alloc, nodes)?;
+        let room = Room::new(alloc);
         let levels = vec![in alloc; 0; nodes as usize]?;
         Ok(Construction {
             remaining,

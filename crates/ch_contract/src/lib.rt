@@ -9,6 +9,7 @@
 #![tactic(auto)]
 
 mod construction;
+mod head;
 mod hierarchy;
 pub mod laws;
 mod leg;
@@ -18,6 +19,7 @@ mod priority;
 mod remaining;
 mod room;
 mod search;
+mod searches;
 mod shortcut;
 
 pub use construction::build;

@@ -63,7 +63,7 @@ impl ListJob for PriorityJob<'_> {
     ghost clean = { λ job room. IsReady job.remaining.now.nodes job.hops (legs_of job.remaining.now) room };
 
     fn room(&self, alloc: Global) -> Result<Room, AllocError> {
-        Room::new(alloc, self.remaining.nodes())
+        Ok(Room::new(alloc))
     }
 
     fn value(&self, alloc: Global, room: &mut Room, item: &u32) -> Result<i64, AllocError> {
@@ -74,8 +74,8 @@ impl ListJob for PriorityJob<'_> {
 
 impl PriorityJob<'_> {
     /// Gives these nodes the priorities that they have now. Where there are at least `plan.wide()` of them,
-    /// they are cut into pieces, which workers share and which pass the gate. A lone worker stays in the
-    /// caller's room.
+    /// they are cut into pieces, which workers share and which pass the gate. A lone worker, and one that
+    /// does the only piece, stays in the caller's room.
     pub(crate) fn refresh<R: Threads + Sync, G: Gate>(
         &self,
         rt: &R,
@@ -98,7 +98,7 @@ impl PriorityJob<'_> {
         if nodes.len() < plan.wide() as usize {
             return self.refresh_here(alloc, nodes, room, waiting);
         }
-        if plan.workers() == 1 {
+        if plan.workers() == 1 || nodes.len() <= plan.piece() as usize {
             return self.refresh_alone(alloc, nodes, room, waiting, plan, gate);
         }
         let priorities = run_list(rt, alloc, nodes, plan, gate, self)?;

@@ -5,24 +5,28 @@ ghost use Rattle.ch_contract.specs.Legs.{SameLegs, AreLegsWithin, HasWitness, Is
 ghost use Rattle.ch_contract.specs.Contraction.{AreShortcuts, Contracts, IsPriority, contracted};
 ghost use Rattle.ch_contract.specs.Rows.{AreLegsFrom, AreLegsTo, label_of};
 ghost use Rattle.ch_contract.specs.ShortcutLists.{AreShortcutsBefore, IsShortcutBetween};
-ghost use Rattle.ch_contract.specs.Heads.{IsClean, AreTouched};
+ghost use Rattle.ch_contract.specs.HeldCosts.{IsHeld};
+ghost use Rattle.ch_contract.specs.Heads.{known_of, IsClean, AreTouched, AreLegsUpTo};
 ghost use Rattle.ch_contract.specs.Lines.{IsKnown, IsCandidate, IsMostFor, AreBounded};
 ghost use Rattle.ch_contract.specs.Remaining.{legs_of};
 
+use crate::head::{Head, is_at_most};
 use crate::leg::Leg;
 use crate::lists::LegLists;
-use crate::search::{Search, Wanted, is_at_most};
+use crate::search::{Search, Wanted};
 use crate::shortcut::Shortcut;
-use ch_graph::{Cost, Graph};
+use ch_graph::{Cost, Graph, InArc};
 use std::alloc::{AllocError, Global};
 use std::marker::Model;
 
 /// The most that a leg may weigh. A least walk between two nodes weighs no more.
 const MOST_WEIGHT: u64 = 1 << 60;
 
-/// More arcs than any chain of legs that a search knows stands for, and fewer than those at a node to
-/// which none is known.
-const MOST_ARCS: u64 = 1 << 61;
+/// No chain of at most 16 legs stands for more arcs.
+const MOST_ARCS: u64 = 1 << 29;
+
+/// The most that a leg may weigh for searches over words.
+const MOST_LIGHT: u64 = (1 << 30) - 1;
 
 /// The legs among the nodes that are not contracted yet: at most one from each node to each other node.
 ///
@@ -34,18 +38,22 @@ pub struct Remaining {
     outs: LegLists,
     /// The legs to each node, which are the same.
     ins: LegLists,
+    /// Whether no leg that was put in so far weighs more than `MOST_LIGHT`.
+    light: bool,
     alloc: Global,
 }
 
 impl Model for Remaining {
     ghost use Rattle.ch_contract.specs.Remaining.{RemainingLegs};
-    ghost use Rattle.ch_contract.specs.LegLists.{IsWithinLimits};
+    ghost use Rattle.std.specs.Prelude.{◌-◌, ◌^◌, IsTrue};
+    ghost use Rattle.ch_contract.specs.Heads.{AreLegsUpTo};
+    ghost use Rattle.ch_contract.specs.LegLists.{IsWithinLimits, legs_from};
 
     ghost Value = { RemainingLegs };
 
     ghost view = { λ r. record { nodes = r.nodes; rows = r.outs } };
 
-    ghost invariant = { λ r. IsWithinLimits r.nodes r.outs r.ins };
+    ghost invariant = { λ r. IsWithinLimits r.nodes r.outs r.ins × (IsTrue r.light → AreLegsUpTo (2 ^ 30 - 1) (legs_from r.outs)) };
 }
 
 /// The legs of a contracted node, each list in order of the other node.
@@ -80,6 +88,7 @@ impl Remaining {
             nodes,
             outs,
             ins,
+            light: are_light_arcs(graph.arcs()),
             alloc,
         })
     }
@@ -91,6 +100,13 @@ impl Remaining {
         ensures limits { AreLegsWithin self.now.nodes (legs_of self.now) }
     {
         self.nodes
+    }
+
+    /// Whether no leg that was put in so far is too heavy for searches over words.
+    pub(crate) fn is_light(&self) -> bool
+        ensures { IsTrue result → AreLegsUpTo (2 ^ 30 - 1) (legs_of self.now) }
+    {
+        self.light
     }
 
     /// The legs from `v`, ordered by the node to which they lead. It takes no memory.
@@ -135,7 +151,7 @@ impl Remaining {
             avoided: v,
             most,
         };
-        let mut search = Search::new(self.alloc, nodes)?;
+        let mut search: Search<Cost> = Search::new(self.alloc, nodes)?;
         self.reach(&mut search, wanted, hops)?;
         Ok(self.is_witnessed(&search, wanted, w, most, hops))
     }
@@ -147,7 +163,7 @@ impl Remaining {
         requires hops { IsHopBound hops }
         ensures { IfOk result (λ list. AreShortcuts self.now.nodes hops (legs_of self.now) v list.items) }
     {
-        let mut search = Search::new(self.alloc, self.nodes)?;
+        let mut search: Search<Cost> = Search::new(self.alloc, self.nodes())?;
         let mut list = Vec::new(self.alloc);
         self.fill_shortcuts(&mut search, &mut list, v, hops)?;
         Ok(list)
@@ -159,7 +175,7 @@ impl Remaining {
         requires hops { IsHopBound hops }
         ensures { IfOk result (λ p. IsPriority self.now.nodes hops (legs_of self.now) v p) }
     {
-        let mut search = Search::new(self.alloc, self.nodes)?;
+        let mut search: Search<Cost> = Search::new(self.alloc, self.nodes())?;
         let mut list = Vec::new(self.alloc);
         self.priority_in(&mut search, &mut list, v, hops)
     }
@@ -197,6 +213,7 @@ impl Remaining {
             nodes,
             mut outs,
             mut ins,
+            light,
             alloc,
         } = self;
         outs.take_from(v, down.as_slice());
@@ -209,25 +226,27 @@ impl Remaining {
             nodes,
             outs,
             ins,
+            light: light && are_light(shortcuts),
             alloc,
         };
         Ok((remaining, Removed { up, down }))
     }
 
     /// The priority of `v`, judged in this room for searches. The list becomes that of its shortcuts.
-    pub(crate) fn priority_in(
+    pub(crate) fn priority_in<K: Head>(
         &self,
-        search: &mut Search,
+        search: &mut Search<K>,
         list: &mut Vec<Shortcut>,
         v: u32,
         hops: u32,
     ) -> Result<i64, AllocError>
         requires node { v < self.now.nodes }
         requires hops { IsHopBound hops }
-        requires clean { IsClean self.now.nodes search.old.heads }
+        requires light { AreLegsUpTo K.limit (legs_of self.now) }
+        requires clean { IsClean self.now.nodes (known_of K.cost search.old.heads) }
         ensures priority { IfOk result (λ p. IsPriority self.now.nodes hops (legs_of self.now) v p) }
         ensures list { OnOk result (AreShortcuts self.now.nodes hops (legs_of self.now) v list.new.items) }
-        ensures clean { OnOk result (IsClean self.now.nodes search.new.heads) }
+        ensures clean { OnOk result (IsClean self.now.nodes (known_of K.cost search.new.heads)) }
     {
         let _nodes = self.nodes();
         self.fill_shortcuts(search, list, v, hops)?;
@@ -237,18 +256,19 @@ impl Remaining {
 
     /// Makes the list that of the shortcuts of `v`, judged in this room for searches. It takes memory only
     /// where the room or the list has to grow.
-    pub(crate) fn fill_shortcuts(
+    pub(crate) fn fill_shortcuts<K: Head>(
         &self,
-        search: &mut Search,
+        search: &mut Search<K>,
         list: &mut Vec<Shortcut>,
         v: u32,
         hops: u32,
     ) -> Result<(), AllocError>
         requires node { v < self.now.nodes }
         requires hops { IsHopBound hops }
-        requires clean { IsClean self.now.nodes search.old.heads }
+        requires light { AreLegsUpTo K.limit (legs_of self.now) }
+        requires clean { IsClean self.now.nodes (known_of K.cost search.old.heads) }
         ensures list { OnOk result (AreShortcuts self.now.nodes hops (legs_of self.now) v list.new.items) }
-        ensures clean { OnOk result (IsClean self.now.nodes search.new.heads) }
+        ensures clean { OnOk result (IsClean self.now.nodes (known_of K.cost search.new.heads)) }
     {
         list.clear();
         let up = self.out_legs(v);
@@ -260,9 +280,9 @@ impl Remaining {
 
     /// Puts the shortcuts of `v` at the end of the list that begin with this leg to `v`: one search for all
     /// of them.
-    fn push_shortcuts(
+    fn push_shortcuts<K: Head>(
         &self,
-        search: &mut Search,
+        search: &mut Search<K>,
         list: &mut Vec<Shortcut>,
         v: u32,
         first: Leg,
@@ -271,13 +291,14 @@ impl Remaining {
     ) -> Result<(), AllocError>
         requires node { v < self.now.nodes }
         requires hops { IsHopBound hops }
+        requires light { AreLegsUpTo K.limit (legs_of self.now) }
         requires first { legs_of self.now first.node v ≡ Some (label_of first) }
         requires up { AreLegsFrom (legs_of self.now) v up.now }
-        requires clean { IsClean self.now.nodes search.old.heads }
+        requires clean { IsClean self.now.nodes (known_of K.cost search.old.heads) }
         requires list { AreShortcutsBefore self.now.nodes hops (legs_of self.now) v first.node 0 list.old.items }
         ensures list { OnOk result
             (AreShortcutsBefore self.now.nodes hops (legs_of self.now) v (first.node + 1) 0 list.new.items) }
-        ensures clean { OnOk result (IsClean self.now.nodes search.new.heads) }
+        ensures clean { OnOk result (IsClean self.now.nodes (known_of K.cost search.new.heads)) }
     {
         let nodes = self.nodes();
         let Some(most) = most_cost(nodes, first, up) else {
@@ -300,27 +321,41 @@ impl Remaining {
 
     /// Learns the costs of the chains from the wanted end that leave two legs to go of the `hops` that a
     /// witness may have.
-    fn reach(&self, search: &mut Search, wanted: Wanted, hops: u32) -> Result<(), AllocError>
+    fn reach<K: Head>(
+        &self,
+        search: &mut Search<K>,
+        wanted: Wanted,
+        hops: u32,
+    ) -> Result<(), AllocError>
         requires hops { IsHopBound hops }
-        requires clean { IsClean self.now.nodes search.old.heads }
+        requires light { AreLegsUpTo K.limit (legs_of self.now) }
+        requires clean { IsClean self.now.nodes (known_of K.cost search.old.heads) }
         requires end { (wanted.end < self.now.nodes) × (wanted.end ≢ wanted.avoided) }
-        requires most { (wanted.most.weight ≤ 2 ^ 60) × (wanted.most.arcs < 2 ^ 62) }
-        ensures known { OnOk result (IsKnown self.now wanted hops search.new.heads) }
-        ensures touched { OnOk result (AreTouched search.new.heads) }
+        requires most { IsHeld K.limit wanted.most }
+        ensures known { OnOk result (IsKnown self.now wanted hops (known_of K.cost search.new.heads)) }
+        ensures touched { OnOk result (AreTouched (known_of K.cost search.new.heads)) }
     {
         search.reach(&self.outs, wanted, hops.saturating_sub(2))
     }
 
     /// Whether the chains that are known show a witness from the wanted end to `w`, of at most `hops` legs
     /// and this cost.
-    fn is_witnessed(&self, search: &Search, wanted: Wanted, w: u32, cost: Cost, hops: u32) -> bool
+    fn is_witnessed<K: Head>(
+        &self,
+        search: &Search<K>,
+        wanted: Wanted,
+        w: u32,
+        cost: Cost,
+        hops: u32,
+    ) -> bool
         requires hops { IsHopBound hops }
-        requires known { IsKnown self.now wanted hops search.now.heads }
+        requires light { AreLegsUpTo K.limit (legs_of self.now) }
+        requires known { IsKnown self.now wanted hops (known_of K.cost search.now.heads) }
         requires node { w < self.now.nodes }
         requires end { wanted.end < self.now.nodes }
         requires apart { (w ≢ wanted.avoided) × (w ≢ wanted.end) }
-        requires cost { (cost.weight ≤ 2 ^ 60) × (cost.arcs < 2 ^ 62) }
-        requires most { IsAtMost cost wanted.most × (wanted.most.weight ≤ 2 ^ 60) }
+        requires cost { IsHeld K.limit cost × IsAtMost cost wanted.most }
+        requires most { IsHeld K.limit wanted.most }
         ensures { IsTrue result ↔ HasWitness (legs_of self.now) wanted.avoided wanted.end w cost hops }
     {
         search.meets(&self.ins, wanted.avoided, w, cost, hops)
@@ -328,20 +363,21 @@ impl Remaining {
 
     /// The shortcut of the avoided node for two legs, the first to it and the second from it, where the
     /// chains from the first node are known.
-    fn shortcut(
+    fn shortcut<K: Head>(
         &self,
-        search: &Search,
+        search: &Search<K>,
         wanted: Wanted,
         first: Leg,
         second: Leg,
         hops: u32,
     ) -> Option<Shortcut>
         requires hops { IsHopBound hops }
+        requires light { AreLegsUpTo K.limit (legs_of self.now) }
         requires end { wanted.end ≡ first.node }
         requires first { legs_of self.now first.node wanted.avoided ≡ Some (label_of first) }
         requires second { legs_of self.now wanted.avoided second.node ≡ Some (label_of second) }
-        requires known { IsKnown self.now wanted hops search.now.heads }
-        requires small { wanted.most.weight ≤ 2 ^ 60 }
+        requires known { IsKnown self.now wanted hops (known_of K.cost search.now.heads) }
+        requires held { IsHeld K.limit wanted.most }
         requires most { IsMostFor self.now.nodes first wanted.most second }
         ensures { IsShortcutBetween self.now.nodes hops (legs_of self.now) wanted.avoided first.node second.node result }
     {
@@ -402,4 +438,28 @@ fn joined(nodes: u32, first: Leg, second: Leg) -> Option<Cost>
         return None;
     }
     Some(cost)
+}
+
+/// Whether no arc of these is too heavy for searches over words.
+fn are_light_arcs(arcs: &[InArc]) -> bool
+    ensures { IsTrue result → All (λ a. a.weight ≤ 2 ^ 30 - 1) arcs.now }
+{
+    for arc in arcs {
+        if arc.weight > MOST_LIGHT {
+            return false;
+        }
+    }
+    true
+}
+
+/// Whether no shortcut of these is too heavy for searches over words.
+fn are_light(shortcuts: &[Shortcut]) -> bool
+    ensures { IsTrue result → All (λ s. s.cost.weight ≤ 2 ^ 30 - 1) shortcuts.now }
+{
+    for shortcut in shortcuts {
+        if shortcut.cost.weight > MOST_LIGHT {
+            return false;
+        }
+    }
+    true
 }

@@ -2,11 +2,11 @@
 ghost use Rattle.std.specs.Prelude.{◌≡◌, ℕ, ◌<◌, ◌++◌, ◌∷◌, [], length, IfOk, IfSome, OnOk, slice_index};
 ghost use Rattle.ch_contract.specs.Legs.{Legs, IsHopBound};
 ghost use Rattle.ch_contract.specs.Contraction.{IsPriority};
-ghost use Rattle.ch_contract.specs.Heads.{IsClean};
 ghost use Rattle.ch_contract.specs.Remaining.{legs_of};
+ghost use Rattle.ch_contract.specs.Rooms.{AreIdle};
 
 use crate::remaining::Remaining;
-use crate::search::Search;
+use crate::searches::Searches;
 use crate::shortcut::Shortcut;
 use std::alloc::{AllocError, Global};
 
@@ -14,7 +14,7 @@ use std::alloc::{AllocError, Global};
 /// legs that are left now.
 #[derive(Drop)]
 pub(crate) struct Room {
-    pub(crate) search: Search,
+    pub(crate) searches: Searches,
     /// The nodes that are judged.
     pub(crate) judged: Vec<u32>,
     /// Their shortcuts, at the same places. The lists after these are spare.
@@ -24,20 +24,20 @@ pub(crate) struct Room {
 impl Room {
     ghost use Rattle.ch_contract.specs.Rooms.{IsReady, list_at};
 
-    /// A room for graphs of so many nodes.
-    pub(crate) fn new(alloc: Global, nodes: u32) -> Result<Room, AllocError>
-        ensures { IfOk result (λ room. (h : ℕ) (L : Legs) → IsReady nodes h L room) }
+    /// A room in which no node is judged yet. It takes no memory.
+    pub(crate) fn new(alloc: Global) -> Room
+        ensures { (n h : ℕ) (L : Legs) → IsReady n h L result }
     {
-        Ok(Room {
-            search: Search::new(alloc, nodes)?,
+        Room {
+            searches: Searches::new(alloc),
             judged: Vec::new(alloc),
             lists: Vec::new(alloc),
-        })
+        }
     }
 
     /// Forgets the shortcuts, as is due where the legs are others now.
     pub(crate) fn forget(&mut self)
-        ensures { (n h : ℕ) (L : Legs) → IsClean n self.old.search.heads → IsReady n h L self.new }
+        ensures { (n h : ℕ) (L : Legs) → AreIdle self.old.searches → IsReady n h L self.new }
     {
         self.judged.clear();
     }
@@ -62,7 +62,7 @@ impl Room {
             self.lists.push(Vec::new(alloc))?;
         }
         let list = &mut self.lists[place];
-        let priority = remaining.priority_in(&mut self.search, list, node, hops)?;
+        let priority = self.searches.priority(alloc, remaining, list, node, hops)?;
         self.judged.push(node)?;
         Ok(priority)
     }

@@ -1,20 +1,14 @@
 //! The search for witnesses of one end: rounds back from it, and then one or two legs from each start.
-ghost use Rattle.std.specs.Prelude.{◌≡◌, ◌≢◌, ◌+◌, ◌-◌, ◌^◌, ◌<◌, ◌≤◌, ◌↔◌, length, IfOk, OnOk, IsTrue, [], All};
-ghost use Rattle.ch_graph.specs.Cost.{IsAtMost};
+ghost use Rattle.std.specs.Prelude.{◌≡◌, ◌≢◌, ◌+◌, ◌-◌, ◌^◌, ◌<◌, ◌≤◌, ◌↔◌, length, map, IfOk, OnOk, IsTrue, [], ◌∷◌, All};
 ghost use Rattle.ch_contract.specs.Legs.{AreLegsWithin, HasWitness};
 ghost use Rattle.ch_contract.specs.Rows.{row};
 
+use crate::head::Head;
 use crate::leg::Leg;
 use crate::lists::LegLists;
 use ch_graph::Cost;
 use std::alloc::{AllocError, Global};
 use std::mem;
-
-/// What a node costs to which no chain is known: more than any cost that is wanted.
-const NEVER: Cost = Cost {
-    weight: 1 << 60,
-    arcs: 1 << 62,
-};
 
 /// What a search looks for: chains that lead to `end`, never touch `avoided`, and cost at most `most`.
 #[derive(Clone, Copy, Debug)]
@@ -26,30 +20,34 @@ pub(crate) struct Wanted {
 
 /// A node, and the cost of a chain from it.
 #[derive(Clone, Copy, Debug)]
-pub(crate) struct Step {
+pub(crate) struct Step<K> {
     pub(crate) node: u32,
-    pub(crate) cost: Cost,
+    pub(crate) cost: K,
 }
 
 /// The least costs known of chains from each node.
 #[derive(Drop)]
-pub(crate) struct Heads {
+pub(crate) struct Heads<K> {
     /// By node: the least cost known of a chain from it.
-    pub(crate) costs: Vec<Cost>,
+    pub(crate) costs: Vec<K>,
     /// The nodes whose costs were lowered.
     pub(crate) touched: Vec<u32>,
     /// Those whose cost was lowered in the round that is under way, with that cost.
-    pub(crate) next: Vec<Step>,
+    pub(crate) next: Vec<Step<K>>,
 }
 
-impl Heads {
-    ghost use Rattle.ch_contract.specs.Heads.{AreTouched, IsClean, Lowers, IsOnly, IsOneMore, IsOneMoreOf, IsRoomFor};
+impl<K: Head> Heads<K> {
+    ghost use Rattle.ch_contract.specs.HeldCosts.{IsHeld};
+    ghost use Rattle.ch_contract.specs.Heads.{known_of, begun_of, AreTouched, IsClean, Lowers, IsOnly, IsOneMore, IsOneMoreOf, IsLegLight, IsRoomFor};
 
     /// Room for searches among so many nodes.
-    fn new(alloc: Global, nodes: u32) -> Result<Heads, AllocError>
-        ensures { IfOk result (IsClean nodes) }
+    fn new(alloc: Global, nodes: u32) -> Result<Heads<K>, AllocError>
+        ensures { IfOk result (λ h. IsClean nodes (known_of K.cost h)) }
     {
-        let costs = vec![in alloc; NEVER; nodes as usize]?;
+        let mut costs = Vec::with_capacity(alloc, nodes as usize)?;
+        for _ in 0..nodes {
+            costs.push(K::never())?;
+        }
         Ok(Heads {
             costs,
             touched: Vec::new(alloc),
@@ -59,11 +57,11 @@ impl Heads {
 
     /// Puts the cost in where a greater one is known.
     #[inline]
-    fn lower(&mut self, node: u32, cost: Cost) -> Result<(), AllocError>
+    fn lower(&mut self, node: u32, cost: K) -> Result<(), AllocError>
         requires { node < length self.old.costs.items }
-        ensures { OnOk result (Lowers (IsOnly node cost) self.old self.new) }
+        ensures { OnOk result (Lowers (IsOnly node (K.cost cost)) (known_of K.cost self.old) (known_of K.cost self.new)) }
     {
-        if is_at_most(self.costs[node as usize], cost) {
+        if self.costs[node as usize].is_at_most(cost) {
             return Ok(());
         }
         self.touched.push(node)?;
@@ -72,17 +70,30 @@ impl Heads {
         Ok(())
     }
 
+    /// Puts a leg in front of the chain of this step, where that is wanted.
+    #[inline]
+    fn spread_leg(&mut self, leg: Leg, step: Step<K>, wanted: Wanted) -> Result<(), AllocError>
+        requires leg { IsLegLight K.limit (length self.old.costs.items) leg }
+        requires step { IsHeld K.limit (K.cost step.cost) }
+        requires most { IsHeld K.limit wanted.most }
+        ensures { OnOk result (Lowers (IsOneMore (leg ∷ []) (begun_of K.cost step) wanted) (known_of K.cost self.old) (known_of K.cost self.new)) }
+    {
+        let cost = K::of(leg.cost).plus(step.cost);
+        if cost.is_at_most(K::of(wanted.most)) && leg.node != wanted.avoided {
+            return self.lower(leg.node, cost);
+        }
+        Ok(())
+    }
+
     /// Puts each leg in front of the chain of this step.
     #[inline]
-    fn spread(&mut self, legs: &[Leg], step: Step, wanted: Wanted) -> Result<(), AllocError>
-        requires { IsRoomFor (length self.old.costs.items) legs.now step }
-        ensures { OnOk result (Lowers (IsOneMore legs.now step wanted) self.old self.new) }
+    fn spread(&mut self, legs: &[Leg], step: Step<K>, wanted: Wanted) -> Result<(), AllocError>
+        requires room { IsRoomFor K.limit (length self.old.costs.items) legs.now (begun_of K.cost step) }
+        requires most { IsHeld K.limit wanted.most }
+        ensures { OnOk result (Lowers (IsOneMore legs.now (begun_of K.cost step) wanted) (known_of K.cost self.old) (known_of K.cost self.new)) }
     {
         for leg in legs {
-            let cost = leg.cost.plus(step.cost);
-            if is_at_most(cost, wanted.most) && leg.node != wanted.avoided {
-                self.lower(leg.node, cost)?;
-            }
+            self.spread_leg(*leg, step, wanted)?;
         }
         Ok(())
     }
@@ -91,13 +102,14 @@ impl Heads {
     fn spread_all(
         &mut self,
         lists: &LegLists,
-        front: &[Step],
+        front: &[Step<K>],
         wanted: Wanted,
     ) -> Result<(), AllocError>
         requires size { length self.old.costs.items ≡ length lists.now }
         requires nodes { All (λ f. f.node < length lists.now) front.now }
-        requires room { All (λ f. IsRoomFor (length lists.now) (row lists.now f.node) f) front.now }
-        ensures { OnOk result (Lowers (IsOneMoreOf lists.now front.now wanted) self.old self.new) }
+        requires room { All (λ f. IsRoomFor K.limit (length lists.now) (row lists.now f.node) (begun_of K.cost f)) front.now }
+        requires most { IsHeld K.limit wanted.most }
+        ensures { OnOk result (Lowers (IsOneMoreOf lists.now (map (begun_of K.cost) front.now) wanted) (known_of K.cost self.old) (known_of K.cost self.new)) }
     {
         for step in front {
             self.spread(lists.at(step.node), *step, wanted)?;
@@ -107,46 +119,64 @@ impl Heads {
 
     /// Forgets what is known.
     fn clear(&mut self)
-        requires { AreTouched self.old }
-        ensures { IsClean (length self.old.costs.items) self.new }
+        requires { AreTouched (known_of K.cost self.old) }
+        ensures { IsClean (length (known_of K.cost self.old).costs) (known_of K.cost self.new) }
     {
         while let Some(node) = self.touched.pop() {
-            self.costs[node as usize] = NEVER;
+            self.costs[node as usize] = K::never();
         }
         self.next.clear();
     }
 }
 
-/// Whether the first cost is at most the second.
-#[inline]
-pub(crate) fn is_at_most(a: Cost, b: Cost) -> bool
-    ensures { IsTrue result ↔ IsAtMost a b }
-{
-    a.weight < b.weight || (a.weight == b.weight && a.arcs <= b.arcs)
-}
-
 /// The search for the chains to one end, and the room for it.
 #[derive(Drop)]
-pub(crate) struct Search {
-    pub(crate) heads: Heads,
+pub(crate) struct Search<K> {
+    pub(crate) heads: Heads<K>,
     /// The nodes whose cost was lowered in the last round, with that cost.
-    pub(crate) front: Vec<Step>,
+    pub(crate) front: Vec<Step<K>>,
 }
 
-impl Search {
+impl<K: Head> Search<K> {
     ghost use Rattle.std.specs.Prelude.{ℕ};
+    ghost use Rattle.ch_contract.specs.HeldCosts.{IsLight, IsHeld};
     ghost use Rattle.ch_contract.specs.LegLists.{AreRows, legs_into};
-    ghost use Rattle.ch_contract.specs.Heads.{AreTouched, IsClean, AreHeads};
-    ghost use Rattle.ch_contract.specs.Meeting.{AreListsWithin, AreSmall, IsLegLight, IsMet, IsMetAt, IsMetBeyond};
+    ghost use Rattle.ch_contract.specs.Heads.{known_of, AreTouched, IsClean, IsIdle, AreHeads, AreLegsUpTo, IsLegLight};
+    ghost use Rattle.ch_contract.specs.Meeting.{AreListsWithin, AreSmall, IsMet, IsMetAt, IsMetBeyond};
 
     /// Room for searches among so many nodes.
-    pub(crate) fn new(alloc: Global, nodes: u32) -> Result<Search, AllocError>
-        ensures { IfOk result (λ s. IsClean nodes s.heads) }
+    pub(crate) fn new(alloc: Global, nodes: u32) -> Result<Search<K>, AllocError>
+        ensures { IfOk result (λ s. IsClean nodes (known_of K.cost s.heads)) }
     {
         Ok(Search {
             heads: Heads::new(alloc, nodes)?,
             front: Vec::new(alloc),
         })
+    }
+
+    /// A search without room. It takes no memory.
+    pub(crate) fn idle(alloc: Global) -> Search<K>
+        ensures { IsIdle (known_of K.cost result.heads) }
+    {
+        Search {
+            heads: Heads {
+                costs: Vec::new(alloc),
+                touched: Vec::new(alloc),
+                next: Vec::new(alloc),
+            },
+            front: Vec::new(alloc),
+        }
+    }
+
+    /// Gives an idle search room for so many nodes, where it has not.
+    pub(crate) fn fit(&mut self, alloc: Global, nodes: u32) -> Result<(), AllocError>
+        requires { IsIdle (known_of K.cost self.old.heads) }
+        ensures { OnOk result (IsClean nodes (known_of K.cost self.new.heads)) }
+    {
+        if self.heads.costs.len() != nodes as usize {
+            self.heads = Heads::new(alloc, nodes)?;
+        }
+        Ok(())
     }
 
     /// Learns the least costs of chains of at most `rounds` legs to the wanted end, where each list has
@@ -157,19 +187,21 @@ impl Search {
         wanted: Wanted,
         rounds: u32,
     ) -> Result<(), AllocError>
-        requires clean { IsClean (length lists.now) self.old.heads }
+        requires clean { IsClean (length lists.now) (known_of K.cost self.old.heads) }
         requires rows { AreRows lists.now }
         requires limits { AreLegsWithin (length lists.now) (legs_into lists.now) }
+        requires light { AreLegsUpTo K.limit (legs_into lists.now) }
         requires nodes { length lists.now ≤ 2 ^ 25 }
         requires end { (wanted.end < length lists.now) × (wanted.end ≢ wanted.avoided) }
-        requires most { (wanted.most.weight ≤ 2 ^ 60) × (wanted.most.arcs < 2 ^ 62) }
+        requires most { IsHeld K.limit wanted.most }
         requires rounds { rounds ≤ 16 }
-        ensures heads { OnOk result (AreHeads (legs_into lists.now) wanted rounds self.new.heads) }
-        ensures touched { OnOk result (AreTouched self.new.heads) }
-        ensures size { OnOk result (length self.new.heads.costs.items ≡ length lists.now) }
+        ensures heads { OnOk result (AreHeads (legs_into lists.now) wanted rounds (known_of K.cost self.new.heads)) }
+        ensures touched { OnOk result (AreTouched (known_of K.cost self.new.heads)) }
+        ensures size { OnOk result (length (known_of K.cost self.new.heads).costs ≡ length lists.now) }
     {
         self.heads.next.clear();
-        self.heads.lower(wanted.end, Cost { weight: 0, arcs: 0 })?;
+        let none = K::of(Cost { weight: 0, arcs: 0 });
+        self.heads.lower(wanted.end, none)?;
         for _round in 0..rounds {
             mem::swap(&mut self.front, &mut self.heads.next);
             self.heads.next.clear();
@@ -190,11 +222,12 @@ impl Search {
     ) -> bool
         requires start { start < length lists.now }
         requires size { length self.now.heads.costs.items ≡ length lists.now }
-        requires limits { AreListsWithin (length lists.now) lists.now }
-        requires small { AreSmall self.now.heads }
-        requires most { most.weight ≤ 2 ^ 60 }
-        ensures { IsTrue result ↔ IsMet self.now.heads lists.now avoided start most hops }
+        requires limits { AreListsWithin K.limit (length lists.now) lists.now }
+        requires small { AreSmall K.limit (known_of K.cost self.now.heads) }
+        requires most { IsHeld K.limit most }
+        ensures { IsTrue result ↔ IsMet (known_of K.cost self.now.heads) lists.now avoided start most hops }
     {
+        let most = K::of(most);
         for leg in lists.at(start) {
             if leg.node != avoided && self.meets_at(lists, *leg, most, hops) {
                 return true;
@@ -205,32 +238,37 @@ impl Search {
 
     /// Whether a known chain after this leg, or after this leg and one more, costs at most `most`.
     #[inline]
-    fn meets_at(&self, lists: &LegLists, leg: Leg, most: Cost, hops: u32) -> bool
-        requires leg { IsLegLight (length lists.now) leg }
+    fn meets_at(&self, lists: &LegLists, leg: Leg, most: K, hops: u32) -> bool
+        requires leg { IsLegLight K.limit (length lists.now) leg }
         requires size { length self.now.heads.costs.items ≡ length lists.now }
-        requires limits { AreListsWithin (length lists.now) lists.now }
-        requires small { AreSmall self.now.heads }
-        requires most { most.weight ≤ 2 ^ 60 }
-        ensures { IsTrue result ↔ IsMetAt self.now.heads lists.now leg most hops }
+        requires limits { AreListsWithin K.limit (length lists.now) lists.now }
+        requires small { AreSmall K.limit (known_of K.cost self.now.heads) }
+        requires most { IsHeld K.limit (K.cost most) }
+        ensures { IsTrue result ↔ IsMetAt (known_of K.cost self.now.heads) lists.now leg (K.cost most) hops }
     {
-        is_at_most(leg.cost, most)
-            && (is_at_most(self.heads.costs[leg.node as usize].plus(leg.cost), most)
-                || (hops > 1 && self.meets_beyond(lists.at(leg.node), leg.cost, most)))
+        let first = K::of(leg.cost);
+        first.is_at_most(most)
+            && (self.heads.costs[leg.node as usize]
+                .plus(first)
+                .is_at_most(most)
+                || (hops > 1 && self.meets_beyond(lists.at(leg.node), first, most)))
     }
 
     /// Whether a known chain after a leg of these, after a leg of this cost, costs at most `most`.
     #[inline]
-    fn meets_beyond(&self, legs: &[Leg], first: Cost, most: Cost) -> bool
-        requires legs { All (IsLegLight (length self.now.heads.costs.items)) legs.now }
-        requires first { (first.weight ≤ 2 ^ 60) × (first.arcs ≤ 2 ^ 60) }
-        requires small { AreSmall self.now.heads }
-        requires most { most.weight ≤ 2 ^ 60 }
-        ensures { IsTrue result ↔ IsMetBeyond self.now.heads legs.now first most }
+    fn meets_beyond(&self, legs: &[Leg], first: K, most: K) -> bool
+        requires legs { All (IsLegLight K.limit (length self.now.heads.costs.items)) legs.now }
+        requires first { IsLight K.limit (K.cost first) }
+        requires small { AreSmall K.limit (known_of K.cost self.now.heads) }
+        requires most { IsHeld K.limit (K.cost most) }
+        ensures { IsTrue result ↔ IsMetBeyond (known_of K.cost self.now.heads) legs.now (K.cost first) (K.cost most) }
     {
         for leg in legs {
-            let cost = leg.cost.plus(first);
-            if is_at_most(cost, most)
-                && is_at_most(self.heads.costs[leg.node as usize].plus(cost), most)
+            let cost = K::of(leg.cost).plus(first);
+            if cost.is_at_most(most)
+                && self.heads.costs[leg.node as usize]
+                    .plus(cost)
+                    .is_at_most(most)
             {
                 return true;
             }
@@ -240,8 +278,8 @@ impl Search {
 
     /// Forgets what is known.
     pub(crate) fn clear(&mut self)
-        requires { AreTouched self.old.heads }
-        ensures { IsClean (length self.old.heads.costs.items) self.new.heads }
+        requires { AreTouched (known_of K.cost self.old.heads) }
+        ensures { IsClean (length (known_of K.cost self.old.heads).costs) (known_of K.cost self.new.heads) }
     {
         self.heads.clear();
     }

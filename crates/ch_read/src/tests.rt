@@ -4,6 +4,8 @@ use ch_graph::InArc;
 use std::alloc::{AllocError, Global};
 use std::test::Fail;
 
+mod saved;
+
 const SMALL_GRAPH: &str = "p sp 3 2\na 1 2 4\na 2 3 5\n";
 
 const SMALL_QUERIES: &str = "p aux sp p2p 2\nq 1 3\nq 3 1\n";

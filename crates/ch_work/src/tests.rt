@@ -2,6 +2,7 @@
 //! has two workers at work at once.
 
 mod boards;
+mod cells;
 mod rooms;
 
 use crate::{CountingGate, Gate, Job, MeetingGate, Open, Plan, run_pieces};

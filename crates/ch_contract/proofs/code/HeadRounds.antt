@@ -7,13 +7,12 @@ use Rattle.std.proofs.Math.Nat.{mul-le-mul_right}
 use Rattle.ch_graph.specs.declared.cost.Cost.{Cost}
 use Rattle.ch_graph.specs.Cost.{IsAtMost, cost_sum, no_cost}
 use Rattle.ch_contract.specs.declared.leg.Leg.{Leg}
-use Rattle.ch_contract.specs.declared.search.Heads.{Heads}
-use Rattle.ch_contract.specs.declared.search.Step.{Step}
 use Rattle.ch_contract.specs.declared.search.Wanted.{Wanted}
 use Rattle.ch_contract.specs.Legs.{Label, Legs, IsChain, chain_cost, leg_cost, AreLegsWithin}
 use Rattle.ch_contract.specs.Rows.{row, label_of}
 use Rattle.ch_contract.specs.LegLists.{AreRows, legs_into}
-use Rattle.ch_contract.specs.Heads.{never, head_in, head_at, Lowers, IsOnly, IsClean, IsUnderway, IsRoomFor, AreTouched, IsOneMoreOf, step_to, IsWanted, AreHeads, IsSpread, AreSteps, IsFront}
+use Rattle.ch_contract.specs.HeldCosts.{never, IsLight, IsHeld}
+use Rattle.ch_contract.specs.Heads.{Known, Begun, head_in, head_at, Lowers, IsOnly, IsClean, IsUnderway, IsRoomFor, IsLegLight, AreTouched, IsOneMoreOf, step_to, IsWanted, AreHeads, IsSpread, AreSteps, IsFront, AreLegsUpTo}
 use Rattle.ch_contract.proofs.theory.RowLegs.{row_has, row_member, leg_at}
 use Rattle.ch_contract.proofs.theory.RowLemmas.{no_leg}
 use Rattle.ch_contract.proofs.theory.ReferenceSearch.{some_of}
@@ -29,7 +28,7 @@ listed_leg : (lists : List (List Leg)) (x : ℕ) (l : Leg) → AreRows lists →
 listed_leg lists x l rows c = row_has (row lists x) l (rows x) c
 
 -- one more leg in front of a wanted chain makes a wanted chain
-one_more_wanted : (lists : List (List Leg)) (s : Wanted) (k : ℕ) (front : List Step) (x : ℕ) (d : Cost) → AreRows lists →
+one_more_wanted : (lists : List (List Leg)) (s : Wanted) (k : ℕ) (front : List Begun) (x : ℕ) (d : Cost) → AreRows lists →
     AreSteps (legs_into lists) s k front → IsOneMoreOf lists front s x d → IsWanted (legs_into lists) s (k + 1) x d
 one_more_wanted lists s k front x d rows steps m =
     let L = legs_into lists in
@@ -50,7 +49,7 @@ one_more_wanted lists s k front x d rows steps m =
     )
 
 -- a round: the front is spread, and what it lowers is the next front
-module _ (lists : List (List Leg)) (s : Wanted) (k : ℕ) (front : List Step) (old new : Heads) (rows : AreRows lists)
+module _ (lists : List (List Leg)) (s : Wanted) (k : ℕ) (front : List Begun) (old new : Known) (rows : AreRows lists)
     (heads : AreHeads (legs_into lists) s k old) (steps : AreSteps (legs_into lists) s k front) (whole : IsFront (legs_into lists) s old front)
     (low : Lowers (IsOneMoreOf lists front s) old new) where
   abbrev pub L : Legs
@@ -100,50 +99,50 @@ module _ (lists : List (List Leg)) (s : Wanted) (k : ℕ) (front : List Step) (o
     whole = λ x d w. whole_cons x d w.0.nodes w.0.chain w.0.short w.0.away.0 w.0.away.1 w.0.cost w.1;
   }
 
-  pub next_steps : old.next.items ≡ [] → AreSteps L s (k + 1) new.next.items
+  pub next_steps : old.next ≡ [] → AreSteps L s (k + 1) new.next
   next_steps none f c = elim (low.next f c) [
     | inl early ↦ let no = subst (λ z. Contains z f) none early in let at = no.1 in absurd (omega arith)
     | inr m ↦ one_more_wanted lists s k front f.node f.cost rows steps m
   ]
 
-  pub next_front : IsFront L s new new.next.items
+  pub next_front : IsFront L s new new.next
   next_front x le = elim (low.fresh x) [
     | inl same ↦ inr (subst (IsSpread L s new x) (sym same) (reached_spread x (subst (λ z. IsAtMost z s.most) same le)))
     | inr at ↦ inl at.0
   ]
 
 -- what is touched stays so, and what is lowered is touched
-touched_next : (P : ℕ → Cost → Type 0) (old new : Heads) → AreTouched old → Lowers P old new → AreTouched new
+touched_next : (P : ℕ → Cost → Type 0) (old new : Known) → AreTouched old → Lowers P old new → AreTouched new
 touched_next P old new t low = record {
   each = λ x. each x (low.fresh x) (t.each x);
-  within = All-from_get_or (λ x. x < length new.costs.items) new.touched.items 0 (λ i lt. within _ (low.touched _ (Contains-get_or new.touched.items i 0 lt)));
+  within = All-from_get_or (λ x. x < length new.costs) new.touched 0 (λ i lt. within _ (low.touched _ (Contains-get_or new.touched i 0 lt)));
 }
   where
-    each : (x : ℕ) → (head_at new x ≡ head_at old x) ⊎ (Contains new.next.items (step_to x (head_at new x)) × Contains new.touched.items x) →
-        (head_at old x ≡ never) ⊎ Contains old.touched.items x → (head_at new x ≡ never) ⊎ Contains new.touched.items x
+    each : (x : ℕ) → (head_at new x ≡ head_at old x) ⊎ (Contains new.next (step_to x (head_at new x)) × Contains new.touched x) →
+        (head_at old x ≡ never) ⊎ Contains old.touched x → (head_at new x ≡ never) ⊎ Contains new.touched x
     each x (inr at) _ = inr at.1
     each x (inl e) (inl none) = inl (e ∙ none)
     each x (inl e) (inr c) = inr (low.touched_kept x c)
 
-    within : (x : ℕ) → Contains old.touched.items x ⊎ (x < length old.costs.items) → x < length new.costs.items
-    within x (inl c) = let lt = All-contains (λ y. y < length old.costs.items) old.touched.items x t.within c in omega (arith, low.size)
+    within : (x : ℕ) → Contains old.touched x ⊎ (x < length old.costs) → x < length new.costs
+    within x (inl c) = let lt = All-contains (λ y. y < length old.costs) old.touched x t.within c in omega (arith, low.size)
     within x (inr lt) = omega (arith, low.size)
 
 not_among : {X : Type 0} (xs : List X) (x : X) → xs ≡ [] → Contains xs x → ⊥
 not_among xs x none c = let at = (subst (λ z. Contains z x) none c).1 in omega arith
 
 -- at first the empty chain is known alone
-pub underway_start : (n : ℕ) (L : Legs) (s : Wanted) (old new : Heads) → s.end ≢ s.avoided → (s.most.weight ≤ 2 ^ 60) × (s.most.arcs < 2 ^ 62) →
-    s.end < n → IsClean n old → old.next.items ≡ [] → Lowers (IsOnly s.end no_cost) old new → IsUnderway n L s 0 new
+pub underway_start : (n : ℕ) (L : Legs) (s : Wanted) (old new : Known) → s.end ≢ s.avoided → (s.most.weight ≤ 2 ^ 60) × (s.most.arcs < 2 ^ 62) →
+    s.end < n → IsClean n old → old.next ≡ [] → Lowers (IsOnly s.end no_cost) old new → IsUnderway n L s 0 new
 underway_start n L s old new off most inside clean none low = record {
   size = low.size ∙ clean.size;
   heads = record { sound = λ x. sound x (low.sound x); whole = λ x d w. whole x d w.0.nodes w.0.chain w.0.short w.0.cost };
   steps = λ f c. elim (low.next f c) [
-    | inl early ↦ absurd (not_among old.next.items f none early)
+    | inl early ↦ absurd (not_among old.next f none early)
     | inr m ↦ only f.node f.cost m
   ];
   front = λ x le. front x le (low.fresh x);
-  touched = touched_next (IsOnly s.end no_cost) old new (record { each = λ x. inl (clean.rest x); within = subst (All (λ x. x < length old.costs.items)) (sym clean.touched) (search rules) }) low;
+  touched = touched_next (IsOnly s.end no_cost) old new (record { each = λ x. inl (clean.rest x); within = subst (All (λ x. x < length old.costs)) (sym clean.touched) (search rules) }) low;
 }
   where
     only : (x : ℕ) (d : Cost) → IsOnly s.end no_cost x d → IsWanted L s 0 x d
@@ -157,8 +156,8 @@ underway_start n L s old new off most inside clean none low = record {
     whole x d [] chain short cost = low.whole x d (chain, sym cost)
     whole x d (y ∷ ys) chain short cost = absurd (omega arith)
 
-    front : (x : ℕ) → IsAtMost (head_at new x) s.most → (head_at new x ≡ head_at old x) ⊎ (Contains new.next.items (step_to x (head_at new x)) × Contains new.touched.items x) →
-        Contains new.next.items (step_to x (head_at new x)) ⊎ IsSpread L s new x (head_at new x)
+    front : (x : ℕ) → IsAtMost (head_at new x) s.most → (head_at new x ≡ head_at old x) ⊎ (Contains new.next (step_to x (head_at new x)) × Contains new.touched x) →
+        Contains new.next (step_to x (head_at new x)) ⊎ IsSpread L s new x (head_at new x)
     front x le (inr at) = inl at.0
     front x le (inl e) =
         let low_enough : IsAtMost never s.most = subst (λ z. IsAtMost z s.most) (e ∙ clean.rest x) le in
@@ -167,23 +166,23 @@ underway_start n L s old new off most inside clean none low = record {
         absurd (omega (arith, most.1))
 
 -- one round more
-pub underway_next : (lists : List (List Leg)) (n : ℕ) (s : Wanted) (k : ℕ) (before mid new : Heads) → AreRows lists →
-    mid.costs.items ≡ before.costs.items → mid.touched.items ≡ before.touched.items → mid.next.items ≡ [] →
-    IsUnderway n (legs_into lists) s k before → Lowers (IsOneMoreOf lists before.next.items s) mid new → IsUnderway n (legs_into lists) s (k + 1) new
+pub underway_next : (lists : List (List Leg)) (n : ℕ) (s : Wanted) (k : ℕ) (before mid new : Known) → AreRows lists →
+    mid.costs ≡ before.costs → mid.touched ≡ before.touched → mid.next ≡ [] →
+    IsUnderway n (legs_into lists) s k before → Lowers (IsOneMoreOf lists before.next s) mid new → IsUnderway n (legs_into lists) s (k + 1) new
 underway_next lists n s k before mid new rows costs touched none u low =
     let heads : AreHeads (legs_into lists) s k mid = record {
       sound = λ x. subst (λ (z : List Cost). (head_in z x ≡ never) ⊎ IsWanted (legs_into lists) s k x (head_in z x)) (sym costs) (u.heads.sound x);
       whole = λ x d w. subst (λ (z : List Cost). IsAtMost (head_in z x) d) (sym costs) (u.heads.whole x d w);
     } in
-    let front : IsFront (legs_into lists) s mid before.next.items = λ x le. subst (λ (z : List Cost). IsAtMost (head_in z x) s.most → Contains before.next.items (step_to x (head_in z x)) ⊎ ((y : ℕ) (l : Label) → legs_into lists y x ≡ Some l → y ≢ s.avoided → IsAtMost (cost_sum l.cost (head_in z x)) s.most → IsAtMost (head_in z y) (cost_sum l.cost (head_in z x)))) (sym costs) (u.front x) le in
+    let front : IsFront (legs_into lists) s mid before.next = λ x le. subst (λ (z : List Cost). IsAtMost (head_in z x) s.most → Contains before.next (step_to x (head_in z x)) ⊎ ((y : ℕ) (l : Label) → legs_into lists y x ≡ Some l → y ≢ s.avoided → IsAtMost (cost_sum l.cost (head_in z x)) s.most → IsAtMost (head_in z y) (cost_sum l.cost (head_in z x)))) (sym costs) (u.front x) le in
     record {
       size = low.size ∙ ap length costs ∙ u.size;
-      heads = next_heads lists s k before.next.items mid new rows heads u.steps front low;
-      steps = next_steps lists s k before.next.items mid new rows heads u.steps front low none;
-      front = next_front lists s k before.next.items mid new rows heads u.steps front low;
+      heads = next_heads lists s k before.next mid new rows heads u.steps front low;
+      steps = next_steps lists s k before.next mid new rows heads u.steps front low none;
+      front = next_front lists s k before.next mid new rows heads u.steps front low;
       touched = touched_next _ mid new (record {
-        each = λ x. subst (λ (z : List Cost). (head_in z x ≡ never) ⊎ Contains mid.touched.items x) (sym costs) (subst (λ z. (head_at before x ≡ never) ⊎ Contains z x) (sym touched) (u.touched.each x));
-        within = subst (λ (z : List Cost). All (λ x. x < length z) mid.touched.items) (sym costs) (subst (λ z. All (λ x. x < length before.costs.items) z) (sym touched) u.touched.within);
+        each = λ x. subst (λ (z : List Cost). (head_in z x ≡ never) ⊎ Contains mid.touched x) (sym costs) (subst (λ z. (head_at before x ≡ never) ⊎ Contains z x) (sym touched) (u.touched.each x));
+        within = subst (λ (z : List Cost). All (λ x. x < length z) mid.touched) (sym costs) (subst (λ z. All (λ x. x < length before.costs) z) (sym touched) u.touched.within);
       }) low;
     }
 
@@ -198,48 +197,53 @@ chain_arcs n L u w (x ∷ xs) limits chain =
     subst (λ z. z ≤ suc (length xs) * n) (sym is) (omega arith)
 
 -- 16 legs of fewer than 2 ^ 25 arcs
-product : (k n : ℕ) → k ≤ 16 → n ≤ 2 ^ 25 → k * n ≤ 2 ^ 60
+product : (k n : ℕ) → k ≤ 16 → n ≤ 2 ^ 25 → k * n ≤ 2 ^ 29
 product k n h m = omega (arith, mul-le-mul_right {m = k} {n = 16} n h)
 
 -- so a chain of at most 16 legs stands for few arcs
-pub chain_small : (n : ℕ) (L : Legs) (u w : ℕ) (xs : List ℕ) → AreLegsWithin n L → n ≤ 2 ^ 25 → length xs ≤ 16 → IsChain L u w xs → (chain_cost L u xs).arcs ≤ 2 ^ 60
+pub chain_small : (n : ℕ) (L : Legs) (u w : ℕ) (xs : List ℕ) → AreLegsWithin n L → n ≤ 2 ^ 25 → length xs ≤ 16 → IsChain L u w xs → (chain_cost L u xs).arcs ≤ 2 ^ 29
 chain_small n L u w xs limits small few chain =
     let arcs = chain_arcs n L u w xs limits chain in
     let bound = product (length xs) n few small in omega arith
 
 -- a wanted chain is among the n nodes, and its cost is small
-pub wanted_small : (n : ℕ) (L : Legs) (s : Wanted) (k x : ℕ) (d : Cost) → AreLegsWithin n L → n ≤ 2 ^ 25 → k ≤ 16 → s.end < n → s.most.weight ≤ 2 ^ 60 →
-    IsWanted L s k x d → (x < n) × (d.weight ≤ 2 ^ 60) × (d.arcs ≤ 2 ^ 60)
-wanted_small n L s k x d limits small few inside most w = (node w.0.nodes w.0.chain, weight, arcs)
+pub wanted_small : (limit n : ℕ) (L : Legs) (s : Wanted) (k x : ℕ) (d : Cost) → AreLegsWithin n L → n ≤ 2 ^ 25 → k ≤ 16 → s.end < n → IsHeld limit s.most →
+    IsWanted L s k x d → (x < n) × IsHeld limit d
+wanted_small limit n L s k x d limits small few inside most w = (node w.0.nodes w.0.chain, record { limited = limited; weight = weight; arcs = arcs })
   where
     node : (xs : List ℕ) → IsChain L x s.end xs → x < n
     node [] chain = subst (λ z. z < n) (sym chain) inside
     node (y ∷ ys) chain = let l = some_of (L x y) chain.0 in (limits x y l.0 l.1).ends.0
 
-    weight : d.weight ≤ 2 ^ 60
-    weight = let le = w.1.0 in omega arith
+    limited : d.weight ≤ 2 * limit
+    limited = let le = w.1.0 in omega (arith, most.limited)
 
-    arcs : d.arcs ≤ 2 ^ 60
+    weight : d.weight ≤ 2 ^ 60
+    weight = let le = w.1.0 in omega (arith, most.weight)
+
+    arcs : d.arcs ≤ 2 ^ 29
     arcs =
         let short = w.0.short in
-        subst (λ z. z.arcs ≤ 2 ^ 60) w.0.cost (chain_small n L x s.end w.0.nodes limits small (omega arith) w.0.chain)
+        subst (λ z. z.arcs ≤ 2 ^ 29) w.0.cost (chain_small n L x s.end w.0.nodes limits small (omega arith) w.0.chain)
 
 -- so there is room for one leg more in front of each step
-pub steps_room : (lists : List (List Leg)) (n : ℕ) (s : Wanted) (k : ℕ) (front : List Step) → AreRows lists → AreLegsWithin n (legs_into lists) → n ≤ 2 ^ 25 → k ≤ 16 →
-    s.end < n → s.most.weight ≤ 2 ^ 60 → AreSteps (legs_into lists) s k front → All (λ f. (f.node < n) × IsRoomFor n (row lists f.node) f) front
-steps_room lists n s k front rows limits small few inside most steps =
-    All-from_get_or (λ f. (f.node < n) × IsRoomFor n (row lists f.node) f) front (step_to 0 no_cost) (λ i lt. room (get_or front i (step_to 0 no_cost)) (Contains-get_or front i (step_to 0 no_cost) lt))
+pub steps_room : (limit : ℕ) (lists : List (List Leg)) (n : ℕ) (s : Wanted) (k : ℕ) (front : List Begun) → AreRows lists → AreLegsWithin n (legs_into lists) → AreLegsUpTo limit (legs_into lists) →
+    n ≤ 2 ^ 25 → k ≤ 16 → s.end < n → IsHeld limit s.most → AreSteps (legs_into lists) s k front → All (λ f. (f.node < n) × IsRoomFor limit n (row lists f.node) f) front
+steps_room limit lists n s k front rows limits light small few inside most steps =
+    All-from_get_or (λ f. (f.node < n) × IsRoomFor limit n (row lists f.node) f) front (step_to 0 no_cost) (λ i lt. room (get_or front i (step_to 0 no_cost)) (Contains-get_or front i (step_to 0 no_cost) lt))
   where
-    leg : (x : ℕ) (l : Leg) → Contains (row lists x) l → (l.node < n) × (l.cost.weight ≤ 2 ^ 60) × (l.cost.arcs ≤ 2 ^ 60)
-    leg x l c = let within = limits l.node x (label_of l) (listed_leg lists x l rows c) in (within.ends.0, within.weight, omega (arith, within.arcs))
+    leg : (x : ℕ) (l : Leg) → Contains (row lists x) l → IsLegLight limit n l
+    leg x l c =
+        let is = listed_leg lists x l rows c in
+        let within = limits l.node x (label_of l) is in
+        record { node = within.ends.0; cost = record { limited = light l.node x (label_of l) is; weight = within.weight; arcs = omega (arith, within.arcs) } }
 
-    room : (f : Step) → Contains front f → (f.node < n) × IsRoomFor n (row lists f.node) f
+    room : (f : Begun) → Contains front f → (f.node < n) × IsRoomFor limit n (row lists f.node) f
     room f c =
-        let is = wanted_small n (legs_into lists) s k f.node f.cost limits small few inside most (steps f c) in (
+        let is = wanted_small limit n (legs_into lists) s k f.node f.cost limits small few inside most (steps f c) in (
           is.0,
           record {
-            within = All-from_get_or (λ l. (l.node < n) × (l.cost.weight ≤ 2 ^ 60) × (l.cost.arcs ≤ 2 ^ 60)) (row lists f.node) no_leg (λ i lt. leg f.node _ (Contains-get_or (row lists f.node) i no_leg lt));
-            weight = is.1;
-            arcs = is.2;
+            within = All-from_get_or (IsLegLight limit n) (row lists f.node) no_leg (λ i lt. leg f.node _ (Contains-get_or (row lists f.node) i no_leg lt));
+            held = is.1;
           },
         )

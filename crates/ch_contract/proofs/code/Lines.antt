@@ -4,17 +4,17 @@ use Rattle.std.specs.Prelude.{◌≢◌, ◌↔◌, Result, Ok, Err, OnOk, min, 
 use Rattle.std.specs.declared.alloc.AllocError.{AllocError}
 use Rattle.ch_contract.specs.Lines.{IsKnown, IsCandidate, IsMostFor, AreBounded}
 use Rattle.ch_graph.proofs.CostOrder.{IsAtMost_trans}
-use Rattle.std.proofs.lemmas.List.Elements.{All-contains, All-from_get_or, All-push, Contains-get_or}
+use Rattle.std.proofs.lemmas.List.Elements.{All-contains, All-from_get_or, All-push, Contains-get_or, Contains-append_left, Contains-push}
 use Rattle.ch_graph.specs.declared.cost.Cost.{Cost}
 use Rattle.ch_graph.specs.Cost.{IsAtMost, cost_sum}
 use Rattle.ch_contract.specs.declared.leg.Leg.{Leg}
-use Rattle.ch_contract.specs.declared.search.Heads.{Heads}
 use Rattle.ch_contract.specs.declared.search.Wanted.{Wanted}
 use Rattle.ch_contract.specs.Legs.{Label, Legs, AreLegsWithin, HasWitness, chain_cost}
 use Rattle.ch_contract.specs.Rows.{row, label_of, AreLegsFrom, AreLegsTo}
-use Rattle.ch_contract.specs.Heads.{head_at, AreHeads}
+use Rattle.ch_contract.specs.HeldCosts.{never, IsLight, IsHeld, IsHead}
+use Rattle.ch_contract.specs.Heads.{Known, IsLegLight, AreLegsUpTo, head_at, AreHeads}
 use Rattle.ch_contract.specs.LegLists.{IsWithinLimits, legs_from, legs_into}
-use Rattle.ch_contract.specs.Meeting.{IsMet, IsLegLight, AreListsWithin, AreSmall}
+use Rattle.ch_contract.specs.Meeting.{IsMet, AreListsWithin, AreSmall}
 use Rattle.ch_contract.proofs.theory.RowLegs.{row_has, row_member, leg_at}
 use Rattle.ch_contract.proofs.theory.RowLemmas.{no_leg, leg_from_at}
 use Rattle.std.proofs.lemmas.Bool.{cases_eq, cases_lt}
@@ -45,24 +45,25 @@ module _ (n : ℕ) (outs ins : List (List Leg)) (within : IsWithinLimits n outs 
   turned_rows v = to_rows v
 
   -- a leg may be added to a known chain
-  pub ins_light : AreListsWithin n ins
-  ins_light x = All-from_get_or (IsLegLight n) (row ins x) no_leg (λ i lt. light _ (Contains-get_or (row ins x) i no_leg lt))
+  pub ins_light : (limit : ℕ) → AreLegsUpTo limit (legs_from outs) → AreListsWithin limit n ins
+  ins_light limit up_to x = All-from_get_or (IsLegLight limit n) (row ins x) no_leg (λ i lt. light _ (Contains-get_or (row ins x) i no_leg lt))
     where
-      light : (l : Leg) → Contains (row ins x) l → IsLegLight n l
+      light : (l : Leg) → Contains (row ins x) l → IsLegLight limit n l
       light l c =
-          let is = within.legs l.node x (label_of l) (within.agree l.node x ∙ row_has (row ins x) l (within.rows.1 x) c) in
+          let leg = within.agree l.node x ∙ row_has (row ins x) l (within.rows.1 x) c in
+          let is = within.legs l.node x (label_of l) leg in
           let count = within.nodes in
-          record { node = is.ends.0; weight = is.weight; arcs = omega (arith, is.arcs) }
+          record { node = is.ends.0; cost = record { limited = up_to l.node x (label_of l) leg; weight = is.weight; arcs = omega (arith, is.arcs) } }
 
   -- so are the known costs
-  pub heads_small : (s : Wanted) (k : ℕ) (h : Heads) → k ≤ 16 → s.end < n → s.most.weight ≤ 2 ^ 60 → AreHeads (legs_into outs) s k h → AreSmall h
-  heads_small s k h few inside most heads x = elim (heads.sound x) [
-    | inl none ↦ subst (λ (z : Cost). (z.weight ≤ 2 ^ 60) × (z.arcs ≤ 2 ^ 62)) (sym none) (omega arith, omega arith)
-    | inr w ↦ let is = wanted_small n (legs_into outs) s k x (head_at h x) into_within within.nodes few inside most w in (is.1, omega (arith, is.2))
+  pub heads_small : (limit : ℕ) (s : Wanted) (k : ℕ) (h : Known) → k ≤ 16 → s.end < n → IsHeld limit s.most → AreHeads (legs_into outs) s k h → AreSmall limit h
+  heads_small limit s k h few inside most heads x = elim (heads.sound x) [
+    | inl none ↦ inl none
+    | inr w ↦ inr (wanted_small limit n (legs_into outs) s k x (head_at h x) into_within within.nodes few inside most w).1
   ]
 
   -- what the search meets is a witness
-  pub met_witness : (s : Wanted) (hops : ℕ) (h : Heads) (w : ℕ) (most : Cost) → AreHeads (legs_into outs) s (hops - 2) h →
+  pub met_witness : (s : Wanted) (hops : ℕ) (h : Known) (w : ℕ) (most : Cost) → AreHeads (legs_into outs) s (hops - 2) h →
       (most.weight ≤ 2 ^ 60) × (most.arcs < 2 ^ 62) → IsAtMost most s.most → 1 ≤ hops → w ≢ s.avoided → w ≢ s.end →
       IsMet h ins s.avoided w most hops ↔ HasWitness (legs_from outs) s.avoided s.end w most hops
   met_witness s hops h w most heads small wanted one off apart =
@@ -88,36 +89,48 @@ module _ (n : ℕ) (outs ins : List (List Leg)) (within : IsWithinLimits n outs 
   leg_ends u v a e = (within.legs u v (label_of a) e).ends
 
   -- what a search has learned
-  pub known_after : (s : Wanted) (hops k : ℕ) (h : Heads) (o : Result (Unit {0}) AllocError) → k ≡ hops - 2 →
-      OnOk o (length h.costs.items ≡ length outs) → OnOk o (AreHeads (legs_into outs) s k h) → OnOk o (IsKnown (record { nodes = n; rows = outs }) s hops h)
+  pub known_after : (s : Wanted) (hops k : ℕ) (h : Known) (o : Result (Unit {0}) AllocError) → k ≡ hops - 2 →
+      OnOk o (length h.costs ≡ length outs) → OnOk o (AreHeads (legs_into outs) s k h) → OnOk o (IsKnown (record { nodes = n; rows = outs }) s hops h)
   known_after s hops k h (Ok x) e size heads = record { size = size ∙ within.sizes.0; heads = subst (λ j. AreHeads (legs_into outs) s j h) e heads }
   known_after s hops k h (Err x) e size heads = heads
 
+-- a candidate of a list is one of a longer list
+more_candidate : (n : ℕ) (first l : Leg) (up : List Leg) (most : Cost) → ((k : Leg) × Contains up k × IsCandidate n first k × (most ≡ cost_sum first.cost k.cost)) →
+    (k : Leg) × Contains (up ++ l ∷ []) k × IsCandidate n first k × (most ≡ cost_sum first.cost k.cost)
+more_candidate n first l up most is = (is.0, Contains-append_left up _ _ is.1, is.2, is.3)
+
 -- one leg more, which makes a candidate
-pub bounded_more : (n : ℕ) (first l : Leg) (up : List Leg) (so_far : Option Cost) (cost most : Cost) → cost ≡ cost_sum first.cost l.cost → IsCandidate n first l → n < 2 ^ 32 →
+pub bounded_more : (n : ℕ) (first l : Leg) (up : List Leg) (so_far : Option Cost) (cost most : Cost) → cost ≡ cost_sum first.cost l.cost → IsCandidate n first l →
     IsAtMost cost most → MatchOption so_far (most ≡ cost) (λ c. IsAtMost c most × ((most ≡ cost) ⊎ (most ≡ c))) → AreBounded n first up so_far → AreBounded n first (up ++ l ∷ []) (Some most)
-bounded_more n first l up None cost most is can few le same none = (
-  subst (λ (z : Cost). z.weight ≤ 2 ^ 60) (sym (same ∙ is)) can.weight,
-  subst (λ (z : Cost). z.arcs < 2 ^ 32) (sym (same ∙ is)) (omega (arith, can.arcs)),
+bounded_more n first l up None cost most is can le same none = (
+  (l, Contains-push up l, can, same ∙ is),
   All-push (IsMostFor n first most) up l (λ k d lt other. absurd (none k d lt other)) (λ it. subst (λ z. IsAtMost z most) is le),
 )
-bounded_more n first l up (Some c) cost most is can few le more all = elim more.1 [
-  | inl same ↦ (
-    subst (λ (z : Cost). z.weight ≤ 2 ^ 60) (sym (same ∙ is)) can.weight,
-    subst (λ (z : Cost). z.arcs < 2 ^ 32) (sym (same ∙ is)) (omega (arith, can.arcs)),
-    All-push (IsMostFor n first most) up l (λ k d lt other. IsAtMost_trans _ c most (all.2 k d lt other) more.0) (λ it. subst (λ z. IsAtMost z most) is le),
-  )
-  | inr same ↦ (
-    subst (λ (z : Cost). z.weight ≤ 2 ^ 60) (sym same) all.0,
-    subst (λ (z : Cost). z.arcs < 2 ^ 32) (sym same) all.1,
-    All-push (IsMostFor n first most) up l (λ k d lt other. IsAtMost_trans _ c most (all.2 k d lt other) more.0) (λ it. subst (λ z. IsAtMost z most) is le),
-  )
-]
+bounded_more n first l up (Some c) cost most is can le more all = (
+  elim more.1 [
+    | inl same ↦ (l, Contains-push up l, can, same ∙ is)
+    | inr same ↦ more_candidate n first l up most (subst (λ (z : Cost). (k : Leg) × Contains up k × IsCandidate n first k × (z ≡ cost_sum first.cost k.cost)) (sym same) all.0)
+  ],
+  All-push (IsMostFor n first most) up l (λ k d lt other. IsAtMost_trans _ c most (all.1 k d lt other) more.0) (λ it. subst (λ z. IsAtMost z most) is le),
+)
 
 -- and one that makes none
 pub bounded_skip : (n : ℕ) (first l : Leg) (up : List Leg) (so_far : Option Cost) → (IsCandidate n first l → ⊥) → AreBounded n first up so_far → AreBounded n first (up ++ l ∷ []) so_far
 bounded_skip n first l up None never none = All-push (λ (k : Leg). IsCandidate n first k → ⊥) up l none never
-bounded_skip n first l up (Some c) never all = (all.0, all.1, All-push (IsMostFor n first c) up l all.2 (λ it. absurd (never it)))
+bounded_skip n first l up (Some c) never all = (more_candidate n first l up c all.0, All-push (IsMostFor n first c) up l all.1 (λ it. absurd (never it)))
+
+-- what two legs cost together is a bound that a search holds
+pub candidate_held : (limit n : ℕ) (first l : Leg) → n ≤ 2 ^ 25 → first.cost.weight ≤ limit → l.cost.weight ≤ limit → IsCandidate n first l → IsHeld limit (cost_sum first.cost l.cost)
+candidate_held limit n first l small a b is = record { limited = omega arith; weight = is.weight; arcs = omega (arith, is.arcs) }
+
+-- the dearest candidate is a bound that a search holds
+pub bound_held : (limit n v : ℕ) (L : Legs) (first : Leg) (up : List Leg) (most : Cost) → n ≤ 2 ^ 25 → AreLegsUpTo limit L → L first.node v ≡ Some (label_of first) → AreLegsFrom L v up →
+    AreBounded n first up (Some most) → IsHeld limit most
+bound_held limit n v L first up most small light here row bounded =
+    let is = bounded.0 in
+    let l = is.0 in
+    let leg = sym (row.1 l.node) ∙ row_has up l row.0 is.1 in
+    subst (IsHeld limit) (sym is.3) (candidate_held limit n first l small (light first.node v (label_of first) here) (light v l.node (label_of l) leg) is.2)
 
 -- where no leg from a node makes a candidate with this leg to it, no shortcut begins with this leg
 pub before_no_candidate : (n h : ℕ) (L : Legs) (v : ℕ) (first : Leg) (up : List Leg) (list : List Shortcut) → L first.node v ≡ Some (label_of first) → AreLegsFrom L v up →
@@ -149,8 +162,8 @@ pub up_light : (n : ℕ) (L : Legs) (v : ℕ) (up : List Leg) → AreLegsWithin 
 up_light n L v up limits small row = All-from_get_or (λ l. (l.cost.weight ≤ 2 ^ 60) × (l.cost.arcs ≤ 2 ^ 60)) up no_leg
     (λ i lt. let is = limits v (get_or up i no_leg).node _ (leg_from_at L v up i no_leg row lt) in (is.weight, omega (arith, is.arcs)))
 
--- no witness stands for more arcs than 2 ^ 61, so the bound on its arcs may be capped
-pub capped_witness : (n : ℕ) (L : Legs) (v u w hops : ℕ) (cost : Cost) (arcs : ℕ) → AreLegsWithin n L → n ≤ 2 ^ 25 → hops ≤ 16 → arcs ≡ min cost.arcs (2 ^ 61) →
+-- no witness stands for more arcs than 2 ^ 29, so the bound on its arcs may be capped
+pub capped_witness : (n : ℕ) (L : Legs) (v u w hops : ℕ) (cost : Cost) (arcs : ℕ) → AreLegsWithin n L → n ≤ 2 ^ 25 → hops ≤ 16 → arcs ≡ min cost.arcs (2 ^ 29) →
     HasWitness L v u w (record { weight = cost.weight; arcs = arcs }) hops ↔ HasWitness L v u w cost hops
 capped_witness n L v u w hops cost arcs limits small few is = (
   λ x. (x.0, record { chain = x.1.chain; hops = x.1.hops; away = x.1.away; cheap = loose (chain_cost L u x.0) x.1.cheap }),
@@ -160,5 +173,5 @@ capped_witness n L v u w hops cost arcs limits small few is = (
     loose : (d : Cost) → IsAtMost d (record { weight = cost.weight; arcs = arcs }) → IsAtMost d cost
     loose d le = let weight = le.0 in (weight, λ e. let more = le.1 e in omega arith)
 
-    tight : (d : Cost) → d.arcs ≤ 2 ^ 60 → IsAtMost d cost → IsAtMost d (record { weight = cost.weight; arcs = arcs })
+    tight : (d : Cost) → d.arcs ≤ 2 ^ 29 → IsAtMost d cost → IsAtMost d (record { weight = cost.weight; arcs = arcs })
     tight d less le = let weight = le.0 in (weight, λ e. let more = le.1 e in omega arith)

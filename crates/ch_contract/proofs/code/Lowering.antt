@@ -3,19 +3,18 @@ use Rattle.std.proofs.Common.{◌≡◌, ℕ, ◌<◌, List, [], ◌∷◌, ◌+
 use Rattle.std.specs.Prelude.{◌⊎◌, ◌≢◌, ◌↔◌, Bool, true, false, IsTrue}
 use Rattle.std.proofs.lemmas.Bool.{cases_eq}
 use Rattle.std.proofs.lemmas.List.{length-set, get_or-set_same, get_or-set_other}
-use Rattle.std.proofs.lemmas.List.Elements.{Contains-append_left, Contains-push, Contains-push_cases}
+use Rattle.std.proofs.lemmas.List.Elements.{Contains-append_left, Contains-append_right, Contains-push, Contains-push_cases}
 use Rattle.ch_graph.specs.declared.cost.Cost.{Cost}
 use Rattle.ch_graph.specs.Cost.{IsAtMost, cost_sum}
 use Rattle.ch_contract.specs.declared.leg.Leg.{Leg}
-use Rattle.ch_contract.specs.declared.search.Heads.{Heads}
-use Rattle.ch_contract.specs.declared.search.Step.{Step}
 use Rattle.ch_contract.specs.declared.search.Wanted.{Wanted}
-use Rattle.ch_contract.specs.Heads.{never, head_in, head_at, Lowers, IsOnly, IsOneMore, IsOneMoreOf, step_to}
+use Rattle.ch_contract.specs.HeldCosts.{never}
+use Rattle.ch_contract.specs.Heads.{Known, Begun, head_in, head_at, Lowers, IsOnly, IsOneMore, IsOneMoreOf, step_to}
 use Rattle.ch_contract.specs.Rows.{row}
 use Rattle.ch_graph.proofs.CostOrder.{IsAtMost_refl, IsAtMost_trans, IsAtMost_or_IsBelow, IsBelow-IsAtMost}
 
 -- nothing is put in
-pub lowers_none : (P : ℕ → Cost → Type 0) (h : Heads) → ((x : ℕ) (d : Cost) → P x d → IsAtMost (head_at h x) d) → Lowers P h h
+pub lowers_none : (P : ℕ → Cost → Type 0) (h : Known) → ((x : ℕ) (d : Cost) → P x d → IsAtMost (head_at h x) d) → Lowers P h h
 lowers_none P h whole = record {
   size = refl;
   sound = λ x. inl refl;
@@ -29,7 +28,7 @@ lowers_none P h whole = record {
 }
 
 -- first P and then Q
-pub lowers_then : (P Q R : ℕ → Cost → Type 0) (a b c : Heads) → ((x : ℕ) (d : Cost) → P x d → R x d) → ((x : ℕ) (d : Cost) → Q x d → R x d) →
+pub lowers_then : (P Q R : ℕ → Cost → Type 0) (a b c : Known) → ((x : ℕ) (d : Cost) → P x d → R x d) → ((x : ℕ) (d : Cost) → Q x d → R x d) →
     ((x : ℕ) (d : Cost) → R x d → P x d ⊎ Q x d) → Lowers P a b → Lowers Q b c → Lowers R a c
 lowers_then P Q R a b c first second either p q = record {
   size = q.size ∙ p.size;
@@ -53,46 +52,46 @@ lowers_then P Q R a b c first second either p q = record {
     whole x d (inl m) = IsAtMost_trans (head_at c x) (head_at b x) d (q.lower x) (p.whole x d m)
     whole x d (inr m) = q.whole x d m
 
-    fresh : (x : ℕ) → (head_at c x ≡ head_at b x) ⊎ (Contains c.next.items (step_to x (head_at c x)) × Contains c.touched.items x) →
-        (head_at b x ≡ head_at a x) ⊎ (Contains b.next.items (step_to x (head_at b x)) × Contains b.touched.items x) →
-        (head_at c x ≡ head_at a x) ⊎ (Contains c.next.items (step_to x (head_at c x)) × Contains c.touched.items x)
+    fresh : (x : ℕ) → (head_at c x ≡ head_at b x) ⊎ (Contains c.next (step_to x (head_at c x)) × Contains c.touched x) →
+        (head_at b x ≡ head_at a x) ⊎ (Contains b.next (step_to x (head_at b x)) × Contains b.touched x) →
+        (head_at c x ≡ head_at a x) ⊎ (Contains c.next (step_to x (head_at c x)) × Contains c.touched x)
     fresh x (inr m) _ = inr m
     fresh x (inl e) (inl f) = inl (e ∙ f)
-    fresh x (inl e) (inr m) = inr (subst (λ z. Contains c.next.items (step_to x z)) (sym e) (q.next_kept _ m.0), q.touched_kept x m.1)
+    fresh x (inl e) (inr m) = inr (subst (λ z. Contains c.next (step_to x z)) (sym e) (q.next_kept _ m.0), q.touched_kept x m.1)
 
-    touched : (x : ℕ) → Contains b.touched.items x ⊎ (x < length b.costs.items) → Contains a.touched.items x ⊎ (x < length a.costs.items)
+    touched : (x : ℕ) → Contains b.touched x ⊎ (x < length b.costs) → Contains a.touched x ⊎ (x < length a.costs)
     touched x (inl m) = p.touched x m
     touched x (inr lt) = let size = p.size in inr (omega arith)
 
-    next : (f : Step) → Contains b.next.items f ⊎ Q f.node f.cost → Contains a.next.items f ⊎ R f.node f.cost
+    next : (f : Begun) → Contains b.next f ⊎ Q f.node f.cost → Contains a.next f ⊎ R f.node f.cost
     next f (inr m) = inr (second f.node f.cost m)
     next f (inl m) = early f (p.next f m)
       where
-        early : (g : Step) → Contains a.next.items g ⊎ P g.node g.cost → Contains a.next.items g ⊎ R g.node g.cost
+        early : (g : Begun) → Contains a.next g ⊎ P g.node g.cost → Contains a.next g ⊎ R g.node g.cost
         early g (inl n) = inl n
         early g (inr n) = inr (first g.node g.cost n)
 
 -- one cost is put in at one node
-pub lowers_here : (node : ℕ) (cost : Cost) (old new : Heads) → node < length old.costs.items → IsAtMost cost (head_at old node) →
-    new.costs.items ≡ set old.costs.items node cost → new.next.items ≡ old.next.items ++ step_to node cost ∷ [] →
-    new.touched.items ≡ old.touched.items ++ node ∷ [] → Lowers (IsOnly node cost) old new
+pub lowers_here : (node : ℕ) (cost : Cost) (old new : Known) → node < length old.costs → IsAtMost cost (head_at old node) →
+    new.costs ≡ set old.costs node cost → new.next ≡ old.next ++ step_to node cost ∷ [] →
+    new.touched ≡ old.touched ++ node ∷ [] → Lowers (IsOnly node cost) old new
 lowers_here node cost old new inside less costs next touched = record {
-  size = ap length costs ∙ length-set old.costs.items node cost;
+  size = ap length costs ∙ length-set old.costs node cost;
   sound = λ x. sound x (cases_eq x node);
   lower = λ x. lower x (cases_eq x node);
   whole = λ x d m. subst (λ z. IsAtMost (head_at new z) d) (sym m.0) (subst (λ z. IsAtMost z d) (sym here) (subst (IsAtMost cost) (sym m.1) (IsAtMost_refl cost)));
   fresh = λ x. fresh x (cases_eq x node);
-  next = λ f m. from f (Contains-push_cases old.next.items (step_to node cost) f (subst (λ z. Contains z f) next m));
-  next_kept = λ f m. subst (λ z. Contains z f) (sym next) (Contains-append_left old.next.items _ _ m);
-  touched_kept = λ x m. subst (λ z. Contains z x) (sym touched) (Contains-append_left old.touched.items _ _ m);
-  touched = λ x m. was x (Contains-push_cases old.touched.items node x (subst (λ z. Contains z x) touched m));
+  next = λ f m. from f (Contains-push_cases old.next (step_to node cost) f (subst (λ z. Contains z f) next m));
+  next_kept = λ f m. subst (λ z. Contains z f) (sym next) (Contains-append_left old.next _ _ m);
+  touched_kept = λ x m. subst (λ z. Contains z x) (sym touched) (Contains-append_left old.touched _ _ m);
+  touched = λ x m. was x (Contains-push_cases old.touched node x (subst (λ z. Contains z x) touched m));
 }
   where
     here : head_at new node ≡ cost
-    here = ap (λ l. head_in l node) costs ∙ get_or-set_same old.costs.items node cost never inside
+    here = ap (λ l. head_in l node) costs ∙ get_or-set_same old.costs node cost never inside
 
     there : (x : ℕ) → x ≢ node → head_at new x ≡ head_at old x
-    there x ne = ap (λ l. head_in l x) costs ∙ get_or-set_other old.costs.items node x cost never ne
+    there x ne = ap (λ l. head_in l x) costs ∙ get_or-set_other old.costs node x cost never ne
 
     sound : (x : ℕ) → (x ≡ node) ⊎ (x ≢ node) → (head_at new x ≡ head_at old x) ⊎ IsOnly node cost x (head_at new x)
     sound x (inl e) = inr (e, ap (head_at new) e ∙ here)
@@ -102,30 +101,30 @@ lowers_here node cost old new inside less costs next touched = record {
     lower x (inl e) = subst (λ z. IsAtMost (head_at new z) (head_at old z)) (sym e) (subst (λ z. IsAtMost z (head_at old node)) (sym here) less)
     lower x (inr ne) = subst (IsAtMost (head_at new x)) (there x ne) (IsAtMost_refl (head_at new x))
 
-    stands : Contains new.next.items (step_to node (head_at new node)) × Contains new.touched.items node
+    stands : Contains new.next (step_to node (head_at new node)) × Contains new.touched node
     stands = (
-      subst (λ z. Contains z (step_to node (head_at new node))) (sym next) (subst (λ z. Contains (old.next.items ++ step_to node cost ∷ []) (step_to node z)) (sym here) (Contains-push old.next.items (step_to node cost))),
-      subst (λ z. Contains z node) (sym touched) (Contains-push old.touched.items node),
+      subst (λ z. Contains z (step_to node (head_at new node))) (sym next) (subst (λ z. Contains (old.next ++ step_to node cost ∷ []) (step_to node z)) (sym here) (Contains-push old.next (step_to node cost))),
+      subst (λ z. Contains z node) (sym touched) (Contains-push old.touched node),
     )
 
-    fresh : (x : ℕ) → (x ≡ node) ⊎ (x ≢ node) → (head_at new x ≡ head_at old x) ⊎ (Contains new.next.items (step_to x (head_at new x)) × Contains new.touched.items x)
-    fresh x (inl e) = inr (subst (λ z. Contains new.next.items (step_to z (head_at new z)) × Contains new.touched.items z) (sym e) stands)
+    fresh : (x : ℕ) → (x ≡ node) ⊎ (x ≢ node) → (head_at new x ≡ head_at old x) ⊎ (Contains new.next (step_to x (head_at new x)) × Contains new.touched x)
+    fresh x (inl e) = inr (subst (λ z. Contains new.next (step_to z (head_at new z)) × Contains new.touched z) (sym e) stands)
     fresh x (inr ne) = inl (there x ne)
 
-    was : (x : ℕ) → Contains old.touched.items x ⊎ (node ≡ x) → Contains old.touched.items x ⊎ (x < length old.costs.items)
+    was : (x : ℕ) → Contains old.touched x ⊎ (node ≡ x) → Contains old.touched x ⊎ (x < length old.costs)
     was x (inl m) = inl m
     was x (inr e) = inr (omega arith)
 
-    from : (f : Step) → Contains old.next.items f ⊎ (step_to node cost ≡ f) → Contains old.next.items f ⊎ IsOnly node cost f.node f.cost
+    from : (f : Begun) → Contains old.next f ⊎ (step_to node cost ≡ f) → Contains old.next f ⊎ IsOnly node cost f.node f.cost
     from f (inl m) = inl m
-    from f (inr e) = inr (ap (λ (z : Step). z.node) (sym e), ap (λ (z : Step). z.cost) (sym e))
+    from f (inr e) = inr (ap (λ (z : Begun). z.node) (sym e), ap (λ (z : Begun). z.cost) (sym e))
 
 -- no leg is put in front of a chain
-pub no_more : (f : Step) (s : Wanted) (x : ℕ) (d : Cost) → IsOneMore [] f s x d → ⊥
+pub no_more : (f : Begun) (s : Wanted) (x : ℕ) (d : Cost) → IsOneMore [] f s x d → ⊥
 no_more f s x d m = let at = m.1.1 in omega arith
 
 -- one leg more, which is put in
-pub one_leg_more : (taken : List Leg) (l : Leg) (f : Step) (s : Wanted) (a b c : Heads) → IsAtMost (cost_sum l.cost f.cost) s.most → l.node ≢ s.avoided →
+pub one_leg_more : (taken : List Leg) (l : Leg) (f : Begun) (s : Wanted) (a b c : Known) → IsAtMost (cost_sum l.cost f.cost) s.most → l.node ≢ s.avoided →
     Lowers (IsOneMore taken f s) a b → Lowers (IsOnly l.node (cost_sum l.cost f.cost)) b c → Lowers (IsOneMore (taken ++ l ∷ []) f s) a c
 one_leg_more taken l f s a b c le off = lowers_then (IsOneMore taken f s) (IsOnly l.node (cost_sum l.cost f.cost)) (IsOneMore (taken ++ l ∷ []) f s) a b c first second either
   where
@@ -142,7 +141,7 @@ one_leg_more taken l f s a b c le off = lowers_then (IsOneMore taken f s) (IsOnl
     ]
 
 -- one leg more, which makes no wanted chain
-pub one_leg_less : (taken : List Leg) (l : Leg) (f : Step) (s : Wanted) (a b : Heads) → (IsAtMost (cost_sum l.cost f.cost) s.most → l.node ≢ s.avoided → ⊥) →
+pub one_leg_less : (taken : List Leg) (l : Leg) (f : Begun) (s : Wanted) (a b : Known) → (IsAtMost (cost_sum l.cost f.cost) s.most → l.node ≢ s.avoided → ⊥) →
     Lowers (IsOneMore taken f s) a b → Lowers (IsOneMore (taken ++ l ∷ []) f s) a b
 one_leg_less taken l f s a b not p = lowers_then (IsOneMore taken f s) (λ x d. ⊥) (IsOneMore (taken ++ l ∷ []) f s) a b b
     (λ x d m. (m.0, Contains-append_left taken _ _ m.1, m.2, m.3, m.4, m.5)) (λ x d m. absurd m) either p (lowers_none (λ x d. ⊥) b (λ x d m. absurd m))
@@ -155,8 +154,19 @@ one_leg_less taken l f s a b not p = lowers_then (IsOneMore taken f s) (λ x d. 
           (λ e. m.3 (sym m.2 ∙ ap (λ (z : Leg). z.node) (sym same) ∙ e)))
     ]
 
+-- one leg more, whether it is put in or not
+pub legs_more : (taken : List Leg) (l : Leg) (f : Begun) (s : Wanted) (a b c : Known) → Lowers (IsOneMore taken f s) a b → Lowers (IsOneMore (l ∷ []) f s) b c → Lowers (IsOneMore (taken ++ l ∷ []) f s) a c
+legs_more taken l f s a b c = lowers_then (IsOneMore taken f s) (IsOneMore (l ∷ []) f s) (IsOneMore (taken ++ l ∷ []) f s) a b c
+    (λ x d m. (m.0, Contains-append_left taken _ _ m.1, m.2, m.3, m.4, m.5)) (λ x d m. (m.0, Contains-append_right taken _ _ m.1, m.2, m.3, m.4, m.5)) either
+  where
+    either : (x : ℕ) (d : Cost) → IsOneMore (taken ++ l ∷ []) f s x d → IsOneMore taken f s x d ⊎ IsOneMore (l ∷ []) f s x d
+    either x d m = elim (Contains-push_cases taken l m.0 m.1) [
+      | inl early ↦ inl (m.0, early, m.2, m.3, m.4, m.5)
+      | inr same ↦ inr (m.0, subst (Contains (l ∷ [])) same (Contains-push [] l), m.2, m.3, m.4, m.5)
+    ]
+
 -- one step more
-pub one_step_more : (lists : List (List Leg)) (taken : List Step) (f : Step) (s : Wanted) (a b c : Heads) →
+pub one_step_more : (lists : List (List Leg)) (taken : List Begun) (f : Begun) (s : Wanted) (a b c : Known) →
     Lowers (IsOneMoreOf lists taken s) a b → Lowers (IsOneMore (row lists f.node) f s) b c → Lowers (IsOneMoreOf lists (taken ++ f ∷ []) s) a c
 one_step_more lists taken f s a b c = lowers_then (IsOneMoreOf lists taken s) (IsOneMore (row lists f.node) f s) (IsOneMoreOf lists (taken ++ f ∷ []) s) a b c
     (λ x d m. (m.0, Contains-append_left taken _ _ m.1, m.2)) (λ x d m. (f, Contains-push taken f, m)) either

@@ -6,11 +6,11 @@ use Rattle.std.proofs.lemmas.List.Elements.{Contains-push_cases}
 use Rattle.ch_graph.specs.declared.cost.Cost.{Cost}
 use Rattle.ch_graph.specs.Cost.{IsAtMost, cost_sum, no_cost}
 use Rattle.ch_contract.specs.declared.leg.Leg.{Leg}
-use Rattle.ch_contract.specs.declared.search.Heads.{Heads}
 use Rattle.ch_contract.specs.declared.search.Wanted.{Wanted}
 use Rattle.ch_contract.specs.Legs.{Legs, chain_cost, leg_cost, HasWitness, IsWitness}
 use Rattle.ch_contract.specs.Rows.{row, label_of, AreLegsFrom}
-use Rattle.ch_contract.specs.Heads.{never, head_at, IsReached, AreHeads}
+use Rattle.ch_contract.specs.HeldCosts.{never}
+use Rattle.ch_contract.specs.Heads.{Known, head_at, IsReached, AreHeads}
 use Rattle.ch_contract.specs.Meeting.{IsMet}
 use Rattle.ch_contract.proofs.theory.RowLegs.{row_has, row_member, leg_at}
 use Rattle.ch_contract.proofs.theory.ReferenceSearch.{some_of}
@@ -21,7 +21,7 @@ use Rattle.ch_graph.proofs.CostSums.{IsAtMost-cost_sum, cost_sum_comm, cost_sum_
 never_most : (a c : Cost) → (c.weight ≤ 2 ^ 60) × (c.arcs < 2 ^ 62) → IsAtMost (cost_sum never a) c → ⊥
 never_most a c small le = let weight = le.0 in let arcs = le.1 (omega arith) in omega arith
 
-module _ (n : ℕ) (L : Legs) (lists : List (List Leg)) (s : Wanted) (hops : ℕ) (h : Heads) (start : ℕ) (most : Cost)
+module _ (n : ℕ) (L : Legs) (lists : List (List Leg)) (s : Wanted) (hops : ℕ) (h : Known) (start : ℕ) (most : Cost)
     (from : (x : ℕ) → AreLegsFrom L x (row lists x)) (heads : AreHeads L s (hops - 2) h) (small : (most.weight ≤ 2 ^ 60) × (most.arcs < 2 ^ 62))
     (wanted : IsAtMost most s.most) (one : 1 ≤ hops) (off : start ≢ s.avoided) (apart : start ≢ s.end) where
   -- a leg of a list is a leg

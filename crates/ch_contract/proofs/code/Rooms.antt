@@ -9,18 +9,17 @@ use Rattle.ch_contract.specs.declared.room.Room.{Room}
 use Rattle.ch_contract.specs.declared.shortcut.Shortcut.{Shortcut}
 use Rattle.ch_contract.specs.Legs.{Legs}
 use Rattle.ch_contract.specs.Contraction.{AreShortcuts}
-use Rattle.ch_contract.specs.Heads.{IsClean}
-use Rattle.ch_contract.specs.Rooms.{IsReady, list_at}
+use Rattle.ch_contract.specs.Rooms.{IsReady, AreIdle, list_at}
 
 abbrev pub views : List (Vec Shortcut) → List (List Shortcut)
 views lists = map (λ v. v.items) lists
 
 -- one node more is judged: its shortcuts stand behind those that are kept
-pub ready_more : (n h : ℕ) (L : Legs) (old new : Room) (mid : List (Vec Shortcut)) (v : ℕ) (list : Vec Shortcut) → IsReady n h L old → IsClean n new.search.heads →
+pub ready_more : (n h : ℕ) (L : Legs) (old new : Room) (mid : List (Vec Shortcut)) (v : ℕ) (list : Vec Shortcut) → IsReady n h L old → AreIdle new.searches →
     new.judged.items ≡ old.judged.items ++ v ∷ [] → new.lists.items ≡ set mid (length old.judged.items) list → length old.judged.items < length mid →
     ((k : ℕ) → k < length old.judged.items → get_or (views mid) k [] ≡ list_at old k) → AreShortcuts n h L v list.items → IsReady n h L new
-ready_more n h L old new mid v list ready clean judged lists inside same are = record {
-  clean = clean;
+ready_more n h L old new mid v list ready idle judged lists inside same are = record {
+  idle = idle;
   places = omega (arith, ap length judged, length-append old.judged.items (v ∷ []), ap length lists, length-set mid (length old.judged.items) list);
   kept = λ k lt. kept k (cases_eq k (length old.judged.items)) (omega (arith, ap length judged, length-append old.judged.items (v ∷ [])));
 }

@@ -18,11 +18,11 @@ use Rattle.ch_contract.proofs.theory.OneOrder.{taken_at, one_map}
 use Rattle.ch_contract.proofs.theory.RowLegs.{none_unless, row_has}
 
 -- a leg after shortcuts are put in was there before, or is the leg of a shortcut
-abbrev IsMade : ℕ → List Shortcut → ℕ → ℕ → Label → Type 0
+abbrev pub IsMade : ℕ → List Shortcut → ℕ → ℕ → Label → Type 0
 IsMade v list u w l = (s : Shortcut) × Contains list s × (s.from ≡ u) × (s.to ≡ w) × (shortcut_label v s ≡ l)
 
 -- so it is after a contraction
-contracted_cases : (L : Legs) (v : ℕ) (list : List Shortcut) (u w : ℕ) (l : Label) → contracted L v list u w ≡ Some l → (L u w ≡ Some l) ⊎ IsMade v list u w l
+pub contracted_cases : (L : Legs) (v : ℕ) (list : List Shortcut) (u w : ℕ) (l : Label) → contracted L v list u w ≡ Some l → (L u w ≡ Some l) ⊎ IsMade v list u w l
 contracted_cases L v list u w l e = at (u == v || w == v) e
   where
     at : (b : Bool) → cond b None (overridden v list u w (L u w)) ≡ Some l → (L u w ≡ Some l) ⊎ IsMade v list u w l

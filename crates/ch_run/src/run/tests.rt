@@ -10,6 +10,7 @@ use ch_read::{FaultKind, ReadFault};
 use std::alloc::{AllocError, Global};
 use std::thread::Threads;
 
+mod calling;
 mod devices;
 mod distances;
 mod failures;

@@ -11,13 +11,12 @@ loop-second-preserved c =
     let up = c.args.up.now in
     let i = c.loop-second.second-index in
     let l = get_or up i no_leg in
-    let few : c.args.nodes < 2 ^ 32 = omega (arith, c.ranges.nodes) in
     rw (take_more up i no_leg c.loop-second-test.true)
     (elim c.match-joined.branch [
       | in-Some w ↦
           let is = rw w.in-Some.is at c.joined.ensures in
           subst (AreBounded c.args.nodes c.args.first (take i up ++ l ∷ [])) (sym w.most-is)
-          (bounded_more c.args.nodes c.args.first l (take i up) c.loop-second.most w.in-Some.cost w.greatest.result is.0 is.1 few w.greatest.ensures.cost w.greatest.ensures.so_far c.loop-second.invariant)
+          (bounded_more c.args.nodes c.args.first l (take i up) c.loop-second.most w.in-Some.cost w.greatest.result is.0 is.1 w.greatest.ensures.cost w.greatest.ensures.so_far c.loop-second.invariant)
       | in_default w ↦
           let is = rw w.in_default.is at c.joined.ensures in
           subst (AreBounded c.args.nodes c.args.first (take i up ++ l ∷ [])) (sym w.most-is) (bounded_skip c.args.nodes c.args.first l (take i up) c.loop-second.most is c.loop-second.invariant)

@@ -1,15 +1,20 @@
-//! Workers: no plan changes a byte, and two pieces are under way at once.
+//! Workers: no plan changes a byte, two pieces are under way at once, and runs go by the pieces of their layers.
 ghost use Rattle.std.specs.Prelude.{◌≡◌, IfOk};
 ghost use Rattle.ch_contract.specs.Hierarchy.{nodes_of};
+ghost use Rattle.ch_contract.specs.Legs.{IsHopBound};
 ghost use Rattle.ch_query.specs.Distance.{IsKeptForSome};
 
-use super::{ANSWERS, BY_HIERARCHY, LINE, STAR, THERE_AND_BACK, WITH_ROUTES, run, run_lists};
+use super::{ANSWERS, BY_HIERARCHY, LINE, PLAIN, STAR, THERE_AND_BACK, WITH_ROUTES, run, run_lists};
+use crate::device::{MemoryInput, MemoryOutput};
+use crate::fault::RunFault;
+use crate::options::Options;
 use crate::plan::{Gate, Plan};
+use crate::run::run_dist;
 use ch_contract::{Hierarchy, build};
 use ch_graph::{Graph, InArc};
 use ch_query::answer_all;
 use ch_table::table;
-use ch_work::{Job, MeetingGate, run_pieces};
+use ch_work::{CountingGate, Job, MeetingGate, run_pieces};
 use std::alloc::{AllocError, Global};
 use std::test::Fail;
 use std::thread::Threads;
@@ -115,5 +120,47 @@ fn two_pieces_at_once(rt: HostRuntime) -> Result<(), Fail> {
         &tabling,
     )?;
     assert!(rt; tabling.has_met());
+    Ok(())
+}
+
+/// Answers the query from 3 to 4 on the star, with two workers and pieces of one item.
+fn run_on_the_star<R: Threads + Sync>(
+    rt: &R,
+    alloc: Global,
+    options: &Options,
+    gate: &CountingGate,
+) -> Result<Result<(), RunFault>, AllocError>
+    requires { IsHopBound options.now.hops }
+{
+    let mut output = MemoryOutput::new(alloc, 4096, 4096)?;
+    let query: &[u8] = b"p aux sp p2p 1\nq 3 4\n";
+    Ok(run_dist(
+        rt,
+        alloc,
+        &mut MemoryInput::new(STAR, 4096),
+        &mut MemoryInput::new(query, 4096),
+        &mut output,
+        options,
+        &Plan::new(2, 1, 64),
+        gate,
+    ))
+}
+
+/// Four priorities and one query are pieces of a run by the hierarchy; a plain run has none.
+#[test]
+fn gates_passed(rt: HostRuntime) -> Result<(), Fail> {
+    let alloc = rt.alloc();
+    let by_hierarchy = CountingGate::new(alloc, 5)?;
+    let result = run_on_the_star(&rt, alloc, &BY_HIERARCHY, &by_hierarchy)?;
+    assert_eq!(rt; result, Ok(()));
+    for (piece, expected) in [2, 1, 1, 1, 0].iter().enumerate() {
+        assert_eq!(rt; by_hierarchy.passes(piece as u32), Some(*expected), "piece {piece}");
+    }
+    let plain = CountingGate::new(alloc, 5)?;
+    let result = run_on_the_star(&rt, alloc, &PLAIN, &plain)?;
+    assert_eq!(rt; result, Ok(()));
+    for piece in 0..5 {
+        assert_eq!(rt; plain.passes(piece), Some(0), "piece {piece}");
+    }
     Ok(())
 }

@@ -4,7 +4,6 @@ use Rattle.std.specs.Vec.{with_item}
 use Rattle.ch_contract.specs.Remaining.{legs_of}
 use Rattle.ch_contract.specs.declared.leg.Leg.{Leg}
 use Rattle.ch_contract.specs.declared.room.Room.{Room}
-use Rattle.ch_contract.specs.Heads.{IsClean}
 use Rattle.ch_contract.specs.Rooms.{IsReady, list_at}
 use Rattle.ch_contract.specs.declared.shortcut.Shortcut.{Shortcut}
 use Rattle.ch_contract.specs.Legs.{Legs, SameLegs}
@@ -50,7 +49,7 @@ contract_with-requires-clause-shortcuts g c =
     (c.args.hops, subst (AreShortcuts c.args.self.remaining.nodes c.args.hops (legs_of c.args.self.remaining) c.args.node) (sym c.shortcuts.ensures) (kept _ _ _ _ _ _ c.in_ok-place.ensures.ready c.in_ok-place.ensures.place))
 
 pub refresh-requires-clause-ready : goal.refresh-requires-clause-ready
-refresh-requires-clause-ready g c lifetimes bounds = c.forget.ensures _ _ _ (subst (λ n. IsClean n c.place_of.new.self.search.heads) (sym c.in_ok-remaining.ensures.nodes) c.in_ok-place.ensures.ready.clean)
+refresh-requires-clause-ready g c lifetimes bounds = c.forget.ensures _ _ _ c.in_ok-place.ensures.ready.idle
 
 -- the neighbours that are refreshed
 refreshed : (n h : ℕ) (L : Legs) (nodes lent : List ℕ) (old before after : List (Option ℤ)) → lent ≡ nodes → before ≡ old → AreRefreshed n h L lent before after → AreRefreshed n h L nodes old after

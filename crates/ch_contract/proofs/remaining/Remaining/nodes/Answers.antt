@@ -6,4 +6,4 @@ use Rattle.ch_contract.proofs.remaining.Remaining.nodes.Goals as goal
 
 pub returns-clause-limits : goal.returns-clause-limits
 unfolding legs_of
-returns-clause-limits c = subst (λ m. AreLegsWithin m.nodes (legs_from m.rows)) c.self.view_is c.self.invariant.legs
+returns-clause-limits c = subst (λ m. AreLegsWithin m.nodes (legs_from m.rows)) c.self.view_is c.self.invariant.0.legs

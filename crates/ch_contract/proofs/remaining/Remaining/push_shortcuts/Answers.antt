@@ -1,18 +1,18 @@
 use Rattle.ch_contract.specs.Lines.{IsCandidate}
-use Rattle.std.proofs.Common.{All, ◌+◌, get_or, sym, ◌∙◌, ap, subst}
+use Rattle.std.proofs.Common.{◌^◌, ◌≤◌, arith, All, ◌+◌, get_or, sym, ◌∙◌, ap, subst}
 use Rattle.ch_contract.specs.Remaining.{legs_of}
 use Rattle.ch_contract.specs.ShortcutLists.{AreShortcutsBefore}
 use Rattle.ch_contract.proofs.theory.RowLemmas.{leg_from_at, no_leg}
 use Rattle.ch_contract.proofs.code.ShortcutLemmas.{boundary_next, before_next_up, before_end_up, before_push, before_skip}
-use Rattle.ch_contract.proofs.code.Lines.{up_light, before_no_candidate}
+use Rattle.ch_contract.proofs.code.Lines.{up_light, bound_held, before_no_candidate}
 use Rattle.ch_contract.proofs.remaining.Remaining.push_shortcuts.Goals.{in-Some-shortcut+in_ok-push, in_default-shortcut}
 use Rattle.ch_contract.proofs.remaining.Remaining.push_shortcuts.Goals as goal
 
 pub shortcut-requires-clause-second : goal.shortcut-requires-clause-second
-shortcut-requires-clause-second c = leg_from_at (legs_of c.args.self.now) c.args.v _ _ _ c.requires.up c.loop-second-test.true
+shortcut-requires-clause-second g c = leg_from_at (legs_of c.args.self.now) c.args.v _ _ _ c.requires.up c.loop-second-test.true
 
 pub loop-second-preserved : goal.loop-second-preserved
-loop-second-preserved c =
+loop-second-preserved g c =
     let n = c.args.self.now.nodes in
     let L = legs_of c.args.self.now in
     let up = c.args.up.now in
@@ -35,14 +35,24 @@ loop-second-preserved c =
     )
 
 pub returns-clause-list : goal.returns-clause-list
-returns-clause-list c =
+returns-clause-list g c =
     let so_far = c.loop-second.invariant in
     before_end_up _ _ _ _ c.args.first.node so_far.0 c.loop-second.second-index c.args.up.now c.loop-second.list.items c.requires.up so_far.1 c.loop-second-test.false so_far.2
 
 pub most_cost-requires-clause-up : goal.most_cost-requires-clause-up
-most_cost-requires-clause-up c = up_light c.args.self.now.nodes (legs_of c.args.self.now) c.args.v c.args.up.now c.nodes-nodes.ensures.limits c.nodes-nodes.ensures.count c.requires.up
+most_cost-requires-clause-up g c = up_light c.args.self.now.nodes (legs_of c.args.self.now) c.args.v c.args.up.now c.nodes-nodes.ensures.limits c.nodes-nodes.ensures.count c.requires.up
 
 pub returns-in_default-clause-list : goal.returns-in_default-clause-list
-returns-in_default-clause-list c =
+returns-in_default-clause-list g c =
     let none = rw c.in_default.is at c.most_cost.ensures in
     before_no_candidate c.args.self.now.nodes c.args.hops (legs_of c.args.self.now) c.args.v c.args.first c.args.up.now c.args.list.now.items c.requires.first c.requires.up (subst (λ n. All (λ l. IsCandidate n c.args.first l → ⊥) c.args.up.now) c.nodes-nodes.ensures.nodes none) c.requires.list
+
+pub reach-requires-clause-most : goal.reach-requires-clause-most
+reach-requires-clause-most g c =
+    let small : c.nodes-nodes.result ≤ 2 ^ 25 = omega (arith, c.nodes-nodes.ensures.nodes, c.nodes-nodes.ensures.count) in
+    bound_held g.K.Head.limit c.nodes-nodes.result c.args.v (legs_of c.args.self.now) c.args.first c.args.up.now c.in-Some.most small c.requires.light c.requires.first c.requires.up c.in-Some.ensures
+
+pub shortcut-requires-clause-held : goal.shortcut-requires-clause-held
+shortcut-requires-clause-held g c =
+    let small : c.nodes-nodes.result ≤ 2 ^ 25 = omega (arith, c.nodes-nodes.ensures.nodes, c.nodes-nodes.ensures.count) in
+    bound_held g.K.Head.limit c.nodes-nodes.result c.args.v (legs_of c.args.self.now) c.args.first c.args.up.now c.in-Some.most small c.requires.light c.requires.first c.requires.up c.in-Some.ensures

@@ -1,37 +1,40 @@
 use Rattle.std.proofs.Common.{◌≤◌, ◌<◌, ◌^◌, sym, subst, arith, ap, ◌∙◌}
 use Rattle.std.specs.Prelude.{OnOk}
 use Rattle.ch_contract.specs.Legs.{AreLegsWithin}
-use Rattle.ch_contract.specs.Heads.{IsClean}
+use Rattle.ch_contract.specs.Heads.{IsClean, AreLegsUpTo, known_of}
 use Rattle.ch_contract.specs.LegLists.{legs_into}
 use Rattle.ch_contract.specs.Lines.{IsKnown}
-use Rattle.ch_contract.specs.Remaining.{RemainingLegs}
+use Rattle.ch_contract.specs.Remaining.{RemainingLegs, legs_of}
 use Rattle.ch_contract.proofs.code.Lines.{into_within, known_after}
+use Rattle.ch_contract.proofs.code.LightLegs.{turned_light}
 use Rattle.ch_contract.proofs.remaining.Remaining.reach.Goals as goal
 
 pub reach-requires : goal.reach-requires
-reach-requires c =
+unfolding legs_of
+reach-requires g c =
     let n = c.self.inside.nodes in
     let outs = c.self.inside.outs in
     let ins = c.self.inside.ins in
-    let count = c.self.invariant.sizes.0 in
+    let count = c.self.invariant.0.sizes.0 in
     let nodes = ap (λ (m : RemainingLegs). m.nodes) c.self.view_is in
     record {
-      clean = subst (λ n. IsClean n c.args.search.now.heads) (sym (count ∙ nodes)) c.requires.clean;
-      rows = c.self.invariant.rows.0;
-      limits = subst (λ n. AreLegsWithin n (legs_into outs)) (sym count) (into_within n outs ins c.self.invariant);
-      nodes = subst (λ n. n ≤ 2 ^ 25) (sym count) c.self.invariant.nodes;
+      clean = subst (λ n. IsClean n (known_of g.K.Head.cost c.args.search.now.heads)) (sym (count ∙ nodes)) c.requires.clean;
+      rows = c.self.invariant.0.rows.0;
+      limits = subst (λ n. AreLegsWithin n (legs_into outs)) (sym count) (into_within n outs ins c.self.invariant.0);
+      light = turned_light g.K.Head.limit outs (subst (λ (m : RemainingLegs). AreLegsUpTo g.K.Head.limit (legs_of m)) (sym c.self.view_is) c.requires.light);
+      nodes = subst (λ n. n ≤ 2 ^ 25) (sym count) c.self.invariant.0.nodes;
       end = (subst (λ n. c.args.wanted.end < n) (sym (count ∙ nodes)) c.requires.end.0, c.requires.end.1);
       most = c.requires.most;
       rounds = omega (arith, c.saturating_sub.ensures, c.requires.hops);
     }
 
 pub returns : goal.returns
-returns c =
+returns g c =
     let n = c.self.inside.nodes in
     let outs = c.self.inside.outs in
     let ins = c.self.inside.ins in
     record {
-      known = subst (λ (m : RemainingLegs). OnOk c.reach.result (IsKnown m c.args.wanted c.args.hops c.reach.new.self.heads)) c.self.view_is
-          (known_after n outs ins c.self.invariant c.args.wanted c.args.hops c.saturating_sub.result c.reach.new.self.heads c.reach.result c.saturating_sub.ensures c.reach.ensures.size c.reach.ensures.heads);
+      known = subst (λ (m : RemainingLegs). OnOk c.reach.result (IsKnown m c.args.wanted c.args.hops (known_of g.K.Head.cost c.reach.new.self.heads))) c.self.view_is
+          (known_after n outs ins c.self.invariant.0 c.args.wanted c.args.hops c.saturating_sub.result (known_of g.K.Head.cost c.reach.new.self.heads) c.reach.result c.saturating_sub.ensures c.reach.ensures.size c.reach.ensures.heads);
       touched = c.reach.ensures.touched;
     }

@@ -1,40 +1,52 @@
-use Rattle.std.proofs.Common.{refl, sym, ◌∙◌, ap, subst, arith, length, All, List, get_or}
+use Rattle.std.proofs.Common.{refl, sym, ◌∙◌, ap, subst, arith, length, All, List, get_or, map}
 use Rattle.std.specs.Prelude.{◌≡◌, ◌<◌, ◌≤◌}
-use Rattle.ch_contract.specs.declared.search.Step.{Step}
+use Rattle.ch_graph.specs.Cost.{no_cost}
 use Rattle.ch_contract.specs.Rows.{row}
-use Rattle.ch_contract.specs.Heads.{Lowers, IsOneMoreOf, IsRoomFor, AreHeads}
+use Rattle.ch_contract.specs.Heads.{Begun, Lowers, IsOnly, IsOneMoreOf, IsRoomFor, AreHeads, known_of, begun_of}
 use Rattle.ch_contract.specs.LegLists.{legs_into}
+use Rattle.std.proofs.lemmas.List.{length-map}
+use Rattle.ch_contract.proofs.code.HeadViews.{all_mapped}
 use Rattle.ch_contract.proofs.code.HeadRounds.{underway_start, underway_next, steps_room}
 use Rattle.ch_contract.proofs.search.Search.reach.Goals as goal
 
 pub loop-round-init : goal.loop-round-init
-loop-round-init c =
+loop-round-init g c =
+    let cost = g.K.Head.cost in
     let clean = c.requires.clean in
-    underway_start (length c.args.lists.now) (legs_into c.args.lists.now) c.args.wanted _ c.lower.new.self c.requires.end.1 c.requires.most c.requires.end.0 (record { size = clean.size; rest = clean.rest; touched = clean.touched }) c.clear.ensures.items c.in_ok-lower.ensures
+    let most = c.requires.most in
+    let low = subst (λ z. Lowers (IsOnly c.args.wanted.end z) (known_of cost (record { costs = c.args.self.now.heads.costs; touched = c.args.self.now.heads.touched; next = c.clear.new.self })) (known_of cost c.lower.new.self)) c.of-none.ensures c.in_ok-lower.ensures in
+    underway_start (length c.args.lists.now) (legs_into c.args.lists.now) c.args.wanted _ (known_of cost c.lower.new.self) c.requires.end.1 (most.weight, omega (arith, most.arcs)) c.requires.end.0 (record { size = clean.size; rest = clean.rest; touched = clean.touched }) (ap (map (begun_of cost)) c.clear.ensures.items) low
 
 pub spread_all-requires : goal.spread_all-requires
-spread_all-requires c =
+spread_all-requires g c =
+    let cost = g.K.Head.cost in
+    let limit = g.K.Head.limit in
     let lists = c.args.lists.now in
     let n = length lists in
     let u = c.loop-round.invariant in
     let front = c.as_slice.ensures.value ∙ ap (λ v. v.items) c.swap.ensures.x_after in
     let few : c.loop-round._round ≤ 16 = omega (arith, c.requires.rounds) in
-    let room = subst (All (λ (f : Step). (f.node < n) × IsRoomFor n (row lists f.node) f)) (sym front)
-    (steps_room lists n c.args.wanted c.loop-round._round c.loop-round.self.heads.next.items c.requires.rows c.requires.limits c.requires.nodes few c.requires.end.0 c.requires.most.0 u.steps) in
+    let room = steps_room limit lists n c.args.wanted c.loop-round._round (known_of cost c.loop-round.self.heads).next c.requires.rows c.requires.limits c.requires.light c.requires.nodes few c.requires.end.0 c.requires.most u.steps in
+    let steps = all_mapped (λ f. (f.node < n) × IsRoomFor limit n (row lists f.node) f) (begun_of cost) c.loop-round.self.heads.next.items room in
     record {
-      size = u.size;
-      nodes = λ k d lt. (room k d lt).0;
-      room = λ k d lt. subst (λ z. IsRoomFor z (row lists (get_or c.as_slice.result.now k d).node) (get_or c.as_slice.result.now k d)) refl (room k d lt).1;
+      size = sym (length-map c.loop-round.self.heads.costs.items cost) ∙ u.size;
+      nodes = subst (λ z. All (λ f. f.node < n) z) (sym front) (λ k d lt. (steps k d lt).0);
+      room = subst (λ z. All (λ f. IsRoomFor limit n (row lists f.node) (begun_of cost f)) z) (sym front) (λ k d lt. (steps k d lt).1);
+      most = c.requires.most;
     }
 
 pub loop-round-preserved : goal.loop-round-preserved
-loop-round-preserved c =
+loop-round-preserved g c =
+    let cost = g.K.Head.cost in
     let lists = c.args.lists.now in
-    let front = c.as_slice.ensures.value ∙ ap (λ v. v.items) c.swap.ensures.x_after in
-    let low = subst (λ (z : List Step). Lowers (IsOneMoreOf lists z c.args.wanted) (record { costs = c.loop-round.self.heads.costs; touched = c.loop-round.self.heads.touched; next = c.clear-in-loop-round.new.self }) c.spread_all.new.self) front c.in_ok-spread_all.ensures in
-    underway_next lists (length lists) c.args.wanted c.loop-round._round c.loop-round.self.heads _ c.spread_all.new.self c.requires.rows refl refl c.clear-in-loop-round.ensures.items c.loop-round.invariant low
+    let front = ap (map (begun_of cost)) (c.as_slice.ensures.value ∙ ap (λ v. v.items) c.swap.ensures.x_after) in
+    let before = known_of cost c.loop-round.self.heads in
+    let mid = known_of cost (record { costs = c.loop-round.self.heads.costs; touched = c.loop-round.self.heads.touched; next = c.clear-in-loop-round.new.self }) in
+    let new = known_of cost c.spread_all.new.self in
+    let low = subst (λ (z : List Begun). Lowers (IsOneMoreOf lists z c.args.wanted) mid new) front c.in_ok-spread_all.ensures in
+    underway_next lists (length lists) c.args.wanted c.loop-round._round before mid new c.requires.rows refl refl (ap (map (begun_of cost)) c.clear-in-loop-round.ensures.items) c.loop-round.invariant low
 
 pub returns-clause-heads : goal.returns-clause-heads
-returns-clause-heads c =
+returns-clause-heads g c =
     let rounds : c.loop-round._round ≡ c.args.rounds = omega (arith, c.loop-round-test.false, c.loop-round.auto._round-end) in
-    subst (λ k. AreHeads (legs_into c.args.lists.now) c.args.wanted k c.loop-round.self.heads) rounds c.loop-round.invariant.heads
+    subst (λ k. AreHeads (legs_into c.args.lists.now) c.args.wanted k (known_of g.K.Head.cost c.loop-round.self.heads)) rounds c.loop-round.invariant.heads

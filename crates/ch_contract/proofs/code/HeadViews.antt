@@ -1,0 +1,65 @@
+-- What heads of any kind stand for.
+use Rattle.std.proofs.Common.{◌≡◌, ℕ, ◌<◌, List, [], ◌∷◌, ◌++◌, length, map, set, get_or, All, Contains, sym, ◌∙◌, ap, subst, arith, inl, inr}
+use Rattle.std.specs.Prelude.{◌⊎◌, ◌≢◌}
+use Rattle.std.proofs.lemmas.Bool.{cases_eq}
+use Rattle.std.proofs.lemmas.List.{get_or-map, length-map, length-set, map-set, map-append, get_or-set_same, get_or-set_other}
+use Rattle.std.proofs.lemmas.List.Elements.{All-contains, All-from_get_or, Contains-get_or, Contains-append_left, Contains-push, Contains-push_cases}
+use Rattle.ch_graph.specs.declared.cost.Cost.{Cost}
+use Rattle.ch_graph.specs.Cost.{IsAtMost, cost_sum}
+use Rattle.ch_contract.specs.declared.search.Heads.{Heads}
+use Rattle.ch_contract.specs.declared.search.Step.{Step}
+use Rattle.ch_contract.specs.HeldCosts.{never, IsLight, IsHeld}
+use Rattle.ch_contract.specs.Heads.{head_in, head_at, AreTouched, known_of, begun_of, Lowers, IsOnly}
+use Rattle.ch_contract.proofs.code.Lowering.{lowers_here}
+
+-- the cost known at a node is that of its head
+pub head_of : {K : Type 0} (cost : K → Cost) (h : Heads K) (x : ℕ) (d : K) → x < length h.costs.items → head_at (known_of cost h) x ≡ cost (get_or h.costs.items x d)
+head_of cost h x d lt = get_or-map cost h.costs.items x d never lt
+
+-- what holds of all that a list stands for
+pub all_mapped : {X Y : Type 0} (P : Y → Type 0) (f : X → Y) (xs : List X) → All P (map f xs) → All (λ x. P (f x)) xs
+all_mapped P f xs all k d lt = subst P (get_or-map f xs k d (f d) lt) (all k (f d) (omega (arith, length-map xs f)))
+
+-- what a leg costs may be added to what is known
+pub light_held : (limit : ℕ) (c : Cost) → IsLight limit c → IsHeld limit c
+light_held limit c is = record { limited = omega (arith, is.limited); weight = is.weight; arcs = omega (arith, is.arcs) }
+
+-- and so may the cost of two legs that keeps the bound
+pub two_held : (limit : ℕ) (a b most : Cost) → IsLight limit a → IsLight limit b → IsHeld limit most → IsAtMost (cost_sum a b) most → IsHeld limit (cost_sum a b)
+two_held limit a b most first second held le =
+    let weight = le.0 in
+    record { limited = omega (arith, held.limited); weight = omega (arith, held.weight); arcs = omega (arith, first.arcs, second.arcs) }
+
+-- one head is put in at one node
+pub lowers_one : {K : Type 0} (cost : K → Cost) (old : Heads K) (node : ℕ) (head : K) (touched : List ℕ) (next : List (Step K)) → node < length old.costs.items →
+    IsAtMost (cost head) (head_at (known_of cost old) node) → touched ≡ old.touched.items ++ node ∷ [] → next ≡ old.next.items ++ record { node = node; cost = head } ∷ [] →
+    Lowers (IsOnly node (cost head)) (known_of cost old) (record { costs = map cost (set old.costs.items node head); touched = touched; next = map (begun_of cost) next })
+lowers_one cost old node head touched next inside less is_touched is_next =
+    lowers_here node (cost head) (known_of cost old) _ (omega (arith, length-map old.costs.items cost)) less (map-set cost old.costs.items node head)
+    (ap (map (begun_of cost)) is_next ∙ map-append (begun_of cost) old.next.items (record { node = node; cost = head } ∷ [])) is_touched
+
+-- the last touched node is put to rest
+pub touched_less : {K : Type 0} (cost : K → Cost) (h : Heads K) (node : ℕ) (head : K) (rest : List ℕ) → cost head ≡ never → h.touched.items ≡ rest ++ node ∷ [] → AreTouched (known_of cost h) →
+    AreTouched (record { costs = map cost (set h.costs.items node head); touched = rest; next = map (begun_of cost) h.next.items })
+touched_less cost h node head rest none touched t = record {
+  each = λ x. each x (cases_eq x node) (t.each x);
+  within = All-from_get_or (λ x. x < length (map cost (set h.costs.items node head))) rest 0 (λ i lt. inside _ (subst (λ z. Contains z (get_or rest i 0)) (sym touched) (Contains-append_left rest _ _ (Contains-get_or rest i 0 lt))));
+}
+  where
+    same : map cost (set h.costs.items node head) ≡ set (map cost h.costs.items) node (cost head)
+    same = map-set cost h.costs.items node head
+
+    inside : (x : ℕ) → Contains h.touched.items x → x < length (map cost (set h.costs.items node head))
+    inside x c =
+        let lt = All-contains (λ y. y < length (map cost h.costs.items)) h.touched.items x t.within c in
+        omega (arith, ap length same, length-set (map cost h.costs.items) node (cost head))
+
+    each : (x : ℕ) → (x ≡ node) ⊎ (x ≢ node) → (head_at (known_of cost h) x ≡ never) ⊎ Contains h.touched.items x → (head_in (map cost (set h.costs.items node head)) x ≡ never) ⊎ Contains rest x
+    each x (inl e) _ =
+        let lt = All-contains (λ y. y < length (map cost h.costs.items)) h.touched.items node t.within (subst (λ z. Contains z node) (sym touched) (Contains-push rest node)) in
+        inl (ap (head_in (map cost (set h.costs.items node head))) e ∙ ap (λ z. head_in z node) same ∙ get_or-set_same (map cost h.costs.items) node (cost head) never lt ∙ none)
+    each x (inr ne) (inl at_rest) = inl (ap (λ z. head_in z x) same ∙ get_or-set_other (map cost h.costs.items) node x (cost head) never ne ∙ at_rest)
+    each x (inr ne) (inr c) = elim (Contains-push_cases rest node x (subst (λ z. Contains z x) touched c)) [
+      | inl early ↦ inr early
+      | inr last ↦ absurd (ne (sym last))
+    ]

@@ -1,0 +1,37 @@
+-- Costs in words: they add without a carry, and compare as costs do.
+use Rattle.std.proofs.Common.{◌≡◌, ℕ, ◌+◌, ◌-◌, ◌*◌, ◌/◌, ◌%◌, ◌^◌, ◌<◌, ◌≤◌, ap, arith, inl, inr}
+use Rattle.std.specs.Prelude.{◌⊎◌}
+use Rattle.std.proofs.lemmas.Bool.{cases_lt}
+use Rattle.ch_graph.specs.declared.cost.Cost.{Cost}
+use Rattle.ch_graph.specs.Cost.{IsAtMost, cost_sum}
+use Rattle.ch_graph.proofs.CostOrder.{same_costs}
+use Rattle.ch_contract.specs.HeldCosts.{never, IsHeld, IsHead, cost_in}
+
+-- the word of a cost
+pub cost_in_word : (c : Cost) → c.weight < 2 ^ 32 → c.arcs < 2 ^ 31 → cost_in (c.weight * 2 ^ 31 + c.arcs) ≡ c
+cost_in_word c weight arcs = same_costs _ c (omega arith) (omega arith)
+
+-- a sum of words
+pub cost_in_sum : (a b : ℕ) → a < 2 ^ 64 → b < 2 ^ 64 → IsHead (2 ^ 30 - 1) (cost_in a) → IsHeld (2 ^ 30 - 1) (cost_in b) → (a + b < 2 ^ 64) × (cost_in (a + b) ≡ cost_sum (cost_in a) (cost_in b))
+cost_in_sum a b fits_a fits_b (inl none) held =
+    let limited = held.limited in
+    let arcs = held.arcs in
+    let weight = ap (λ (c : Cost). c.weight) none in
+    let more = ap (λ (c : Cost). c.arcs) none in
+    (omega arith, same_costs _ _ (omega arith) (omega arith))
+cost_in_sum a b fits_a fits_b (inr known) held =
+    let limited = held.limited in
+    let arcs = held.arcs in
+    let weight = known.limited in
+    let more = known.arcs in
+    (omega arith, same_costs _ _ (omega arith) (omega arith))
+
+-- words compare as their costs do
+pub cost_in_order : (a b : ℕ) → a < 2 ^ 64 → b < 2 ^ 64 → a ≤ b → IsAtMost (cost_in a) (cost_in b)
+cost_in_order a b fits_a fits_b le = (omega arith, λ e. omega arith)
+
+pub cost_in_order_back : (a b : ℕ) → a < 2 ^ 64 → b < 2 ^ 64 → IsAtMost (cost_in a) (cost_in b) → a ≤ b
+cost_in_order_back a b fits_a fits_b le = elim (cases_lt b a) [
+  | inl lt ↦ let arcs = le.1 (omega arith) in absurd (omega (arith, le.0, arcs))
+  | inr ge ↦ ge
+]
