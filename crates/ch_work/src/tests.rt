@@ -3,6 +3,7 @@
 
 mod boards;
 mod cells;
+mod refusals;
 mod rooms;
 
 use crate::{CountingGate, Gate, Job, MeetingGate, Open, Plan, run_pieces};

@@ -113,3 +113,19 @@ fn run_lists<R: Threads + Sync>(
 fn refused(line: u64, kind: FaultKind) -> ReadFault {
     ReadFault { line, kind }
 }
+
+/// A text, another so many times, and a third.
+fn repeated(
+    alloc: Global,
+    front: &[u8],
+    part: &[u8],
+    count: usize,
+    back: &[u8],
+) -> Result<Vec<u8>, AllocError> {
+    let mut bytes = front.to_vec(alloc)?;
+    for _ in 0..count {
+        bytes.extend_from_slice(part)?;
+    }
+    bytes.extend_from_slice(back)?;
+    Ok(bytes)
+}

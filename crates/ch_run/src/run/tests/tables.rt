@@ -1,26 +1,9 @@
 //! Worked tables.
 
-use super::{LINE, RING, run_lists};
+use super::{LINE, RING, repeated, run_lists};
 use crate::fault::RunFault;
 use crate::plan::Plan;
-use std::alloc::{AllocError, Global};
 use std::test::Fail;
-
-/// A text, another so many times, and a third.
-fn repeated(
-    alloc: Global,
-    front: &[u8],
-    part: &[u8],
-    count: usize,
-    back: &[u8],
-) -> Result<Vec<u8>, AllocError> {
-    let mut bytes = front.to_vec(alloc)?;
-    for _ in 0..count {
-        bytes.extend_from_slice(part)?;
-    }
-    bytes.extend_from_slice(back)?;
-    Ok(bytes)
-}
 
 #[test]
 fn a_table_of_the_most_cells_is_made_and_one_more_source_is_refused(
