@@ -36,6 +36,12 @@ def alternating(rounds, commands):
     return {name: statistics.median(seconds) for name, seconds in taken.items()}
 
 
+def nodes_of(graph):
+    """The number of nodes of a graph file."""
+    with open(graph) as file:
+        return next(int(line.split()[2]) for line in file if line.startswith("p"))
+
+
 class Inputs:
     """A folder of inputs on a road network of so many nodes, gone after `with`."""
 
@@ -45,12 +51,18 @@ class Inputs:
     def __enter__(self):
         self.kept = tempfile.TemporaryDirectory()
         self.folder = pathlib.Path(self.kept.name)
-        self.graph = self.folder / "roads.gr"
-        subprocess.run([ROOT / "bench" / "roads.py", str(self.nodes), self.graph], check=True)
+        self.graph = self.network()
         return self
 
     def __exit__(self, *fault):
         self.kept.cleanup()
+
+    def network(self):
+        """Its file. Where CHTAB_ROADS names a folder it is made there, once for all scripts."""
+        graph = pathlib.Path(os.environ.get("CHTAB_ROADS", self.folder)) / f"roads-{self.nodes}.gr"
+        if not graph.exists():
+            subprocess.run([ROOT / "bench" / "roads.py", str(self.nodes), graph], check=True)
+        return graph
 
     def listed(self, count, kind, letter, width):
         """A file of items with `width` nodes each."""
@@ -69,3 +81,13 @@ class Inputs:
     def listing(self, count):
         """A file of so many sources or targets."""
         return self.listed(count, "ss", "s", 1)
+
+
+class Country(Inputs):
+    """The same on the shipped network of Liechtenstein."""
+
+    def __init__(self):
+        super().__init__(nodes_of(self.network()))
+
+    def network(self):
+        return ROOT / "examples" / "liechtenstein.gr"

@@ -73,7 +73,7 @@ import random
 draw = random.Random("two hundred queries")
 print("p aux sp p2p 200")
 for _ in range(200):
-    print("q", draw.randint(1, 3192), draw.randint(1, 3192))
+    print("q", draw.randint(1, 3137), draw.randint(1, 3137))
 ' >many.p2p
 files=("$root/examples/liechtenstein.gr" many.p2p)
 answers=$(python3 "$root/tests/dijkstra.py" "${files[@]}")
@@ -101,7 +101,7 @@ python3 -c '
 import random
 draw = random.Random("thirty by forty")
 for name, count in ("from.ss", 30), ("to.ss", 40):
-    nodes = [draw.randint(1, 3192) for _ in range(count)]
+    nodes = [draw.randint(1, 3137) for _ in range(count)]
     with open(name, "w") as file:
         print("p aux sp ss", count, file=file)
         for node in nodes:

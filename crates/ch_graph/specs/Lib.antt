@@ -5,3 +5,4 @@ pub mod Walk
 pub mod WalkLaws
 pub mod Relaxing
 pub mod Rows
+pub mod Saved

@@ -1,5 +1,5 @@
-//! Directed graphs with weighted arcs, the costs of walks, rows of values by node, and the plain distance
-//! between two nodes.
+//! Directed graphs with weighted arcs, the costs of walks, rows of values by node, the plain distance
+//! between two nodes, and hierarchies as files hold them.
 //!
 //! It stands on std alone. Proved of it: a [`Graph`] keeps the limits on sizes and weights, and
 //! [`Graph::new`] names the first fault; [`plain_distance`] is the least weight of a walk, or says that
@@ -15,6 +15,7 @@ mod graph;
 pub mod laws;
 mod plain;
 mod rows;
+mod saved;
 #[cfg(test)]
 mod tests;
 pub mod walk_laws;
@@ -24,3 +25,4 @@ pub use cost::Cost;
 pub use graph::{Graph, GraphFault};
 pub use plain::plain_distance;
 pub use rows::Rows;
+pub use saved::{Saved, SavedLeg};

@@ -142,3 +142,37 @@ fn compares_costs_by_weight_first(rt: HostRuntime) {
     assert_eq!(rt; cost(3, 2).min(cost(2, 9)), cost(2, 9));
     assert_eq!(rt; cost(1 << 60, 2).plus(cost(1 << 60, 3)), cost(1 << 61, 5));
 }
+
+/// What a call answers, made a second time where the first was refused memory.
+macro_rules! again {
+    ($call:expr) => {
+        match $call {
+            Ok(value) => value,
+            Err(AllocError) => $call?,
+        }
+    };
+}
+
+/// It holds when any one request for memory is refused: the call that meets the refusal answers `AllocError`,
+/// and made again with what it was lent it answers as with ample memory.
+#[test]
+fn refused_in_turn(rt: HostRuntime) -> Result<(), Fail> {
+    let alloc = rt.alloc();
+    let arcs = [
+        arc(0, 1, 1),
+        arc(1, 0, 1),
+        arc(0, 2, 1),
+        arc(2, 0, 1),
+        arc(0, 3, 1),
+        arc(3, 0, 1),
+    ];
+    let graph = Graph::new(4, again!(Vec::from_slice(alloc, &arcs)))?;
+    assert_eq!(rt; again!(plain_distance(alloc, &graph, 2, 3)), Some(2));
+    let ends = [(0, 1), (1, 0), (0, 2), (2, 0), (0, 3), (3, 0)];
+    let rows = again!(Rows::build(alloc, 4, &ends));
+    assert_eq!(rt; rows.row(0), [1, 2, 3].as_slice());
+    for node in 1..4 {
+        assert_eq!(rt; rows.row(node), [0].as_slice());
+    }
+    Ok(())
+}

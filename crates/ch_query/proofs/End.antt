@@ -6,9 +6,14 @@ use Rattle.ch_graph.specs.Cost.{IsAtMost, IsBelow, cost_sum, no_cost, cost_at}
 use Rattle.ch_contract.specs.declared.leg.Leg.{Leg}
 use Rattle.ch_contract.specs.Paths.{IsUpwardPath, path_cost, IsLeastUpwardPath}
 use Rattle.ch_graph.proofs.CostOrder.{IsAtMost_refl, IsAtMost_trans, IsBelow_not, IsAtMost_antisymm}
-use Rattle.ch_query.specs.Search.{IsSettled, IsSearch, AvoidsIdle, IsEmpty}
+use Rattle.ch_query.specs.Search.{IsSettled, IsUpwardCost, IsSearch, AvoidsIdle, IsEmpty}
 use Rattle.ch_graph.proofs.CostSums.{cost_sum_assoc, no_cost-cost_sum, IsAtMost-cost_sum, IsAtMost-cost_sum_self}
 use Rattle.ch_contract.proofs.theory.LegPaths.{path_cost-cons}
+
+-- a cost that is reached and at most the least one is the least one
+pub reached_least : (rows : List (List Leg)) (s m : ℕ) (a b : Cost) → IsLeastUpwardPath rows s m a → IsUpwardCost rows s m b → IsAtMost b a → b ≡ a
+reached_least rows s m a b l r le =
+    IsAtMost_antisymm b a le (subst (IsAtMost a) r.path.2 (l.least r.path.0 r.path.1 (subst (λ (q : Cost). q.weight ≤ 2 ^ 60) (sym r.path.2) r.weight)))
 
 module _ (rows : List (List Leg)) (s : ℕ) (Idle : ℕ → Cost → Type 0) (best queue : List (Option Cost)) (p : IsSearch rows s Idle best queue)
     (m : ℕ) (c : Cost) (light : c.weight ≤ 2 ^ 60) (past : (x : ℕ) (d : Cost) → cost_at queue x ≡ Some d → IsBelow c d) (avoids : AvoidsIdle rows Idle m c) where

@@ -19,15 +19,15 @@ use Rattle.ch_query.proofs.PathLaws.{below_then, then_below, below_sum}
 use Rattle.ch_query.proofs.End.{matched}
 
 -- what s reaches upwards it reaches by a walk
-reached_up : (g : Network) (H : LevelsAndLegs) → HasWalks g H → (s m : ℕ) (a : Cost) → IsUpwardCost H.up s m a → IsWalkCost g s m a
+pub reached_up : (g : Network) (H : LevelsAndLegs) → HasWalks g H → (s m : ℕ) (a : Cost) → IsUpwardCost H.up s m a → IsWalkCost g s m a
 reached_up g H k s m a r = subst (IsWalkCost g s m) r.path.2 (k.rises s m r.path.0 r.path.1)
 
 -- from what t reaches there is a walk to t
-reached_down : (g : Network) (H : LevelsAndLegs) → HasWalks g H → (t m : ℕ) (b : Cost) → IsUpwardCost H.down t m b → IsWalkCost g m t b
+pub reached_down : (g : Network) (H : LevelsAndLegs) → HasWalks g H → (t m : ℕ) (b : Cost) → IsUpwardCost H.down t m b → IsWalkCost g m t b
 reached_down g H k t m b r = subst (IsWalkCost g m t) r.path.2 (k.falls t m r.path.0 r.path.1)
 
 -- the end of a least path is reached
-least_reached : (rows : List (List Leg)) (s m : ℕ) (a : Cost) → IsLeastUpwardPath rows s m a → IsUpwardCost rows s m a
+pub least_reached : (rows : List (List Leg)) (s m : ℕ) (a : Cost) → IsLeastUpwardPath rows s m a → IsUpwardCost rows s m a
 least_reached rows s m a l = record { path = l.path; weight = l.weight }
 
 -- a meeting costs what a walk costs

@@ -11,6 +11,8 @@ pub mod Stalling
 pub mod MeetingSteps
 pub mod MeetingEnd
 pub mod Distances
+pub mod SharedSums
+pub mod SearchSpaces
 pub mod Rows
 pub mod RowSearch
 pub mod PendingLegs

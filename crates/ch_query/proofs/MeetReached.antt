@@ -4,7 +4,7 @@ use Rattle.ch_graph.specs.declared.cost.Cost.{Cost}
 use Rattle.ch_graph.specs.Cost.{IsAtMost, cost_sum}
 use Rattle.ch_graph.specs.Graph.{Network, IsWithinLimits}
 use Rattle.ch_graph.specs.Walk.{IsLeast}
-use Rattle.ch_graph.proofs.CostOrder.{IsAtMost_refl, IsAtMost_antisymm}
+use Rattle.ch_graph.proofs.CostOrder.{IsAtMost_refl}
 use Rattle.ch_graph.proofs.SimpleWalks.{IsLeast-weight}
 use Rattle.ch_contract.specs.declared.leg.Leg.{Leg}
 use Rattle.ch_contract.specs.Hierarchy.{LevelsAndLegs}
@@ -15,23 +15,19 @@ use Rattle.ch_contract.proofs.theory.KeptWalks.{kept_has_walks, meetings_are_dis
 use Rattle.ch_query.specs.declared.side.Side.{Side}
 use Rattle.ch_query.specs.declared.side.Side.TheVariants.{Up, Down}
 use Rattle.ch_query.specs.declared.search.Search.{Search}
-use Rattle.ch_query.specs.Search.{IsUpwardCost, IsStalled, AvoidsIdle}
+use Rattle.ch_query.specs.Search.{IsStalled, AvoidsIdle}
 use Rattle.ch_query.specs.TwoSided.{IsPast}
 use Rattle.ch_query.specs.Underway.{back_of}
 use Rattle.ch_query.specs.Side.{rows_of}
 use Rattle.ch_query.specs.Meeting.{AreMeeting}
 use Rattle.ch_query.specs.Descents.{HasReached}
+use Rattle.ch_query.proofs.End.{reached_least}
 use Rattle.ch_query.proofs.LeastMeeting.{above, avoids_up, avoids_down, low_up, low_down, settled_up, settled_down}
 use Rattle.ch_query.proofs.MeetingEnd.{idle_up, idle_down, search_up, search_down, found}
 
 -- no stalled node lies on a path to m that costs at most c
 AvoidsBy : LevelsAndLegs → Side → Bool → ℕ → ℕ → Cost → Type 0
 AvoidsBy H side stalls s m c = AvoidsIdle (rows_of H side) (IsStalled (rows_of H side) (back_of H side stalls) s) m c
-
--- a cost that is reached and at most the least one is the least one
-reached_least : (rows : List (List Leg)) (s m : ℕ) (a b : Cost) → IsLeastUpwardPath rows s m a → IsUpwardCost rows s m b → IsAtMost b a → b ≡ a
-reached_least rows s m a b l r le =
-    IsAtMost_antisymm b a le (subst (IsAtMost a) r.path.2 (l.least r.path.0 r.path.1 (subst (λ (q : Cost). q.weight ≤ 2 ^ 60) (sym r.path.2) r.weight)))
 
 module _ (g : Network) (H : LevelsAndLegs) (limits : IsWithinLimits g) (kept : IsKept g H) (x y : Search) (m : ℕ) (c : Cost) (meeting : AreMeeting H x y (Some (c, m)))
     (past_here : IsPast x.queue (Some (c, m))) (past_there : IsPast y.queue (Some (c, m))) (up : x.side ≡ Up) (down : y.side ≡ Down)

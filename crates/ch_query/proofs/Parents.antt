@@ -14,28 +14,18 @@ use Rattle.ch_query.specs.Parents.{IsParent, IsNoEarlier, AreParents, IsChosen}
 use Rattle.ch_graph.proofs.CostSums.{cost_sum_assoc, IsAtMost-cost_sum, IsAtMost-cost_sum_self, cost_sum_cancel_right}
 use Rattle.ch_contract.proofs.theory.LegPaths.{path_cost-cons, path_cost-append}
 use Rattle.ch_query.proofs.PathLaws.{then_below, cost_push, path_push}
-use Rattle.ch_query.proofs.Steps.{popped_settled, lowered_settled, lowered_stays}
+use Rattle.ch_query.proofs.Steps.{popped_settled, popped_stays, lowered_settled, lowered_stays}
 use Rattle.ch_query.proofs.End.{matched}
 
 -- taking the least out of the queue
 module _ (rows : List (List Leg)) (s : ℕ) (Idle : ℕ → Cost → Type 0) (best queue : List (Option Cost)) (parents : List ℕ) (p : IsSearch rows s Idle best queue)
     (a : AreParents rows s Idle best queue parents)
     (v : ℕ) (c : Cost) (key : cost_at queue v ≡ Some c) (least : (x : ℕ) (d : Cost) → cost_at queue x ≡ Some d → IsAtMost c d) (within : v < length queue) where
-  -- a settled node stays settled
-  stays : (x : ℕ) (d : Cost) → IsSettled best queue x d → IsSettled best (set queue v None) x d
-  stays x d h = (
-    h.0,
-    elim (cases_eq x v) [
-      | inl here ↦ absurd (none-some _ (sym h.1 ∙ ap (cost_at queue) here ∙ key))
-      | inr away ↦ get_or-set_other queue v x None None away ∙ h.1
-    ],
-  )
-
   -- the parents of the others stay
   pub popped_parents : AreParents rows s (OrNode Idle v) best (set queue v None) parents
   popped_parents = record {
     size = a.size;
-    led = λ x e ne k. let q = a.led x e ne k in record { cost = q.cost; settled = stays _ _ q.settled; leg = q.leg; has = q.has; node = q.node; sum = q.sum };
+    led = λ x e ne k. let q = a.led x e ne k in record { cost = q.cost; settled = popped_stays _ _ _ _ _ p v c key least within _ _ q.settled; leg = q.leg; has = q.has; node = q.node; sum = q.sum };
     first = λ u d h. elim (popped_settled _ _ _ _ _ p v c key least within u d h) [
       | inl was ↦ elim (a.first u d was) [ inl idle ↦ inl (inl idle) | inr legs ↦ inr legs ]
       | inr is ↦ inl (inr is.0)

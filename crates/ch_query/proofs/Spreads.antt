@@ -21,7 +21,7 @@ use Rattle.ch_contract.specs.Rows.{row}
 use Rattle.ch_query.specs.declared.side.Side.{Side}
 use Rattle.ch_query.specs.declared.search.Search.{Search}
 use Rattle.ch_query.specs.Search.{IsEmpty}
-use Rattle.ch_query.specs.Underway.{back_of, IsTouched, idle_of, IsUnderway}
+use Rattle.ch_query.specs.Underway.{back_of, IsTouched, IsRoom, idle_of, IsUnderway}
 use Rattle.ch_query.specs.Side.{rows_of}
 use Rattle.ch_query.specs.Spread.{IsSpread, entry}
 use Rattle.ch_query.proofs.End.{known_least, least_known}
@@ -42,6 +42,25 @@ touched_sorted best xs ys t p sorted len capacity = record {
   listed = λ v k. Contains-permutation xs.items ys.items v p (t.listed v k);
   distinct = λ i j d lt within. let rise = sorted_rises xs.items ys.items t.distinct p sorted i j d lt within in λ same. let e = same in omega arith;
 }
+
+-- the search with its touched nodes in another order
+abbrev pub with_touched : Search → Vec ℕ Global → Search
+with_touched x touched = record x { touched = touched }
+
+-- a search goes on with its touched nodes sorted
+pub sorted_underway : (H : LevelsAndLegs) (x : Search) (sorted : Vec ℕ Global) → IsUnderway H x → IsPermutation x.touched.items sorted.items → IsSorted nat_cmp sorted.items →
+    vec_len sorted ≡ vec_len x.touched → vec_capacity sorted ≡ vec_capacity x.touched → IsUnderway H (with_touched x sorted)
+sorted_underway H x sorted u p order len capacity = record {
+  levelled = u.levelled;
+  search = u.search;
+  parents = u.parents;
+  touched = touched_sorted x.costs.items x.touched sorted u.touched p order len capacity;
+  most = u.most;
+}
+
+-- a search underway has room
+pub underway_room : (H : LevelsAndLegs) (x : Search) → IsUnderway H x → IsRoom x
+underway_room H x u = record { queue = u.search.sizes.1 ∙ sym u.search.sizes.0; parents = u.parents.size; touched = u.touched; most = u.most }
 
 -- a known cost is the one that is listed
 some_known : (o : Option Cost) → is_some o ≡ true → o ≡ Some (unwrap_or o no_cost)

@@ -88,6 +88,22 @@ module _ (rows : List (List Leg)) (s : ℕ) (Idle : ℕ → Cost → Type 0) (be
   unfolding left
   popped_settled = settled_was
 
+  -- what was settled is so now
+  pub popped_stays : (x : ℕ) (a : Cost) → IsSettled best queue x a → IsSettled best (set queue v None) x a
+  unfolding left
+  popped_stays x a h = (
+    h.0,
+    elim (cases_eq x v) [
+      | inl here ↦ absurd (none-some _ (sym h.1 ∙ ap (cost_at queue) here ∙ key))
+      | inr away ↦ other x away ∙ h.1
+    ],
+  )
+
+  -- v is settled now
+  pub popped_here : IsSettled best (set queue v None) v c
+  unfolding left
+  popped_here = (known, gone)
+
   -- one node fewer is not settled
   pub popped_falls : unsettled best (set queue v None) + 1 ≡ unsettled best queue
   popped_falls = let n = count_by_set is_some queue v None None within in omega (arith, rw key at n)

@@ -14,3 +14,5 @@ pub mod Unpacking
 pub mod Answers
 pub mod Spread
 pub mod Tasks
+pub mod SearchSpace
+pub mod SearchSpaceLaws

@@ -1,5 +1,5 @@
 -- One side of a query, as the program keeps it.
-use Rattle.std.specs.Prelude.{◌≡◌, ◌≢◌, ℕ, ◌^◌, ◌<◌, ◌≤◌, Bool, true, false, List, [], length, AllPairs, Contains, Option, is_some, Vec, vec_len, vec_capacity}
+use Rattle.std.specs.Prelude.{◌≡◌, ◌≢◌, ℕ, ◌^◌, ◌<◌, ◌≤◌, ◌⊎◌, Bool, true, false, List, [], length, AllPairs, Contains, Option, Some, is_some, Vec, vec_len, vec_capacity}
 use Rattle.std.specs.List.{count_by}
 use Rattle.std.specs.declared.alloc.Global.{Global}
 use Rattle.ch_graph.specs.declared.cost.Cost.{Cost}
@@ -64,6 +64,18 @@ pub record IsExpandingAt (H : LevelsAndLegs) (x : Search) (v : ℕ) (c : Cost) :
   pub touched : IsTouched x.costs.items x.touched
   pub most : x.most ≡ 2 ^ 60
 
+-- nodes that are settled, each once, and among them all that need to be expanded
+pub record AreUnstalled (H : LevelsAndLegs) (x : Search) (nodes : List ℕ) : Type 0 where
+  pub distinct : AllPairs ◌≢◌ nodes
+  pub settled : (v : ℕ) → Contains nodes v → (c : Cost) × IsSettled x.costs.items x.queue v c
+  pub whole : (v : ℕ) (c : Cost) → IsSettled x.costs.items x.queue v c → idle_of H x v c ⊎ Contains nodes v
+
+-- the nodes with the weights of what they are known to cost, in order of node
+pub record AreWeights (best : List (Option Cost)) (nodes : List ℕ) (list : List (ℕ × ℕ)) : Type 0 where
+  pub order : AllPairs (λ a b. a.0 < b.0) list
+  pub sound : (v w : ℕ) → Contains list (v, w) → Contains nodes v × (c : Cost) × (cost_at best v ≡ Some c) × (c.weight ≡ w)
+  pub whole : (v : ℕ) (c : Cost) → Contains nodes v → cost_at best v ≡ Some c → Contains list (v, c.weight)
+
 -- what taking a leg of v, settled at cost c, changes
 abbrev pub RelaxesIn : Search → ℕ → Cost → Leg → Search → Type 0
 RelaxesIn x v c l y = Relaxes x.costs.items x.queue x.parents.items v c l y.costs.items y.queue y.parents.items
@@ -78,6 +90,7 @@ pub record IsPartlyExpanded (H : LevelsAndLegs) (x y : Search) (v : ℕ) (c : Co
   pub expanding : IsExpandingAt H y v c
   pub relaxed : (l : Leg) → Contains legs l → IsRelaxedFrom y.costs.items c l × IsNoEarlier y.costs.items y.parents.items v c l
   pub settled : KeepsSettled x y
+  pub stays : KeepsSettled y x
   pub measure : unsettled_in y ≡ unsettled_in x
 
 -- a search for n nodes in which nothing is left of an earlier one

@@ -1,5 +1,6 @@
-//! Laws of routes, each the contract of a function that does nothing.
+//! Laws of routes and of search spaces, each the contract of a function that does nothing.
 ghost use Rattle.ch_query.specs.RouteLaws.{OneRoute, RoutesAreLeastWalks};
+ghost use Rattle.ch_query.specs.SearchSpaceLaws.{SearchSpacesGiveDistances};
 
 /// Between two nodes of a levelled hierarchy there is at most one route: the meet, each choice and the arcs
 /// of each leg are one.
@@ -11,4 +12,11 @@ pub fn one_route()
 /// least weight, and of these of the fewest arcs; its weight is the sum of theirs.
 pub fn routes_are_least_walks()
     ensures { RoutesAreLeastWalks }
+{}
+
+/// In each hierarchy that is right for a graph the least sum of the weights that a search space up from one
+/// node and one down to another have for one node is the distance, and there is none exactly where there is
+/// no walk.
+pub fn search_spaces_give_distances()
+    ensures { SearchSpacesGiveDistances }
 {}

@@ -6,7 +6,8 @@
 //! the walk of least weight and then of fewest arcs that the rules of choice name, which is one ([`laws`]).
 //! A distance takes no memory: its room is a [`Scratch`], which one query leaves clean for the next.
 //! [`spread`] lists all that a node reaches by legs to higher nodes, with the exact least costs, on every
-//! hierarchy with levels. [`answer_all`] gives the answers to many queries in their order, however a plan
+//! hierarchy with levels; [`search_space`] lists those of them over which distances lead, for tables, on
+//! every hierarchy that is right for a graph. [`answer_all`] gives the answers to many queries in their order, however a plan
 //! cuts them among workers.
 #![tactic(auto)]
 
@@ -20,6 +21,7 @@ mod routes;
 mod scratch;
 mod search;
 mod side;
+mod spaces;
 mod spreading;
 mod unpacking;
 
@@ -28,6 +30,7 @@ pub use query::{distance, route};
 pub use routes::Route;
 pub use scratch::Scratch;
 pub use side::Side;
+pub use spaces::search_space;
 pub use spreading::spread;
 
 #[cfg(test)]

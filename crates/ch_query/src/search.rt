@@ -1,5 +1,5 @@
 //! One side of a query: Dijkstra's algorithm from a source, along legs to higher nodes.
-ghost use Rattle.std.specs.Prelude.{◌≡◌, ◌+◌, ◌^◌, ◌<◌, ◌≤◌, ◌↔◌, length, slice_set, Some, true, IsTrue, IfOk};
+ghost use Rattle.std.specs.Prelude.{◌≡◌, ◌+◌, ◌^◌, ◌<◌, ◌≤◌, ◌↔◌, length, slice_set, Some, true, false, IsTrue, IfOk};
 ghost use Rattle.ch_graph.specs.Cost.{IsBelow};
 ghost use Rattle.ch_contract.specs.Hierarchy.{nodes_of};
 ghost use Rattle.ch_query.specs.Underway.{idle_of, unsettled_in, IsTouched, IsRoom, RelaxesIn, IsSameSearch, IsUnderway, IsExpandingAt, KeepsSettled, IsClean};
@@ -121,11 +121,12 @@ impl Search {
     }
 
     /// Takes each leg of the node that was settled last.
-    pub(crate) fn expand(&mut self, hierarchy: &Hierarchy, node: u32, cost: Cost)
+    fn expand(&mut self, hierarchy: &Hierarchy, node: u32, cost: Cost)
         requires expanding { IsExpandingAt hierarchy.now self.old node cost }
         ensures underway { IsUnderway hierarchy.now self.new }
         ensures same { IsSameSearch self.old self.new }
         ensures settled { KeepsSettled self.old self.new }
+        ensures stays { KeepsSettled self.new self.old }
         ensures measure { unsettled_in self.new ≡ unsettled_in self.old }
     {
         for leg in self.side.legs(hierarchy, node) {
@@ -149,18 +150,22 @@ impl Search {
         false
     }
 
-    /// Takes the legs of the node that was settled last, unless it is stalled.
-    pub(crate) fn settle(&mut self, hierarchy: &Hierarchy, node: u32, cost: Cost)
+    /// Takes the legs of the node that was settled last, unless the search stalls at it, and says whether it
+    /// did.
+    pub(crate) fn settle(&mut self, hierarchy: &Hierarchy, node: u32, cost: Cost) -> bool
         requires expanding { IsExpandingAt hierarchy.now self.old node cost }
-        requires stalls { self.old.stalls ≡ true }
         ensures underway { IsUnderway hierarchy.now self.new }
         ensures same { IsSameSearch self.old self.new }
         ensures settled { KeepsSettled self.old self.new }
+        ensures stays { KeepsSettled self.new self.old }
         ensures measure { unsettled_in self.new ≡ unsettled_in self.old }
+        ensures stalled { result ≡ false → idle_of hierarchy.now self.new node cost }
     {
-        if !self.is_stalled(hierarchy, node, cost) {
-            self.expand(hierarchy, node, cost);
+        if self.stalls && self.is_stalled(hierarchy, node, cost) {
+            return false;
         }
+        self.expand(hierarchy, node, cost);
+        true
     }
 
     /// Takes all that is known away, in as many steps as nodes were touched.

@@ -14,15 +14,15 @@ use ch_graph::Cost;
 use std::alloc::{AllocError, Global};
 
 impl Search {
-    /// Settles all nodes that can be reached.
-    fn explore(&mut self, hierarchy: &Hierarchy)
+    /// Settles all nodes that can be reached, but what is reached through stalled nodes alone.
+    pub(crate) fn explore(&mut self, hierarchy: &Hierarchy)
         requires underway { IsUnderway hierarchy.now self.old }
         ensures underway { IsUnderway hierarchy.now self.new }
         ensures done { IsEmpty self.new.queue }
         ensures same { IsSameSearch self.old self.new }
     {
         while let Some((cost, node)) = self.queue.pop() {
-            self.expand(hierarchy, node, cost);
+            self.settle(hierarchy, node, cost);
         }
     }
 

@@ -1,5 +1,5 @@
 -- The checks of one line: words that stand before the numbers, and limits on capped numbers.
-use Rattle.std.proofs.Common.{Bor, ◌≡◌, ℕ, zero, suc, ◌-◌, ◌*◌, ◌<◌, ◌≤◌, ◌^◌, ◌⊎◌, inl, inr, Bool, true, false, cond, eqb, leb, ltb, List, [], ◌∷◌, ◌++◌, length, map, take, get_or, Option, Some, None, refl, sym, ◌∙◌, ap, arith, append_assoc, lit<, lit≤, zero-mul}
+use Rattle.std.proofs.Common.{Bor, ◌≡◌, ℕ, zero, suc, ◌-◌, ◌*◌, ◌<◌, ◌≤◌, ◌^◌, ◌⊎◌, inl, inr, ◌&&◌, Bool, true, false, cond, eqb, leb, ltb, List, [], ◌∷◌, ◌++◌, length, map, take, get_or, Option, Some, None, refl, sym, ◌∙◌, ap, arith, append_assoc, lit<, lit≤, zero-mul}
 use Rattle.std.specs.Prelude.{MatchOption, replicate}
 use Rattle.std.specs.List.{list_all}
 use Rattle.std.specs.Str.{bytes_eq}
@@ -9,12 +9,14 @@ use Rattle.std.proofs.lemmas.Bool.Decides.{nat_tests}
 use Rattle.std.proofs.lemmas.List.{append-nil, get_or_past}
 use Rattle.std.proofs.lemmas.Option.{none-some}
 use Rattle.ch_read.specs.declared.form.Form.{Form}
-use Rattle.ch_read.specs.declared.form.Form.TheVariants.{Graph, Queries, Nodes}
+use Rattle.ch_read.specs.declared.form.Form.TheVariants.{Graph, Queries, Nodes, Saved}
+use Rattle.ch_read.specs.declared.form.Part.{Part}
+use Rattle.ch_read.specs.declared.form.Part.TheVariants.{First, Second}
 use Rattle.ch_read.specs.declared.form.Heading.{Heading}
 use Rattle.ch_read.specs.declared.fault.FaultKind.TheVariants.{NodeRange, Sum}
 use Rattle.ch_read.specs.Words.{words}
-use Rattle.ch_read.specs.Forms.{numbers, numbers_after, heading_from, item_size, node_count, item_word, item}
-use Rattle.ch_read.specs.Checks.{is_size, is_node, are_nodes, is_weight, first_failing, item_checks}
+use Rattle.ch_read.specs.Forms.{numbers, numbers_after, item_size, node_count, count_of}
+use Rattle.ch_read.specs.Checks.{is_node, is_middle, are_nodes, is_weight, first_failing, item_checks}
 use Rattle.ch_read.specs.Reading.{IsOther, IsAfter, AreCapped, greatest, capped, item_from, IsItemWithin, IsItem}
 use Rattle.ch_read.proofs.Numbers.{both, length-numbers}
 
@@ -108,11 +110,13 @@ all_at p (suc k) [] i lt within h = absurd (omega arith)
 all_at p (suc k) (n ∷ ns) zero lt within h = (both (p n) (list_all p (take k ns)) h).0
 all_at p (suc k) (n ∷ ns) (suc i) lt within h = all_at p k ns i (omega arith) (omega arith) (both (p n) (list_all p (take k ns)) h).1
 
--- an item of a form has its nodes among its numbers
-fewer : (form : Form) → node_count form ≤ item_size form
-fewer Graph = lit≤ tt
-fewer (Queries n) = lit≤ tt
-fewer (Nodes n) = lit≤ tt
+-- an item has its nodes among its numbers
+fewer : (form : Form) (part : Part) → node_count form part ≤ item_size form part
+fewer Graph part = lit≤ tt
+fewer (Queries n) part = lit≤ tt
+fewer (Nodes n) part = lit≤ tt
+fewer (Saved n) First = lit≤ tt
+fewer (Saved n) Second = lit≤ tt
 
 -- the bounds on an item's numbers that its checks give
 pub record HasBounds (nodes : ℕ) (ns : List ℕ) : Type 0 where
@@ -121,130 +125,166 @@ pub record HasBounds (nodes : ℕ) (ns : List ℕ) : Type 0 where
   pub second : get_or ns 1 0 ≤ nodes
   pub second_below : get_or ns 1 0 - 1 < nodes
   pub weight : get_or ns 2 0 ≤ 2 ^ 60
+  pub arcs : get_or ns 3 0 ≤ 2 ^ 25
+  pub middle : get_or ns 4 0 ≤ nodes
+
+-- the nodes that must be there are in range
+ends_are : (form : Form) (part : Part) (nodes : ℕ) (ns : List ℕ) → IsItemWithin form part nodes ns → list_all (is_node nodes) (take (node_count form part) ns) ≡ true
+ends_are form part nodes ns within = (both (list_all (is_node nodes) (take (node_count form part) ns)) (is_middle form part nodes ns) within.nodes_are).0
 
 node_at : (nodes k : ℕ) (ns : List ℕ) (i : ℕ) → i < k → i < length ns → list_all (is_node nodes) (take k ns) ≡ true → (1 ≤ get_or ns i 0) × (get_or ns i 0 ≤ nodes)
 node_at nodes k ns i lt within h =
     let each = both (leb 1 (get_or ns i 0)) (leb (get_or ns i 0) nodes) (all_at (is_node nodes) k ns i lt within h) in
     (leb-true 1 (get_or ns i 0) each.0, leb-true (get_or ns i 0) nodes each.1)
 
-pub bounds : (form : Form) (nodes : ℕ) (ns : List ℕ) → IsItemWithin form nodes ns → HasBounds nodes ns
-bounds Graph nodes ns within =
-    let long : length ns ≡ 3 = within.long in
-    let a = node_at nodes 2 ns 0 (lit< tt) (omega arith) within.nodes_are in
-    let b = node_at nodes 2 ns 1 (lit< tt) (omega arith) within.nodes_are in
-    let w : nodes * get_or ns 2 0 ≤ 2 ^ 60 = leb-true (nodes * get_or ns 2 0) (2 ^ 60) within.weight_is in
-    record { first = a.1; first_below = omega arith; second = b.1; second_below = omega arith; weight = omega (arith, no_less nodes (get_or ns 2 0) (omega arith), w) }
-bounds (Queries n) nodes ns within =
-    let long : length ns ≡ 2 = within.long in
-    let a = node_at nodes 2 ns 0 (lit< tt) (omega arith) within.nodes_are in
-    let b = node_at nodes 2 ns 1 (lit< tt) (omega arith) within.nodes_are in
-    let none : get_or ns 2 0 ≡ 0 = get_or_past ns 2 0 (omega arith) in
-    record { first = a.1; first_below = omega arith; second = b.1; second_below = omega arith; weight = omega arith }
-bounds (Nodes n) nodes ns within =
-    let long : length ns ≡ 1 = within.long in
-    let a = node_at nodes 1 ns 0 (lit< tt) (omega arith) within.nodes_are in
-    let none : get_or ns 1 0 ≡ 0 = get_or_past ns 1 0 (omega arith) in
+-- the bounds where one number alone is there
+one_number : (nodes : ℕ) (ns : List ℕ) → length ns ≡ 1 → list_all (is_node nodes) (take 1 ns) ≡ true → HasBounds nodes ns
+one_number nodes ns long ends =
+    let a = node_at nodes 1 ns 0 (lit< tt) (omega arith) ends in
+    let no_second : get_or ns 1 0 ≡ 0 = get_or_past ns 1 0 (omega arith) in
     let no_weight : get_or ns 2 0 ≡ 0 = get_or_past ns 2 0 (omega arith) in
-    record { first = a.1; first_below = omega arith; second = omega arith; second_below = omega arith; weight = omega arith }
+    let no_arcs : get_or ns 3 0 ≡ 0 = get_or_past ns 3 0 (omega arith) in
+    let no_middle : get_or ns 4 0 ≡ 0 = get_or_past ns 4 0 (omega arith) in
+    record { first = a.1; first_below = omega arith; second = omega arith; second_below = omega arith; weight = omega arith; arcs = omega arith; middle = omega arith }
 
--- a problem line's numbers
+pub bounds : (form : Form) (part : Part) (nodes : ℕ) (ns : List ℕ) → IsItemWithin form part nodes ns → HasBounds nodes ns
+bounds Graph part nodes ns within =
+    let long : length ns ≡ 3 = within.long in
+    let a = node_at nodes 2 ns 0 (lit< tt) (omega arith) (ends_are Graph part nodes ns within) in
+    let b = node_at nodes 2 ns 1 (lit< tt) (omega arith) (ends_are Graph part nodes ns within) in
+    let w : nodes * get_or ns 2 0 ≤ 2 ^ 60 = leb-true (nodes * get_or ns 2 0) (2 ^ 60) within.weight_is in
+    let no_arcs : get_or ns 3 0 ≡ 0 = get_or_past ns 3 0 (omega arith) in
+    let no_middle : get_or ns 4 0 ≡ 0 = get_or_past ns 4 0 (omega arith) in
+    record {
+      first = a.1;
+      first_below = omega arith;
+      second = b.1;
+      second_below = omega arith;
+      weight = omega (arith, no_less nodes (get_or ns 2 0) (omega arith), w);
+      arcs = omega arith;
+      middle = omega arith;
+    }
+bounds (Queries n) part nodes ns within =
+    let long : length ns ≡ 2 = within.long in
+    let a = node_at nodes 2 ns 0 (lit< tt) (omega arith) (ends_are (Queries n) part nodes ns within) in
+    let b = node_at nodes 2 ns 1 (lit< tt) (omega arith) (ends_are (Queries n) part nodes ns within) in
+    let no_weight : get_or ns 2 0 ≡ 0 = get_or_past ns 2 0 (omega arith) in
+    let no_arcs : get_or ns 3 0 ≡ 0 = get_or_past ns 3 0 (omega arith) in
+    let no_middle : get_or ns 4 0 ≡ 0 = get_or_past ns 4 0 (omega arith) in
+    record { first = a.1; first_below = omega arith; second = b.1; second_below = omega arith; weight = omega arith; arcs = omega arith; middle = omega arith }
+bounds (Nodes n) part nodes ns within = one_number nodes ns within.long (ends_are (Nodes n) part nodes ns within)
+bounds (Saved n) First nodes ns within = one_number nodes ns within.long (ends_are (Saved n) First nodes ns within)
+bounds (Saved n) Second nodes ns within =
+    let long : length ns ≡ 5 = within.long in
+    let a = node_at nodes 2 ns 0 (lit< tt) (omega arith) (ends_are (Saved n) Second nodes ns within) in
+    let b = node_at nodes 2 ns 1 (lit< tt) (omega arith) (ends_are (Saved n) Second nodes ns within) in
+    let cost = both (leb (get_or ns 2 0) (2 ^ 60)) (leb (get_or ns 3 0) (2 ^ 25)) within.weight_is in
+    let middle = both (list_all (is_node nodes) (take 2 ns)) (leb (get_or ns 4 0) nodes) within.nodes_are in
+    record {
+      first = a.1;
+      first_below = omega arith;
+      second = b.1;
+      second_below = omega arith;
+      weight = leb-true (get_or ns 2 0) (2 ^ 60) cost.0;
+      arcs = leb-true (get_or ns 3 0) (2 ^ 25) cost.1;
+      middle = leb-true (get_or ns 4 0) nodes middle.1;
+    }
+
+-- numbers, capped, and zeros
 module _ (ns : List ℕ) (m : ℕ) where
   abbrev values : List ℕ
   values = map capped ns ++ replicate m 0
 
-  pub is_size-capped : (form : Form) → is_size form (heading_from form values) ≡ is_size form (heading_from form ns)
-  is_size-capped Graph = rw (capped_at ns m 0, capped_at ns m 1, capped_le (get_or ns 0 0) (2 ^ 25) (lit< tt), capped_le (get_or ns 1 0) (2 ^ 27) (lit< tt)) refl
-  is_size-capped (Queries n) = rw (capped_at ns m 0, capped_le (get_or ns 0 0) (2 ^ 24) (lit< tt)) refl
-  is_size-capped (Nodes n) = rw (capped_at ns m 0, capped_le (get_or ns 0 0) 65536 (lit< tt)) refl
-
   exact : (k : ℕ) → get_or ns k 0 ≤ greatest → get_or values k 0 ≡ get_or ns k 0
   exact k le = capped_at ns m k ∙ capped_same (get_or ns k 0) le
 
-  pub heading-capped : (form : Form) → is_size form (heading_from form ns) ≡ true → heading_from form values ≡ heading_from form ns
-  heading-capped Graph size =
-      let each = both (leb (get_or ns 0 0) (2 ^ 25)) (leb (get_or ns 1 0) (2 ^ 27)) size in
-      let nodes : get_or ns 0 0 ≤ 2 ^ 25 = leb-true (get_or ns 0 0) (2 ^ 25) each.0 in
-      let items : get_or ns 1 0 ≤ 2 ^ 27 = leb-true (get_or ns 1 0) (2 ^ 27) each.1 in
-      rw (exact 0 (omega arith), exact 1 (omega arith)) refl
-  heading-capped (Queries n) size = let items : get_or ns 0 0 ≤ 2 ^ 24 = leb-true (get_or ns 0 0) (2 ^ 24) size in rw (exact 0 (omega arith)) refl
-  heading-capped (Nodes n) size = let items : get_or ns 0 0 ≤ 65536 = leb-true (get_or ns 0 0) 65536 size in rw (exact 0 (omega arith)) refl
+  is_middle-capped : (form : Form) (part : Part) (nodes : ℕ) → nodes < 2 ^ 32 → is_middle form part nodes values ≡ is_middle form part nodes ns
+  is_middle-capped Graph part nodes small = refl
+  is_middle-capped (Queries n) part nodes small = refl
+  is_middle-capped (Nodes n) part nodes small = refl
+  is_middle-capped (Saved n) First nodes small = refl
+  is_middle-capped (Saved n) Second nodes small = let fits : nodes < greatest = omega arith in rw (capped_at ns m 4, capped_le (get_or ns 4 0) nodes fits) refl
 
-  -- an item's numbers
-  pub are_nodes-capped : (form : Form) (nodes : ℕ) → nodes < 2 ^ 32 → length ns ≡ item_size form → are_nodes form nodes values ≡ are_nodes form nodes ns
-  are_nodes-capped form nodes small long = nodes-capped nodes small (node_count form) ns m (omega (arith, long, fewer form))
+  pub are_nodes-capped : (form : Form) (part : Part) (nodes : ℕ) → nodes < 2 ^ 32 → length ns ≡ item_size form part → are_nodes form part nodes values ≡ are_nodes form part nodes ns
+  are_nodes-capped form part nodes small long =
+      ap (λ (ends : Bool). ends && is_middle form part nodes values) (nodes-capped nodes small (node_count form part) ns m (omega (arith, long, fewer form part)))
+      ∙ ap (λ (middle : Bool). list_all (is_node nodes) (take (node_count form part) ns) && middle) (is_middle-capped form part nodes small)
 
-  pub is_weight-capped : (form : Form) (nodes : ℕ) → is_weight form nodes values ≡ is_weight form nodes ns
-  is_weight-capped Graph nodes = rw (capped_at ns m 2) (weight-capped nodes (get_or ns 2 0))
-  is_weight-capped (Queries n) nodes = refl
-  is_weight-capped (Nodes n) nodes = refl
+  pub is_weight-capped : (form : Form) (part : Part) (nodes : ℕ) → is_weight form part nodes values ≡ is_weight form part nodes ns
+  is_weight-capped Graph part nodes = rw (capped_at ns m 2) (weight-capped nodes (get_or ns 2 0))
+  is_weight-capped (Queries n) part nodes = refl
+  is_weight-capped (Nodes n) part nodes = refl
+  is_weight-capped (Saved n) First nodes = refl
+  is_weight-capped (Saved n) Second nodes =
+      rw (capped_at ns m 2, capped_at ns m 3, capped_le (get_or ns 2 0) (2 ^ 60) (lit< tt), capped_le (get_or ns 3 0) (2 ^ 25) (lit< tt)) refl
 
-  pub item-capped : (form : Form) (nodes : ℕ) → nodes < 2 ^ 32 → IsItemWithin form nodes ns → item_from values ≡ item_from ns
-  item-capped form nodes small within =
-      let b = bounds form nodes ns within in
-      rw (exact 0 (omega arith), exact 1 (omega arith), exact 2 (omega arith)) refl
+  pub item-capped : (form : Form) (part : Part) (nodes : ℕ) → nodes < 2 ^ 32 → IsItemWithin form part nodes ns → item_from values ≡ item_from ns
+  item-capped form part nodes small within =
+      let b = bounds form part nodes ns within in
+      rw (exact 0 (omega arith), exact 1 (omega arith), exact 2 (omega arith), exact 3 (omega arith), exact 4 (omega arith)) refl
 
 -- an item line whose numbers were read
-pub record HasNumbers (form : Form) (seen : Option Heading) (h : Heading) (count : ℕ) (ws : List (List ℕ)) (values : List ℕ) : Type 0 where
+pub record HasNumbers (form : Form) (part : Part) (seen : Option Heading) (h : Heading) (count : ℕ) (ws : List (List ℕ)) (values : List ℕ) : Type 0 where
   pub declared : seen ≡ Some h
   pub small : h.nodes < 2 ^ 32
-  pub read : AreCapped (numbers_after [] (item_size form) ws) values
-  pub room : count < h.items
+  pub read : AreCapped (numbers_after [] (item_size form part) ws) values
+  pub room : count < count_of h.items part
 
-pub read_item : (form : Form) (seen : Option Heading) (h : Heading) (count size : ℕ) (ws : List (List ℕ)) (values : List ℕ) → seen ≡ Some h → h.nodes < 2 ^ 32 → size ≡ item_size form →
-    AreCapped (numbers_after [] size ws) values → count < h.items → HasNumbers form seen h count ws values
-read_item form seen h count size ws values declared small size_is read room = record { declared = declared; small = small; read = rw size_is at read; room = room }
+pub read_item : (form : Form) (part : Part) (seen : Option Heading) (h : Heading) (count most size : ℕ) (ws : List (List ℕ)) (values : List ℕ) → seen ≡ Some h → h.nodes < 2 ^ 32 →
+    size ≡ item_size form part → AreCapped (numbers_after [] size ws) values → most ≡ count_of h.items part → count < most → HasNumbers form part seen h count ws values
+read_item form part seen h count most size ws values declared small size_is read most_is room =
+    record { declared = declared; small = small; read = rw size_is at read; room = omega (arith, most_is, room) }
 
-module _ (form : Form) (seen : Option Heading) (h : Heading) (count : ℕ) (ws : List (List ℕ)) (values : List ℕ) (read : HasNumbers form seen h count ws values) where
-  item_is : (form : Form) → item form (item_word form ∷ ws) ≡ numbers_after [] (item_size form) ws
-  item_is Graph = refl
-  item_is (Queries n) = refl
-  item_is (Nodes n) = refl
+module _ (form : Form) (part : Part) (seen : Option Heading) (h : Heading) (count : ℕ) (ws : List (List ℕ)) (values : List ℕ) (read : HasNumbers form part seen h count ws values) where
+  abbrev numbers_read : Option (List ℕ)
+  numbers_read = numbers_after [] (item_size form part) ws
 
   abbrev ns : List ℕ
   ns = read.read.0
 
-  has : item form (item_word form ∷ ws) ≡ Some ns
-  has = item_is form ∙ read.read.1
+  has : numbers_read ≡ Some ns
+  has = read.read.1
 
-  long : length ns ≡ item_size form
-  long = length-numbers_after [] ws (item_size form) ns read.read.1
+  long : length ns ≡ item_size form part
+  long = length-numbers_after [] ws (item_size form part) ns has
 
-  has_room : ltb count h.items ≡ true
+  has_room : ltb count (count_of h.items part) ≡ true
   has_room = let room = read.room in grind (arith, nat_tests)
 
-  nodes_are : are_nodes form h.nodes values ≡ are_nodes form h.nodes ns
-  nodes_are = ap (are_nodes form h.nodes) read.read.2 ∙ are_nodes-capped ns (3 - length ns) form h.nodes read.small long
+  nodes_are : are_nodes form part h.nodes values ≡ are_nodes form part h.nodes ns
+  nodes_are = ap (are_nodes form part h.nodes) read.read.2 ∙ are_nodes-capped ns (5 - length ns) form part h.nodes read.small long
 
-  weight_is : is_weight form h.nodes values ≡ is_weight form h.nodes ns
-  weight_is = ap (is_weight form h.nodes) read.read.2 ∙ is_weight-capped ns (3 - length ns) form h.nodes
+  weight_is : is_weight form part h.nodes values ≡ is_weight form part h.nodes ns
+  weight_is = ap (is_weight form part h.nodes) read.read.2 ∙ is_weight-capped ns (5 - length ns) form part h.nodes
 
-  pub out_of_range : are_nodes form h.nodes values ≡ false → first_failing (item_checks form seen count (item_word form ∷ ws)) ≡ Some NodeRange
-  out_of_range out = let real : are_nodes form h.nodes ns ≡ false = sym nodes_are ∙ out in rw (read.declared, has, has_room, real) refl
+  pub out_of_range : are_nodes form part h.nodes values ≡ false → first_failing (item_checks form part seen count numbers_read) ≡ Some NodeRange
+  out_of_range out = let real : are_nodes form part h.nodes ns ≡ false = sym nodes_are ∙ out in rw (read.declared, has, has_room, real) refl
 
-  pub too_heavy : are_nodes form h.nodes values ≡ true → is_weight form h.nodes values ≡ false → first_failing (item_checks form seen count (item_word form ∷ ws)) ≡ Some Sum
+  pub too_heavy : are_nodes form part h.nodes values ≡ true → is_weight form part h.nodes values ≡ false → first_failing (item_checks form part seen count numbers_read) ≡ Some Sum
   too_heavy within heavy =
-      let real : are_nodes form h.nodes ns ≡ true = sym nodes_are ∙ within in
-      let weight : is_weight form h.nodes ns ≡ false = sym weight_is ∙ heavy in
+      let real : are_nodes form part h.nodes ns ≡ true = sym nodes_are ∙ within in
+      let weight : is_weight form part h.nodes ns ≡ false = sym weight_is ∙ heavy in
       rw (read.declared, has, has_room, real, weight) refl
 
-  pub item_within : are_nodes form h.nodes values ≡ true → is_weight form h.nodes values ≡ true → IsItemWithin form h.nodes ns
+  pub item_within : are_nodes form part h.nodes values ≡ true → is_weight form part h.nodes values ≡ true → IsItemWithin form part h.nodes ns
   item_within within weight = record { long = long; nodes_are = sym nodes_are ∙ within; weight_is = sym weight_is ∙ weight }
 
-  pub passes_as_item : are_nodes form h.nodes values ≡ true → is_weight form h.nodes values ≡ true → IsItem form seen count (item_word form ∷ ws) (item_from values)
+  pub passes_as_item : are_nodes form part h.nodes values ≡ true → is_weight form part h.nodes values ≡ true → IsItem form part seen count numbers_read (item_from values)
   passes_as_item within weight = record {
     declared = h;
     seen_is = read.declared;
     ns = ns;
     has = has;
-    value = ap item_from read.read.2 ∙ item-capped ns (3 - length ns) form h.nodes read.small (item_within within weight);
+    value = ap item_from read.read.2 ∙ item-capped ns (5 - length ns) form part h.nodes read.small (item_within within weight);
     room = read.room;
     within = item_within within weight;
   }
 
-  pub values_small : are_nodes form h.nodes values ≡ true → is_weight form h.nodes values ≡ true → (get_or values 0 0 < 2 ^ 32) × (get_or values 1 0 < 2 ^ 32)
+  pub values_small : are_nodes form part h.nodes values ≡ true → is_weight form part h.nodes values ≡ true → (get_or values 0 0 < 2 ^ 32) × (get_or values 1 0 < 2 ^ 32) × (get_or values 4 0 < 2 ^ 32)
   values_small within weight =
-      let b = bounds form h.nodes ns (item_within within weight) in
+      let b = bounds form part h.nodes ns (item_within within weight) in
       let small = read.small in
-      let first : get_or values 0 0 ≡ capped (get_or ns 0 0) = ap (λ (v : List ℕ). get_or v 0 0) read.read.2 ∙ capped_at ns (3 - length ns) 0 in
-      let second : get_or values 1 0 ≡ capped (get_or ns 1 0) = ap (λ (v : List ℕ). get_or v 1 0) read.read.2 ∙ capped_at ns (3 - length ns) 1 in
-      (omega arith, omega arith)
+      let first : get_or values 0 0 ≡ capped (get_or ns 0 0) = ap (λ (v : List ℕ). get_or v 0 0) read.read.2 ∙ capped_at ns (5 - length ns) 0 in
+      let second : get_or values 1 0 ≡ capped (get_or ns 1 0) = ap (λ (v : List ℕ). get_or v 1 0) read.read.2 ∙ capped_at ns (5 - length ns) 1 in
+      let middle : get_or values 4 0 ≡ capped (get_or ns 4 0) = ap (λ (v : List ℕ). get_or v 4 0) read.read.2 ∙ capped_at ns (5 - length ns) 4 in
+      (omega arith, omega arith, omega arith)

@@ -12,6 +12,7 @@ use Rattle.ch_read.specs.declared.fault.ReadError.{ReadError}
 use Rattle.ch_read.specs.declared.fault.ReadError.TheVariants.{Fault, NoMemory}
 use Rattle.ch_read.specs.declared.form.Form.{Form}
 use Rattle.ch_read.specs.declared.form.Form.TheVariants.{Graph, Queries, Nodes}
+use Rattle.ch_read.specs.declared.form.Part.TheVariants.{First}
 use Rattle.ch_read.specs.declared.form.Heading.{Heading}
 use Rattle.ch_read.specs.Words.{lines, words}
 use Rattle.ch_read.specs.Forms.{numbers_after, problem_words, problem_size, heading_from, heading, heading_in, items_in}
@@ -63,37 +64,37 @@ heading_nodes form n same (line ∷ all) h e = at (numbers_after (codes "p" ∷ 
     at None e more = more e
     at (Some ns) e more = ap (λ (h : Heading). h.nodes) (sym (same_Some (heading_from form ns) h e)) ∙ same ns
 
-pub graph_within : (bytes : List ℕ) (h : Heading) → IsFile Graph bytes h → IsWithinLimits (record { nodes = h.nodes; arcs = map arc_from (items_in Graph (lines bytes)) })
+pub graph_within : (bytes : List ℕ) (h : Heading) → IsFile Graph bytes h → IsWithinLimits (record { nodes = h.nodes; arcs = map arc_from (items_in Graph First (lines bytes)) })
 graph_within bytes h file =
-    let size = both (leb h.nodes (2 ^ 25)) (leb h.items (2 ^ 27)) file.within.0 in
-    let items : h.items ≤ 2 ^ 27 = leb-true h.items (2 ^ 27) size.1 in
-    let few = file.within.1 in
+    let size = both (leb h.nodes (2 ^ 25)) (leb h.items.first (2 ^ 27)) file.within.0 in
+    let items : h.items.first ≤ 2 ^ 27 = leb-true h.items.first (2 ^ 27) size.1 in
+    let few = file.within.1.few in
     record {
-      size = (leb-true h.nodes (2 ^ 25) size.0, omega (arith, length-map (items_in Graph (lines bytes)) arc_from));
-      each = All-map (IsArcWithin h.nodes) arc_from (items_in Graph (lines bytes)) (λ k d lt. arc_within (get_or (items_in Graph (lines bytes)) k d) (file.within.2 k d lt));
+      size = (leb-true h.nodes (2 ^ 25) size.0, omega (arith, length-map (items_in Graph First (lines bytes)) arc_from));
+      each = All-map (IsArcWithin h.nodes) arc_from (items_in Graph First (lines bytes)) (λ k d lt. arc_within (get_or (items_in Graph First (lines bytes)) k d) (file.within.1.each k d lt));
     }
   where
-    arc_within : (ns : List ℕ) → IsItemWithin Graph h.nodes ns → IsArcWithin h.nodes (arc_from ns)
+    arc_within : (ns : List ℕ) → IsItemWithin Graph First h.nodes ns → IsArcWithin h.nodes (arc_from ns)
     arc_within ns within =
-        let b = bounds Graph h.nodes ns within in
+        let b = bounds Graph First h.nodes ns within in
         record { ends = (b.first_below, b.second_below); weight = leb-true (h.nodes * slice_index ns 2) (2 ^ 60) within.weight_is }
 
-pub pairs_within : (n : ℕ) (bytes : List ℕ) (h : Heading) → IsFile (Queries n) bytes h → All (λ (p : ℕ × ℕ). (p.0 < n) × (p.1 < n)) (map pair_from (items_in (Queries n) (lines bytes)))
+pub pairs_within : (n : ℕ) (bytes : List ℕ) (h : Heading) → IsFile (Queries n) bytes h → All (λ (p : ℕ × ℕ). (p.0 < n) × (p.1 < n)) (map pair_from (items_in (Queries n) First (lines bytes)))
 pairs_within n bytes h file =
-    All-map (λ (p : ℕ × ℕ). (p.0 < n) × (p.1 < n)) pair_from (items_in (Queries n) (lines bytes)) (λ k d lt. pair_within (get_or (items_in (Queries n) (lines bytes)) k d) (file.within.2 k d lt))
+    All-map (λ (p : ℕ × ℕ). (p.0 < n) × (p.1 < n)) pair_from (items_in (Queries n) First (lines bytes)) (λ k d lt. pair_within (get_or (items_in (Queries n) First (lines bytes)) k d) (file.within.1.each k d lt))
   where
-    pair_within : (ns : List ℕ) → IsItemWithin (Queries n) h.nodes ns → (slice_index ns 0 - 1 < n) × (slice_index ns 1 - 1 < n)
+    pair_within : (ns : List ℕ) → IsItemWithin (Queries n) First h.nodes ns → (slice_index ns 0 - 1 < n) × (slice_index ns 1 - 1 < n)
     pair_within ns within =
-        let b = bounds (Queries n) h.nodes ns within in
+        let b = bounds (Queries n) First h.nodes ns within in
         let nodes = heading_nodes (Queries n) n (λ ns. refl) (lines bytes) h file.heading_is in
         (omega (arith, b.first_below, nodes), omega (arith, b.second_below, nodes))
 
-pub nodes_within : (n : ℕ) (bytes : List ℕ) (h : Heading) → IsFile (Nodes n) bytes h → All (λ x. x < n) (map node_from (items_in (Nodes n) (lines bytes)))
+pub nodes_within : (n : ℕ) (bytes : List ℕ) (h : Heading) → IsFile (Nodes n) bytes h → All (λ x. x < n) (map node_from (items_in (Nodes n) First (lines bytes)))
 nodes_within n bytes h file =
-    All-map (λ x. x < n) node_from (items_in (Nodes n) (lines bytes)) (λ k d lt. node_within (get_or (items_in (Nodes n) (lines bytes)) k d) (file.within.2 k d lt))
+    All-map (λ x. x < n) node_from (items_in (Nodes n) First (lines bytes)) (λ k d lt. node_within (get_or (items_in (Nodes n) First (lines bytes)) k d) (file.within.1.each k d lt))
   where
-    node_within : (ns : List ℕ) → IsItemWithin (Nodes n) h.nodes ns → slice_index ns 0 - 1 < n
+    node_within : (ns : List ℕ) → IsItemWithin (Nodes n) First h.nodes ns → slice_index ns 0 - 1 < n
     node_within ns within =
-        let b = bounds (Nodes n) h.nodes ns within in
+        let b = bounds (Nodes n) First h.nodes ns within in
         let nodes = heading_nodes (Nodes n) n (λ ns. refl) (lines bytes) h file.heading_is in
         omega (arith, b.first_below, nodes)

@@ -115,9 +115,9 @@ pub record HasTaken (ws left : List (List ℕ)) (i : ℕ) (values : List ℕ) : 
   pub split : ws ≡ taken ++ left
   pub long : length taken ≡ i
   pub read : numbers taken ≡ Some ns
-  pub values_are : values ≡ map capped ns ++ replicate (3 - i) 0
+  pub values_are : values ≡ map capped ns ++ replicate (5 - i) 0
 
-pub none_taken : (ws : List (List ℕ)) → HasTaken ws ws 0 (0 ∷ 0 ∷ 0 ∷ [])
+pub none_taken : (ws : List (List ℕ)) → HasTaken ws ws 0 (0 ∷ 0 ∷ 0 ∷ 0 ∷ 0 ∷ [])
 none_taken ws = record { taken = []; ns = []; split = refl; long = refl; read = refl; values_are = refl }
 
 read_value : (w : List ℕ) (value : ℕ) → Some value ≡ option_map capped (number w) → (n : ℕ) × (number w ≡ Some n) × (value ≡ capped n)
@@ -134,10 +134,10 @@ no_value w e = at (number w) e
     at None e = refl
     at (Some n) e = absurd (none-some (capped n) e)
 
-zeros_less : (i : ℕ) → i < 3 → replicate {A = ℕ} (3 - i) 0 ≡ 0 ∷ replicate (3 - (i + 1)) 0
-zeros_less i lt = let less : 3 - i ≡ suc (3 - (i + 1)) = omega arith in ap (λ k. replicate {A = ℕ} k 0) less
+zeros_less : (i : ℕ) → i < 5 → replicate {A = ℕ} (5 - i) 0 ≡ 0 ∷ replicate (5 - (i + 1)) 0
+zeros_less i lt = let less : 5 - i ≡ suc (5 - (i + 1)) = omega arith in ap (λ k. replicate {A = ℕ} k 0) less
 
-pub take_one : (ws left more : List (List ℕ)) (w : List ℕ) (i value : ℕ) (values : List ℕ) → i < 3 → HasTaken ws left i values → left ≡ w ∷ more →
+pub take_one : (ws left more : List (List ℕ)) (w : List ℕ) (i value : ℕ) (values : List ℕ) → i < 5 → HasTaken ws left i values → left ≡ w ∷ more →
     Some value ≡ option_map capped (number w) → HasTaken ws more (i + 1) (set values i value)
 take_one ws left more w i value values lt h next e =
     let n = read_value w value e in
@@ -150,10 +150,10 @@ take_one ws left more w i value values lt h next e =
       long = length_push h.taken w ∙ ap (λ k. k + 1) h.long;
       read = numbers_push h.taken w h.ns n.0 h.read n.1;
       values_are = ap (λ v. set v i value) (h.values_are ∙ ap (λ r. map capped h.ns ++ r) (zeros_less i lt))
-          ∙ set_at (map capped h.ns) 0 (replicate (3 - (i + 1)) 0) value i long
-          ∙ ap (λ v. map capped h.ns ++ v ∷ replicate (3 - (i + 1)) 0) n.2
-          ∙ sym (append_assoc (map capped h.ns) (capped n.0 ∷ []) (replicate (3 - (i + 1)) 0))
-          ∙ ap (λ r. r ++ replicate (3 - (i + 1)) 0) (sym (map-append capped h.ns (n.0 ∷ [])));
+          ∙ set_at (map capped h.ns) 0 (replicate (5 - (i + 1)) 0) value i long
+          ∙ ap (λ v. map capped h.ns ++ v ∷ replicate (5 - (i + 1)) 0) n.2
+          ∙ sym (append_assoc (map capped h.ns) (capped n.0 ∷ []) (replicate (5 - (i + 1)) 0))
+          ∙ ap (λ r. r ++ replicate (5 - (i + 1)) 0) (sym (map-append capped h.ns (n.0 ∷ [])));
     }
 
 -- the ends of the loop
@@ -175,4 +175,4 @@ all_taken ws left count values h e =
     let counted : eqb (length ws) count ≡ true = grind (arith, nat_tests) in
     let as_long : length h.ns ≡ count = length-numbers h.taken h.ns h.read ∙ h.long in
     let read : numbers ws ≡ Some h.ns = ap numbers whole ∙ h.read in
-    (h.ns, rw counted read, h.values_are ∙ ap (λ k. map capped h.ns ++ replicate (3 - k) 0) (sym as_long))
+    (h.ns, rw counted read, h.values_are ∙ ap (λ k. map capped h.ns ++ replicate (5 - k) 0) (sym as_long))

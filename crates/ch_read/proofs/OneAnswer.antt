@@ -6,15 +6,17 @@ use Rattle.std.proofs.lemmas.Bool.{cases_order}
 use Rattle.std.proofs.lemmas.Bool.Decides.{nat_tests}
 use Rattle.std.proofs.lemmas.Option.{none-some, same_Some}
 use Rattle.ch_graph.specs.Graph.{Network}
+use Rattle.ch_graph.specs.Saved.{OrderAndLegs}
 use Rattle.ch_read.specs.declared.fault.FaultKind.TheVariants.{NoProblem}
 use Rattle.ch_read.specs.declared.fault.ReadFault.{ReadFault}
 use Rattle.ch_read.specs.declared.form.Form.{Form}
-use Rattle.ch_read.specs.declared.form.Form.TheVariants.{Graph, Queries, Nodes}
+use Rattle.ch_read.specs.declared.form.Form.TheVariants.{Graph, Queries, Nodes, Saved}
+use Rattle.ch_read.specs.declared.form.Part.TheVariants.{First, Second}
 use Rattle.ch_read.specs.declared.form.Heading.{Heading}
 use Rattle.ch_read.specs.Words.{lines}
-use Rattle.ch_read.specs.Forms.{heading_in, items_in}
+use Rattle.ch_read.specs.Forms.{heading_in, items_in, counts_in}
 use Rattle.ch_read.specs.Checks.{fault_at, end_fault, first_failing, end_checks, IsAccepted, IsFault}
-use Rattle.ch_read.specs.Names.{arc_from, NamesGraph, NamesQueries, NamesNodes}
+use Rattle.ch_read.specs.Names.{arc_from, node_from, leg_from, NamesGraph, NamesQueries, NamesNodes, NamesSaved}
 use Rattle.ch_read.specs.Answers.{HasOneAnswer}
 
 -- the fault of the end stands at the place after the last line
@@ -88,7 +90,7 @@ one_fault form bytes f g is other = at (cases_order f.line g.line)
 pub accepted_heading : (form : Form) (bytes : List ℕ) → IsAccepted form bytes → (h : Heading) × (heading_in form (lines bytes) ≡ Some h)
 accepted_heading form bytes a = at (heading_in form (lines bytes)) refl (sym (at_end form (lines bytes)) ∙ a (length (lines bytes)) (omega arith))
   where
-    at : (seen : Option Heading) → heading_in form (lines bytes) ≡ seen → first_failing (end_checks seen (length (items_in form (lines bytes)))) ≡ None →
+    at : (seen : Option Heading) → heading_in form (lines bytes) ≡ seen → first_failing (end_checks seen (counts_in form (lines bytes))) ≡ None →
         (h : Heading) × (heading_in form (lines bytes) ≡ Some h)
     at (Some h) e clear = (h, e)
     at None e clear = absurd (none-some NoProblem (sym clear))
@@ -104,7 +106,7 @@ graph_answer bytes = record {
     value : IsAccepted Graph bytes → (g : Network) × NamesGraph bytes g
     value a =
         let h = accepted_heading Graph bytes a in
-        (record { nodes = h.0.nodes; arcs = map arc_from (items_in Graph (lines bytes)) }, record { accepted = a; nodes = ap (option_map (λ (h : Heading). h.nodes)) h.1; arcs = refl })
+        (record { nodes = h.0.nodes; arcs = map arc_from (items_in Graph First (lines bytes)) }, record { accepted = a; nodes = ap (option_map (λ (h : Heading). h.nodes)) h.1; arcs = refl })
 
     same : (g h : Network) → NamesGraph bytes g → NamesGraph bytes h → g ≡ h
     same g h named other =
@@ -127,3 +129,20 @@ nodes_answer bytes n = record {
   one_fault = one_fault (Nodes n) bytes;
   not_both = λ x f named is. not_both (Nodes n) bytes f named.accepted is;
 }
+
+pub saved_answer : (bytes : List ℕ) (n : ℕ) → HasOneAnswer (NamesSaved bytes n) (Saved n) bytes
+saved_answer bytes n = record {
+  some = elim (accepted_or_faulty (Saved n) bytes) [ inl a ↦ inl (value, record { accepted = a; order = refl; legs = refl }) | inr f ↦ inr f ];
+  one_value = same;
+  one_fault = one_fault (Saved n) bytes;
+  not_both = λ x f named is. not_both (Saved n) bytes f named.accepted is;
+}
+  where
+    value : OrderAndLegs
+    value = record { order = map node_from (items_in (Saved n) First (lines bytes)); legs = map leg_from (items_in (Saved n) Second (lines bytes)) }
+
+    same : (x y : OrderAndLegs) → NamesSaved bytes n x → NamesSaved bytes n y → x ≡ y
+    same x y named other =
+        let order : x.order ≡ y.order = named.order ∙ sym other.order in
+        let legs : x.legs ≡ y.legs = named.legs ∙ sym other.legs in
+        λ i. record { order = order i; legs = legs i }

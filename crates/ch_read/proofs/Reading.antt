@@ -9,12 +9,15 @@ use Rattle.std.proofs.lemmas.List.Elements.{filter_map-append, All-append}
 use Rattle.std.proofs.lemmas.Option.{none-some}
 use Rattle.ch_read.specs.declared.fault.FaultKind.{FaultKind}
 use Rattle.ch_read.specs.declared.form.Form.{Form}
+use Rattle.ch_read.specs.declared.form.Part.{Part}
+use Rattle.ch_read.specs.declared.form.Part.TheVariants.{First, Second}
+use Rattle.ch_read.specs.declared.form.Counts.{Counts}
 use Rattle.ch_read.specs.declared.form.Heading.{Heading}
 use Rattle.ch_read.specs.declared.form.Item.{Item}
 use Rattle.ch_read.specs.Words.{lines, words}
-use Rattle.ch_read.specs.Forms.{heading, item, heading_in, items_in}
+use Rattle.ch_read.specs.Forms.{heading, item, heading_in, items_in, count_of, counts_in}
 use Rattle.ch_read.specs.Checks.{first_failing, line_checks, line_fault, end_checks, fault_at, IsFault}
-use Rattle.ch_read.specs.Reading.{item_from, IsWithin, IsFile, values_in, IsProblem, IsItem, IsItemWithin, IsEnd}
+use Rattle.ch_read.specs.Reading.{item_from, AreItemsWithin, IsWithin, IsFile, values_in, IsProblem, IsNoItem, IsItem, IsItemWithin, IsEnd}
 use Rattle.ch_read.proofs.OneAnswer.{AreClear, clear_more, at_end}
 
 -- one more line
@@ -55,39 +58,84 @@ module _ (form : Form) (before : List (List ℕ)) (text : List ℕ) where
       ∙ first_of_none (filter_map (λ line. heading form (words line)) before) (filter_map (λ line. heading form (words line)) (text ∷ [])) none
       ∙ ap (λ h. slice_get (cons_option h []) 0) found
 
-  items_same : item form (words text) ≡ None → items_in form (before ++ text ∷ []) ≡ items_in form before
-  items_same none = filter_map-append (λ line. item form (words line)) before (text ∷ []) ∙ ap (λ h. items_in form before ++ cons_option h []) none ∙ append-nil (items_in form before)
+  items_same : (part : Part) → item form part (words text) ≡ None → items_in form part (before ++ text ∷ []) ≡ items_in form part before
+  items_same part none =
+      filter_map-append (λ line. item form part (words line)) before (text ∷ []) ∙ ap (λ h. items_in form part before ++ cons_option h []) none ∙ append-nil (items_in form part before)
 
-  items_more : (ns : List ℕ) → item form (words text) ≡ Some ns → items_in form (before ++ text ∷ []) ≡ items_in form before ++ ns ∷ []
-  items_more ns found = filter_map-append (λ line. item form (words line)) before (text ∷ []) ∙ ap (λ h. items_in form before ++ cons_option h []) found
+  items_more : (part : Part) (ns : List ℕ) → item form part (words text) ≡ Some ns → items_in form part (before ++ text ∷ []) ≡ items_in form part before ++ ns ∷ []
+  items_more part ns found = filter_map-append (λ line. item form part (words line)) before (text ∷ []) ∙ ap (λ h. items_in form part before ++ cons_option h []) found
 
--- the invariant of the loop: some lines were read and have no fault, and these are what they hold
-pub record HasRead {T : Type 0} (of : Item → T) (form : Form) (bytes rest : List ℕ) (line : ℕ) (seen : Option Heading) (values : List T) : Type 0 where
-  pub counted : line ≤ length (lines bytes)
-  pub room : line + length rest ≤ length bytes
-  pub left : drop line (lines bytes) ≡ lines rest
-  pub seen_is : seen ≡ heading_in form (take line (lines bytes))
-  pub values_are : values ≡ values_in of form (take line (lines bytes))
-  pub clear : AreClear (fault_at form (lines bytes)) line
-  pub within : IsWithin form seen (items_in form (take line (lines bytes)))
+  values_same : {T : Type 0} (of : Item → T) (part : Part) → item form part (words text) ≡ None → values_in of form part (before ++ text ∷ []) ≡ values_in of form part before
+  values_same of part none = ap (λ its. map (λ ns. of (item_from ns)) its) (items_same part none)
 
-pub nothing_read : {T : Type 0} (of : Item → T) (form : Form) (bytes : List ℕ) → HasRead of form bytes bytes 0 None []
-nothing_read of form bytes = record {
-  counted = omega arith;
-  room = omega arith;
-  left = refl;
-  seen_is = refl;
-  values_are = refl;
-  clear = λ i lt. absurd (omega arith);
-  within = refl;
-}
+  values_more : {T : Type 0} (of : Item → T) (part : Part) (ns : List ℕ) (i : Item) → item form part (words text) ≡ Some ns → i ≡ item_from ns →
+      values_in of form part (before ++ text ∷ []) ≡ values_in of form part before ++ of i ∷ []
+  values_more of part ns i found is =
+      ap (λ its. map (λ ns. of (item_from ns)) its) (items_more part ns found) ∙ map-append (λ ns. of (item_from ns)) (items_in form part before) (ns ∷ [])
+      ∙ ap (λ x. values_in of form part before ++ of x ∷ []) (sym is)
+
+-- what is within the limits
+
+none_within : (form : Form) (part : Part) (h : Heading) → AreItemsWithin form part h []
+none_within form part h = record { few = omega arith; each = λ k d lt. absurd (omega arith) }
 
 one : {X : Type 0} (P : X → Type 0) (x : X) → P x → All P (x ∷ [])
 one P x px zero d lt = px
 one P x px (suc k) d lt = absurd (omega arith)
 
-module _ {T : Type 0} (of : Item → T) (form : Form) (bytes rest text after : List ℕ) (line count : ℕ) (seen : Option Heading) (values : List T)
-    (read : HasRead of form bytes rest line seen values) (split : lines rest ≡ text ∷ lines after) (less : length after < length rest) (counts : count ≡ length values) where
+more_within : (form : Form) (part : Part) (h : Heading) (its : List (List ℕ)) (ns : List ℕ) → AreItemsWithin form part h its → length its < count_of h.items part →
+    IsItemWithin form part h.nodes ns → AreItemsWithin form part h (its ++ ns ∷ [])
+more_within form part h its ns within room here = record {
+  few = omega (arith, length_push its ns);
+  each = All-append (IsItemWithin form part h.nodes) its (ns ∷ []) within.each (one (IsItemWithin form part h.nodes) ns here);
+}
+
+within_same : (form : Form) (seen : Option Heading) (first second first' second' : List (List ℕ)) → first' ≡ first → second' ≡ second → IsWithin form seen first second → IsWithin form seen first' second'
+within_same form seen first second first' second' e f within =
+    subst (λ its. IsWithin form seen its second') (sym e) (subst (λ its. IsWithin form seen first its) (sym f) within)
+
+-- the invariant of the loop: some lines were read and have no fault, and these are what they hold
+pub record HasRead {A B : Type 0} (a : Item → A) (b : Item → B) (form : Form) (bytes rest : List ℕ) (line : ℕ) (seen : Option Heading) (first : List A) (second : List B) : Type 0 where
+  pub counted : line ≤ length (lines bytes)
+  pub room : line + length rest ≤ length bytes
+  pub left : drop line (lines bytes) ≡ lines rest
+  pub seen_is : seen ≡ heading_in form (take line (lines bytes))
+  pub first_is : first ≡ values_in a form First (take line (lines bytes))
+  pub second_is : second ≡ values_in b form Second (take line (lines bytes))
+  pub clear : AreClear (fault_at form (lines bytes)) line
+  pub within : IsWithin form seen (items_in form First (take line (lines bytes))) (items_in form Second (take line (lines bytes)))
+
+pub nothing_read : {A B : Type 0} (a : Item → A) (b : Item → B) (form : Form) (bytes : List ℕ) → HasRead a b form bytes bytes 0 None [] []
+nothing_read a b form bytes = record {
+  counted = omega arith;
+  room = omega arith;
+  left = refl;
+  seen_is = refl;
+  first_is = refl;
+  second_is = refl;
+  clear = λ i lt. absurd (omega arith);
+  within = (refl, refl);
+}
+
+-- the values are counted, and are as many as the items
+pub record AreCounted {A B : Type 0} (counts : Counts) (first : List A) (second : List B) : Type 0 where
+  pub first_is : counts.first ≡ length first
+  pub second_is : counts.second ≡ length second
+
+pub counted_by : {A B : Type 0} (counts : Counts) (m n : ℕ) (first : List A) (second : List B) → counts ≡ record { first = m; second = n } → m ≡ length first → n ≡ length second →
+    AreCounted counts first second
+counted_by counts m n first second is m_is n_is = record { first_is = ap (λ (c : Counts). c.first) is ∙ m_is; second_is = ap (λ (c : Counts). c.second) is ∙ n_is }
+
+counts_are : {A B : Type 0} (a : Item → A) (b : Item → B) (form : Form) (all : List (List ℕ)) (counts : Counts) (first : List A) (second : List B) →
+    AreCounted counts first second → first ≡ values_in a form First all → second ≡ values_in b form Second all → counts ≡ counts_in form all
+counts_are a b form all counts first second counted first_is second_is =
+    let ones : counts.first ≡ length (items_in form First all) = counted.first_is ∙ ap length first_is ∙ length-map (items_in form First all) (λ ns. a (item_from ns)) in
+    let others : counts.second ≡ length (items_in form Second all) = counted.second_is ∙ ap length second_is ∙ length-map (items_in form Second all) (λ ns. b (item_from ns)) in
+    λ i. record { first = ones i; second = others i }
+
+module _ {A B : Type 0} (a : Item → A) (b : Item → B) (form : Form) (bytes rest text after : List ℕ) (line : ℕ) (counts : Counts) (seen : Option Heading) (first : List A) (second : List B)
+    (read : HasRead a b form bytes rest line seen first second) (split : lines rest ≡ text ∷ lines after) (less : length after < length rest)
+    (counted : AreCounted counts first second) where
   abbrev all : List (List ℕ)
   all = lines bytes
 
@@ -100,14 +148,14 @@ module _ {T : Type 0} (of : Item → T) (form : Form) (bytes rest text after : L
   within_all : line < length all
   within_all = line_within all line text (lines after) next
 
-  count_is : count ≡ length (items_in form before)
-  count_is = counts ∙ ap length read.values_are ∙ length-map (items_in form before) (λ ns. of (item_from ns))
+  counts_is : counts ≡ counts_in form before
+  counts_is = counts_are a b form before counts first second counted read.first_is read.second_is
 
-  checks_are : fault_at form all line ≡ first_failing (line_checks form seen count (words text))
-  checks_are = at_line all line text (lines after) next form ∙ sym (ap (λ s. first_failing (line_checks form s count (words text))) read.seen_is
-      ∙ ap (λ n. first_failing (line_checks form (heading_in form before) n (words text))) count_is)
+  checks_are : fault_at form all line ≡ first_failing (line_checks form seen counts (words text))
+  checks_are = at_line all line text (lines after) next form ∙ sym (ap (λ s. first_failing (line_checks form s counts (words text))) read.seen_is
+      ∙ ap (λ n. first_failing (line_checks form (heading_in form before) n (words text))) counts_is)
 
-  pub fault_here : (kind : FaultKind) → first_failing (line_checks form seen count (words text)) ≡ Some kind → IsFault form bytes (line + 1) kind
+  pub fault_here : (kind : FaultKind) → first_failing (line_checks form seen counts (words text)) ≡ Some kind → IsFault form bytes (line + 1) kind
   fault_here kind e =
       let back : line + 1 - 1 ≡ line = omega arith in
       let within = within_all in
@@ -118,10 +166,10 @@ module _ {T : Type 0} (of : Item → T) (form : Form) (bytes rest text after : L
       }
 
   -- the facts of one more line, after what it holds is known
-  more : (seen' : Option Heading) (values' : List T) → first_failing (line_checks form seen count (words text)) ≡ None →
-      seen' ≡ heading_in form (before ++ text ∷ []) → values' ≡ values_in of form (before ++ text ∷ []) → IsWithin form seen' (items_in form (before ++ text ∷ [])) →
-      HasRead of form bytes after (line + 1) seen' values'
-  more seen' values' passes seen_is values_are within =
+  more : (seen' : Option Heading) (first' : List A) (second' : List B) → first_failing (line_checks form seen counts (words text)) ≡ None → seen' ≡ heading_in form (before ++ text ∷ []) →
+      first' ≡ values_in a form First (before ++ text ∷ []) → second' ≡ values_in b form Second (before ++ text ∷ []) →
+      IsWithin form seen' (items_in form First (before ++ text ∷ [])) (items_in form Second (before ++ text ∷ [])) → HasRead a b form bytes after (line + 1) seen' first' second'
+  more seen' first' second' passes seen_is first_is second_is within =
       let one_more : take (line + 1) all ≡ before ++ text ∷ [] = take_line all line text (lines after) next in
       let inside = within_all in
       let room = read.room in
@@ -130,55 +178,72 @@ module _ {T : Type 0} (of : Item → T) (form : Form) (bytes rest text after : L
         room = omega arith;
         left = drop_line all line text (lines after) next;
         seen_is = seen_is ∙ ap (heading_in form) (sym one_more);
-        values_are = values_are ∙ ap (values_in of form) (sym one_more);
+        first_is = first_is ∙ ap (values_in a form First) (sym one_more);
+        second_is = second_is ∙ ap (values_in b form Second) (sym one_more);
         clear = λ i lt. clear_more (fault_at form all) line read.clear (checks_are ∙ passes) i (omega arith);
-        within = subst (λ (ls : List (List ℕ)). IsWithin form seen' (items_in form ls)) (sym one_more) within;
+        within = subst (λ (ls : List (List ℕ)). IsWithin form seen' (items_in form First ls) (items_in form Second ls)) (sym one_more) within;
       }
 
-  pub skipped : first_failing (line_checks form seen count (words text)) ≡ None → heading form (words text) ≡ None → item form (words text) ≡ None →
-      HasRead of form bytes after (line + 1) seen values
-  skipped passes no_heading no_item = more seen values passes
+  pub skipped : first_failing (line_checks form seen counts (words text)) ≡ None → heading form (words text) ≡ None → IsNoItem form (words text) →
+      HasRead a b form bytes after (line + 1) seen first second
+  skipped passes no_heading no_item = more seen first second passes
       (read.seen_is ∙ sym (heading_same form before text no_heading))
-      (read.values_are ∙ ap (λ its. map (λ ns. of (item_from ns)) its) (sym (items_same form before text no_item)))
-      (subst (IsWithin form seen) (sym (items_same form before text no_item)) read.within)
+      (read.first_is ∙ sym (values_same form before text a First no_item.0))
+      (read.second_is ∙ sym (values_same form before text b Second no_item.1))
+      (within_same form seen _ _ _ _ (items_same form before text First no_item.0) (items_same form before text Second no_item.1) read.within)
 
-  pub found : (h : Heading) → first_failing (line_checks form seen count (words text)) ≡ None → IsProblem form seen (words text) h → item form (words text) ≡ None →
-      HasRead of form bytes after (line + 1) (Some h) values
+  pub found : (h : Heading) → first_failing (line_checks form seen counts (words text)) ≡ None → IsProblem form seen (words text) h → IsNoItem form (words text) →
+      HasRead a b form bytes after (line + 1) (Some h) first second
   found h passes problem no_item =
-      let none : items_in form before ≡ [] = subst (λ s. IsWithin form s (items_in form before)) problem.first read.within in
-      let still_none : items_in form (before ++ text ∷ []) ≡ [] = items_same form before text no_item ∙ none in
-      more (Some h) values passes
+      let none : (items_in form First before ≡ []) × (items_in form Second before ≡ []) =
+      subst (λ s. IsWithin form s (items_in form First before) (items_in form Second before)) problem.first read.within in
+      more (Some h) first second passes
       (sym (heading_found form before text h (sym read.seen_is ∙ problem.first) problem.declares))
-      (read.values_are ∙ ap (λ its. map (λ ns. of (item_from ns)) its) (sym (items_same form before text no_item)))
-      (subst (IsWithin form (Some h)) (sym still_none) (problem.size, omega arith, λ k d lt. absurd (omega arith)))
+      (read.first_is ∙ sym (values_same form before text a First no_item.0))
+      (read.second_is ∙ sym (values_same form before text b Second no_item.1))
+      (within_same form (Some h) [] [] _ _ (items_same form before text First no_item.0 ∙ none.0) (items_same form before text Second no_item.1 ∙ none.1)
+      (problem.size, none_within form First h, none_within form Second h))
 
-  pub taken : (i : Item) → first_failing (line_checks form seen count (words text)) ≡ None → heading form (words text) ≡ None → IsItem form seen count (words text) i →
-      HasRead of form bytes after (line + 1) seen (values ++ of i ∷ [])
-  taken i passes no_heading has =
-      let its = items_in form before in
-      let now : items_in form (before ++ text ∷ []) ≡ its ++ has.ns ∷ [] = items_more form before text has.ns has.has in
-      let within : IsWithin form (Some has.declared) its = subst (λ s. IsWithin form s its) has.seen_is read.within in
+  -- the limits of what was read before an item
+  before_item : (h : Heading) → seen ≡ Some h → IsWithin form (Some h) (items_in form First before) (items_in form Second before)
+  before_item h is = subst (λ s. IsWithin form s (items_in form First before) (items_in form Second before)) is read.within
+
+  pub taken_first : (i : Item) → first_failing (line_checks form seen counts (words text)) ≡ None → heading form (words text) ≡ None →
+      IsItem form First seen counts.first (item form First (words text)) i → item form Second (words text) ≡ None → HasRead a b form bytes after (line + 1) seen (first ++ a i ∷ []) second
+  taken_first i passes no_heading has no_other =
+      let within = before_item has.declared has.seen_is in
+      let few : counts.first ≡ length (items_in form First before) = ap (λ (c : Counts). c.first) counts_is in
       let room = has.room in
-      let counted = count_is in
-      let still_within : IsWithin form (Some has.declared) (its ++ has.ns ∷ []) = (
-        within.0,
-        omega (arith, length_push its has.ns),
-        All-append (IsItemWithin form has.declared.nodes) its (has.ns ∷ []) within.2 (one (IsItemWithin form has.declared.nodes) has.ns has.within),
-      ) in
-      more seen (values ++ of i ∷ []) passes
+      let one_more = more_within form First has.declared (items_in form First before) has.ns within.1 (omega arith) has.within in
+      more seen (first ++ a i ∷ []) second passes
       (read.seen_is ∙ sym (heading_same form before text no_heading))
-      (ap (λ v. v ++ of i ∷ []) read.values_are ∙ ap (λ x. values_in of form before ++ of x ∷ []) has.value
-      ∙ sym (map-append (λ ns. of (item_from ns)) its (has.ns ∷ [])) ∙ ap (λ its. map (λ ns. of (item_from ns)) its) (sym now))
-      (subst (λ s. IsWithin form s (items_in form (before ++ text ∷ []))) (sym has.seen_is) (subst (IsWithin form (Some has.declared)) (sym now) still_within))
+      (ap (λ v. v ++ a i ∷ []) read.first_is ∙ sym (values_more form before text a First has.ns i has.has has.value))
+      (read.second_is ∙ sym (values_same form before text b Second no_other))
+      (subst (λ s. IsWithin form s (items_in form First (before ++ text ∷ [])) (items_in form Second (before ++ text ∷ []))) (sym has.seen_is)
+      (within_same form (Some has.declared) _ _ _ _ (items_more form before text First has.ns has.has) (items_same form before text Second no_other) (within.0, one_more, within.2)))
+
+  pub taken_second : (i : Item) → first_failing (line_checks form seen counts (words text)) ≡ None → heading form (words text) ≡ None →
+      IsItem form Second seen counts.second (item form Second (words text)) i → item form First (words text) ≡ None → HasRead a b form bytes after (line + 1) seen first (second ++ b i ∷ [])
+  taken_second i passes no_heading has no_other =
+      let within = before_item has.declared has.seen_is in
+      let few : counts.second ≡ length (items_in form Second before) = ap (λ (c : Counts). c.second) counts_is in
+      let room = has.room in
+      let one_more = more_within form Second has.declared (items_in form Second before) has.ns within.2 (omega arith) has.within in
+      more seen first (second ++ b i ∷ []) passes
+      (read.seen_is ∙ sym (heading_same form before text no_heading))
+      (read.first_is ∙ sym (values_same form before text a First no_other))
+      (ap (λ v. v ++ b i ∷ []) read.second_is ∙ sym (values_more form before text b Second has.ns i has.has has.value))
+      (subst (λ s. IsWithin form s (items_in form First (before ++ text ∷ [])) (items_in form Second (before ++ text ∷ []))) (sym has.seen_is)
+      (within_same form (Some has.declared) _ _ _ _ (items_same form before text First no_other) (items_more form before text Second has.ns has.has) (within.0, within.1, one_more)))
 
 -- after the last line
-module _ {T : Type 0} (of : Item → T) (form : Form) (bytes rest : List ℕ) (line count : ℕ) (seen : Option Heading) (values : List T)
-    (read : HasRead of form bytes rest line seen values) (none : true ≡ eqb (length rest) 0) (counts : count ≡ length values) where
+module _ {A B : Type 0} (a : Item → A) (b : Item → B) (form : Form) (bytes rest : List ℕ) (line : ℕ) (counts : Counts) (seen : Option Heading) (first : List A) (second : List B)
+    (read : HasRead a b form bytes rest line seen first second) (none : true ≡ eqb (length rest) 0) (counted : AreCounted counts first second) where
   end_is : line ≡ length (lines bytes)
   end_is =
       let empty : rest ≡ [] = nil_from_length rest (eqb-true (length rest) 0 (sym none)) in
       let no_more : length (drop line (lines bytes)) ≡ 0 = ap length (read.left ∙ ap lines empty) in
-      let counted = read.counted in
+      let within = read.counted in
       omega (arith, length-drop line (lines bytes))
 
   all_taken : take line (lines bytes) ≡ lines bytes
@@ -187,16 +252,19 @@ module _ {T : Type 0} (of : Item → T) (form : Form) (bytes rest : List ℕ) (l
   seen_in_all : seen ≡ heading_in form (lines bytes)
   seen_in_all = read.seen_is ∙ ap (heading_in form) all_taken
 
-  pub values_of_all : values ≡ values_in of form (lines bytes)
-  values_of_all = read.values_are ∙ ap (values_in of form) all_taken
+  pub first_of_all : first ≡ values_in a form First (lines bytes)
+  first_of_all = read.first_is ∙ ap (values_in a form First) all_taken
 
-  end_checks_are : fault_at form (lines bytes) line ≡ first_failing (end_checks seen count)
+  pub second_of_all : second ≡ values_in b form Second (lines bytes)
+  second_of_all = read.second_is ∙ ap (values_in b form Second) all_taken
+
+  end_checks_are : fault_at form (lines bytes) line ≡ first_failing (end_checks seen counts)
   end_checks_are =
-      let counted : count ≡ length (items_in form (lines bytes)) = counts ∙ ap length values_of_all ∙ length-map (items_in form (lines bytes)) (λ ns. of (item_from ns)) in
+      let counts_is : counts ≡ counts_in form (lines bytes) = counts_are a b form (lines bytes) counts first second counted first_of_all second_of_all in
       ap (fault_at form (lines bytes)) end_is ∙ at_end form (lines bytes)
-      ∙ sym (ap (λ s. first_failing (end_checks s count)) seen_in_all ∙ ap (λ n. first_failing (end_checks (heading_in form (lines bytes)) n)) counted)
+      ∙ sym (ap (λ s. first_failing (end_checks s counts)) seen_in_all ∙ ap (λ n. first_failing (end_checks (heading_in form (lines bytes)) n)) counts_is)
 
-  pub fault_at_end : (kind : FaultKind) → first_failing (end_checks seen count) ≡ Some kind → IsFault form bytes (line + 1) kind
+  pub fault_at_end : (kind : FaultKind) → first_failing (end_checks seen counts) ≡ Some kind → IsFault form bytes (line + 1) kind
   fault_at_end kind e =
       let back : line + 1 - 1 ≡ line = omega arith in
       let end = end_is in
@@ -206,9 +274,10 @@ module _ {T : Type 0} (of : Item → T) (form : Form) (bytes rest : List ℕ) (l
         first = λ i lt. read.clear i (omega arith);
       }
 
-  pub whole_file : (h : Heading) → IsEnd seen count h → IsFile form bytes h
+  pub whole_file : (h : Heading) → IsEnd seen counts h → IsFile form bytes h
   whole_file h passes = record {
     accepted = λ i le. (let end = end_is in clear_more (fault_at form (lines bytes)) line read.clear (end_checks_are ∙ passes.0) i (omega arith));
     heading_is = sym seen_in_all ∙ passes.1;
-    within = subst (λ s. IsWithin form s (items_in form (lines bytes))) passes.1 (subst (λ (ls : List (List ℕ)). IsWithin form seen (items_in form ls)) all_taken read.within);
+    within = subst (λ s. IsWithin form s (items_in form First (lines bytes)) (items_in form Second (lines bytes))) passes.1
+        (subst (λ (ls : List (List ℕ)). IsWithin form seen (items_in form First ls) (items_in form Second ls)) all_taken read.within);
   }

@@ -6,29 +6,45 @@ use Rattle.std.specs.Str.{bytes_eq}
 use Rattle.ch_read.specs.declared.fault.FaultKind.{FaultKind}
 use Rattle.ch_read.specs.declared.fault.FaultKind.TheVariants.{UnknownLine, BadProblem, SecondProblem, NoProblem, BadLine, NodeRange, Sum, Size, TooMany, TooFew}
 use Rattle.ch_read.specs.declared.form.Form.{Form}
-use Rattle.ch_read.specs.declared.form.Form.TheVariants.{Graph, Queries, Nodes}
+use Rattle.ch_read.specs.declared.form.Form.TheVariants.{Graph, Queries, Nodes, Saved}
+use Rattle.ch_read.specs.declared.form.Part.{Part}
+use Rattle.ch_read.specs.declared.form.Part.TheVariants.{First, Second}
+use Rattle.ch_read.specs.declared.form.Counts.{Counts}
 use Rattle.ch_read.specs.declared.form.Heading.{Heading}
 use Rattle.ch_read.specs.Words.{words, lines}
-use Rattle.ch_read.specs.Forms.{item_word, node_count, heading, item, heading_in, items_in}
+use Rattle.ch_read.specs.Forms.{item_word, node_count, heading, item, heading_in, count_of, counts_in}
 
--- the sizes that are accepted
+-- the sizes that are accepted; a saved hierarchy has as many nodes as its graph
 abbrev pub is_size : Form → Heading → Bool
-is_size Graph h = nat_le h.nodes (2 ^ 25) && nat_le h.items (2 ^ 27)
-is_size (Queries n) h = nat_le h.items (2 ^ 24)
-is_size (Nodes n) h = nat_le h.items 65536
+is_size Graph h = nat_le h.nodes (2 ^ 25) && nat_le h.items.first (2 ^ 27)
+is_size (Queries n) h = nat_le h.items.first (2 ^ 24)
+is_size (Nodes n) h = nat_le h.items.first 65536
+is_size (Saved n) h = h.nodes == n && nat_le h.items.second (2 ^ 50)
 
 -- nodes are numbered from 1 in a file
 abbrev pub is_node : ℕ → ℕ → Bool
 is_node nodes v = nat_le 1 v && nat_le v nodes
 
-abbrev pub are_nodes : Form → ℕ → List ℕ → Bool
-are_nodes form nodes ns = list_all (is_node nodes) (take (node_count form) ns)
+-- the middle of a leg is a node, or 0 where there is none; other items have no middle
+abbrev pub is_middle : Form → Part → ℕ → List ℕ → Bool
+is_middle Graph part nodes ns = true
+is_middle (Queries n) part nodes ns = true
+is_middle (Nodes n) part nodes ns = true
+is_middle (Saved n) First nodes ns = true
+is_middle (Saved n) Second nodes ns = nat_le (slice_index ns 4) nodes
 
--- an arc's weight, which the number of nodes multiplies to at most 2 ^ 60; other items have none
-abbrev pub is_weight : Form → ℕ → List ℕ → Bool
-is_weight Graph nodes ns = nat_le (nodes * slice_index ns 2) (2 ^ 60)
-is_weight (Queries n) nodes ns = true
-is_weight (Nodes n) nodes ns = true
+abbrev pub are_nodes : Form → Part → ℕ → List ℕ → Bool
+are_nodes form part nodes ns =
+    list_all (is_node nodes) (take (node_count form part) ns) && is_middle form part nodes ns
+
+-- the number of nodes times an arc's weight is at most 2 ^ 60; a leg weighs at most that, and stands for
+-- at most 2 ^ 25 arcs; other items have no weight
+abbrev pub is_weight : Form → Part → ℕ → List ℕ → Bool
+is_weight Graph part nodes ns = nat_le (nodes * slice_index ns 2) (2 ^ 60)
+is_weight (Queries n) part nodes ns = true
+is_weight (Nodes n) part nodes ns = true
+is_weight (Saved n) First nodes ns = true
+is_weight (Saved n) Second nodes ns = nat_le (slice_index ns 2) (2 ^ 60) && nat_le (slice_index ns 3) (2 ^ 25)
 
 -- comments, whose first word begins with `c`, and lines without words
 abbrev pub is_skipped : List (List ℕ) → Bool
@@ -59,39 +75,45 @@ problem_checks form seen ws =
     ∷ (passes (is_size form) (heading form ws), Size)
     ∷ []
 
--- the checks of an item line, where this heading and so many items were seen before it
-abbrev pub item_checks : Form → Option Heading → ℕ → List (List ℕ) → List Check
-item_checks form seen count ws =
+-- the checks of an item line of this part, where this heading and so many items of the part were seen
+-- before it, and these are its numbers, if it has the words that it must have
+abbrev pub item_checks : Form → Part → Option Heading → ℕ → Option (List ℕ) → List Check
+item_checks form part seen count numbers =
     (is_some seen, NoProblem)
-    ∷ (is_some (item form ws), BadLine)
-    ∷ (passes (λ h. nat_lt count h.items) seen, TooMany)
-    ∷ (passes (λ h. passes (are_nodes form h.nodes) (item form ws)) seen, NodeRange)
-    ∷ (passes (λ h. passes (is_weight form h.nodes) (item form ws)) seen, Sum)
+    ∷ (is_some numbers, BadLine)
+    ∷ (passes (λ h. nat_lt count (count_of h.items part)) seen, TooMany)
+    ∷ (passes (λ h. passes (are_nodes form part h.nodes) numbers) seen, NodeRange)
+    ∷ (passes (λ h. passes (is_weight form part h.nodes) numbers) seen, Sum)
     ∷ []
 
--- the checks of a line of these words
-abbrev pub line_checks : Form → Option Heading → ℕ → List (List ℕ) → List Check
-line_checks form seen count ws =
+-- whether a line of these words is an item of this part
+abbrev pub begins_item : Form → Part → List (List ℕ) → Bool
+begins_item form part ws = passes (begins_with ws) (item_word form part)
+
+-- the checks of a line of these words, where this heading and so many items were seen before it
+abbrev pub line_checks : Form → Option Heading → Counts → List (List ℕ) → List Check
+line_checks form seen counts ws =
     if is_skipped ws then []
     else if begins_with ws (codes "p") then problem_checks form seen ws
-    else if begins_with ws (item_word form) then item_checks form seen count ws
+    else if begins_item form First ws then item_checks form First seen counts.first (item form First ws)
+    else if begins_item form Second ws then item_checks form Second seen counts.second (item form Second ws)
     else (false, UnknownLine) ∷ []
 
 -- the checks after the last line
-abbrev pub end_checks : Option Heading → ℕ → List Check
-end_checks seen count =
+abbrev pub end_checks : Option Heading → Counts → List Check
+end_checks seen counts =
     (is_some seen, NoProblem)
-    ∷ (passes (λ h. nat_le h.items count) seen, TooFew)
+    ∷ (passes (λ h. nat_le h.items.first counts.first && nat_le h.items.second counts.second) seen, TooFew)
     ∷ []
 
 -- the fault of this line, judged from the lines before it
 abbrev pub line_fault : Form → List (List ℕ) → List ℕ → Option FaultKind
 line_fault form before line =
-    first_failing (line_checks form (heading_in form before) (length (items_in form before)) (words line))
+    first_failing (line_checks form (heading_in form before) (counts_in form before) (words line))
 
 -- the fault after all lines
 abbrev pub end_fault : Form → List (List ℕ) → Option FaultKind
-end_fault form all = first_failing (end_checks (heading_in form all) (length (items_in form all)))
+end_fault form all = first_failing (end_checks (heading_in form all) (counts_in form all))
 
 -- the fault of the line at place i, or that after the last line
 abbrev pub fault_at : Form → List (List ℕ) → ℕ → Option FaultKind

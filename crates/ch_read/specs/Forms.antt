@@ -1,10 +1,14 @@
--- The three kinds of file: a problem line, and as many item lines as it declares.
+-- The four kinds of file: a problem line, and as many item lines as it declares. Items are of two parts,
+-- of which saved hierarchies alone have the second.
 use Rattle.std.specs.Prelude.{ℕ, ◌==◌, if◌then◌else◌, List, [], ◌∷◌, length, slice_index, slice_get, Option, Some, None, option_map, codes}
 use Rattle.std.specs.List.{filter_map}
 use Rattle.std.specs.Option.{option_and_then}
 use Rattle.std.specs.Str.{bytes_eq}
 use Rattle.ch_read.specs.declared.form.Form.{Form}
-use Rattle.ch_read.specs.declared.form.Form.TheVariants.{Graph, Queries, Nodes}
+use Rattle.ch_read.specs.declared.form.Form.TheVariants.{Graph, Queries, Nodes, Saved}
+use Rattle.ch_read.specs.declared.form.Part.{Part}
+use Rattle.ch_read.specs.declared.form.Part.TheVariants.{First, Second}
+use Rattle.ch_read.specs.declared.form.Counts.{Counts}
 use Rattle.ch_read.specs.declared.form.Heading.{Heading}
 use Rattle.ch_read.specs.Words.{words, number}
 
@@ -13,30 +17,41 @@ abbrev pub problem_words : Form → List (List ℕ)
 problem_words Graph = codes "sp" ∷ []
 problem_words (Queries n) = codes "aux" ∷ codes "sp" ∷ codes "p2p" ∷ []
 problem_words (Nodes n) = codes "aux" ∷ codes "sp" ∷ codes "ss" ∷ []
-
--- the first word of an item line
-abbrev pub item_word : Form → List ℕ
-item_word Graph = codes "a"
-item_word (Queries n) = codes "q"
-item_word (Nodes n) = codes "s"
+problem_words (Saved n) = codes "ch" ∷ []
 
 -- how many numbers a problem line has
 abbrev pub problem_size : Form → ℕ
 problem_size Graph = 2
 problem_size (Queries n) = 1
 problem_size (Nodes n) = 1
+problem_size (Saved n) = 2
 
--- how many numbers an item line has, nodes first
-abbrev pub item_size : Form → ℕ
-item_size Graph = 3
-item_size (Queries n) = 2
-item_size (Nodes n) = 1
+-- the first word of an item line of each part, where the form has that part
+abbrev pub item_word : Form → Part → Option (List ℕ)
+item_word Graph First = Some (codes "a")
+item_word (Queries n) First = Some (codes "q")
+item_word (Nodes n) First = Some (codes "s")
+item_word (Saved n) First = Some (codes "o")
+item_word (Saved n) Second = Some (codes "l")
+item_word Graph Second = None
+item_word (Queries n) Second = None
+item_word (Nodes n) Second = None
 
--- how many of them are nodes
-abbrev pub node_count : Form → ℕ
-node_count Graph = 2
-node_count (Queries n) = 2
-node_count (Nodes n) = 1
+-- how many numbers an item line has
+abbrev pub item_size : Form → Part → ℕ
+item_size Graph part = 3
+item_size (Queries n) part = 2
+item_size (Nodes n) part = 1
+item_size (Saved n) First = 1
+item_size (Saved n) Second = 5
+
+-- how many of them are nodes that must be there; they stand first
+abbrev pub node_count : Form → Part → ℕ
+node_count Graph part = 2
+node_count (Queries n) part = 2
+node_count (Nodes n) part = 1
+node_count (Saved n) First = 1
+node_count (Saved n) Second = 2
 
 -- the numbers that the words write, where each word is a number
 abbrev pub numbers : List (List ℕ) → Option (List ℕ)
@@ -49,26 +64,38 @@ numbers_after [] count ws = if length ws == count then numbers ws else None
 numbers_after (h ∷ hs) count [] = None
 numbers_after (h ∷ hs) count (w ∷ ws) = if bytes_eq w h then numbers_after hs count ws else None
 
--- what the numbers of a problem line declare; query files and lists have the nodes of their graph
+-- what the numbers of a problem line declare; query files and lists have the nodes of their graph, and
+-- a saved hierarchy has each of its nodes in its order
 abbrev pub heading_from : Form → List ℕ → Heading
-heading_from Graph ns = record { nodes = slice_index ns 0; items = slice_index ns 1 }
-heading_from (Queries n) ns = record { nodes = n; items = slice_index ns 0 }
-heading_from (Nodes n) ns = record { nodes = n; items = slice_index ns 0 }
+heading_from Graph ns = record { nodes = slice_index ns 0; items = record { first = slice_index ns 1; second = 0 } }
+heading_from (Queries n) ns = record { nodes = n; items = record { first = slice_index ns 0; second = 0 } }
+heading_from (Nodes n) ns = record { nodes = n; items = record { first = slice_index ns 0; second = 0 } }
+heading_from (Saved n) ns = record { nodes = slice_index ns 0; items = record { first = slice_index ns 0; second = slice_index ns 1 } }
 
 -- what a line of these words declares, where it is a problem line
 abbrev pub heading : Form → List (List ℕ) → Option Heading
 heading form ws =
     option_map (heading_from form) (numbers_after (codes "p" ∷ problem_words form) (problem_size form) ws)
 
--- the numbers of a line of these words, where it is an item line
-abbrev pub item : Form → List (List ℕ) → Option (List ℕ)
-item form ws = numbers_after (item_word form ∷ []) (item_size form) ws
+-- the numbers of a line of these words, where it is an item line of this part
+abbrev pub item : Form → Part → List (List ℕ) → Option (List ℕ)
+item form part ws =
+    option_and_then (λ word. numbers_after (word ∷ []) (item_size form part) ws) (item_word form part)
 
 -- what the first problem line declares; a problem line with other words than it must have declares
 -- nothing, and is itself the first fault
 abbrev pub heading_in : Form → List (List ℕ) → Option Heading
 heading_in form all = slice_get (filter_map (λ line. heading form (words line)) all) 0
 
--- the numbers of each item line, in order
-abbrev pub items_in : Form → List (List ℕ) → List (List ℕ)
-items_in form all = filter_map (λ line. item form (words line)) all
+-- the numbers of each item line of this part, in order
+abbrev pub items_in : Form → Part → List (List ℕ) → List (List ℕ)
+items_in form part all = filter_map (λ line. item form part (words line)) all
+
+-- the count of one part
+abbrev pub count_of : Counts → Part → ℕ
+count_of counts First = counts.first
+count_of counts Second = counts.second
+
+-- how many item lines there are of each part
+abbrev pub counts_in : Form → List (List ℕ) → Counts
+counts_in form all = record { first = length (items_in form First all); second = length (items_in form Second all) }

@@ -2,12 +2,16 @@
 use Rattle.std.specs.Prelude.{◌≡◌, ℕ, ◌-◌, ◌^◌, ◌<◌, ◌≤◌, true, List, [], length, map, min, replicate, ◌++◌, slice_index, Option, Some, None, All, ⊤}
 use Rattle.ch_read.specs.declared.fault.FaultKind.{FaultKind}
 use Rattle.ch_read.specs.declared.form.Form.{Form}
+use Rattle.ch_read.specs.declared.form.Part.{Part}
+use Rattle.ch_read.specs.declared.form.Part.TheVariants.{First, Second}
+use Rattle.ch_read.specs.declared.form.Counts.{Counts}
 use Rattle.ch_read.specs.declared.form.Heading.{Heading}
 use Rattle.ch_read.specs.declared.form.Item.{Item}
 use Rattle.ch_read.specs.declared.check.Line.{Line}
-use Rattle.ch_read.specs.declared.check.Line.TheVariants.{Skipped, Problem, Item as AnItem}
-use Rattle.ch_read.specs.Forms.{numbers_after, item_size, heading, item, heading_in, items_in}
+use Rattle.ch_read.specs.declared.check.Line.TheVariants.{Skipped, Problem, First as OfFirst, Second as OfSecond}
+use Rattle.ch_read.specs.Forms.{numbers_after, item_size, heading, item, heading_in, items_in, count_of}
 use Rattle.ch_read.specs.Checks.{Check, is_size, are_nodes, is_weight, first_failing, line_checks, end_checks, IsAccepted, IsFault}
+use Rattle.ch_read.specs.Names.{node_or_none}
 use Rattle.ch_read.specs.Words.{lines}
 use Rattle.ch_read.specs.declared.fault.ReadError.{ReadError}
 use Rattle.ch_read.specs.declared.fault.ReadError.TheVariants.{Fault, NoMemory}
@@ -24,9 +28,9 @@ capped n = min n greatest
 abbrev pub Fails : List Check → FaultKind → Type 0
 Fails checks kind = first_failing checks ≡ Some kind
 
--- there are numbers, and the three values are these, capped, and then zeros
+-- there are numbers, and the five values are these, capped, and then zeros
 abbrev pub AreCapped : Option (List ℕ) → List ℕ → Type 0
-AreCapped numbers values = (ns : List ℕ) × (numbers ≡ Some ns) × (values ≡ map capped ns ++ replicate (3 - length ns) 0)
+AreCapped numbers values = (ns : List ℕ) × (numbers ≡ Some ns) × (values ≡ map capped ns ++ replicate (5 - length ns) 0)
 
 -- the words do not begin with these
 abbrev pub IsOther : List (List ℕ) → List (List ℕ) → Type 0
@@ -38,7 +42,14 @@ IsAfter front ws rest = (more : List (List ℕ)) (count : ℕ) → numbers_after
 
 -- the numbers of an item line, with nodes numbered from 0
 abbrev pub item_from : List ℕ → Item
-item_from ns = record { first = slice_index ns 0 - 1; second = slice_index ns 1 - 1; weight = slice_index ns 2 }
+item_from ns =
+    record {
+      first = slice_index ns 0 - 1;
+      second = slice_index ns 1 - 1;
+      weight = slice_index ns 2;
+      arcs = slice_index ns 3;
+      middle = node_or_none (slice_index ns 4);
+    }
 
 -- the first problem line, which passes its checks and declares this
 pub record IsProblem (form : Form) (seen : Option Heading) (ws : List (List ℕ)) (h : Heading) : Type 0 where
@@ -47,48 +58,62 @@ pub record IsProblem (form : Form) (seen : Option Heading) (ws : List (List ℕ)
   pub size : is_size form h ≡ true
 
 -- the numbers of an item are as many as they must be, and pass the checks on nodes and weight
-pub record IsItemWithin (form : Form) (nodes : ℕ) (ns : List ℕ) : Type 0 where
-  pub long : length ns ≡ item_size form
-  pub nodes_are : are_nodes form nodes ns ≡ true
-  pub weight_is : is_weight form nodes ns ≡ true
+pub record IsItemWithin (form : Form) (part : Part) (nodes : ℕ) (ns : List ℕ) : Type 0 where
+  pub long : length ns ≡ item_size form part
+  pub nodes_are : are_nodes form part nodes ns ≡ true
+  pub weight_is : is_weight form part nodes ns ≡ true
 
--- an item line, which passes its checks and has these numbers
-pub record IsItem (form : Form) (seen : Option Heading) (count : ℕ) (ws : List (List ℕ)) (i : Item) : Type 0 where
+-- an item of this part, which passes its checks and has these numbers
+pub record IsItem (form : Form) (part : Part) (seen : Option Heading) (count : ℕ) (numbers : Option (List ℕ)) (i : Item) : Type 0 where
   pub declared : Heading
   pub seen_is : seen ≡ Some declared
   pub ns : List ℕ
-  pub has : item form ws ≡ Some ns
+  pub has : numbers ≡ Some ns
   pub value : i ≡ item_from ns
-  pub room : count < declared.items
-  pub within : IsItemWithin form declared.nodes ns
+  pub room : count < count_of declared.items part
+  pub within : IsItemWithin form part declared.nodes ns
+
+-- a line of these words is no item
+abbrev pub IsNoItem : Form → List (List ℕ) → Type 0
+IsNoItem form ws = (item form First ws ≡ None) × (item form Second ws ≡ None)
 
 -- a line that passes its checks, and what it holds
-abbrev pub IsLine : Form → Option Heading → ℕ → List (List ℕ) → Line → Type 0
-IsLine form seen count ws Skipped =
-    (first_failing (line_checks form seen count ws) ≡ None) × (heading form ws ≡ None) × (item form ws ≡ None)
-IsLine form seen count ws (Problem h) =
-    (first_failing (line_checks form seen count ws) ≡ None) × IsProblem form seen ws h × (item form ws ≡ None)
-IsLine form seen count ws (AnItem i) =
-    (first_failing (line_checks form seen count ws) ≡ None) × (heading form ws ≡ None) × IsItem form seen count ws i
+abbrev pub IsLine : Form → Option Heading → Counts → List (List ℕ) → Line → Type 0
+IsLine form seen counts ws Skipped =
+    (first_failing (line_checks form seen counts ws) ≡ None) × (heading form ws ≡ None) × IsNoItem form ws
+IsLine form seen counts ws (Problem h) =
+    (first_failing (line_checks form seen counts ws) ≡ None) × IsProblem form seen ws h × IsNoItem form ws
+IsLine form seen counts ws (OfFirst i) =
+    (first_failing (line_checks form seen counts ws) ≡ None) × (heading form ws ≡ None)
+    × IsItem form First seen counts.first (item form First ws) i × (item form Second ws ≡ None)
+IsLine form seen counts ws (OfSecond i) =
+    (first_failing (line_checks form seen counts ws) ≡ None) × (heading form ws ≡ None)
+    × IsItem form Second seen counts.second (item form Second ws) i × (item form First ws ≡ None)
 
 -- the end passes its checks, after this heading
-abbrev pub IsEnd : Option Heading → ℕ → Heading → Type 0
-IsEnd seen count h = (first_failing (end_checks seen count) ≡ None) × (seen ≡ Some h)
+abbrev pub IsEnd : Option Heading → Counts → Heading → Type 0
+IsEnd seen counts h = (first_failing (end_checks seen counts) ≡ None) × (seen ≡ Some h)
+
+-- the items of a part are within the limits
+pub record AreItemsWithin (form : Form) (part : Part) (h : Heading) (items : List (List ℕ)) : Type 0 where
+  pub few : length items ≤ count_of h.items part
+  pub each : All (IsItemWithin form part h.nodes) items
 
 -- what was read of some lines is within the limits
-abbrev pub IsWithin : Form → Option Heading → List (List ℕ) → Type 0
-IsWithin form None items = items ≡ []
-IsWithin form (Some h) items = (is_size form h ≡ true) × (length items ≤ h.items) × All (IsItemWithin form h.nodes) items
+abbrev pub IsWithin : Form → Option Heading → List (List ℕ) → List (List ℕ) → Type 0
+IsWithin form None first second = (first ≡ []) × (second ≡ [])
+IsWithin form (Some h) first second =
+    (is_size form h ≡ true) × AreItemsWithin form First h first × AreItemsWithin form Second h second
 
 -- the bytes are accepted, declare this, and are within the limits
 pub record IsFile (form : Form) (bytes : List ℕ) (h : Heading) : Type 0 where
   pub accepted : IsAccepted form bytes
   pub heading_is : heading_in form (lines bytes) ≡ Some h
-  pub within : IsWithin form (Some h) (items_in form (lines bytes))
+  pub within : IsWithin form (Some h) (items_in form First (lines bytes)) (items_in form Second (lines bytes))
 
--- the values of the items of some lines, where each item has the value that `of` gives
-abbrev pub values_in : {T : Type 0} → (Item → T) → Form → List (List ℕ) → List T
-values_in of form all = map (λ ns. of (item_from ns)) (items_in form all)
+-- the values of the items of a part of some lines, where each item has the value that `of` gives
+abbrev pub values_in : {T : Type 0} → (Item → T) → Form → Part → List (List ℕ) → List T
+values_in of form part all = map (λ ns. of (item_from ns)) (items_in form part all)
 
 -- the error is the first fault of the bytes, or want of memory
 abbrev pub IsErrorOf : Form → List ℕ → ReadError → Type 0

@@ -1,13 +1,14 @@
 //! The checks of one line.
-ghost use Rattle.std.specs.Prelude.{◌≡◌, ◌<◌, ◌≤◌, ◌^◌, [], ◌∷◌, Some, None, length, slice_index, true, false, MatchOption, MatchResult, codes};
+ghost use Rattle.std.specs.Prelude.{◌≡◌, ◌<◌, ◌≤◌, ◌^◌, [], ◌∷◌, Some, None, take, slice_index, true, false, MatchOption, MatchResult, codes};
+ghost use Rattle.std.specs.List.{list_all};
 ghost use Rattle.std.specs.Str.{bytes_eq};
 ghost use Rattle.ch_read.specs.Words.{words};
-ghost use Rattle.ch_read.specs.Forms.{problem_words, problem_size, numbers_after, heading_from, item_word};
-ghost use Rattle.ch_read.specs.Checks.{is_size, are_nodes, is_weight, problem_checks, item_checks, line_checks, end_checks};
+ghost use Rattle.ch_read.specs.Forms.{problem_words, problem_size, numbers_after, heading_from, item_word, item_size, node_count};
+ghost use Rattle.ch_read.specs.Checks.{is_size, is_node, is_middle, are_nodes, is_weight, passes, problem_checks, item_checks, line_checks, end_checks};
 ghost use Rattle.ch_read.specs.Reading.{AreCapped, IsOther, IsAfter, item_from, IsProblem, IsItem, IsLine, IsEnd, Fails};
 
 use crate::fault::FaultKind;
-use crate::form::{Form, Heading, Item};
+use crate::form::{Counts, Form, Heading, Item, Part};
 use crate::lines::split_word;
 use crate::number::{MOST_NUMBERS, numbers_of};
 
@@ -23,26 +24,35 @@ const MOST_QUERIES: u64 = 1 << 24;
 /// The most nodes of a list.
 const MOST_LISTED: u64 = 65_536;
 
-/// The most that the number of nodes times a weight may be.
+/// The most legs of a saved hierarchy.
+const MOST_LEGS: u64 = 1 << 50;
+
+/// The most that the number of nodes times a weight may be, and the most that a leg may weigh.
 const MOST_WEIGHT: u64 = 1 << 60;
+
+/// The most arcs that a leg may stand for.
+const MOST_ARCS_OF_LEG: u64 = 1 << 25;
 
 /// What a line that passes its checks holds.
 pub enum Line {
     /// No word, or a comment.
     Skipped,
     Problem(Heading),
-    Item(Item),
+    /// An item of the first part.
+    First(Item),
+    /// An item of the second part.
+    Second(Item),
 }
 
 /// Judges a line, where this heading and so many items came before it.
 pub fn check_line(
     form: Form,
     seen: Option<Heading>,
-    count: usize,
+    counts: Counts,
     line: &[u8],
 ) -> Result<Line, FaultKind>
     ensures { let ws = words line.now in
-        MatchResult result (IsLine form seen count ws) (Fails (line_checks form seen count ws)) }
+        MatchResult result (IsLine form seen counts ws) (Fails (line_checks form seen counts ws)) }
 {
     let Some((first, rest)) = split_word(line) else {
         return Ok(Line::Skipped);
@@ -53,20 +63,23 @@ pub fn check_line(
     if is_letter(first, b'p') {
         return Ok(Line::Problem(check_problem(form, seen, rest)?));
     }
-    if is_letter(first, form.item_letter()) {
-        return Ok(Line::Item(check_item(form, seen, count, rest)?));
+    if is_item_word(form, Part::First, first) {
+        return Ok(Line::First(check_item(form, Part::First, seen, counts.first, rest)?));
+    }
+    if is_item_word(form, Part::Second, first) {
+        return Ok(Line::Second(check_item(form, Part::Second, seen, counts.second, rest)?));
     }
     Err(FaultKind::UnknownLine)
 }
 
 /// Judges the end of a file, where this heading and so many items came before it.
-pub fn check_end(seen: Option<Heading>, count: usize) -> Result<Heading, FaultKind>
-    ensures { MatchResult result (IsEnd seen count) (Fails (end_checks seen count)) }
+pub fn check_end(seen: Option<Heading>, counts: Counts) -> Result<Heading, FaultKind>
+    ensures { MatchResult result (IsEnd seen counts) (Fails (end_checks seen counts)) }
 {
     let Some(heading) = seen else {
         return Err(FaultKind::NoProblem);
     };
-    if count < heading.items as usize {
+    if counts.first < heading.items.first || counts.second < heading.items.second {
         return Err(FaultKind::TooFew);
     }
     Ok(heading)
@@ -77,6 +90,16 @@ fn is_letter(word: &[u8], letter: u8) -> bool
     ensures { result ≡ bytes_eq word.now (letter ∷ []) }
 {
     word.len() == 1 && word[0] == letter
+}
+
+/// Whether a line whose first word is this is an item of the part.
+fn is_item_word(form: Form, part: Part, word: &[u8]) -> bool
+    ensures { result ≡ passes (bytes_eq word.now) (item_word form part) }
+{
+    match form.item_letter(part) {
+        Some(letter) => is_letter(word, letter),
+        None => false,
+    }
 }
 
 /// Judges the rest of a problem line after its `p`.
@@ -111,6 +134,7 @@ fn after_problem_words(form: Form, rest: &[u8]) -> Option<&[u8]>
         Form::Graph => after_word(rest, b"sp"),
         Form::Queries(_) => after_word(after_auxiliary(rest)?, b"p2p"),
         Form::Nodes(_) => after_word(after_auxiliary(rest)?, b"ss"),
+        Form::Saved(_) => after_word(rest, b"ch"),
     }
 }
 
@@ -142,78 +166,124 @@ fn heading_of(form: Form, values: &[u64; MOST_NUMBERS]) -> Option<Heading>
     match form {
         Form::Graph if values[0] <= MOST_NODES && values[1] <= MOST_ARCS => Some(Heading {
             nodes: values[0] as u32,
-            items: values[1] as u32,
+            items: Counts {
+                first: values[1],
+                second: 0,
+            },
         }),
         Form::Queries(nodes) if values[0] <= MOST_QUERIES => Some(Heading {
             nodes,
-            items: values[0] as u32,
+            items: Counts {
+                first: values[0],
+                second: 0,
+            },
         }),
         Form::Nodes(nodes) if values[0] <= MOST_LISTED => Some(Heading {
             nodes,
-            items: values[0] as u32,
+            items: Counts {
+                first: values[0],
+                second: 0,
+            },
         }),
+        Form::Saved(nodes) if values[0] == u64::from(nodes) && values[1] <= MOST_LEGS => {
+            Some(Heading {
+                nodes,
+                items: Counts {
+                    first: values[0],
+                    second: values[1],
+                },
+            })
+        }
         _ => None,
     }
 }
 
-/// Judges the rest of an item line after its letter.
+/// Judges the rest of an item line after its letter, where so many items of its part came before it.
 fn check_item(
     form: Form,
+    part: Part,
     seen: Option<Heading>,
-    count: usize,
+    count: u64,
     rest: &[u8],
 ) -> Result<Item, FaultKind>
-    ensures { let ws = item_word form ∷ words rest.now in
-        MatchResult result (IsItem form seen count ws) (Fails (item_checks form seen count ws)) }
+    ensures { let numbers = numbers_after [] (item_size form part) (words rest.now) in
+        MatchResult result (IsItem form part seen count numbers)
+        (Fails (item_checks form part seen count numbers)) }
 {
     let Some(heading) = seen else {
         return Err(FaultKind::NoProblem);
     };
-    let Some(values) = numbers_of(rest, form.item_size()) else {
+    let Some(values) = numbers_of(rest, form.item_size(part)) else {
         return Err(FaultKind::BadLine);
     };
-    if count >= heading.items as usize {
+    if count >= heading.items.of(part) {
         return Err(FaultKind::TooMany);
     }
-    if !are_in_range(form, heading.nodes, &values) {
+    if !are_in_range(form, part, heading.nodes, &values) {
         return Err(FaultKind::NodeRange);
     }
-    if !is_light(form, heading.nodes, &values) {
+    if !is_light(form, part, heading.nodes, &values) {
         return Err(FaultKind::Sum);
     }
     Ok(item_of(&values))
 }
 
-/// Whether each node of an item is from 1 to the number of nodes.
-fn are_in_range(form: Form, nodes: u32, values: &[u64; MOST_NUMBERS]) -> bool
-    ensures { result ≡ are_nodes form nodes values.now }
+/// Whether each node of an item is from 1 to the number of nodes, and a middle that is not 0 as well.
+fn are_in_range(form: Form, part: Part, nodes: u32, values: &[u64; MOST_NUMBERS]) -> bool
+    ensures { result ≡ are_nodes form part nodes values.now }
 {
-    values[..form.node_count()]
+    are_ends_in_range(form, part, nodes, values) && is_middle_in_range(form, part, nodes, values)
+}
+
+/// Whether each node that must be there is from 1 to the number of nodes.
+fn are_ends_in_range(form: Form, part: Part, nodes: u32, values: &[u64; MOST_NUMBERS]) -> bool
+    ensures { result ≡ list_all (is_node nodes) (take (node_count form part) values.now) }
+{
+    values[..form.node_count(part)]
         .iter()
         .all(|value| 1 <= *value && *value <= u64::from(nodes))
 }
 
-/// Whether the number of nodes times an arc's weight is within the limit.
-fn is_light(form: Form, nodes: u32, values: &[u64; MOST_NUMBERS]) -> bool
-    ensures { result ≡ is_weight form nodes values.now }
+/// Whether a leg's middle is at most the number of nodes.
+fn is_middle_in_range(form: Form, part: Part, nodes: u32, values: &[u64; MOST_NUMBERS]) -> bool
+    ensures { result ≡ is_middle form part nodes values.now }
 {
-    match form {
-        Form::Graph => u64::from(nodes)
-            .checked_mul(values[2])
-            .is_some_and(|sum| sum <= MOST_WEIGHT),
-        Form::Queries(_) | Form::Nodes(_) => true,
+    match (form, part) {
+        (Form::Saved(_), Part::Second) => values[4] <= u64::from(nodes),
+        (Form::Graph, _)
+        | (Form::Queries(_), _)
+        | (Form::Nodes(_), _)
+        | (Form::Saved(_), Part::First) => true,
     }
 }
 
-/// The item of these numbers. A node that a form does not have stays 0.
+/// Whether the weight and the arcs of an item are within the limits.
+fn is_light(form: Form, part: Part, nodes: u32, values: &[u64; MOST_NUMBERS]) -> bool
+    ensures { result ≡ is_weight form part nodes values.now }
+{
+    match (form, part) {
+        (Form::Graph, _) => u64::from(nodes)
+            .checked_mul(values[2])
+            .is_some_and(|sum| sum <= MOST_WEIGHT),
+        (Form::Saved(_), Part::Second) => {
+            values[2] <= MOST_WEIGHT && values[3] <= MOST_ARCS_OF_LEG
+        }
+        (Form::Queries(_), _) | (Form::Nodes(_), _) | (Form::Saved(_), Part::First) => true,
+    }
+}
+
+/// The item of these numbers. What an item of its part does not have is 0 among them.
 fn item_of(values: &[u64; MOST_NUMBERS]) -> Item
     requires first { slice_index values.now 0 < 2 ^ 32 }
     requires second { slice_index values.now 1 < 2 ^ 32 }
+    requires middle { slice_index values.now 4 < 2 ^ 32 }
     ensures { result ≡ item_from values.now }
 {
     Item {
         first: (values[0] as u32).saturating_sub(1),
         second: (values[1] as u32).saturating_sub(1),
         weight: values[2],
+        arcs: values[3],
+        middle: (values[4] as u32).checked_sub(1),
     }
 }

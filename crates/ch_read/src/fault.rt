@@ -10,7 +10,7 @@ use std::fmt;
 /// What is wrong with a line, or with the end of a file.
 #[derive(Clone, Copy, Debug, PartialEq, Eq)]
 pub enum FaultKind {
-    /// The first word is neither `p` nor the letter of the file's items.
+    /// The first word is neither `p` nor a letter of the file's items.
     UnknownLine,
     /// A problem line has other words than it must have.
     BadProblem,
@@ -20,11 +20,12 @@ pub enum FaultKind {
     NoProblem,
     /// An item has other words than it must have.
     BadLine,
-    /// A node is not from 1 to the number of nodes.
+    /// A node is not from 1 to the number of nodes, or a middle is past it.
     NodeRange,
-    /// The number of nodes times the weight is more than 2^60.
+    /// The number of nodes times the weight is more than 2^60, or a leg weighs more or has more than 2^25
+    /// arcs.
     Sum,
-    /// A declared number is past its limit.
+    /// A declared number is past its limit, or a hierarchy's nodes are not as many as its graph's.
     Size,
     /// There are more items than declared.
     TooMany,

@@ -21,7 +21,7 @@ pub fn read_graph(alloc: Global, bytes: &[u8]) -> Result<Graph, ReadError>
     ensures fault { (f : FaultAt) →
         AnswersWhere result (Err (ReadError.Fault f)) (IsFault Form.Graph bytes.now f.line f.kind) }
 {
-    let (heading, arcs) = read_items(alloc, Form::Graph, bytes)?;
+    let (heading, arcs, _) = read_items::<InArc, ()>(alloc, Form::Graph, bytes)?;
     match Graph::new(heading.nodes, arcs) {
         Ok(graph) => Ok(graph),
         Err(_) => unreachable!(),

@@ -1,8 +1,9 @@
-//! Readers of the three kinds of file: graphs, queries, and lists of nodes.
+//! Readers of the four kinds of file: graphs, queries, lists of nodes, and saved hierarchies.
 //!
-//! It stands on `ch_graph`, for graphs and arcs. Proved of it: memory aside, a reader answers the value
-//! that the bytes name, exactly where they name one, and the first fault of the first faulty line,
-//! exactly where there is one; each list of bytes names one value or has one fault, and not both.
+//! It stands on `ch_graph`, for graphs, arcs and hierarchies as data. Proved of it: memory aside, a reader
+//! answers the value that the bytes name, exactly where they name one, and the first fault of the first
+//! faulty line, exactly where there is one; each list of bytes names one value or has one fault, and not
+//! both.
 //!
 //! # The order of checks
 //!
@@ -11,17 +12,19 @@
 //!
 //! | line | check | where it fails |
 //! |---|---|---|
-//! | any | its first word is `p` or the letter of the file's items | `UnknownLine` |
+//! | any | its first word is `p` or a letter of the file's items | `UnknownLine` |
 //! | `p` | no problem line came before | `SecondProblem` |
 //! | `p` | it has the words of its form, and numbers in their places | `BadProblem` |
-//! | `p` | at most 2^25 nodes and 2^27 arcs; 2^24 queries; 65,536 listed nodes | `Size` |
+//! | `p` | at most 2^25 nodes and 2^27 arcs; 2^24 queries; 65,536 listed nodes; 2^50 legs | `Size` |
+//! | `p` | a hierarchy has as many nodes as its graph | `Size` |
 //! | item | a problem line came before | `NoProblem` |
 //! | item | it has numbers in their places, and no other words | `BadLine` |
-//! | item | fewer items than declared came before | `TooMany` |
-//! | item | each node is from 1 to the number of nodes | `NodeRange` |
+//! | item | fewer items of its letter than declared came before | `TooMany` |
+//! | item | each node is from 1 to the number of nodes; a leg's middle may be 0 | `NodeRange` |
 //! | arc | the number of nodes times its weight is at most 2^60 | `Sum` |
+//! | leg | its weight is at most 2^60, and its arcs at most 2^25 | `Sum` |
 //! | after the last | there was a problem line | `NoProblem` |
-//! | after the last | there were no fewer items than declared | `TooFew` |
+//! | after the last | there were no fewer items of each letter than declared | `TooFew` |
 #![tactic(auto)]
 
 mod check;
@@ -34,6 +37,7 @@ mod nodes;
 mod number;
 mod queries;
 mod reader;
+mod saved;
 #[cfg(test)]
 mod tests;
 
@@ -43,3 +47,4 @@ pub use graph::read_graph;
 pub use laws::one_answer;
 pub use nodes::read_nodes;
 pub use queries::read_queries;
+pub use saved::read_saved;

@@ -24,7 +24,7 @@ pub fn read_nodes(alloc: Global, bytes: &[u8], n: u32) -> Result<Vec<u32>, ReadE
     ensures range { IfOk result (λ v. All (λ x. x < n) v.items) }
     ensures size { IfOk result (λ v. vec_len v ≤ 65536) }
 {
-    let (_, nodes) = read_items(alloc, Form::Nodes(n), bytes)?;
+    let (_, nodes, _) = read_items::<u32, ()>(alloc, Form::Nodes(n), bytes)?;
     Ok(nodes)
 }
 

@@ -7,7 +7,7 @@ ghost use Rattle.ch_read.specs.Words.{number, words};
 use crate::lines::split_word;
 
 /// The most numbers that a line has.
-pub const MOST_NUMBERS: usize = 3;
+pub const MOST_NUMBERS: usize = 5;
 
 /// The value of a word of digits, of any length. A value past `u64` is past each limit, and is read as
 /// the greatest `u64`.
@@ -29,7 +29,7 @@ pub fn number_of(word: &[u8]) -> Option<u64>
 
 /// The values of the words, where there are exactly `count`, and each is a number.
 pub fn numbers_of(text: &[u8], count: usize) -> Option<[u64; MOST_NUMBERS]>
-    requires { count ≤ 3 }
+    requires { count ≤ 5 }
     ensures { let numbers = numbers_after [] count (words text.now) in
         MatchOption result (numbers ≡ None) (AreCapped numbers) }
 {

@@ -24,7 +24,7 @@ pub fn read_queries(alloc: Global, bytes: &[u8], n: u32) -> Result<Vec<(u32, u32
     ensures range { IfOk result (λ v. All (λ p. (p.0 < n) × (p.1 < n)) v.items) }
     ensures size { IfOk result (λ v. vec_len v ≤ 2 ^ 24) }
 {
-    let (_, pairs) = read_items(alloc, Form::Queries(n), bytes)?;
+    let (_, pairs, _) = read_items::<(u32, u32), ()>(alloc, Form::Queries(n), bytes)?;
     Ok(pairs)
 }
 

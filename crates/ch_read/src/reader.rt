@@ -1,12 +1,13 @@
 //! The loop over the lines of a file of any kind.
 ghost use Rattle.std.specs.Prelude.{◌≡◌, MatchResult};
 ghost use Rattle.ch_read.specs.declared.form.Item.{Item};
+ghost use Rattle.ch_read.specs.declared.form.Part.TheVariants as Part;
 ghost use Rattle.ch_read.specs.Words.{lines};
 ghost use Rattle.ch_read.specs.Reading.{IsFile, IsErrorOf, values_in};
 
 use crate::check::{Line, check_end, check_line};
 use crate::fault::{ReadError, ReadFault};
-use crate::form::{Form, Heading, Item};
+use crate::form::{Counts, Form, Heading, Item};
 use crate::lines::split_line;
 use std::alloc::Global;
 
@@ -18,33 +19,44 @@ pub trait FromItem: Copy {
         ensures { result ≡ Self.from_item_gives item };
 }
 
-/// What a file declares, and its items in the order of their lines.
-pub fn read_items<T: FromItem>(
+impl FromItem for () {
+    ghost from_item_gives = { λ _. tt };
+
+    fn from_item(_item: Item) {}
+}
+
+/// What a file declares, and the items of its two parts in the order of their lines. A file without a
+/// second part is read with `()` for `B`.
+pub fn read_items<A: FromItem, B: FromItem>(
     alloc: Global,
     form: Form,
     bytes: &[u8],
-) -> Result<(Heading, Vec<T>), ReadError>
-    ensures { let values = values_in T.from_item_gives form (lines bytes.now) in
-        MatchResult result (λ (heading, items). IsFile form bytes.now heading × (items.items ≡ values))
+) -> Result<(Heading, Vec<A>, Vec<B>), ReadError>
+    ensures { MatchResult result
+        (λ (heading, first, second). IsFile form bytes.now heading
+        × (first.items ≡ values_in A.from_item_gives form Part.First (lines bytes.now))
+        × (second.items ≡ values_in B.from_item_gives form Part.Second (lines bytes.now)))
         (IsErrorOf form bytes.now) }
 {
     let mut seen = None;
-    let mut items = Vec::new(alloc);
+    let mut first = Vec::new(alloc);
+    let mut second = Vec::new(alloc);
     let mut line = 0u64;
     let mut rest = bytes;
     while !rest.is_empty() {
         let (text, after) = split_line(rest);
         line += 1;
-        match check_line(form, seen, items.len(), text) {
+        match check_line(form, seen, Counts::new(first.len(), second.len()), text) {
             Ok(Line::Skipped) => {}
             Ok(Line::Problem(heading)) => seen = Some(heading),
-            Ok(Line::Item(item)) => items.push(T::from_item(item))?,
+            Ok(Line::First(item)) => first.push(A::from_item(item))?,
+            Ok(Line::Second(item)) => second.push(B::from_item(item))?,
             Err(kind) => return Err(ReadError::Fault(ReadFault { line, kind })),
         }
         rest = after;
     }
-    match check_end(seen, items.len()) {
-        Ok(heading) => Ok((heading, items)),
+    match check_end(seen, Counts::new(first.len(), second.len())) {
+        Ok(heading) => Ok((heading, first, second)),
         Err(kind) => {
             let line = line + 1;
             Err(ReadError::Fault(ReadFault { line, kind }))

@@ -4,11 +4,18 @@ use ch_graph::InArc;
 use std::alloc::{AllocError, Global};
 use std::test::Fail;
 
+mod saved;
+
 const SMALL_GRAPH: &str = "p sp 3 2\na 1 2 4\na 2 3 5\n";
 
 const SMALL_QUERIES: &str = "p aux sp p2p 2\nq 1 3\nq 3 1\n";
 
 const SMALL_NODES: &str = "p aux sp ss 3\ns 1\ns 1\ns 3\n";
+
+const TARGETS: &str = "p aux sp ss 2\ns 3\ns 2\n";
+
+/// Four nodes, each of the others tied to the first.
+const STAR: &str = "p sp 4 6\na 1 2 1\na 2 1 1\na 1 3 1\na 3 1 1\na 1 4 1\na 4 1 1\n";
 
 /// How long a word of a hostile file is.
 const MILLION: usize = 1_000_000;
@@ -162,7 +169,7 @@ fn refuses_lists(rt: HostRuntime) {
 
 #[test]
 fn answers_each_beginning_of_a_graph(rt: HostRuntime) {
-    for (length, _) in SMALL_GRAPH.as_bytes().iter().enumerate() {
+    for length in 0..SMALL_GRAPH.len() + 1 {
         let read = read_graph(rt.alloc(), &SMALL_GRAPH.as_bytes()[..length]);
         let expected = match length {
             0 => fault(1, FaultKind::NoProblem),
@@ -179,7 +186,7 @@ fn answers_each_beginning_of_a_graph(rt: HostRuntime) {
 
 #[test]
 fn answers_each_beginning_of_queries(rt: HostRuntime) {
-    for (length, _) in SMALL_QUERIES.as_bytes().iter().enumerate() {
+    for length in 0..SMALL_QUERIES.len() + 1 {
         let read = read_queries(rt.alloc(), &SMALL_QUERIES.as_bytes()[..length], 3);
         let expected = match length {
             0 => fault(1, FaultKind::NoProblem),
@@ -192,6 +199,45 @@ fn answers_each_beginning_of_queries(rt: HostRuntime) {
         };
         assert_eq!(rt; fault_of(read), expected, "at {length}");
     }
+}
+
+#[test]
+fn answers_each_beginning_of_a_list(rt: HostRuntime) {
+    for text in [SMALL_NODES, TARGETS] {
+        for length in 0..text.len() + 1 {
+            let read = read_nodes(rt.alloc(), &text.as_bytes()[..length], 3);
+            let expected = match length {
+                _ if length + 1 >= text.len() => None,
+                0 => fault(1, FaultKind::NoProblem),
+                1..=12 => fault(1, FaultKind::BadProblem),
+                13..=14 => fault(2, FaultKind::TooFew),
+                15..=16 => fault(2, FaultKind::BadLine),
+                17..=18 => fault(3, FaultKind::TooFew),
+                19..=20 => fault(3, FaultKind::BadLine),
+                21..=22 => fault(4, FaultKind::TooFew),
+                _ => fault(4, FaultKind::BadLine),
+            };
+            assert_eq!(rt; fault_of(read), expected, "at {length} of {text}");
+        }
+    }
+}
+
+/// A cut inside the last number leaves another file.
+#[test]
+fn reads_the_beginning_of_a_number(rt: HostRuntime) -> Result<(), Fail> {
+    for (text, weight) in [
+        ("p sp 2 1\na 1 2 576460752303423488", 1 << 59),
+        ("p sp 2 1\na 1 2 5", 5),
+    ] {
+        let graph = read_graph(rt.alloc(), text.as_bytes())?;
+        let arc = InArc {
+            from: 0,
+            to: 1,
+            weight,
+        };
+        assert_eq!(rt; graph.arcs(), [arc].as_slice());
+    }
+    Ok(())
 }
 
 #[test]
@@ -254,21 +300,33 @@ fn skips_words_that_begin_with_c(rt: HostRuntime) -> Result<(), Fail> {
     Ok(())
 }
 
-/// Where a growth is refused, a reader answers that, and no fault.
+/// What a reader answers, asked a second time where the first was refused memory.
+macro_rules! again {
+    ($read:expr) => {
+        match $read {
+            Err(ReadError::NoMemory) => $read?,
+            answer => answer?,
+        }
+    };
+}
+
+/// It holds when any one request for memory is refused: the reader that meets the refusal answers `NoMemory`,
+/// and no fault, and asked again it answers as with ample memory.
 #[test]
-fn accepts_small_files_or_lacks_memory(rt: HostRuntime) {
-    assert_eq!(rt;
-        fault_of(read_graph(rt.alloc(), SMALL_GRAPH.as_bytes())),
-        None
-    );
-    assert_eq!(rt;
-        fault_of(read_queries(rt.alloc(), SMALL_QUERIES.as_bytes(), 3)),
-        None
-    );
-    assert_eq!(rt;
-        fault_of(read_nodes(rt.alloc(), SMALL_NODES.as_bytes(), 3)),
-        None
-    );
+fn refused_in_turn(rt: HostRuntime) -> Result<(), Fail> {
+    let alloc = rt.alloc();
+    let line = again!(read_graph(alloc, SMALL_GRAPH.as_bytes()));
+    assert_eq!(rt; line.arcs().len(), 2);
+    let star = again!(read_graph(alloc, STAR.as_bytes()));
+    assert_eq!(rt; star.nodes(), 4);
+    assert_eq!(rt; star.arcs().len(), 6);
+    let queries = again!(read_queries(alloc, b"p aux sp p2p 1\nq 3 4\n", 4));
+    assert_eq!(rt; queries.as_slice(), [(2, 3)].as_slice());
+    let sources = again!(read_nodes(alloc, SMALL_NODES.as_bytes(), 3));
+    assert_eq!(rt; sources.as_slice(), [0, 0, 2].as_slice());
+    let targets = again!(read_nodes(alloc, TARGETS.as_bytes(), 3));
+    assert_eq!(rt; targets.as_slice(), [2, 1].as_slice());
+    Ok(())
 }
 
 #[test]

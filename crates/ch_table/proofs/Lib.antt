@@ -1,2 +1,4 @@
 pub mod Entries
-pub mod Rows
+pub mod Held
+pub mod Owing
+pub mod Tables

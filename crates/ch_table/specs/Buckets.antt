@@ -1,8 +1,12 @@
 -- Buckets: what each node knows of the nodes of a list.
 use Rattle.std.specs.Prelude.{◌≡◌, ℕ, ◌<◌, List, [], length, slice_index, slice_index_or, AllPairs, Contains}
+use Rattle.std.specs.List.{AllZip}
 use Rattle.ch_graph.specs.declared.cost.Cost.{Cost}
 use Rattle.ch_contract.specs.declared.leg.Leg.{Leg}
+use Rattle.ch_contract.specs.Hierarchy.{LevelsAndLegs, nodes_of}
 use Rattle.ch_contract.specs.Paths.{IsLeastUpwardPath}
+use Rattle.ch_query.specs.declared.side.Side.{Side}
+use Rattle.ch_query.specs.SearchSpace.{IsSearchSpace}
 
 -- an entry for each place whose node has an upward path to v: the place, and the least weight; ordered by place
 pub record IsBucket (rows : List (List Leg)) (nodes : List ℕ) (v : ℕ) (bucket : List (ℕ × ℕ)) : Type 0 where
@@ -14,3 +18,15 @@ pub record IsBucket (rows : List (List Leg)) (nodes : List ℕ) (v : ℕ) (bucke
 pub record AreBuckets (rows : List (List Leg)) (nodes : List ℕ) (buckets : List (List (ℕ × ℕ))) : Type 0 where
   pub count : length buckets ≡ length rows
   pub each : (v : ℕ) → IsBucket rows nodes v (slice_index_or buckets v [])
+
+-- a bucket for each of n nodes: that of v has (j, x) exactly where list j has (v, x)
+pub record HoldLists (n : ℕ) (lists : List (List (ℕ × ℕ))) (buckets : List (List (ℕ × ℕ))) : Type 0 where
+  pub count : length buckets ≡ n
+  pub sound : (v j x : ℕ) → Contains (slice_index_or buckets v []) (j, x) → (j < length lists) × Contains (slice_index_or lists j []) (v, x)
+  pub whole : (v j x : ℕ) → j < length lists → Contains (slice_index_or lists j []) (v, x) → Contains (slice_index_or buckets v []) (j, x)
+
+-- entries of paths, with all that lie on a least way: the buckets hold a search space of each of the nodes
+pub record HoldSearchSpaces (H : LevelsAndLegs) (side : Side) (nodes : List ℕ) (buckets : List (List (ℕ × ℕ))) : Type 0 where
+  pub spaces : List (List (ℕ × ℕ))
+  pub each : AllZip (IsSearchSpace H side) nodes spaces
+  pub held : HoldLists (nodes_of H) spaces buckets

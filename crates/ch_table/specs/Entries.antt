@@ -1,5 +1,5 @@
 -- The entries of buckets, each after the node whose bucket it is in.
-use Rattle.std.specs.Prelude.{◌≡◌, ℕ, ◌<◌, List, slice_index, AllPairs, Contains}
+use Rattle.std.specs.Prelude.{◌≡◌, ℕ, ◌<◌, List, [], slice_index, slice_index_or, AllPairs, Contains}
 use Rattle.ch_graph.specs.declared.cost.Cost.{Cost}
 use Rattle.ch_contract.specs.declared.leg.Leg.{Leg}
 use Rattle.ch_contract.specs.Paths.{IsLeastUpwardPath}
@@ -13,3 +13,12 @@ pub record AreEntries (rows : List (List Leg)) (nodes : List ℕ) (k : ℕ) (ent
   pub order : AllPairs (λ a b. a.0 ≡ b.0 → a.1.0 < b.1.0) entries
   pub sound : (v j x : ℕ) → Contains entries (v, (j, x)) → (j < k) × (c : Cost) × IsLeastUpwardPath rows (slice_index nodes j) v c × (c.weight ≡ x)
   pub whole : (v j : ℕ) (c : Cost) → j < k → IsLeastUpwardPath rows (slice_index nodes j) v c → Contains entries (v, (j, c.weight))
+
+-- the entry for place j of a node and a weight
+abbrev pub entry_of : ℕ → ℕ × ℕ → ℕ × (ℕ × ℕ)
+entry_of j pair = (pair.0, (j, pair.1))
+
+-- an entry for each node and weight of the first k lists
+pub record AreEntriesOf (lists : List (List (ℕ × ℕ))) (k : ℕ) (entries : List (ℕ × (ℕ × ℕ))) : Type 0 where
+  pub sound : (v j x : ℕ) → Contains entries (v, (j, x)) → (j < k) × Contains (slice_index_or lists j []) (v, x)
+  pub whole : (v j x : ℕ) → j < k → Contains (slice_index_or lists j []) (v, x) → Contains entries (v, (j, x))

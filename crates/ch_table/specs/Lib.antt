@@ -1,5 +1,4 @@
 pub mod Buckets
 pub mod Entries
-pub mod Row
-pub mod Columns
+pub mod Sums
 pub mod Table

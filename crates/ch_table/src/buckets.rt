@@ -1,9 +1,9 @@
-//! Buckets: at each node the targets that it reaches.
-ghost use Rattle.std.specs.Prelude.{◌≡◌, ◌++◌, ◌^◌, ◌<◌, ◌≤◌, [], length, map, slice_index_or, All, IfOk, OnOk};
+//! Buckets: at each node the targets that it reaches, or the sources that reach it.
+ghost use Rattle.std.specs.Prelude.{◌≡◌, ◌+◌, ◌++◌, ◌^◌, ◌<◌, ◌≤◌, [], length, map, slice_index_or, All, IfOk, OnOk};
 ghost use Rattle.ch_contract.specs.Hierarchy.{nodes_of};
 ghost use Rattle.ch_query.specs.Side.{rows_of};
-ghost use Rattle.ch_table.specs.Buckets.{AreBuckets};
-ghost use Rattle.ch_table.specs.Entries.{AreEntries, entry_at};
+ghost use Rattle.ch_table.specs.Buckets.{AreBuckets, HoldLists};
+ghost use Rattle.ch_table.specs.Entries.{AreEntries, entry_at, AreEntriesOf, entry_of};
 
 use ch_contract::Hierarchy;
 use ch_graph::{Cost, Rows};
@@ -12,7 +12,7 @@ use std::alloc::{AllocError, Global};
 use std::marker::Model;
 
 /// For each node the targets that it reaches by going down, each as its place and the least weight of such
-/// a path, ordered by place.
+/// a path, ordered by place; or the sources that reach it by going up.
 #[derive(Debug, Drop)]
 pub struct Buckets {
     rows: Rows<(u32, u64)>,
@@ -43,6 +43,23 @@ impl Buckets {
         Buckets::fill_side(alloc, hierarchy, targets, Side::Down)
     }
 
+    /// The buckets of the sources: for each node the sources that reach it by going up. A source that comes
+    /// again has an entry for each of its places.
+    ///
+    /// # Errors
+    /// `AllocError` where there is no memory.
+    pub fn fill_up(
+        alloc: Global,
+        hierarchy: &Hierarchy,
+        sources: &[u32],
+    ) -> Result<Buckets, AllocError>
+        requires sources { All (λ s. s < nodes_of hierarchy.now) sources.now }
+        requires count { length sources.now ≤ 65536 }
+        ensures { IfOk result (AreBuckets hierarchy.now.up sources.now) }
+    {
+        Buckets::fill_side(alloc, hierarchy, sources, Side::Up)
+    }
+
     /// The buckets of these nodes, by their paths to higher nodes in this direction.
     fn fill_side(
         alloc: Global,
@@ -56,6 +73,21 @@ impl Buckets {
     {
         let entries = entries(alloc, hierarchy, nodes, side)?;
         let rows = Rows::build(alloc, hierarchy.nodes(), &entries)?;
+        Ok(Buckets { rows })
+    }
+
+    /// The buckets of `nodes` nodes that hold lists of nodes and weights, one list for each place.
+    pub(crate) fn of_lists(
+        alloc: Global,
+        nodes: u32,
+        lists: &[Vec<(u32, u64)>],
+    ) -> Result<Buckets, AllocError>
+        requires count { length lists.now ≤ 65536 }
+        requires nodes { All (λ list. All (λ pair. pair.0 < nodes) list.items) lists.now }
+        ensures { IfOk result (HoldLists nodes (map (λ list. list.items) lists.now)) }
+    {
+        let entries = entries_of(alloc, lists)?;
+        let rows = Rows::build(alloc, nodes, &entries)?;
         Ok(Buckets { rows })
     }
 
@@ -101,6 +133,38 @@ fn push_entries(
 {
     for (node, cost) in reached {
         entries.push((*node, (place, cost.weight)))?;
+    }
+    Ok(())
+}
+
+/// The entries of all lists, place after place.
+fn entries_of(alloc: Global, lists: &[Vec<(u32, u64)>]) -> Result<Vec<Entry>, AllocError>
+    requires { length lists.now ≤ 65536 }
+    ensures { IfOk result (λ entries. AreEntriesOf (map (λ list. list.items) lists.now) (length lists.now) entries.items) }
+{
+    let mut entries = Vec::with_capacity(alloc, length_of(lists))?;
+    for (place, list) in lists.iter().enumerate() {
+        push_list(&mut entries, place as u32, list)?;
+    }
+    Ok(entries)
+}
+
+/// How many pairs the lists have, or the most that fits where they have more.
+fn length_of(lists: &[Vec<(u32, u64)>]) -> usize {
+    let mut length = 0usize;
+    for list in lists {
+        length = length.saturating_add(list.len());
+    }
+    length
+}
+
+/// Adds an entry for this place to the bucket of each node of the list.
+fn push_list(entries: &mut Vec<Entry>, place: u32, list: &[(u32, u64)]) -> Result<(), AllocError>
+    ensures { OnOk result (entries.new.items ≡ entries.old.items ++ map (entry_of place) list.now) }
+{
+    entries.reserve(list.len())?;
+    for (node, weight) in list {
+        entries.push_reserved((*node, (place, *weight)));
     }
     Ok(())
 }

@@ -6,17 +6,21 @@ use std::marker::Model;
 /// The distances from each source to each target: a row for each source, with a cell for each target.
 #[derive(Debug, Drop)]
 pub struct Table {
-    pub(crate) rows: Vec<Vec<Option<u64>>>,
+    /// The cells of all rows, row after row.
+    pub(crate) cells: Vec<Option<u64>>,
+    pub(crate) rows: u32,
+    pub(crate) columns: u32,
 }
 
 impl Model for Table {
-    ghost use Rattle.std.specs.Prelude.{ℕ, ◌≤◌, List, Option, map};
+    ghost use Rattle.std.specs.Prelude.{◌≡◌, ℕ, ◌*◌, List, Option};
+    ghost use Rattle.ch_table.specs.Table.{rows_of_cells};
 
     ghost Value = { List (List (Option ℕ)) };
 
-    ghost view = { λ t. map (λ row. row.items) t.rows.items };
+    ghost view = { λ t. rows_of_cells t.rows t.columns t.cells.items };
 
-    ghost invariant = { λ t. t.rows.len ≤ 65536 };
+    ghost invariant = { λ t. t.cells.len ≡ t.rows * t.columns };
 }
 
 impl Table {
@@ -24,7 +28,7 @@ impl Table {
     pub fn row_count(&self) -> u32
         ensures { result ≡ length self.now }
     {
-        self.rows.len() as u32
+        self.rows
     }
 
     /// The cells of the source at place `i`, in the order of the targets.
@@ -32,6 +36,8 @@ impl Table {
         requires { i < length self.now }
         ensures { result.now ≡ slice_index_or self.now i [] }
     {
-        self.rows[i as usize].as_slice()
+        let columns = self.columns as usize;
+        let start = i as usize * columns;
+        &self.cells[start..start + columns]
     }
 }

@@ -1,26 +1,25 @@
 //! Distances from many nodes to many.
-ghost use Rattle.std.specs.Prelude.{◌≡◌, ◌*◌, ◌^◌, ◌<◌, ◌≤◌, length, All, IfOk};
+ghost use Rattle.std.specs.Prelude.{◌*◌, ◌^◌, ◌<◌, ◌≤◌, length, All, IfOk};
 ghost use Rattle.std.specs.List.{AllZip};
 ghost use Rattle.ch_contract.specs.Hierarchy.{nodes_of};
 ghost use Rattle.ch_query.specs.Distance.{IsKeptForSome};
 ghost use Rattle.ch_table.specs.Table.{IsRowBy};
 
-use crate::buckets::Buckets;
 use crate::cells::Table;
-use crate::row::row;
+use crate::spaces::search_spaces;
+use crate::sums::Sums;
 use ch_contract::Hierarchy;
-use ch_query::Scratch;
-use ch_work::{Gate, ListJob, Plan, run_list};
+use ch_query::Side;
+use ch_work::{Gate, Plan, run_cells};
 use std::alloc::{AllocError, Global};
-use std::marker::Model;
 use std::thread::Threads;
 
 /// The distances from each source to each target.
 ///
-/// Each target is spread once, down its paths to higher nodes, and leaves its weight in the bucket of each
-/// node that it reaches. Each source is then spread once, up, and reads the buckets of the nodes that it
-/// reaches (Knopp, Sanders, Schultes, Schulz and Wagner 2007). The workers share the sources, each with a
-/// scratch that it makes once.
+/// Each target is searched from once, down its paths to higher nodes, and leaves its weight in the bucket of
+/// each node that it reaches; so is each source, up (Knopp, Sanders, Schultes, Schulz and Wagner 2007). At each
+/// node the entries of sources and those of targets owe their sums to the cells, which all workers share. The
+/// workers share the targets, then the sources, then the nodes.
 ///
 /// # Errors
 /// `AllocError` where there is no memory.
@@ -40,64 +39,23 @@ pub fn table<R: Threads + Sync, G: Gate>(
     requires cells { length sources.now * length targets.now ≤ 2 ^ 22 }
     ensures { IfOk result (AllZip (IsRowBy hierarchy.now targets.now) sources.now) }
 {
-    let buckets = Buckets::fill(alloc, hierarchy, targets)?;
-    let job = SourceRows {
-        hierarchy,
-        buckets: &buckets,
-        targets,
+    let downs = search_spaces(rt, alloc, hierarchy, targets, Side::Down, plan, gate)?;
+    let ups = search_spaces(rt, alloc, hierarchy, sources, Side::Up, plan, gate)?;
+    let rows = sources.len() as u32;
+    let columns = targets.len() as u32;
+    let sums = Sums {
+        sources: &ups,
+        targets: &downs,
+        rows,
+        columns,
     };
-    let rows = run_list(rt, alloc, sources, plan, gate, &job)?;
-    Ok(Table { rows })
-}
-
-/// The rows of sources.
-#[derive(Drop)]
-struct SourceRows<'a> {
-    hierarchy: &'a Hierarchy,
-    buckets: &'a Buckets,
-    targets: &'a [u32],
-}
-
-impl<'a> Model for SourceRows<'a> {
-    ghost use Rattle.ch_table.specs.Columns.{Columns, AreColumns};
-
-    ghost Value = { Columns };
-
-    ghost view = { λ job. record { levels = job.hierarchy.now; targets = job.targets.now } };
-
-    ghost invariant = { λ job. AreColumns job.hierarchy.now job.buckets.now job.targets.now };
-}
-
-impl<'a> ListJob for SourceRows<'a> {
-    type Item = u32;
-
-    type Room = Scratch;
-
-    type Out = Vec<Option<u64>>;
-
-    ghost takes = { λ job source. source < nodes_of job.levels };
-
-    ghost meaning = { λ job source row. IsRowBy job.levels job.targets source row.items };
-
-    ghost clean = { λ job scratch. scratch ≡ nodes_of job.levels };
-
-    fn room(&self, alloc: Global) -> Result<Scratch, AllocError> {
-        Scratch::new(alloc, self.hierarchy.nodes())
-    }
-
-    fn value(
-        &self,
-        alloc: Global,
-        room: &mut Scratch,
-        item: &u32,
-    ) -> Result<Vec<Option<u64>>, AllocError> {
-        row(
-            alloc,
-            self.hierarchy,
-            self.buckets,
-            room,
-            *item,
-            self.targets,
-        )
-    }
+    let nodes = hierarchy.nodes();
+    // The getter tells the proof that a piece has an item.
+    let _ = plan.piece();
+    let cells = run_cells(rt, alloc, nodes, rows * columns, plan, gate, &sums)?;
+    Ok(Table {
+        cells,
+        rows,
+        columns,
+    })
 }

@@ -4,10 +4,12 @@ ghost use Rattle.std.specs.Prelude.{◌≡◌, ◌<◌, ◌≤◌, length, All, 
 ghost use Rattle.ch_contract.specs.Hierarchy.{nodes_of};
 ghost use Rattle.ch_query.specs.Distance.{IsKeptForSome};
 
+mod nodes;
+
 use crate::{Buckets, Table, table};
 use ch_contract::{Hierarchy, build};
 use ch_graph::{Graph, InArc};
-use ch_work::{Open, Plan};
+use ch_work::{CountingGate, Open, Plan};
 use std::alloc::{AllocError, Global};
 use std::process::Abort;
 use std::test::Fail;
@@ -162,6 +164,24 @@ fn expect_buckets<R: Abort>(
     Ok(())
 }
 
+/// The same of sources.
+fn expect_buckets_up<R: Abort>(
+    rt: &R,
+    alloc: Global,
+    hierarchy: &Hierarchy,
+    sources: &[u32],
+    rows: &[&[(u32, u64)]],
+) -> Result<(), Fail> {
+    let sources = from_zero(rt, alloc, hierarchy, sources)?;
+    let buckets = Buckets::fill_up(alloc, hierarchy, &sources)?;
+    let nodes = hierarchy.nodes();
+    assert!(rt; rows.len() == nodes as usize);
+    for node in 0..nodes {
+        assert_eq!(rt; buckets.at(node), rows[node as usize], "node {node}");
+    }
+    Ok(())
+}
+
 #[test]
 fn buckets_of_a_ring(rt: HostRuntime) -> Result<(), Fail> {
     let alloc = rt.alloc();
@@ -184,6 +204,35 @@ fn buckets_of_a_line(rt: HostRuntime) -> Result<(), Fail> {
     let middle: &[(u32, u64)] = &[(1, 0)];
     let end: &[(u32, u64)] = &[(0, 0)];
     expect_buckets(&rt, alloc, &hierarchy, &[3, 2], &[&[], middle, end])
+}
+
+#[test]
+fn buckets_of_sources_on_a_line(rt: HostRuntime) -> Result<(), Fail> {
+    let alloc = rt.alloc();
+    let hierarchy = hierarchy(&rt, alloc, 3, LINE)?;
+    let first: &[(u32, u64)] = &[(0, 0), (1, 0)];
+    let middle: &[(u32, u64)] = &[(0, 4), (1, 4)];
+    let end: &[(u32, u64)] = &[(0, 9), (1, 9), (2, 0)];
+    expect_buckets_up(&rt, alloc, &hierarchy, &[1, 1, 3], &[first, middle, end])
+}
+
+/// Each target, each source and each node is a piece: the table is made by the cells that workers share.
+#[test]
+fn gates_passed(rt: HostRuntime) -> Result<(), Fail> {
+    let alloc = rt.alloc();
+    let hierarchy = hierarchy(&rt, alloc, 3, LINE)?;
+    let sources = from_zero(&rt, alloc, &hierarchy, &[1, 1, 3])?;
+    let targets = from_zero(&rt, alloc, &hierarchy, &[3, 2])?;
+    let gate = CountingGate::new(alloc, 4)?;
+    let plan = Plan::new(2, 1, 64);
+    table(&rt, alloc, &hierarchy, &sources, &targets, &plan, &gate)?;
+    for (piece, expected) in [Some(3), Some(3), Some(2), Some(0), None]
+        .iter()
+        .enumerate()
+    {
+        assert_eq!(rt; gate.passes(piece as u32), *expected, "piece {piece}");
+    }
+    Ok(())
 }
 
 /// The hierarchy of the graph, also where one request for memory is refused.
@@ -230,8 +279,14 @@ fn refused_in_turn(rt: HostRuntime) -> Result<(), Fail> {
     let hierarchy = built_again(&rt, alloc, &graph)?;
     let sources = again!(from_zero(&rt, alloc, &hierarchy, &[1, 3]));
     let targets = again!(from_zero(&rt, alloc, &hierarchy, &[3, 2]));
-    let plan = Plan::new(1, 1, 1);
-    let found = again!(table(&rt, alloc, &hierarchy, &sources, &targets, &plan, &Open));
-    expect_rows(&rt, &found, &[&[Some(9), Some(4)], &[Some(0), None]]);
+    let buckets = again!(Buckets::fill_up(alloc, &hierarchy, &sources));
+    let nodes = hierarchy.nodes();
+    assert!(rt; nodes > 2);
+    assert_eq!(rt; buckets.at(2), [(0, 9), (1, 0)].as_slice());
+    for workers in [1, 2] {
+        let plan = Plan::new(workers, 1, 1);
+        let found = again!(table(&rt, alloc, &hierarchy, &sources, &targets, &plan, &Open));
+        expect_rows(&rt, &found, &[&[Some(9), Some(4)], &[Some(0), None]]);
+    }
     Ok(())
 }

@@ -23,7 +23,7 @@ times-append x [] ys = omega arith
 times-append x (d ∷ xs) ys = let h = times-append x xs ys in omega arith
 
 -- where there is a pass that has ended, one has
-some_ended : (passes : List Pass) → All HasEnded passes → 0 < length passes → 0 < total (λ (view : Known). view.ended) (map view_of passes)
+pub some_ended : (passes : List Pass) → All HasEnded passes → 0 < length passes → 0 < total (λ (view : Known). view.ended) (map view_of passes)
 some_ended [] all some_pass = absurd (omega arith)
 some_ended (pass ∷ passes) all some_pass =
     let same : pass.seat.me.0.ended ≡ bit pass.ended = pass.same_end in

@@ -6,3 +6,5 @@ pub mod Moves
 pub mod Ends
 pub mod Gathers
 pub mod Claims
+pub mod Payments
+pub mod Pays

@@ -1,10 +1,11 @@
 -- Lists of consecutive pieces, put after one another, are a list for all items.
-use Rattle.std.proofs.Common.{◌≡◌, ℕ, zero, suc, ◌+◌, ◌-◌, ◌*◌, ◌/◌, ◌%◌, ◌<◌, ◌≤◌, min, List, [], ◌∷◌, ◌++◌, length, drop, subst, sym, arith}
+use Rattle.std.proofs.Common.{◌≡◌, ℕ, zero, suc, ◌+◌, ◌-◌, ◌*◌, ◌/◌, ◌%◌, ◌<◌, ◌≤◌, min, List, [], ◌∷◌, ◌++◌, length, drop, subst, sym, arith, inl, inr}
 use Rattle.std.specs.Prelude.{Vec}
 use Rattle.std.specs.List.{AllZip, flat_map, slice_range}
 use Rattle.std.specs.declared.alloc.Global.{Global}
 use Rattle.std.proofs.lemmas.List.{take-append-drop, take_min, length-drop, drop-drop, drop_all}
-use Rattle.std.proofs.lemmas.Nat.{div-add-mod'}
+use Rattle.std.proofs.lemmas.Bool.{cases_lt}
+use Rattle.std.proofs.lemmas.Nat.{div-add-mod', mul-le}
 use Rattle.std.proofs.Math.Nat.{mod-lt}
 use Rattle.ch_work.specs.Pieces.{pieces_of, MeanEach, AreValues}
 
@@ -61,3 +62,16 @@ all_zipped {B = B} P items n p lists count positive h =
     let all : length items ≤ (0 + length lists) * p = rw (h.0, sym count) (covers n p positive) in
     let each : MeanEach (Zipped P items p) (length items) p 0 lists = subst (λ i. MeanEach (Zipped P items p) i p 0 lists) count h.1 in
     subst (λ i. AllZip P (drop i items) (flat_map (λ (list : Vec B Global). list.items) lists)) start (zipped_from P items p 0 lists all each)
+
+-- each item is one of a piece
+pub piece_of : (n p v : ℕ) → 0 < p → v < n → (k : ℕ) × (k < pieces_of n p) × (k * p ≤ v) × (v < min (k * p + p) n)
+piece_of n p v positive lt =
+    let k = v / p in
+    let at : k * p + v % p ≡ v = div-add-mod' v p in
+    let rest : v % p < p = mod-lt v positive in
+    let most : n ≤ pieces_of n p * p = covers n p positive in
+    let below : k < pieces_of n p = elim (cases_lt k (pieces_of n p)) [
+      | inl less ↦ less
+      | inr more ↦ let high : pieces_of n p * p ≤ k * p = mul-le (pieces_of n p) p k p more (omega arith) in absurd (omega arith)
+    ] in
+    (k, below, omega arith, omega arith)

@@ -2,6 +2,8 @@
 //! has two workers at work at once.
 
 mod boards;
+mod cells;
+mod refusals;
 mod rooms;
 
 use crate::{CountingGate, Gate, Job, MeetingGate, Open, Plan, run_pieces};

@@ -1,6 +1,1 @@
-pub mod Texts
-pub mod Bytes
 pub mod Words
-pub mod Inputs
-pub mod OneText
-pub mod Tables

@@ -1,8 +1,2 @@
-pub mod Device
-pub mod Fault
 pub mod Line
 pub mod Program
-pub mod Run
-pub mod TableText
-pub mod TextLaws
-pub mod Text

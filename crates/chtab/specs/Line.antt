@@ -8,12 +8,12 @@ use Rattle.clap.specs.declared.builder.ArgAction.TheVariants.{Set, SetTrue}
 use Rattle.clap.specs.declared.builder.value_parser.ValueParser.TheVariants as parser
 use Rattle.clap.specs.declared.error.kind.ErrorKind.{ErrorKind}
 use Rattle.clap.specs.declared.error.kind.ErrorKind.TheVariants.{DisplayHelp, OutOfMemory}
+use Rattle.ch_run.specs.declared.options.Options.{Options}
 use Rattle.ch_work.specs.Plan.{Division, IsWithinLimits}
 use Rattle.chtab.specs.declared.line.Line.{Line}
 use Rattle.chtab.specs.declared.line.LineFault.{LineFault}
 use Rattle.chtab.specs.declared.line.Tool.{Tool}
 use Rattle.chtab.specs.declared.line.Tool.TheVariants.{Dist, Table}
-use Rattle.chtab.specs.declared.options.Options.{Options}
 
 -- the word that names a tool
 abbrev pub name_of : Tool → Text

@@ -1,6 +1,6 @@
 -- How the program ends.
 use Rattle.std.specs.Prelude.{ℕ}
-use Rattle.chtab.specs.Fault.{status_of}
+use Rattle.ch_run.specs.Fault.{status_of}
 use Rattle.chtab.specs.Line.{line_status_of}
 use Rattle.chtab.specs.declared.program.ProgramFault.{ProgramFault}
 use Rattle.chtab.specs.declared.program.ProgramFault.TheVariants.{Line, Run}

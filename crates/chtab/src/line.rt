@@ -7,8 +7,7 @@ ghost use Rattle.chtab.specs.Line.{IsAllowed, IsFaultOf, IsReadFrom, IsToldOf, f
 mod form;
 mod given;
 
-use crate::options::Options;
-use crate::plan::Plan;
+use ch_run::{Options, Plan};
 use clap::error::ErrorKind;
 use form::command;
 use given::line_of;

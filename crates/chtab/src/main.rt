@@ -1,16 +1,15 @@
 //! `chtab`: exact least distances on directed graphs, from files to text.
 #![tactic(auto)]
 
-mod device;
-mod fault;
-pub mod laws;
 mod line;
-mod options;
-mod plan;
 mod program;
-mod run;
-mod text;
 
+pub use ch_run::{
+    DeviceFault, Gate, Input, MemoryInput, MemoryOutput, Open, Options, Output, Plan, ReadAllFault,
+    ReaderInput, RunFault, Which, WriterOutput, laws, read_all, run_dist, run_table, status,
+    write_all,
+};
+pub use line::{Line, LineFault, Tool, line_status, read_words};
 use std::process::ExitCode;
 
 fn main(rt: HostRuntime) -> ExitCode {

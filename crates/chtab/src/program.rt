@@ -4,11 +4,10 @@ ghost use Rattle.std.specs.Prelude.{◌≡◌, ◌≤◌};
 ghost use Rattle.chtab.specs.Line.{IsAllowed};
 ghost use Rattle.chtab.specs.Program.{exit_status_of};
 
-use crate::device::{ReaderInput, WriterOutput, write_all};
-use crate::fault::{RunFault, Which, status};
 use crate::line::{Line, LineFault, Tool, line_status, read_words, refused};
-use crate::plan::Open;
-use crate::run::{run_dist, run_table};
+use ch_run::{
+    Open, ReaderInput, RunFault, Which, WriterOutput, run_dist, run_table, status, write_all,
+};
 use std::alloc::{AllocError, Global};
 use std::io::ErrorKind;
 use std::rt::{Env, Files};

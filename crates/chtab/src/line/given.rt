@@ -7,8 +7,7 @@ ghost use Rattle.ch_work.specs.Plan.{IsWithinLimits};
 ghost use Rattle.chtab.specs.Line.{AreFlagsIn, IsAllowed, IsFlagIn, IsGivenBy, IsPlanIn, file_names, files_in, number_in};
 
 use super::{Line, MOST_HOPS, MOST_PIECE, MOST_WORKERS, Tool};
-use crate::options::Options;
-use crate::plan::Plan;
+use ch_run::{Options, Plan};
 use clap::ArgMatches;
 use std::alloc::{AllocError, Global};
 

@@ -238,3 +238,31 @@ fn a_line_fault_has_its_text_and_status(rt: HostRuntime) -> Result<(), Fail> {
     }
     Ok(())
 }
+
+/// It holds when any one request for memory is refused: the words are then told as refused for want of memory,
+/// and read again they give the line that ample memory gives.
+#[test]
+fn refused_in_turn(rt: HostRuntime) {
+    let words = [
+        "dist",
+        "--routes",
+        "--workers",
+        "64",
+        "--piece",
+        "1",
+        "--hops",
+        "16",
+        "g",
+        "q",
+    ];
+    let line = match read_words(rt.alloc(), words.as_slice()) {
+        Err(LineFault::NoMemory) => read_words(rt.alloc(), words.as_slice()),
+        answer => answer,
+    };
+    let line = line.expect(&rt, "a line");
+    assert_eq!(rt; line.tool, Tool::Dist);
+    assert_eq!(rt; line.files[0].as_str(), "g");
+    assert_eq!(rt; line.files[1].as_str(), "q");
+    assert_eq!(rt; line.options.hops, 16);
+    assert_eq!(rt; line.plan, Plan::new(64, 1, 64));
+}

@@ -5,8 +5,8 @@ use Rattle.ch_query.proofs.meeting.advance.Goals as goal
 pub met-requires-clause-cost : goal.met-requires-clause-cost
 met-requires-clause-cost c = known_arcs _ _ _ _ c.requires.meeting.here (c.requires.meeting.here.search.queued _ _ c.in-Some.ensures.least.has)
 
-pub settle-requires-clause-expanding : goal.settle-requires-clause-expanding
-settle-requires-clause-expanding c = pop_expands _ _ _ _ _ c.requires.meeting.here (least_key _ _ c.in-Some.ensures.least) c.in-Some.ensures.rest
+pub settle-requires : goal.settle-requires
+settle-requires c = record { expanding = pop_expands _ _ _ _ _ c.requires.meeting.here (least_key _ _ c.in-Some.ensures.least) c.in-Some.ensures.rest }
 
 pub returns-clause-meeting : goal.returns-clause-meeting
 returns-clause-meeting c =

@@ -8,7 +8,7 @@ loop-i-init c = none_taken (words c.args.text.now)
 
 pub loop-i-preserved : goal.loop-i-preserved
 loop-i-preserved c =
-    let within : c.loop-i.i < 3 = omega arith in
+    let within : c.loop-i.i < 5 = omega arith in
     take_one (words c.args.text.now) _ _ _ c.loop-i.i _ _ within c.loop-i.invariant c.in_ok-word.ensures.0 c.in_ok-values.ensures
 
 pub returns-in_err-values : goal.returns-in_err-values

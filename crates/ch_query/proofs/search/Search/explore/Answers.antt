@@ -1,5 +1,5 @@
 use Rattle.ch_query.proofs.Popping.{least_key, pop_expands}
 use Rattle.ch_query.proofs.search.Search.explore.Goals as goal
 
-pub expand-requires : goal.expand-requires
-expand-requires c = record { expanding = pop_expands _ _ _ _ _ c.loop-cost.invariant.0 (least_key _ _ c.in-Some.ensures.least) c.in-Some.ensures.rest }
+pub settle-requires : goal.settle-requires
+settle-requires c = record { expanding = pop_expands _ _ _ _ _ c.loop-cost.invariant.0 (least_key _ _ c.in-Some.ensures.least) c.in-Some.ensures.rest }

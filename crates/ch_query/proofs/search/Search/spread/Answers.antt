@@ -2,7 +2,7 @@ use Rattle.std.proofs.Common.{sym, ◌∙◌, subst}
 use Rattle.std.proofs.lemmas.Result.{IfOk-weaker}
 use Rattle.ch_query.specs.Side.{rows_of}
 use Rattle.ch_query.specs.Spread.{IsSpread}
-use Rattle.ch_query.proofs.Spreads.{touched_sorted, spread_of}
+use Rattle.ch_query.proofs.Spreads.{touched_sorted, sorted_underway, underway_room, spread_of}
 use Rattle.ch_query.proofs.search.Search.spread.Goals as goal
 
 pub listed-list-requires : goal.listed-list-requires
@@ -13,15 +13,7 @@ listed-list-requires c =
 pub clean-requires : goal.clean-requires
 clean-requires c =
     let sorted = c.sort_unstable.ensures in
-    let was = c.explore.ensures.underway in
-    record {
-      room = record {
-        queue = was.search.sizes.1 ∙ sym was.search.sizes.0;
-        parents = was.parents.size;
-        touched = touched_sorted _ _ _ was.touched sorted.permutation sorted.sorted sorted.len sorted.capacity;
-        most = was.most;
-      };
-    }
+    record { room = underway_room _ _ (sorted_underway _ _ _ c.explore.ensures.underway sorted.permutation sorted.sorted sorted.len sorted.capacity) }
 
 pub returns-clause-spread : goal.returns-clause-spread
 returns-clause-spread c =

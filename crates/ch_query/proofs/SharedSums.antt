@@ -1,0 +1,104 @@
+-- What the search spaces of two nodes say together: the distance between them.
+use Rattle.std.proofs.Common.{◌≡◌, ℕ, ◌+◌, ◌≤◌, List, Contains, Option, Some, None, sym, ap, subst, arith, inl, inr}
+use Rattle.std.specs.Prelude.{MatchOption}
+use Rattle.ch_graph.specs.declared.cost.Cost.{Cost}
+use Rattle.ch_graph.specs.Cost.{cost_sum}
+use Rattle.ch_graph.specs.Graph.{Network}
+use Rattle.ch_graph.specs.Walk.{IsLeast}
+use Rattle.ch_graph.specs.WalkLaws.{IsWalkCost}
+use Rattle.ch_graph.proofs.WalkCosts.{IsWalkCost-cost_sum, IsLeast-IsAtMost, IsLeast-front, IsLeast-back}
+use Rattle.ch_contract.specs.Hierarchy.{LevelsAndLegs}
+use Rattle.ch_contract.specs.Paths.{NeverMeets}
+use Rattle.ch_contract.specs.KeptLaws.{HasWalks, IsLeastMeeting, MeetingsAreDistances}
+use Rattle.ch_contract.proofs.theory.KeptWalks.{kept_has_walks, meetings_are_distances}
+use Rattle.ch_query.specs.declared.side.Side.TheVariants.{Up, Down}
+use Rattle.ch_query.specs.Distance.{IsKeptForSome, IsDistanceBy, IsLeastWeight}
+use Rattle.ch_query.specs.SearchSpace.{IsPathWeight, IsTight, IsSearchSpace}
+use Rattle.ch_query.specs.SearchSpaceLaws.{IsLeastSharedSum}
+use Rattle.ch_query.proofs.Distances.{weight_is_distance}
+use Rattle.ch_query.proofs.LeastMeeting.{reached_up, reached_down, least_reached}
+
+-- x is the sum of the weights that P and Q say of one node
+abbrev pub IsNodeSum : (ℕ → ℕ → Type 0) → (ℕ → ℕ → Type 0) → ℕ → Type 0
+IsNodeSum P Q x = (v a b : ℕ) × P v a × Q v b × (a + b ≡ x)
+
+-- P says weights of paths up from s and of each tight node its least, and Q says the same of paths down to t
+module _ (H : LevelsAndLegs) (k : IsKeptForSome H) (s t : ℕ) (P Q : ℕ → ℕ → Type 0)
+    (up_sound : (v x : ℕ) → P v x → IsPathWeight H.up s v x) (up_whole : (v : ℕ) (c : Cost) → IsTight H Up s v c → P v c.weight)
+    (down_sound : (v x : ℕ) → Q v x → IsPathWeight H.down t v x) (down_whole : (v : ℕ) (c : Cost) → IsTight H Down t v c → Q v c.weight) where
+  -- the graph for which the hierarchy is kept
+  g : Network
+  g = k.0
+
+  walks : HasWalks g H
+  unfolding g
+  walks = kept_has_walks k.0 H k.1 k.2
+
+  law : MeetingsAreDistances g H
+  unfolding g
+  law = meetings_are_distances k.0 H k.1 k.2
+
+  -- a sum is the weight of a walk
+  sum_walks : (x : ℕ) → IsNodeSum P Q x → (d : Cost) × IsWalkCost g s t d × (d.weight ≡ x)
+  sum_walks x h =
+      let up = up_sound h.0 h.1 h.3 in
+      let down = down_sound h.0 h.2 h.4 in (
+        cost_sum up.0 down.0,
+        IsWalkCost-cost_sum g s h.0 t up.0 down.0 (reached_up g H walks s h.0 up.0 up.1) (reached_down g H walks t h.0 down.0 down.1),
+        (let a = up.2 in let b = down.2 in let e = h.5 in omega arith),
+      )
+
+  -- so no sum is below the least cost
+  pub no_less : (c : Cost) → IsLeastMeeting H s t c → (x : ℕ) → IsNodeSum P Q x → c.weight ≤ x
+  no_less c h x sum =
+      let walk = sum_walks x sum in
+      let least : IsLeast g s t c = (law.least s t c).1 h in
+      let le = IsLeast-IsAtMost g s t c walk.0 least walk.1 in
+      let low = le.0 in
+      let is = walk.2 in
+      omega arith
+
+  -- where there is no meeting there is no sum
+  pub none_without_walk : NeverMeets H s t → (x : ℕ) → IsNodeSum P Q x → ⊥
+  none_without_walk never x sum = let walk = sum_walks x sum in (law.never s t).1 never walk.1.0 walk.1.1
+
+  -- and the least cost is a sum
+  pub attained : (c : Cost) → IsLeastMeeting H s t c → IsNodeSum P Q c.weight
+  attained c h =
+      let m = h.meets.0 in
+      let a = h.meets.1.0 in
+      let b = h.meets.1.1 in
+      let up = h.meets.1.2 in
+      let down = h.meets.1.3 in
+      let whole : IsLeast g s t (cost_sum a b) = subst (IsLeast g s t) (sym h.meets.1.4) ((law.least s t c).1 h) in
+      let rise = reached_up g H walks s m a (least_reached H.up s m a up) in
+      let fall = reached_down g H walks t m b (least_reached H.down t m b down) in (
+        m,
+        a.weight,
+        b.weight,
+        up_whole m a (up, (law.least s m a).0 (IsLeast-front g s m t a b whole rise fall)),
+        down_whole m b (down, (law.least m t b).0 (IsLeast-back g s m t a b whole rise fall)),
+        ap (λ (q : Cost). q.weight) h.meets.1.4,
+      )
+
+  -- so the least sum is the least weight
+  pub least_sum_is_least : (o : Option ℕ) → MatchOption o ((x : ℕ) → IsNodeSum P Q x → ⊥) (λ x. IsNodeSum P Q x × ((y : ℕ) → IsNodeSum P Q y → x ≤ y)) → IsLeastWeight H s t o
+  least_sum_is_least None none = elim (walks.decided s t) [
+    | inl found ↦ absurd (none found.0.weight (attained found.0 ((law.least s t found.0).0 found.1)))
+    | inr away ↦ (law.never s t).0 away
+  ]
+  least_sum_is_least (Some x) least = elim (walks.decided s t) [
+    | inl found ↦
+        let meeting = (law.least s t found.0).0 found.1 in
+        let low = no_less found.0 meeting x least.0 in
+        let high = least.1 found.0.weight (attained found.0 meeting) in
+        (found.0, meeting, omega arith)
+    | inr away ↦ absurd (none_without_walk ((law.never s t).0 away) x least.0)
+  ]
+
+-- two search spaces give the distance
+pub spaces_give_distance : (H : LevelsAndLegs) (s t : ℕ) (ups downs : List (ℕ × ℕ)) (answer : Option ℕ) → IsKeptForSome H → IsSearchSpace H Up s ups →
+    IsSearchSpace H Down t downs → IsLeastSharedSum ups downs answer → IsLeastWeight H s t answer × IsDistanceBy H s t answer
+spaces_give_distance H s t ups downs answer k up down least =
+    let is = least_sum_is_least H k s t (λ v x. Contains ups (v, x)) (λ v x. Contains downs (v, x)) up.sound up.whole down.sound down.whole answer least in
+    (is, weight_is_distance H s t answer is)

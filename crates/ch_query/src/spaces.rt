@@ -1,0 +1,123 @@
+//! Search spaces: searches to their end that stall.
+ghost use Rattle.std.specs.Prelude.{◌≡◌, ℕ, ◌<◌, true, is_some, IfOk, OnOk, AllPairs, Contains};
+ghost use Rattle.ch_graph.specs.Cost.{cost_at};
+ghost use Rattle.ch_contract.specs.Hierarchy.{nodes_of};
+ghost use Rattle.ch_query.specs.Distance.{IsKeptForSome};
+ghost use Rattle.ch_query.specs.Meeting.{IsFresh};
+ghost use Rattle.ch_query.specs.Search.{IsEmpty};
+ghost use Rattle.ch_query.specs.SearchSpace.{IsSearchSpace};
+ghost use Rattle.ch_query.specs.Underway.{AreUnstalled, AreWeights, IsSameSearch, IsUnderway, IsClean};
+
+use crate::scratch::Scratch;
+use crate::search::Search;
+use crate::side::Side;
+use ch_contract::Hierarchy;
+use std::alloc::{AllocError, Global};
+
+impl Search {
+    /// Settles all nodes that can be reached, but what is reached through stalled nodes alone, and gives those
+    /// at which the search did not stall.
+    fn explore_unstalled(
+        &mut self,
+        alloc: Global,
+        hierarchy: &Hierarchy,
+    ) -> Result<Vec<u32>, AllocError>
+        requires underway { IsUnderway hierarchy.now self.old }
+        requires fresh { IsFresh self.old }
+        ensures underway { IsUnderway hierarchy.now self.new }
+        ensures same { IsSameSearch self.old self.new }
+        ensures done { OnOk result (IsEmpty self.new.queue) }
+        ensures unstalled { IfOk result (λ nodes. AreUnstalled hierarchy.now self.new nodes.items) }
+    {
+        let mut nodes = Vec::new(alloc);
+        while let Some((cost, node)) = self.queue.pop() {
+            if self.settle(hierarchy, node, cost) {
+                nodes.push(node)?;
+            }
+        }
+        Ok(nodes)
+    }
+
+    /// The nodes with the weights of what they cost.
+    fn weights(&self, alloc: Global, nodes: &[u32]) -> Result<Vec<(u32, u64)>, AllocError>
+        requires order { AllPairs (λ a b. a < b) nodes.now }
+        requires known { (v : ℕ) → Contains nodes.now v → is_some (cost_at self.now.costs.items v) ≡ true }
+        ensures { IfOk result (λ list. AreWeights self.now.costs.items nodes.now list.items) }
+    {
+        let mut list = Vec::with_capacity(alloc, nodes.len())?;
+        for node in nodes {
+            if let Some(cost) = self.costs[*node as usize] {
+                list.push_reserved((*node, cost.weight));
+            }
+        }
+        Ok(list)
+    }
+
+    /// The search space of the node where the search began.
+    fn space_from(
+        &mut self,
+        alloc: Global,
+        hierarchy: &Hierarchy,
+    ) -> Result<Vec<(u32, u64)>, AllocError>
+        requires kept { IsKeptForSome hierarchy.now }
+        requires underway { IsUnderway hierarchy.now self.old }
+        requires fresh { IsFresh self.old }
+        requires stalls { self.old.stalls ≡ true }
+        ensures space { IfOk result (λ list. IsSearchSpace hierarchy.now self.old.side self.old.source list.items) }
+        ensures underway { IsUnderway hierarchy.now self.new }
+        ensures side { self.new.side ≡ self.old.side }
+    {
+        let mut nodes = self.explore_unstalled(alloc, hierarchy)?;
+        nodes.sort_unstable();
+        self.weights(alloc, &nodes)
+    }
+
+    /// The search space of a node. The search is clean afterwards, also where there is no memory.
+    fn space(
+        &mut self,
+        alloc: Global,
+        hierarchy: &Hierarchy,
+        source: u32,
+    ) -> Result<Vec<(u32, u64)>, AllocError>
+        requires kept { IsKeptForSome hierarchy.now }
+        requires clean { IsClean (nodes_of hierarchy.now) self.old }
+        requires source { source < nodes_of hierarchy.now }
+        ensures space { IfOk result (λ list. IsSearchSpace hierarchy.now self.old.side source list.items) }
+        ensures clean { IsClean (nodes_of hierarchy.now) self.new }
+        ensures side { self.new.side ≡ self.old.side }
+    {
+        self.begin(hierarchy, source, true);
+        let list = self.space_from(alloc, hierarchy);
+        self.clean();
+        list
+    }
+}
+
+/// The nodes that `source` reaches by legs to higher nodes in this direction, with the weights of paths,
+/// ordered by node. The hierarchy is right for some graph, and the scratch is for as many nodes.
+///
+/// It searches as [`distance`](crate::distance) does, but to its end: a reached node to which a higher node
+/// shows a cheaper way is not expanded, and has no entry ("stall on demand", Geisberger, Sanders, Schultes
+/// and Delling 2008). Each node whose least path is a least walk of the graph has an entry, with its weight,
+/// and those are the nodes over which distances lead. A [`spread`](crate::spread) has the least paths to all.
+///
+/// # Errors
+/// `AllocError` where there is no memory for the list; the scratch then serves on.
+pub fn search_space(
+    alloc: Global,
+    hierarchy: &Hierarchy,
+    scratch: &mut Scratch,
+    source: u32,
+    side: Side,
+) -> Result<Vec<(u32, u64)>, AllocError>
+    requires kept { IsKeptForSome hierarchy.now }
+    requires scratch { scratch.old ≡ nodes_of hierarchy.now }
+    requires source { source < nodes_of hierarchy.now }
+    ensures space { IfOk result (λ list. IsSearchSpace hierarchy.now side source list.items) }
+    ensures scratch { scratch.new ≡ scratch.old }
+{
+    match side {
+        Side::Up => scratch.up.space(alloc, hierarchy, source),
+        Side::Down => scratch.down.space(alloc, hierarchy, source),
+    }
+}

@@ -1,0 +1,5 @@
+pub mod Texts
+pub mod Bytes
+pub mod Inputs
+pub mod OneText
+pub mod Tables

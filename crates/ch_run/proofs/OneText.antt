@@ -1,0 +1,134 @@
+-- The definitions name one text.
+use Rattle.std.proofs.Common.{◌≡◌, ℕ, Bool, true, false, List, [], ◌∷◌, Option, Some, None, sym, ap, ap₂, ◌∙◌, refl, subst, arith}
+use Rattle.std.specs.List.{AllZip, zip, flat_map}
+use Rattle.std.specs.Prelude.{not, ◌&&◌}
+use Rattle.std.proofs.lemmas.Option.{none-some, same_Some}
+use Rattle.ch_graph.specs.declared.arc.InArc.{InArc}
+use Rattle.ch_graph.specs.Graph.{Network, IsWithinLimits}
+use Rattle.ch_graph.specs.Walk.{IsAnswer, IsDistance}
+use Rattle.ch_contract.specs.Legs.{IsHopBound}
+use Rattle.ch_contract.specs.Hierarchy.{LevelsAndLegs}
+use Rattle.ch_contract.specs.Kept.{IsKept}
+use Rattle.ch_contract.proofs.theory.BuiltKept.{hierarchies_kept}
+use Rattle.ch_contract.proofs.theory.OneOrder.{one_hierarchy}
+use Rattle.ch_query.specs.declared.answer.Answer.{Answer}
+use Rattle.ch_query.specs.declared.routes.Route.{Route}
+use Rattle.ch_query.specs.Answers.{HasArcs}
+use Rattle.ch_query.proofs.RouteWalks.{route_one}
+use Rattle.ch_run.specs.Text.{AnswersShortly, AnswersWithRoute, HasText, IsText, IsTextBy, answer_text}
+use Rattle.ch_run.specs.TableText.{IsTableRow, IsTableText, row_text}
+use Rattle.ch_run.specs.Device.{HasGiven}
+use Rattle.ch_run.specs.Run.{Reading, ReadsGraph, ReadsNodes, ReadsQueries}
+use Rattle.ch_run.specs.TextLaws.{AnswersHaveOneText, TablesHaveOneText}
+use Rattle.ch_read.specs.Names.{NamesGraph, NamesNodes, NamesQueries}
+use Rattle.ch_read.proofs.OneAnswer.{graph_answer, nodes_answer, queries_answer}
+
+-- what an input that tells its bytes has given are these
+given_bytes : (before after : Option (List ℕ)) (bytes given : List ℕ) → before ≡ Some bytes → HasGiven before after given → given ≡ bytes
+given_bytes None after bytes given told h = absurd (none-some bytes told)
+given_bytes (Some old) after bytes given told h = sym h.0 ∙ same_Some old bytes told
+
+-- lists that answer the same items are equal, where each item has one answer
+pub one_list : {A B : Type 0} (P : A → B → Type 0) → ((x : A) (y z : B) → P x y → P x z → y ≡ z) → (xs : List A) (ys zs : List B) → AllZip P xs ys → AllZip P xs zs → ys ≡ zs
+one_list P one [] [] [] h k = refl
+one_list P one [] [] (z ∷ zs) h k = absurd k
+one_list P one [] (y ∷ ys) zs h k = absurd h
+one_list P one (x ∷ xs) [] zs h k = absurd h
+one_list P one (x ∷ xs) (y ∷ ys) [] h k = absurd k
+one_list P one (x ∷ xs) (y ∷ ys) (z ∷ zs) h k = ap₂ ◌∷◌ (one x y z h.0 k.0) (one_list P one xs ys zs h.1 k.1)
+
+-- a distance is one
+one_distance : (g : Network) (s t x y : ℕ) → IsDistance g s t x → IsDistance g s t y → x ≡ y
+one_distance g s t x y h k =
+    let a = h.least k.walk.0 k.walk.1 in
+    let b = k.least h.walk.0 h.walk.1 in
+    let c = h.walk.2 in
+    let d = k.walk.2 in
+    omega arith
+
+-- what is said of two nodes is one
+pub one_cell : (g : Network) (s t : ℕ) (a b : Option ℕ) → IsAnswer g s t a → IsAnswer g s t b → a ≡ b
+one_cell g s t None None h k = refl
+one_cell g s t None (Some y) h k = absurd (h k.walk.0 k.walk.1)
+one_cell g s t (Some x) None h k = absurd (k h.walk.0 h.walk.1)
+one_cell g s t (Some x) (Some y) h k = ap Some (one_distance g s t x y h k)
+
+-- answers with equal parts are equal
+same_answers : (a b : Answer) → a.from ≡ b.from → a.to ≡ b.to → a.weight ≡ b.weight → a.arcs ≡ b.arcs → a ≡ b
+same_answers a b from to weight arcs = λ i. record { from = from i; to = to i; weight = weight i; arcs = arcs i }
+
+-- a query has one short answer
+one_short : (g : Network) (query : ℕ × ℕ) (a b : Answer) → AnswersShortly g query a → AnswersShortly g query b → a ≡ b
+one_short g query a b h k =
+    same_answers a b (h.0.from ∙ sym k.0.from) (h.0.to ∙ sym k.0.to) (one_cell g query.0 query.1 a.weight b.weight h.0.weight k.0.weight) (h.1 ∙ sym k.1)
+
+-- at one weight the arcs are one
+one_arcs : (g : Network) (H : LevelsAndLegs) → IsKept g H → (s t : ℕ) (w : Option ℕ) (xs ys : Option (List InArc)) → HasArcs H true s t w xs → HasArcs H true s t w ys → xs ≡ ys
+one_arcs g H kept s t None xs ys h k = h ∙ sym k
+one_arcs g H kept s t (Some x) None ys h k = absurd h
+one_arcs g H kept s t (Some x) (Some xs) None h k = absurd k
+one_arcs g H kept s t (Some x) (Some xs) (Some ys) h k =
+    let a : Route = record { weight = x; arcs = xs } in
+    let b : Route = record { weight = x; arcs = ys } in
+    ap (λ (r : Route). Some r.arcs) (route_one H kept.levelled s t a b h k)
+
+-- a query has one answer with a route
+one_routed : (g : Network) (H : LevelsAndLegs) → IsKept g H → (query : ℕ × ℕ) (a b : Answer) → AnswersWithRoute g H query a → AnswersWithRoute g H query b → a ≡ b
+one_routed g H kept query a b h k =
+    let weight = one_cell g query.0 query.1 a.weight b.weight h.answers.weight k.answers.weight in
+    let arcs = one_arcs g H kept query.0 query.1 b.weight a.arcs b.arcs (subst (λ w. HasArcs H true query.0 query.1 w a.arcs) weight h.route) k.route in
+    same_answers a b (h.answers.from ∙ sym k.answers.from) (h.answers.to ∙ sym k.answers.to) weight arcs
+
+-- where each query has one answer there is one text
+one_answers_text : (P : ℕ × ℕ → Answer → Type 0) → ((q : ℕ × ℕ) (a b : Answer) → P q a → P q b → a ≡ b) → (queries : List (ℕ × ℕ)) (text other : List ℕ) → HasText P queries text → HasText P queries other → text ≡ other
+one_answers_text P one queries text other h k = h.2 ∙ ap (flat_map answer_text) (one_list P one queries h.0 k.0 h.1 k.1) ∙ sym k.2
+
+-- the answers have one text
+one_text_by : (routes : Bool) (g : Network) (h : ℕ) → IsWithinLimits g → IsHopBound h → (queries : List (ℕ × ℕ)) (text other : List ℕ) → IsTextBy routes g h queries text → IsTextBy routes g h queries other → text ≡ other
+one_text_by false g h limits hops queries text other t u = one_answers_text (AnswersShortly g) (one_short g) queries text other t u
+one_text_by true g h limits hops queries text other t u =
+    let same = one_hierarchy g h u.0 t.0 u.1 t.1 in
+    let kept = hierarchies_kept g h t.0 limits hops t.1 in
+    one_answers_text (AnswersWithRoute g t.0) (one_routed g t.0 kept) queries text other t.2 (subst (λ (H : LevelsAndLegs). HasText (AnswersWithRoute g H) queries other) same u.2)
+
+-- a graph is named by its bytes
+same_graph : (graph : Reading) (bytes : List ℕ) (g h : Network) → graph.before ≡ Some bytes → ReadsGraph graph g → ReadsGraph graph h → g ≡ h
+same_graph graph bytes g h told a b =
+    (graph_answer bytes).one_value g h (subst (λ xs. NamesGraph xs g) (given_bytes graph.before graph.after bytes a.0 told a.1) a.2) (subst (λ xs. NamesGraph xs h) (given_bytes graph.before graph.after bytes b.0 told b.1) b.2)
+
+-- queries are named by their bytes
+same_queries : (queries : Reading) (bytes : List ℕ) (n : ℕ) (p q : List (ℕ × ℕ)) → queries.before ≡ Some bytes → ReadsQueries queries n p → ReadsQueries queries n q → p ≡ q
+same_queries queries bytes n p q told a b =
+    (queries_answer bytes n).one_value p q (subst (λ xs. NamesQueries xs n p) (given_bytes queries.before queries.after bytes a.0 told a.1) a.2) (subst (λ xs. NamesQueries xs n q) (given_bytes queries.before queries.after bytes b.0 told b.1) b.2)
+
+-- a list of nodes is named by its bytes
+same_nodes : (list : Reading) (bytes : List ℕ) (n : ℕ) (p q : List ℕ) → list.before ≡ Some bytes → ReadsNodes list n p → ReadsNodes list n q → p ≡ q
+same_nodes list bytes n p q told a b =
+    (nodes_answer bytes n).one_value p q (subst (λ xs. NamesNodes xs n p) (given_bytes list.before list.after bytes a.0 told a.1) a.2) (subst (λ xs. NamesNodes xs n q) (given_bytes list.before list.after bytes b.0 told b.1) b.2)
+
+-- a row has one list of cells
+one_row : (g : Network) (targets : List ℕ) (s : ℕ) (xs ys : List (Option ℕ)) → IsTableRow g targets s xs → IsTableRow g targets s ys → xs ≡ ys
+one_row g targets s xs ys h k = one_list (IsAnswer g s) (one_cell g s) targets xs ys h k
+
+-- a table has one text
+one_table_text : (g : Network) (sources targets text other : List ℕ) → IsTableText g sources targets text → IsTableText g sources targets other → text ≡ other
+one_table_text g sources targets text other h k =
+    h.2 ∙ ap (λ rows. flat_map row_text (zip sources rows)) (one_list (IsTableRow g targets) (one_row g targets) sources h.0 k.0 h.1 k.1) ∙ sym k.2
+
+-- inputs that tell their bytes are answered by one text
+pub one_text : AnswersHaveOneText
+one_text options graph queries graph_bytes query_bytes text other hops told_graph told_queries h k =
+    let same : h.0 ≡ k.0 = same_graph graph graph_bytes h.0 k.0 told_graph h.3 k.3 in
+    let pairs : h.1 ≡ k.1 = same_queries queries query_bytes h.0.nodes h.1 k.1 told_queries h.4 (subst (λ (g : Network). ReadsQueries queries g.nodes k.1) (sym same) k.4) in
+    let here : IsText options h.0 h.1 other = subst (λ p. IsText options h.0 p other) (sym pairs) (subst (λ (g : Network). IsText options g k.1 other) (sym same) k.5) in
+    one_text_by (not options.plain && options.routes) h.0 options.hops h.2 hops h.1 text other h.5 here
+
+-- inputs that tell their bytes have one table
+pub one_table : TablesHaveOneText
+one_table graph sources targets graph_bytes source_bytes target_bytes text other told_graph told_sources told_targets h k =
+    let same : h.0 ≡ k.0 = same_graph graph graph_bytes h.0 k.0 told_graph h.3 k.3 in
+    let from : h.1 ≡ k.1 = same_nodes sources source_bytes h.0.nodes h.1 k.1 told_sources h.4 (subst (λ (g : Network). ReadsNodes sources g.nodes k.1) (sym same) k.4) in
+    let to : h.2 ≡ k.2 = same_nodes targets target_bytes h.0.nodes h.2 k.2 told_targets h.5 (subst (λ (g : Network). ReadsNodes targets g.nodes k.2) (sym same) k.5) in
+    let first : IsTableText h.0 k.1 k.2 other = subst (λ (g : Network). IsTableText g k.1 k.2 other) (sym same) k.7 in
+    let second : IsTableText h.0 h.1 k.2 other = subst (λ xs. IsTableText h.0 xs k.2 other) (sym from) first in
+    one_table_text h.0 h.1 h.2 text other h.7 (subst (λ xs. IsTableText h.0 h.1 xs other) (sym to) second)

@@ -1,0 +1,6 @@
+pub mod Device
+pub mod Fault
+pub mod Run
+pub mod TableText
+pub mod TextLaws
+pub mod Text

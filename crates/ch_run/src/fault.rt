@@ -1,0 +1,118 @@
+//! Why a run gave no answer.
+
+ghost use Rattle.std.specs.Prelude.{◌≡◌, Some};
+ghost use Rattle.ch_run.specs.Fault.{input_name, refused_by, status_of};
+
+use ch_read::{ReadError, ReadFault};
+use std::alloc::{AllocError, AllocFailed};
+use std::fmt;
+use thiserror::Error;
+
+/// One of a run's inputs.
+#[derive(Clone, Copy, Debug, PartialEq, Eq)]
+pub enum Which {
+    Graph,
+    Queries,
+    Sources,
+    Targets,
+}
+
+impl Which {
+    /// The fault of a run, where a reader refused what this input gave.
+    pub(crate) fn refusal(self, error: ReadError) -> RunFault
+        ensures { result ≡ refused_by self error }
+    {
+        match error {
+            ReadError::Fault(fault) => match self {
+                Which::Graph => RunFault::Graph(fault),
+                Which::Queries => RunFault::Queries(fault),
+                Which::Sources => RunFault::Sources(fault),
+                Which::Targets => RunFault::Targets(fault),
+            },
+            ReadError::NoMemory => RunFault::Memory,
+        }
+    }
+}
+
+impl fmt::Display for Which {
+    ghost output = { λ which. Some (input_name which) };
+
+    fn fmt<W: fmt::Write>(&self, f: &mut fmt::Formatter<W>) -> fmt::Result {
+        match self {
+            Which::Graph => f.write_str("graph"),
+            Which::Queries => f.write_str("queries"),
+            Which::Sources => f.write_str("sources"),
+            Which::Targets => f.write_str("targets"),
+        }
+    }
+}
+
+/// Why a run gave no answer. Its `Display` is the line that the program writes to standard error.
+///
+/// After all but `Write` nothing was written.
+#[derive(Clone, Copy, Debug, PartialEq, Eq, Error)]
+pub enum RunFault {
+    /// The graph's file has this fault.
+    #[error("chtab: graph {0}")]
+    Graph(ReadFault),
+    /// The queries' file has this fault.
+    #[error("chtab: queries {0}")]
+    Queries(ReadFault),
+    /// The sources' file has this fault.
+    #[error("chtab: sources {0}")]
+    Sources(ReadFault),
+    /// The targets' file has this fault.
+    #[error("chtab: targets {0}")]
+    Targets(ReadFault),
+    /// The sources times the targets are more than 2^22.
+    #[error("chtab: too many cells")]
+    Cells,
+    /// There was no memory.
+    #[error("chtab: out of memory")]
+    Memory,
+    /// This input couldn't be opened or read.
+    #[error("chtab: cannot read {0}")]
+    Device(Which),
+    /// A write failed, or took no byte, after so many bytes had been written and flushed.
+    #[error("chtab: cannot write after {0} bytes")]
+    Write(u64),
+}
+
+impl From<AllocError> for RunFault {
+    ghost use Rattle.ch_run.specs.declared.fault.RunFault.TheVariants.{Memory};
+
+    ghost from_gives = { λ _ fault. fault ≡ Memory };
+
+    fn from(_error: AllocError) -> RunFault {
+        RunFault::Memory
+    }
+}
+
+impl<T: Drop> From<AllocFailed<T>> for RunFault {
+    ghost use Rattle.ch_run.specs.declared.fault.RunFault.TheVariants.{Memory};
+
+    ghost from_gives = { λ _ fault. fault ≡ Memory };
+
+    fn from(_refused: AllocFailed<T>) -> RunFault {
+        RunFault::Memory
+    }
+}
+
+/// The program's exit status for a fault: 1 where a file or the
+/// size of a table was refused, 3 where the system refused
+/// memory, a file or a write.
+pub fn status(fault: &RunFault) -> u8
+    ensures { result ≡ status_of fault.now }
+{
+    match fault {
+        RunFault::Graph(_)
+        | RunFault::Queries(_)
+        | RunFault::Sources(_)
+        | RunFault::Targets(_)
+        | RunFault::Cells => 1,
+        RunFault::Memory | RunFault::Device(_) | RunFault::Write(_) => 3,
+    }
+}
+
+#[cfg(test)]
+mod tests;

@@ -1,0 +1,26 @@
+//! Runs: from the bytes of a graph and of queries, or of lists of nodes, to the text of the answers.
+//!
+//! It stands on ch_graph, ch_read, ch_contract, ch_query, ch_table and ch_work, and knows no command line.
+//! Proved of it: what the output took after [`run_dist`] and [`run_table`] is exactly the text that the
+//! definitions name for the bytes that the inputs had, which is one ([`laws::one_text`]), for every plan and
+//! gate; a run ends in no fault but its own, and touches nothing before all that comes earlier was accepted.
+//! [`Input`] and [`Output`] are devices that count their faults, over memory ([`MemoryInput`],
+//! [`MemoryOutput`]) or over the readers and writers of `std` ([`ReaderInput`], [`WriterOutput`]).
+#![tactic(auto)]
+
+mod device;
+mod fault;
+pub mod laws;
+mod options;
+mod plan;
+mod run;
+mod text;
+
+pub use device::{
+    DeviceFault, Input, MemoryInput, MemoryOutput, Output, ReadAllFault, ReaderInput, WriterOutput,
+    read_all, write_all,
+};
+pub use fault::{RunFault, Which, status};
+pub use options::Options;
+pub use plan::{Gate, Open, Plan};
+pub use run::{run_dist, run_table};

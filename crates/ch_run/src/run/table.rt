@@ -1,0 +1,116 @@
+//! Runs that make tables.
+ghost use Rattle.std.specs.Prelude.{◌≡◌, ◌-◌, ◌^◌, ◌<◌, ◌≤◌, ◌↔◌, ◌⊎◌, length, All, IfOk, IfErr, IsErrAnd};
+ghost use Rattle.ch_read.specs.declared.fault.ReadFault.{ReadFault as FaultAt};
+ghost use Rattle.ch_contract.specs.Legs.{IsHopBound};
+ghost use Rattle.ch_run.specs.TableText.{IsTableText};
+ghost use Rattle.ch_run.specs.Run.{AcceptsGraph, AcceptsLists, AcceptsSources, Delivers, GoesPast, HasCellsRefused, HasSourcesRefused, HasTargetsRefused, HasTooManyCells, IsGraphRefused, IsOfTable, IsTabledBy, IsWrite, reading};
+
+use super::inputs::{graph_from, nodes_from};
+use crate::device::{Input, Output, write_all};
+use crate::fault::{RunFault, Which};
+use crate::options::Options;
+use crate::plan::{Gate, Plan};
+use crate::text::table_text;
+use ch_contract::build;
+use ch_graph::Graph;
+use ch_table::table;
+use std::alloc::{AllocError, Global};
+use std::thread::Threads;
+
+/// The most cells of a table.
+const MOST_CELLS: usize = 1 << 22;
+
+/// Reads a graph, a list of sources and a list of targets, and writes a row for each source with the
+/// distance to each target, in order.
+///
+/// Each input is read to its end and judged before the next is read, and the whole text is made before
+/// the first write. The table is the same for every plan and gate. Of the options only `hops` is used.
+///
+/// # Errors
+/// The first fault of the graph, the sources or the targets, a device that refused a read, `Cells` where
+/// there are more than 2^22 of them, or want of memory: nothing was written then. `Write(count)`, where
+/// the output took `count` bytes of the text and no more.
+pub fn run_table<R: Threads + Sync, I: Input, J: Input, L: Input, O: Output, G: Gate>(
+    rt: &R,
+    alloc: Global,
+    graph: &mut I,
+    sources: &mut J,
+    targets: &mut L,
+    output: &mut O,
+    options: &Options,
+    plan: &Plan,
+    gate: &G,
+) -> Result<(), RunFault>
+    requires graph { I.failed graph.old < 2 ^ 64 - 1 }
+    requires sources { J.failed sources.old < 2 ^ 64 - 1 }
+    requires targets { L.failed targets.old < 2 ^ 64 - 1 }
+    requires failures { O.failed output.old < 2 ^ 64 - 1 }
+    requires zeros { O.idle output.old < 2 ^ 64 - 1 }
+    requires hops { IsHopBound options.now.hops }
+
+    // What is written is the table of what was read: all of it, or its first bytes.
+    ensures written { Delivers result (O.taken output.old) (O.taken output.new)
+        (IsTabledBy (reading I.left graph.old graph.new) (reading J.left sources.old sources.new) (reading L.left targets.old targets.new)) }
+
+    // A run ends in a fault of its own, a file is refused for what it holds, and the lists where they make too many cells.
+    ensures own { IfErr result IsOfTable }
+    ensures graph_refused { (fault : FaultAt) → result ≡ Err (RunFault.Graph fault) →
+        IsGraphRefused (reading I.left graph.old graph.new) fault }
+    ensures sources_refused { (fault : FaultAt) → result ≡ Err (RunFault.Sources fault) →
+        HasSourcesRefused (reading I.left graph.old graph.new) (reading J.left sources.old sources.new) fault }
+    ensures targets_refused { (fault : FaultAt) → result ≡ Err (RunFault.Targets fault) →
+        HasTargetsRefused (reading I.left graph.old graph.new) (reading J.left sources.old sources.new) (reading L.left targets.old targets.new) fault }
+    ensures cells_refused { result ≡ Err RunFault.Cells →
+        HasCellsRefused (reading I.left graph.old graph.new) (reading J.left sources.old sources.new) (reading L.left targets.old targets.new) }
+
+    // A device's fault is told exactly where the device counted one.
+    ensures graph_device { (result ≡ Err (RunFault.Device Which.Graph)) ↔ (I.failed graph.old < I.failed graph.new) }
+    ensures sources_device { (result ≡ Err (RunFault.Device Which.Sources)) ↔ (J.failed sources.old < J.failed sources.new) }
+    ensures targets_device { (result ≡ Err (RunFault.Device Which.Targets)) ↔ (L.failed targets.old < L.failed targets.new) }
+    ensures output_device { IsErrAnd result IsWrite ↔ ((O.failed output.old < O.failed output.new) ⊎ (O.idle output.old < O.idle output.new)) }
+
+    // Nothing is touched before all that comes earlier was accepted.
+    ensures sources_unread { (sources.new ≡ sources.old)
+        ⊎ (GoesPast Which.Graph result × AcceptsGraph (reading I.left graph.old graph.new)) }
+    ensures targets_unread { (targets.new ≡ targets.old)
+        ⊎ (GoesPast Which.Graph result × GoesPast Which.Sources result
+        × AcceptsSources (reading I.left graph.old graph.new) (reading J.left sources.old sources.new)) }
+    ensures unwritten { (output.new ≡ output.old)
+        ⊎ (IfErr result IsWrite
+        × AcceptsLists (reading I.left graph.old graph.new) (reading J.left sources.old sources.new) (reading L.left targets.old targets.new)) }
+{
+    let graph = graph_from(alloc, graph)?;
+    let sources = nodes_from(alloc, sources, &graph, Which::Sources)?;
+    let targets = nodes_from(alloc, targets, &graph, Which::Targets)?;
+    if sources.len() * targets.len() > MOST_CELLS {
+        return Err(RunFault::Cells);
+    }
+    let text = table_of(rt, alloc, &graph, &sources, &targets, options, plan, gate)?;
+    match write_all(output, &text) {
+        Ok(()) => Ok(()),
+        Err(count) => Err(RunFault::Write(count)),
+    }
+}
+
+/// The text of the table of these sources and targets.
+fn table_of<R: Threads + Sync, G: Gate>(
+    rt: &R,
+    alloc: Global,
+    graph: &Graph,
+    sources: &[u32],
+    targets: &[u32],
+    options: &Options,
+    plan: &Plan,
+    gate: &G,
+) -> Result<Vec<u8>, AllocError>
+    requires sources { All (λ node. node < graph.now.nodes) sources.now }
+    requires targets { All (λ node. node < graph.now.nodes) targets.now }
+    requires lists { (length sources.now ≤ 65536) × (length targets.now ≤ 65536) }
+    requires cells { HasTooManyCells sources.now targets.now → ⊥ }
+    requires hops { IsHopBound options.now.hops }
+    ensures { IfOk result (λ text. IsTableText graph.now sources.now targets.now text.items) }
+{
+    let hierarchy = build(rt, alloc, graph, options.hops, plan, gate)?;
+    let cells = table(rt, alloc, &hierarchy, sources, targets, plan, gate)?;
+    table_text(alloc, sources, &cells)
+}

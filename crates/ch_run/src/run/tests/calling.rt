@@ -1,0 +1,73 @@
+//! A caller of the crates, as docs/CALLING.md shows it: from the bytes of a graph file to a distance.
+ghost use Rattle.std.specs.Prelude.{◌≡◌, ◌≤◌, ◌⊎◌, IfOk};
+ghost use Rattle.ch_graph.specs.Graph.{Network};
+ghost use Rattle.ch_graph.specs.Walk.{IsAnswer};
+ghost use Rattle.ch_read.specs.declared.fault.ReadFault.{ReadFault as FaultAt};
+ghost use Rattle.ch_read.specs.declared.form.Form.TheVariants as Form;
+ghost use Rattle.ch_read.specs.Checks.{IsFault};
+ghost use Rattle.ch_read.specs.Names.{NamesGraph};
+
+use ch_contract::build;
+use ch_query::{Scratch, distance};
+use ch_read::{ReadError, ReadFault, read_graph};
+use ch_work::{Open, Plan};
+use std::alloc::Global;
+use std::test::Fail;
+use std::thread::Threads;
+
+/// Why there is no answer.
+#[derive(Clone, Copy, Debug, PartialEq, Eq)]
+enum Refused {
+    /// The file has this fault.
+    File(ReadFault),
+    /// A node is not below the number of nodes.
+    Node,
+    /// There was no memory.
+    Memory,
+}
+
+/// The least weight of a walk between two nodes of the graph that the file names, or `None` where there is no walk. Nodes are
+/// counted from 0.
+///
+/// # Errors
+/// The first fault of the file, a node out of range, or want of memory.
+fn distance_in<R: Threads + Sync>(
+    rt: &R,
+    alloc: Global,
+    file: &[u8],
+    from: u32,
+    to: u32,
+) -> Result<Option<u64>, Refused>
+    ensures answer { IfOk result (λ weight. (g : Network) × NamesGraph file.now g × IsAnswer g from to weight) }
+    ensures file { (fault : FaultAt) → result ≡ Err (Refused.File fault) → IsFault Form.Graph file.now fault.line fault.kind }
+    ensures node { result ≡ Err Refused.Node → (g : Network) × NamesGraph file.now g × ((g.nodes ≤ from) ⊎ (g.nodes ≤ to)) }
+{
+    let graph = match read_graph(alloc, file) {
+        Ok(graph) => graph,
+        Err(ReadError::Fault(fault)) => return Err(Refused::File(fault)),
+        Err(ReadError::NoMemory) => return Err(Refused::Memory),
+    };
+    if from >= graph.nodes() || to >= graph.nodes() {
+        return Err(Refused::Node);
+    }
+    let plan = Plan::new(2, 64, 64);
+    let Ok(hierarchy) = build(rt, alloc, &graph, 5, &plan, &Open) else {
+        return Err(Refused::Memory);
+    };
+    let Ok(mut scratch) = Scratch::new(alloc, graph.nodes()) else {
+        return Err(Refused::Memory);
+    };
+    Ok(distance(&hierarchy, &mut scratch, from, to))
+}
+
+#[test]
+fn a_file_is_asked_for_distances(rt: HostRuntime) -> Result<(), Fail> {
+    let file: &[u8] = b"p sp 3 2\na 1 2 4\na 2 3 5\n";
+    assert_eq!(rt; distance_in(&rt, rt.alloc(), file, 0, 2), Ok(Some(9)));
+    assert_eq!(rt; distance_in(&rt, rt.alloc(), file, 2, 0), Ok(None));
+    assert_eq!(rt;
+        distance_in(&rt, rt.alloc(), file, 0, 3),
+        Err(Refused::Node)
+    );
+    Ok(())
+}

@@ -1,0 +1,55 @@
+//! Worked tables.
+
+use super::{LINE, RING, repeated, run_lists};
+use crate::fault::RunFault;
+use crate::plan::Plan;
+use std::test::Fail;
+
+#[test]
+fn a_table_of_the_most_cells_is_made_and_one_more_source_is_refused(
+    rt: HostRuntime,
+) -> Result<(), Fail> {
+    let list = repeated(rt.alloc(), b"p aux sp ss 2048\n", b"s 1\n", 2048, b"")?;
+    let row = repeated(rt.alloc(), b"t 1", b" 0", 2048, b"\n")?;
+    let plan = Plan::new(1, 64, 64);
+    let (result, output) = run_lists(&rt, rt.alloc(), LINE, &list, &list, &plan)?;
+    assert_eq!(rt; result, Ok(()));
+    let text = repeated(rt.alloc(), b"", &row, 2048, b"")?;
+    assert!(rt; output.bytes() == text.as_slice());
+
+    let longer = repeated(rt.alloc(), b"p aux sp ss 2049\n", b"s 1\n", 2049, b"")?;
+    let (result, output) = run_lists(&rt, rt.alloc(), LINE, &longer, &list, &plan)?;
+    assert_eq!(rt; result, Err(RunFault::Cells));
+    assert_eq!(rt; output.bytes(), b"".as_slice());
+    Ok(())
+}
+
+#[test]
+fn a_row_stands_for_each_source(rt: HostRuntime) -> Result<(), Fail> {
+    let cases: [(&[u8], &[u8], &[u8], &[u8]); 5] = [
+        // A source that repeats, a node to itself, and no walk.
+        (
+            LINE,
+            b"p aux sp ss 3\ns 1\ns 1\ns 3\n",
+            b"p aux sp ss 2\ns 3\ns 2\n",
+            b"t 1 9 4\nt 1 9 4\nt 3 0 -\n",
+        ),
+        // A target that repeats.
+        (
+            RING,
+            b"p aux sp ss 2\ns 5\ns 1\n",
+            b"p aux sp ss 3\ns 4\ns 4\ns 5\n",
+            b"t 5 4 4 0\nt 1 3 3 4\n",
+        ),
+        (LINE, b"p aux sp ss 1\ns 2\n", b"p aux sp ss 0\n", b"t 2\n"),
+        (RING, b"p aux sp ss 0\n", b"p aux sp ss 1\ns 1\n", b""),
+        (b"p sp 0 0\n", b"p aux sp ss 0\n", b"p aux sp ss 0\n", b""),
+    ];
+    let plan = Plan::new(1, 64, 64);
+    for (graph, sources, targets, text) in cases {
+        let (result, output) = run_lists(&rt, rt.alloc(), graph, sources, targets, &plan)?;
+        assert_eq!(rt; result, Ok(()));
+        assert_eq!(rt; output.bytes(), text);
+    }
+    Ok(())
+}

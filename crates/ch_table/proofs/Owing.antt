@@ -1,0 +1,70 @@
+-- What the nodes owe, entry by entry and node by node.
+use Rattle.std.proofs.Common.{◌≡◌, ◌⊎◌, ℕ, ◌+◌, ◌*◌, ◌<◌, ◌≤◌, ◌^◌, List, [], ◌∷◌, ◌++◌, Contains, take, get_or, refl, sym, ap, subst, arith, inl, inr}
+use Rattle.std.specs.Prelude.{All, slice_index_or}
+use Rattle.std.proofs.lemmas.List.Elements.{Contains-append_left, Contains-push, Contains-push_cases}
+use Rattle.std.proofs.lemmas.Nat.{mul-add-lt}
+use Rattle.ch_graph.proofs.Lists.{contains_none}
+use Rattle.std.proofs.lemmas.Bool.{cases_lt}
+use Rattle.ch_table.specs.Sums.{BothSides, IsEntryAmong, IsOwedInRow, IsOwedBy, IsOwedAt, IsOwedAmong}
+use Rattle.ch_work.specs.declared.board.known.Known.{Known}
+use Rattle.ch_work.specs.Owed.{HasPaid}
+use Rattle.ch_work.proofs.Payments.{One, paid_none, paid_then}
+
+-- without entries of targets nothing is owed
+pub row_none : (first weight : ℕ) (v : Known) → HasPaid (IsOwedInRow first weight []) v v
+row_none first weight v = paid_none (IsOwedInRow first weight []) v (λ cell x o. contains_none (o.0, o.1) o.2)
+
+-- one entry more
+pub row_more : (first weight i : ℕ) (targets : List (ℕ × ℕ)) (entry : ℕ × ℕ) → take (i + 1) targets ≡ take i targets ++ entry ∷ [] → (u v w : Known) →
+    HasPaid (IsOwedInRow first weight (take i targets)) u v → HasPaid (One (first + entry.0) (weight + entry.1)) v w → HasPaid (IsOwedInRow first weight (take (i + 1) targets)) u w
+row_more first weight i targets entry is u v w =
+    paid_then (IsOwedInRow first weight (take i targets)) (One (first + entry.0) (weight + entry.1)) (IsOwedInRow first weight (take (i + 1) targets)) u v w
+    (λ cell x o. elim (Contains-push_cases (take i targets) entry (o.0, o.1) (subst (λ l. Contains l (o.0, o.1)) is o.2)) [
+      | inl before ↦ inl (o.0, o.1, before, o.3, o.4)
+      | inr here ↦
+          let place : entry.0 ≡ o.0 = ap (λ (e : ℕ × ℕ). e.0) here in
+          let rest : entry.1 ≡ o.1 = ap (λ (e : ℕ × ℕ). e.1) here in
+          let at = o.3 in
+          let sum = o.4 in
+          inr (omega arith, omega arith)
+    ])
+    (λ cell x o. (o.0, o.1, subst (λ l. Contains l (o.0, o.1)) (sym is) (Contains-append_left (take i targets) (entry ∷ []) (o.0, o.1) o.2), o.3, o.4))
+    (λ cell x o. (entry.0, entry.1, subst (λ l. Contains l entry) (sym is) (Contains-push (take i targets) entry), o.0, o.1))
+
+-- without entries of sources nothing is owed
+pub node_none : (columns : ℕ) (targets : List (ℕ × ℕ)) (v : Known) → HasPaid (IsOwedBy columns [] targets) v v
+node_none columns targets v = paid_none (IsOwedBy columns [] targets) v (λ cell x o. contains_none (o.0, o.1) o.2)
+
+-- one entry more, and its row
+pub node_more : (columns i : ℕ) (sources targets : List (ℕ × ℕ)) (entry : ℕ × ℕ) → take (i + 1) sources ≡ take i sources ++ entry ∷ [] → (u v w : Known) →
+    HasPaid (IsOwedBy columns (take i sources) targets) u v → HasPaid (IsOwedInRow (entry.0 * columns) entry.1 targets) v w → HasPaid (IsOwedBy columns (take (i + 1) sources) targets) u w
+node_more columns i sources targets entry is u v w =
+    paid_then (IsOwedBy columns (take i sources) targets) (IsOwedInRow (entry.0 * columns) entry.1 targets) (IsOwedBy columns (take (i + 1) sources) targets) u v w
+    (λ cell x o. elim (Contains-push_cases (take i sources) entry (o.0, o.1) (subst (λ l. Contains l (o.0, o.1)) is o.2)) [
+      | inl before ↦ inl (o.0, o.1, before, o.3)
+      | inr here ↦ inr (subst (λ (e : ℕ × ℕ). IsOwedInRow (e.0 * columns) e.1 targets cell x) (sym here) o.3)
+    ])
+    (λ cell x o. (o.0, o.1, subst (λ l. Contains l (o.0, o.1)) (sym is) (Contains-append_left (take i sources) (entry ∷ []) (o.0, o.1) o.2), o.3))
+    (λ cell x o. (entry.0, entry.1, subst (λ l. Contains l entry) (sym is) (Contains-push (take i sources) entry), o))
+
+-- no nodes owe nothing
+pub nodes_none : (S : BothSides) (from : ℕ) (v : Known) → HasPaid (IsOwedAmong S from from) v v
+nodes_none S from v = paid_none (IsOwedAmong S from from) v (λ cell x o. let a = o.1 in let b = o.2 in omega arith)
+
+-- one node more
+pub nodes_more : (S : BothSides) (from node : ℕ) → from ≤ node → (u v w : Known) → HasPaid (IsOwedAmong S from node) u v → HasPaid (IsOwedAt S node) v w → HasPaid (IsOwedAmong S from (node + 1)) u w
+nodes_more S from node low u v w =
+    paid_then (IsOwedAmong S from node) (IsOwedAt S node) (IsOwedAmong S from (node + 1)) u v w
+    (λ cell x o. elim (cases_lt o.0 node) [
+      | inl before ↦ inl (o.0, o.1, before, o.3)
+      | inr past ↦ let e : o.0 ≡ node = (let b = o.2 in omega arith) in inr (subst (λ q. IsOwedAt S q cell x) e o.3)
+    ])
+    (λ cell x o. (o.0, o.1, (let b = o.2 in omega arith), o.3))
+    (λ cell x o. (node, low, omega arith, o))
+
+-- the cells of a source's row are those of the board, and the weights those of paths
+pub row_cells : (S : BothSides) (cells i : ℕ) (targets : List (ℕ × ℕ)) → i < S.rows → cells ≡ S.rows * S.columns → All (IsEntryAmong S.columns) targets → All (λ entry. (i * S.columns + entry.0 < cells) × (entry.1 ≤ 2 ^ 60)) targets
+row_cells S cells i targets lt size all k d within =
+    let e = all k d within in
+    let fits = mul-add-lt i S.columns (get_or targets k d).0 S.rows lt e.0 in
+    (omega (arith, size, fits), e.1)

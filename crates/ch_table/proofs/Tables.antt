@@ -1,0 +1,170 @@
+-- The cells of a table: the least sums that the nodes owe, and what they mean.
+use Rattle.std.proofs.Common.{◌≡◌, ℕ, zero, suc, ◌+◌, ◌-◌, ◌*◌, ◌<◌, ◌≤◌, ◌^◌, min, List, [], ◌∷◌, length, Contains, Option, Some, None, get_or, refl, sym, ◌∙◌, ap, subst, arith, map}
+use Rattle.std.specs.Prelude.{All, slice_index, slice_index_or, slice_range, Vec}
+use Rattle.std.specs.declared.alloc.Global.{Global}
+use Rattle.std.specs.List.{AllZip}
+use Rattle.std.proofs.lemmas.List.Edits.{length-between, get_or-between}
+use Rattle.std.proofs.lemmas.List.Elements.{All-get_or, Contains-get_or}
+use Rattle.std.proofs.lemmas.List.FromFn.{length-map-range_with_len, get_or-map-range_with_len}
+use Rattle.std.proofs.lemmas.Nat.{same_from_place, mul-add-lt, mul-le}
+use Rattle.ch_graph.proofs.Lists.{zipped_length}
+use Rattle.ch_contract.specs.Hierarchy.{LevelsAndLegs, nodes_of, IsLevelled}
+use Rattle.ch_query.specs.declared.side.Side.{Side}
+use Rattle.ch_query.specs.declared.side.Side.TheVariants.{Up, Down}
+use Rattle.ch_query.specs.Distance.{IsKeptForSome}
+use Rattle.ch_query.specs.SearchSpace.{IsSearchSpace}
+use Rattle.ch_query.specs.Side.{rows_of}
+use Rattle.ch_query.specs.SearchSpaceLaws.{IsSharedSum, IsLeastSharedSum}
+use Rattle.ch_query.proofs.SharedSums.{spaces_give_distance}
+use Rattle.ch_work.specs.Owed.{owed_by, IsLeastOwed}
+use Rattle.ch_work.specs.Pieces.{pieces_of}
+use Rattle.ch_work.proofs.PieceLists.{piece_of}
+use Rattle.ch_table.specs.Buckets.{HoldSearchSpaces}
+use Rattle.ch_table.specs.Sums.{BothSides, AreWithin, IsEntryAmong, IsOwedAmong}
+use Rattle.ch_table.specs.Table.{IsCellBy, IsRowBy, rows_of_cells}
+use Rattle.ch_table.proofs.Entries.{path_within, rows_up}
+use Rattle.ch_table.proofs.Held.{held_within}
+
+-- two lists of one length that are related at each place
+all_zip_at : {X Y : Type 0} (R : X → Y → Type 0) (d : X) (e : Y) (xs : List X) (ys : List Y) → length ys ≡ length xs →
+    ((j : ℕ) → j < length xs → R (get_or xs j d) (get_or ys j e)) → AllZip R xs ys
+all_zip_at R d e [] [] size h = tt
+all_zip_at R d e [] (y ∷ ys) size h = absurd (omega arith)
+all_zip_at R d e (x ∷ xs) [] size h = absurd (omega arith)
+all_zip_at R d e (x ∷ xs) (y ∷ ys) size h = (h zero (omega arith), all_zip_at R d e xs ys (omega arith) (λ j lt. h (suc j) (omega arith)))
+
+-- what is related place by place is so at each place
+zip_at : {X Y : Type 0} (R : X → Y → Type 0) (d : X) (e : Y) (xs : List X) (ys : List Y) → AllZip R xs ys → (j : ℕ) → j < length xs → R (get_or xs j d) (get_or ys j e)
+zip_at R d e [] [] h j lt = absurd (omega arith)
+zip_at R d e [] (y ∷ ys) h j lt = absurd h
+zip_at R d e (x ∷ xs) [] h j lt = absurd h
+zip_at R d e (x ∷ xs) (y ∷ ys) h zero lt = h.0
+zip_at R d e (x ∷ xs) (y ∷ ys) h (suc j) lt = zip_at R d e xs ys h.1 j (omega arith)
+
+-- there are as many rows
+pub length_rows : (rows columns : ℕ) (cells : List (Option ℕ)) → length (rows_of_cells rows columns cells) ≡ rows
+length_rows rows columns cells = length-map-range_with_len (λ i. slice_range cells (i * columns) (i * columns + columns)) 0 rows
+
+-- and each is its part of the cells
+pub row_at : (rows columns : ℕ) (cells : List (Option ℕ)) (i : ℕ) → i < rows → slice_index_or (rows_of_cells rows columns cells) i [] ≡ slice_range cells (i * columns) (i * columns + columns)
+row_at rows columns cells i lt = get_or-map-range_with_len (λ j. slice_range cells (j * columns) (j * columns + columns)) 0 rows i i [] lt (omega arith)
+
+-- a row lies within the cells
+pub row_fits : (rows columns i : ℕ) → i < rows → i * columns + columns ≤ rows * columns
+row_fits rows columns i lt =
+    let next : (i + 1) * columns ≡ i * columns + columns = omega arith in
+    let most = mul-le (i + 1) columns rows columns (omega arith) (omega arith) in omega arith
+
+-- the entries of a search space are those of paths
+module _ (H : LevelsAndLegs) (side : Side) (nodes : List ℕ) (buckets : List (List (ℕ × ℕ))) (hold : HoldSearchSpaces H side nodes buckets) where
+  pub spaces_count : length hold.spaces ≡ length nodes
+  spaces_count = zipped_length (IsSearchSpace H side) nodes hold.spaces hold.each
+
+  space_at : (j : ℕ) → j < length nodes → IsSearchSpace H side (slice_index nodes j) (slice_index_or hold.spaces j [])
+  space_at j lt = zip_at (IsSearchSpace H side) 0 [] nodes hold.spaces hold.each j lt
+
+  pub entries_among : (v : ℕ) → All (IsEntryAmong (length nodes)) (slice_index_or buckets v [])
+  entries_among v k d lt =
+      let bucket = slice_index_or buckets v [] in
+      let e = get_or bucket k d in
+      let r = hold.held.sound v e.0 e.1 (Contains-get_or bucket k d lt) in
+      let size = spaces_count in
+      let place : e.0 < length nodes = (let within = r.0 in omega arith) in
+      let path = (space_at e.0 place).sound v e.1 r.1 in
+      (place, let w = path.1.weight in let same = path.2 in omega arith)
+
+module _ (H : LevelsAndLegs) (sources targets : List ℕ) (ups downs : List (List (ℕ × ℕ))) (rise : HoldSearchSpaces H Up sources ups) (fall : HoldSearchSpaces H Down targets downs) where
+  -- the buckets of both sides
+  abbrev sides : BothSides
+  sides = record { ups = ups; downs = downs; rows = length sources; columns = length targets }
+
+  -- they fit the cells
+  pub within : length sources * length targets ≤ 2 ^ 22 → AreWithin sides
+  within few = record {
+    nodes = fall.held.count ∙ sym rise.held.count;
+    ups = entries_among H Up sources ups rise;
+    downs = entries_among H Down targets downs fall;
+    cells = few;
+  }
+
+  module _ (i j : ℕ) (row : i < length sources) (column : j < length targets) where
+    abbrev up : List (ℕ × ℕ)
+    up = slice_index_or rise.spaces i []
+
+    abbrev down : List (ℕ × ℕ)
+    down = slice_index_or fall.spaces j []
+
+    abbrev cell : ℕ
+    cell = i * length targets + j
+
+    -- what nodes owe to the cell is shared by the two search spaces
+    owed_shared : (from to x : ℕ) → IsOwedAmong sides from to cell x → IsSharedSum up down x
+    owed_shared from to x o =
+        let v = o.0 in
+        let source = rise.held.sound v o.3.0 o.3.1 o.3.2 in
+        let there = o.3.3 in
+        let target = fall.held.sound v there.0 there.1 there.2 in
+        let size = spaces_count H Down targets downs fall in
+        let inside : there.0 < length targets = (let lt = target.0 in omega arith) in
+        let same = same_from_place o.3.0 there.0 i j (length targets) inside column (sym there.3) in (
+          v,
+          o.3.1,
+          there.1,
+          subst (λ q. Contains (slice_index_or rise.spaces q []) (v, o.3.1)) same.0 source.1,
+          subst (λ q. Contains (slice_index_or fall.spaces q []) (v, there.1)) same.1 target.1,
+          sym there.4,
+        )
+
+    -- and what they share is owed by the piece of its node
+    shared_owed : (p x : ℕ) → 0 < p → IsSharedSum up down x → (k : ℕ) × (k < pieces_of (length ups) p) × owed_by (IsOwedAmong sides) (length ups) p k cell x
+    shared_owed p x positive h =
+        let v = h.0 in
+        let size = spaces_count H Up sources ups rise in
+        let size' = spaces_count H Down targets downs fall in
+        let source = rise.held.whole v i h.1 (omega arith) h.3 in
+        let target = fall.held.whole v j h.2 (omega arith) h.4 in
+        let piece = piece_of (length ups) p v positive (held_within ups v (i, h.1) source) in
+        (piece.0, piece.1, (v, piece.2, piece.3, (i, h.1, source, (j, h.2, target, refl, sym h.5))))
+
+    -- so the least that is owed is the distance
+    cell_is : (p : ℕ) (o : Option ℕ) → 0 < p → IsKeptForSome H → IsLeastOwed (IsOwedAmong sides) (length ups) p cell o → IsCellBy H (slice_index sources i) (slice_index targets j) o
+    cell_is p o positive kept h =
+        let s = slice_index sources i in
+        let t = slice_index targets j in
+        let is = spaces_give_distance H s t up down o kept (space_at H Up sources ups rise i row) (space_at H Down targets downs fall j column) (shared o h) in
+        record { least = is.0; distance = is.1 }
+      where
+        shared : (q : Option ℕ) → IsLeastOwed (IsOwedAmong sides) (length ups) p cell q → IsLeastSharedSum up down q
+        shared None least = λ x sum. let r = shared_owed p x positive sum in least r.0 x r.1 r.2
+        shared (Some x) least = (
+          owed_shared (least.0.0 * p) (min (least.0.0 * p + p) (length ups)) x least.0.2,
+          λ y sum. let r = shared_owed p y positive sum in least.1 r.0 y r.1 r.2,
+        )
+
+  -- and the cells are the table
+  pub table_is : (p : ℕ) (cells : List (Option ℕ)) → 0 < p → IsKeptForSome H → length cells ≡ length sources * length targets →
+      ((cell : ℕ) (d : Option ℕ) → cell < length sources * length targets → IsLeastOwed (IsOwedAmong sides) (length ups) p cell (slice_index_or cells cell d)) →
+      AllZip (IsRowBy H targets) sources (rows_of_cells (length sources) (length targets) cells)
+  table_is p cells positive kept size least =
+      let n = length sources in
+      let m = length targets in
+      all_zip_at (IsRowBy H targets) 0 [] sources (rows_of_cells n m cells) (length_rows n m cells) (λ i row.
+      let fits = row_fits n m i row in
+      let part = slice_range cells (i * m) (i * m + m) in
+      let count : length part ≡ m = (let l = length-between cells (i * m) (i * m + m) (omega arith) in omega arith) in
+      subst (IsRowBy H targets (slice_index sources i)) (sym (row_at n m cells i row))
+      (all_zip_at (IsCellBy H (slice_index sources i)) 0 None targets part count (λ j column.
+      subst (IsCellBy H (slice_index sources i) (slice_index targets j)) (sym (get_or-between cells (i * m) (i * m + m) j None (omega arith)))
+      (cell_is i j row column p (slice_index_or cells (i * m + j) None) positive kept (least (i * m + j) None (omega arith))))))
+
+-- search spaces lie within the nodes
+pub spaces_within : (H : LevelsAndLegs) (side : Side) (levelled : IsLevelled H) (nodes : List ℕ) → All (λ x. x < nodes_of H) nodes → (spaces : List (Vec (ℕ × ℕ) Global)) →
+    AllZip (λ node (space : Vec (ℕ × ℕ) Global). IsSearchSpace H side node space.items) nodes spaces → All (λ (space : Vec (ℕ × ℕ) Global). All (λ pair. pair.0 < nodes_of H) space.items) spaces
+spaces_within H side levelled nodes below spaces each k d lt k' d' lt' =
+    let size = zipped_length (λ node (space : Vec (ℕ × ℕ) Global). IsSearchSpace H side node space.items) nodes spaces each in
+    let low : k < length nodes = omega arith in
+    let space = zip_at (λ node (list : Vec (ℕ × ℕ) Global). IsSearchSpace H side node list.items) 0 d nodes spaces each k low in
+    let list = (get_or spaces k d).items in
+    let pair = get_or list k' d' in
+    let path = space.sound pair.0 pair.1 (Contains-get_or list k' d' lt') in
+    path_within H (rows_of H side) (rows_up H side levelled) (get_or nodes k 0) pair.0 path.1.path.0 (All-get_or (λ x. x < nodes_of H) nodes k 0 low below) path.1.path.1

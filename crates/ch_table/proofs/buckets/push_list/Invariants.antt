@@ -1,0 +1,9 @@
+use Rattle.std.proofs.Common.{◌≡◌, ◌+◌, ◌-◌, ◌≤◌, ◌++◌, length, map, take, vec_len}
+use Rattle.std.specs.Prelude.{vec_capacity}
+use Rattle.ch_table.specs.Entries.{entry_of}
+use Rattle.ch_table.proofs.buckets.push_list.Given as goal
+
+abbrev pub invariant-loop-node : goal.invariant-loop-node
+invariant-loop-node l =
+    (l.entries.items ≡ l.fn.entries.items ++ map (entry_of l.place) (take l.node-index l.list))
+    × (vec_len l.entries + (length l.list - l.node-index) ≤ vec_capacity l.entries)

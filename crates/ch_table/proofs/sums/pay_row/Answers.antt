@@ -1,0 +1,17 @@
+use Rattle.std.proofs.Common.{rules, get_or}
+use Rattle.std.proofs.lemmas.List.{take_more}
+use Rattle.ch_work.specs.Passes.{view_of}
+use Rattle.ch_table.proofs.Owing.{row_none, row_more}
+use Rattle.ch_table.proofs.sums.pay_row.Goals as goal
+
+pub loop-target-init : goal.loop-target-init
+loop-target-init c = (search rules, row_none c.args.first c.args.weight (view_of c.args.pass.now))
+
+pub loop-target-preserved : goal.loop-target-preserved
+loop-target-preserved c =
+    let a = c.args in
+    let i = c.loop-target.target-index in
+    let step = take_more a.targets.now i (0, 0) c.loop-target-test.true in (
+      c.pay.ensures.board,
+      row_more a.first a.weight i a.targets.now (get_or a.targets.now i (0, 0)) step (view_of a.pass.now) (view_of c.loop-target.pass) (view_of c.pay.new.pass) c.loop-target.invariant.1 c.pay.ensures.paid,
+    )

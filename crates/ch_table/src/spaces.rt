@@ -1,0 +1,83 @@
+//! The searches of a table, and the buckets that hold what they found.
+ghost use Rattle.std.specs.Prelude.{◌^◌, ◌<◌, ◌≤◌, length, All, IfOk};
+ghost use Rattle.ch_contract.specs.Hierarchy.{nodes_of};
+ghost use Rattle.ch_query.specs.Distance.{IsKeptForSome};
+ghost use Rattle.ch_table.specs.Buckets.{HoldSearchSpaces};
+
+use crate::buckets::Buckets;
+use ch_contract::Hierarchy;
+use ch_query::{Scratch, Side, search_space};
+use ch_work::{Gate, ListJob, Plan, run_list};
+use std::alloc::{AllocError, Global};
+use std::marker::Model;
+use std::thread::Threads;
+
+/// The buckets that hold the search spaces of these nodes in this direction. The workers share the nodes.
+pub(crate) fn search_spaces<R: Threads + Sync, G: Gate>(
+    rt: &R,
+    alloc: Global,
+    hierarchy: &Hierarchy,
+    nodes: &[u32],
+    side: Side,
+    plan: &Plan,
+    gate: &G,
+) -> Result<Buckets, AllocError>
+    requires kept { IsKeptForSome hierarchy.now }
+    requires nodes { All (λ x. x < nodes_of hierarchy.now) nodes.now }
+    requires count { length nodes.now ≤ 65536 }
+    ensures { IfOk result (HoldSearchSpaces hierarchy.now side nodes.now) }
+{
+    let searches = Searches { hierarchy, side };
+    let spaces = run_list(rt, alloc, nodes, plan, gate, &searches)?;
+    Buckets::of_lists(alloc, hierarchy.nodes(), &spaces)
+}
+
+/// Searches from nodes, in one direction.
+#[derive(Drop)]
+struct Searches<'a> {
+    hierarchy: &'a Hierarchy,
+    side: Side,
+}
+
+impl<'a> Model for Searches<'a> {
+    ghost use Rattle.ch_contract.specs.Hierarchy.{LevelsAndLegs};
+    ghost use Rattle.ch_query.specs.declared.side.Side.{Side};
+    ghost use Rattle.ch_query.specs.Distance.{IsKeptForSome};
+
+    ghost Value = { LevelsAndLegs × Side };
+
+    ghost view = { λ job. (job.hierarchy.now, job.side) };
+
+    ghost invariant = { λ job. IsKeptForSome job.hierarchy.now };
+}
+
+impl<'a> ListJob for Searches<'a> {
+    ghost use Rattle.std.specs.Prelude.{◌≡◌, ◌<◌};
+    ghost use Rattle.ch_contract.specs.Hierarchy.{nodes_of};
+    ghost use Rattle.ch_query.specs.SearchSpace.{IsSearchSpace};
+
+    type Item = u32;
+
+    type Room = Scratch;
+
+    type Out = Vec<(u32, u64)>;
+
+    ghost takes = { λ job node. node < nodes_of job.0 };
+
+    ghost meaning = { λ job node space. IsSearchSpace job.0 job.1 node space.items };
+
+    ghost clean = { λ job scratch. scratch ≡ nodes_of job.0 };
+
+    fn room(&self, alloc: Global) -> Result<Scratch, AllocError> {
+        Scratch::new(alloc, self.hierarchy.nodes())
+    }
+
+    fn value(
+        &self,
+        alloc: Global,
+        room: &mut Scratch,
+        item: &u32,
+    ) -> Result<Vec<(u32, u64)>, AllocError> {
+        search_space(alloc, self.hierarchy, room, *item, self.side)
+    }
+}

@@ -1,0 +1,85 @@
+//! What the nodes owe to the cells of a table.
+ghost use Rattle.std.specs.Prelude.{◌≡◌, ◌+◌, ◌*◌, ◌^◌, ◌<◌, ◌≤◌, length, All};
+ghost use Rattle.ch_table.specs.Sums.{IsOwedInRow, IsOwedAt};
+ghost use Rattle.ch_work.specs.Owed.{HasPaid};
+ghost use Rattle.ch_work.specs.Passes.{view_of, size_of, IsPassOf};
+
+use crate::buckets::Buckets;
+use ch_work::{Board, CellJob, Pass, pay};
+use std::alloc::{AllocError, Global};
+use std::marker::Model;
+
+/// The sums of what the nodes' buckets hold, for each source and target that meet at a node. Cell
+/// `i * columns + j` is that of source i and target j.
+#[derive(Drop)]
+pub(crate) struct Sums<'a> {
+    pub(crate) sources: &'a Buckets,
+    pub(crate) targets: &'a Buckets,
+    pub(crate) rows: u32,
+    pub(crate) columns: u32,
+}
+
+impl<'a> Model for Sums<'a> {
+    ghost use Rattle.ch_table.specs.Sums.{BothSides, AreWithin};
+
+    ghost Value = { BothSides };
+
+    ghost view = { λ s. record { ups = s.sources.now; downs = s.targets.now; rows = s.rows; columns = s.columns } };
+
+    ghost invariant = { λ s. AreWithin (record { ups = s.sources.now; downs = s.targets.now; rows = s.rows; columns = s.columns }) };
+}
+
+impl<'a> CellJob for Sums<'a> {
+    ghost use Rattle.ch_table.specs.Sums.{IsOwedAmong};
+
+    ghost size = { λ sums. length sums.ups };
+
+    ghost cells = { λ sums. sums.rows * sums.columns };
+
+    ghost owes = { λ sums from to cell x. IsOwedAmong sums from to cell x };
+
+    fn piece(
+        &self,
+        _alloc: Global,
+        board: &Board,
+        pass: &mut Pass,
+        from: u32,
+        to: u32,
+    ) -> Result<(), AllocError> {
+        for node in from..to {
+            self.pay_node(board, pass, node);
+        }
+        Ok(())
+    }
+}
+
+impl<'a> Sums<'a> {
+    /// Pays what a node owes, row after row.
+    fn pay_node(&self, board: &Board, pass: &mut Pass, node: u32)
+        requires node { node < length self.now.ups }
+        requires board { IsPassOf board.now pass.old }
+        requires cells { (size_of board.now).cells ≡ self.now.rows * self.now.columns }
+        ensures board { IsPassOf board.now pass.new }
+        ensures paid { HasPaid (IsOwedAt self.now node) (view_of pass.old) (view_of pass.new) }
+    {
+        let targets = self.targets.at(node);
+        for (source, weight) in self.sources.at(node) {
+            pay_row(board, pass, *source * self.columns, *weight, targets);
+        }
+    }
+}
+
+/// Pays what a source owes at a node to the cells of its row, of which the first is given: its weight there
+/// and that of each target.
+fn pay_row(board: &Board, pass: &mut Pass, first: u32, weight: u64, targets: &[(u32, u64)])
+    requires board { IsPassOf board.now pass.old }
+    requires weight { weight ≤ 2 ^ 60 }
+    requires targets { All (λ entry. (first + entry.0 < (size_of board.now).cells) × (entry.1 ≤ 2 ^ 60)) targets.now }
+    requires cells { (size_of board.now).cells ≤ 2 ^ 22 }
+    ensures board { IsPassOf board.now pass.new }
+    ensures paid { HasPaid (IsOwedInRow first weight targets.now) (view_of pass.old) (view_of pass.new) }
+{
+    for (target, rest) in targets {
+        pay(board, pass, first + *target, weight + *rest);
+    }
+}

@@ -1,0 +1,73 @@
+//! What each node owes to the cells of a worked table.
+ghost use Rattle.std.specs.Prelude.{◌<◌, ◌≤◌, length, All};
+ghost use Rattle.ch_contract.specs.Hierarchy.{nodes_of};
+ghost use Rattle.ch_query.specs.Distance.{IsKeptForSome};
+
+use super::{LINE, from_zero, hierarchy};
+use crate::spaces::search_spaces;
+use crate::sums::Sums;
+use ch_contract::Hierarchy;
+use ch_query::Side;
+use ch_work::{Board, CellJob, Open, Plan};
+use std::alloc::{AllocError, Global};
+use std::test::Fail;
+use std::thread::Threads;
+
+/// The cells of a board to which only this node pays.
+fn owed_at<R: Threads + Sync>(
+    rt: &R,
+    alloc: Global,
+    hierarchy: &Hierarchy,
+    sources: &[u32],
+    targets: &[u32],
+    node: u32,
+) -> Result<Vec<Option<u64>>, AllocError>
+    requires kept { IsKeptForSome hierarchy.now }
+    requires sources { All (λ s. s < nodes_of hierarchy.now) sources.now }
+    requires targets { All (λ t. t < nodes_of hierarchy.now) targets.now }
+    requires lists { (length sources.now ≤ 64) × (length targets.now ≤ 64) }
+    requires node { node < nodes_of hierarchy.now }
+{
+    let plan = Plan::new(1, 1, 64);
+    let downs = search_spaces(rt, alloc, hierarchy, targets, Side::Down, &plan, &Open)?;
+    let ups = search_spaces(rt, alloc, hierarchy, sources, Side::Up, &plan, &Open)?;
+    let rows = sources.len() as u32;
+    let columns = targets.len() as u32;
+    let sums = Sums {
+        sources: &ups,
+        targets: &downs,
+        rows,
+        columns,
+    };
+    let (board, mut passes) = Board::new(alloc, 0, rows * columns, 1)?;
+    let Some(mut pass) = passes.pop() else {
+        return Err(AllocError);
+    };
+    sums.piece(alloc, &board, &mut pass, node, node + 1)?;
+    passes.push(pass)?;
+    board.close(passes)
+}
+
+#[test]
+fn a_node_owes_the_sums_of_its_buckets(rt: HostRuntime) -> Result<(), Fail> {
+    let alloc = rt.alloc();
+    let hierarchy = hierarchy(&rt, alloc, 3, LINE)?;
+    let sources = from_zero(&rt, alloc, &hierarchy, &[1, 1, 3])?;
+    let targets = from_zero(&rt, alloc, &hierarchy, &[3, 2])?;
+    let owed = [
+        [None, None, None, None, None, None],
+        [None, Some(4), None, Some(4), None, None],
+        [Some(9), None, Some(9), None, Some(0), None],
+    ];
+    let nodes = hierarchy.nodes();
+    assert!(rt; nodes == 3);
+    for node in 0..nodes {
+        let cells = owed_at(&rt, alloc, &hierarchy, &sources, &targets, node)?;
+        assert_eq!(rt;
+            cells.as_slice(),
+            owed[node as usize].as_slice(),
+            "node {node}"
+        );
+    }
+    Ok(())
+}

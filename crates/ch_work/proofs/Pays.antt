@@ -1,0 +1,104 @@
+-- Workers that pay what their pieces owe, and the cells that they leave.
+use Rattle.std.proofs.Common.{◌≡◌, ◌⊎◌, ℕ, zero, suc, ◌+◌, ◌-◌, ◌*◌, ◌<◌, ◌≤◌, ◌==◌, min, List, [], ◌∷◌, ◌++◌, length, refl, sym, ap, ◌∙◌, subst, arith, ⊎_elim, All, map, slice_index_or, Option, Some, None}
+use Rattle.std.proofs.lemmas.Bool.Decides.{nat_tests}
+use mathlib.Core.Logic.{dite}
+use native.Mathlib.Decide.{dec_lt}
+use Rattle.ch_work.specs.declared.board.known.Known.{Known}
+use Rattle.ch_work.specs.declared.board.known.Size.{Size}
+use Rattle.ch_work.specs.declared.board.Board.{Board}
+use Rattle.ch_work.specs.declared.board.Pass.{Pass}
+use Rattle.ch_work.specs.Counts.{bit, total, times, times_at}
+use Rattle.ch_work.specs.Owed.{HasOffered, OffersOwed, Covers, owed_by, Pays, Paying, IsLeastOwed, HasPaidOff}
+use Rattle.ch_work.specs.Passes.{view_of, IsPassOf, HasEnded}
+use Rattle.ch_work.specs.Pieces.{pieces_of}
+use Rattle.ch_work.specs.Rule.{Settled, IsLeast}
+use Rattle.ch_work.specs.Steps.{fresh, claimed, Knows}
+use Rattle.ch_work.proofs.Claims.{some_ended}
+use Rattle.ch_work.proofs.Totals.{total_push, one_same}
+
+-- a number that counts as another is it
+same_of_bit : (a b : ℕ) → 0 < bit (a == b) → a ≡ b
+same_of_bit a b h = grind (arith, nat_tests)
+
+module _ (owes : ℕ → ℕ → ℕ → ℕ → Type 0) (n p : ℕ) where
+  -- before its first claim a worker owes nothing
+  pub begins : (v : Known) → v ≡ fresh (pieces_of n p) 1 → Paying owes n p v 0
+  begins v e = subst (λ (u : Known). Paying owes n p u 0) (sym e) record {
+    pieces = refl;
+    next_in = omega arith;
+    last = λ q. absurd (omega arith);
+    pays = record { owed = λ i x q. absurd (omega arith); covers = λ k q. absurd (omega arith) };
+  }
+
+  -- a claim more, and what its piece owes paid
+  pub pays_on : (v u w : Known) (next k : ℕ) → Paying owes n p v next → k < pieces_of n p → u ≡ claimed v k → OffersOwed (owed_by owes n p k) u w → Covers (owed_by owes n p k) w → Paying owes n p w (k + 1)
+  pays_on v u w next k h lt e offers covers =
+      let o : OffersOwed (owed_by owes n p k) (claimed v k) w = subst (λ (z : Known). OffersOwed (owed_by owes n p k) z w) e offers in
+      let t : (j : ℕ) → times j w.claims ≡ times j v.claims + bit (k == j) = λ j. ap (λ (l : List ℕ). times j l) o.claims ∙ total_push (λ (y : ℕ). bit (y == j)) v.claims k in record {
+        pieces = o.pieces ∙ h.pieces;
+        next_in = omega arith;
+        last = λ q. let s : k + 1 - 1 ≡ k = omega arith in let a = t k in let b = one_same k in rw s (omega arith);
+        pays = record {
+          owed = λ i x q. ⊎_elim
+              (λ (was : HasOffered v i x). let a = h.pays.owed i x was in (a.0, (let b = t a.0 in let d = a.1 in omega arith), a.2))
+              (λ (now : owed_by owes n p k i x). (k, (let a = t k in let b = one_same k in omega arith), now))
+              (o.offers i x q);
+          covers = λ j q. dite (dec_lt 0 (times j v.claims))
+              (λ was i x m. let a = h.pays.covers j was i x m in (a.0, o.knows i a.0 a.1, a.2))
+              (λ no. let a = t j in let s = same_of_bit k j (omega arith) in subst (λ (z : ℕ). Covers (owed_by owes n p z) w) s covers);
+        };
+      }
+
+  -- a claim that finds nothing leaves all paid
+  pub pays_still : (v w : Known) → w.claims ≡ v.claims → w.offers ≡ v.offers → w.shown ≡ v.shown → Pays owes n p v → Pays owes n p w
+  pays_still v w claims offers shown h = record {
+    owed = λ i x q.
+        let o : times_at i x w.offers ≡ times_at i x v.offers = ap (λ (l : List (ℕ × ℕ)). times_at i x l) offers in
+        let a = h.owed i x (omega arith) in
+        let c : times a.0 w.claims ≡ times a.0 v.claims = ap (λ (l : List ℕ). times a.0 l) claims in
+        (a.0, (let d = a.1 in omega arith), a.2);
+    covers = λ k q i x owed.
+        let c : times k w.claims ≡ times k v.claims = ap (λ (l : List ℕ). times k l) claims in
+        let a = h.covers k (omega arith) i x owed in
+        let o : times_at i a.0 w.offers ≡ times_at i a.0 v.offers = ap (λ (l : List (ℕ × ℕ)). times_at i a.0 l) offers in
+        let s : times_at i a.0 w.shown ≡ times_at i a.0 v.shown = ap (λ (l : List (ℕ × ℕ)). times_at i a.0 l) shown in
+        (a.0, (let d = a.1 in omega arith), a.2);
+  }
+
+-- a pass that f counts in
+some_pass : (P : Pass → Type 0) (f : Known → ℕ) (passes : List Pass) → All P passes → 0 < total f (map view_of passes) →
+    (pass : Pass) × P pass × (0 < f (view_of pass)) × ((g : Known → ℕ) → g (view_of pass) ≤ total g (map view_of passes))
+some_pass P f [] all some_one = absurd (omega arith)
+some_pass P f (q ∷ qs) all some_one = dite (dec_lt 0 (f (view_of q)))
+    (λ here. (q, all 0 q (omega arith), here, λ g. omega arith))
+    (λ no. let r = some_pass P f qs (λ k d lt. all (suc k) d (omega arith)) (omega arith) in (r.0, r.1, r.2, λ g. let l = r.3 g in omega arith))
+
+module _ (owes : ℕ → ℕ → ℕ → ℕ → Type 0) (n p : ℕ) (board : Board) (k : Size) (passes : List Pass) (cells : List (Option ℕ)) (s : Settled k (map view_of passes) cells) (count : k.pieces ≡ pieces_of n p)
+    (all : All (HasPaidOff owes n p board) passes) (some_one : 0 < length passes) where
+  -- all that a piece owes was offered, or less was
+  covered : (j i x : ℕ) → j < pieces_of n p → owed_by owes n p j i x → (y : ℕ) × (0 < total (λ (v : Known). times_at i y v.offers) (map view_of passes)) × (y ≤ x)
+  covered j i x lt owed =
+      let ended = some_ended passes (λ m d within. (all m d within).1) some_one in
+      let one = s.every ended j (omega arith) in
+      let r = some_pass (HasPaidOff owes n p board) (λ (v : Known). times j v.claims) passes all (omega arith) in
+      let c = r.1.2.covers j r.2 i x owed in
+      let o = r.3 (λ (v : Known). times_at i c.0 v.offers) in
+      let w = r.3 (λ (v : Known). times_at i c.0 v.shown) in
+      let knows = c.1 in
+      (c.0, dite (dec_lt 0 (times_at i c.0 (view_of r.0).offers)) (λ a. omega arith) (λ a. s.shown i c.0 (omega arith)), c.2)
+
+  -- the least offer is the least that is owed
+  least_owed : (i : ℕ) (o : Option ℕ) → IsLeast (map view_of passes) i o → IsLeastOwed owes n p i o
+  least_owed i None h = λ j x lt owed. let c = covered j i x lt owed in let z = h c.0 in let a = c.1 in omega arith
+  least_owed i (Some x) h = (
+    (let r = some_pass (HasPaidOff owes n p board) (λ (v : Known). times_at i x v.offers) passes all h.0 in
+        let w = r.1.2.owed i x r.2 in
+        let l = r.3 (λ (v : Known). times w.0 v.claims) in
+        let b = s.below w.0 (let a = w.1 in omega arith) in
+        (w.0, omega arith, w.2)),
+    (λ j y lt owed. let c = covered j i y lt owed in let m = h.1 c.0 c.1 in let a = c.2 in omega arith),
+  )
+
+  -- so the closed cells have the least weights that are owed
+  pub paid : (i : ℕ) (d : Option ℕ) → i < k.cells → IsLeastOwed owes n p i (slice_index_or cells i d)
+  paid i d lt = least_owed i (slice_index_or cells i d) (s.least i d lt)

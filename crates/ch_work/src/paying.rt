@@ -1,0 +1,83 @@
+//! How what is owed to the cells of a board is paid.
+ghost use Rattle.std.specs.Prelude.{◌≡◌, ◌*◌, ◌<◌, ◌≤◌, ◌^◌, OnOk};
+ghost use Rattle.ch_work.specs.Owed.{OffersOwed, Covers, HasPaid, owed_by, HasPaidOff, HandsBack};
+ghost use Rattle.ch_work.specs.Passes.{view_of, size_of, IsPassOf};
+ghost use Rattle.ch_work.specs.Pieces.{pieces_of};
+ghost use Rattle.ch_work.specs.Steps.{fresh};
+
+use crate::board::{Board, Pass};
+use crate::cells::CellJob;
+use crate::gate::Gate;
+use std::alloc::{AllocError, Global};
+
+/// Pays one weight of at most 2^61 that is owed to a cell: it is offered, unless a weight that is no greater
+/// stands there.
+pub fn pay(board: &Board, pass: &mut Pass, cell: u32, weight: u64)
+    requires board { IsPassOf board.now pass.old }
+    requires cell { cell < (size_of board.now).cells }
+    requires weight { weight ≤ 2 ^ 61 }
+    ensures board { IsPassOf board.now pass.new }
+    ensures paid { HasPaid (λ at x. (at ≡ cell) × (x ≡ weight)) (view_of pass.old) (view_of pass.new) }
+{
+    if let Some(seen) = board.look(pass, cell) {
+        if seen <= weight {
+            return;
+        }
+    }
+    board.offer(pass, cell, weight);
+}
+
+/// A job cut into pieces of `piece` items, the gate that its workers pass, and the board whose cells they lower.
+#[derive(Drop)]
+pub(crate) struct Payments<'a, G, J: CellJob> {
+    pub(crate) gate: &'a G,
+    pub(crate) job: &'a J,
+    pub(crate) board: &'a Board,
+    pub(crate) items: u32,
+    pub(crate) piece: u32,
+    ghost size: { items ≡ J.size job.now },
+    ghost cells: { (size_of board.now).cells ≡ J.cells job.now },
+    ghost some_item: { 0 < piece },
+}
+
+impl<'a, G: Gate, J: CellJob> Payments<'a, G, J> {
+    /// What a worker does with its pass, and the pass.
+    pub(crate) fn paid_off(&self, alloc: Global, pass: Pass) -> (Pass, Result<(), AllocError>)
+        requires board { IsPassOf self.now.board.now pass }
+        requires fresh { view_of pass ≡ fresh (pieces_of self.now.items self.now.piece) 1 }
+        ensures { HandsBack (J.owes self.now.job.now) self.now.items self.now.piece self.now.board.now result.0 result.1 }
+    {
+        let mut pass = pass;
+        let outcome = self.pay_off(alloc, &mut pass);
+        (pass, outcome)
+    }
+
+    /// Pays what the pieces owe that a pass claims, until none is left.
+    fn pay_off(&self, alloc: Global, pass: &mut Pass) -> Result<(), AllocError>
+        requires board { IsPassOf self.now.board.now pass.old }
+        requires fresh { view_of pass.old ≡ fresh (pieces_of self.now.items self.now.piece) 1 }
+        ensures { HandsBack (J.owes self.now.job.now) self.now.items self.now.piece self.now.board.now pass.new result }
+    {
+        // The number after the last claim: it rises, so that the claims end.
+        let mut next = 0;
+        while let Some(number) = self.board.claim(pass) {
+            self.pay_piece(alloc, pass, number)?;
+            next = number + 1;
+        }
+        Ok(())
+    }
+
+    /// Pays what the piece of this number owes, once it has passed the gate.
+    fn pay_piece(&self, alloc: Global, pass: &mut Pass, number: u32) -> Result<(), AllocError>
+        requires inside { number * self.now.piece < self.now.items }
+        requires board { IsPassOf self.now.board.now pass.old }
+        ensures board { IsPassOf self.now.board.now pass.new }
+        ensures offers { OffersOwed (owed_by (J.owes self.now.job.now) self.now.items self.now.piece number) (view_of pass.old) (view_of pass.new) }
+        ensures covers { OnOk result (Covers (owed_by (J.owes self.now.job.now) self.now.items self.now.piece number) (view_of pass.new)) }
+    {
+        self.gate.pass(number);
+        let from = number * self.piece;
+        let to = from + self.piece.min(self.items - from);
+        self.job.piece(alloc, self.board, pass, from, to)
+    }
+}

@@ -1,7 +1,0 @@
-use Rattle.std.proofs.Common.{take}
-use Rattle.std.specs.List.{AllZip}
-use Rattle.chtab.specs.Text.{AnswersShortly}
-use Rattle.chtab.proofs.run.dist.plain_answers.Given as goal
-
-abbrev pub invariant-loop-from : goal.invariant-loop-from
-invariant-loop-from l = AllZip (AnswersShortly l.graph) (take l.from-index l.queries) l.answers.items
