@@ -256,7 +256,13 @@ fn a_ring_whose_shortcuts_are_heavy(rt: HostRuntime) -> Result<(), Fail> {
     const ARC: u64 = 1 << 29;
     let example = Example {
         nodes: 5,
-        arcs: &[(1, 2, ARC), (2, 3, ARC), (3, 4, ARC), (4, 5, ARC), (5, 1, ARC)],
+        arcs: &[
+            (1, 2, ARC),
+            (2, 3, ARC),
+            (3, 4, ARC),
+            (4, 5, ARC),
+            (5, 1, ARC),
+        ],
         order: &[1, 2, 3, 4, 5],
         legs: &[
             (1, 2, ARC, 1, 0),

@@ -4,7 +4,9 @@ ghost use Rattle.ch_contract.specs.Hierarchy.{nodes_of};
 ghost use Rattle.ch_contract.specs.Legs.{IsHopBound};
 ghost use Rattle.ch_query.specs.Distance.{IsKeptForSome};
 
-use super::{ANSWERS, BY_HIERARCHY, LINE, PLAIN, STAR, THERE_AND_BACK, WITH_ROUTES, run, run_lists};
+use super::{
+    ANSWERS, BY_HIERARCHY, LINE, PLAIN, STAR, THERE_AND_BACK, WITH_ROUTES, run, run_lists,
+};
 use crate::device::{MemoryInput, MemoryOutput};
 use crate::fault::RunFault;
 use crate::options::Options;
