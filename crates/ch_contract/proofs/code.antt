@@ -17,3 +17,8 @@ pub mod ShortcutLemmas
 pub mod Neighbours
 pub mod KeptPriorities
 pub mod ConstructionCalls
+pub mod StableRows
+pub mod Doubled
+pub mod OrderLevels
+pub mod PairFaults
+pub mod PlacedRows

@@ -25,3 +25,6 @@ pub mod OrderSteps
 pub mod PrioritySteps
 pub mod RowSteps
 pub mod Underway
+pub mod SavedLevels
+pub mod OneSaved
+pub mod SavedFaults

@@ -19,13 +19,21 @@ abbrev pub IsFounded : Network → LevelsAndLegs → ℕ → ℕ → Cost → Op
 IsFounded g H u w c None = (c.arcs ≡ 1) × Contains g.arcs (record { from = u; to = w; weight = c.weight })
 IsFounded g H u w c (Some v) = (a b : Leg) × Contains (row H.down v) a × (a.node ≡ u) × Contains (row H.up v) b × (b.node ≡ w) × (c ≡ cost_sum a.cost b.cost)
 
+-- some leg leads where the arc leads and costs no more
+abbrev pub HasLegWithin : LevelsAndLegs → InArc → Type 0
+HasLegWithin H a = (c : Cost) × (m : Option ℕ) × IsLeg H a.from a.to c m × IsAtMost c (arc_label a.weight).cost
+
+-- going up from s to some node and down from there to t costs at most this
+abbrev pub MeetsWithin : LevelsAndLegs → ℕ → ℕ → Cost → Type 0
+MeetsWithin H s t most = (m : ℕ) × (c : Cost) × IsMeeting H s t m c × IsAtMost c most
+
+-- where two legs lead through v between nodes that differ, going up and down costs no more
+abbrev pub IsCovered : LevelsAndLegs → ℕ → Type 0
+IsCovered H v = (a b : Leg) → Contains (row H.down v) a → Contains (row H.up v) b → a.node ≢ b.node → MeetsWithin H a.node b.node (cost_sum a.cost b.cost)
+
 pub record IsKept (g : Network) (H : LevelsAndLegs) : Type 0 where
   pub nodes : nodes_of H ≡ g.nodes
   pub levelled : IsLevelled H
   pub founded : (u w : ℕ) (c : Cost) (m : Option ℕ) → IsLeg H u w c m → IsFounded g H u w c m
-  -- each arc has a leg that costs no more
-  pub arcs : (a : InArc) → Contains g.arcs a → a.from ≢ a.to →
-      (c : Cost) × (m : Option ℕ) × IsLeg H a.from a.to c m × IsAtMost c (arc_label a.weight).cost
-  -- where two legs lead through a lower node, going up and down costs no more
-  pub covered : (v : ℕ) (a b : Leg) → Contains (row H.down v) a → Contains (row H.up v) b → a.node ≢ b.node →
-      (m : ℕ) × (c : Cost) × IsMeeting H a.node b.node m c × IsAtMost c (cost_sum a.cost b.cost)
+  pub arcs : (a : InArc) → Contains g.arcs a → a.from ≢ a.to → HasLegWithin H a
+  pub covered : (v : ℕ) → IsCovered H v

@@ -5,6 +5,13 @@ pub mod Rows
 pub mod Hierarchy
 pub mod Paths
 pub mod Kept
+pub mod Saved
+pub mod FaultText
+pub mod Placing
+pub mod Sorting
+pub mod Doubles
+pub mod Assembling
+pub mod SavedLaws
 pub mod Remaining
 pub mod ShortcutLists
 pub mod Lines

@@ -4,4 +4,5 @@ pub mod keeping;
 pub mod kept;
 pub mod one_order;
 pub mod reference;
+pub mod saved;
 pub mod worked;
