@@ -103,6 +103,5 @@ fn first_not_joining(n: u32, legs: &[SavedLeg]) -> Option<usize>
 fn first_past_bounds(n: u32, legs: &[SavedLeg]) -> Option<usize>
     ensures { MatchOption result ((l : LegOfFile) → Contains legs.now l → IsWithinBounds n l) (IsFirstFailing (IsWithinBounds n) legs.now) }
 {
-    legs.iter()
-        .position(|leg| leg.cost.weight > MOST_WEIGHT || leg.cost.arcs >= u64::from(n))
+    legs.iter().position(|leg| leg.cost.weight > MOST_WEIGHT || leg.cost.arcs >= u64::from(n))
 }

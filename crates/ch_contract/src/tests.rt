@@ -2,5 +2,6 @@
 
 mod calls;
 mod hierarchies;
+mod saved;
 mod searches;
 mod workers;

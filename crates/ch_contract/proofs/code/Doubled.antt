@@ -74,9 +74,14 @@ entry_double row i before a b c e lt was same x y = lessened_twice (IsDoubleBelo
     new : (q : ℕ) → q ≡ (get_or row i e).place → IsBefore row i before → IsDoubleBelow row (i + 1) q
     new q is (inl first) = absurd (none-some _ (sym first.1 ∙ same))
     new q is (inr prior) =
-        let at : prior.0 + 1 ≡ i = sym prior.1 in
-        (prior.0, e, omega arith, subst (λ k. k < length row) (sym at) lt,
-        same_Some _ _ (sym (prior.2 e) ∙ same) ∙ ap (λ k. (get_or row k e).higher) (sym at), ap (λ k. (get_or row k e).place) at ∙ sym is)
+        let at : prior.0 + 1 ≡ i = sym prior.1 in (
+          prior.0,
+          e,
+          omega arith,
+          subst (λ k. k < length row) (sym at) lt,
+          same_Some _ _ (sym (prior.2 e) ∙ same) ∙ ap (λ k. (get_or row k e).higher) (sym at),
+          ap (λ k. (get_or row k e).place) at ∙ sym is,
+        )
 
 -- one entry more, which is none
 pub entry_single : (row : List Placed) (i : ℕ) (before : Option ℕ) (a b : Option ℕ) (e : Placed) → i < length row → IsBefore row i before → (before ≡ Some (get_or row i e).higher → ⊥) →
@@ -150,16 +155,20 @@ module _ (row : List Placed) (sorted : AreInOrder row) where
             let low = no_fall h.0 prior a (omega arith) (omega arith) in
             let high = no_fall prior j a (omega arith) lt in
             let first = ap (λ (q : Placed). q.higher) h.2 in
-            let last = ap (λ (q : Placed). q.higher) is in
-            (prior, a, omega arith, subst (λ q. (get_or row prior a).higher ≡ (get_or row q a).higher) (sym next) (omega arith),
-            ap (λ q. (get_or row q a).place) next ∙ ap (λ (q : Placed). q.place) is)
+            let last = ap (λ (q : Placed). q.higher) is in (
+              prior,
+              a,
+              omega arith,
+              subst (λ q. (get_or row prior a).higher ≡ (get_or row q a).higher) (sym next) (omega arith),
+              ap (λ q. (get_or row q a).place) next ∙ ap (λ (q : Placed). q.place) is,
+            )
         | inr after ↦ absurd (elim (cases_lt j h.0) [
-            | inl less' ↦ elim (sorted j h.0 a less' h.1) [
-                | inl rise ↦ (let x = ap (λ (q : Placed). q.higher) is in let y = ap (λ (q : Placed). q.higher) h.2 in omega arith)
-                | inr later ↦ (let x = ap (λ (q : Placed). q.place) is in let y = ap (λ (q : Placed). q.place) h.2 in let z = later.1 in omega arith)
-              ]
-            | inr ge ↦ (let one : j ≡ h.0 = omega arith in let x = ap (λ (q : Placed). q.place) (sym is ∙ ap (λ q. get_or row q a) one ∙ h.2) in omega arith)
-          ])
+          | inl less' ↦ elim (sorted j h.0 a less' h.1) [
+            | inl rise ↦ (let x = ap (λ (q : Placed). q.higher) is in let y = ap (λ (q : Placed). q.higher) h.2 in omega arith)
+            | inr later ↦ (let x = ap (λ (q : Placed). q.place) is in let y = ap (λ (q : Placed). q.place) h.2 in let z = later.1 in omega arith)
+          ]
+          | inr ge ↦ (let one : j ≡ h.0 = omega arith in let x = ap (λ (q : Placed). q.place) (sym is ∙ ap (λ q. get_or row q a) one ∙ h.2) in omega arith)
+        ])
       ]
 
 -- the rows by lower node of entries in order

@@ -47,9 +47,9 @@ module _ (low high : SavedLeg → ℕ) (levels : List ℕ) (legs : List SavedLeg
         sound = λ e h. elim (Contains-append_cases old (x ∷ []) e (subst (λ q. Contains q e) up.1 h)) [
           | inl here ↦ (let s = p.sound e here in let less = s.1 in (s.0, omega arith))
           | inr there ↦ elim (contains_cons x e [] there) [
-              | inl is ↦ subst (λ (q : Placed). IsPlacedBy low high levels legs q × (q.place < i + 1)) is ((lt, refl, refl, up.0), omega arith)
-              | inr none ↦ absurd (contains_none e none)
-            ]
+            | inl is ↦ subst (λ (q : Placed). IsPlacedBy low high levels legs q × (q.place < i + 1)) is ((lt, refl, refl, up.0), omega arith)
+            | inr none ↦ absurd (contains_none e none)
+          ]
         ];
         whole = λ e is less. subst (λ q. Contains q e) (sym up.1) (elim (cases_eq e.place i) [
           | inl same ↦ Contains-append_right old (x ∷ []) e (subst (Contains (x ∷ [])) (same_entry e i is same) (contains_head x []))
@@ -91,10 +91,13 @@ module _ (low high : SavedLeg → ℕ) (levels : List ℕ) (legs : List SavedLeg
       let a = (placed t.0).0 t.2 in
       let b = (placed t.1).0 t.3 in
       let lower = sym a.1 ∙ t.4 ∙ b.1 in
-      let higher = sym a.2 ∙ t.5 ∙ b.2 in
-      (t.0.place, (let lt = t.6 in let is = t.7 in omega arith), (let lt = b.0 in let is = t.7 in omega arith),
-      subst (λ q. low (get_or legs t.0.place no_saved_leg) ≡ low (get_or legs q no_saved_leg)) t.7 lower,
-      subst (λ q. high (get_or legs t.0.place no_saved_leg) ≡ high (get_or legs q no_saved_leg)) t.7 higher)
+      let higher = sym a.2 ∙ t.5 ∙ b.2 in (
+        t.0.place,
+        (let lt = t.6 in let is = t.7 in omega arith),
+        (let lt = b.0 in let is = t.7 in omega arith),
+        subst (λ q. low (get_or legs t.0.place no_saved_leg) ≡ low (get_or legs q no_saved_leg)) t.7 lower,
+        subst (λ q. high (get_or legs t.0.place no_saved_leg) ≡ high (get_or legs q no_saved_leg)) t.7 higher,
+      )
 
   -- two legs with the same two nodes that go up are a twin
   pub legs_twin : (entries : List Placed) → ArePlaced low high levels legs entries → (i j : ℕ) → i < j → j < length legs →
@@ -207,11 +210,11 @@ module _ (n : ℕ) (order levels : List ℕ) (is : IsOrderOf n order) (are : Are
   is_fault : (p : ℕ) → least ≡ Some p → HasPairFault n legs p
   is_fault p e = elim (b.is p e) [
     | inl before ↦ elim (a.is p before) [
-        | inl bad ↦ end_fault n legs p (subst (λ q. EndsAt n legs q) bad ends)
-        | inr twin ↦
-            let t = twin_legs from_of to_of levels (take (unwrap_or faulty (length legs)) legs) ups up_there p twin in
-            twin_fault legs (unwrap_or faulty (length legs)) within n p (t.0, t.1, t.2, (t.3, t.4))
-      ]
+      | inl bad ↦ end_fault n legs p (subst (λ q. EndsAt n legs q) bad ends)
+      | inr twin ↦
+          let t = twin_legs from_of to_of levels (take (unwrap_or faulty (length legs)) legs) ups up_there p twin in
+          twin_fault legs (unwrap_or faulty (length legs)) within n p (t.0, t.1, t.2, (t.3, t.4))
+    ]
     | inr twin ↦
         let t = twin_legs to_of from_of levels (take (unwrap_or faulty (length legs)) legs) downs down_there p twin in
         twin_fault legs (unwrap_or faulty (length legs)) within n p (t.0, t.1, t.2, (t.4, t.3))
@@ -249,7 +252,7 @@ module _ (n : ℕ) (order levels : List ℕ) (is : IsOrderOf n order) (are : Are
         let high = at_fair legs (unwrap_or faulty (length legs)) within j l lt at in
         let size = fair_length legs (unwrap_or faulty (length legs)) within in
         covers_twin j (stood_twin n order levels is are (take (unwrap_or faulty (length legs)) legs) ups downs (fair_join n legs faulty ends) up_there down_there stood.0 j fore (omega arith)
-            (subst (λ (q : SavedLeg). IsSamePair q (get_or (take (unwrap_or faulty (length legs)) legs) j no_saved_leg)) (sym low) (subst (IsSamePair stood.1) (sym high) stood.4)))
+        (subst (λ (q : SavedLeg). IsSamePair q (get_or (take (unwrap_or faulty (length legs)) legs) j no_saved_leg)) (sym low) (subst (IsSamePair stood.1) (sym high) stood.4)))
     | inr ge ↦
         let k = past_end n legs faulty j (slice_get_within legs j l at) ge in
         let c = covers_end k.0 k.1 in
@@ -278,6 +281,7 @@ module _ (n : ℕ) (order levels : List ℕ) (is : IsOrderOf n order) (are : Are
     where
       never : (q : ℕ) → (p : ℕ) × (least ≡ Some p) × (p ≤ q) → ⊥
       never q c = none-some c.0 (sym none ∙ c.1)
+
       at : (o : Option ℕ) → faulty ≡ o → faulty ≡ None
       at None e = e
       at (Some k) e = absurd (never k (covers_end k e))

@@ -64,13 +64,17 @@ module _ (n : ℕ) (low high : SavedLeg → ℕ) (levels : List ℕ) (legs : Lis
       }
 
   pub legs_up : AreLegsUp H made
-  legs_up = (length-map rows (λ es. map (leg_of legs) es) ∙ sorted.count ∙ sym size, λ v. elim (cases_lt v n) [
-    | inl lt ↦ (subst IsRow (sym (row_is v lt)) (rises v lt), subst (All (IsLegUp H v)) (sym (row_is v lt)) (each v lt))
-    | inr ge ↦ (subst IsRow (sym (past v ge)) (λ i j d less within. absurd (omega arith)), subst (All (IsLegUp H v)) (sym (past v ge)) (λ i d within. absurd (omega arith)))
-  ])
+  legs_up = (
+    length-map rows (λ es. map (leg_of legs) es) ∙ sorted.count ∙ sym size,
+    λ v. elim (cases_lt v n) [
+      | inl lt ↦ (subst IsRow (sym (row_is v lt)) (rises v lt), subst (All (IsLegUp H v)) (sym (row_is v lt)) (each v lt))
+      | inr ge ↦ (subst IsRow (sym (past v ge)) (λ i j d less within. absurd (omega arith)), subst (All (IsLegUp H v)) (sym (past v ge)) (λ i d within. absurd (omega arith)))
+    ],
+  )
     where
       past : (v : ℕ) → n ≤ v → row made v ≡ []
       past v ge = get_or_past made v [] (let m = length-map rows (λ es. map (leg_of legs) es) in let c = sorted.count in omega arith)
+
       each : (v : ℕ) → v < n → All (IsLegUp H v) (map (leg_of legs) (get_or rows v []))
       each v lt i d within =
           let m : length (map (leg_of legs) (get_or rows v [])) ≡ length (get_or rows v []) = length-map (get_or rows v []) (leg_of legs) in
@@ -104,7 +108,7 @@ module _ (n : ℕ) (low high : SavedLeg → ℕ) (levels : List ℕ) (legs : Lis
       let e : Placed = record { lower = low l; higher = high l; place = i } in
       let below = ends l (Contains-get_or legs i no_saved_leg lt) in
       let here : row (map (λ es. map (leg_of legs) es) rows) (low l) ≡ map (leg_of legs) (get_or rows (low l) []) =
-          get_or-map (λ es. map (leg_of legs) es) rows (low l) [] [] (let c = sorted.count in let b = below.0 in omega arith) in
+      get_or-map (λ es. map (leg_of legs) es) rows (low l) [] [] (let c = sorted.count in let b = below.0 in omega arith) in
       let has = (sorted.each (low l) e below.0).1 ((placed e).1 (lt, refl, refl, up), refl) in
       subst (λ q. Contains q (leg_of legs e)) (sym here) (contains_map (leg_of legs) (get_or rows (low l) []) e has)
 
@@ -139,10 +143,10 @@ legs_of_rows n legs entries rows a =
     let e = entry_rows_are n entries in
     let size : length (map (λ es. map (leg_of legs) es) (entry_rows n entries)) ≡ length (entry_rows n entries) = length-map (entry_rows n entries) (λ es. map (leg_of legs) es) in
     ext_get_or [] rows (map (λ es. map (leg_of legs) es) (entry_rows n entries)) (a.count ∙ sym e.count ∙ sym size) (λ v lt.
-        let c = a.count in
-        let d = e.count in
-        a.each v (omega arith) ∙ leg_values legs v entries ∙ sym (ap (map (leg_of legs)) (e.each v (omega arith)))
-        ∙ sym (get_or-map (λ es. map (leg_of legs) es) (entry_rows n entries) v [] [] (omega arith)))
+    let c = a.count in
+    let d = e.count in
+    a.each v (omega arith) ∙ leg_values legs v entries ∙ sym (ap (map (leg_of legs)) (e.each v (omega arith)))
+    ∙ sym (get_or-map (λ es. map (leg_of legs) es) (entry_rows n entries) v [] [] (omega arith)))
 
 -- where no entry has the nodes of another, no row has a double
 single_rows : (n : ℕ) (low high : SavedLeg → ℕ) (levels : List ℕ) (legs : List SavedLeg) (entries : List Placed) → IsSide low high levels legs entries →
@@ -182,11 +186,11 @@ module _ (n : ℕ) (s : OrderAndLegs) (ups downs : List Placed) (H : LevelsAndLe
   there : (u w : ℕ) (c : Cost) (m : Option ℕ) → IsLeg H u w c m → Contains s.legs (record { from = u; to = w; cost = c; middle = m })
   there u w c m (l, cost, middle, inl h) =
       let k = row_leg_saved n from_of to_of H.level s.legs ups (entry_rows n ups) pairs.up.placed up_sorted rise u l (in_row_below H.up n u l a.count h.0)
-          (subst (λ rs. Contains (row rs u) l) (legs_of_rows n s.legs ups H.up a) h.0) in
+      (subst (λ rs. Contains (row rs u) l) (legs_of_rows n s.legs ups H.up a) h.0) in
       subst (Contains s.legs) (same_saved (get_or s.legs k.0 no_saved_leg) u w c m k.2 (k.3 ∙ h.1) (k.4 ∙ cost) (k.5 ∙ middle)) (Contains-get_or s.legs k.0 no_saved_leg k.1)
   there u w c m (l, cost, middle, inr h) =
       let k = row_leg_saved n to_of from_of H.level s.legs downs (entry_rows n downs) pairs.down.placed down_sorted fall w l (in_row_below H.down n w l b.count h.0)
-          (subst (λ rs. Contains (row rs w) l) (legs_of_rows n s.legs downs H.down b) h.0) in
+      (subst (λ rs. Contains (row rs w) l) (legs_of_rows n s.legs downs H.down b) h.0) in
       subst (Contains s.legs) (same_saved (get_or s.legs k.0 no_saved_leg) u w c m (k.3 ∙ h.1) k.2 (k.4 ∙ cost) (k.5 ∙ middle)) (Contains-get_or s.legs k.0 no_saved_leg k.1)
 
   back : (u w : ℕ) (c : Cost) (m : Option ℕ) → Contains s.legs (record { from = u; to = w; cost = c; middle = m }) → IsLeg H u w c m
@@ -197,24 +201,41 @@ module _ (n : ℕ) (s : OrderAndLegs) (ups downs : List Placed) (H : LevelsAndLe
       elim (one_is_higher n s.order H.level is are u w joins.0 joins.1 joins.2) [
         | inl up ↦
             let r = saved_row_leg n from_of to_of H.level s.legs ups (entry_rows n ups) pairs.up.placed up_sorted rise h.0 h.1
-                (subst (λ (q : SavedLeg). slice_index H.level q.from < slice_index H.level q.to) (sym at) up) in
-            (record { node = w; cost = c; middle = m }, refl, refl, inl (subst (λ rs. Contains (row rs u) (record { node = w; cost = c; middle = m })) (sym (legs_of_rows n s.legs ups H.up a))
-                (subst (λ (q : SavedLeg). Contains (row (map (λ es. map (leg_of s.legs) es) (entry_rows n ups)) q.from) (record { node = q.to; cost = q.cost; middle = q.middle })) at r), refl))
+            (subst (λ (q : SavedLeg). slice_index H.level q.from < slice_index H.level q.to) (sym at) up) in (
+              record { node = w; cost = c; middle = m },
+              refl,
+              refl,
+              inl (
+                subst (λ rs. Contains (row rs u) (record { node = w; cost = c; middle = m })) (sym (legs_of_rows n s.legs ups H.up a))
+                    (subst (λ (q : SavedLeg). Contains (row (map (λ es. map (leg_of s.legs) es) (entry_rows n ups)) q.from) (record { node = q.to; cost = q.cost; middle = q.middle })) at r),
+                refl,
+              ),
+            )
         | inr down ↦
             let r = saved_row_leg n to_of from_of H.level s.legs downs (entry_rows n downs) pairs.down.placed down_sorted fall h.0 h.1
-                (subst (λ (q : SavedLeg). slice_index H.level q.to < slice_index H.level q.from) (sym at) down) in
-            (record { node = u; cost = c; middle = m }, refl, refl, inr (subst (λ rs. Contains (row rs w) (record { node = u; cost = c; middle = m })) (sym (legs_of_rows n s.legs downs H.down b))
-                (subst (λ (q : SavedLeg). Contains (row (map (λ es. map (leg_of s.legs) es) (entry_rows n downs)) q.to) (record { node = q.from; cost = q.cost; middle = q.middle })) at r), refl))
+            (subst (λ (q : SavedLeg). slice_index H.level q.to < slice_index H.level q.from) (sym at) down) in (
+              record { node = u; cost = c; middle = m },
+              refl,
+              refl,
+              inr (
+                subst (λ rs. Contains (row rs w) (record { node = u; cost = c; middle = m })) (sym (legs_of_rows n s.legs downs H.down b))
+                    (subst (λ (q : SavedLeg). Contains (row (map (λ es. map (leg_of s.legs) es) (entry_rows n downs)) q.to) (record { node = q.from; cost = q.cost; middle = q.middle })) at r),
+                refl,
+              ),
+            )
       ]
 
   -- make the hierarchy that is named
   pub named_by_rows : NamesHierarchy s H × (nodes_of H ≡ n)
-  named_by_rows = (record {
-    levelled = levelled;
-    levels = are;
-    legs = λ u w c m. (there u w c m, λ h. back u w c m h);
-    once = pairs_once n s.order H.level is are s.legs ups downs pairs.joins pairs.up.placed pairs.down.placed (λ p t. elim t [ inl up ↦ pairs.up.single p up | inr down ↦ pairs.down.single p down ]);
-  }, size)
+  named_by_rows = (
+    record {
+      levelled = levelled;
+      levels = are;
+      legs = λ u w c m. (there u w c m, λ h. back u w c m h);
+      once = pairs_once n s.order H.level is are s.legs ups downs pairs.joins pairs.up.placed pairs.down.placed (λ p t. elim t [ inl up ↦ pairs.up.single p up | inr down ↦ pairs.down.single p down ]);
+    },
+    size,
+  )
 
 -- the same of the lists that are at hand
 pub rows_name : (g : Network) (s : OrderAndLegs) (n : ℕ) (order levels : List ℕ) (legs : List SavedLeg) (ups downs : List Placed) (up down : List (List Leg)) → g.nodes ≤ 2 ^ 25 → n ≡ g.nodes → order ≡ s.order → legs ≡ s.legs →

@@ -71,28 +71,32 @@ module _ (g : Network) (s : OrderAndLegs) where
   pub one_first : (e f : CheckFault) → IsFirstFault g s e → IsFirstFault g s f → e ≡ f
   one_first e f a b = elim (cases_eq (kind e) (kind f)) [
     | inl same ↦ elim (cases_eq (place e) (place f)) [
-        | inl at ↦ sym (fault_is e) ∙ (λ i. fault_of (same i) (at i)) ∙ fault_is f
-        | inr apart ↦ absurd (elim (cases_lt (place e) (place f)) [
-            | inl less ↦ b.first e (inr (same, less)) a.has
-            | inr ge ↦ a.first f (inr (sym same, omega arith)) b.has
-          ])
-      ]
-    | inr apart ↦ absurd (elim (cases_lt (kind e) (kind f)) [
-        | inl less ↦ b.first e (inl less) a.has
-        | inr ge ↦ a.first f (inl (omega arith)) b.has
+      | inl at ↦ sym (fault_is e) ∙ (λ i. fault_of (same i) (at i)) ∙ fault_is f
+      | inr apart ↦ absurd (elim (cases_lt (place e) (place f)) [
+        | inl less ↦ b.first e (inr (same, less)) a.has
+        | inr ge ↦ a.first f (inr (sym same, omega arith)) b.has
       ])
+    ]
+    | inr apart ↦ absurd (elim (cases_lt (kind e) (kind f)) [
+      | inl less ↦ b.first e (inl less) a.has
+      | inr ge ↦ a.first f (inl (omega arith)) b.has
+    ])
   ]
 
 -- the ends of a leg are two nodes
 leg_joins : (s : OrderAndLegs) (H : LevelsAndLegs) → NamesHierarchy s H → (u w : ℕ) (c : Cost) (m : Option ℕ) → IsLeg H u w c m → (u < nodes_of H) × (w < nodes_of H) × (u ≢ w)
 leg_joins s H names u w c m (l, cost, middle, inl (has, is)) =
-    let up = All-contains (IsLegUp H u) (row H.up u) l (names.levelled.up.1 u).1 has in
-    (in_row_below H.up (nodes_of H) u l names.levelled.up.0 has, subst (λ q. q < nodes_of H) is up.node,
-    λ same. let rise = up.higher in let e = ap (slice_index H.level) (same ∙ sym is) in omega arith)
+    let up = All-contains (IsLegUp H u) (row H.up u) l (names.levelled.up.1 u).1 has in (
+      in_row_below H.up (nodes_of H) u l names.levelled.up.0 has,
+      subst (λ q. q < nodes_of H) is up.node,
+      λ same. let rise = up.higher in let e = ap (slice_index H.level) (same ∙ sym is) in omega arith,
+    )
 leg_joins s H names u w c m (l, cost, middle, inr (has, is)) =
-    let up = All-contains (IsLegUp H w) (row H.down w) l (names.levelled.down.1 w).1 has in
-    (subst (λ q. q < nodes_of H) is up.node, in_row_below H.down (nodes_of H) w l names.levelled.down.0 has,
-    λ same. let rise = up.higher in let e = ap (slice_index H.level) (sym same ∙ sym is) in omega arith)
+    let up = All-contains (IsLegUp H w) (row H.down w) l (names.levelled.down.1 w).1 has in (
+      subst (λ q. q < nodes_of H) is up.node,
+      in_row_below H.down (nodes_of H) w l names.levelled.down.0 has,
+      λ same. let rise = up.higher in let e = ap (slice_index H.level) (sym same ∙ sym is) in omega arith,
+    )
 
 -- its cost is within the limits
 leg_bounded : (s : OrderAndLegs) (H : LevelsAndLegs) → NamesHierarchy s H → (u w : ℕ) (c : Cost) (m : Option ℕ) → IsLeg H u w c m → (c.weight ≤ 2 ^ 60) × (c.arcs < nodes_of H)
@@ -261,8 +265,8 @@ module _ (g : Network) (s : OrderAndLegs) (n : ℕ) (order : List ℕ) (legs : L
   bound_fault is none i first = (
     omega arith,
     first_at g s (Bound i) (none_more g s 1 (below_pairs is) (λ p h. none p (pair_there p h)))
-    (no_saved_leg_at i first)
-    (λ p lt h. h.2 (subst (λ m. IsWithinBounds m h.0) a (subst (IsWithinBounds n) (get_or_from_slice_get legs p h.0 h.0 (subst (λ l. slice_get l p ≡ Some h.0) (sym c) h.1)) (first.before p h.0 lt)))),
+        (no_saved_leg_at i first)
+        (λ p lt h. h.2 (subst (λ m. IsWithinBounds m h.0) a (subst (IsWithinBounds n) (get_or_from_slice_get legs p h.0 h.0 (subst (λ l. slice_get l p ≡ Some h.0) (sym c) h.1)) (first.before p h.0 lt)))),
   )
     where
       no_saved_leg_at : (i : ℕ) → IsFirstFailing (IsWithinBounds n) legs i → HasFault g s (Bound i)

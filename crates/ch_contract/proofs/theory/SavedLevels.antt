@@ -13,7 +13,7 @@ module _ (n : ℕ) (order levels : List ℕ) (is : IsOrderOf n order) (are : Are
   place : (v : ℕ) → v < n → (i : ℕ) × (i < n) × (slice_index order i ≡ v)
   place v lt =
       let has = every_number order n v is.count (λ i d less. subst (λ q. q < n) (get_or_default order i 0 d less) (is.within i less))
-          (λ i j d less within e. is.distinct i j less within (sym (get_or_default order i d 0 (omega arith)) ∙ e ∙ get_or_default order j d 0 within)) lt in
+      (λ i j d less within e. is.distinct i j less within (sym (get_or_default order i d 0 (omega arith)) ∙ e ∙ get_or_default order j d 0 within)) lt in
       (has.0, (let a = has.1 in let b = is.count in omega arith), sym (get_or_default order has.0 v 0 has.1) ∙ has.2)
 
   -- the level of a node, and of no other
@@ -52,9 +52,9 @@ module _ (n : ℕ) (order levels : List ℕ) (is : IsOrderOf n order) (are : Are
       elim (cases_lt a.0 b.0) [
         | inl less ↦ inl (omega arith)
         | inr ge ↦ elim (cases_eq a.0 b.0) [
-            | inl same ↦ absurd (ne (sym a.2 ∙ ap (slice_index order) same ∙ b.2))
-            | inr apart ↦ inr (omega arith)
-          ]
+          | inl same ↦ absurd (ne (sym a.2 ∙ ap (slice_index order) same ∙ b.2))
+          | inr apart ↦ inr (omega arith)
+        ]
       ]
 
 -- levels tell that the order has each node once

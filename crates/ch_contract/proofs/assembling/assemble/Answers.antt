@@ -19,30 +19,30 @@ returns-in_default-clause-fault c =
 pub returns-in_err-pairs-clause-value : goal.returns-in_err-pairs-clause-value
 returns-in_err-pairs-clause-value c = (
     assembles_refused c.args.graph.now c.args.saved.now c.from_residual-in_err-pairs.result c.in_err-pairs.field-0.0 c.from_residual-in_err-pairs.ensures.1 (λ f is.
-        let found = rw c.in-Some.is at c.in_ok-levels.ensures in
-        let first = c.in_err-pairs.ensures.fault f (ap (refusal_of PlacedLegs) is) in
-        subst (IsEarlyFirst c.args.graph.now c.args.saved.now) (sym first.1) (pair_fault c.args.graph.now c.args.saved.now c.nodes-nodes.result c.as_slice.result.now c.as_slice-legs.result.now c.nodes-nodes.ensures (c.as_slice.ensures.value ∙ ap (λ (q : OrderAndLegs). q.order) c.saved.view_is) (c.as_slice-legs.ensures.value ∙ ap (λ (q : OrderAndLegs). q.legs) c.saved.view_is) found.0 first.0 first.2))).0
+    let found = rw c.in-Some.is at c.in_ok-levels.ensures in
+    let first = c.in_err-pairs.ensures.fault f (ap (refusal_of PlacedLegs) is) in
+    subst (IsEarlyFirst c.args.graph.now c.args.saved.now) (sym first.1) (pair_fault c.args.graph.now c.args.saved.now c.nodes-nodes.result c.as_slice.result.now c.as_slice-legs.result.now c.nodes-nodes.ensures (c.as_slice.ensures.value ∙ ap (λ (q : OrderAndLegs). q.order) c.saved.view_is) (c.as_slice-legs.ensures.value ∙ ap (λ (q : OrderAndLegs). q.legs) c.saved.view_is) found.0 first.0 first.2))).0
 
 pub returns-in_err-pairs-clause-fault : goal.returns-in_err-pairs-clause-fault
 returns-in_err-pairs-clause-fault c = (
     assembles_refused c.args.graph.now c.args.saved.now c.from_residual-in_err-pairs.result c.in_err-pairs.field-0.0 c.from_residual-in_err-pairs.ensures.1 (λ f is.
-        let found = rw c.in-Some.is at c.in_ok-levels.ensures in
-        let first = c.in_err-pairs.ensures.fault f (ap (refusal_of PlacedLegs) is) in
-        subst (IsEarlyFirst c.args.graph.now c.args.saved.now) (sym first.1) (pair_fault c.args.graph.now c.args.saved.now c.nodes-nodes.result c.as_slice.result.now c.as_slice-legs.result.now c.nodes-nodes.ensures (c.as_slice.ensures.value ∙ ap (λ (q : OrderAndLegs). q.order) c.saved.view_is) (c.as_slice-legs.ensures.value ∙ ap (λ (q : OrderAndLegs). q.legs) c.saved.view_is) found.0 first.0 first.2))).1
+    let found = rw c.in-Some.is at c.in_ok-levels.ensures in
+    let first = c.in_err-pairs.ensures.fault f (ap (refusal_of PlacedLegs) is) in
+    subst (IsEarlyFirst c.args.graph.now c.args.saved.now) (sym first.1) (pair_fault c.args.graph.now c.args.saved.now c.nodes-nodes.result c.as_slice.result.now c.as_slice-legs.result.now c.nodes-nodes.ensures (c.as_slice.ensures.value ∙ ap (λ (q : OrderAndLegs). q.order) c.saved.view_is) (c.as_slice-legs.ensures.value ∙ ap (λ (q : OrderAndLegs). q.legs) c.saved.view_is) found.0 first.0 first.2))).1
 
 pub returns-in-Some-first_past_bounds-clause-value : goal.returns-in-Some-first_past_bounds-clause-value
 returns-in-Some-first_past_bounds-clause-value c = (
     let found = rw c.in-Some.is at c.in_ok-levels.ensures in
     let are = subst (AreLevelsOf c.as_slice.result.now) (sym c.as_slice-2.ensures.value) found.1 in
     assembles_fault c.args.graph.now c.args.saved.now (Bound c.in-Some-first_past_bounds.place) (bound_fault c.args.graph.now c.args.saved.now c.nodes-nodes.result c.as_slice.result.now c.as_slice-legs.result.now c.nodes-nodes.ensures (c.as_slice.ensures.value ∙ ap (λ (q : OrderAndLegs). q.order) c.saved.view_is) (c.as_slice-legs.ensures.value ∙ ap (λ (q : OrderAndLegs). q.legs) c.saved.view_is) found.0
-        (no_pair_fault c.nodes-nodes.result c.as_slice.result.now c.as_slice-2.result.now found.0 are c.as_slice-legs.result.now _ _ c.in_ok-pairs.ensures.pairs) c.in-Some-first_past_bounds.place c.in-Some-first_past_bounds.ensures)).0
+    (no_pair_fault c.nodes-nodes.result c.as_slice.result.now c.as_slice-2.result.now found.0 are c.as_slice-legs.result.now _ _ c.in_ok-pairs.ensures.pairs) c.in-Some-first_past_bounds.place c.in-Some-first_past_bounds.ensures)).0
 
 pub returns-in-Some-first_past_bounds-clause-fault : goal.returns-in-Some-first_past_bounds-clause-fault
 returns-in-Some-first_past_bounds-clause-fault c = (
     let found = rw c.in-Some.is at c.in_ok-levels.ensures in
     let are = subst (AreLevelsOf c.as_slice.result.now) (sym c.as_slice-2.ensures.value) found.1 in
     assembles_fault c.args.graph.now c.args.saved.now (Bound c.in-Some-first_past_bounds.place) (bound_fault c.args.graph.now c.args.saved.now c.nodes-nodes.result c.as_slice.result.now c.as_slice-legs.result.now c.nodes-nodes.ensures (c.as_slice.ensures.value ∙ ap (λ (q : OrderAndLegs). q.order) c.saved.view_is) (c.as_slice-legs.ensures.value ∙ ap (λ (q : OrderAndLegs). q.legs) c.saved.view_is) found.0
-        (no_pair_fault c.nodes-nodes.result c.as_slice.result.now c.as_slice-2.result.now found.0 are c.as_slice-legs.result.now _ _ c.in_ok-pairs.ensures.pairs) c.in-Some-first_past_bounds.place c.in-Some-first_past_bounds.ensures)).1
+    (no_pair_fault c.nodes-nodes.result c.as_slice.result.now c.as_slice-2.result.now found.0 are c.as_slice-legs.result.now _ _ c.in_ok-pairs.ensures.pairs) c.in-Some-first_past_bounds.place c.in-Some-first_past_bounds.ensures)).1
 
 pub leg_rows-requires-clause-below : goal.leg_rows-requires-clause-below
 leg_rows-requires-clause-below c = λ e h.
@@ -72,7 +72,7 @@ from_rows-requires c =
     let up = subst (λ q. AreRowsOf c.nodes-nodes.result (map (keyed_leg c.as_slice-legs.result.now) q) c.in_ok-ups.ups) c.as_slice-3.ensures.value c.in_ok-ups.ensures in
     let down = subst (λ q. AreRowsOf c.nodes-nodes.result (map (keyed_leg c.as_slice-legs.result.now) q) c.in_ok-downs.downs) c.as_slice-4.ensures.value c.in_ok-downs.ensures in
     let named = rows_name c.args.graph.now c.args.saved.now c.nodes-nodes.result c.as_slice.result.now c.in-Some.levels.items c.as_slice-legs.result.now c.in_ok-pairs.pairs.ups.items c.in_ok-pairs.pairs.downs.items c.in_ok-ups.ups c.in_ok-downs.downs
-        small c.nodes-nodes.ensures (c.as_slice.ensures.value ∙ ap (λ (q : OrderAndLegs). q.order) c.saved.view_is) (c.as_slice-legs.ensures.value ∙ ap (λ (q : OrderAndLegs). q.legs) c.saved.view_is) found.0 found.1 pairs c.in_default-first_past_bounds.ensures up down in
+    small c.nodes-nodes.ensures (c.as_slice.ensures.value ∙ ap (λ (q : OrderAndLegs). q.order) c.saved.view_is) (c.as_slice-legs.ensures.value ∙ ap (λ (q : OrderAndLegs). q.legs) c.saved.view_is) found.0 found.1 pairs c.in_default-first_past_bounds.ensures up down in
     named.0.levelled
 
 pub returns-clause-value : goal.returns-clause-value
@@ -83,7 +83,7 @@ returns-clause-value c =
     let up = subst (λ q. AreRowsOf c.nodes-nodes.result (map (keyed_leg c.as_slice-legs.result.now) q) c.in_ok-ups.ups) c.as_slice-3.ensures.value c.in_ok-ups.ensures in
     let down = subst (λ q. AreRowsOf c.nodes-nodes.result (map (keyed_leg c.as_slice-legs.result.now) q) c.in_ok-downs.downs) c.as_slice-4.ensures.value c.in_ok-downs.ensures in
     let named = rows_name c.args.graph.now c.args.saved.now c.nodes-nodes.result c.as_slice.result.now c.in-Some.levels.items c.as_slice-legs.result.now c.in_ok-pairs.pairs.ups.items c.in_ok-pairs.pairs.downs.items c.in_ok-ups.ups c.in_ok-downs.downs
-        small c.nodes-nodes.ensures (c.as_slice.ensures.value ∙ ap (λ (q : OrderAndLegs). q.order) c.saved.view_is) (c.as_slice-legs.ensures.value ∙ ap (λ (q : OrderAndLegs). q.legs) c.saved.view_is) found.0 found.1 pairs c.in_default-first_past_bounds.ensures up down in
+    small c.nodes-nodes.ensures (c.as_slice.ensures.value ∙ ap (λ (q : OrderAndLegs). q.order) c.saved.view_is) (c.as_slice-legs.ensures.value ∙ ap (λ (q : OrderAndLegs). q.legs) c.saved.view_is) found.0 found.1 pairs c.in_default-first_past_bounds.ensures up down in
     (assembles_value c.args.graph.now c.args.saved.now c.from_rows.result (subst (NamesFor c.args.graph.now c.args.saved.now) (sym c.from_rows.ensures) named)).0
 
 pub returns-clause-fault : goal.returns-clause-fault
@@ -94,5 +94,5 @@ returns-clause-fault c =
     let up = subst (λ q. AreRowsOf c.nodes-nodes.result (map (keyed_leg c.as_slice-legs.result.now) q) c.in_ok-ups.ups) c.as_slice-3.ensures.value c.in_ok-ups.ensures in
     let down = subst (λ q. AreRowsOf c.nodes-nodes.result (map (keyed_leg c.as_slice-legs.result.now) q) c.in_ok-downs.downs) c.as_slice-4.ensures.value c.in_ok-downs.ensures in
     let named = rows_name c.args.graph.now c.args.saved.now c.nodes-nodes.result c.as_slice.result.now c.in-Some.levels.items c.as_slice-legs.result.now c.in_ok-pairs.pairs.ups.items c.in_ok-pairs.pairs.downs.items c.in_ok-ups.ups c.in_ok-downs.downs
-        small c.nodes-nodes.ensures (c.as_slice.ensures.value ∙ ap (λ (q : OrderAndLegs). q.order) c.saved.view_is) (c.as_slice-legs.ensures.value ∙ ap (λ (q : OrderAndLegs). q.legs) c.saved.view_is) found.0 found.1 pairs c.in_default-first_past_bounds.ensures up down in
+    small c.nodes-nodes.ensures (c.as_slice.ensures.value ∙ ap (λ (q : OrderAndLegs). q.order) c.saved.view_is) (c.as_slice-legs.ensures.value ∙ ap (λ (q : OrderAndLegs). q.legs) c.saved.view_is) found.0 found.1 pairs c.in_default-first_past_bounds.ensures up down in
     (assembles_value c.args.graph.now c.args.saved.now c.from_rows.result (subst (NamesFor c.args.graph.now c.args.saved.now) (sym c.from_rows.ensures) named)).1
