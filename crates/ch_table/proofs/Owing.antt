@@ -1,6 +1,6 @@
 -- What the nodes owe, entry by entry and node by node.
-use Rattle.std.proofs.Common.{◌≡◌, ◌⊎◌, ℕ, ◌+◌, ◌*◌, ◌<◌, ◌≤◌, ◌^◌, Option, List, [], ◌∷◌, ◌++◌, Contains, take, get_or, refl, sym, ap, subst, arith, inl, inr}
-use Rattle.std.specs.Prelude.{All, slice_index_or}
+use Rattle.std.proofs.Common.{◌≡◌, ℕ, ◌+◌, ◌*◌, ◌<◌, ◌≤◌, ◌^◌, Option, List, [], ◌∷◌, ◌++◌, Contains, take, get_or, sym, ap, subst, arith, inl, inr}
+use Rattle.std.specs.Prelude.{All}
 use Rattle.std.proofs.lemmas.List.Elements.{Contains-append_left, Contains-push, Contains-push_cases}
 use Rattle.std.proofs.lemmas.Nat.{mul-add-lt}
 use Rattle.ch_graph.proofs.Lists.{contains_none}
@@ -9,7 +9,7 @@ use Rattle.ch_query.specs.Limits.{IsWithin}
 use Rattle.ch_table.specs.Sums.{BothSides, IsEntryAmong, IsOwedInRow, IsOwedBy, IsOwedAt, IsOwedAmong}
 use Rattle.ch_work.specs.declared.board.known.Known.{Known}
 use Rattle.ch_work.specs.Owed.{HasPaid}
-use Rattle.ch_work.proofs.Payments.{One, paid_none, paid_then}
+use Rattle.ch_work.proofs.Payments.{paid_none, paid_then}
 
 -- one weight at one cell, where it is within the limit
 abbrev pub OneWithin : Option ℕ → ℕ → ℕ → ℕ → ℕ → Type 0

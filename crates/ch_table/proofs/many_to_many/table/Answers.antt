@@ -1,4 +1,4 @@
-use Rattle.std.proofs.Common.{◌≡◌, ℕ, ◌*◌, ◌<◌, Option, length, slice_index_or, sym, ◌∙◌, subst}
+use Rattle.std.proofs.Common.{ℕ, ◌*◌, ◌<◌, Option, length, slice_index_or, sym, ◌∙◌, subst}
 use Rattle.ch_work.specs.Owed.{IsLeastOwed}
 use Rattle.ch_table.specs.Sums.{BothSides, IsOwedAmong}
 use Rattle.ch_table.proofs.Tables.{within, table_is}
