@@ -4,7 +4,7 @@ use Rattle.std.specs.List.{AllZip, zip, flat_map}
 use Rattle.std.specs.Prelude.{not, ◌&&◌}
 use Rattle.std.proofs.lemmas.Option.{none-some, same_Some}
 use Rattle.ch_graph.specs.declared.arc.InArc.{InArc}
-use Rattle.ch_graph.specs.Graph.{Network, IsWithinLimits}
+use Rattle.ch_graph.specs.Graph.{Network}
 use Rattle.ch_graph.specs.Walk.{IsAnswer, IsDistance}
 use Rattle.ch_contract.specs.Hierarchy.{LevelsAndLegs, IsHierarchy}
 use Rattle.ch_contract.specs.Kept.{IsKept}
