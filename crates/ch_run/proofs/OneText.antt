@@ -4,10 +4,9 @@ use Rattle.std.specs.List.{AllZip, zip, flat_map}
 use Rattle.std.specs.Prelude.{not, ◌&&◌}
 use Rattle.std.proofs.lemmas.Option.{none-some, same_Some}
 use Rattle.ch_graph.specs.declared.arc.InArc.{InArc}
-use Rattle.ch_graph.specs.Graph.{Network, IsWithinLimits}
+use Rattle.ch_graph.specs.Graph.{Network}
 use Rattle.ch_graph.specs.Walk.{IsAnswer, IsDistance}
-use Rattle.ch_contract.specs.Legs.{IsHopBound}
-use Rattle.ch_contract.specs.Hierarchy.{LevelsAndLegs}
+use Rattle.ch_contract.specs.Hierarchy.{LevelsAndLegs, IsHierarchy}
 use Rattle.ch_contract.specs.Kept.{IsKept}
 use Rattle.ch_contract.proofs.theory.BuiltKept.{hierarchies_kept}
 use Rattle.ch_contract.proofs.theory.OneOrder.{one_hierarchy}
@@ -83,13 +82,13 @@ one_routed g H kept query a b h k =
 one_answers_text : (P : ℕ × ℕ → Answer → Type 0) → ((q : ℕ × ℕ) (a b : Answer) → P q a → P q b → a ≡ b) → (queries : List (ℕ × ℕ)) (text other : List ℕ) → HasText P queries text → HasText P queries other → text ≡ other
 one_answers_text P one queries text other h k = h.2 ∙ ap (flat_map answer_text) (one_list P one queries h.0 k.0 h.1 k.1) ∙ sym k.2
 
--- the answers have one text
-one_text_by : (routes : Bool) (g : Network) (h : ℕ) → IsWithinLimits g → IsHopBound h → (queries : List (ℕ × ℕ)) (text other : List ℕ) → IsTextBy routes g h queries text → IsTextBy routes g h queries other → text ≡ other
-one_text_by false g h limits hops queries text other t u = one_answers_text (AnswersShortly g) (one_short g) queries text other t u
-one_text_by true g h limits hops queries text other t u =
-    let same = one_hierarchy g h u.0 t.0 u.1 t.1 in
-    let kept = hierarchies_kept g h t.0 limits hops t.1 in
-    one_answers_text (AnswersWithRoute g t.0) (one_routed g t.0 kept) queries text other t.2 (subst (λ (H : LevelsAndLegs). HasText (AnswersWithRoute g H) queries other) same u.2)
+-- the answers have one text, where the routes are by one hierarchy, which is kept
+one_text_by : (routes : Bool) (g : Network) (From : LevelsAndLegs → Type 0) → ((H K : LevelsAndLegs) → From H → From K → H ≡ K) → ((H : LevelsAndLegs) → From H → IsKept g H) →
+    (queries : List (ℕ × ℕ)) (text other : List ℕ) → IsTextBy routes g From queries text → IsTextBy routes g From queries other → text ≡ other
+one_text_by false g From one kept queries text other t u = one_answers_text (AnswersShortly g) (one_short g) queries text other t u
+one_text_by true g From one kept queries text other t u =
+    let same : u.0 ≡ t.0 = one u.0 t.0 u.1 t.1 in
+    one_answers_text (AnswersWithRoute g t.0) (one_routed g t.0 (kept t.0 t.1)) queries text other t.2 (subst (λ (H : LevelsAndLegs). HasText (AnswersWithRoute g H) queries other) same u.2)
 
 -- a graph is named by its bytes
 same_graph : (graph : Reading) (bytes : List ℕ) (g h : Network) → graph.before ≡ Some bytes → ReadsGraph graph g → ReadsGraph graph h → g ≡ h
@@ -121,7 +120,8 @@ one_text options graph queries graph_bytes query_bytes text other hops told_grap
     let same : h.0 ≡ k.0 = same_graph graph graph_bytes h.0 k.0 told_graph h.3 k.3 in
     let pairs : h.1 ≡ k.1 = same_queries queries query_bytes h.0.nodes h.1 k.1 told_queries h.4 (subst (λ (g : Network). ReadsQueries queries g.nodes k.1) (sym same) k.4) in
     let here : IsText options h.0 h.1 other = subst (λ p. IsText options h.0 p other) (sym pairs) (subst (λ (g : Network). IsText options g k.1 other) (sym same) k.5) in
-    one_text_by (not options.plain && options.routes) h.0 options.hops h.2 hops h.1 text other h.5 here
+    let kept : (H : LevelsAndLegs) → IsHierarchy h.0 options.hops H → IsKept h.0 H = λ H is. hierarchies_kept h.0 options.hops H h.2 hops is in
+    one_text_by (not options.plain && options.routes) h.0 (IsHierarchy h.0 options.hops) (one_hierarchy h.0 options.hops) kept h.1 text other h.5 here
 
 -- inputs that tell their bytes have one table
 pub one_table : TablesHaveOneText
