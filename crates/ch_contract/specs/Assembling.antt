@@ -1,5 +1,5 @@
 -- The legs of a saved hierarchy as they are judged.
-use Rattle.std.specs.Prelude.{◌≡◌, ℕ, ◌<◌, List, length, slice_index_or, Contains}
+use Rattle.std.specs.Prelude.{ℕ, ◌<◌, List, length, slice_index_or, Contains}
 use Rattle.ch_graph.specs.declared.saved.SavedLeg.{SavedLeg}
 use Rattle.ch_contract.specs.declared.placing.Placed.{Placed}
 use Rattle.ch_contract.specs.Saved.{JoinsNodes, HasPairFault}

@@ -1,5 +1,6 @@
 -- A hierarchy under construction.
-use Rattle.std.specs.Prelude.{◌≡◌, ◌^◌, ◌<◌, ◌≤◌, ℕ, length, All}
+use Rattle.std.specs.Prelude.{◌≡◌, ◌<◌, ◌≤◌, ℕ, length, All}
+use Rattle.ch_graph.specs.declared.limits.TheConstants.{MOST_NODES}
 use Rattle.ch_graph.specs.Rows.{values_of}
 use Rattle.ch_contract.specs.declared.construction.Construction.{Construction}
 use Rattle.ch_contract.specs.Progress.{Progress}
@@ -12,7 +13,7 @@ progress_of c = record { legs = legs_of c.remaining; keys = c.waiting; levels = 
 
 -- there is a key and a level for each node, and the rows are those of nodes
 pub record IsSized (c : Construction) : Type 0 where
-  pub nodes : c.remaining.nodes ≤ 2 ^ 25
+  pub nodes : c.remaining.nodes ≤ MOST_NODES
   pub keys : length c.waiting ≡ c.remaining.nodes
   pub levels : length c.levels.items ≡ c.remaining.nodes
   pub ups : All (λ p. p.0 < c.remaining.nodes) c.ups.items

@@ -1,5 +1,6 @@
 -- The hierarchy that the order of contraction leaves.
-use Rattle.std.specs.Prelude.{◌≡◌, ◌≢◌, ℕ, ◌+◌, ◌^◌, ◌<◌, ◌≤◌, List, length, slice_index, AllPairs, All}
+use Rattle.std.specs.Prelude.{◌≡◌, ◌≢◌, ℕ, ◌+◌, ◌<◌, ◌≤◌, List, length, slice_index, AllPairs, All}
+use Rattle.ch_graph.specs.declared.limits.TheConstants.{MOST_NODES, MOST_WEIGHT}
 use Rattle.ch_graph.specs.Graph.{Network}
 use Rattle.ch_contract.specs.declared.leg.Leg.{Leg}
 use Rattle.ch_contract.specs.Legs.{Legs}
@@ -19,7 +20,7 @@ nodes_of H = length H.level
 pub record IsLegUp (H : LevelsAndLegs) (v : ℕ) (l : Leg) : Type 0 where
   pub node : l.node < nodes_of H
   pub higher : slice_index H.level v < slice_index H.level l.node
-  pub weight : l.cost.weight ≤ 2 ^ 60
+  pub weight : l.cost.weight ≤ MOST_WEIGHT
   pub arcs : l.cost.arcs < nodes_of H
 
 abbrev pub AreLegsUp : LevelsAndLegs → List (List Leg) → Type 0
@@ -27,7 +28,7 @@ AreLegsUp H rows = (length rows ≡ nodes_of H) × ((v : ℕ) → IsRow (row row
 
 -- levels from 1 to the number of nodes, each once, and legs to higher nodes, one for a pair
 pub record IsLevelled (H : LevelsAndLegs) : Type 0 where
-  pub count : nodes_of H ≤ 2 ^ 25
+  pub count : nodes_of H ≤ MOST_NODES
   pub levels : All (λ l. (1 ≤ l) × (l ≤ nodes_of H)) H.level × AllPairs ◌≢◌ H.level
   pub up : AreLegsUp H H.up
   pub down : AreLegsUp H H.down

@@ -1,5 +1,6 @@
 -- The search for the shortcuts of a node that begin with one leg to it.
-use Rattle.std.specs.Prelude.{◌≡◌, ◌≢◌, ℕ, ◌+◌, ◌-◌, ◌^◌, ◌<◌, ◌≤◌, List, length, All, Contains, Option, MatchOption}
+use Rattle.std.specs.Prelude.{◌≡◌, ◌≢◌, ℕ, ◌+◌, ◌-◌, ◌<◌, ◌≤◌, List, length, All, Contains, Option, MatchOption}
+use Rattle.ch_graph.specs.declared.limits.TheConstants.{MOST_WEIGHT}
 use Rattle.ch_graph.specs.declared.cost.Cost.{Cost}
 use Rattle.ch_graph.specs.Cost.{IsAtMost, cost_sum}
 use Rattle.ch_contract.specs.declared.leg.Leg.{Leg}
@@ -16,7 +17,7 @@ pub record IsKnown (r : RemainingLegs) (s : Wanted) (hops : ℕ) (h : Known) : T
 -- the two legs, one to a node and one from it, lead on to another node, and together keep the limits
 pub record IsCandidate (n : ℕ) (first second : Leg) : Type 0 where
   pub apart : first.node ≢ second.node
-  pub weight : first.cost.weight + second.cost.weight ≤ 2 ^ 60
+  pub weight : first.cost.weight + second.cost.weight ≤ MOST_WEIGHT
   pub arcs : first.cost.arcs + second.cost.arcs < n
 
 -- a candidate costs no more than this

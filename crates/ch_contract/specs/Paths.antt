@@ -1,6 +1,7 @@
 -- Paths of rising level, and where those of both ends meet.
-use Rattle.std.specs.Prelude.{◌≡◌, ℕ, ◌^◌, ◌≤◌, List, [], ◌∷◌, Contains}
+use Rattle.std.specs.Prelude.{◌≡◌, ℕ, ◌≤◌, List, [], ◌∷◌, Contains}
 use Rattle.std.specs.List.{sum_by}
+use Rattle.ch_graph.specs.declared.limits.TheConstants.{MOST_WEIGHT}
 use Rattle.ch_graph.specs.declared.cost.Cost.{Cost}
 use Rattle.ch_graph.specs.Cost.{IsAtMost, cost_sum}
 use Rattle.ch_contract.specs.declared.leg.Leg.{Leg}
@@ -15,11 +16,11 @@ IsUpwardPath rows a b (l ∷ legs) = Contains (row rows a) l × IsUpwardPath row
 abbrev pub path_cost : List Leg → Cost
 path_cost legs = record { weight = sum_by (λ l. l.cost.weight) legs; arcs = sum_by (λ l. l.cost.arcs) legs }
 
--- c is the least cost of an upward path that weighs at most 2 ^ 60
+-- c is the least cost of an upward path that weighs at most MOST_WEIGHT
 pub record IsLeastUpwardPath (rows : List (List Leg)) (a b : ℕ) (c : Cost) : Type 0 where
   pub path : (legs : List Leg) × IsUpwardPath rows a b legs × (path_cost legs ≡ c)
-  pub weight : c.weight ≤ 2 ^ 60
-  pub least : (legs : List Leg) → IsUpwardPath rows a b legs → (path_cost legs).weight ≤ 2 ^ 60 → IsAtMost c (path_cost legs)
+  pub weight : c.weight ≤ MOST_WEIGHT
+  pub least : (legs : List Leg) → IsUpwardPath rows a b legs → (path_cost legs).weight ≤ MOST_WEIGHT → IsAtMost c (path_cost legs)
 
 -- the least cost of going up from s to m
 abbrev pub IsUp : LevelsAndLegs → ℕ → ℕ → Cost → Type 0

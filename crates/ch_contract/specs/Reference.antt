@@ -1,7 +1,8 @@
 -- The reference program: the definitions computed on small graphs.
-use Rattle.std.specs.Prelude.{ℕ, zero, suc, ◌+◌, ◌^◌, ◌==◌, ◌&&◌, ◌||◌, not, nat_lt, nat_le, filter_map, option_map, find, Bool, true, false, if◌then◌else◌, List, [], ◌∷◌, length, map, flat_map, filter, unwrap_or, Option, Some, None, ℤ, pos, ◌-ℤ◌, int_lt}
+use Rattle.std.specs.Prelude.{ℕ, zero, suc, ◌+◌, ◌==◌, ◌&&◌, ◌||◌, not, nat_lt, nat_le, filter_map, option_map, find, Bool, true, false, if◌then◌else◌, List, [], ◌∷◌, length, map, flat_map, filter, unwrap_or, Option, Some, None, ℤ, pos, ◌-ℤ◌, int_lt}
 use Rattle.std.specs.List.{range_with_len}
 use Rattle.std.specs.Option.{option_and_then}
+use Rattle.ch_graph.specs.declared.limits.TheConstants.{MOST_WEIGHT}
 use Rattle.ch_graph.specs.declared.cost.Cost.{Cost}
 use Rattle.ch_graph.specs.Cost.{cost_sum, no_cost}
 use Rattle.ch_graph.specs.Graph.{Network}
@@ -43,7 +44,7 @@ abbrev pub has_witness : ℕ → Legs → ℕ → ℕ → ℕ → Cost → ℕ �
 has_witness n L v u w c h = costs_at_most (cheapest n L v w h u) c
 
 abbrev pub shortcut_if : ℕ → ℕ → Legs → ℕ → ℕ → ℕ → Cost → List Shortcut
-shortcut_if n h L v u w c = if nat_le c.weight (2 ^ 60) && nat_lt c.arcs n && not (has_witness n L v u w c h) then record { from = u; to = w; cost = c } ∷ [] else []
+shortcut_if n h L v u w c = if nat_le c.weight MOST_WEIGHT && nat_lt c.arcs n && not (has_witness n L v u w c h) then record { from = u; to = w; cost = c } ∷ [] else []
 
 abbrev pub shortcut_between : ℕ → ℕ → Legs → ℕ → ℕ → ℕ → Option Label → Option Label → List Shortcut
 shortcut_between n h L v u w None b = []

@@ -1,5 +1,6 @@
 -- What a saved hierarchy names, and its faults.
-use Rattle.std.specs.Prelude.{◌≡◌, ◌≢◌, ℕ, ◌+◌, ◌^◌, ◌<◌, ◌≤◌, ◌↔◌, ◌⊎◌, List, length, slice_index, slice_get, AllPairs, Contains, Option, Some, None, Result, Err}
+use Rattle.std.specs.Prelude.{◌≡◌, ◌≢◌, ℕ, ◌+◌, ◌<◌, ◌≤◌, ◌↔◌, ◌⊎◌, List, length, slice_index, slice_get, AllPairs, Contains, Option, Some, None, Result, Err}
+use Rattle.ch_graph.specs.declared.limits.TheConstants.{MOST_WEIGHT}
 use Rattle.ch_graph.specs.declared.arc.InArc.{InArc}
 use Rattle.ch_graph.specs.declared.cost.Cost.{Cost}
 use Rattle.ch_graph.specs.declared.saved.SavedLeg.{SavedLeg}
@@ -39,7 +40,7 @@ JoinsNodes n l = (l.from < n) × (l.to < n) × (l.from ≢ l.to)
 
 -- the weight and the number of arcs are within the limits
 abbrev pub IsWithinBounds : ℕ → SavedLeg → Type 0
-IsWithinBounds n l = (l.cost.weight ≤ 2 ^ 60) × (l.cost.arcs < n)
+IsWithinBounds n l = (l.cost.weight ≤ MOST_WEIGHT) × (l.cost.arcs < n)
 
 -- a leg before place i leads between the same nodes
 abbrev pub StoodBefore : List SavedLeg → ℕ → SavedLeg → Type 0

@@ -13,18 +13,17 @@ use crate::fault::{CheckError, CheckFault};
 use crate::hierarchy::Hierarchy;
 use crate::placing::{PlacedLegs, place_legs};
 use crate::sorting::leg_rows;
+use ch_graph::limits::MOST_WEIGHT;
 use ch_graph::{Graph, Saved, SavedLeg};
 use std::alloc::{AllocError, Global};
-
-/// The most that a leg may weigh.
-const MOST_WEIGHT: u64 = 1 << 60;
 
 /// The hierarchy that a saved one names, among the nodes of the graph. Its order, the pairs of its legs and
 /// their bounds are judged; whether its legs are right for the graph is not. The work is linear in the
 /// number of nodes and legs.
 ///
 /// # Errors
-/// The first fault of the kinds `Order`, `Pair` and `Bound`, or `NoMemory`.
+/// The first fault of the kinds `Order`, `Pair` and `Bound`, or `NoMemory`, where there was no memory before a
+/// fault was met. The graph and the saved hierarchy are as they were.
 pub fn assemble(alloc: Global, graph: &Graph, saved: &Saved) -> Result<Hierarchy, CheckError>
     ensures value { (H : LevelsAndLegs) → AnswersWhere result (Ok H) (NamesFor graph.now saved.now H) }
     ensures fault { (f : AnyFault) →

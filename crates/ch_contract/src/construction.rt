@@ -26,7 +26,8 @@ use std::thread::Threads;
 /// pass the gate with the numbers of its pieces. The plan and the gate change nothing of the hierarchy.
 ///
 /// # Errors
-/// `AllocError` where there is no memory.
+/// `AllocError` where the call or any piece was refused memory, once all workers are joined. What was made is
+/// dropped, and the graph is as it was.
 pub fn build<R: Threads + Sync, G: Gate>(
     rt: &R,
     alloc: Global,

@@ -17,7 +17,8 @@ pub enum CheckFault {
     /// The ends of the leg at this place are equal or no nodes of the graph, or a leg before it leads
     /// between the same nodes.
     Pair(usize),
-    /// The leg at this place weighs more than 2^60, or stands for as many arcs as there are nodes.
+    /// The leg at this place weighs more than [`MOST_WEIGHT`](ch_graph::limits::MOST_WEIGHT), or stands for as many
+    /// arcs as there are nodes.
     Bound(usize),
     /// The leg at this place has no middle, and is no arc of the graph.
     Base(usize),

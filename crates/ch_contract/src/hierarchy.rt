@@ -35,7 +35,7 @@ impl Hierarchy {
         Hierarchy { levels, ups, downs }
     }
 
-    /// The number of nodes, at most 2^25.
+    /// The number of nodes, at most [`MOST_NODES`](ch_graph::limits::MOST_NODES).
     pub fn nodes(&self) -> u32
         ensures nodes { result ≡ nodes_of self.now }
         ensures levelled { IsLevelled self.now }

@@ -1,5 +1,6 @@
 //! The legs among the nodes that are left.
 ghost use Rattle.std.specs.Prelude.{◌≡◌, ◌≢◌, ℕ, ◌+◌, ◌-◌, ◌^◌, ◌<◌, ◌≤◌, ◌↔◌, ◌⊎◌, All, IfOk, OnOk, MatchOption, IsTrue, Some};
+ghost use Rattle.ch_graph.specs.declared.limits.TheConstants.{MOST_NODES, MOST_WEIGHT, MOST_SUM};
 ghost use Rattle.ch_graph.specs.Cost.{IsAtMost, cost_sum};
 ghost use Rattle.ch_contract.specs.Legs.{SameLegs, AreLegsWithin, HasWitness, IsHopBound, opening};
 ghost use Rattle.ch_contract.specs.Contraction.{AreShortcuts, Contracts, IsPriority, contracted};
@@ -15,22 +16,20 @@ use crate::leg::Leg;
 use crate::lists::LegLists;
 use crate::search::{Search, Wanted};
 use crate::shortcut::Shortcut;
+use ch_graph::limits::{MOST_HOPS, MOST_NODES, MOST_WEIGHT};
 use ch_graph::{Cost, Graph, InArc};
 use std::alloc::{AllocError, Global};
 use std::marker::Model;
 
-/// The most that a leg may weigh. A least walk between two nodes weighs no more.
-const MOST_WEIGHT: u64 = 1 << 60;
-
-/// No chain of at most 16 legs stands for more arcs.
-const MOST_ARCS: u64 = 1 << 29;
+/// No chain of as many legs as a witness may have stands for more arcs.
+const MOST_ARCS: u64 = MOST_HOPS as u64 * MOST_NODES as u64;
 
 /// The most that a leg may weigh for searches over words.
 const MOST_LIGHT: u64 = (1 << 30) - 1;
 
 /// The legs among the nodes that are not contracted yet: at most one from each node to each other node.
 ///
-/// No leg weighs more than 2^60 or stands for as many arcs as the input graph has nodes.
+/// No leg weighs more than [`MOST_WEIGHT`] or stands for as many arcs as the input graph has nodes.
 #[derive(Drop)]
 pub struct Remaining {
     nodes: u32,
@@ -70,7 +69,7 @@ impl Remaining {
     /// from one to the other. Loops give no leg.
     ///
     /// # Errors
-    /// `AllocError` where there is no memory for a leg. So it is with all calls of this type.
+    /// `AllocError` where there is no memory for the legs. The graph is as it was.
     pub fn open(alloc: Global, graph: &Graph) -> Result<Remaining, AllocError>
         ensures nodes { IfOk result (λ r. r.nodes ≡ graph.now.nodes) }
         ensures legs { IfOk result (λ r. SameLegs (legs_of r) (opening graph.now)) }
@@ -96,7 +95,7 @@ impl Remaining {
     /// The number of nodes of the input graph.
     pub fn nodes(&self) -> u32
         ensures nodes { result ≡ self.now.nodes }
-        ensures count { self.now.nodes ≤ 2 ^ 25 }
+        ensures count { self.now.nodes ≤ MOST_NODES }
         ensures limits { AreLegsWithin self.now.nodes (legs_of self.now) }
     {
         self.nodes
@@ -127,6 +126,9 @@ impl Remaining {
 
     /// Whether a chain of 1 to `hops` legs leads from `u` to `w`, never touches `v`, and costs at most
     /// `cost`. The search goes forward from `u` until two legs are left, and these back from `w`.
+    ///
+    /// # Errors
+    /// `AllocError` where there is no memory for a search. The legs are as they were.
     pub fn has_witness(
         &self,
         v: u32,
@@ -137,7 +139,7 @@ impl Remaining {
     ) -> Result<bool, AllocError>
         requires nodes { (v < self.now.nodes) × (u < self.now.nodes) × (w < self.now.nodes) }
         requires apart { (v ≢ u) × (v ≢ w) × (u ≢ w) }
-        requires cost { cost.weight ≤ 2 ^ 60 }
+        requires cost { cost.weight ≤ MOST_WEIGHT }
         requires hops { IsHopBound hops }
         ensures { IfOk result (λ found. IsTrue found ↔ HasWitness (legs_of self.now) v u w cost hops) }
     {
@@ -158,6 +160,9 @@ impl Remaining {
 
     /// The shortcuts that the contraction of `v` would leave, ordered by their ends: for two legs to `v`
     /// and from it their sum, where it keeps the limits and has no witness of at most `hops` legs.
+    ///
+    /// # Errors
+    /// `AllocError` where there is no memory for searches or for the list. The legs are as they were.
     pub fn shortcuts(&self, v: u32, hops: u32) -> Result<Vec<Shortcut>, AllocError>
         requires node { v < self.now.nodes }
         requires hops { IsHopBound hops }
@@ -170,6 +175,9 @@ impl Remaining {
     }
 
     /// The priority of `v`: the number of its shortcuts less the number of legs that touch it.
+    ///
+    /// # Errors
+    /// `AllocError` where there is no memory for searches. The legs are as they were.
     pub fn priority(&self, v: u32, hops: u32) -> Result<i64, AllocError>
         requires node { v < self.now.nodes }
         requires hops { IsHopBound hops }
@@ -182,6 +190,10 @@ impl Remaining {
 
     /// Takes `v` out with all legs that touch it, and puts its shortcuts in. A shortcut takes the place of
     /// an older leg between its ends, which was dearer.
+    ///
+    /// # Errors
+    /// `AllocError` where there is no memory for the shortcuts or for what they leave. The legs are dropped, so that
+    /// none are left of which half are contracted; the graph can be opened again.
     pub fn contract(self, v: u32, hops: u32) -> Result<(Remaining, Removed), AllocError>
         requires node { v < self.nodes }
         requires hops { IsHopBound hops }
@@ -397,8 +409,8 @@ impl Remaining {
 /// The greatest cost that this leg to a node makes together with one from it, of those that lead on to
 /// another node and keep the limits. `None` where there is none.
 fn most_cost(nodes: u32, first: Leg, up: &[Leg]) -> Option<Cost>
-    requires first { (first.cost.weight ≤ 2 ^ 60) × (first.cost.arcs ≤ 2 ^ 60) }
-    requires up { All (λ l. (l.cost.weight ≤ 2 ^ 60) × (l.cost.arcs ≤ 2 ^ 60)) up.now }
+    requires first { (first.cost.weight ≤ MOST_WEIGHT) × (first.cost.arcs ≤ 2 ^ 60) }
+    requires up { All (λ l. (l.cost.weight ≤ MOST_WEIGHT) × (l.cost.arcs ≤ 2 ^ 60)) up.now }
     ensures { AreBounded nodes first up.now result }
 {
     let mut most = None;
@@ -425,7 +437,7 @@ fn greatest(so_far: Option<Cost>, cost: Cost) -> Cost
 /// limits.
 #[inline]
 fn joined(nodes: u32, first: Leg, second: Leg) -> Option<Cost>
-    requires weight { first.cost.weight + second.cost.weight ≤ 2 ^ 61 }
+    requires weight { first.cost.weight + second.cost.weight ≤ MOST_SUM }
     requires arcs { first.cost.arcs + second.cost.arcs < 2 ^ 64 }
     ensures { MatchOption result (IsCandidate nodes first second → ⊥)
         (λ c. (c ≡ cost_sum first.cost second.cost) × IsCandidate nodes first second) }

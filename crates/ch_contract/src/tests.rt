@@ -1,7 +1,9 @@
-//! What no clause says: that calls succeed where there is memory, worked values, and what workers do.
+//! What no clause says: that calls succeed where there is memory, worked values, what workers do, and what a
+//! refusal of memory leaves.
 
 mod calls;
 mod hierarchies;
+mod refusals;
 mod saved;
 mod searches;
 mod workers;

@@ -1,5 +1,5 @@
 -- Labels, what is known of each node: one that an arc lowers keeps all that was known, and the total falls.
-use Rattle.std.proofs.Common.{◌≡◌, ℕ, ◌+◌, ◌*◌, ◌^◌, ◌<◌, ◌≤◌, cond, List, [], ◌∷◌, ◌++◌, length, Contains, Option, Some, None, refl, sym, ◌∙◌, ap, subst, arith, get_or-set_same, get_or-set_other, set, length-set, inl, inr}
+use Rattle.std.proofs.Common.{◌≡◌, ℕ, ◌+◌, ◌*◌, ◌<◌, ◌≤◌, cond, List, [], ◌∷◌, ◌++◌, length, Contains, Option, Some, None, refl, sym, ◌∙◌, ap, subst, arith, get_or-set_same, get_or-set_other, set, length-set, inl, inr}
 use Rattle.std.proofs.lemmas.Bool.{cases_eq, cases_lt}
 use Rattle.std.proofs.lemmas.Option.{same_Some, none-some}
 use Rattle.std.proofs.Math.Nat.{mul-le-mul_left}
@@ -7,6 +7,7 @@ use Rattle.std.proofs.lemmas.List.{length-replicate, get_or-replicate, get_or_pa
 use Rattle.std.specs.Prelude.{is_some, unwrap_or, replicate}
 use Rattle.std.specs.List.{count_by}
 use Rattle.std.proofs.lemmas.List.Sums.{sum_by-set, count_by-le-length}
+use Rattle.ch_graph.specs.declared.limits.TheConstants.{MOST_WEIGHT, MOST_SUM}
 use Rattle.ch_graph.specs.declared.arc.InArc.{InArc}
 use Rattle.ch_graph.specs.Graph.{Network, IsArcWithin}
 use Rattle.ch_graph.specs.Walk.{IsWalk, weight_of}
@@ -25,19 +26,19 @@ count-next best v x now e within =
     let count = sum_by-set (λ (o : Option ℕ). cond (is_some o) 1 0) best v (Some x) None within in
     omega (arith, rw e at count)
 
--- a label is below 2 ^ 60, since no more nodes have one than there are
-pub known_small : (g : Network) (s : ℕ) (best : List (Option ℕ)) (v d : ℕ) → IsPartial g s best → weight_at best v ≡ Some d → d < 2 ^ 60
+-- a label is below MOST_WEIGHT, since no more nodes have one than there are
+pub known_small : (g : Network) (s : ℕ) (best : List (Option ℕ)) (v d : ℕ) → IsPartial g s best → weight_at best v ≡ Some d → d < MOST_WEIGHT
 known_small g s best v d p e =
     let bound = p.small v d e in
     let most = count_by-le-length is_some best in
     let nodes = p.nodes in
-    elim (cases_lt d (2 ^ 60)) [
+    elim (cases_lt d MOST_WEIGHT) [
       | inl small ↦ small
-      | inr great ↦ let products : g.nodes * 2 ^ 60 ≤ g.nodes * d = mul-le-mul_left g.nodes great in absurd (omega arith)
+      | inr great ↦ let products : g.nodes * MOST_WEIGHT ≤ g.nodes * d = mul-le-mul_left g.nodes great in absurd (omega arith)
     ]
 
--- an arc within the limits weighs at most 2 ^ 60, since there is a node
-pub weight_small : (nodes : ℕ) (a : InArc) → IsArcWithin nodes a → a.weight ≤ 2 ^ 60
+-- an arc within the limits weighs at most MOST_WEIGHT, since there is a node
+pub weight_small : (nodes : ℕ) (a : InArc) → IsArcWithin nodes a → a.weight ≤ MOST_WEIGHT
 weight_small nodes a h =
     let from = h.ends.0 in
     let weight = h.weight in
@@ -46,7 +47,7 @@ weight_small nodes a h =
     omega arith
 
 -- an arc between nodes, from one that is known, has room for its sum
-pub sum_fits : (g : Network) (s : ℕ) (best : List (Option ℕ)) (a : InArc) (before : ℕ) → IsPartial g s best → IsArcWithin g.nodes a → weight_at best a.from ≡ Some before → before + a.weight < 2 ^ 61
+pub sum_fits : (g : Network) (s : ℕ) (best : List (Option ℕ)) (a : InArc) (before : ℕ) → IsPartial g s best → IsArcWithin g.nodes a → weight_at best a.from ≡ Some before → before + a.weight < MOST_SUM
 sum_fits g s best a before p fits e =
     let label = known_small g s best a.from before p e in
     let weight = weight_small g.nodes a fits in
@@ -107,11 +108,11 @@ module _ (g : Network) (s : ℕ) (best : List (Option ℕ)) (new : List (Option 
   total_by : (o : Option ℕ) → weight_at best a.to ≡ o → total later < total best
   unfolding sum later
   total_by None e =
-      let sums = sum_by-set (λ (o : Option ℕ). unwrap_or o (2 ^ 61)) best a.to (Some (h.before + a.weight)) None within in
+      let sums = sum_by-set (λ (o : Option ℕ). unwrap_or o MOST_SUM) best a.to (Some (h.before + a.weight)) None within in
       let fit = sum_fits g s best a h.before p fits h.from in
       omega (arith, rw e at sums)
   total_by (Some now) e =
-      let sums = sum_by-set (λ (o : Option ℕ). unwrap_or o (2 ^ 61)) best a.to (Some (h.before + a.weight)) None within in
+      let sums = sum_by-set (λ (o : Option ℕ). unwrap_or o MOST_SUM) best a.to (Some (h.before + a.weight)) None within in
       let falls = h.lighter now e in
       omega (arith, rw e at sums)
 
@@ -155,7 +156,7 @@ module _ (g : Network) (s : ℕ) (best : List (Option ℕ)) (new : List (Option 
   more (Some now) e = omega (arith, count-next best a.to sum now e within)
 
   -- the new label is small, whether or not the end had one
-  small_here : (o : Option ℕ) → weight_at best a.to ≡ o → g.nodes * sum + 2 ^ 60 ≤ count_by is_some later * 2 ^ 60
+  small_here : (o : Option ℕ) → weight_at best a.to ≡ o → g.nodes * sum + MOST_WEIGHT ≤ count_by is_some later * MOST_WEIGHT
   unfolding sum later
   small_here None e =
       let count = count-first best a.to (h.before + a.weight) e within in
@@ -170,10 +171,10 @@ module _ (g : Network) (s : ℕ) (best : List (Option ℕ)) (new : List (Option 
       omega arith
 
   -- each label is small
-  small : (v d : ℕ) → weight_at later v ≡ Some d → g.nodes * d + 2 ^ 60 ≤ count_by is_some later * 2 ^ 60
+  small : (v d : ℕ) → weight_at later v ≡ Some d → g.nodes * d + MOST_WEIGHT ≤ count_by is_some later * MOST_WEIGHT
   small =
       let count = more _ refl in
-      each (λ v d. g.nodes * d + 2 ^ 60 ≤ count_by is_some later * 2 ^ 60) (small_here _ refl) (λ v d e. let bound = p.small v d e in omega arith)
+      each (λ v d. g.nodes * d + MOST_WEIGHT ≤ count_by is_some later * MOST_WEIGHT) (small_here _ refl) (λ v d e. let bound = p.small v d e in omega arith)
 
   -- the start keeps its label, since none is less
   start : weight_at later s ≡ Some 0

@@ -1,5 +1,5 @@
 -- Walks that pass no node twice: each walk has one of no greater cost, and they are short and light.
-use Rattle.std.proofs.Common.{◌≡◌, ℕ, ◌*◌, ◌^◌, ◌<◌, ◌≤◌, Bool, true, false, eqb, ◌||◌, List, [], ◌∷◌, length, map, All, refl, sym, ◌∙◌, ap, subst, arith, inl, inr}
+use Rattle.std.proofs.Common.{◌≡◌, ℕ, ◌*◌, ◌<◌, ◌≤◌, Bool, true, false, eqb, ◌||◌, List, [], ◌∷◌, length, map, All, refl, sym, ◌∙◌, ap, subst, arith, inl, inr}
 use Rattle.std.specs.Prelude.{◌⊎◌}
 use Rattle.std.specs.List.{IsDistinct, AllByRecursion, list_any}
 use Rattle.std.proofs.Math.Nat.{mul-add, le_of_mul-le-mul_left}
@@ -8,6 +8,7 @@ use Rattle.std.proofs.lemmas.List.Sums.{sum_by-cons}
 use Rattle.std.proofs.lemmas.List.Elements.{All-contains}
 use Rattle.std.proofs.lemmas.Bool.{cases_eq, eqb-true}
 use Rattle.std.proofs.lemmas.Map.Steps.{length-le_from_distinct_below}
+use Rattle.ch_graph.specs.declared.limits.TheConstants.{MOST_WEIGHT}
 use Rattle.ch_graph.specs.declared.arc.InArc.{InArc}
 use Rattle.ch_graph.specs.declared.cost.Cost.{Cost}
 use Rattle.ch_graph.specs.Cost.{IsAtMost, no_cost}
@@ -147,8 +148,8 @@ module _ (g : Network) (each : All (IsArcWithin g.nodes) g.arcs) where
       let most = length-le_from_distinct_below (t ∷ starts xs) g.nodes (apart_end t xs simple, distinct t xs simple) (below_end s t xs lt w) in
       omega (arith, length-starts xs)
 
-  -- the number of nodes times the weight of a walk is at most 2 ^ 60 for each arc
-  weight_by_arcs : (s t : ℕ) (xs : List InArc) → IsWalk g s t xs → g.nodes * weight_of xs ≤ length xs * 2 ^ 60
+  -- the number of nodes times the weight of a walk is at most MOST_WEIGHT for each arc
+  weight_by_arcs : (s t : ℕ) (xs : List InArc) → IsWalk g s t xs → g.nodes * weight_of xs ≤ length xs * MOST_WEIGHT
   weight_by_arcs s t [] w = omega arith
   weight_by_arcs s t (x ∷ xs) w =
       let more = weight_by_arcs x.to t xs w.2 in
@@ -156,13 +157,13 @@ module _ (g : Network) (each : All (IsArcWithin g.nodes) g.arcs) where
       let sum = ap (λ q. g.nodes * q) (sum_by-cons (λ (a : InArc). a.weight) x xs) ∙ mul-add g.nodes x.weight (weight_of xs) in
       omega arith
 
-  -- a walk that passes no node twice weighs at most 2 ^ 60
-  simple_weight : (s t : ℕ) (xs : List InArc) → IsWalk g s t xs → IsSimple t xs → weight_of xs ≤ 2 ^ 60
+  -- a walk that passes no node twice weighs at most MOST_WEIGHT
+  simple_weight : (s t : ℕ) (xs : List InArc) → IsWalk g s t xs → IsSimple t xs → weight_of xs ≤ MOST_WEIGHT
   simple_weight s t [] w simple = omega arith
   simple_weight s t (x ∷ xs) w simple =
       let few = simple_arcs s t (x ∷ xs) w simple in
       let product = weight_by_arcs s t (x ∷ xs) w in
-      let sum : g.nodes * weight_of (x ∷ xs) ≤ g.nodes * 2 ^ 60 = omega arith in
+      let sum : g.nodes * weight_of (x ∷ xs) ≤ g.nodes * MOST_WEIGHT = omega arith in
       let some : 0 < g.nodes = omega arith in
       le_of_mul-le-mul_left sum some
 
@@ -170,8 +171,8 @@ module _ (g : Network) (each : All (IsArcWithin g.nodes) g.arcs) where
 pub IsSimple-arcs : (g : Network) (s t : ℕ) (xs : List InArc) → IsWithinLimits g → t < g.nodes → IsWalk g s t xs → IsSimple t xs → length xs < g.nodes
 IsSimple-arcs g s t xs limits = simple_fewer g limits.each s t xs
 
--- a simple walk of a graph within the limits weighs at most 2 ^ 60
-pub IsSimple-weight : (g : Network) (s t : ℕ) (xs : List InArc) → IsWithinLimits g → IsWalk g s t xs → IsSimple t xs → weight_of xs ≤ 2 ^ 60
+-- a simple walk of a graph within the limits weighs at most MOST_WEIGHT
+pub IsSimple-weight : (g : Network) (s t : ℕ) (xs : List InArc) → IsWithinLimits g → IsWalk g s t xs → IsSimple t xs → weight_of xs ≤ MOST_WEIGHT
 IsSimple-weight g s t xs limits = simple_weight g limits.each s t xs
 
 -- a least cost has fewer arcs than there are nodes
@@ -180,8 +181,8 @@ IsLeast-arcs g s t c limits lt l =
     let w = l.walk in
     subst (λ d. d.arcs < g.nodes) w.2 (IsSimple-arcs g s t w.0 limits lt w.1 (IsLeast-IsSimple g s t w.0 (subst (IsLeast g s t) (sym w.2) l) w.1))
 
--- a least cost weighs at most 2 ^ 60
-pub IsLeast-weight : (g : Network) (s t : ℕ) (c : Cost) → IsWithinLimits g → IsLeast g s t c → c.weight ≤ 2 ^ 60
+-- a least cost weighs at most MOST_WEIGHT
+pub IsLeast-weight : (g : Network) (s t : ℕ) (c : Cost) → IsWithinLimits g → IsLeast g s t c → c.weight ≤ MOST_WEIGHT
 IsLeast-weight g s t c limits l =
     let w = l.walk in
-    subst (λ d. d.weight ≤ 2 ^ 60) w.2 (IsSimple-weight g s t w.0 limits w.1 (IsLeast-IsSimple g s t w.0 (subst (IsLeast g s t) (sym w.2) l) w.1))
+    subst (λ d. d.weight ≤ MOST_WEIGHT) w.2 (IsSimple-weight g s t w.0 limits w.1 (IsLeast-IsSimple g s t w.0 (subst (IsLeast g s t) (sym w.2) l) w.1))

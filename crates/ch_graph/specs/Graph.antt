@@ -1,6 +1,7 @@
 -- A graph is a number of nodes and the list of its arcs.
-use Rattle.std.specs.Prelude.{◌≡◌, ℕ, ◌*◌, ◌^◌, ◌<◌, ◌≤◌, List, ◌++◌, length, take, slice_get, Some, All, codes, decimal}
+use Rattle.std.specs.Prelude.{◌≡◌, ℕ, ◌*◌, ◌<◌, ◌≤◌, List, ◌++◌, length, take, slice_get, Some, All, codes, decimal}
 use Rattle.ch_graph.specs.declared.arc.InArc.{InArc}
+use Rattle.ch_graph.specs.declared.limits.TheConstants.{MOST_NODES, MOST_ARCS, MOST_WEIGHT}
 use Rattle.ch_graph.specs.declared.graph.GraphFault.{GraphFault}
 use Rattle.ch_graph.specs.declared.graph.GraphFault.TheVariants.{Size, NodeRange, Sum}
 
@@ -12,14 +13,14 @@ pub record Network : Type 0 where
 abbrev pub HasEnds : ℕ → InArc → Type 0
 HasEnds nodes a = (a.from < nodes) × (a.to < nodes)
 
--- both ends are nodes, and no walk without a repeated node weighs more than 2 ^ 60
+-- both ends are nodes, and no walk without a repeated node weighs more than MOST_WEIGHT
 pub record IsArcWithin (nodes : ℕ) (a : InArc) : Type 0 where
   pub ends : HasEnds nodes a
-  pub weight : nodes * a.weight ≤ 2 ^ 60
+  pub weight : nodes * a.weight ≤ MOST_WEIGHT
 
 -- there are not too many nodes and arcs
 abbrev pub HasSize : Network → Type 0
-HasSize g = (g.nodes ≤ 2 ^ 25) × (length g.arcs ≤ 2 ^ 27)
+HasSize g = (g.nodes ≤ MOST_NODES) × (length g.arcs ≤ MOST_ARCS)
 
 -- a graph of this crate
 pub record IsWithinLimits (g : Network) : Type 0 where
@@ -30,7 +31,7 @@ pub record IsWithinLimits (g : Network) : Type 0 where
 abbrev pub IsArcFault : ℕ → ℕ → InArc → GraphFault → Type 0
 IsArcFault nodes place a Size = ⊥
 IsArcFault nodes place a (NodeRange i) = (i ≡ place) × (HasEnds nodes a → ⊥)
-IsArcFault nodes place a (Sum i) = (i ≡ place) × HasEnds nodes a × (2 ^ 60 < nodes * a.weight)
+IsArcFault nodes place a (Sum i) = (i ≡ place) × HasEnds nodes a × (MOST_WEIGHT < nodes * a.weight)
 
 -- the fault of the first arc that has one
 pub record IsFirstArcFault (nodes : ℕ) (arcs : List InArc) (fault : GraphFault) : Type 0 where

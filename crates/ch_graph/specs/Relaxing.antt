@@ -1,6 +1,7 @@
 -- What the plain distance knows of each node while it relaxes arcs.
-use Rattle.std.specs.Prelude.{◌≡◌, ℕ, ◌+◌, ◌*◌, ◌^◌, ◌<◌, ◌≤◌, Bool, true, false, List, All, length, slice_index_or, slice_set, unwrap_or, is_some, Option, Some, None}
+use Rattle.std.specs.Prelude.{◌≡◌, ℕ, ◌+◌, ◌*◌, ◌<◌, ◌≤◌, Bool, true, false, List, All, length, slice_index_or, slice_set, unwrap_or, is_some, Option, Some, None}
 use Rattle.std.specs.List.{sum_by, count_by}
+use Rattle.ch_graph.specs.declared.limits.TheConstants.{MOST_WEIGHT, MOST_SUM}
 use Rattle.ch_graph.specs.declared.arc.InArc.{InArc}
 use Rattle.ch_graph.specs.Graph.{Network}
 use Rattle.ch_graph.specs.Walk.{IsWalk, weight_of}
@@ -14,7 +15,7 @@ pub record IsPartial (g : Network) (s : ℕ) (best : List (Option ℕ)) : Type 0
   pub nodes : length best ≡ g.nodes
   pub start : weight_at best s ≡ Some 0
   pub walks : (v d : ℕ) → weight_at best v ≡ Some d → (arcs : List InArc) × IsWalk g s v arcs × (weight_of arcs ≡ d)
-  pub small : (v d : ℕ) → weight_at best v ≡ Some d → g.nodes * d + 2 ^ 60 ≤ count_by is_some best * 2 ^ 60
+  pub small : (v d : ℕ) → weight_at best v ≡ Some d → g.nodes * d + MOST_WEIGHT ≤ count_by is_some best * MOST_WEIGHT
 
 -- the arc shows no lighter walk
 abbrev pub IsRelaxed : List (Option ℕ) → InArc → Type 0
@@ -22,7 +23,7 @@ IsRelaxed best a = (d : ℕ) → weight_at best a.from ≡ Some d → (e : ℕ) 
 
 -- falls with each change
 abbrev pub total : List (Option ℕ) → ℕ
-total best = sum_by (λ o. unwrap_or o (2 ^ 61)) best
+total best = sum_by (λ o. unwrap_or o MOST_SUM) best
 
 -- the arc showed a lighter walk to its end than was known, and that is known now
 pub record IsLowered (old new : List (Option ℕ)) (a : InArc) : Type 0 where

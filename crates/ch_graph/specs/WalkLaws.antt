@@ -1,6 +1,7 @@
 -- Laws of walks, and of the least costs of walks.
-use Rattle.std.specs.Prelude.{◌≡◌, ◌≢◌, ℕ, ◌^◌, ◌<◌, ◌≤◌, ◌⊎◌, List, [], ◌∷◌, ◌++◌, length}
+use Rattle.std.specs.Prelude.{◌≡◌, ◌≢◌, ℕ, ◌<◌, ◌≤◌, ◌⊎◌, List, [], ◌∷◌, ◌++◌, length}
 use Rattle.std.specs.List.{AllByRecursion}
+use Rattle.ch_graph.specs.declared.limits.TheConstants.{MOST_WEIGHT}
 use Rattle.ch_graph.specs.declared.arc.InArc.{InArc}
 use Rattle.ch_graph.specs.declared.cost.Cost.{Cost}
 use Rattle.ch_graph.specs.Cost.{IsAtMost, IsBelow, cost_sum}
@@ -35,7 +36,7 @@ LoopsCost g = (s m t : ℕ) (xs ys zs : List InArc) → IsWalk g s m xs → IsWa
 pub record SimpleWalksAreEnough (g : Network) : Type 0 where
   pub simple : (s t : ℕ) (xs : List InArc) → IsWalk g s t xs → (ys : List InArc) × IsWalk g s t ys × IsSimple t ys × IsAtMost (cost_of ys) (cost_of xs)
   pub few_arcs : IsWithinLimits g → (s t : ℕ) (xs : List InArc) → t < g.nodes → IsWalk g s t xs → IsSimple t xs → length xs < g.nodes
-  pub light : IsWithinLimits g → (s t : ℕ) (xs : List InArc) → IsWalk g s t xs → IsSimple t xs → weight_of xs ≤ 2 ^ 60
+  pub light : IsWithinLimits g → (s t : ℕ) (xs : List InArc) → IsWalk g s t xs → IsSimple t xs → weight_of xs ≤ MOST_WEIGHT
 
 -- between two nodes there is one least cost of a walk, or no walk; its weight is the distance
 pub record LeastCostsAreFound (g : Network) : Type 0 where
@@ -49,4 +50,4 @@ pub record LeastWalksAreSimple (g : Network) : Type 0 where
   pub parts : (s m t : ℕ) (a b : Cost) → IsLeast g s t (cost_sum a b) → IsWalkCost g s m a → IsWalkCost g m t b → IsLeast g s m a × IsLeast g m t b
   pub simple : (s t : ℕ) (xs : List InArc) → IsLeast g s t (cost_of xs) → IsWalk g s t xs → IsSimple t xs
   pub few_arcs : IsWithinLimits g → (s t : ℕ) (c : Cost) → t < g.nodes → IsLeast g s t c → c.arcs < g.nodes
-  pub light : IsWithinLimits g → (s t : ℕ) (c : Cost) → IsLeast g s t c → c.weight ≤ 2 ^ 60
+  pub light : IsWithinLimits g → (s t : ℕ) (c : Cost) → IsLeast g s t c → c.weight ≤ MOST_WEIGHT

@@ -1,5 +1,6 @@
 //! Costs of walks.
 ghost use Rattle.std.specs.Prelude.{◌≡◌, ◌+◌, ◌^◌, ◌<◌, ◌≤◌};
+ghost use Rattle.ch_graph.specs.declared.limits.TheConstants.{MOST_SUM};
 ghost use Rattle.ch_graph.specs.Cost.{cost_sum};
 
 /// What a walk costs. Costs are compared by weight and then by number of arcs, so that every arc costs
@@ -15,7 +16,7 @@ pub struct Cost {
 impl Cost {
     /// The cost of a walk and a walk after it.
     pub fn plus(self, other: Cost) -> Cost
-        requires weights { self.weight + other.weight ≤ 2 ^ 61 }
+        requires weights { self.weight + other.weight ≤ MOST_SUM }
         requires arcs { self.arcs + other.arcs < 2 ^ 64 }
         ensures { result ≡ cost_sum self other }
     {

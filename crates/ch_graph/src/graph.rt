@@ -3,28 +3,19 @@ ghost use Rattle.std.specs.Prelude.{◌≡◌, ◌↔◌, All, IsOk, IfOk, IfErr
 ghost use Rattle.ch_graph.specs.Graph.{IsWithinLimits, IsFirstFault, IsFirstArcFault, IsArcWithin, IsArcFault, graph_fault_text};
 
 use crate::arc::InArc;
+use crate::limits::{MOST_ARCS, MOST_NODES, MOST_WEIGHT};
 use std::error::Error;
 use std::fmt;
 use std::marker::Model;
 
-/// The most nodes of a graph.
-const MOST_NODES: u32 = 1 << 25;
-
-/// The most arcs of a graph.
-const MOST_ARCS: usize = 1 << 27;
-
-/// The most that the number of nodes times an arc's weight may be. A least walk between two nodes has
-/// fewer arcs than there are nodes, so it weighs no more than this.
-const MOST_WEIGHT: u64 = 1 << 60;
-
 /// Why a number of nodes and a list of arcs are no graph. Places are counted from 0.
 #[derive(Clone, Copy, Debug, PartialEq, Eq)]
 pub enum GraphFault {
-    /// There are more than 2^25 nodes or 2^27 arcs.
+    /// There are more than [`MOST_NODES`] nodes or [`MOST_ARCS`] arcs.
     Size,
     /// An end of the arc at this place is not below the number of nodes.
     NodeRange(usize),
-    /// The number of nodes times the weight of the arc at this place is more than 2^60.
+    /// The number of nodes times the weight of the arc at this place is more than [`MOST_WEIGHT`].
     Sum(usize),
 }
 
@@ -45,7 +36,8 @@ impl Error for GraphFault {}
 /// A directed graph: a number of nodes, and a list of arcs between them. Parallel arcs, loops and
 /// weight 0 are allowed.
 ///
-/// It has at most 2^25 nodes and 2^27 arcs, and the number of nodes times any weight is at most 2^60.
+/// It has at most [`MOST_NODES`] nodes and [`MOST_ARCS`] arcs, and the number of nodes times any weight is at most
+/// [`MOST_WEIGHT`].
 #[derive(Debug, Drop)]
 pub struct Graph {
     nodes: u32,
@@ -75,8 +67,17 @@ impl Graph {
         }
         match first_arc_fault(nodes, arcs.as_slice()) {
             Some(fault) => Err(fault),
-            None => Ok(Graph { nodes, arcs }),
+            None => Ok(Graph::from_judged(nodes, arcs)),
         }
+    }
+
+    /// The graph of these nodes and arcs, which were judged before: they are within the limits. It keeps the vector
+    /// and takes no memory.
+    pub fn from_judged(nodes: u32, arcs: Vec<InArc>) -> Graph
+        requires { IsWithinLimits (record { nodes = nodes; arcs = arcs.items }) }
+        ensures { result ≡ record { nodes = nodes; arcs = arcs.items } }
+    {
+        Graph { nodes, arcs }
     }
 
     /// The number of nodes.

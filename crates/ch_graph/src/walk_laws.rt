@@ -13,7 +13,7 @@ pub fn loops_cost()
 {}
 
 /// Each walk has one of no greater cost that visits no node twice. Such a walk has fewer arcs than there are
-/// nodes, and in a graph within the limits it weighs at most 2^60.
+/// nodes, and in a graph within the limits it weighs at most [`MOST_WEIGHT`](crate::limits::MOST_WEIGHT).
 pub fn simple_walks_are_enough()
     ensures { (g : Network) → SimpleWalksAreEnough g }
 {}
@@ -25,7 +25,8 @@ pub fn least_costs_are_found()
 {}
 
 /// Each part of a walk of least cost costs least between its own ends. A walk of least cost visits no node
-/// twice, so it has fewer arcs than there are nodes, and in a graph within the limits it weighs at most 2^60.
+/// twice, so it has fewer arcs than there are nodes, and in a graph within the limits it weighs at most
+/// [`MOST_WEIGHT`](crate::limits::MOST_WEIGHT).
 pub fn least_walks_are_simple()
     ensures { (g : Network) → LeastWalksAreSimple g }
 {}

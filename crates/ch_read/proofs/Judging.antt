@@ -8,6 +8,7 @@ use Rattle.std.proofs.lemmas.Bool.{cases_lt, eqb-true, leb-true}
 use Rattle.std.proofs.lemmas.Bool.Decides.{nat_tests}
 use Rattle.std.proofs.lemmas.List.{append-nil, get_or_past}
 use Rattle.std.proofs.lemmas.Option.{none-some}
+use Rattle.ch_graph.specs.declared.limits.TheConstants.{MOST_NODES, MOST_WEIGHT}
 use Rattle.ch_read.specs.declared.form.Form.{Form}
 use Rattle.ch_read.specs.declared.form.Form.TheVariants.{Graph, Queries, Nodes, Saved}
 use Rattle.ch_read.specs.declared.form.Part.{Part}
@@ -89,10 +90,10 @@ past_limit n m lt = grind (arith, nat_tests)
 no_less : (nodes w : ℕ) → 0 < nodes → w ≤ nodes * w
 no_less nodes w some = grind arith
 
-weight-capped : (nodes w : ℕ) → leb (nodes * capped w) (2 ^ 60) ≡ leb (nodes * w) (2 ^ 60)
+weight-capped : (nodes w : ℕ) → leb (nodes * capped w) MOST_WEIGHT ≡ leb (nodes * w) MOST_WEIGHT
 weight-capped nodes w = at (cases_lt greatest w) (eq-zero-or-pos nodes)
   where
-    at : (greatest < w) ⊎ (w ≤ greatest) → (nodes ≡ 0) ⊎ (0 < nodes) → leb (nodes * capped w) (2 ^ 60) ≡ leb (nodes * w) (2 ^ 60)
+    at : (greatest < w) ⊎ (w ≤ greatest) → (nodes ≡ 0) ⊎ (0 < nodes) → leb (nodes * capped w) MOST_WEIGHT ≡ leb (nodes * w) MOST_WEIGHT
     at (inr le) z = rw (capped_same w le) refl
     at (inl lt) (inl none) =
         let capped_none : nodes * capped w ≡ 0 = ap (λ n. n * capped w) none ∙ zero-mul (capped w) in
@@ -100,9 +101,9 @@ weight-capped nodes w = at (cases_lt greatest w) (eq-zero-or-pos nodes)
         rw (capped_none, real_none) refl
     at (inl lt) (inr some) =
         let greatest : capped w ≡ greatest = omega arith in
-        let capped_past : 2 ^ 60 < nodes * capped w = omega (arith, no_less nodes (capped w) some) in
-        let real_past : 2 ^ 60 < nodes * w = omega (arith, no_less nodes w some) in
-        past_limit (nodes * capped w) (2 ^ 60) capped_past ∙ sym (past_limit (nodes * w) (2 ^ 60) real_past)
+        let capped_past : MOST_WEIGHT < nodes * capped w = omega (arith, no_less nodes (capped w) some) in
+        let real_past : MOST_WEIGHT < nodes * w = omega (arith, no_less nodes w some) in
+        past_limit (nodes * capped w) MOST_WEIGHT capped_past ∙ sym (past_limit (nodes * w) MOST_WEIGHT real_past)
 
 all_at : (p : ℕ → Bool) (k : ℕ) (ns : List ℕ) (i : ℕ) → i < k → i < length ns → list_all p (take k ns) ≡ true → p (get_or ns i 0) ≡ true
 all_at p zero ns i lt within h = absurd (omega arith)
@@ -124,8 +125,8 @@ pub record HasBounds (nodes : ℕ) (ns : List ℕ) : Type 0 where
   pub first_below : get_or ns 0 0 - 1 < nodes
   pub second : get_or ns 1 0 ≤ nodes
   pub second_below : get_or ns 1 0 - 1 < nodes
-  pub weight : get_or ns 2 0 ≤ 2 ^ 60
-  pub arcs : get_or ns 3 0 ≤ 2 ^ 25
+  pub weight : get_or ns 2 0 ≤ MOST_WEIGHT
+  pub arcs : get_or ns 3 0 ≤ MOST_NODES
   pub middle : get_or ns 4 0 ≤ nodes
 
 -- the nodes that must be there are in range
@@ -152,7 +153,7 @@ bounds Graph part nodes ns within =
     let long : length ns ≡ 3 = within.long in
     let a = node_at nodes 2 ns 0 (lit< tt) (omega arith) (ends_are Graph part nodes ns within) in
     let b = node_at nodes 2 ns 1 (lit< tt) (omega arith) (ends_are Graph part nodes ns within) in
-    let w : nodes * get_or ns 2 0 ≤ 2 ^ 60 = leb-true (nodes * get_or ns 2 0) (2 ^ 60) within.weight_is in
+    let w : nodes * get_or ns 2 0 ≤ MOST_WEIGHT = leb-true (nodes * get_or ns 2 0) MOST_WEIGHT within.weight_is in
     let no_arcs : get_or ns 3 0 ≡ 0 = get_or_past ns 3 0 (omega arith) in
     let no_middle : get_or ns 4 0 ≡ 0 = get_or_past ns 4 0 (omega arith) in
     record {
@@ -178,15 +179,15 @@ bounds (Saved n) Second nodes ns within =
     let long : length ns ≡ 5 = within.long in
     let a = node_at nodes 2 ns 0 (lit< tt) (omega arith) (ends_are (Saved n) Second nodes ns within) in
     let b = node_at nodes 2 ns 1 (lit< tt) (omega arith) (ends_are (Saved n) Second nodes ns within) in
-    let cost = both (leb (get_or ns 2 0) (2 ^ 60)) (leb (get_or ns 3 0) (2 ^ 25)) within.weight_is in
+    let cost = both (leb (get_or ns 2 0) MOST_WEIGHT) (leb (get_or ns 3 0) MOST_NODES) within.weight_is in
     let middle = both (list_all (is_node nodes) (take 2 ns)) (leb (get_or ns 4 0) nodes) within.nodes_are in
     record {
       first = a.1;
       first_below = omega arith;
       second = b.1;
       second_below = omega arith;
-      weight = leb-true (get_or ns 2 0) (2 ^ 60) cost.0;
-      arcs = leb-true (get_or ns 3 0) (2 ^ 25) cost.1;
+      weight = leb-true (get_or ns 2 0) MOST_WEIGHT cost.0;
+      arcs = leb-true (get_or ns 3 0) MOST_NODES cost.1;
       middle = leb-true (get_or ns 4 0) nodes middle.1;
     }
 
@@ -216,7 +217,7 @@ module _ (ns : List ℕ) (m : ℕ) where
   is_weight-capped (Nodes n) part nodes = refl
   is_weight-capped (Saved n) First nodes = refl
   is_weight-capped (Saved n) Second nodes =
-      rw (capped_at ns m 2, capped_at ns m 3, capped_le (get_or ns 2 0) (2 ^ 60) (lit< tt), capped_le (get_or ns 3 0) (2 ^ 25) (lit< tt)) refl
+      rw (capped_at ns m 2, capped_at ns m 3, capped_le (get_or ns 2 0) MOST_WEIGHT (lit< tt), capped_le (get_or ns 3 0) MOST_NODES (lit< tt)) refl
 
   pub item-capped : (form : Form) (part : Part) (nodes : ℕ) → nodes < 2 ^ 32 → IsItemWithin form part nodes ns → item_from values ≡ item_from ns
   item-capped form part nodes small within =

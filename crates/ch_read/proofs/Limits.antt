@@ -1,11 +1,12 @@
 -- What an accepted file names is within the limits, and an error is answered both ways.
-use Rattle.std.proofs.Common.{◌≡◌, ℕ, ◌-◌, ◌*◌, ◌<◌, ◌≤◌, ◌^◌, inl, inr, leb, List, [], ◌∷◌, map, get_or, Option, Some, None, Result, Ok, Err, refl, sym, ◌∙◌, ap, subst, arith}
+use Rattle.std.proofs.Common.{◌≡◌, ℕ, ◌-◌, ◌*◌, ◌<◌, ◌≤◌, inl, inr, leb, List, [], ◌∷◌, map, get_or, Option, Some, None, Result, Ok, Err, refl, sym, ◌∙◌, ap, subst, arith}
 use Rattle.std.specs.Prelude.{All, IsErrAnd, Vec, codes, option_map, slice_get, slice_index}
 use Rattle.std.specs.List.{filter_map, cons_option}
 use Rattle.std.proofs.lemmas.Bool.{leb-true}
 use Rattle.std.proofs.lemmas.List.{length-map}
 use Rattle.std.proofs.lemmas.List.Elements.{All-map}
 use Rattle.std.proofs.lemmas.Option.{none-some, same_Some}
+use Rattle.ch_graph.specs.declared.limits.TheConstants.{MOST_NODES, MOST_ARCS, MOST_WEIGHT}
 use Rattle.ch_graph.specs.Graph.{IsArcWithin, IsWithinLimits}
 use Rattle.ch_read.specs.declared.fault.ReadFault.{ReadFault}
 use Rattle.ch_read.specs.declared.fault.ReadError.{ReadError}
@@ -66,18 +67,18 @@ heading_nodes form n same (line ∷ all) h e = at (numbers_after (codes "p" ∷ 
 
 pub graph_within : (bytes : List ℕ) (h : Heading) → IsFile Graph bytes h → IsWithinLimits (record { nodes = h.nodes; arcs = map arc_from (items_in Graph First (lines bytes)) })
 graph_within bytes h file =
-    let size = both (leb h.nodes (2 ^ 25)) (leb h.items.first (2 ^ 27)) file.within.0 in
-    let items : h.items.first ≤ 2 ^ 27 = leb-true h.items.first (2 ^ 27) size.1 in
+    let size = both (leb h.nodes MOST_NODES) (leb h.items.first MOST_ARCS) file.within.0 in
+    let items : h.items.first ≤ MOST_ARCS = leb-true h.items.first MOST_ARCS size.1 in
     let few = file.within.1.few in
     record {
-      size = (leb-true h.nodes (2 ^ 25) size.0, omega (arith, length-map (items_in Graph First (lines bytes)) arc_from));
+      size = (leb-true h.nodes MOST_NODES size.0, omega (arith, length-map (items_in Graph First (lines bytes)) arc_from));
       each = All-map (IsArcWithin h.nodes) arc_from (items_in Graph First (lines bytes)) (λ k d lt. arc_within (get_or (items_in Graph First (lines bytes)) k d) (file.within.1.each k d lt));
     }
   where
     arc_within : (ns : List ℕ) → IsItemWithin Graph First h.nodes ns → IsArcWithin h.nodes (arc_from ns)
     arc_within ns within =
         let b = bounds Graph First h.nodes ns within in
-        record { ends = (b.first_below, b.second_below); weight = leb-true (h.nodes * slice_index ns 2) (2 ^ 60) within.weight_is }
+        record { ends = (b.first_below, b.second_below); weight = leb-true (h.nodes * slice_index ns 2) MOST_WEIGHT within.weight_is }
 
 pub pairs_within : (n : ℕ) (bytes : List ℕ) (h : Heading) → IsFile (Queries n) bytes h → All (λ (p : ℕ × ℕ). (p.0 < n) × (p.1 < n)) (map pair_from (items_in (Queries n) First (lines bytes)))
 pairs_within n bytes h file =

@@ -1,8 +1,9 @@
 -- The checks of each line in their order, and the first that fails.
-use Rattle.std.specs.Prelude.{◌≡◌, ℕ, ◌+◌, ◌*◌, ◌-◌, ◌^◌, ◌<◌, ◌≤◌, ◌==◌, ◌&&◌, nat_lt, nat_le, Bool, true, false, if◌then◌else◌, List, [], ◌∷◌, length, take, slice_index, slice_index_or, Option, Some, None, is_some, is_none, codes}
+use Rattle.std.specs.Prelude.{◌≡◌, ℕ, ◌+◌, ◌*◌, ◌-◌, ◌<◌, ◌≤◌, ◌==◌, ◌&&◌, nat_lt, nat_le, Bool, true, false, if◌then◌else◌, List, [], ◌∷◌, length, take, slice_index, slice_index_or, Option, Some, None, is_some, is_none, codes}
 use Rattle.std.specs.List.{list_all}
 use Rattle.std.specs.Option.{option_map_or}
 use Rattle.std.specs.Str.{bytes_eq}
+use Rattle.ch_graph.specs.declared.limits.TheConstants.{MOST_NODES, MOST_ARCS, MOST_WEIGHT, MOST_QUERIES, MOST_LISTED, MOST_LEGS}
 use Rattle.ch_read.specs.declared.fault.FaultKind.{FaultKind}
 use Rattle.ch_read.specs.declared.fault.FaultKind.TheVariants.{UnknownLine, BadProblem, SecondProblem, NoProblem, BadLine, NodeRange, Sum, Size, TooMany, TooFew}
 use Rattle.ch_read.specs.declared.form.Form.{Form}
@@ -16,10 +17,10 @@ use Rattle.ch_read.specs.Forms.{item_word, node_count, heading, item, heading_in
 
 -- the sizes that are accepted; a saved hierarchy has as many nodes as its graph
 abbrev pub is_size : Form → Heading → Bool
-is_size Graph h = nat_le h.nodes (2 ^ 25) && nat_le h.items.first (2 ^ 27)
-is_size (Queries n) h = nat_le h.items.first (2 ^ 24)
-is_size (Nodes n) h = nat_le h.items.first 65536
-is_size (Saved n) h = h.nodes == n && nat_le h.items.second (2 ^ 50)
+is_size Graph h = nat_le h.nodes MOST_NODES && nat_le h.items.first MOST_ARCS
+is_size (Queries n) h = nat_le h.items.first MOST_QUERIES
+is_size (Nodes n) h = nat_le h.items.first MOST_LISTED
+is_size (Saved n) h = h.nodes == n && nat_le h.items.second MOST_LEGS
 
 -- nodes are numbered from 1 in a file
 abbrev pub is_node : ℕ → ℕ → Bool
@@ -37,14 +38,14 @@ abbrev pub are_nodes : Form → Part → ℕ → List ℕ → Bool
 are_nodes form part nodes ns =
     list_all (is_node nodes) (take (node_count form part) ns) && is_middle form part nodes ns
 
--- the number of nodes times an arc's weight is at most 2 ^ 60; a leg weighs at most that, and stands for
--- at most 2 ^ 25 arcs; other items have no weight
+-- the number of nodes times an arc's weight is at most MOST_WEIGHT; a leg weighs at most that, and stands for
+-- at most MOST_NODES arcs; other items have no weight
 abbrev pub is_weight : Form → Part → ℕ → List ℕ → Bool
-is_weight Graph part nodes ns = nat_le (nodes * slice_index ns 2) (2 ^ 60)
+is_weight Graph part nodes ns = nat_le (nodes * slice_index ns 2) MOST_WEIGHT
 is_weight (Queries n) part nodes ns = true
 is_weight (Nodes n) part nodes ns = true
 is_weight (Saved n) First nodes ns = true
-is_weight (Saved n) Second nodes ns = nat_le (slice_index ns 2) (2 ^ 60) && nat_le (slice_index ns 3) (2 ^ 25)
+is_weight (Saved n) Second nodes ns = nat_le (slice_index ns 2) MOST_WEIGHT && nat_le (slice_index ns 3) MOST_NODES
 
 -- comments, whose first word begins with `c`, and lines without words
 abbrev pub is_skipped : List (List ℕ) → Bool

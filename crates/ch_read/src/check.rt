@@ -11,27 +11,7 @@ use crate::fault::FaultKind;
 use crate::form::{Counts, Form, Heading, Item, Part};
 use crate::lines::split_word;
 use crate::number::{MOST_NUMBERS, numbers_of};
-
-/// The most nodes of a graph.
-const MOST_NODES: u64 = 1 << 25;
-
-/// The most arcs of a graph.
-const MOST_ARCS: u64 = 1 << 27;
-
-/// The most queries of a file.
-const MOST_QUERIES: u64 = 1 << 24;
-
-/// The most nodes of a list.
-const MOST_LISTED: u64 = 65_536;
-
-/// The most legs of a saved hierarchy.
-const MOST_LEGS: u64 = 1 << 50;
-
-/// The most that the number of nodes times a weight may be, and the most that a leg may weigh.
-const MOST_WEIGHT: u64 = 1 << 60;
-
-/// The most arcs that a leg may stand for.
-const MOST_ARCS_OF_LEG: u64 = 1 << 25;
+use ch_graph::limits::{MOST_ARCS, MOST_LEGS, MOST_LISTED, MOST_NODES, MOST_QUERIES, MOST_WEIGHT};
 
 /// What a line that passes its checks holds.
 pub enum Line {
@@ -164,13 +144,15 @@ fn heading_of(form: Form, values: &[u64; MOST_NUMBERS]) -> Option<Heading>
         (λ h. (h ≡ declared) × (is_size form declared ≡ true)) }
 {
     match form {
-        Form::Graph if values[0] <= MOST_NODES && values[1] <= MOST_ARCS => Some(Heading {
-            nodes: values[0] as u32,
-            items: Counts {
-                first: values[1],
-                second: 0,
+        Form::Graph if values[0] <= u64::from(MOST_NODES) && values[1] <= MOST_ARCS as u64 => Some(
+            Heading {
+                nodes: values[0] as u32,
+                items: Counts {
+                    first: values[1],
+                    second: 0,
+                },
             },
-        }),
+        ),
         Form::Queries(nodes) if values[0] <= MOST_QUERIES => Some(Heading {
             nodes,
             items: Counts {
@@ -266,7 +248,7 @@ fn is_light(form: Form, part: Part, nodes: u32, values: &[u64; MOST_NUMBERS]) ->
             .checked_mul(values[2])
             .is_some_and(|sum| sum <= MOST_WEIGHT),
         (Form::Saved(_), Part::Second) => {
-            values[2] <= MOST_WEIGHT && values[3] <= MOST_ARCS_OF_LEG
+            values[2] <= MOST_WEIGHT && values[3] <= u64::from(MOST_NODES)
         }
         (Form::Queries(_), _) | (Form::Nodes(_), _) | (Form::Saved(_), Part::First) => true,
     }

@@ -22,10 +22,7 @@ pub fn read_graph(alloc: Global, bytes: &[u8]) -> Result<Graph, ReadError>
         AnswersWhere result (Err (ReadError.Fault f)) (IsFault Form.Graph bytes.now f.line f.kind) }
 {
     let (heading, arcs, _) = read_items::<InArc, ()>(alloc, Form::Graph, bytes)?;
-    match Graph::new(heading.nodes, arcs) {
-        Ok(graph) => Ok(graph),
-        Err(_) => unreachable!(),
-    }
+    Ok(Graph::from_judged(heading.nodes, arcs))
 }
 
 impl FromItem for InArc {

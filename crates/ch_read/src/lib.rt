@@ -15,14 +15,14 @@
 //! | any | its first word is `p` or a letter of the file's items | `UnknownLine` |
 //! | `p` | no problem line came before | `SecondProblem` |
 //! | `p` | it has the words of its form, and numbers in their places | `BadProblem` |
-//! | `p` | at most 2^25 nodes and 2^27 arcs; 2^24 queries; 65,536 listed nodes; 2^50 legs | `Size` |
+//! | `p` | nodes, arcs, queries, listed nodes and legs are within the [`limits`](ch_graph::limits) | `Size` |
 //! | `p` | a hierarchy has as many nodes as its graph | `Size` |
 //! | item | a problem line came before | `NoProblem` |
 //! | item | it has numbers in their places, and no other words | `BadLine` |
 //! | item | fewer items of its letter than declared came before | `TooMany` |
 //! | item | each node is from 1 to the number of nodes; a leg's middle may be 0 | `NodeRange` |
-//! | arc | the number of nodes times its weight is at most 2^60 | `Sum` |
-//! | leg | its weight is at most 2^60, and its arcs at most 2^25 | `Sum` |
+//! | arc | the number of nodes times its weight is at most [`MOST_WEIGHT`](ch_graph::limits::MOST_WEIGHT) | `Sum` |
+//! | leg | its weight is at most that, and its arcs at most [`MOST_NODES`](ch_graph::limits::MOST_NODES) | `Sum` |
 //! | after the last | there was a problem line | `NoProblem` |
 //! | after the last | there were no fewer items of each letter than declared | `TooFew` |
 #![tactic(auto)]

@@ -1,5 +1,6 @@
 //! Lists of nodes.
 ghost use Rattle.std.specs.Prelude.{ℕ, ◌<◌, ◌≤◌, List, All, IfOk, vec_len};
+ghost use Rattle.ch_graph.specs.declared.limits.TheConstants.{MOST_LISTED};
 ghost use Rattle.ch_read.specs.declared.fault.ReadFault.{ReadFault as FaultAt};
 ghost use Rattle.ch_read.specs.Answers.{AnswersWhere, seen_by_items};
 ghost use Rattle.ch_read.specs.Checks.{IsFault};
@@ -22,7 +23,7 @@ pub fn read_nodes(alloc: Global, bytes: &[u8], n: u32) -> Result<Vec<u32>, ReadE
         AnswersWhere (seen_by_items result) (Err (ReadError.Fault f))
         (IsFault (Form.Nodes n) bytes.now f.line f.kind) }
     ensures range { IfOk result (λ v. All (λ x. x < n) v.items) }
-    ensures size { IfOk result (λ v. vec_len v ≤ 65536) }
+    ensures size { IfOk result (λ v. vec_len v ≤ MOST_LISTED) }
 {
     let (_, nodes, _) = read_items::<u32, ()>(alloc, Form::Nodes(n), bytes)?;
     Ok(nodes)

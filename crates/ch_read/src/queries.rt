@@ -1,5 +1,6 @@
 //! Query files.
-ghost use Rattle.std.specs.Prelude.{ℕ, ◌<◌, ◌≤◌, ◌^◌, List, All, IfOk, vec_len};
+ghost use Rattle.std.specs.Prelude.{ℕ, ◌<◌, ◌≤◌, List, All, IfOk, vec_len};
+ghost use Rattle.ch_graph.specs.declared.limits.TheConstants.{MOST_QUERIES};
 ghost use Rattle.ch_read.specs.declared.fault.ReadFault.{ReadFault as FaultAt};
 ghost use Rattle.ch_read.specs.Answers.{AnswersWhere, seen_by_items};
 ghost use Rattle.ch_read.specs.Checks.{IsFault};
@@ -22,7 +23,7 @@ pub fn read_queries(alloc: Global, bytes: &[u8], n: u32) -> Result<Vec<(u32, u32
         AnswersWhere (seen_by_items result) (Err (ReadError.Fault f))
         (IsFault (Form.Queries n) bytes.now f.line f.kind) }
     ensures range { IfOk result (λ v. All (λ p. (p.0 < n) × (p.1 < n)) v.items) }
-    ensures size { IfOk result (λ v. vec_len v ≤ 2 ^ 24) }
+    ensures size { IfOk result (λ v. vec_len v ≤ MOST_QUERIES) }
 {
     let (_, pairs, _) = read_items::<(u32, u32), ()>(alloc, Form::Queries(n), bytes)?;
     Ok(pairs)

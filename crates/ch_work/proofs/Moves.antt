@@ -7,6 +7,7 @@ use native.Mathlib.Decide.{dec_lt, ℕ_discrete}
 use lib.ListN.{get_elem?}
 use Rattle.atomic_table.specs.Table.{step, Act, Valid, stepped, carried_after, Allows, keeps}
 use Rattle.atomic_table.proofs.Lists.{at_set}
+use Rattle.ch_work.specs.declared.limits.TheConstants.{MOST_OFFER}
 use Rattle.ch_work.specs.declared.board.known.Known.{Known}
 use Rattle.ch_work.specs.declared.board.known.Size.{Size}
 use Rattle.ch_work.specs.Counts.{bit, total, times, times_at}
@@ -89,7 +90,7 @@ module _ (k : Size) (c : ℕ) (ws : List ℕ) (views : List Known) (h : Holds k 
   fits_next = let t = total_ended_le in let n = h.numbers.counted in let r = h.room in omega arith
 
   -- what a pass knows of a cell is at least the word that stands there
-  pub knows_below : (i x : ℕ) → Knows v i x → (slice_index ws i ≤ x) × (x ≤ 2 ^ 61)
+  pub knows_below : (i x : ℕ) → Knows v i x → (slice_index ws i ≤ x) × (x ≤ MOST_OFFER)
   knows_below i x p =
       let o = total_at (λ (u : Known). times_at i x u.offers) views id v at in
       let q = total_at (λ (u : Known). times_at i x u.shown) views id v at in
@@ -157,7 +158,7 @@ module _ (k : Size) (c : ℕ) (ws : List ℕ) (views : List Known) (h : Holds k 
   same_shown : (i x : ℕ) → total (λ (u : Known). times_at i x u.shown) (set views id (offered v cell weight)) ≡ total (λ (u : Known). times_at i x u.shown) views
   same_shown i x = let e = total_grow (λ (u : Known). times_at i x u.shown) views id v (offered v cell weight) 0 at (omega arith) in omega arith
 
-  module _ (new : ℕ) (is_new : new ≡ min (slice_index ws cell) weight) (bound : weight ≤ 2 ^ 61) where
+  module _ (new : ℕ) (is_new : new ≡ min (slice_index ws cell) weight) (bound : weight ≤ MOST_OFFER) where
     -- after an offer each cell has a word that was offered there
     hit_after : (i : ℕ) → i < k.cells → slice_index (set ws cell new) i < none_yet → 0 < total (λ (u : Known). times_at i (slice_index (set ws cell new) i) u.offers) (set views id (offered v cell weight))
     hit_after i lt less = dite (ℕ_discrete i cell)
@@ -178,13 +179,13 @@ module _ (k : Size) (c : ℕ) (ws : List ℕ) (views : List Known) (h : Holds k 
             subst Q (sym e) (let m = more_offers cell weight in let o = pair_same cell weight in omega arith))
 
     -- after an offer no lesser word was offered than stands there
-    low_after : (i x : ℕ) → 0 < total (λ (u : Known). times_at i x u.offers) (set views id (offered v cell weight)) → (slice_index (set ws cell new) i ≤ x) × (i < k.cells) × (x ≤ 2 ^ 61)
+    low_after : (i x : ℕ) → 0 < total (λ (u : Known). times_at i x u.offers) (set views id (offered v cell weight)) → (slice_index (set ws cell new) i ≤ x) × (i < k.cells) × (x ≤ MOST_OFFER)
     low_after i x some_now =
         let in_ws : cell < length ws = rw h.cells inside in
         let less = put_less ws cell new in_ws (omega arith) i in
         let m = more_offers i x in
         ⊎_elim
-        (λ (t : (cell ≡ i) × (weight ≡ x)). let P : ℕ × ℕ → Type 0 = λ z. (slice_index (set ws cell new) z.0 ≤ z.1) × (z.0 < k.cells) × (z.1 ≤ 2 ^ 61) in
+        (λ (t : (cell ≡ i) × (weight ≡ x)). let P : ℕ × ℕ → Type 0 = λ z. (slice_index (set ws cell new) z.0 ≤ z.1) × (z.0 < k.cells) × (z.1 ≤ MOST_OFFER) in
         subst P (λ j. (t.0 j, t.1 j)) (rw (put_here ws cell new in_ws) (omega arith), inside, bound))
         (λ (z : bit ((cell == i) && (weight == x)) ≡ 0). let was : 0 < total (λ (u : Known). times_at i x u.offers) views = omega arith in
         let l = h.values.low i x was in let s = h.values.small i x was in (omega arith, s.0, s.1))
@@ -216,7 +217,7 @@ OffersAt k slots id v c word weight homes views words =
     × Offers (step slots word weight 0 none) (v, c) (slice_index words word) (w, carried_after c a)
 
 -- an offer of a pass
-pub offers : (k : Size) (slots id : ℕ) (v : Known) (c : List (ℕ × Unit {0})) (cell weight : ℕ) → 0 < v.parts → cell < k.cells → weight ≤ 2 ^ 61
+pub offers : (k : Size) (slots id : ℕ) (v : Known) (c : List (ℕ × Unit {0})) (cell weight : ℕ) → 0 < v.parts → cell < k.cells → weight ≤ MOST_OFFER
     → Allows (Kept k) slots id (v, c) (cell + 1) (λ n. min n weight) (Offers (step slots (cell + 1) weight 0 none) (v, c))
 unfolding OffersAt
 offers k slots id v c cell weight part inside bound s kept homes at fits =

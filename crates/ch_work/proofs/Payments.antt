@@ -1,10 +1,9 @@
 -- One weight that is paid, and payments after one another.
-use Rattle.std.proofs.Common.{◌≡◌, ◌⊎◌, ℕ, ◌+◌, ◌<◌, ◌≤◌, ◌^◌, ◌==◌, ◌&&◌, List, [], ◌∷◌, ◌++◌, refl, sym, ap, ◌∙◌, subst, arith, ⊎_elim, inl, inr, Option, Some, None, IfSome, IfNone}
-use mathlib.Core.Logic.{dite}
-use native.Mathlib.Decide.{dec_lt}
+use Rattle.std.proofs.Common.{◌≡◌, ◌⊎◌, ℕ, ◌+◌, ◌≤◌, ◌==◌, ◌&&◌, List, [], ◌∷◌, ◌++◌, refl, sym, ap, ◌∙◌, subst, arith, ⊎_elim, inl, inr, Option, Some, None, IfSome, IfNone}
+use Rattle.ch_work.specs.declared.limits.TheConstants.{MOST_OFFER}
 use Rattle.ch_work.specs.declared.board.known.Known.{Known}
 use Rattle.ch_work.specs.Counts.{bit, times_at}
-use Rattle.ch_work.specs.Owed.{HasOffered, OffersOwed, Covers, HasPaid}
+use Rattle.ch_work.specs.Owed.{HasOffered, Covers, HasPaid}
 use Rattle.ch_work.specs.Steps.{offered, looked, Knows}
 use Rattle.ch_work.proofs.Totals.{total_push, pair_same, pair_cases}
 
@@ -40,7 +39,7 @@ abbrev Shows : Known → Known → Type 0
 Shows v u = (u.pieces ≡ v.pieces) × (u.ended ≡ v.ended) × (u.claims ≡ v.claims) × (u.offers ≡ v.offers) × ((i x : ℕ) → Knows v i x → Knows u i x)
 
 -- whatever a look shows
-pub after_look : (v u : Known) (cell : ℕ) (P : ℕ → Type 0) (Q : Type 0) (o : Option ℕ) → IfSome o (λ x. (x ≤ 2 ^ 61) × (u ≡ looked v cell x) × P x) → IfNone o ((u ≡ v) × Q) → Shows v u
+pub after_look : (v u : Known) (cell : ℕ) (P : ℕ → Type 0) (Q : Type 0) (o : Option ℕ) → IfSome o (λ x. (x ≤ MOST_OFFER) × (u ≡ looked v cell x) × P x) → IfNone o ((u ≡ v) × Q) → Shows v u
 after_look v u cell P Q None some none = subst (Shows v) (sym none.0) (refl, refl, refl, refl, λ i x k. k)
 after_look v u cell P Q (Some x) some none = subst (Shows v) (sym some.1) (refl, refl, refl, refl, λ i y k. let m = more v.shown cell x i y in omega arith)
 

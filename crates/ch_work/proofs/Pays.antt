@@ -1,5 +1,5 @@
 -- Workers that pay what their pieces owe, and the cells that they leave.
-use Rattle.std.proofs.Common.{◌≡◌, ◌⊎◌, ℕ, zero, suc, ◌+◌, ◌-◌, ◌*◌, ◌<◌, ◌≤◌, ◌==◌, min, List, [], ◌∷◌, ◌++◌, length, refl, sym, ap, ◌∙◌, subst, arith, ⊎_elim, All, map, slice_index_or, Option, Some, None}
+use Rattle.std.proofs.Common.{◌≡◌, ℕ, suc, ◌+◌, ◌-◌, ◌<◌, ◌≤◌, ◌==◌, List, [], ◌∷◌, length, refl, sym, ap, ◌∙◌, subst, arith, ⊎_elim, All, map, slice_index_or, Option, Some, None}
 use Rattle.std.proofs.lemmas.Bool.Decides.{nat_tests}
 use mathlib.Core.Logic.{dite}
 use native.Mathlib.Decide.{dec_lt}
@@ -9,10 +9,10 @@ use Rattle.ch_work.specs.declared.board.Board.{Board}
 use Rattle.ch_work.specs.declared.board.Pass.{Pass}
 use Rattle.ch_work.specs.Counts.{bit, total, times, times_at}
 use Rattle.ch_work.specs.Owed.{HasOffered, OffersOwed, Covers, owed_by, Pays, Paying, IsLeastOwed, HasPaidOff}
-use Rattle.ch_work.specs.Passes.{view_of, IsPassOf, HasEnded}
+use Rattle.ch_work.specs.Passes.{view_of}
 use Rattle.ch_work.specs.Pieces.{pieces_of}
 use Rattle.ch_work.specs.Rule.{Settled, IsLeast}
-use Rattle.ch_work.specs.Steps.{fresh, claimed, Knows}
+use Rattle.ch_work.specs.Steps.{fresh, claimed}
 use Rattle.ch_work.proofs.Claims.{some_ended}
 use Rattle.ch_work.proofs.Totals.{total_push, one_same}
 

@@ -4,6 +4,7 @@ use Rattle.std.specs.Prelude.{Option, Some, None, ◌==◌}
 use mathlib.Core.Option.{some}
 use lib.ListN.{get_elem?}
 use Rattle.atomic_table.specs.Table.{State}
+use Rattle.ch_work.specs.declared.limits.TheConstants.{MOST_OFFER}
 use Rattle.ch_work.specs.declared.board.known.Known.{Known}
 use Rattle.ch_work.specs.declared.board.known.Size.{Size}
 use Rattle.ch_work.specs.Counts.{bit, total, times, times_at}
@@ -32,7 +33,7 @@ pub record Cells (k : Size) (ws : List ℕ) (views : List Known) : Type 0 where
   pub hit : (i : ℕ) → i < k.cells → slice_index ws i < none_yet → 0 < total (λ v. times_at i (slice_index ws i) v.offers) views
   -- and no less was
   pub low : (i x : ℕ) → 0 < total (λ v. times_at i x v.offers) views → slice_index ws i ≤ x
-  pub small : (i x : ℕ) → 0 < total (λ v. times_at i x v.offers) views → (i < k.cells) × (x ≤ 2 ^ 61)
+  pub small : (i x : ℕ) → 0 < total (λ v. times_at i x v.offers) views → (i < k.cells) × (x ≤ MOST_OFFER)
   -- what was shown was offered
   pub shown : (i x : ℕ) → 0 < total (λ v. times_at i x v.shown) views → 0 < total (λ v. times_at i x v.offers) views
 
@@ -78,7 +79,7 @@ pub record IsWhole (k : Size) (v : Known) (ws : List ℕ) : Type 0 where
   pub every : 0 < v.ended → (x : ℕ) → x < k.pieces → times x v.claims ≡ 1
   pub hit : (i : ℕ) → i < k.cells → slice_index ws i < none_yet → 0 < times_at i (slice_index ws i) v.offers
   pub low : (i x : ℕ) → 0 < times_at i x v.offers → slice_index ws i ≤ x
-  pub small : (i x : ℕ) → 0 < times_at i x v.offers → (i < k.cells) × (x ≤ 2 ^ 61)
+  pub small : (i x : ℕ) → 0 < times_at i x v.offers → (i < k.cells) × (x ≤ MOST_OFFER)
   pub shown : (i x : ℕ) → 0 < times_at i x v.shown → 0 < times_at i x v.offers
 
 -- one view has all that these views have

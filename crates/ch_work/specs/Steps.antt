@@ -1,6 +1,7 @@
 -- What a step does to the view of its pass.
-use Rattle.std.specs.Prelude.{◌^◌, ◌≡◌, ℕ, ◌+◌, ◌-◌, ◌<◌, ◌≤◌, ◌⊎◌, [], ◌∷◌, ◌++◌}
+use Rattle.std.specs.Prelude.{◌≡◌, ℕ, ◌+◌, ◌-◌, ◌<◌, ◌≤◌, ◌⊎◌, [], ◌∷◌, ◌++◌}
 use Rattle.atomic_table.specs.Table.{Me, Step}
+use Rattle.ch_work.specs.declared.limits.TheConstants.{MOST_OFFER}
 use Rattle.ch_work.specs.declared.board.known.Known.{Known}
 use Rattle.ch_work.specs.Counts.{times, times_at}
 use Rattle.ch_work.specs.Rule.{none_yet}
@@ -44,7 +45,7 @@ Offers s me n me' = (me'.1 ≡ me.1) × (me'.0 ≡ offered me.0 (s.word - 1) s.f
 abbrev pub Looks : Step (Unit {0}) → Me (Unit {0}) Known → ℕ → Me (Unit {0}) Known → Type 0
 Looks s me n me' =
     (me'.1 ≡ me.1)
-    × (((n ≤ 2 ^ 61) × (me'.0 ≡ looked me.0 (s.word - 1) n) × ((x : ℕ) → Knows me.0 (s.word - 1) x → n ≤ x))
+    × (((n ≤ MOST_OFFER) × (me'.0 ≡ looked me.0 (s.word - 1) n) × ((x : ℕ) → Knows me.0 (s.word - 1) x → n ≤ x))
     ⊎ ((n ≡ none_yet) × (me'.0 ≡ me.0) × ((x : ℕ) → Knows me.0 (s.word - 1) x → ⊥)))
 
 -- how a pass is cut off, and taken in

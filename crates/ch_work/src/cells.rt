@@ -1,5 +1,6 @@
 //! Jobs that lower the cells of a board.
 ghost use Rattle.std.specs.Prelude.{ℕ, ◌≡◌, ◌<◌, ◌≤◌, ◌^◌, IfOk, OnOk, length, vec_len, slice_index_or, All};
+ghost use Rattle.ch_work.specs.declared.limits.TheConstants.{MOST_CELLS};
 ghost use Rattle.ch_work.specs.Owed.{OffersOwed, Covers, IsLeastOwed, HasPaidOff, HandsBack};
 ghost use Rattle.ch_work.specs.Passes.{view_of, size_of, IsPassOf};
 ghost use Rattle.ch_work.specs.Pieces.{pieces_of};
@@ -63,7 +64,7 @@ pub fn run_cells<R: Threads + Sync, G: Gate, J: CellJob>(
     job: &J,
 ) -> Result<Vec<Option<u64>>, AllocError>
     requires items { items ≡ J.size job.now }
-    requires cells { (cells ≡ J.cells job.now) × (cells ≤ 2 ^ 22) }
+    requires cells { (cells ≡ J.cells job.now) × (cells ≤ MOST_CELLS) }
     ensures count { IfOk result (λ least. length least.items ≡ cells) }
     ensures least { IfOk result (λ least. (cell : ℕ) (d : _) → cell < cells → IsLeastOwed (J.owes job.now) items plan.now.piece cell (slice_index_or least.items cell d)) }
 {

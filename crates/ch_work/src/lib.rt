@@ -7,7 +7,7 @@
 //! it does it. The pieces of a [`CellJob`] owe weights to the cells of such a board, and [`run_cells`] gives the
 //! least weight that is owed to each.
 //!
-//! Proved of it: a plan gives back what it was made of, and keeps the limits; the values of a job stand in the
+//! Proved of it: a plan gives back what it was made of, and keeps the [`limits`]; the values of a job stand in the
 //! order of its pieces or items, whichever the plan is and whoever made them; a room is lent clean to each piece;
 //! and [`joined`] puts lists that pieces made after one another. Of a board it is proved, over all
 //! interleavings of its passes' steps, that no number is claimed twice, that all were claimed where a pass has
@@ -21,6 +21,7 @@ mod done;
 mod gate;
 mod gates;
 mod job;
+pub mod limits;
 mod list;
 mod lists;
 mod paying;

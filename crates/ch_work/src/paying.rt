@@ -1,5 +1,6 @@
 //! How what is owed to the cells of a board is paid.
 ghost use Rattle.std.specs.Prelude.{◌≡◌, ◌*◌, ◌<◌, ◌≤◌, ◌^◌, OnOk};
+ghost use Rattle.ch_work.specs.declared.limits.TheConstants.{MOST_OFFER};
 ghost use Rattle.ch_work.specs.Owed.{OffersOwed, Covers, HasPaid, owed_by, HasPaidOff, HandsBack};
 ghost use Rattle.ch_work.specs.Passes.{view_of, size_of, IsPassOf};
 ghost use Rattle.ch_work.specs.Pieces.{pieces_of};
@@ -15,7 +16,7 @@ use std::alloc::{AllocError, Global};
 pub fn pay(board: &Board, pass: &mut Pass, cell: u32, weight: u64)
     requires board { IsPassOf board.now pass.old }
     requires cell { cell < (size_of board.now).cells }
-    requires weight { weight ≤ 2 ^ 61 }
+    requires weight { weight ≤ MOST_OFFER }
     ensures board { IsPassOf board.now pass.new }
     ensures paid { HasPaid (λ at x. (at ≡ cell) × (x ≡ weight)) (view_of pass.old) (view_of pass.new) }
 {

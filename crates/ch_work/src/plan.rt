@@ -25,8 +25,8 @@ impl Model for Plan {
 }
 
 impl Plan {
-    /// A plan for 1 to 64 workers and pieces of 1 to 2^20 items. The neighbours of a contracted node are
-    /// cut into pieces too where there are at least `wide` of them.
+    /// A plan for at least one worker and pieces of at least one item, within the [`limits`](crate::limits). The
+    /// neighbours of a contracted node are cut into pieces too where there are at least `wide` of them.
     pub fn new(workers: u32, piece: u32, wide: u32) -> Plan
         requires { IsWithinLimits (record { workers = workers; piece = piece; wide = wide }) }
         ensures { result ≡ record { workers = workers; piece = piece; wide = wide } }
@@ -38,7 +38,7 @@ impl Plan {
         }
     }
 
-    /// The number of workers, from 1 to 64.
+    /// The number of workers, from 1 on.
     pub fn workers(&self) -> u32
         ensures workers { result ≡ self.now.workers }
         ensures limits { IsWithinLimits self.now }
@@ -46,7 +46,7 @@ impl Plan {
         self.workers
     }
 
-    /// The number of items in a piece, from 1 to 2^20. The last piece may have fewer.
+    /// The number of items in a piece, from 1 on. The last piece may have fewer.
     pub fn piece(&self) -> u32
         ensures piece { result ≡ self.now.piece }
         ensures limits { IsWithinLimits self.now }

@@ -1,5 +1,6 @@
 //! Pieces that several workers claim, and their values in order.
 ghost use Rattle.std.specs.Prelude.{◌≡◌, ℕ, ◌+◌, ◌*◌, ◌<◌, ◌≤◌, min, length, vec_len, slice_index_or, All, IfOk, IsSomeAnd, None};
+ghost use Rattle.ch_work.specs.declared.limits.TheConstants.{MOST_WORKERS};
 ghost use Rattle.ch_work.specs.Claims.{numbers, IsDone, HasWorked, AreGathered};
 ghost use Rattle.ch_work.specs.Counts.{times};
 ghost use Rattle.ch_work.specs.Passes.{view_of, IsPassOf};
@@ -22,7 +23,7 @@ pub(crate) fn values_by_workers<R: Threads + Sync, G: Gate, J: RoomJob>(
     work: &Work<'_, G, J>,
     workers: u32,
 ) -> Result<Vec<J::Out>, AllocError>
-    requires { (0 < workers) × (workers ≤ 64) }
+    requires { (0 < workers) × (workers ≤ MOST_WORKERS) }
     ensures { IfOk result (λ v. AreValues (J.meaning work.now.job.now) work.now.items work.now.piece 0 (pieces_of work.now.items work.now.piece) v.items) }
 {
     let (board, passes) = Board::new(alloc, work.count(), 0, workers)?;

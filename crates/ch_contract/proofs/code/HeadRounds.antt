@@ -11,7 +11,7 @@ use Rattle.ch_contract.specs.declared.search.Wanted.{Wanted}
 use Rattle.ch_contract.specs.Legs.{Label, Legs, IsChain, chain_cost, leg_cost, AreLegsWithin}
 use Rattle.ch_contract.specs.Rows.{row, label_of}
 use Rattle.ch_contract.specs.LegLists.{AreRows, legs_into}
-use Rattle.ch_contract.specs.HeldCosts.{never, IsLight, IsHeld}
+use Rattle.ch_contract.specs.HeldCosts.{never, IsHeld}
 use Rattle.ch_contract.specs.Heads.{Known, Begun, head_in, head_at, Lowers, IsOnly, IsClean, IsUnderway, IsRoomFor, IsLegLight, AreTouched, IsOneMoreOf, step_to, IsWanted, AreHeads, IsSpread, AreSteps, IsFront, AreLegsUpTo}
 use Rattle.ch_contract.proofs.theory.RowLegs.{row_has, row_member, leg_at}
 use Rattle.ch_contract.proofs.theory.RowLemmas.{no_leg}

@@ -11,7 +11,7 @@ use Rattle.ch_contract.specs.declared.leg.Leg.{Leg}
 use Rattle.ch_contract.specs.declared.search.Wanted.{Wanted}
 use Rattle.ch_contract.specs.Legs.{Label, Legs, AreLegsWithin, HasWitness, chain_cost}
 use Rattle.ch_contract.specs.Rows.{row, label_of, AreLegsFrom, AreLegsTo}
-use Rattle.ch_contract.specs.HeldCosts.{never, IsLight, IsHeld, IsHead}
+use Rattle.ch_contract.specs.HeldCosts.{never, IsHeld}
 use Rattle.ch_contract.specs.Heads.{Known, IsLegLight, AreLegsUpTo, head_at, AreHeads}
 use Rattle.ch_contract.specs.LegLists.{IsWithinLimits, legs_from, legs_into}
 use Rattle.ch_contract.specs.Meeting.{IsMet, AreListsWithin, AreSmall}

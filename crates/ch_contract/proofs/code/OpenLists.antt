@@ -1,9 +1,10 @@
 -- The opening legs, put into two lists of lists arc after arc.
-use Rattle.std.proofs.Common.{◌≡◌, ℕ, ◌+◌, ◌^◌, ◌<◌, ◌≤◌, Bool, true, false, cond, List, [], ◌∷◌, ◌++◌, length, get_or, take, replicate, Option, Some, None, refl, sym, ◌∙◌, ap, subst, arith, inl, inr}
+use Rattle.std.proofs.Common.{◌≡◌, ℕ, ◌+◌, ◌<◌, ◌≤◌, Bool, true, false, cond, List, [], ◌∷◌, ◌++◌, length, get_or, take, replicate, Option, Some, None, refl, sym, ◌∙◌, ap, subst, arith, inl, inr}
 use Rattle.std.specs.Prelude.{◌==◌, ◌&&◌, if◌then◌else◌, ◌≢◌, option_map, filter, not}
 use Rattle.std.proofs.lemmas.List.{get_or-replicate, get_or_past, length-replicate, take_more, append-nil}
 use Rattle.std.proofs.lemmas.List.Elements.{filter-append}
 use Rattle.std.proofs.lemmas.Bool.Decides.{nat_tests}
+use Rattle.ch_graph.specs.declared.limits.TheConstants.{MOST_NODES}
 use Rattle.ch_graph.specs.declared.arc.InArc.{InArc}
 use Rattle.ch_contract.specs.declared.leg.Leg.{Leg}
 use Rattle.ch_contract.specs.Legs.{Label, Legs, SameLegs, AreLegsWithin, ArcsOpen, opening, arc_label, arc_label_of, least_weight, lesser_weight}
@@ -121,7 +122,7 @@ open_all g n arcs i outs ins limits nodes same past o =
     let out_is = opens g (legs_from outs) arcs i same past o.out_legs in
     let in_is = opens g (legs_into ins) arcs i same past o.in_legs in (
       record {
-        nodes = subst (λ m. m ≤ 2 ^ 25) (sym nodes) limits.size.0;
+        nodes = subst (λ m. m ≤ MOST_NODES) (sym nodes) limits.size.0;
         sizes = o.sizes;
         rows = o.rows;
         agree = λ u w. out_is u w ∙ sym (in_is u w);

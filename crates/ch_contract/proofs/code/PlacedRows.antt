@@ -1,11 +1,12 @@
 -- Levels by an order, and rows by sorted entries, make a levelled hierarchy.
-use Rattle.std.proofs.Common.{◌≡◌, ℕ, ◌+◌, ◌<◌, ◌≤◌, ◌^◌, Bool, true, false, cond, List, [], ◌∷◌, length, map, get_or, Contains, refl, sym, ◌∙◌, ap, subst, arith, inl, inr}
-use Rattle.std.specs.Prelude.{◌≢◌, ◌==◌, All, AllPairs, slice_index, filter, Option}
+use Rattle.std.proofs.Common.{◌≡◌, ℕ, ◌<◌, ◌≤◌, Bool, true, false, cond, List, [], ◌∷◌, length, map, get_or, Contains, refl, sym, ◌∙◌, ap, subst, arith, inl, inr}
+use Rattle.std.specs.Prelude.{◌==◌, All, slice_index, filter, Option}
 use Rattle.std.specs.List.{range_with_len}
 use Rattle.std.proofs.lemmas.List.{ext_get_or, get_or-map, length-map, get_or_default, get_or_past}
 use Rattle.std.proofs.lemmas.List.Elements.{Contains-get_or}
 use Rattle.std.proofs.lemmas.List.FromFn.{length-map-range_with_len, get_or-map-range_with_len}
 use Rattle.std.proofs.lemmas.Bool.{cases_lt}
+use Rattle.ch_graph.specs.declared.limits.TheConstants.{MOST_NODES}
 use Rattle.ch_graph.specs.declared.cost.Cost.{Cost}
 use Rattle.ch_graph.specs.declared.saved.SavedLeg.{SavedLeg}
 use Rattle.ch_graph.specs.Rows.{values_of, AreRowsOf}
@@ -155,7 +156,7 @@ single_rows n low high levels legs entries side v p lt h =
     side.single p (twin_of_double n entries (entry_rows n entries) (sorted_rows n entries (entry_rows n entries) side.order (entry_rows_are n entries)) v p lt h)
 
 -- the rows of both directions
-module _ (n : ℕ) (s : OrderAndLegs) (ups downs : List Placed) (H : LevelsAndLegs) (small : n ≤ 2 ^ 25) (is : IsOrderOf n s.order) (are : AreLevelsOf s.order H.level)
+module _ (n : ℕ) (s : OrderAndLegs) (ups downs : List Placed) (H : LevelsAndLegs) (small : n ≤ MOST_NODES) (is : IsOrderOf n s.order) (are : AreLevelsOf s.order H.level)
     (pairs : ArePairs n H.level s.legs ups downs) (light : (l : SavedLeg) → Contains s.legs l → IsWithinBounds n l)
     (a : AreRowsOf n (map (keyed_leg s.legs) ups) H.up) (b : AreRowsOf n (map (keyed_leg s.legs) downs) H.down) where
   size : nodes_of H ≡ n
@@ -238,7 +239,7 @@ module _ (n : ℕ) (s : OrderAndLegs) (ups downs : List Placed) (H : LevelsAndLe
   )
 
 -- the same of the lists that are at hand
-pub rows_name : (g : Network) (s : OrderAndLegs) (n : ℕ) (order levels : List ℕ) (legs : List SavedLeg) (ups downs : List Placed) (up down : List (List Leg)) → g.nodes ≤ 2 ^ 25 → n ≡ g.nodes → order ≡ s.order → legs ≡ s.legs →
+pub rows_name : (g : Network) (s : OrderAndLegs) (n : ℕ) (order levels : List ℕ) (legs : List SavedLeg) (ups downs : List Placed) (up down : List (List Leg)) → g.nodes ≤ MOST_NODES → n ≡ g.nodes → order ≡ s.order → legs ≡ s.legs →
     IsOrderOf n order → AreLevelsOf order levels → ArePairs n levels legs ups downs → ((l : SavedLeg) → Contains legs l → IsWithinBounds n l) →
     AreRowsOf n (map (keyed_leg legs) ups) up → AreRowsOf n (map (keyed_leg legs) downs) down → NamesFor g s (record { level = levels; up = up; down = down })
 rows_name g s n order levels legs ups downs up down small nodes a b is are pairs light x y =

@@ -1,11 +1,10 @@
 -- Costs in words: they add without a carry, and compare as costs do.
-use Rattle.std.proofs.Common.{◌≡◌, ℕ, ◌+◌, ◌-◌, ◌*◌, ◌/◌, ◌%◌, ◌^◌, ◌<◌, ◌≤◌, ap, arith, inl, inr}
-use Rattle.std.specs.Prelude.{◌⊎◌}
+use Rattle.std.proofs.Common.{◌≡◌, ℕ, ◌+◌, ◌-◌, ◌*◌, ◌^◌, ◌<◌, ◌≤◌, ap, arith, inl, inr}
 use Rattle.std.proofs.lemmas.Bool.{cases_lt}
 use Rattle.ch_graph.specs.declared.cost.Cost.{Cost}
 use Rattle.ch_graph.specs.Cost.{IsAtMost, cost_sum}
 use Rattle.ch_graph.proofs.CostOrder.{same_costs}
-use Rattle.ch_contract.specs.HeldCosts.{never, IsHeld, IsHead, cost_in}
+use Rattle.ch_contract.specs.HeldCosts.{IsHeld, IsHead, cost_in}
 
 -- the word of a cost
 pub cost_in_word : (c : Cost) → c.weight < 2 ^ 32 → c.arcs < 2 ^ 31 → cost_in (c.weight * 2 ^ 31 + c.arcs) ≡ c

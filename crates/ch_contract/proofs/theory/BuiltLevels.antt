@@ -1,8 +1,9 @@
 -- A built hierarchy is levelled: each node has a level of its own, and its legs lead higher.
-use Rattle.std.proofs.Common.{◌≡◌, ◌≢◌, ℕ, ◌+◌, ◌^◌, ◌<◌, ◌≤◌, List, [], length, get_or, All, Contains, slice_index, sym, ◌∙◌, ap, subst, arith, inl, inr}
+use Rattle.std.proofs.Common.{◌≡◌, ◌≢◌, ℕ, ◌+◌, ◌<◌, ◌≤◌, List, [], length, get_or, All, Contains, slice_index, sym, ◌∙◌, ap, subst, arith, inl, inr}
 use Rattle.std.proofs.lemmas.Bool.{cases_lt}
 use Rattle.std.proofs.lemmas.List.{get_or_default, get_or_past}
 use Rattle.std.proofs.lemmas.List.Elements.{All-from_get_or, All-nil, Contains-get_or}
+use Rattle.ch_graph.specs.declared.limits.TheConstants.{MOST_WEIGHT}
 use Rattle.ch_contract.specs.declared.leg.Leg.{Leg}
 use Rattle.ch_contract.specs.Legs.{Legs}
 use Rattle.ch_contract.specs.Rows.{row, IsRow}
@@ -49,7 +50,7 @@ module _ {g : Network} {h : ℕ} {H : LevelsAndLegs} {order : List ℕ} {L : ℕ
       omega arith
 
   -- a leg between the node of step i and another that is left
-  leg_up : (i : ℕ) (l : Leg) → i < g.nodes → l.node < g.nodes → IsAfter order i l.node → slice_index order i ≢ l.node → l.cost.weight ≤ 2 ^ 60 → l.cost.arcs < g.nodes → IsLegUp H (slice_index order i) l
+  leg_up : (i : ℕ) (l : Leg) → i < g.nodes → l.node < g.nodes → IsAfter order i l.node → slice_index order i ≢ l.node → l.cost.weight ≤ MOST_WEIGHT → l.cost.arcs < g.nodes → IsLegUp H (slice_index order i) l
   leg_up i l lt node p ne weight arcs =
       let size = built.hierarchy.sizes.0 in
       record { node = omega arith; higher = higher i l.node lt node p ne; weight = weight; arcs = omega arith }

@@ -1,11 +1,12 @@
 -- Each hierarchy by the rules has levels from 1 to the number of nodes, each once, and legs to higher nodes, within the limits.
-use Rattle.std.proofs.Common.{◌≡◌, ℕ, suc, zero, ◌+◌, ◌^◌, ◌<◌, ◌≤◌, Bool, true, false, cond, List, [], length, get_or, Option, Some, None, refl, sym, ◌∙◌, ap, subst, arith, inl, inr, Contains}
+use Rattle.std.proofs.Common.{◌≡◌, ℕ, suc, zero, ◌+◌, ◌<◌, ◌≤◌, Bool, true, false, cond, List, [], length, get_or, Option, Some, None, refl, sym, ◌∙◌, ap, subst, arith, inl, inr, Contains}
 use Rattle.std.specs.Prelude.{◌⊎◌, ◌≢◌, ◌==◌, ◌||◌, All, slice_index}
 use Rattle.std.proofs.lemmas.Bool.{cases_eq, cases_lt}
 use Rattle.std.proofs.lemmas.Bool.Decides.{nat_tests}
 use Rattle.std.proofs.lemmas.Option.{same_Some, none-some}
 use Rattle.std.proofs.lemmas.List.{get_or_default, get_or_past}
 use Rattle.std.proofs.lemmas.List.Elements.{All-nil, Contains-get_or}
+use Rattle.ch_graph.specs.declared.limits.TheConstants.{MOST_NODES, MOST_WEIGHT}
 use Rattle.ch_graph.specs.Graph.{Network}
 use Rattle.ch_contract.specs.declared.leg.Leg.{Leg}
 use Rattle.ch_contract.specs.declared.shortcut.Shortcut.{Shortcut}
@@ -83,7 +84,7 @@ gone_steps n h m order L step j (suc k) lt le =
       | inr ne ↦ gone_more n h (L k) (slice_index order k) (L (k + 1)) (slice_index order j) (before (omega arith) (omega arith)) (step k (omega arith))
     ]
 
-module _ (g : Network) (h : ℕ) (H : LevelsAndLegs) (order : List ℕ) (L : ℕ → Legs) (p : IsHierarchyOf g h H order L) (small : g.nodes ≤ 2 ^ 25) (start : AreLegsWithin g.nodes (opening g)) where
+module _ (g : Network) (h : ℕ) (H : LevelsAndLegs) (order : List ℕ) (L : ℕ → Legs) (p : IsHierarchyOf g h H order L) (small : g.nodes ≤ MOST_NODES) (start : AreLegsWithin g.nodes (opening g)) where
   -- the legs before each step are within the limits
   within : (k : ℕ) → k ≤ g.nodes → AreLegsWithin g.nodes (L k)
   within = within_steps g.nodes h g.nodes order L (subst (AreLegsWithin g.nodes) (sym (one_map (L 0) (opening g) p.order_is.start)) start) p.order_is.step
@@ -97,7 +98,7 @@ module _ (g : Network) (h : ℕ) (H : LevelsAndLegs) (order : List ℕ) (L : ℕ
   level_of x lt = let at = taken_at g h order L x p.order_is lt in (at.0, at.1, at.2, ap (slice_index H.level) (sym at.2) ∙ p.level at.0 at.1)
 
   -- a leg of the node of step i leads to a node that is contracted later
-  leg_up : (i : ℕ) (l : Leg) → i < g.nodes → l.node < g.nodes → l.node ≢ slice_index order i → ((j : ℕ) → j < i → slice_index order j ≡ l.node → ⊥) → l.cost.weight ≤ 2 ^ 60 → l.cost.arcs < g.nodes → IsLegUp H (slice_index order i) l
+  leg_up : (i : ℕ) (l : Leg) → i < g.nodes → l.node < g.nodes → l.node ≢ slice_index order i → ((j : ℕ) → j < i → slice_index order j ≡ l.node → ⊥) → l.cost.weight ≤ MOST_WEIGHT → l.cost.arcs < g.nodes → IsLegUp H (slice_index order i) l
   leg_up i l lt node apart later weight arcs =
       let size = p.sizes.0 in
       let at = level_of l.node node in

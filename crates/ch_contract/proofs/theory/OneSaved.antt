@@ -1,12 +1,10 @@
 -- An order and a list of legs have one levelled hierarchy.
-use Rattle.std.proofs.Common.{◌≡◌, ℕ, ◌+◌, ◌<◌, ◌≤◌, List, [], length, get_or, Contains, Option, refl, sym, ◌∙◌, ap, subst, arith, inl, inr}
-use Rattle.std.specs.Prelude.{◌≢◌, All, AllPairs, slice_index}
-use Rattle.std.proofs.lemmas.List.{ext_get_or, get_or_default, get_or_past}
+use Rattle.std.proofs.Common.{◌≡◌, ℕ, ◌<◌, List, [], length, Contains, refl, sym, ◌∙◌, ap, subst, arith, inl, inr}
+use Rattle.std.specs.Prelude.{slice_index}
+use Rattle.std.proofs.lemmas.List.{ext_get_or}
 use Rattle.std.proofs.lemmas.List.Elements.{All-contains}
-use Rattle.std.proofs.lemmas.Bool.{cases_lt}
-use Rattle.ch_graph.specs.declared.cost.Cost.{Cost}
 use Rattle.ch_contract.specs.declared.leg.Leg.{Leg}
-use Rattle.ch_contract.specs.Hierarchy.{LevelsAndLegs, nodes_of, IsLegUp, AreLegsUp, IsLevelled}
+use Rattle.ch_contract.specs.Hierarchy.{LevelsAndLegs, nodes_of, IsLegUp}
 use Rattle.ch_contract.specs.Rows.{row, IsRow}
 use Rattle.ch_contract.specs.Kept.{IsLeg}
 use Rattle.ch_graph.specs.Saved.{OrderAndLegs}

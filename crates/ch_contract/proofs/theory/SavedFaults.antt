@@ -1,14 +1,14 @@
 -- The faults of a saved hierarchy: at most one comes first, and what names a right hierarchy has none.
-use Rattle.std.proofs.Common.{◌≡◌, ℕ, zero, suc, ◌+◌, ◌^◌, ◌<◌, ◌≤◌, ◌⊎◌, inl, inr, List, length, get_or, Contains, Option, Some, None, refl, sym, ◌∙◌, ap, subst, arith}
+use Rattle.std.proofs.Common.{◌≡◌, ℕ, zero, suc, ◌+◌, ◌<◌, ◌≤◌, inl, inr, List, get_or, Option, Some, None, refl, sym, ◌∙◌, ap, subst, arith}
 use Rattle.std.specs.Prelude.{◌≢◌, slice_get, slice_index, Result, Ok, Err, IsErrAnd}
 use Rattle.std.proofs.lemmas.Bool.{cases_eq, cases_lt}
 use Rattle.std.proofs.lemmas.Option.{slice_get_within, slice_get-get_or, get_or_from_slice_get}
 use Rattle.std.proofs.lemmas.List.Elements.{All-contains}
+use Rattle.ch_graph.specs.declared.limits.TheConstants.{MOST_WEIGHT}
 use Rattle.ch_graph.specs.declared.cost.Cost.{Cost}
 use Rattle.ch_graph.specs.declared.saved.SavedLeg.{SavedLeg}
 use Rattle.ch_graph.specs.Graph.{Network}
 use Rattle.ch_graph.specs.Saved.{OrderAndLegs}
-use Rattle.ch_contract.specs.declared.leg.Leg.{Leg}
 use Rattle.ch_contract.specs.declared.fault.CheckFault.{CheckFault}
 use Rattle.ch_contract.specs.declared.fault.CheckFault.TheVariants.{Order, Pair, Bound, Base, Middle, Arc, Lower}
 use Rattle.ch_contract.specs.declared.fault.CheckError.{CheckError}
@@ -99,13 +99,13 @@ leg_joins s H names u w c m (l, cost, middle, inr (has, is)) =
     )
 
 -- its cost is within the limits
-leg_bounded : (s : OrderAndLegs) (H : LevelsAndLegs) → NamesHierarchy s H → (u w : ℕ) (c : Cost) (m : Option ℕ) → IsLeg H u w c m → (c.weight ≤ 2 ^ 60) × (c.arcs < nodes_of H)
+leg_bounded : (s : OrderAndLegs) (H : LevelsAndLegs) → NamesHierarchy s H → (u w : ℕ) (c : Cost) (m : Option ℕ) → IsLeg H u w c m → (c.weight ≤ MOST_WEIGHT) × (c.arcs < nodes_of H)
 leg_bounded s H names u w c m (l, cost, middle, inl (has, is)) =
     let up = All-contains (IsLegUp H u) (row H.up u) l (names.levelled.up.1 u).1 has in
-    subst (λ (q : Cost). (q.weight ≤ 2 ^ 60) × (q.arcs < nodes_of H)) cost (up.weight, up.arcs)
+    subst (λ (q : Cost). (q.weight ≤ MOST_WEIGHT) × (q.arcs < nodes_of H)) cost (up.weight, up.arcs)
 leg_bounded s H names u w c m (l, cost, middle, inr (has, is)) =
     let up = All-contains (IsLegUp H w) (row H.down w) l (names.levelled.down.1 w).1 has in
-    subst (λ (q : Cost). (q.weight ≤ 2 ^ 60) × (q.arcs < nodes_of H)) cost (up.weight, up.arcs)
+    subst (λ (q : Cost). (q.weight ≤ MOST_WEIGHT) × (q.arcs < nodes_of H)) cost (up.weight, up.arcs)
 
 -- a leg at a place is a leg of the hierarchy
 pub leg_stands : (s : OrderAndLegs) (H : LevelsAndLegs) → NamesHierarchy s H → (i : ℕ) (l : SavedLeg) → slice_get s.legs i ≡ Some l → IsLeg H l.from l.to l.cost l.middle

@@ -1,5 +1,5 @@
 -- Levels by an order.
-use Rattle.std.proofs.Common.{◌≡◌, ℕ, ◌+◌, ◌<◌, ◌≤◌, ◌⊎◌, List, [], length, get_or, Contains, refl, sym, ◌∙◌, ap, subst, arith, inl, inr}
+use Rattle.std.proofs.Common.{◌≡◌, ℕ, ◌+◌, ◌<◌, ◌≤◌, ◌⊎◌, List, [], length, get_or, Contains, sym, ◌∙◌, ap, subst, arith, inl, inr}
 use Rattle.std.specs.Prelude.{◌≢◌, All, AllPairs, slice_index}
 use Rattle.std.proofs.lemmas.List.{ext_get_or, get_or_default, get_or_past}
 use Rattle.std.proofs.lemmas.Bool.{cases_eq, cases_lt}

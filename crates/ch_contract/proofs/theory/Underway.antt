@@ -1,7 +1,8 @@
 -- What the contraction of one node after the other keeps, from the first to the last.
-use Rattle.std.proofs.Common.{◌≡◌, ℕ, ◌+◌, ◌^◌, ◌<◌, ◌≤◌, true, false, List, [], ◌∷◌, ◌++◌, length, sym, ◌∙◌, ap, subst, arith, Contains, length-set}
+use Rattle.std.proofs.Common.{◌≡◌, ℕ, ◌+◌, ◌<◌, ◌≤◌, true, false, List, [], ◌∷◌, ◌++◌, length, sym, ◌∙◌, ap, subst, arith, Contains, length-set}
 use Rattle.std.specs.Prelude.{◌≢◌, slice_index, slice_set, ◌||◌, is_some}
 use Rattle.std.proofs.lemmas.List.{length_push, get_or_default}
+use Rattle.ch_graph.specs.declared.limits.TheConstants.{MOST_NODES}
 use Rattle.ch_queue.specs.Queue.{key_of, HasNone}
 use Rattle.ch_graph.specs.Graph.{Network}
 use Rattle.ch_contract.specs.Legs.{Legs, SameLegs, AreLegsWithin, opening}
@@ -136,5 +137,5 @@ underway_within g h p u =
 pub underway_at_end : (g : Network) (h : ℕ) (p : Progress) → IsUnderway g h p → HasNone p.keys → (H : LevelsAndLegs) → AreAll g.nodes p H → IsHierarchy g h H
 underway_at_end g h p u none H all = (u.order, u.L, after_all g h u.order u.L p u.after none H all)
 
-pub underway_levelled : (g : Network) (h : ℕ) (p : Progress) → IsUnderway g h p → HasNone p.keys → g.nodes ≤ 2 ^ 25 → (H : LevelsAndLegs) → AreAll g.nodes p H → IsLevelled H
+pub underway_levelled : (g : Network) (h : ℕ) (p : Progress) → IsUnderway g h p → HasNone p.keys → g.nodes ≤ MOST_NODES → (H : LevelsAndLegs) → AreAll g.nodes p H → IsLevelled H
 underway_levelled g h p u none count H all = levelled g h H u.order u.L (after_all g h u.order u.L p u.after none H all) count u.after.limits

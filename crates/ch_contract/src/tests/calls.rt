@@ -1,9 +1,9 @@
-//! What no clause says: that calls succeed where there is memory, worked values, and what a refusal leaves.
+//! What no clause says: that calls succeed where there is memory, and worked values.
 ghost use Rattle.std.specs.Prelude.{◌≡◌, ◌<◌, IfOk};
 
-use crate::{Leg, Remaining, Shortcut};
+use crate::{Leg, Remaining};
 use ch_graph::{Cost, Graph, InArc};
-use std::alloc::{AllocError, Global};
+use std::alloc::Global;
 use std::test::Fail;
 
 /// An arc, its nodes counted from 1 as in files.
@@ -172,61 +172,5 @@ fn legs_are_lent_in_order(rt: HostRuntime) -> Result<(), Fail> {
     assert_eq!(rt; legs.out_legs(0).len() + legs.in_legs(0).len(), 0);
     assert_eq!(rt; legs.out_legs(4), [leg(1, 2, 2, Some(0))].as_slice());
     assert_eq!(rt; legs.in_legs(4), [leg(3, 1, 1, None)].as_slice());
-    Ok(())
-}
-
-/// What a call answers, tried a second time where the first was refused memory.
-macro_rules! again {
-    ($call:expr) => {
-        match $call {
-            Ok(value) => value,
-            Err(AllocError) => $call?,
-        }
-    };
-}
-
-/// The legs of the star, also where one request for memory is refused.
-fn star_again(alloc: Global) -> Result<Remaining, Fail>
-    ensures { IfOk result (λ r. r.nodes ≡ 4) }
-{
-    let arcs = [
-        arc(1, 2, 1),
-        arc(2, 1, 1),
-        arc(1, 3, 1),
-        arc(3, 1, 1),
-        arc(1, 4, 1),
-        arc(4, 1, 1),
-    ];
-    let graph = Graph::new(4, again!(Vec::from_slice(alloc, &arcs)))?;
-    Ok(again!(Remaining::open(alloc, &graph)))
-}
-
-// For `rt try --test --fail-alloc N`, which refuses one request for memory: the call that meets the refusal
-// answers `AllocError`, and called again answers as with ample memory.
-#[test]
-fn refused_in_turn(rt: HostRuntime) -> Result<(), Fail> {
-    let alloc = rt.alloc();
-    let legs = star_again(alloc)?;
-    assert!(rt; again!(legs.has_witness(1, 2, 3, cost(2, 2), 2)));
-    assert!(rt; !again!(legs.has_witness(0, 1, 2, cost(2, 2), 2)));
-    let list = again!(legs.shortcuts(0, 5));
-    assert_eq!(rt; list.len(), 6);
-    assert_eq!(rt;
-        list[0],
-        Shortcut {
-            from: 1,
-            to: 2,
-            cost: cost(2, 2)
-        }
-    );
-    assert_eq!(rt; again!(legs.priority(0, 5)), 0);
-    let (rest, removed) = match legs.contract(0, 5) {
-        Ok(both) => both,
-        Err(AllocError) => star_again(alloc)?.contract(0, 5)?,
-    };
-    let first = [leg(1, 1, 1, None), leg(2, 1, 1, None), leg(3, 1, 1, None)];
-    assert_eq!(rt; removed.up.as_slice(), first.as_slice());
-    assert_eq!(rt; removed.down.as_slice(), first.as_slice());
-    assert_eq!(rt; again!(rest.priority(1, 5)), -4);
     Ok(())
 }

@@ -1,9 +1,8 @@
-//! How workers share what [`build`] computes: which pieces pass the gate, two of them at once, and
-//! what a refusal of memory gives.
+//! How workers share what [`build`] computes: which pieces pass the gate, and two of them at once.
 
 use crate::build;
 use ch_graph::{Graph, InArc};
-use ch_work::{CountingGate, MeetingGate, Open, Plan};
+use ch_work::{CountingGate, MeetingGate, Plan};
 use std::alloc::{AllocError, Global};
 use std::test::Fail;
 
@@ -48,25 +47,5 @@ fn two_pieces_at_once(rt: HostRuntime) -> Result<(), Fail> {
     let gate = MeetingGate::new();
     build(&rt, rt.alloc(), &graph, 5, &Plan::new(2, 1, 64), &gate)?;
     assert!(rt; gate.has_met());
-    Ok(())
-}
-
-// For `rt try --test --fail-alloc N`, which refuses one request for memory: the call that meets the refusal
-// answers `AllocError`, and called again answers as with ample memory.
-#[test]
-fn a_refused_build_is_done_again(rt: HostRuntime) -> Result<(), Fail> {
-    let alloc = rt.alloc();
-    let arcs = match star(alloc, 4) {
-        Ok(arcs) => arcs,
-        Err(AllocError) => star(alloc, 4)?,
-    };
-    let graph = Graph::new(4, arcs)?;
-    let plan = Plan::new(2, 1, 1);
-    let hierarchy = match build(&rt, alloc, &graph, 5, &plan, &Open) {
-        Ok(hierarchy) => hierarchy,
-        Err(AllocError) => build(&rt, alloc, &graph, 5, &plan, &Open)?,
-    };
-    assert_eq!(rt; hierarchy.level(1), 1);
-    assert_eq!(rt; hierarchy.level(3), 4);
     Ok(())
 }

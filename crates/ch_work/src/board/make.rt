@@ -1,6 +1,7 @@
 //! Making a board, and closing it.
 ghost use Rattle.std.specs.Prelude.{slice_index, slice_index_or, ℕ, ◌≡◌, ◌+◌, ◌-◌, ◌<◌, ◌≤◌, ◌^◌, ◌∷◌, [], IfOk, vec_len, replicate, length, map, All};
 ghost use Rattle.std.specs.Slots.{slots_items, slots_len, IsFull};
+ghost use Rattle.ch_work.specs.declared.limits.TheConstants.{MOST_WORKERS, MOST_CELLS};
 ghost use Rattle.ch_work.specs.Passes.{view_of, size_of, IsPassOf};
 ghost use Rattle.ch_work.specs.Rule.{none_yet, Settled, Sums, IsRead};
 ghost use Rattle.ch_work.specs.Steps.{fresh, both};
@@ -12,8 +13,8 @@ use atomic_table::{Closed, Seat, Table};
 use std::alloc::{AllocError, Global};
 
 impl Board {
-    /// A board of so many pieces and cells, and so many passes. The cells are at most 2^22, and the passes are
-    /// 1 to 64.
+    /// A board of so many pieces and cells, and so many passes. The cells and the passes are within the
+    /// [`limits`](crate::limits), and there is a pass.
     ///
     /// # Errors
     /// `AllocError` where there is no memory.
@@ -23,8 +24,8 @@ impl Board {
         cells: u32,
         passes: u32,
     ) -> Result<(Board, Vec<Pass>), AllocError>
-        requires cells { cells ≤ 2 ^ 22 }
-        requires passes { (0 < passes) × (passes ≤ 64) }
+        requires cells { cells ≤ MOST_CELLS }
+        requires passes { (0 < passes) × (passes ≤ MOST_WORKERS) }
         ensures size { IfOk result (λ made. size_of made.0 ≡ record { pieces = pieces; cells = cells; passes = passes }) }
         ensures count { IfOk result (λ made. vec_len made.1 ≡ passes) }
         ensures passes { IfOk result (λ made. All (λ pass. IsPassOf made.0 pass × (view_of pass ≡ fresh pieces 1)) made.1.items) }

@@ -1,5 +1,6 @@
 //! The steps of a pass.
 ghost use Rattle.std.specs.Prelude.{None, ◌↔◌, ◌≡◌, ℕ, ◌<◌, ◌≤◌, ◌^◌, IfSome, IfNone};
+ghost use Rattle.ch_work.specs.declared.limits.TheConstants.{MOST_OFFER};
 ghost use Rattle.ch_work.specs.Counts.{times};
 ghost use Rattle.ch_work.specs.Passes.{view_of, size_of, IsPassOf, HasEnded};
 ghost use Rattle.ch_work.specs.Steps.{claimed, offered, looked, Knows};
@@ -34,11 +35,11 @@ impl Board {
         }
     }
 
-    /// Offers a weight of at most 2^61 to a cell, whose weight becomes the lesser of the two.
+    /// Offers a weight within the [`limits`](crate::limits) to a cell, whose weight becomes the lesser of the two.
     pub fn offer(&self, pass: &mut Pass, cell: u32, weight: u64)
         requires board { IsPassOf self.now pass.old }
         requires cell { cell < (size_of self.now).cells }
-        requires weight { weight ≤ 2 ^ 61 }
+        requires weight { weight ≤ MOST_OFFER }
         ensures board { IsPassOf self.now pass.new }
         ensures ended { HasEnded pass.new ↔ HasEnded pass.old }
         ensures view { view_of pass.new ≡ offered (view_of pass.old) cell weight }
@@ -54,7 +55,7 @@ impl Board {
         requires cell { cell < (size_of self.now).cells }
         ensures board { IsPassOf self.now pass.new }
         ensures ended { HasEnded pass.new ↔ HasEnded pass.old }
-        ensures some { IfSome result (λ weight. (weight ≤ 2 ^ 61)
+        ensures some { IfSome result (λ weight. (weight ≤ MOST_OFFER)
             × (view_of pass.new ≡ looked (view_of pass.old) cell weight)
             × ((known : ℕ) → Knows (view_of pass.old) cell known → weight ≤ known)) }
         ensures none { IfNone result ((view_of pass.new ≡ view_of pass.old)

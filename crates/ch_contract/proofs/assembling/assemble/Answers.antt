@@ -1,4 +1,4 @@
-use Rattle.std.proofs.Common.{Contains, List, map, refl, sym, ◌∙◌, ap, subst}
+use Rattle.std.proofs.Common.{Contains, map, refl, sym, ◌∙◌, ap, subst}
 use Rattle.ch_graph.specs.Rows.{AreRowsOf}
 use Rattle.ch_graph.specs.Saved.{OrderAndLegs}
 use Rattle.ch_contract.specs.declared.fault.CheckFault.TheVariants.{Order, Bound}

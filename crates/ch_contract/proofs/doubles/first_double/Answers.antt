@@ -1,4 +1,4 @@
-use Rattle.std.proofs.Common.{arith, None, subst}
+use Rattle.std.proofs.Common.{arith, subst}
 use Rattle.ch_contract.specs.Doubles.{IsLessened, IsDouble}
 use Rattle.ch_contract.proofs.code.Doubled.{row_more}
 use Rattle.ch_contract.proofs.doubles.first_double.Goals as goal

@@ -1,4 +1,4 @@
-use Rattle.std.proofs.Common.{refl, sym, subst, None}
+use Rattle.std.proofs.Common.{refl, sym, subst}
 use Rattle.ch_contract.specs.declared.placing.Placed.{Placed}
 use Rattle.ch_contract.specs.Doubles.{IsLessened}
 use Rattle.ch_contract.proofs.code.Doubled.{IsDoubleBelow, entry_double, entry_single, before_next}

@@ -1,4 +1,4 @@
-use Rattle.std.proofs.Common.{◌<◌, ◌^◌, ◌++◌, ◌∷◌, [], take, get_or, length, ◌≤◌, sym, subst, arith}
+use Rattle.std.proofs.Common.{◌++◌, ◌∷◌, [], take, get_or, length, ◌≤◌, sym, subst, arith}
 use Rattle.std.proofs.lemmas.List.{take_more, take_all}
 use Rattle.ch_contract.specs.Lines.{AreBounded}
 use Rattle.ch_contract.proofs.theory.RowLemmas.{no_leg}

@@ -7,8 +7,7 @@ use Rattle.ch_read.proofs.graph.read_graph.Goals as goal
 pub returns-in_err-heading-clause-fault : goal.returns-in_err-heading-clause-fault
 returns-in_err-heading-clause-fault c = fault_both_ways Graph c.args.bytes.now c.from_residual.result c.in_err-heading.field-0.0 c.from_residual.ensures.1 c.in_err-heading.ensures
 
-pub unreachable-requires : goal.unreachable-requires
-unreachable-requires c =
+pub from_judged-requires : goal.from_judged-requires
+from_judged-requires c =
     let within = graph_within c.args.bytes.now c.in_ok-heading.heading c.in_ok-heading.ensures.0 in
-    let refused = c.in-Err.ensures.accepted.1 (subst (λ arcs. IsWithinLimits (record { nodes = c.in_ok-heading.heading.nodes; arcs = arcs })) (sym c.in_ok-heading.ensures.1) within) in
-    cc
+    subst (λ arcs. IsWithinLimits (record { nodes = c.in_ok-heading.heading.nodes; arcs = arcs })) (sym c.in_ok-heading.ensures.1) within

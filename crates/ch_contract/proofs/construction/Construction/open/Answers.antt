@@ -1,6 +1,5 @@
-use Rattle.std.proofs.Common.{rules, ◌≡◌, [], refl, subst}
+use Rattle.std.proofs.Common.{rules, ◌≡◌, [], refl}
 use Rattle.ch_contract.specs.Remaining.{legs_of}
-use Rattle.ch_contract.specs.Rooms.{IsReady}
 use Rattle.ch_contract.specs.declared.construction.Construction.{Construction}
 use Rattle.ch_contract.proofs.code.ConstructionCalls.{opened}
 use Rattle.ch_contract.proofs.construction.Construction.open.Goals as goal

@@ -1,6 +1,5 @@
-use Rattle.std.proofs.Common.{refl, sym, ◌∙◌, ap, subst, arith, length, All, List, get_or, map}
+use Rattle.std.proofs.Common.{refl, sym, ◌∙◌, ap, subst, arith, length, All, List, map}
 use Rattle.std.specs.Prelude.{◌≡◌, ◌<◌, ◌≤◌}
-use Rattle.ch_graph.specs.Cost.{no_cost}
 use Rattle.ch_contract.specs.Rows.{row}
 use Rattle.ch_contract.specs.Heads.{Begun, Lowers, IsOnly, IsOneMoreOf, IsRoomFor, AreHeads, known_of, begun_of}
 use Rattle.ch_contract.specs.LegLists.{legs_into}

@@ -1,7 +1,7 @@
 use Rattle.std.proofs.Common.{◌<◌, arith}
 use Rattle.ch_work.specs.Passes.{view_of}
 use Rattle.ch_work.specs.Pieces.{pieces_of}
-use Rattle.ch_work.proofs.Pays.{begins, pays_on, pays_still}
+use Rattle.ch_work.proofs.Pays.{pays_on}
 use Rattle.ch_work.proofs.paying.Payments.pay_off.Goals as goal
 
 pub loop-number-preserved : goal.loop-number-preserved
