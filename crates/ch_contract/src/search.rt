@@ -265,10 +265,9 @@ impl<K: Head> Search<K> {
     {
         for leg in legs {
             let cost = K::of(leg.cost).plus(first);
-            if cost.is_at_most(most)
-                && self.heads.costs[leg.node as usize]
-                    .plus(cost)
-                    .is_at_most(most)
+            if self.heads.costs[leg.node as usize]
+                .plus(cost)
+                .is_at_most(most)
             {
                 return true;
             }

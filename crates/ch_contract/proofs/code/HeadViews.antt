@@ -8,7 +8,7 @@ use Rattle.ch_graph.specs.declared.cost.Cost.{Cost}
 use Rattle.ch_graph.specs.Cost.{IsAtMost, cost_sum}
 use Rattle.ch_contract.specs.declared.search.Heads.{Heads}
 use Rattle.ch_contract.specs.declared.search.Step.{Step}
-use Rattle.ch_contract.specs.HeldCosts.{never, IsLight, IsHeld}
+use Rattle.ch_contract.specs.HeldCosts.{never, IsLight, IsHeld, IsAddend}
 use Rattle.ch_contract.specs.Heads.{head_in, head_at, AreTouched, known_of, begun_of, Lowers, IsOnly}
 use Rattle.ch_contract.proofs.code.Lowering.{lowers_here}
 
@@ -24,11 +24,21 @@ all_mapped P f xs all k d lt = subst P (get_or-map f xs k d (f d) lt) (all k (f 
 pub light_held : (limit : ℕ) (c : Cost) → IsLight limit c → IsHeld limit c
 light_held limit c is = record { limited = omega (arith, is.limited); weight = is.weight; arcs = omega (arith, is.arcs) }
 
--- and so may the cost of two legs that keeps the bound
-pub two_held : (limit : ℕ) (a b most : Cost) → IsLight limit a → IsLight limit b → IsHeld limit most → IsAtMost (cost_sum a b) most → IsHeld limit (cost_sum a b)
-two_held limit a b most first second held le =
-    let weight = le.0 in
-    record { limited = omega (arith, held.limited); weight = omega (arith, held.weight); arcs = omega (arith, first.arcs, second.arcs) }
+-- a bound may be added
+pub held_addend : (limit : ℕ) (c : Cost) → IsHeld limit c → IsAddend limit c
+held_addend limit c is = record { limited = is.limited; weight = omega (arith, is.weight); arcs = is.arcs }
+
+-- a leg may be added
+pub light_addend : (limit : ℕ) (c : Cost) → IsLight limit c → IsAddend limit c
+light_addend limit c is = held_addend limit c (light_held limit c is)
+
+-- and so may two legs
+pub two_addend : (limit : ℕ) (a b : Cost) → IsLight limit a → IsLight limit b → IsAddend limit (cost_sum a b)
+two_addend limit a b first second = record {
+  limited = omega (arith, first.limited, second.limited);
+  weight = omega (arith, first.weight, second.weight);
+  arcs = omega (arith, first.arcs, second.arcs);
+}
 
 -- one head is put in at one node
 pub lowers_one : {K : Type 0} (cost : K → Cost) (old : Heads K) (node : ℕ) (head : K) (touched : List ℕ) (next : List (Step K)) → node < length old.costs.items →
