@@ -1,5 +1,5 @@
 -- What a search for witnesses knows of each node.
-use Rattle.std.specs.Prelude.{◌≡◌, ◌≢◌, ℕ, ◌<◌, ◌≤◌, List, [], length, map, slice_index_or, Contains, All, ◌⊎◌, Some}
+use Rattle.std.specs.Prelude.{◌≡◌, ◌≢◌, ℕ, ◌+◌, ◌<◌, ◌≤◌, Bool, IsTrue, vec_len, vec_capacity, List, [], length, map, slice_index_or, Contains, All, ◌⊎◌, Some}
 use Rattle.std.specs.List.{AllByRecursion}
 use Rattle.ch_graph.specs.declared.cost.Cost.{Cost}
 use Rattle.ch_graph.specs.Cost.{IsAtMost, cost_sum}
@@ -64,6 +64,10 @@ IsOneMoreOf lists front s x d = (f : Begun) × Contains front f × IsOneMore (ro
 abbrev pub IsOnly : ℕ → Cost → ℕ → Cost → Type 0
 IsOnly node cost x d = (x ≡ node) × (d ≡ cost)
 
+-- the same where the cost is wanted
+abbrev pub IsOnlyWhere : Bool → ℕ → Cost → ℕ → Cost → Type 0
+IsOnlyWhere is_wanted node cost x d = IsTrue is_wanted × IsOnly node cost x d
+
 abbrev pub step_to : ℕ → Cost → Begun
 step_to x e = record { node = x; cost = e }
 
@@ -90,6 +94,10 @@ AreSteps L s k steps = (f : Begun) → Contains steps f → IsWanted L s k f.nod
 -- each node that is reached stands in the front with its cost, or has been spread from at that cost
 abbrev pub IsFront : Legs → Wanted → Known → List Begun → Type 0
 IsFront L s h front = (x : ℕ) → IsAtMost (head_at h x) s.most → Contains front (step_to x (head_at h x)) ⊎ IsSpread L s h x (head_at h x)
+
+-- room for so many more nodes to be lowered
+abbrev pub HasRoom : {K : Type 0} → ℕ → Heads K → Type 0
+HasRoom more h = (vec_len h.touched + more ≤ vec_capacity h.touched) × (vec_len h.next + more ≤ vec_capacity h.next)
 
 -- a node that isn't among the touched ones is at rest
 pub record AreTouched (h : Known) : Type 0 where

@@ -18,6 +18,12 @@ pub record IsHeld (limit : ℕ) (c : Cost) : Type 0 where
   pub weight : c.weight ≤ 2 ^ 60
   pub arcs : c.arcs ≤ 2 ^ 29
 
+-- what may be added to a known cost: a bound on chains, or the cost of two legs
+pub record IsAddend (limit : ℕ) (c : Cost) : Type 0 where
+  pub limited : c.weight ≤ 2 * limit
+  pub weight : c.weight ≤ 2 ^ 61
+  pub arcs : c.arcs ≤ 2 ^ 29
+
 -- a known cost, or none
 abbrev pub IsHead : ℕ → Cost → Type 0
 IsHead limit c = (c ≡ never) ⊎ IsHeld limit c

@@ -2,7 +2,7 @@
 ghost use Rattle.std.specs.Prelude.{◌≡◌, ℕ, ◌-◌, ◌^◌, ◌↔◌, IsTrue};
 ghost use Rattle.ch_graph.specs.declared.cost.Cost.{Cost};
 ghost use Rattle.ch_graph.specs.Cost.{IsAtMost, cost_sum};
-ghost use Rattle.ch_contract.specs.HeldCosts.{never, IsHeld, IsHead, cost_in};
+ghost use Rattle.ch_contract.specs.HeldCosts.{never, IsHeld, IsAddend, IsHead, cost_in};
 
 use ch_graph::Cost;
 
@@ -26,7 +26,7 @@ pub(crate) trait Head: Copy {
     /// What stands for the sum.
     fn plus(self, more: Self) -> Self
         requires known { IsHead limit (cost self) }
-        requires more { IsHeld limit (cost more) }
+        requires more { IsAddend limit (cost more) }
         ensures { cost result ≡ cost_sum (cost self) (cost more) };
 
     /// Whether the cost is at most the other.
@@ -57,7 +57,10 @@ impl Head for Cost {
 
     #[inline]
     fn plus(self, more: Cost) -> Cost {
-        self.plus(more)
+        Cost {
+            weight: self.weight + more.weight,
+            arcs: self.arcs + more.arcs,
+        }
     }
 
     #[inline]

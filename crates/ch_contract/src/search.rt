@@ -1,5 +1,5 @@
 //! The search for witnesses of one end: rounds back from it, and then one or two legs from each start.
-ghost use Rattle.std.specs.Prelude.{◌≡◌, ◌≢◌, ◌+◌, ◌-◌, ◌^◌, ◌<◌, ◌≤◌, ◌↔◌, length, map, IfOk, OnOk, IsTrue, [], ◌∷◌, All};
+ghost use Rattle.std.specs.Prelude.{◌≡◌, ◌≢◌, ℕ, ◌+◌, ◌-◌, ◌^◌, ◌<◌, ◌≤◌, ◌↔◌, if◌then◌else◌, length, map, vec_len, vec_capacity, IfOk, OnOk, IsTrue, [], ◌∷◌, ◌++◌, All};
 ghost use Rattle.ch_contract.specs.Legs.{AreLegsWithin, HasWitness};
 ghost use Rattle.ch_contract.specs.Rows.{row};
 
@@ -38,7 +38,7 @@ pub(crate) struct Heads<K> {
 
 impl<K: Head> Heads<K> {
     ghost use Rattle.ch_contract.specs.HeldCosts.{IsHeld};
-    ghost use Rattle.ch_contract.specs.Heads.{known_of, begun_of, AreTouched, IsClean, Lowers, IsOnly, IsOneMore, IsOneMoreOf, IsLegLight, IsRoomFor};
+    ghost use Rattle.ch_contract.specs.Heads.{known_of, begun_of, AreTouched, IsClean, HasRoom, Lowers, IsOnlyWhere, IsOneMore, IsOneMoreOf, IsLegLight, IsRoomFor};
 
     /// Room for searches among so many nodes.
     fn new(alloc: Global, nodes: u32) -> Result<Heads<K>, AllocError>
@@ -55,34 +55,45 @@ impl<K: Head> Heads<K> {
         })
     }
 
-    /// Puts the cost in where a greater one is known.
+    /// Makes room for so many more nodes to be lowered.
     #[inline]
-    fn lower(&mut self, node: u32, cost: K) -> Result<(), AllocError>
-        requires { node < length self.old.costs.items }
-        ensures { OnOk result (Lowers (IsOnly node (K.cost cost)) (known_of K.cost self.old) (known_of K.cost self.new)) }
+    fn reserve(&mut self, more: usize) -> Result<(), AllocError>
+        ensures known { known_of K.cost self.new ≡ known_of K.cost self.old }
+        ensures room { OnOk result (HasRoom more self.new) }
     {
-        if self.costs[node as usize].is_at_most(cost) {
-            return Ok(());
-        }
-        self.touched.push(node)?;
-        self.next.push(Step { node, cost })?;
-        self.costs[node as usize] = cost;
-        Ok(())
+        self.touched.reserve(more)?;
+        self.next.reserve(more)
+    }
+
+    /// Puts the cost in where it is wanted and a greater one is known. No branch hangs on that, which no
+    /// processor could foresee.
+    #[inline]
+    fn lower(&mut self, node: u32, cost: K, is_wanted: bool)
+        requires node { node < length self.old.costs.items }
+        requires room { HasRoom 1 self.old }
+        ensures lowers { Lowers (IsOnlyWhere is_wanted node (K.cost cost)) (known_of K.cost self.old) (known_of K.cost self.new) }
+        ensures room { (k : ℕ) → HasRoom (k + 1) self.old → HasRoom k self.new }
+    {
+        let known = self.costs[node as usize];
+        let is_less = is_wanted & !known.is_at_most(cost);
+        push_where(is_less, &mut self.touched, node);
+        push_where(is_less, &mut self.next, Step { node, cost });
+        self.costs[node as usize] = if is_less { cost } else { known };
     }
 
     /// Puts a leg in front of the chain of this step, where that is wanted.
     #[inline]
-    fn spread_leg(&mut self, leg: Leg, step: Step<K>, wanted: Wanted) -> Result<(), AllocError>
+    fn spread_leg(&mut self, leg: Leg, step: Step<K>, wanted: Wanted)
         requires leg { IsLegLight K.limit (length self.old.costs.items) leg }
         requires step { IsHeld K.limit (K.cost step.cost) }
         requires most { IsHeld K.limit wanted.most }
-        ensures { OnOk result (Lowers (IsOneMore (leg ∷ []) (begun_of K.cost step) wanted) (known_of K.cost self.old) (known_of K.cost self.new)) }
+        requires room { HasRoom 1 self.old }
+        ensures lowers { Lowers (IsOneMore (leg ∷ []) (begun_of K.cost step) wanted) (known_of K.cost self.old) (known_of K.cost self.new) }
+        ensures room { (k : ℕ) → HasRoom (k + 1) self.old → HasRoom k self.new }
     {
         let cost = K::of(leg.cost).plus(step.cost);
-        if cost.is_at_most(K::of(wanted.most)) && leg.node != wanted.avoided {
-            return self.lower(leg.node, cost);
-        }
-        Ok(())
+        let is_wanted = cost.is_at_most(K::of(wanted.most)) & (leg.node != wanted.avoided);
+        self.lower(leg.node, cost, is_wanted);
     }
 
     /// Puts each leg in front of the chain of this step.
@@ -92,8 +103,9 @@ impl<K: Head> Heads<K> {
         requires most { IsHeld K.limit wanted.most }
         ensures { OnOk result (Lowers (IsOneMore legs.now (begun_of K.cost step) wanted) (known_of K.cost self.old) (known_of K.cost self.new)) }
     {
+        self.reserve(legs.len())?;
         for leg in legs {
-            self.spread_leg(*leg, step, wanted)?;
+            self.spread_leg(*leg, step, wanted);
         }
         Ok(())
     }
@@ -138,7 +150,6 @@ pub(crate) struct Search<K> {
 }
 
 impl<K: Head> Search<K> {
-    ghost use Rattle.std.specs.Prelude.{ℕ};
     ghost use Rattle.ch_contract.specs.HeldCosts.{IsLight, IsHeld};
     ghost use Rattle.ch_contract.specs.LegLists.{AreRows, legs_into};
     ghost use Rattle.ch_contract.specs.Heads.{known_of, AreTouched, IsClean, IsIdle, AreHeads, AreLegsUpTo, IsLegLight};
@@ -201,7 +212,8 @@ impl<K: Head> Search<K> {
     {
         self.heads.next.clear();
         let none = K::of(Cost { weight: 0, arcs: 0 });
-        self.heads.lower(wanted.end, none)?;
+        self.heads.reserve(1)?;
+        self.heads.lower(wanted.end, none, true);
         for _round in 0..rounds {
             mem::swap(&mut self.front, &mut self.heads.next);
             self.heads.next.clear();
@@ -265,10 +277,9 @@ impl<K: Head> Search<K> {
     {
         for leg in legs {
             let cost = K::of(leg.cost).plus(first);
-            if cost.is_at_most(most)
-                && self.heads.costs[leg.node as usize]
-                    .plus(cost)
-                    .is_at_most(most)
+            if self.heads.costs[leg.node as usize]
+                .plus(cost)
+                .is_at_most(most)
             {
                 return true;
             }
@@ -283,4 +294,17 @@ impl<K: Head> Search<K> {
     {
         self.heads.clear();
     }
+}
+
+/// Puts a value at the end of a list where it is wanted, without a branch.
+#[inline]
+fn push_where<T: Copy + Drop>(is_wanted: bool, list: &mut Vec<T>, value: T)
+    requires { vec_len list.old < vec_capacity list.old }
+    ensures items { list.new.items ≡ (if is_wanted then list.old.items ++ value ∷ [] else list.old.items) }
+    ensures len { vec_len list.new ≤ vec_len list.old + 1 }
+    ensures capacity { vec_capacity list.new ≡ vec_capacity list.old }
+{
+    let len = list.len();
+    list.push_reserved(value);
+    list.truncate(len + is_wanted as usize);
 }

@@ -2,15 +2,16 @@
 use Rattle.std.proofs.Common.{◌≡◌, ℕ, ◌<◌, List, [], ◌∷◌, ◌++◌, length, map, set, get_or, All, Contains, sym, ◌∙◌, ap, subst, arith, inl, inr}
 use Rattle.std.specs.Prelude.{◌⊎◌, ◌≢◌}
 use Rattle.std.proofs.lemmas.Bool.{cases_eq}
+use Rattle.std.proofs.Math.Seq.{map-set_same}
 use Rattle.std.proofs.lemmas.List.{get_or-map, length-map, length-set, map-set, map-append, get_or-set_same, get_or-set_other}
 use Rattle.std.proofs.lemmas.List.Elements.{All-contains, All-from_get_or, Contains-get_or, Contains-append_left, Contains-push, Contains-push_cases}
 use Rattle.ch_graph.specs.declared.cost.Cost.{Cost}
 use Rattle.ch_graph.specs.Cost.{IsAtMost, cost_sum}
 use Rattle.ch_contract.specs.declared.search.Heads.{Heads}
 use Rattle.ch_contract.specs.declared.search.Step.{Step}
-use Rattle.ch_contract.specs.HeldCosts.{never, IsLight, IsHeld}
+use Rattle.ch_contract.specs.HeldCosts.{never, IsLight, IsHeld, IsAddend}
 use Rattle.ch_contract.specs.Heads.{head_in, head_at, AreTouched, known_of, begun_of, Lowers, IsOnly}
-use Rattle.ch_contract.proofs.code.Lowering.{lowers_here}
+use Rattle.ch_contract.proofs.code.Lowering.{lowers_here, lowers_none}
 
 -- the cost known at a node is that of its head
 pub head_of : {K : Type 0} (cost : K → Cost) (h : Heads K) (x : ℕ) (d : K) → x < length h.costs.items → head_at (known_of cost h) x ≡ cost (get_or h.costs.items x d)
@@ -24,11 +25,21 @@ all_mapped P f xs all k d lt = subst P (get_or-map f xs k d (f d) lt) (all k (f 
 pub light_held : (limit : ℕ) (c : Cost) → IsLight limit c → IsHeld limit c
 light_held limit c is = record { limited = omega (arith, is.limited); weight = is.weight; arcs = omega (arith, is.arcs) }
 
--- and so may the cost of two legs that keeps the bound
-pub two_held : (limit : ℕ) (a b most : Cost) → IsLight limit a → IsLight limit b → IsHeld limit most → IsAtMost (cost_sum a b) most → IsHeld limit (cost_sum a b)
-two_held limit a b most first second held le =
-    let weight = le.0 in
-    record { limited = omega (arith, held.limited); weight = omega (arith, held.weight); arcs = omega (arith, first.arcs, second.arcs) }
+-- a bound may be added
+pub held_addend : (limit : ℕ) (c : Cost) → IsHeld limit c → IsAddend limit c
+held_addend limit c is = record { limited = is.limited; weight = omega (arith, is.weight); arcs = is.arcs }
+
+-- a leg may be added
+pub light_addend : (limit : ℕ) (c : Cost) → IsLight limit c → IsAddend limit c
+light_addend limit c is = held_addend limit c (light_held limit c is)
+
+-- and so may two legs
+pub two_addend : (limit : ℕ) (a b : Cost) → IsLight limit a → IsLight limit b → IsAddend limit (cost_sum a b)
+two_addend limit a b first second = record {
+  limited = omega (arith, first.limited, second.limited);
+  weight = omega (arith, first.weight, second.weight);
+  arcs = omega (arith, first.arcs, second.arcs);
+}
 
 -- one head is put in at one node
 pub lowers_one : {K : Type 0} (cost : K → Cost) (old : Heads K) (node : ℕ) (head : K) (touched : List ℕ) (next : List (Step K)) → node < length old.costs.items →
@@ -37,6 +48,17 @@ pub lowers_one : {K : Type 0} (cost : K → Cost) (old : Heads K) (node : ℕ) (
 lowers_one cost old node head touched next inside less is_touched is_next =
     lowers_here node (cost head) (known_of cost old) _ (omega (arith, length-map old.costs.items cost)) less (map-set cost old.costs.items node head)
     (ap (map (begun_of cost)) is_next ∙ map-append (begun_of cost) old.next.items (record { node = node; cost = head } ∷ [])) is_touched
+
+-- and where it is not less than what is known, that is put in again
+pub lowers_nothing : {K : Type 0} (cost : K → Cost) (old : Heads K) (node : ℕ) (put d : K) (touched : List ℕ) (next : List (Step K)) (P : ℕ → Cost → Type 0) →
+    put ≡ get_or old.costs.items node d → touched ≡ old.touched.items → next ≡ old.next.items → ((x : ℕ) (e : Cost) → P x e → IsAtMost (head_at (known_of cost old) x) e) →
+    Lowers P (known_of cost old) (record { costs = map cost (set old.costs.items node put); touched = touched; next = map (begun_of cost) next })
+lowers_nothing cost old node put d touched next P same is_touched is_next whole =
+    let h = known_of cost old in
+    let costs = map-set_same cost old.costs.items node put d (ap cost same) in
+    subst (λ z. Lowers P h (record { costs = z; touched = touched; next = map (begun_of cost) next })) (sym costs)
+    (subst (λ z. Lowers P h (record { costs = h.costs; touched = z; next = map (begun_of cost) next })) (sym is_touched)
+    (subst (λ z. Lowers P h (record { costs = h.costs; touched = h.touched; next = map (begun_of cost) z })) (sym is_next) (lowers_none P h whole)))
 
 -- the last touched node is put to rest
 pub touched_less : {K : Type 0} (cost : K → Cost) (h : Heads K) (node : ℕ) (head : K) (rest : List ℕ) → cost head ≡ never → h.touched.items ≡ rest ++ node ∷ [] → AreTouched (known_of cost h) →

@@ -9,7 +9,7 @@ use Rattle.ch_graph.specs.Cost.{IsAtMost, cost_sum}
 use Rattle.ch_contract.specs.declared.leg.Leg.{Leg}
 use Rattle.ch_contract.specs.declared.search.Wanted.{Wanted}
 use Rattle.ch_contract.specs.HeldCosts.{never}
-use Rattle.ch_contract.specs.Heads.{Known, Begun, head_in, head_at, Lowers, IsOnly, IsOneMore, IsOneMoreOf, step_to}
+use Rattle.ch_contract.specs.Heads.{Known, Begun, head_in, head_at, Lowers, IsOnly, IsOnlyWhere, IsOneMore, IsOneMoreOf, step_to}
 use Rattle.ch_contract.specs.Rows.{row}
 use Rattle.ch_graph.proofs.CostOrder.{IsAtMost_refl, IsAtMost_trans, IsAtMost_or_IsBelow, IsBelow-IsAtMost}
 
@@ -26,6 +26,28 @@ lowers_none P h whole = record {
   touched_kept = λ x c. c;
   touched = λ x c. inl c;
 }
+
+-- the same costs, named in another way
+pub lowers_as : (P Q : ℕ → Cost → Type 0) (a b : Known) → ((x : ℕ) (d : Cost) → P x d → Q x d) → ((x : ℕ) (d : Cost) → Q x d → P x d) → Lowers P a b → Lowers Q a b
+lowers_as P Q a b there back p = record {
+  size = p.size;
+  sound = λ x. sound x (p.sound x);
+  lower = p.lower;
+  whole = λ x d m. p.whole x d (back x d m);
+  fresh = p.fresh;
+  next = λ f m. next f (p.next f m);
+  next_kept = p.next_kept;
+  touched_kept = p.touched_kept;
+  touched = p.touched;
+}
+  where
+    sound : (x : ℕ) → (head_at b x ≡ head_at a x) ⊎ P x (head_at b x) → (head_at b x ≡ head_at a x) ⊎ Q x (head_at b x)
+    sound x (inl e) = inl e
+    sound x (inr m) = inr (there x _ m)
+
+    next : (f : Begun) → Contains a.next f ⊎ P f.node f.cost → Contains a.next f ⊎ Q f.node f.cost
+    next f (inl m) = inl m
+    next f (inr m) = inr (there f.node f.cost m)
 
 -- first P and then Q
 pub lowers_then : (P Q R : ℕ → Cost → Type 0) (a b c : Known) → ((x : ℕ) (d : Cost) → P x d → R x d) → ((x : ℕ) (d : Cost) → Q x d → R x d) →
@@ -123,35 +145,21 @@ lowers_here node cost old new inside less costs next touched = record {
 pub no_more : (f : Begun) (s : Wanted) (x : ℕ) (d : Cost) → IsOneMore [] f s x d → ⊥
 no_more f s x d m = let at = m.1.1 in omega arith
 
--- one leg more, which is put in
-pub one_leg_more : (taken : List Leg) (l : Leg) (f : Begun) (s : Wanted) (a b c : Known) → IsAtMost (cost_sum l.cost f.cost) s.most → l.node ≢ s.avoided →
-    Lowers (IsOneMore taken f s) a b → Lowers (IsOnly l.node (cost_sum l.cost f.cost)) b c → Lowers (IsOneMore (taken ++ l ∷ []) f s) a c
-one_leg_more taken l f s a b c le off = lowers_then (IsOneMore taken f s) (IsOnly l.node (cost_sum l.cost f.cost)) (IsOneMore (taken ++ l ∷ []) f s) a b c first second either
+-- a leg that is put in where its chain is wanted
+pub leg_where : (l : Leg) (f : Begun) (s : Wanted) (is_wanted : Bool) (a b : Known) → (IsTrue is_wanted ↔ (IsAtMost (cost_sum l.cost f.cost) s.most × (l.node ≢ s.avoided))) →
+    Lowers (IsOnlyWhere is_wanted l.node (cost_sum l.cost f.cost)) a b → Lowers (IsOneMore (l ∷ []) f s) a b
+leg_where l f s is_wanted a b tells = lowers_as (IsOnlyWhere is_wanted l.node (cost_sum l.cost f.cost)) (IsOneMore (l ∷ []) f s) a b there back
   where
-    first : (x : ℕ) (d : Cost) → IsOneMore taken f s x d → IsOneMore (taken ++ l ∷ []) f s x d
-    first x d m = (m.0, Contains-append_left taken _ _ m.1, m.2, m.3, m.4, m.5)
+    there : (x : ℕ) (d : Cost) → IsOnlyWhere is_wanted l.node (cost_sum l.cost f.cost) x d → IsOneMore (l ∷ []) f s x d
+    there x d m = (l, Contains-push [] l, sym m.1.0, (λ e. (tells.0 m.0).1 (sym m.1.0 ∙ e)), m.1.1, subst (λ z. IsAtMost z s.most) (sym m.1.1) (tells.0 m.0).0)
 
-    second : (x : ℕ) (d : Cost) → IsOnly l.node (cost_sum l.cost f.cost) x d → IsOneMore (taken ++ l ∷ []) f s x d
-    second x d m = (l, Contains-push taken l, sym m.0, (λ e. off (sym m.0 ∙ e)), m.1, subst (λ z. IsAtMost z s.most) (sym m.1) le)
-
-    either : (x : ℕ) (d : Cost) → IsOneMore (taken ++ l ∷ []) f s x d → IsOneMore taken f s x d ⊎ IsOnly l.node (cost_sum l.cost f.cost) x d
-    either x d m = elim (Contains-push_cases taken l m.0 m.1) [
-      | inl early ↦ inl (m.0, early, m.2, m.3, m.4, m.5)
-      | inr same ↦ inr (sym m.2 ∙ ap (λ (z : Leg). z.node) (sym same), m.4 ∙ ap (λ (z : Leg). cost_sum z.cost f.cost) (sym same))
-    ]
-
--- one leg more, which makes no wanted chain
-pub one_leg_less : (taken : List Leg) (l : Leg) (f : Begun) (s : Wanted) (a b : Known) → (IsAtMost (cost_sum l.cost f.cost) s.most → l.node ≢ s.avoided → ⊥) →
-    Lowers (IsOneMore taken f s) a b → Lowers (IsOneMore (taken ++ l ∷ []) f s) a b
-one_leg_less taken l f s a b not p = lowers_then (IsOneMore taken f s) (λ x d. ⊥) (IsOneMore (taken ++ l ∷ []) f s) a b b
-    (λ x d m. (m.0, Contains-append_left taken _ _ m.1, m.2, m.3, m.4, m.5)) (λ x d m. absurd m) either p (lowers_none (λ x d. ⊥) b (λ x d m. absurd m))
-  where
-    either : (x : ℕ) (d : Cost) → IsOneMore (taken ++ l ∷ []) f s x d → IsOneMore taken f s x d ⊎ ⊥
-    either x d m = elim (Contains-push_cases taken l m.0 m.1) [
-      | inl early ↦ inl (m.0, early, m.2, m.3, m.4, m.5)
-      | inr same ↦ absurd (not
-          (subst (λ (z : Leg). IsAtMost (cost_sum z.cost f.cost) s.most) (sym same) (subst (λ z. IsAtMost z s.most) m.4 m.5))
-          (λ e. m.3 (sym m.2 ∙ ap (λ (z : Leg). z.node) (sym same) ∙ e)))
+    back : (x : ℕ) (d : Cost) → IsOneMore (l ∷ []) f s x d → IsOnlyWhere is_wanted l.node (cost_sum l.cost f.cost) x d
+    back x d m = elim (Contains-push_cases [] l m.0 m.1) [
+      | inl early ↦ absurd (no_more f s x d (m.0, early, m.2, m.3, m.4, m.5))
+      | inr same ↦
+          let at : x ≡ l.node = sym m.2 ∙ ap (λ (z : Leg). z.node) (sym same) in
+          let costs : d ≡ cost_sum l.cost f.cost = m.4 ∙ ap (λ (z : Leg). cost_sum z.cost f.cost) (sym same) in
+          (tells.1 (subst (λ z. IsAtMost z s.most) costs m.5, λ e. m.3 (at ∙ e)), (at, costs))
     ]
 
 -- one leg more, whether it is put in or not

@@ -1,14 +1,12 @@
 use Rattle.std.proofs.Common.{refl, sym, ◌∙◌, ap, subst, arith, length, get_or, ◌≡◌, ◌≤◌, true, inl, inr}
 use Rattle.std.proofs.lemmas.List.Elements.{Contains-get_or}
 use Rattle.ch_graph.specs.Cost.{IsAtMost, cost_sum}
-use Rattle.ch_graph.proofs.CostOrder.{IsAtMost_trans}
 use Rattle.ch_contract.specs.declared.leg.Leg.{Leg}
 use Rattle.ch_contract.specs.HeldCosts.{IsHead}
 use Rattle.ch_contract.specs.Heads.{head_at, known_of}
 use Rattle.ch_contract.proofs.theory.RowLemmas.{no_leg}
 use Rattle.ch_contract.proofs.code.Meetings.{all_taken, one_more_taken}
 use Rattle.ch_contract.proofs.code.HeadViews.{head_of}
-use Rattle.ch_contract.proofs.search.Search.meets_beyond.Goals.{else-is_at_most-via-then-is_at_most+else-is_at_most-2, else-is_at_most-via-else-is_at_most}
 use Rattle.ch_contract.proofs.search.Search.meets_beyond.Goals as goal
 
 pub plus-requires-clause-known : goal.plus-requires-clause-known
@@ -19,8 +17,8 @@ plus-requires-clause-known g c =
     let l = get_or c.args.legs.now i no_leg in
     subst (IsHead g.K.Head.limit) (head_of cost c.args.self.now.heads l.node c.index.result.now light.node ∙ sym (ap cost c.index.ensures)) (c.requires.small l.node)
 
-pub returns-then-is_at_most-2 : goal.returns-then-is_at_most-2
-returns-then-is_at_most-2 g c =
+pub returns-then-is_at_most : goal.returns-then-is_at_most
+returns-then-is_at_most g c =
     let cost = g.K.Head.cost in
     let heads = known_of cost c.args.self.now.heads in
     let first = cost c.args.first in
@@ -31,7 +29,7 @@ returns-then-is_at_most-2 g c =
     let two = c.plus-cost.ensures ∙ ap (λ z. cost_sum z first) c.of.ensures in
     let head = ap cost c.index.ensures ∙ sym (head_of cost c.args.self.now.heads l.node c.index.result.now light.node) in
     let sum = c.plus.ensures ∙ ap (λ z. cost_sum z (cost c.plus-cost.result)) head ∙ ap (cost_sum (head_at heads l.node)) two in
-    ((λ t. (l, Contains-get_or legs i no_leg c.loop-leg-test.true, subst (λ z. IsAtMost z (cost c.args.most)) sum (c.is_at_most-then-is_at_most.ensures.0 c.if-is_at_most-2.true))), λ m. refl)
+    ((λ t. (l, Contains-get_or legs i no_leg c.loop-leg-test.true, subst (λ z. IsAtMost z (cost c.args.most)) sum (c.is_at_most.ensures.0 c.if-is_at_most.true))), λ m. refl)
 
 pub loop-leg-preserved : goal.loop-leg-preserved
 loop-leg-preserved g c k among met =
@@ -47,16 +45,10 @@ loop-leg-preserved g c k among met =
       | inl early ↦ c.loop-leg.invariant k early met
       | inr here ↦
           let le = subst (λ (z : Leg). IsAtMost (cost_sum (head_at heads z.node) (cost_sum z.cost first)) most) (sym here) met in
-          elim c.else-is_at_most.branch [
-            | else-is_at_most-via-then-is_at_most+else-is_at_most-2 w ↦
-                let light = c.requires.legs i no_leg c.loop-leg-test.true in
-                let head = ap cost w.index.ensures ∙ sym (head_of cost c.args.self.now.heads l.node w.index.result.now light.node) in
-                let sum = w.plus.ensures ∙ ap (λ z. cost_sum z (cost c.plus-cost.result)) head ∙ ap (cost_sum (head_at heads l.node)) two in
-                let yes : w.is_at_most-then-is_at_most.result ≡ true = w.is_at_most-then-is_at_most.ensures.1 (subst (λ z. IsAtMost z most) (sym sum) le) in cc
-            | else-is_at_most-via-else-is_at_most w ↦
-                let part : IsAtMost (cost_sum l.cost first) (cost_sum (head_at heads l.node) (cost_sum l.cost first)) = (omega arith, λ e. omega arith) in
-                let yes : c.is_at_most.result ≡ true = c.is_at_most.ensures.1 (subst (λ z. IsAtMost z most) (sym two) (IsAtMost_trans _ _ most part le)) in cc
-          ]
+          let light = c.requires.legs i no_leg c.loop-leg-test.true in
+          let head = ap cost c.index.ensures ∙ sym (head_of cost c.args.self.now.heads l.node c.index.result.now light.node) in
+          let sum = c.plus.ensures ∙ ap (λ z. cost_sum z (cost c.plus-cost.result)) head ∙ ap (cost_sum (head_at heads l.node)) two in
+          let yes : c.is_at_most.result ≡ true = c.is_at_most.ensures.1 (subst (λ z. IsAtMost z most) (sym sum) le) in cc
     ]
 
 pub returns : goal.returns

@@ -1,10 +1,11 @@
-use Rattle.std.proofs.Common.{refl, sym, ◌∙◌, ap, subst, arith, length, All, List, map}
+use Rattle.std.proofs.Common.{true, refl, sym, ◌∙◌, ap, subst, arith, length, All, List, map}
 use Rattle.std.specs.Prelude.{◌≡◌, ◌<◌, ◌≤◌}
 use Rattle.ch_contract.specs.Rows.{row}
-use Rattle.ch_contract.specs.Heads.{Begun, Lowers, IsOnly, IsOneMoreOf, IsRoomFor, AreHeads, known_of, begun_of}
+use Rattle.ch_contract.specs.Heads.{Begun, Lowers, IsOnly, IsOnlyWhere, IsOneMoreOf, IsRoomFor, AreHeads, known_of, begun_of}
 use Rattle.ch_contract.specs.LegLists.{legs_into}
 use Rattle.std.proofs.lemmas.List.{length-map}
 use Rattle.ch_contract.proofs.code.HeadViews.{all_mapped}
+use Rattle.ch_contract.proofs.code.Lowering.{lowers_as}
 use Rattle.ch_contract.proofs.code.HeadRounds.{underway_start, underway_next, steps_room}
 use Rattle.ch_contract.proofs.search.Search.reach.Goals as goal
 
@@ -13,7 +14,13 @@ loop-round-init g c =
     let cost = g.K.Head.cost in
     let clean = c.requires.clean in
     let most = c.requires.most in
-    let low = subst (λ z. Lowers (IsOnly c.args.wanted.end z) (known_of cost (record { costs = c.args.self.now.heads.costs; touched = c.args.self.now.heads.touched; next = c.clear.new.self })) (known_of cost c.lower.new.self)) c.of-none.ensures c.in_ok-lower.ensures in
+    let end = c.args.wanted.end in
+    let start = known_of cost (record { costs = c.args.self.now.heads.costs; touched = c.args.self.now.heads.touched; next = c.clear.new.self }) in
+    let new = known_of cost c.lower.new.self in
+    let none = cost c.of-none.result in
+    let first = subst (λ z. Lowers (IsOnlyWhere true end none) z new) c.reserve.ensures.known c.lower.ensures.lowers in
+    let only = lowers_as (IsOnlyWhere true end none) (IsOnly end none) start new (λ x d m. m.1) (λ x d m. (refl, m)) first in
+    let low = subst (λ z. Lowers (IsOnly end z) start new) c.of-none.ensures only in
     underway_start (length c.args.lists.now) (legs_into c.args.lists.now) c.args.wanted _ (known_of cost c.lower.new.self) c.requires.end.1 (most.weight, omega (arith, most.arcs)) c.requires.end.0 (record { size = clean.size; rest = clean.rest; touched = clean.touched }) (ap (map (begun_of cost)) c.clear.ensures.items) low
 
 pub spread_all-requires : goal.spread_all-requires
