@@ -1,0 +1,72 @@
+#!/usr/bin/env python3
+"""Compares each cell of tables on the roads of Liechtenstein with what `dist` answers for the same pair.
+
+  cells.py [SIDE [SEED]]
+
+SIDE sources and SIDE targets (60) are drawn from a seed (1), some of them twice. The tables are made by 1, 2 and 4 workers, in pieces of
+several sizes, and by few hops. The last line is 'N passed, N failed', of rows.
+"""
+import random
+import sys
+import tempfile
+from pathlib import Path
+
+from running import ROOT, Count, build, run
+
+GRAPH = ROOT / "examples" / "liechtenstein.gr"
+NODES = 3137
+# The words of the tables.
+WAYS = [], ["--workers", "2", "--piece", "1"], ["--workers", "4", "--piece", "7"], ["--hops", "1"]
+
+
+def drawn(side, seed):
+    """The sources and the targets. Every tenth is one that came before, or one of the other list."""
+    draw = random.Random(f"cells {seed}")
+    lists = [[draw.randint(1, NODES) for _ in range(side)] for _ in range(2)]
+    for nodes in lists:
+        for place in range(9, side, 10):
+            nodes[place] = draw.choice(lists[0])
+    return lists
+
+
+def write(path, problem, letter, items):
+    lines = [f"p aux sp {problem} {len(items)}", *(" ".join(map(str, (letter, *item))) for item in items)]
+    path.write_text("".join(line + "\n" for line in lines))
+
+
+def asked(folder, sources, targets):
+    """The rows of distances, as `dist` answers one pair after the other."""
+    pairs = [(source, target) for source in sources for target in targets]
+    write(folder / "pairs.p2p", "p2p", "q", pairs)
+    answer = run(["dist", GRAPH, "pairs.p2p"], folder)
+    lines = [line.split() for line in answer.out.decode().splitlines()]
+    assert answer.status == 0 and [(int(start), int(end)) for _, start, end, _ in lines] == pairs, answer.err
+    return [[line[3] for line in lines[at:at + len(targets)]] for at in range(0, len(lines), len(targets))]
+
+
+def compare(tally, folder, sources, wanted, words):
+    """Each row of a table."""
+    answer = run(["table", *words, GRAPH, "from.ss", "to.ss"], folder)
+    rows = [line.split() for line in answer.out.decode().splitlines()]
+    tally.expect((answer.status, answer.err, len(rows)) == (0, b"", len(sources)), f"{words}: {answer.status} {answer.err}")
+    for source, row, cells in zip(sources, rows, wanted):
+        tally.expect(row == ["t", str(source), *cells], f"{words}: the row of source {source}")
+
+
+def main():
+    side, seed = (int(word) for word in (sys.argv[1:] + ["60", "1"][len(sys.argv) - 1:]))
+    build()
+    tally = Count()
+    with tempfile.TemporaryDirectory() as kept:
+        folder = Path(kept)
+        sources, targets = drawn(side, seed)
+        for name, nodes in ("from.ss", sources), ("to.ss", targets):
+            write(folder / name, "ss", "s", [(node,) for node in nodes])
+        wanted = asked(folder, sources, targets)
+        for words in WAYS:
+            compare(tally, folder, sources, wanted, words)
+    tally.finish()
+
+
+if __name__ == "__main__":
+    main()
