@@ -13,9 +13,10 @@ use Rattle.std.proofs.lemmas.Option.{none-some, same_Some}
 use Rattle.ch_graph.specs.Walk.{IsAnswer}
 use Rattle.ch_query.specs.Routes.{IsLeastWalk}
 use Rattle.ch_query.proofs.RouteWalks.{route_least_walk}
-use Rattle.ch_table.specs.Table.{IsCellBy, IsRowBy}
+use Rattle.ch_query.specs.Limits.{IsDistanceWithin}
+use Rattle.ch_table.specs.Table.{IsRowBy}
 use Rattle.ch_run.specs.Text.{Answers, AnswersShortly, AnswersWithRoute, IsTextBy, answer_text}
-use Rattle.ch_run.specs.TableText.{IsTableRow, IsTableText, row_text}
+use Rattle.ch_run.specs.TableText.{IsCell, IsTableRow, IsTableText, row_text}
 
 -- one more item is written
 pub grown : {X : Type 0} (f : X → List ℕ) (items : List X) (i : ℕ) (d : X) (start before after : List ℕ) → i < length items →
@@ -83,11 +84,11 @@ text_from false g H From is queries text t = t
 text_from true g H From is queries text t = (t.0, subst From (sym t.1) is, t.2)
 
 -- a table of a hierarchy that is right for a graph, written out, is the table of the graph
-pub cells_text : (g : Network) (H : LevelsAndLegs) → IsWithinLimits g → IsKept g H → (sources targets : List ℕ) (rows : List (List (Option ℕ))) (text : List ℕ) →
-    AllZip (IsRowBy H targets) sources rows → text ≡ flat_map row_text (zip sources rows) → IsTableText g sources targets text
-cells_text g H limits kept sources targets rows text table is = (
+pub cells_text : (g : Network) (H : LevelsAndLegs) → IsWithinLimits g → IsKept g H → (limit : Option ℕ) (sources targets : List ℕ) (rows : List (List (Option ℕ))) (text : List ℕ) →
+    AllZip (IsRowBy H limit targets) sources rows → text ≡ flat_map row_text (zip sources rows) → IsTableText g limit sources targets text
+cells_text g H limits kept limit sources targets rows text table is = (
   rows,
-  each_weaker (IsRowBy H targets) (IsTableRow g targets)
-      (λ s cells row. each_weaker (IsCellBy H s) (IsAnswer g s) (λ t cell by. by.distance g limits kept) targets cells row) sources rows table,
+  each_weaker (IsRowBy H limit targets) (IsTableRow g limit targets)
+      (λ s cells row. each_weaker (IsDistanceWithin H limit s) (IsCell g limit s) (λ t cell by. (by.whole, by.distance g limits kept, by.cut)) targets cells row) sources rows table,
   is,
 )

@@ -20,10 +20,11 @@ use std::alloc::{AllocError, Global};
 use std::thread::Threads;
 
 /// Reads a graph, a list of sources and a list of targets, and writes a row for each source with the
-/// distance to each target, in order.
+/// distance to each target, in order. With a limit of the options a distance that is more is left out, as one
+/// where there is no walk.
 ///
 /// Each input is read to its end and judged before the next is read, and the whole text is made before
-/// the first write. The table is the same for every plan and gate. Of the options only `hops` is used.
+/// the first write. The table is the same for every plan and gate. Of the options `hops` and `within` are used.
 ///
 /// # Errors
 /// The first fault of the graph, the sources or the targets, a device that refused a read, `Cells` where
@@ -49,7 +50,7 @@ pub fn run_table<R: Threads + Sync, I: Input, J: Input, L: Input, O: Output, G: 
 
     // What is written is the table of what was read: all of it, or its first bytes.
     ensures written { Delivers result (O.taken output.old) (O.taken output.new)
-        (IsTabledBy (reading I.left graph.old graph.new) (reading J.left sources.old sources.new) (reading L.left targets.old targets.new)) }
+        (IsTabledBy options.now (reading I.left graph.old graph.new) (reading J.left sources.old sources.new) (reading L.left targets.old targets.new)) }
 
     // A run ends in a fault of its own, a file is refused for what it holds, and the lists where they make too many cells.
     ensures own { IfErr result IsOfTable }
@@ -80,7 +81,7 @@ pub fn run_table<R: Threads + Sync, I: Input, J: Input, L: Input, O: Output, G: 
 {
     let graph = graph_from(alloc, graph)?;
     let lists = lists_from(alloc, sources, targets, &graph)?;
-    let text = table_of(rt, alloc, &graph, &lists, options.hops, plan, gate)?;
+    let text = table_of(rt, alloc, &graph, &lists, options, plan, gate)?;
     write_text(output, &text)
 }
 
@@ -90,14 +91,14 @@ fn table_of<R: Threads + Sync, G: Gate>(
     alloc: Global,
     graph: &Graph,
     lists: &Lists,
-    hops: u32,
+    options: &Options,
     plan: &Plan,
     gate: &G,
 ) -> Result<Vec<u8>, AllocError>
-    requires hops { IsHopBound hops }
+    requires hops { IsHopBound options.now.hops }
     requires lists { AreLists graph.now.nodes lists.now.sources.items lists.now.targets.items }
-    ensures { IfOk result (λ text. IsTableText graph.now lists.now.sources.items lists.now.targets.items text.items) }
+    ensures { IfOk result (λ text. IsTableText graph.now options.now.within lists.now.sources.items lists.now.targets.items text.items) }
 {
-    let hierarchy = build(rt, alloc, graph, hops, plan, gate)?;
-    table_by(rt, alloc, &hierarchy, lists, plan, gate)
+    let hierarchy = build(rt, alloc, graph, options.hops, plan, gate)?;
+    table_by(rt, alloc, &hierarchy, lists, options.within, plan, gate)
 }

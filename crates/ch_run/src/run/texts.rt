@@ -81,13 +81,14 @@ pub(crate) fn table_by<R: Threads + Sync, G: Gate>(
     alloc: Global,
     hierarchy: &Hierarchy,
     lists: &Lists,
+    within: Option<u64>,
     plan: &Plan,
     gate: &G,
 ) -> Result<Vec<u8>, AllocError>
     requires kept { IsKeptForSome hierarchy.now }
     requires lists { AreLists (nodes_of hierarchy.now) lists.now.sources.items lists.now.targets.items }
     ensures { IfOk result (λ text. (g : Network) → IsWithinLimits g → IsKept g hierarchy.now →
-        IsTableText g lists.now.sources.items lists.now.targets.items text.items) }
+        IsTableText g within lists.now.sources.items lists.now.targets.items text.items) }
 {
     let cells = table(
         rt,
@@ -95,6 +96,7 @@ pub(crate) fn table_by<R: Threads + Sync, G: Gate>(
         hierarchy,
         &lists.sources,
         &lists.targets,
+        within,
         plan,
         gate,
     )?;
