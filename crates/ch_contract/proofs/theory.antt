@@ -11,9 +11,9 @@ pub mod OpeningLegs
 pub mod StepLegs
 pub mod KeptCosts
 pub mod BuiltLegs
-pub mod BuiltLevels
 pub mod BuiltKept
 pub mod UpAndDown
+pub mod Turned
 pub mod LegPaths
 pub mod MeetingPaths
 pub mod LegWalks

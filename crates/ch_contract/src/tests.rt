@@ -2,7 +2,9 @@
 //! refusal of memory leaves.
 
 mod calls;
+mod examples;
 mod hierarchies;
+mod long_shortcut;
 mod refusals;
 mod saved;
 mod searches;

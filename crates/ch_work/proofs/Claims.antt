@@ -14,7 +14,7 @@ use Rattle.ch_work.specs.Passes.{view_of, IsPassOf, HasEnded}
 use Rattle.ch_work.specs.Pieces.{pieces_of}
 use Rattle.ch_work.specs.Rule.{Settled}
 use Rattle.ch_work.specs.Steps.{fresh, claimed}
-use Rattle.ch_work.proofs.Items.{all_at, map_push, next_done}
+use Rattle.ch_work.proofs.Items.{all_at, map_push, next_split, next_done}
 use Rattle.ch_work.proofs.Totals.{total_push, one_same, one_other}
 
 -- how often a number stands in two lists of pieces
@@ -122,13 +122,14 @@ module _ {X : Type 0} (m : ℕ → ℕ → X → Type 0) (n p : ℕ) where
       (subst (λ (t : ℕ). MatchOption (slice_index_or places k d) (t ≡ 0) (λ x. m (k * p) (min (k * p + p) n) x)) (sym times_same) (h k d lt)))
 
   -- the next piece of those that were done is put at its place
-  pub places_next : (done before rest : List (Done X)) (one : Done X) (places : List (Option X)) → done ≡ before ++ one ∷ rest → All (IsDone m n p) done → length places ≡ pieces_of n p → ArePlaced places before →
+  pub places_next : (done before left rest : List (Done X)) (one : Done X) (places : List (Option X)) → done ≡ before ++ left → left ≡ one ∷ rest → All (IsDone m n p) done → length places ≡ pieces_of n p → ArePlaced places before →
       (length (set places one.number (Some one.value)) ≡ pieces_of n p) × ArePlaced (set places one.number (Some one.value)) (before ++ one ∷ []) × (done ≡ (before ++ one ∷ []) ++ rest)
-  places_next done before rest one places now each len h = (
-    length-set places one.number (Some one.value) ∙ len,
-    places_one places before one.number one.value len (all_at (IsDone m n p) done each before rest one now) h,
-    next_done done before rest one now,
-  )
+  places_next done before left rest one places old next each len h =
+      let now = next_split done before left one rest old next in (
+        length-set places one.number (Some one.value) ∙ len,
+        places_one places before one.number one.value len (all_at (IsDone m n p) done each before rest one now) h,
+        next_done done before rest one now,
+      )
 
   -- where every piece was done, every place has its value
   pub places_full : (places : List (Option X)) (done : List (Done X)) → ArePlaced places done → ((x : ℕ) → x < pieces_of n p → 0 < times x (numbers done)) →

@@ -11,7 +11,7 @@ use Rattle.atomic_table.proofs.Lists.{at_set, at_snoc, set_again}
 use Rattle.ch_work.specs.declared.board.known.Known.{Known}
 use Rattle.ch_work.specs.declared.board.known.Size.{Size}
 use Rattle.ch_work.specs.Counts.{bit, total, times, times_at}
-use Rattle.ch_work.specs.Rule.{none_yet, Fits, Holds, Kept, IsWhole}
+use Rattle.ch_work.specs.Rule.{none_yet, Fits, AllFit, Holds, Kept, IsWhole}
 use Rattle.ch_work.specs.Steps.{fresh, looked, Looks, less_one, one_part, both}
 use Rattle.ch_work.proofs.Totals.{total_grow, total_append, total_push, total_split, total_join, total_whole, pair_cases, bit_one, none_below}
 use Rattle.ch_work.proofs.Moves.{fits_set, numbers_same, cells_same, knows_below}
@@ -83,6 +83,22 @@ looks k slots id v c cell part inside s kept homes at fits =
     )) in
     subst (λ (l : ℕ × List ℕ). LooksAt k slots id v c l.0 s.homes s.views l.1) (λ i. (sym (add-one cell) i, sym kept.words i)) here
 
+-- the rule stays where the views have the same totals and each fits
+same_totals : (k : Size) (c : ℕ) (ws : List ℕ) (old now : List Known) → Holds k c ws old →
+    total (λ (u : Known). u.ended) now ≡ total (λ (u : Known). u.ended) old →
+    ((x : ℕ) → total (λ (u : Known). times x u.claims) now ≡ total (λ (u : Known). times x u.claims) old) →
+    total (λ (u : Known). u.parts) now ≡ total (λ (u : Known). u.parts) old →
+    ((i x : ℕ) → total (λ (u : Known). times_at i x u.offers) now ≡ total (λ (u : Known). times_at i x u.offers) old) →
+    ((i x : ℕ) → total (λ (u : Known). times_at i x u.shown) now ≡ total (λ (u : Known). times_at i x u.shown) old) →
+    AllFit k now → Holds k c ws now
+same_totals k c ws old now h ended claims parts offers shown fits = record {
+  room = h.room;
+  cells = h.cells;
+  numbers = numbers_same k c old now h.numbers ended claims parts;
+  values = cells_same k ws old now h.values offers shown;
+  fits = fits;
+}
+
 -- a pass that has done nothing is cut off
 pub splits : (k : Size) (id p n : ℕ) → 0 < n → Splits (Kept k) id (fresh p n) (less_one (fresh p n)) (one_part (fresh p n))
 splits k id p n some_part s kept at =
@@ -91,25 +107,20 @@ splits k id p n some_part s kept at =
     let l = less_one v in
     let r = one_part v in
     let f = h.fits id v at in
-    let now = set s.views id l ++ r ∷ [] in record {
+    record {
       counter = kept.counter;
       values = kept.values;
       words = kept.words;
-      holds = record {
-        room = h.room;
-        cells = h.cells;
-        numbers = numbers_same k kept.counter s.views now h.numbers
-            (total_split (λ (u : Known). u.ended) s.views id v l r at refl)
-            (λ x. total_split (λ (u : Known). times x u.claims) s.views id v l r at refl)
-            (total_split (λ (u : Known). u.parts) s.views id v l r at (omega arith));
-        values = cells_same k kept.values s.views now h.values
-            (λ i x. total_split (λ (u : Known). times_at i x u.offers) s.views id v l r at refl)
-            (λ i x. total_split (λ (u : Known). times_at i x u.shown) s.views id v l r at refl);
-        fits = λ j u e. ⊎_elim
-            (λ (there : get_elem? (set s.views id l) j ≡ some u). fits_set k s.views id l record { pieces = λ q. f.pieces some_part; ended = omega arith; idle = λ z. (refl, refl, refl) } h.fits j u there)
-            (λ (t : r ≡ u). subst (λ (y : Known). Fits k y) t record { pieces = λ q. f.pieces some_part; ended = omega arith; idle = λ z. (refl, refl, refl) })
-            (at_snoc (set s.views id l) r u j e);
-      };
+      holds = same_totals k kept.counter kept.values s.views (set s.views id l ++ r ∷ []) h
+          (total_split (λ (u : Known). u.ended) s.views id v l r at refl)
+          (λ x. total_split (λ (u : Known). times x u.claims) s.views id v l r at refl)
+          (total_split (λ (u : Known). u.parts) s.views id v l r at (omega arith))
+          (λ i x. total_split (λ (u : Known). times_at i x u.offers) s.views id v l r at refl)
+          (λ i x. total_split (λ (u : Known). times_at i x u.shown) s.views id v l r at refl)
+          (λ j u e. ⊎_elim
+          (λ (there : get_elem? (set s.views id l) j ≡ some u). fits_set k s.views id l record { pieces = λ q. f.pieces some_part; ended = omega arith; idle = λ z. (refl, refl, refl) } h.fits j u there)
+          (λ (t : r ≡ u). subst (λ (y : Known). Fits k y) t record { pieces = λ q. f.pieces some_part; ended = omega arith; idle = λ z. (refl, refl, refl) })
+          (at_snoc (set s.views id l) r u j e));
     }
 
 -- a pass is joined to others
@@ -120,50 +131,39 @@ joins k id v other w some_w s kept at apart there =
     let z = fresh 0 0 in
     let theirs : Fits k w = ⊎_elim (λ (t : (other ≡ id) × (b ≡ w)). absurd (apart t.0)) (λ (t : (other ≢ id) × (get_elem? s.views other ≡ some w)). h.fits other w t.1) (at_set s.views id other b w there) in
     let mine : Fits k v = h.fits id v at in
-    let now = set (set s.views id b) other z in record {
+    record {
       counter = kept.counter;
       values = kept.values;
       words = kept.words;
-      holds = record {
-        room = h.room;
-        cells = h.cells;
-        numbers = numbers_same k kept.counter s.views now h.numbers
-            (total_join (λ (u : Known). u.ended) s.views id other v w b z at there refl refl)
-            (λ x. total_join (λ (u : Known). times x u.claims) s.views id other v w b z at there (total_append (λ (y : ℕ). bit (y == x)) v.claims w.claims) refl)
-            (total_join (λ (u : Known). u.parts) s.views id other v w b z at there refl refl);
-        values = cells_same k kept.values s.views now h.values
-            (λ i x. total_join (λ (u : Known). times_at i x u.offers) s.views id other v w b z at there (total_append (λ (p : ℕ × ℕ). bit ((p.0 == i) && (p.1 == x))) v.offers w.offers) refl)
-            (λ i x. total_join (λ (u : Known). times_at i x u.shown) s.views id other v w b z at there (total_append (λ (p : ℕ × ℕ). bit ((p.0 == i) && (p.1 == x))) v.shown w.shown) refl);
-        fits = fits_set k (set s.views id b) other z record { pieces = λ q. absurd (omega arith); ended = omega arith; idle = λ e. (refl, refl, refl) }
-            (fits_set k s.views id b (let a = mine.ended in let a' = theirs.ended in record { pieces = λ q. theirs.pieces some_w; ended = omega arith; idle = λ e. absurd (omega arith) }) h.fits);
-      };
+      holds = same_totals k kept.counter kept.values s.views (set (set s.views id b) other z) h
+          (total_join (λ (u : Known). u.ended) s.views id other v w b z at there refl refl)
+          (λ x. total_join (λ (u : Known). times x u.claims) s.views id other v w b z at there (total_append (λ (y : ℕ). bit (y == x)) v.claims w.claims) refl)
+          (total_join (λ (u : Known). u.parts) s.views id other v w b z at there refl refl)
+          (λ i x. total_join (λ (u : Known). times_at i x u.offers) s.views id other v w b z at there (total_append (λ (p : ℕ × ℕ). bit ((p.0 == i) && (p.1 == x))) v.offers w.offers) refl)
+          (λ i x. total_join (λ (u : Known). times_at i x u.shown) s.views id other v w b z at there (total_append (λ (p : ℕ × ℕ). bit ((p.0 == i) && (p.1 == x))) v.shown w.shown) refl)
+          (fits_set k (set s.views id b) other z record { pieces = λ q. absurd (omega arith); ended = omega arith; idle = λ e. (refl, refl, refl) }
+          (fits_set k s.views id b (let a = mine.ended in let a' = theirs.ended in record { pieces = λ q. theirs.pieces some_w; ended = omega arith; idle = λ e. absurd (omega arith) }) h.fits));
     }
 
 -- a new pass with no part
 pub enters : (k : Size) (slots : ℕ) → Enters (Kept k) slots 0 (λ n w. w ≡ fresh 0 0)
 enters k slots s kept homes fits =
     let h = kept.holds in
-    let z = fresh 0 0 in
-    let now = s.views ++ z ∷ [] in (
+    let z = fresh 0 0 in (
       z,
       record {
         counter = kept.counter;
         values = kept.values;
         words = kept.words;
-        holds = record {
-          room = h.room;
-          cells = h.cells;
-          numbers = numbers_same k kept.counter s.views now h.numbers
-              (let t = total_push (λ (u : Known). u.ended) s.views z in omega arith)
-              (λ x. let t = total_push (λ (u : Known). times x u.claims) s.views z in omega arith)
-              (let t = total_push (λ (u : Known). u.parts) s.views z in omega arith);
-          values = cells_same k kept.values s.views now h.values
-              (λ i x. let t = total_push (λ (u : Known). times_at i x u.offers) s.views z in omega arith)
-              (λ i x. let t = total_push (λ (u : Known). times_at i x u.shown) s.views z in omega arith);
-          fits = λ j u e. ⊎_elim (λ (there : get_elem? s.views j ≡ some u). h.fits j u there)
-              (λ (t : z ≡ u). subst (λ (y : Known). Fits k y) t record { pieces = λ q. absurd (omega arith); ended = omega arith; idle = λ e. (refl, refl, refl) })
-              (at_snoc s.views z u j e);
-        };
+        holds = same_totals k kept.counter kept.values s.views (s.views ++ z ∷ []) h
+            (let t = total_push (λ (u : Known). u.ended) s.views z in omega arith)
+            (λ x. let t = total_push (λ (u : Known). times x u.claims) s.views z in omega arith)
+            (let t = total_push (λ (u : Known). u.parts) s.views z in omega arith)
+            (λ i x. let t = total_push (λ (u : Known). times_at i x u.offers) s.views z in omega arith)
+            (λ i x. let t = total_push (λ (u : Known). times_at i x u.shown) s.views z in omega arith)
+            (λ j u e. ⊎_elim (λ (there : get_elem? s.views j ≡ some u). h.fits j u there)
+            (λ (t : z ≡ u). subst (λ (y : Known). Fits k y) t record { pieces = λ q. absurd (omega arith); ended = omega arith; idle = λ e. (refl, refl, refl) })
+            (at_snoc s.views z u j e));
       },
       refl,
     )

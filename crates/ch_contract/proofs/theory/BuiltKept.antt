@@ -19,12 +19,12 @@ use Rattle.ch_contract.specs.Kept.{IsLeg, IsFounded, IsKept}
 use Rattle.ch_contract.specs.Keeping.{IsLeft, ContractionKeepsLeastCosts, HierarchiesAreKept}
 use Rattle.ch_contract.proofs.theory.RowLegs.{leg_at}
 use Rattle.ch_contract.proofs.theory.Chains.{HasLeg}
-use Rattle.ch_contract.proofs.theory.OpeningLegs.{opening_covers}
+use Rattle.ch_contract.proofs.theory.OpeningLegs.{opening_covers, opening_within}
 use Rattle.ch_contract.proofs.theory.OneContraction.{leg_kept}
 use Rattle.ch_contract.proofs.theory.StepLegs.{IsMade, IsContraction, step_leg, step_at}
 use Rattle.ch_contract.proofs.theory.KeptCosts.{IsAfter, chain_walk, least_chain}
 use Rattle.ch_contract.proofs.theory.BuiltLegs.{IsBuilt, contraction, step_of, after_earlier, up_leg, down_leg, up_step, down_step, up_step_leg, down_step_leg}
-use Rattle.ch_contract.proofs.theory.BuiltLevels.{built_levelled}
+use Rattle.ch_contract.proofs.theory.Levelled.{levelled}
 use Rattle.ch_contract.proofs.theory.UpAndDown.{up_and_down}
 
 -- going up and down costs no more than c
@@ -131,7 +131,7 @@ module _ {g : Network} {h : ℕ} {H : LevelsAndLegs} {order : List ℕ} {L : ℕ
   pub built_kept : IsKept g H
   built_kept = record {
     nodes = built.hierarchy.sizes.0;
-    levelled = built_levelled built;
+    levelled = levelled g h H order L built.hierarchy built.limits.size.0 (opening_within g built.limits);
     founded = built_founded;
     arcs = built_arcs;
     covered = built_covered;

@@ -1,15 +1,14 @@
 -- The legs of a built hierarchy are those that each node had when it was contracted.
-use Rattle.std.proofs.Common.{◌≡◌, ℕ, ◌<◌, ◌≤◌, List, [], length, Some, Contains, slice_index, sym, ◌∙◌, subst, arith, inl, inr}
+use Rattle.std.proofs.Common.{◌≡◌, ℕ, ◌<◌, ◌≤◌, List, Some, Contains, slice_index, sym, ◌∙◌, subst, arith, inl, inr}
 use Rattle.std.proofs.lemmas.Bool.{cases_lt}
-use Rattle.std.proofs.lemmas.List.{get_or_default, get_or_past}
 use Rattle.ch_graph.specs.Graph.{Network, IsWithinLimits}
 use Rattle.ch_graph.specs.WalkLaws.{IsWalkCost}
 use Rattle.ch_contract.specs.declared.leg.Leg.{Leg}
 use Rattle.ch_contract.specs.Legs.{Label, Legs, IsHopBound}
 use Rattle.ch_contract.specs.Rows.{row, label_of}
 use Rattle.ch_contract.specs.Hierarchy.{LevelsAndLegs, IsHierarchyOf}
-use Rattle.ch_contract.proofs.theory.Ordered.{every_number}
-use Rattle.ch_graph.proofs.Lists.{contains_none}
+use Rattle.ch_contract.proofs.theory.OneOrder.{taken_at}
+use Rattle.ch_contract.proofs.theory.SavedLevels.{in_row_below}
 use Rattle.ch_contract.proofs.theory.RowLegs.{leg_at, row_has, row_member}
 use Rattle.ch_contract.proofs.theory.StepLegs.{IsContraction, IsStepLeg, step_leg}
 use Rattle.ch_contract.proofs.theory.KeptCosts.{IsAfter}
@@ -20,13 +19,6 @@ pub record IsBuilt (g : Network) (h : ℕ) (H : LevelsAndLegs) (order : List ℕ
   pub hops : IsHopBound h
   pub hierarchy : IsHierarchyOf g h H order L
 
--- a node that has a leg is one of the nodes
-row_node : (rows : List (List Leg)) (n v : ℕ) (l : Leg) → length rows ≡ n → Contains (row rows v) l → v < n
-row_node rows n v l size has = elim (cases_lt v n) [
-  | inl lt ↦ lt
-  | inr past ↦ absurd (contains_none l (subst (λ legs. Contains legs l) (get_or_past rows v [] (omega arith)) has))
-]
-
 module _ {g : Network} {h : ℕ} {H : LevelsAndLegs} {order : List ℕ} {L : ℕ → Legs} (built : IsBuilt g h H order L) where
   -- all nodes are contracted
   pub contraction : IsContraction g h order L g.nodes
@@ -34,12 +26,7 @@ module _ {g : Network} {h : ℕ} {H : LevelsAndLegs} {order : List ℕ} {L : ℕ
 
   -- each node is contracted in some step
   pub step_of : (x : ℕ) → x < g.nodes → (i : ℕ) × (i < g.nodes) × (slice_index order i ≡ x)
-  step_of x lt =
-      let nodes = built.hierarchy.order_is.nodes in
-      let size = nodes.0 in
-      let c = every_number order g.nodes x size nodes.1 nodes.2 lt in
-      let within = c.1 in
-      (c.0, omega arith, get_or_default order c.0 0 x within ∙ c.2)
+  step_of x lt = taken_at g h order L x built.hierarchy.order_is lt
 
   -- and in one step alone
   step_once : (i j : ℕ) → i < g.nodes → j < g.nodes → slice_index order i ≡ slice_index order j → i ≡ j
@@ -84,11 +71,11 @@ module _ {g : Network} {h : ℕ} {H : LevelsAndLegs} {order : List ℕ} {L : ℕ
 
   -- a node that has an up leg is that of a step
   pub up_step : (v : ℕ) (l : Leg) → Contains (row H.up v) l → (i : ℕ) × (i < g.nodes) × (slice_index order i ≡ v)
-  up_step v l has = step_of v (row_node H.up g.nodes v l built.hierarchy.sizes.1 has)
+  up_step v l has = step_of v (in_row_below H.up g.nodes v l built.hierarchy.sizes.1 has)
 
   -- so is one that has a down leg
   pub down_step : (v : ℕ) (l : Leg) → Contains (row H.down v) l → (i : ℕ) × (i < g.nodes) × (slice_index order i ≡ v)
-  down_step v l has = step_of v (row_node H.down g.nodes v l built.hierarchy.sizes.2 has)
+  down_step v l has = step_of v (in_row_below H.down g.nodes v l built.hierarchy.sizes.2 has)
 
   -- each up leg is a walk
   pub up_walk : (v : ℕ) (l : Leg) → Contains (row H.up v) l → IsWalkCost g v l.node l.cost

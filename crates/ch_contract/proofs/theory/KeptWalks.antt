@@ -1,5 +1,5 @@
 -- What a kept hierarchy has: walks, the least meetings, and tight nodes.
-use Rattle.std.proofs.Common.{ℕ, List, [], ◌∷◌, refl, sym, ◌∙◌, ap, subst, arith, inl, inr}
+use Rattle.std.proofs.Common.{ℕ, List, [], ◌∷◌, refl, sym, ◌∙◌, subst, arith, inl, inr}
 use Rattle.std.specs.Prelude.{◌↔◌}
 use Rattle.std.proofs.lemmas.Bool.{cases_eq}
 use Rattle.ch_graph.specs.declared.cost.Cost.{Cost}
@@ -17,10 +17,12 @@ use Rattle.ch_contract.specs.declared.leg.Leg.{Leg}
 use Rattle.ch_contract.specs.Hierarchy.{LevelsAndLegs}
 use Rattle.ch_contract.specs.Paths.{IsUpwardPath, path_cost, IsUp, IsDown, IsMeeting, NeverMeets}
 use Rattle.ch_contract.specs.Kept.{IsLeg, IsKept}
+use Rattle.ch_contract.specs.Turned.{turned_graph, turned_hierarchy}
 use Rattle.ch_contract.specs.KeptLaws.{HasWalks, IsLeastMeeting, MeetingsAreDistances, IsTightUp, IsTightDown, TightPathsAreLeast}
 use Rattle.ch_contract.proofs.theory.LegPaths.{IsHighPath, HasHighPath, path_cost-cons}
 use Rattle.ch_contract.proofs.theory.MeetingPaths.{HasMeetingPaths, meeting_paths_within, matched}
 use Rattle.ch_contract.proofs.theory.LegWalks.{rises, falls}
+use Rattle.ch_contract.proofs.theory.Turned.{turned_least, least_turned, turned_limits, turned_kept}
 
 module _ (g : Network) (H : LevelsAndLegs) (limits : IsWithinLimits g) (kept : IsKept g H) where
   -- each walk has a path of legs of no greater cost: a leg for each arc that is no loop
@@ -67,13 +69,39 @@ module _ (g : Network) (H : LevelsAndLegs) (limits : IsWithinLimits g) (kept : I
     least = λ others q light. IsLeast-IsAtMost g a b (path_cost legs) (path_cost others) l (rises g H kept a b others q);
   }
 
+  -- tight legs up to x are least
+  tight_up : (s t x : ℕ) (legs : List Leg) → IsTightUp g H s t x legs → IsUp H s x (path_cost legs) × IsLeast g s x (path_cost legs)
+  tight_up s t x legs h =
+      let first = rises g H kept s x legs h.rise.0 in
+      let rest = IsWalkCost-cost_sum g x h.m t _ _ (rises g H kept x h.m h.onward h.rise.1) (falls g H kept t h.m h.downs h.fall) in
+      let order = cost_sum_assoc (path_cost legs) (path_cost h.onward) (path_cost h.downs) in
+      let same = IsLeast-again g s t h.cost _ h.least (IsWalkCost-cost_sum g s x t _ _ first rest) (subst (λ q. IsAtMost q h.cost) order h.cheap) in
+      let least = IsLeast-front g s x t _ _ (subst (IsLeast g s t) (sym same) h.least) first rest in
+      (least_up s x legs h.rise.0 least, least)
+
+module _ (g : Network) (H : LevelsAndLegs) (limits : IsWithinLimits g) (kept : IsKept g H) where
   -- and so is one along the down rows
   least_down : (a b : ℕ) (legs : List Leg) → IsUpwardPath H.down a b legs → IsLeast g b a (path_cost legs) → IsDown H b a (path_cost legs)
-  least_down a b legs p l = record {
-    path = (legs, p, refl);
-    weight = IsLeast-weight g b a (path_cost legs) limits l;
-    least = λ others q light. IsLeast-IsAtMost g b a (path_cost legs) (path_cost others) l (falls g H kept a b others q);
-  }
+  least_down a b legs p l = least_up (turned_graph g) (turned_hierarchy H) (turned_limits g limits) (turned_kept g H kept) a b legs p (turned_least g b a (path_cost legs) l)
+
+  -- tight legs down from x are least, since they are tight legs up turned round
+  tight_down : (s t x : ℕ) (legs : List Leg) → IsTightDown g H s t x legs → IsDown H x t (path_cost legs) × IsLeast g x t (path_cost legs)
+  tight_down s t x legs h =
+      let up = tight_up (turned_graph g) (turned_hierarchy H) (turned_limits g limits) (turned_kept g H kept) t s x legs (record {
+        m = h.m;
+        onward = h.onward;
+        downs = h.ups;
+        cost = h.cost;
+        least = turned_least g s t h.cost h.least;
+        rise = h.fall;
+        fall = h.rise;
+        cheap = subst (λ q. IsAtMost q h.cost) (cost_sum_comm (path_cost h.ups) (cost_sum (path_cost legs) (path_cost h.onward))) h.cheap;
+      }) in
+      (up.0, least_turned g x t (path_cost legs) up.1)
+
+  -- tight paths of a kept hierarchy are least
+  pub tight_paths_are_least : TightPathsAreLeast g H
+  tight_paths_are_least = record { up = tight_up g H limits kept; down = tight_down }
 
   -- a meeting is a walk
   meeting_walk : (s t m : ℕ) (c : Cost) → IsMeeting H s t m c → IsWalkCost g s t c
@@ -86,7 +114,7 @@ module _ (g : Network) (H : LevelsAndLegs) (limits : IsWithinLimits g) (kept : I
   -- a least walk has a meeting of its cost
   least_meets : (s t : ℕ) (c : Cost) → IsLeast g s t c → (m : ℕ) × IsMeeting H s t m c
   least_meets s t c l =
-      let p = walk_matched s t c l.walk in
+      let p = walk_matched g H limits kept s t c l.walk in
       let up = rises g H kept s p.node p.ups p.rise in
       let down = falls g H kept t p.node p.downs p.fall in
       let same = IsLeast-again g s t c (cost_sum (path_cost p.ups) (path_cost p.downs)) l (IsWalkCost-cost_sum g s p.node t (path_cost p.ups) (path_cost p.downs) up down) p.cheap in
@@ -95,7 +123,7 @@ module _ (g : Network) (H : LevelsAndLegs) (limits : IsWithinLimits g) (kept : I
         (
           path_cost p.ups,
           path_cost p.downs,
-          least_up s p.node p.ups p.rise (IsLeast-front g s p.node t _ _ whole up down),
+          least_up g H limits kept s p.node p.ups p.rise (IsLeast-front g s p.node t _ _ whole up down),
           least_down t p.node p.downs p.fall (IsLeast-back g s p.node t _ _ whole up down),
           same,
         ),
@@ -139,27 +167,3 @@ module _ (g : Network) (H : LevelsAndLegs) (limits : IsWithinLimits g) (kept : I
     );
     never = never_meets;
   }
-
-  -- tight legs up to x are least
-  tight_up : (s t x : ℕ) (legs : List Leg) → IsTightUp g H s t x legs → IsUp H s x (path_cost legs) × IsLeast g s x (path_cost legs)
-  tight_up s t x legs h =
-      let first = rises g H kept s x legs h.rise.0 in
-      let rest = IsWalkCost-cost_sum g x h.m t _ _ (rises g H kept x h.m h.onward h.rise.1) (falls g H kept t h.m h.downs h.fall) in
-      let order = cost_sum_assoc (path_cost legs) (path_cost h.onward) (path_cost h.downs) in
-      let same = IsLeast-again g s t h.cost _ h.least (IsWalkCost-cost_sum g s x t _ _ first rest) (subst (λ q. IsAtMost q h.cost) order h.cheap) in
-      let least = IsLeast-front g s x t _ _ (subst (IsLeast g s t) (sym same) h.least) first rest in
-      (least_up s x legs h.rise.0 least, least)
-
-  -- tight legs down from x are least
-  tight_down : (s t x : ℕ) (legs : List Leg) → IsTightDown g H s t x legs → IsDown H x t (path_cost legs) × IsLeast g x t (path_cost legs)
-  tight_down s t x legs h =
-      let last = falls g H kept t x legs h.fall.0 in
-      let front = IsWalkCost-cost_sum g s h.m x _ _ (rises g H kept s h.m h.ups h.rise) (falls g H kept x h.m h.onward h.fall.1) in
-      let order = ap (cost_sum (path_cost h.ups)) (cost_sum_comm (path_cost legs) (path_cost h.onward)) ∙ sym (cost_sum_assoc (path_cost h.ups) (path_cost h.onward) (path_cost legs)) in
-      let same = IsLeast-again g s t h.cost _ h.least (IsWalkCost-cost_sum g s x t _ _ front last) (subst (λ q. IsAtMost q h.cost) order h.cheap) in
-      let least = IsLeast-back g s x t _ _ (subst (IsLeast g s t) (sym same) h.least) front last in
-      (least_down t x legs h.fall.0 least, least)
-
-  -- tight paths of a kept hierarchy are least
-  pub tight_paths_are_least : TightPathsAreLeast g H
-  tight_paths_are_least = record { up = tight_up; down = tight_down }

@@ -15,6 +15,8 @@ use Rattle.ch_contract.specs.Rows.{row}
 use Rattle.ch_contract.specs.Hierarchy.{LevelsAndLegs, IsLegUp}
 use Rattle.ch_contract.specs.Paths.{IsUpwardPath, path_cost, IsMeeting}
 use Rattle.ch_contract.specs.Kept.{IsLeg, IsKept}
+use Rattle.ch_contract.specs.Turned.{turned_graph}
+use Rattle.ch_contract.proofs.theory.Turned.{turned_walk, walk_turned}
 
 -- one leg in front adds its cost
 pub path_cost-cons : (l : Leg) (legs : List Leg) → path_cost (l ∷ legs) ≡ cost_sum l.cost (path_cost legs)
@@ -35,10 +37,7 @@ rises_along g rows walk a b (l ∷ legs) p =
 -- where each leg to a node is a walk, each path along the rows is one back
 pub falls_along : (g : Network) (rows : List (List Leg)) → ((v : ℕ) (l : Leg) → Contains (row rows v) l → IsWalkCost g l.node v l.cost) →
     (a b : ℕ) (legs : List Leg) → IsUpwardPath rows a b legs → IsWalkCost g b a (path_cost legs)
-falls_along g rows walk a b [] p = subst (λ q. IsWalkCost g q a no_cost) p (IsWalkCost-no_cost g a)
-falls_along g rows walk a b (l ∷ legs) p =
-    let back = IsWalkCost-cost_sum g b l.node a (path_cost legs) l.cost (falls_along g rows walk l.node b legs p.1) (walk a l p.0) in
-    subst (IsWalkCost g b a) (cost_sum_comm (path_cost legs) l.cost ∙ sym (path_cost-cons l legs)) back
+falls_along g rows walk a b legs p = walk_turned g b a _ (rises_along (turned_graph g) rows (λ v l has. turned_walk g l.node v l.cost (walk v l has)) a b legs p)
 
 module _ (H : LevelsAndLegs) where
   -- the legs lead from s to t, over nodes of level k and above

@@ -4,19 +4,23 @@ use Rattle.std.specs.Prelude.{◌⊎◌, ◌≢◌, ◌==◌, ◌||◌, All, sli
 use Rattle.std.proofs.lemmas.Bool.{cases_eq, cases_lt}
 use Rattle.std.proofs.lemmas.Bool.Decides.{nat_tests}
 use Rattle.std.proofs.lemmas.Option.{same_Some, none-some}
-use Rattle.std.proofs.lemmas.List.{get_or_default, get_or_past}
-use Rattle.std.proofs.lemmas.List.Elements.{All-nil, Contains-get_or}
+use Rattle.std.proofs.lemmas.List.{get_or_past}
+use Rattle.std.proofs.lemmas.List.Elements.{All-nil}
 use Rattle.ch_graph.specs.declared.limits.TheConstants.{MOST_NODES, MOST_WEIGHT}
 use Rattle.ch_graph.specs.Graph.{Network}
 use Rattle.ch_contract.specs.declared.leg.Leg.{Leg}
 use Rattle.ch_contract.specs.declared.shortcut.Shortcut.{Shortcut}
 use Rattle.ch_contract.specs.Legs.{Label, Legs, AreLegsWithin, opening}
 use Rattle.ch_contract.specs.Contraction.{shortcut_label, overridden, contracted, Contracts}
-use Rattle.ch_contract.specs.Rows.{row, IsRow, label_of}
+use Rattle.ch_contract.specs.Rows.{row, IsRow, label_of, AreLegsFrom}
 use Rattle.ch_contract.specs.Hierarchy.{LevelsAndLegs, IsLegUp, AreLegsUp, IsLevelled, IsHierarchyOf}
 use Rattle.ch_contract.proofs.theory.Contracting.{override_cases, contracted_within}
 use Rattle.ch_contract.proofs.theory.OneOrder.{taken_at, one_map}
-use Rattle.ch_contract.proofs.theory.RowLegs.{none_unless, row_has}
+use Rattle.ch_contract.specs.Saved.{IsOrderOf, AreLevelsOf}
+use Rattle.ch_contract.specs.Turned.{turned}
+use Rattle.ch_contract.proofs.theory.RowLegs.{none_unless}
+use Rattle.ch_contract.proofs.theory.RowLemmas.{leg_from_at}
+use Rattle.ch_contract.proofs.theory.SavedLevels.{levels_are}
 
 -- a leg after shortcuts are put in was there before, or is the leg of a shortcut
 abbrev pub IsMade : ℕ → List Shortcut → ℕ → ℕ → Label → Type 0
@@ -84,6 +88,12 @@ gone_steps n h m order L step j (suc k) lt le =
       | inr ne ↦ gone_more n h (L k) (slice_index order k) (L (k + 1)) (slice_index order j) (before (omega arith) (omega arith)) (step k (omega arith))
     ]
 
+-- legs turned round keep the limits
+turned_within : (n : ℕ) (L : Legs) → AreLegsWithin n L → AreLegsWithin n (turned L)
+turned_within n L within u w l e =
+    let is = within w u l e in
+    record { ends = (is.ends.1, is.ends.0, λ same. is.ends.2 (sym same)); weight = is.weight; arcs = is.arcs; middle = is.middle }
+
 module _ (g : Network) (h : ℕ) (H : LevelsAndLegs) (order : List ℕ) (L : ℕ → Legs) (p : IsHierarchyOf g h H order L) (small : g.nodes ≤ MOST_NODES) (start : AreLegsWithin g.nodes (opening g)) where
   -- the legs before each step are within the limits
   within : (k : ℕ) → k ≤ g.nodes → AreLegsWithin g.nodes (L k)
@@ -113,31 +123,26 @@ module _ (g : Network) (h : ℕ) (H : LevelsAndLegs) (order : List ℕ) (L : ℕ
       ] in
       record { node = omega arith; higher = omega arith; weight = weight; arcs = omega arith }
 
+  -- a row of legs from the node of a step leads up, where these are the legs before the step or those turned round
+  row_up : (N : Legs) (i : ℕ) (legs : List Leg) → i < g.nodes → AreLegsWithin g.nodes N → ((j : ℕ) → j < i → IsGone N (slice_index order j)) → AreLegsFrom N (slice_index order i) legs →
+      IsRow legs × All (IsLegUp H (slice_index order i)) legs
+  row_up N i legs lt limits earlier r = (
+    r.0,
+    λ k d inside.
+        let v : ℕ = slice_index order i in
+        let l : Leg = get_or legs k d in
+        let leg : N v l.node ≡ Some (label_of l) = leg_from_at N v legs k d r inside in
+        let w = limits v l.node (label_of l) leg in
+        leg_up i l lt w.ends.1 (λ e. w.ends.2 (sym e)) (λ j before e. none-some _ (sym (earlier j before v).1 ∙ ap (N v) e ∙ leg)) w.weight w.arcs,
+  )
+
   -- the legs from the node of a step lead up
   up_row : (i : ℕ) → i < g.nodes → IsRow (row H.up (slice_index order i)) × All (IsLegUp H (slice_index order i)) (row H.up (slice_index order i))
-  up_row i lt =
-      let v : ℕ = slice_index order i in
-      let r = p.up i lt in (
-        r.0,
-        λ k d inside.
-            let l : Leg = get_or (row H.up v) k d in
-            let leg : L i v l.node ≡ Some (label_of l) = sym (r.1 l.node) ∙ row_has (row H.up v) l r.0 (Contains-get_or (row H.up v) k d inside) in
-            let w = within i (omega arith) v l.node (label_of l) leg in
-            leg_up i l lt w.ends.1 (λ e. w.ends.2 (sym e)) (λ j before e. none-some _ (sym (gone j i before (omega arith) v).1 ∙ ap (L i v) e ∙ leg)) w.weight w.arcs,
-      )
+  up_row i lt = row_up (L i) i _ lt (within i (omega arith)) (λ j before. gone j i before (omega arith)) (p.up i lt)
 
-  -- the legs to the node of a step come from above
+  -- and the legs to it come from above
   down_row : (i : ℕ) → i < g.nodes → IsRow (row H.down (slice_index order i)) × All (IsLegUp H (slice_index order i)) (row H.down (slice_index order i))
-  down_row i lt =
-      let v : ℕ = slice_index order i in
-      let r = p.down i lt in (
-        r.0,
-        λ k d inside.
-            let l : Leg = get_or (row H.down v) k d in
-            let leg : L i l.node v ≡ Some (label_of l) = sym (r.1 l.node) ∙ row_has (row H.down v) l r.0 (Contains-get_or (row H.down v) k d inside) in
-            let w = within i (omega arith) l.node v (label_of l) leg in
-            leg_up i l lt w.ends.0 w.ends.2 (λ j before e. none-some _ (sym (gone j i before (omega arith) v).0 ∙ ap (λ q. L i q v) e ∙ leg)) w.weight w.arcs,
-      )
+  down_row i lt = row_up (turned (L i)) i _ lt (turned_within g.nodes (L i) (within i (omega arith))) (λ j before x. let none = gone j i before (omega arith) x in (none.1, none.0)) (p.down i lt)
 
   -- rows of which each leads up, for each node
   legs_up : (rows : List (List Leg)) → length rows ≡ g.nodes → ((i : ℕ) → i < g.nodes → IsRow (row rows (slice_index order i)) × All (IsLegUp H (slice_index order i)) (row rows (slice_index order i))) → AreLegsUp H rows
@@ -151,26 +156,19 @@ module _ (g : Network) (h : ℕ) (H : LevelsAndLegs) (order : List ℕ) (L : ℕ
     ],
   )
 
+  -- the order has each node once
+  is_order : IsOrderOf g.nodes order
+  is_order = let nodes = p.order_is.nodes in record { count = nodes.0; within = λ i lt. nodes.1 i 0 lt; distinct = λ i j before lt. nodes.2 i j 0 before lt }
+
+  -- and the levels are those of the order
+  are_levels : AreLevelsOf order H.level
+  are_levels = let size = p.order_is.nodes.0 in record { count = p.sizes.0 ∙ sym size; each = λ i lt. p.level i (omega arith) }
+
   -- so the hierarchy is levelled
   pub levelled : IsLevelled H
   levelled = record {
     count = let size = p.sizes.0 in omega arith;
-    levels = (
-      (λ k d lt.
-          let size = p.sizes.0 in
-          let at = level_of k (omega arith) in
-          let value : get_or H.level k d ≡ at.0 + 1 = get_or_default H.level k d 0 lt ∙ at.3 in
-          (omega arith, omega arith)),
-      (λ i j d lt inside same.
-          let size = p.sizes.0 in
-          let one = level_of i (omega arith) in
-          let two = level_of j (omega arith) in
-          let first : get_or H.level i d ≡ one.0 + 1 = get_or_default H.level i d 0 (omega arith) ∙ one.3 in
-          let second : get_or H.level j d ≡ two.0 + 1 = get_or_default H.level j d 0 inside ∙ two.3 in
-          let step : one.0 ≡ two.0 = omega arith in
-          let node : i ≡ j = sym one.2 ∙ ap (slice_index order) step ∙ two.2 in
-          omega arith),
-    );
+    levels = levels_are g.nodes order H.level is_order are_levels;
     up = legs_up H.up p.sizes.1 up_row;
     down = legs_up H.down p.sizes.2 down_row;
   }

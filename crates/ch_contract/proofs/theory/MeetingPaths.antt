@@ -1,18 +1,20 @@
 -- A path of legs in a kept hierarchy is matched by one that goes up and then down: its lowest nodes are avoided in turn.
-use Rattle.std.proofs.Common.{◌≡◌, ℕ, zero, suc, ◌+◌, ◌<◌, ◌≤◌, List, [], ◌∷◌, ◌++◌, length, refl, sym, ◌∙◌, ap, subst, arith, inl, inr}
+use Rattle.std.proofs.Common.{◌≡◌, ℕ, zero, suc, ◌+◌, ◌<◌, ◌≤◌, List, [], ◌∷◌, ◌++◌, length, Contains, refl, sym, ◌∙◌, ap, subst, arith, inl, inr}
 use Rattle.std.specs.Prelude.{◌⊎◌, slice_index}
 use Rattle.std.proofs.lemmas.Bool.{cases_lt, cases_eq}
 use Rattle.std.proofs.lemmas.List.{get_or_past}
 use Rattle.ch_graph.specs.declared.cost.Cost.{Cost}
 use Rattle.ch_graph.specs.Cost.{IsAtMost, cost_sum, no_cost}
 use Rattle.ch_graph.specs.Graph.{Network}
-use Rattle.ch_graph.proofs.CostOrder.{IsAtMost_refl, IsAtMost_trans}
+use Rattle.ch_graph.proofs.CostOrder.{IsAtMost_refl, IsAtMost_trans, IsAtMost-no_cost}
 use Rattle.ch_graph.proofs.CostSums.{cost_sum_assoc, cost_sum_comm, IsAtMost-cost_sum}
 use Rattle.ch_graph.proofs.WalkCosts.{IsAtMost_between, IsAtMost-cost_sum_more}
 use Rattle.ch_contract.specs.declared.leg.Leg.{Leg}
+use Rattle.ch_contract.specs.Rows.{row}
 use Rattle.ch_contract.specs.Hierarchy.{LevelsAndLegs, nodes_of}
 use Rattle.ch_contract.specs.Paths.{IsUpwardPath, path_cost}
 use Rattle.ch_contract.specs.Kept.{IsKept}
+use Rattle.ch_contract.specs.Turned.{turned_hierarchy}
 use Rattle.ch_contract.proofs.theory.LegPaths.{IsHighPath, HasHighPath, high_start, high_end, high_append, last_leg, meeting_high, Rises, Falls, rises_or_falls, path_cost-cons, path_cost-append}
 
 -- an upward path from s and one from t that meet, and cost at most c together
@@ -34,6 +36,39 @@ meeting_paths_within H s t c d le p = record {
   fall = p.fall;
   cheap = IsAtMost_trans _ _ _ p.cheap le;
 }
+
+-- the empty paths meet where they begin
+pub paths_of_none : (H : LevelsAndLegs) (s : ℕ) (c : Cost) → HasMeetingPaths H s s c
+paths_of_none H s c = record { node = s; ups = []; downs = []; rise = refl; fall = refl; cheap = IsAtMost-no_cost c }
+
+-- paths that meet do so turned round
+turned_paths : (H : LevelsAndLegs) (s t : ℕ) (c : Cost) → HasMeetingPaths H s t c → HasMeetingPaths (turned_hierarchy H) t s c
+turned_paths H s t c p = record {
+  node = p.node;
+  ups = p.downs;
+  downs = p.ups;
+  rise = p.fall;
+  fall = p.rise;
+  cheap = subst (λ q. IsAtMost q c) (cost_sum_comm (path_cost p.ups) (path_cost p.downs)) p.cheap;
+}
+
+-- an up leg in front
+pub up_first : (H : LevelsAndLegs) (s t : ℕ) (l : Leg) (c : Cost) → Contains (row H.up s) l → HasMeetingPaths H l.node t c → HasMeetingPaths H s t (cost_sum l.cost c)
+up_first H s t l c has r = record {
+  node = r.node;
+  ups = l ∷ r.ups;
+  downs = r.downs;
+  rise = (has, r.rise);
+  fall = r.fall;
+  cheap = IsAtMost_between (ap (λ q. cost_sum q (path_cost r.downs)) (path_cost-cons l r.ups) ∙ cost_sum_assoc l.cost (path_cost r.ups) (path_cost r.downs)) refl
+      (IsAtMost-cost_sum l.cost l.cost _ c (IsAtMost_refl l.cost) r.cheap);
+}
+
+-- a down leg at the end
+pub down_last : (H : LevelsAndLegs) (s t : ℕ) (l : Leg) (c : Cost) → Contains (row H.down t) l → HasMeetingPaths H s l.node c → HasMeetingPaths H s t (cost_sum c l.cost)
+down_last H s t l c has r =
+    subst (HasMeetingPaths H s t) (cost_sum_comm l.cost c)
+    (turned_paths (turned_hierarchy H) t s _ (up_first (turned_hierarchy H) t s l c has (turned_paths H s l.node c r)))
 
 -- the level of v is above k
 abbrev pub IsAbove : LevelsAndLegs → ℕ → ℕ → Type 0
@@ -116,39 +151,6 @@ module _ (g : Network) (H : LevelsAndLegs) (kept : IsKept g H) where
     | inr past ↦ omega (arith, get_or_past H.level v 0 past)
   ]
 
-  -- a leg up in front of two paths that meet
-  up_first : (s t : ℕ) (x : Leg) (xs : List Leg) → Rises H s x.node x.cost → HasMeetingPaths H x.node t (path_cost xs) → HasMeetingPaths H s t (path_cost (x ∷ xs))
-  up_first s t x xs up rest =
-      let ups : path_cost (up.0 ∷ rest.ups) ≡ cost_sum x.cost (path_cost rest.ups) = path_cost-cons up.0 rest.ups ∙ ap (λ q. cost_sum q (path_cost rest.ups)) up.3 in
-      record {
-        node = rest.node;
-        ups = up.0 ∷ rest.ups;
-        downs = rest.downs;
-        rise = (up.1, subst (λ q. IsUpwardPath H.up q rest.node rest.ups) (sym up.2) rest.rise);
-        fall = rest.fall;
-        cheap = IsAtMost_between
-            (ap (λ q. cost_sum q (path_cost rest.downs)) ups ∙ cost_sum_assoc x.cost (path_cost rest.ups) (path_cost rest.downs))
-            (path_cost-cons x xs)
-            (IsAtMost-cost_sum _ _ _ _ (IsAtMost_refl x.cost) rest.cheap);
-      }
-
-  -- a leg down after two paths that meet
-  down_last : (s z t : ℕ) (c d : Cost) → Falls H z t d → HasMeetingPaths H s z c → HasMeetingPaths H s t (cost_sum c d)
-  down_last s z t c d down rest =
-      let downs : path_cost (down.0 ∷ rest.downs) ≡ cost_sum (path_cost rest.downs) d =
-      path_cost-cons down.0 rest.downs ∙ cost_sum_comm down.0.cost (path_cost rest.downs) ∙ ap (cost_sum (path_cost rest.downs)) down.3 in
-      record {
-        node = rest.node;
-        ups = rest.ups;
-        downs = down.0 ∷ rest.downs;
-        rise = rest.rise;
-        fall = (down.1, subst (λ q. IsUpwardPath H.down q rest.node rest.downs) (sym down.2) rest.fall);
-        cheap = IsAtMost_between
-            (ap (cost_sum (path_cost rest.ups)) downs ∙ sym (cost_sum_assoc (path_cost rest.ups) (path_cost rest.downs) d))
-            refl
-            (IsAtMost-cost_sum _ _ _ _ rest.cheap (IsAtMost_refl d));
-      }
-
   -- each path over nodes of level k and above is matched by two paths that meet, of no greater cost
   abbrev pub AreMatched : ℕ → Type 0
   AreMatched k = (s t : ℕ) (legs : List Leg) → IsHighPath H k s t legs → HasMeetingPaths H s t (path_cost legs)
@@ -170,19 +172,22 @@ module _ (g : Network) (H : LevelsAndLegs) (kept : IsKept g H) where
           | inl up ↦ absurd (omega (arith, up.4, high_end H k s end.node end.front end.is_path))
           | inr down ↦
               let above : IsAbove H k end.node = omega (arith, down.4, high_end H k s t (x ∷ xs) h) in
-              subst (HasMeetingPaths H s t) (sym end.cost) (down_last s end.node t _ _ down (between_higher k s end.node higher end.front end.is_path above_s above))
+              subst (HasMeetingPaths H s t) (ap (cost_sum (path_cost end.front)) down.3 ∙ sym end.cost)
+              (down_last H s t down.0 _ down.1 (subst (λ q. HasMeetingPaths H s q (path_cost end.front)) (sym down.2) (between_higher k s end.node higher end.front end.is_path above_s above)))
         ]
   ]
 
   -- from paths above level k to those of level k too: the first leg may lead up from it
   one_lower : (k : ℕ) → AreMatched (k + 1) → AreMatched k
-  one_lower k higher s t [] h = record { node = s; ups = []; downs = []; rise = refl; fall = sym h.0; cheap = IsAtMost_refl no_cost }
+  one_lower k higher s t [] h = subst (λ q. HasMeetingPaths H s q no_cost) h.0 (paths_of_none H s no_cost)
   one_lower k higher s t (x ∷ xs) h = elim (cases_lt k (slice_index H.level s)) [
     | inl above_s ↦ from_higher k s t higher (x ∷ xs) h above_s
     | inr lowest ↦
         let next = high_start H k x.node t xs h.2 in
         elim (rises_or_falls g H kept s x.node x.cost x.middle h.0) [
-          | inl up ↦ up_first s t x xs up (from_higher k x.node t higher xs h.2 (omega (arith, h.1, up.4)))
+          | inl up ↦
+              subst (HasMeetingPaths H s t) (ap (λ q. cost_sum q (path_cost xs)) up.3 ∙ sym (path_cost-cons x xs))
+              (up_first H s t up.0 _ up.1 (subst (λ q. HasMeetingPaths H q t (path_cost xs)) (sym up.2) (from_higher k x.node t higher xs h.2 (omega (arith, h.1, up.4)))))
           | inr down ↦ absurd (omega (arith, down.4))
         ]
   ]

@@ -10,7 +10,8 @@ use Rattle.ch_contract.specs.declared.shortcut.Shortcut.{Shortcut}
 use Rattle.ch_contract.specs.Legs.{Legs, SameLegs}
 use Rattle.ch_contract.specs.Contraction.{IsPairBefore, AreShortcuts, contracted, Contracts, IsPriority, touching}
 use Rattle.ch_contract.specs.Order.{are_neighbours, IsLastTouch, IsPriorityAfter, IsOrder}
-use Rattle.ch_contract.specs.Rows.{row, AreLegsFrom, AreLegsTo}
+use Rattle.ch_contract.specs.Rows.{row, AreLegsFrom}
+use Rattle.ch_contract.specs.Turned.{turned}
 use Rattle.ch_contract.specs.Hierarchy.{LevelsAndLegs, IsHierarchyOf, IsHierarchy}
 use Rattle.ch_contract.proofs.theory.Ordered.{ordered_same, every_number}
 use Rattle.ch_contract.proofs.theory.RowLegs.{one_row}
@@ -165,21 +166,23 @@ module _ (g : Network) (h : ℕ) (H K : LevelsAndLegs) (order : List ℕ) (L : �
       let at = taken_at g h order L x p.order_is (omega arith) in
       ap (slice_index H.level) (sym at.2) ∙ p.level at.0 at.1 ∙ sym (q.level at.0 at.1) ∙ ap (slice_index K.level) (sym (all.nodes at.0 at.1) ∙ at.2))
 
-  -- and the rows up
-  ups : H.up ≡ K.up
-  ups = same_rows g.nodes H.up K.up p.sizes.1 q.sizes.1 (λ x lt.
+  -- and so are rows of the legs before each step, or of these turned round
+  rows_agree : (turn : Legs → Legs) (xs ys : List (List Leg)) → length xs ≡ g.nodes → length ys ≡ g.nodes →
+      ((i : ℕ) → i < g.nodes → AreLegsFrom (turn (L i)) (slice_index order i) (row xs (slice_index order i))) →
+      ((i : ℕ) → i < g.nodes → AreLegsFrom (turn (M i)) (slice_index other i) (row ys (slice_index other i))) → xs ≡ ys
+  rows_agree turn xs ys a b ours theirs = same_rows g.nodes xs ys a b (λ x lt.
       let at = taken_at g h order L x p.order_is lt in
-      let one = subst (λ v. AreLegsFrom (L at.0) v (row H.up v)) at.2 (p.up at.0 at.1) in
-      let two = subst (λ (N : Legs). AreLegsFrom N x (row K.up x)) (sym (all.legs at.0 (omega (arith, at.1)))) (subst (λ v. AreLegsFrom (M at.0) v (row K.up v)) (sym (all.nodes at.0 at.1) ∙ at.2) (q.up at.0 at.1)) in
-      one_row (L at.0 x) (row H.up x) (row K.up x) one.0 two.0 one.1 two.1)
+      let one = subst (λ v. AreLegsFrom (turn (L at.0)) v (row xs v)) at.2 (ours at.0 at.1) in
+      let two = subst (λ (N : Legs). AreLegsFrom (turn N) x (row ys x)) (sym (all.legs at.0 (omega (arith, at.1)))) (subst (λ v. AreLegsFrom (turn (M at.0)) v (row ys v)) (sym (all.nodes at.0 at.1) ∙ at.2) (theirs at.0 at.1)) in
+      one_row (turn (L at.0) x) (row xs x) (row ys x) one.0 two.0 one.1 two.1)
+
+  -- the rows up
+  ups : H.up ≡ K.up
+  ups = rows_agree (λ N. N) H.up K.up p.sizes.1 q.sizes.1 p.up q.up
 
   -- and the rows down
   downs : H.down ≡ K.down
-  downs = same_rows g.nodes H.down K.down p.sizes.2 q.sizes.2 (λ x lt.
-      let at = taken_at g h order L x p.order_is lt in
-      let one = subst (λ v. AreLegsTo (L at.0) v (row H.down v)) at.2 (p.down at.0 at.1) in
-      let two = subst (λ (N : Legs). AreLegsTo N x (row K.down x)) (sym (all.legs at.0 (omega (arith, at.1)))) (subst (λ v. AreLegsTo (M at.0) v (row K.down v)) (sym (all.nodes at.0 at.1) ∙ at.2) (q.down at.0 at.1)) in
-      one_row (λ u. L at.0 u x) (row H.down x) (row K.down x) one.0 two.0 one.1 two.1)
+  downs = rows_agree turned H.down K.down p.sizes.2 q.sizes.2 p.down q.down
 
 -- the two hierarchies are equal
 pub one_hierarchy : (g : Network) (h : ℕ) (H K : LevelsAndLegs) → IsHierarchy g h H → IsHierarchy g h K → H ≡ K

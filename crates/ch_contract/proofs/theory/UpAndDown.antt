@@ -1,56 +1,26 @@
 -- In a built hierarchy each least walk has an upward path and a downward path that cost no more.
-use Rattle.std.proofs.Common.{◌≡◌, ◌≢◌, ℕ, zero, suc, ◌+◌, ◌<◌, ◌≤◌, List, [], ◌∷◌, Some, Contains, slice_index, refl, sym, ◌∙◌, ap, subst, arith, inl, inr}
+use Rattle.std.proofs.Common.{◌≡◌, ◌≢◌, ℕ, zero, suc, ◌+◌, ◌<◌, ◌≤◌, List, [], ◌∷◌, Some, slice_index, refl, sym, ◌∙◌, ap, subst, arith, inl, inr}
 use Rattle.std.proofs.lemmas.Bool.{cases_eq}
 use Rattle.ch_graph.specs.declared.cost.Cost.{Cost}
-use Rattle.ch_graph.specs.Cost.{IsAtMost, cost_sum, no_cost}
+use Rattle.ch_graph.specs.Cost.{cost_sum, no_cost}
 use Rattle.ch_graph.specs.Graph.{Network}
 use Rattle.ch_graph.specs.Walk.{IsLeast}
 use Rattle.ch_graph.specs.WalkLaws.{IsWalkCost}
-use Rattle.ch_graph.proofs.CostOrder.{IsAtMost_refl, IsAtMost-no_cost}
-use Rattle.ch_graph.proofs.CostSums.{cost_sum_assoc, cost_sum_comm, cost_sum-no_cost, IsAtMost-cost_sum}
+use Rattle.ch_graph.proofs.CostSums.{cost_sum_assoc, cost_sum_comm, cost_sum-no_cost}
 use Rattle.ch_graph.proofs.WalkCosts.{IsWalkCost-cost_sum, IsLeast-IsAtMost, IsLeast-again, IsLeast-front, IsLeast-back}
 use Rattle.ch_graph.proofs.SimpleWalks.{IsLeast-weight}
 use Rattle.ch_contract.specs.declared.leg.Leg.{Leg}
 use Rattle.ch_contract.specs.Legs.{Label, Legs, IsChain, chain_cost}
-use Rattle.ch_contract.specs.Rows.{row}
 use Rattle.ch_contract.specs.Hierarchy.{LevelsAndLegs}
 use Rattle.ch_contract.specs.Paths.{IsUpwardPath, path_cost, IsUp, IsDown, IsMeeting}
 use Rattle.ch_contract.proofs.theory.ReferenceSearch.{some_of}
 use Rattle.ch_contract.proofs.theory.RowLegs.{leg_at}
-use Rattle.ch_contract.proofs.theory.LegPaths.{path_cost-cons, rises_along, falls_along}
-use Rattle.ch_contract.proofs.theory.MeetingPaths.{HasMeetingPaths}
+use Rattle.ch_contract.proofs.theory.LegPaths.{rises_along, falls_along}
+use Rattle.ch_contract.proofs.theory.MeetingPaths.{HasMeetingPaths, paths_of_none, up_first, down_last}
 use Rattle.ch_contract.proofs.theory.Chains.{chain_cost-cons, chain_cost-one}
 use Rattle.ch_contract.proofs.theory.StepLegs.{step_leg}
 use Rattle.ch_contract.proofs.theory.KeptCosts.{IsAfter, IsChainCost, chain_walk, least_chain}
 use Rattle.ch_contract.proofs.theory.BuiltLegs.{IsBuilt, contraction, step_of, up_leg, down_leg, up_walk, down_walk}
-
--- the empty paths meet where they begin
-stays : (H : LevelsAndLegs) (s : ℕ) (c : Cost) → HasMeetingPaths H s s c
-stays H s c = record { node = s; ups = []; downs = []; rise = refl; fall = refl; cheap = IsAtMost-no_cost c }
-
--- an up leg in front
-up_first : (H : LevelsAndLegs) (s t : ℕ) (l : Leg) (c : Cost) → Contains (row H.up s) l → HasMeetingPaths H l.node t c → HasMeetingPaths H s t (cost_sum l.cost c)
-up_first H s t l c has r = record {
-  node = r.node;
-  ups = l ∷ r.ups;
-  downs = r.downs;
-  rise = (has, r.rise);
-  fall = r.fall;
-  cheap = subst (λ q. IsAtMost q (cost_sum l.cost c)) (sym (cost_sum_assoc l.cost (path_cost r.ups) (path_cost r.downs)) ∙ ap (λ q. cost_sum q (path_cost r.downs)) (sym (path_cost-cons l r.ups)))
-      (IsAtMost-cost_sum l.cost l.cost _ c (IsAtMost_refl l.cost) r.cheap);
-}
-
--- a down leg at the end
-down_last : (H : LevelsAndLegs) (s t : ℕ) (l : Leg) (c : Cost) → Contains (row H.down t) l → HasMeetingPaths H s l.node c → HasMeetingPaths H s t (cost_sum c l.cost)
-down_last H s t l c has r = record {
-  node = r.node;
-  ups = r.ups;
-  downs = l ∷ r.downs;
-  rise = r.rise;
-  fall = (has, r.fall);
-  cheap = subst (λ q. IsAtMost q (cost_sum c l.cost)) (cost_sum_assoc (path_cost r.ups) (path_cost r.downs) l.cost ∙ ap (cost_sum (path_cost r.ups)) (cost_sum_comm (path_cost r.downs) l.cost ∙ sym (path_cost-cons l r.downs)))
-      (IsAtMost-cost_sum _ c l.cost l.cost r.cheap (IsAtMost_refl l.cost));
-}
 
 -- the last leg of a chain
 pub record HasLastLeg (L : Legs) (u w : ℕ) (c : Cost) : Type 0 where
@@ -151,7 +121,7 @@ module _ {g : Network} {h : ℕ} {H : LevelsAndLegs} {order : List ℕ} {L : ℕ
       let place = step_of built s ls in
       absurd (p place.0 (omega (arith, place.1)) place.2)
   climb (suc k) i more s t c ls lt p q least = elim (cases_eq s t) [
-    | inl same ↦ subst (λ y. HasMeetingPaths H s y c) same (stays H s c)
+    | inl same ↦ subst (λ y. HasMeetingPaths H s y c) same (paths_of_none H s c)
     | inr apart ↦ elim (cases_eq (slice_index order i) s) [
       | inl start ↦
           subst (λ y. HasMeetingPaths H y t c) start

@@ -62,16 +62,17 @@ fn assembled(
     }
 }
 
-fn expect_fault(
+/// The first fault of each order and list of legs for the line.
+fn expect_faults(
     rt: &impl Abort,
     alloc: Global,
-    order: &[u32],
-    legs: &[SavedLeg],
-    fault: CheckFault,
+    cases: &[(&[u32], &[SavedLeg], CheckFault)],
 ) -> Result<(), Fail> {
-    match assembled(alloc, order, legs)? {
-        Ok(_) => panic!(rt; "no fault"),
-        Err(error) => assert_eq!(rt; error, CheckError::Fault(fault)),
+    for (order, legs, fault) in cases {
+        match assembled(alloc, order, legs)? {
+            Ok(_) => panic!(rt; "no fault"),
+            Err(error) => assert_eq!(rt; error, CheckError::Fault(*fault)),
+        }
     }
     Ok(())
 }
@@ -94,69 +95,60 @@ fn levels_and_rows_are_those_of_the_list(rt: HostRuntime) -> Result<(), Fail> {
 }
 
 #[test]
-fn early_faults_are_named_in_order(rt: HostRuntime) -> Result<(), Fail> {
-    let alloc = rt.alloc();
+fn orders_that_leave_out_or_repeat_nodes(rt: HostRuntime) -> Result<(), Fail> {
+    let legs = [leg(1, 2, 4, 1, 0), leg(2, 3, 5, 1, 0)];
+    let loops = [leg(1, 1, 0, 0, 0)];
+    expect_faults(
+        &rt,
+        rt.alloc(),
+        &[
+            (&[0, 0, 1], &legs, CheckFault::Order),
+            (&[0, 1], &legs, CheckFault::Order),
+            (&[0, 1, 3], &loops, CheckFault::Order),
+        ],
+    )
+}
+
+#[test]
+fn the_first_faulty_pair_is_named(rt: HostRuntime) -> Result<(), Fail> {
+    let first = leg(1, 2, 4, 1, 0);
+    let second = leg(2, 3, 5, 1, 0);
+    let heavy = leg(1, 3, (1 << 60) + 1, 2, 0);
+    let outside = leg(1, 4, 0, 0, 0);
+    expect_faults(
+        &rt,
+        rt.alloc(),
+        &[
+            (&[0, 2, 1], &[first, second, first], CheckFault::Pair(2)),
+            (
+                &[0, 2, 1],
+                &[second, first, second, first],
+                CheckFault::Pair(2),
+            ),
+            (
+                &[0, 2, 1],
+                &[heavy, leg(2, 2, 0, 0, 0)],
+                CheckFault::Pair(1),
+            ),
+            (&[0, 2, 1], &[outside, first, first], CheckFault::Pair(0)),
+            (&[0, 2, 1], &[first, first, outside], CheckFault::Pair(1)),
+        ],
+    )
+}
+
+#[test]
+fn the_first_leg_past_a_limit_is_named(rt: HostRuntime) -> Result<(), Fail> {
     let first = leg(1, 2, 4, 1, 0);
     let second = leg(2, 3, 5, 1, 0);
     let heavy = leg(1, 3, (1 << 60) + 1, 2, 0);
     let long = leg(1, 3, 9, 3, 2);
-    expect_fault(&rt, alloc, &[0, 0, 1], &[first, second], CheckFault::Order)?;
-    expect_fault(&rt, alloc, &[0, 1], &[first, second], CheckFault::Order)?;
-    expect_fault(
+    expect_faults(
         &rt,
-        alloc,
-        &[0, 1, 3],
-        &[leg(1, 1, 0, 0, 0)],
-        CheckFault::Order,
-    )?;
-    expect_fault(
-        &rt,
-        alloc,
-        &[0, 2, 1],
-        &[first, second, first],
-        CheckFault::Pair(2),
-    )?;
-    expect_fault(
-        &rt,
-        alloc,
-        &[0, 2, 1],
-        &[second, first, second, first],
-        CheckFault::Pair(2),
-    )?;
-    expect_fault(
-        &rt,
-        alloc,
-        &[0, 2, 1],
-        &[heavy, leg(2, 2, 0, 0, 0)],
-        CheckFault::Pair(1),
-    )?;
-    expect_fault(
-        &rt,
-        alloc,
-        &[0, 2, 1],
-        &[leg(1, 4, 0, 0, 0), first, first],
-        CheckFault::Pair(0),
-    )?;
-    expect_fault(
-        &rt,
-        alloc,
-        &[0, 2, 1],
-        &[first, first, leg(1, 4, 0, 0, 0)],
-        CheckFault::Pair(1),
-    )?;
-    expect_fault(
-        &rt,
-        alloc,
-        &[0, 2, 1],
-        &[first, heavy, second],
-        CheckFault::Bound(1),
-    )?;
-    expect_fault(
-        &rt,
-        alloc,
-        &[0, 2, 1],
-        &[first, second, long],
-        CheckFault::Bound(2),
+        rt.alloc(),
+        &[
+            (&[0, 2, 1], &[first, heavy, second], CheckFault::Bound(1)),
+            (&[0, 2, 1], &[first, second, long], CheckFault::Bound(2)),
+        ],
     )
 }
 

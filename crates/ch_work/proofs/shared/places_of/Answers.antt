@@ -1,29 +1,21 @@
 use Rattle.std.proofs.Common.{rules, ◌≡◌, length, subst, sym}
 use Rattle.ch_work.proofs.Claims.{ArePlaced, places_next, places_full}
-use Rattle.ch_work.proofs.Items.{all_done, next_split}
+use Rattle.ch_work.proofs.Items.{all_done}
 use Rattle.ch_work.proofs.shared.places_of.Goals as goal
 
 pub loop-number-preserved-in-Some : goal.loop-number-preserved-in-Some
 loop-number-preserved-in-Some g c =
     let work = c.args.work.now in
-    let done = c.args.done.items in
-    let before = c.loop-number.yielded in
-    let one = c.in-Some.field-0 in
-    let rest = c.next.new.self.rest.items in
     let so_far = c.loop-number.invariant in
-    let now = next_split done before c.loop-number.number-iterator.rest.items one rest so_far.2 c.in-Some.ensures.steps.0 in
-    places_next (g.J.RoomJob.meaning work.job.now) work.items work.piece done before rest one c.loop-number.places.items now c.requires.each so_far.0 so_far.1
+    places_next (g.J.RoomJob.meaning work.job.now) work.items work.piece c.args.done.items c.loop-number.yielded c.loop-number.number-iterator.rest.items c.next.new.self.rest.items c.in-Some.field-0
+    c.loop-number.places.items so_far.2 c.in-Some.ensures.steps.0 c.requires.each so_far.0 so_far.1
 
 pub loop-number-preserved : goal.loop-number-preserved
 loop-number-preserved g c =
     let work = c.args.work.now in
-    let done = c.args.done.items in
-    let before = c.loop-number.yielded in
-    let one = c.in-Some.field-0 in
-    let rest = c.next.new.self.rest.items in
     let so_far = c.loop-number.invariant in
-    let now = next_split done before c.loop-number.number-iterator.rest.items one rest so_far.2 c.in-Some.ensures.steps.0 in
-    places_next (g.J.RoomJob.meaning work.job.now) work.items work.piece done before rest one c.loop-number.places.items now c.requires.each so_far.0 so_far.1
+    places_next (g.J.RoomJob.meaning work.job.now) work.items work.piece c.args.done.items c.loop-number.yielded c.loop-number.number-iterator.rest.items c.next.new.self.rest.items c.in-Some.field-0
+    c.loop-number.places.items so_far.2 c.in-Some.ensures.steps.0 c.requires.each so_far.0 so_far.1
 
 pub returns-clause-each : goal.returns-clause-each
 returns-clause-each g c =
