@@ -119,6 +119,14 @@ for workers in 1 2; do
   expect "thirty by forty cells, $workers workers" 0 "$table" "" table --workers "$workers" --piece 4 "$lg" from.ss to.ss
 done
 
+for most in 0 60000 300000 1152921504606846976; do
+  near=$(awk -v most="$most" '{ for (i = 3; i <= NF; i++) if ($i > most) $i = "-"; print }' <<<"$table")
+  for workers in 1 2; do
+    expect "thirty by forty cells within $most, $workers workers" 0 "$near" "" \
+      table --within "$most" --workers "$workers" "$lg" from.ss to.ss
+  done
+done
+
 printf 'p sp 3 2\na 1 2 4\na 2 3 5\n' >graph.gr
 python3 -c '
 for name, count in ("most.ss", 2048), ("more.ss", 2049):
@@ -140,6 +148,30 @@ expect "missing sources" 3 "" "chtab: cannot read sources" table graph.gr missin
 expect "a folder as targets" 3 "" "chtab: cannot read targets" table graph.gr two.ss "$root"
 expect "a table" 0 "t 1 0 4
 t 2 - 0" "" table graph.gr two.ss two.ss
+
+list_of 1 1 3 >sources.ss
+list_of 3 2 >targets.ss
+list_of 1 >one.ss
+list_of 3 >three.ss
+list_of 5 >five.ss
+list_of 4 3 >down.ss
+printf 'p sp 3 3\na 1 2 0\na 2 3 0\na 1 3 0\n' >zero.gr
+printf 'p sp 5 5\na 1 2 1\na 2 3 1\na 3 4 1\na 4 5 1\na 5 1 1\n' >ring.gr
+whole=$'t 1 9 4\nt 1 9 4\nt 3 0 -'
+files=(graph.gr sources.ss targets.ss)
+for workers in 1 2; do
+  tool=(table --workers "$workers")
+  expect "a limit leaves cells out, $workers workers" 0 $'t 1 - 4\nt 1 - 4\nt 3 0 -' "" "${tool[@]}" --within 8 "${files[@]}"
+  expect "a limit is reached, $workers workers" 0 "$whole" "" "${tool[@]}" --within 9 "${files[@]}"
+  expect "the greatest limit, $workers workers" 0 "$whole" "" "${tool[@]}" --within 1152921504606846976 "${files[@]}"
+  expect "a limit of 0, $workers workers" 0 $'t 1 - -\nt 1 - -\nt 3 0 -' "" "${tool[@]}" --within 0 "${files[@]}"
+  expect "a limit of 0 and weights of 0, $workers workers" 0 "t 1 0" "" "${tool[@]}" --within 0 zero.gr one.ss three.ss
+  expect "a limit on a ring, $workers workers" 0 "t 5 - 3" "" "${tool[@]}" --within 3 ring.gr five.ss down.ss
+done
+expect_words "a limit past the greatest" 2 err "1152921504606846977" table --within 1152921504606846977 "${files[@]}"
+expect_words "a limit below 0" 2 err "-1" table --within -1 "${files[@]}"
+expect_words "a limit that is no number" 2 err "'x'" table --within x "${files[@]}"
+expect_words "a limit for dist" 2 err "--within" dist --within 8 graph.gr queries.p2p
 
 g=$root/examples/first.gr
 q=$root/examples/first.p2p

@@ -4,9 +4,9 @@
   random_graphs.py [GRAPHS [SEED]]
 
 Weights of 0, parallel arcs, loops, unreachable parts and weights up to the limit are among them (300 graphs, seed 1). For each graph
-and for 1 and 3 workers, 1 and 5 hops: `dist`, `dist --routes` and `table`; and `dist --plain`. Distances are those of Dijkstra's
-algorithm over pairs of weight and number of arcs, each route is a walk of the graph of that weight and that number of arcs, and all
-runs of one kind write the same bytes. The last line is 'N passed, N failed', of graphs.
+and for 1 and 3 workers, 1 and 5 hops: `dist`, `dist --routes` and `table`, also within a limit; and `dist --plain`. Distances are those
+of Dijkstra's algorithm over pairs of weight and number of arcs, each route is a walk of the graph of that weight and that number of
+arcs, and all runs of one kind write the same bytes. The last line is 'N passed, N failed', of graphs.
 """
 import collections
 import heapq
@@ -82,35 +82,64 @@ class Folder:
         return done.stdout
 
 
+class Case:
+    """A random graph with queries and lists, and what is owed for them."""
+
+    def __init__(self, seed):
+        draw = random.Random(seed)
+        self.nodes, self.arcs = drawn(draw)
+        ahead = collections.defaultdict(list)
+        for start, end, weight in self.arcs:
+            ahead[start].append((end, weight))
+        self.costs = {source: least_costs(source, ahead) for source in range(1, self.nodes + 1)}
+        self.queries = [(draw.randint(1, self.nodes), draw.randint(1, self.nodes)) for _ in range(draw.choice((0, 1, 40)))]
+        self.lists = [[(draw.randint(1, self.nodes),) for _ in range(draw.choice((0, 1, 12)))] for _ in range(2)]
+        self.limit = draw.choice([0, LIMIT, *(weight for known in self.costs.values() for weight, _ in known.values())])
+
+    def answers(self):
+        """Each query with the least cost, or None where there is no walk."""
+        return [(start, end, self.costs[start].get(end)) for start, end in self.queries]
+
+    def distances(self):
+        return "".join(f"d {start} {end} {cost[0] if cost else '-'}\n" for start, end, cost in self.answers())
+
+    def cell(self, source, target, most):
+        cost = self.costs[source].get(target)
+        return str(cost[0]) if cost and cost[0] <= most else "-"
+
+    def table(self, most):
+        rows = [["t", str(source), *(self.cell(source, target, most) for target, in self.lists[1])] for source, in self.lists[0]]
+        return "".join(" ".join(row) + "\n" for row in rows)
+
+    def write(self, folder):
+        folder.write("graph.gr", f"sp {self.nodes}", "a", self.arcs)
+        folder.write("queries.p2p", "aux sp p2p", "q", self.queries)
+        folder.write("from.ss", "aux sp ss", "s", self.lists[0])
+        folder.write("to.ss", "aux sp ss", "s", self.lists[1])
+
+
+def check_runs(case, folder, *options):
+    """The distances and tables of runs with these options are right; gives the text of routes."""
+    lists = ["graph.gr", "from.ss", "to.ss"]
+    assert folder.run("dist", *options, "graph.gr", "queries.p2p") == case.distances()
+    assert folder.run("table", *options, *lists) == case.table(LIMIT)
+    assert folder.run("table", "--within", str(case.limit), *options, *lists) == case.table(case.limit)
+    text = folder.run("dist", "--routes", *options, "graph.gr", "queries.p2p")
+    check_text(set(case.arcs), case.answers(), text)
+    return text
+
+
 def check_graph(seed):
-    draw = random.Random(seed)
-    nodes, arcs = drawn(draw)
-    ahead = collections.defaultdict(list)
-    for start, end, weight in arcs:
-        ahead[start].append((end, weight))
-    costs = {source: least_costs(source, ahead) for source in range(1, nodes + 1)}
-    queries = [(draw.randint(1, nodes), draw.randint(1, nodes)) for _ in range(draw.choice((0, 1, 40)))]
-    lists = [[(draw.randint(1, nodes),) for _ in range(draw.choice((0, 1, 12)))] for _ in range(2)]
-    wanted = [(start, end, costs[start].get(end)) for start, end in queries]
-    distances = "".join(f"d {start} {end} {cost[0] if cost else '-'}\n" for start, end, cost in wanted)
-    rows = [["t", source, *(costs[source].get(target, ["-"])[0] for target, in lists[1])] for source, in lists[0]]
+    case = Case(seed)
     with tempfile.TemporaryDirectory() as kept:
         folder = Folder(kept)
-        folder.write("graph.gr", f"sp {nodes}", "a", arcs)
-        folder.write("queries.p2p", "aux sp p2p", "q", queries)
-        folder.write("from.ss", "aux sp ss", "s", lists[0])
-        folder.write("to.ss", "aux sp ss", "s", lists[1])
+        case.write(folder)
+        assert folder.run("dist", "--plain", "graph.gr", "queries.p2p") == case.distances()
         texts = set()
-        assert folder.run("dist", "--plain", "graph.gr", "queries.p2p") == distances
         for workers, hops in ((1, 1), (1, 5), (3, 1), (3, 5)):
             options = ["--workers", str(workers), "--piece", "3", "--hops", str(hops)]
-            assert folder.run("dist", *options, "graph.gr", "queries.p2p") == distances
-            texts.add((hops, folder.run("dist", "--routes", *options, "graph.gr", "queries.p2p")))
-            table = folder.run("table", *options, "graph.gr", "from.ss", "to.ss")
-            assert [line.split() for line in table.splitlines()] == [[str(cell) for cell in row] for row in rows]
-    assert len(texts) == 2, "the routes depend on the number of workers"
-    for _, text in texts:
-        check_text(set(arcs), wanted, text)
+            texts.add((hops, check_runs(case, folder, *options)))
+        assert len(texts) == 2, "the routes depend on the number of workers"
 
 
 def outcome(seed):

@@ -1,5 +1,5 @@
 -- The words of the command line, and what they say.
-use Rattle.std.specs.Prelude.{◌≡◌, ◌≢◌, ℕ, pos, ◌≤◌, [], ◌∷◌, ◌++◌, Bool, List, Option, Some, None, true, false, codes, fold, length, map, option_map, ⊤, vec_len}
+use Rattle.std.specs.Prelude.{◌≡◌, ◌≢◌, ℕ, pos, ◌^◌, ◌≤◌, [], ◌∷◌, ◌++◌, Bool, List, Option, Some, None, IfSome, true, false, codes, fold, length, map, option_map, ⊤, vec_len}
 use Rattle.std.specs.Str.Parse.{digits_value, without_leading_plus}
 use Rattle.std.specs.String.{string_bytes}
 use Rattle.clap.specs.Words.{App, IsAmong, Kinds, Row, Rule, Text, fault_of, first_of, new_app, new_rule, one_of, subcommand_of, with_rule, with_subcommand}
@@ -34,22 +34,26 @@ abbrev pub number_rule : Text → ℕ → Text → Rule
 number_rule name most default =
     record (new_rule name) { long = Some name; action = Some Set; value_names = 1; parser = Some (parser.Signed (pos 1) (pos most)); defaults = default ∷ [] }
 
+-- an option: a number from 0 to the most, which may be left out
+abbrev pub limit_rule : Text → ℕ → Rule
+limit_rule name most = record (new_rule name) { long = Some name; action = Some Set; value_names = 1; parser = Some (parser.Unsigned 0 most) }
+
 -- a file that must be named
 abbrev pub file_rule : Text → Rule
 file_rule name = record (new_rule name) { required = true; action = Some Set }
 
--- `[--plain] [--routes]`, which `dist` alone reads
-abbrev pub flag_rules : Tool → List Rule
-flag_rules Dist = flag_rule (codes "plain") ∷ flag_rule (codes "routes") ∷ []
-flag_rules Table = []
+-- `[--plain] [--routes]` of `dist`, and `[--within R]` of `table`
+abbrev pub own_rules : Tool → List Rule
+own_rules Dist = flag_rule (codes "plain") ∷ flag_rule (codes "routes") ∷ []
+own_rules Table = limit_rule (codes "within") (2 ^ 60) ∷ []
 
 -- `[--workers N] [--piece K] [--hops H]`, which each tool reads
 abbrev pub number_rules : List Rule
 number_rules = number_rule (codes "workers") 64 (codes "1") ∷ number_rule (codes "piece") 1048576 (codes "64") ∷ number_rule (codes "hops") 16 (codes "5") ∷ []
 
--- the words after a tool's name: its flags, its numbers and its files
+-- the words after a tool's name: its own options, its numbers and its files
 abbrev pub form_of : Tool → App
-form_of tool = fold with_rule (new_app (name_of tool)) (flag_rules tool ++ number_rules ++ map file_rule (file_names tool))
+form_of tool = fold with_rule (new_app (name_of tool)) (own_rules tool ++ number_rules ++ map file_rule (file_names tool))
 
 -- the program's own words, before its tools are added
 abbrev pub program_form : App
@@ -80,7 +84,7 @@ IsFlagIn given name = IsFlag (one_of name given)
 abbrev pub number_of : Text → ℕ
 number_of text = digits_value 10 (without_leading_plus text)
 
--- the number given as the option of this name, or its default
+-- the number given as the option of this name, or its default where it has one
 abbrev pub number_in : List Row → Text → Option ℕ
 number_in given name = option_map number_of (one_of name given)
 
@@ -103,6 +107,7 @@ pub record IsPlanIn (given : List Row) (plan : Division) : Type 0 where
 pub record IsGivenBy (given : List Row) (line : Line) : Type 0 where
   pub flags : AreFlagsIn given line.tool line.options
   pub hops : Some line.options.hops ≡ number_in given (codes "hops")
+  pub limit : line.options.within ≡ number_in given (codes "within")
   pub plan : IsPlanIn given line.plan
   pub named : map (λ file. Some (string_bytes file)) line.files.items ≡ files_in given (file_names line.tool)
 
@@ -118,6 +123,7 @@ pub record IsAllowed (line : Line) : Type 0 where
   pub files : vec_len line.files ≡ length (file_names line.tool)
   pub some_hops : 1 ≤ line.options.hops
   pub few_hops : line.options.hops ≤ 16
+  pub limit : IfSome line.options.within (λ most. most ≤ 2 ^ 60)
   pub plan : IsWithinLimits line.plan
 
 -- the fault is told for an error of this kind

@@ -21,6 +21,8 @@ const MOST_WORKERS: u32 = 64;
 const MOST_PIECE: u32 = 1_048_576;
 /// The most legs of a witness path.
 const MOST_HOPS: u32 = 16;
+/// The most weight that a limit on cells may have.
+const MOST_LIMIT: u64 = 1 << 60;
 
 /// What the program does.
 #[derive(Clone, Copy, Debug, PartialEq, Eq)]
@@ -131,7 +133,7 @@ fn tool_of(name: &str) -> Option<Tool>
 
 /// Reads the words after the program's name:
 /// `dist [--plain] [--routes] [--workers N] [--piece K] [--hops H] GRAPH QUERIES` or
-/// `table [--workers N] [--piece K] [--hops H] GRAPH SOURCES TARGETS`.
+/// `table [--within R] [--workers N] [--piece K] [--hops H] GRAPH SOURCES TARGETS`.
 ///
 /// # Errors
 /// `Help` where the words ask for it; `Refused` where they aren't of this form; `NoMemory`.

@@ -1,12 +1,12 @@
-//! The command line as clap reads it: its tools, with their flags, numbers and files.
+//! The command line as clap reads it: its tools, with their options and files.
 
 ghost use Rattle.std.specs.Prelude.{◌≡◌, IfOk, codes, false, fold};
 ghost use Rattle.clap.specs.Words.{app_of, rule_of, with_rule};
 ghost use Rattle.clap.specs.declared.builder.command.Command.TheViews.{out-Command as fields_of};
 ghost use Rattle.chtab.specs.declared.line.Tool.TheVariants.{Dist, Table};
-ghost use Rattle.chtab.specs.Line.{chtab_form, file_rule, flag_rule, form_of, number_rule, number_rules};
+ghost use Rattle.chtab.specs.Line.{chtab_form, file_rule, flag_rule, form_of, limit_rule, number_rule, number_rules};
 
-use super::{MOST_HOPS, MOST_PIECE, MOST_WORKERS};
+use super::{MOST_HOPS, MOST_LIMIT, MOST_PIECE, MOST_WORKERS};
 use clap::builder::ValueParser;
 use clap::{Arg, ArgAction, Command};
 use std::alloc::{AllocError, Global};
@@ -44,6 +44,18 @@ fn number<'a>(alloc: Global, name: &'a str, value: &'a str, most: u32, default: 
         .value_name(value)
         .value_parser(ValueParser::signed(1, i64::from(most)))
         .default_value(default)
+}
+
+/// An option that may be left out: a number from 0 to `most`.
+fn limit<'a>(alloc: Global, name: &'a str, value: &'a str, most: u64) -> Arg<'a>
+    ensures rule { rule_of result ≡ limit_rule name.entry.now most }
+    ensures local { result.global ≡ false }
+{
+    Arg::new(alloc, name)
+        .long(name)
+        .action(ArgAction::Set)
+        .value_name(value)
+        .value_parser(ValueParser::unsigned(0, most))
 }
 
 /// Adds the numbers that each tool reads.
@@ -111,12 +123,21 @@ fn table_command<'a>(alloc: Global) -> Result<Command<'a>, AllocError>
     ensures form { IfOk result (λ c. app_of c ≡ form_of Table) }
     ensures local { IfOk result (λ c. (fields_of c).has_globals ≡ false) }
 {
+    let within = limit(alloc, "within", "R", MOST_LIMIT).help(
+        "Write distances of at most R alone, from 0 to 1152921504606846976: cells above R are written as - \
+        [default: no limit]",
+    );
     let command = Command::new(alloc, "table")
         .about(
             "For each source, writes `t S X ..`: an X for each target, the distance from S to it, or - \
             for no path",
         )
-        .after_help("Example: chtab table roads.gr depots.ss shops.ss");
+        .after_help(
+            "Examples:\n  \
+            chtab table roads.gr depots.ss shops.ss\n  \
+            chtab table --within 900000 roads.gr homes.ss doctors.ss",
+        )
+        .arg(within)?;
     with_numbers(alloc, command)?
         .arg(graph(alloc))?
         .arg(file(

@@ -1,12 +1,12 @@
 //! What the words give the arguments of a tool.
 
-ghost use Rattle.std.specs.Prelude.{◌≡◌, ◌≤◌, IfOk, Some, codes, map};
+ghost use Rattle.std.specs.Prelude.{◌≡◌, ◌^◌, ◌≤◌, IfOk, IfSome, Some, codes, map};
 ghost use Rattle.std.specs.String.{string_bytes};
 ghost use Rattle.clap.specs.Words.{first_of, found_of, rows_of};
 ghost use Rattle.ch_work.specs.Plan.{IsWithinLimits};
 ghost use Rattle.chtab.specs.Line.{AreFlagsIn, IsAllowed, IsFlagIn, IsGivenBy, IsPlanIn, file_names, files_in, number_in};
 
-use super::{Line, MOST_HOPS, MOST_PIECE, MOST_WORKERS, Tool};
+use super::{Line, MOST_HOPS, MOST_LIMIT, MOST_PIECE, MOST_WORKERS, Tool};
 use ch_run::{Options, Plan};
 use clap::ArgMatches;
 use std::alloc::{AllocError, Global};
@@ -51,6 +51,18 @@ fn number_of(matches: &ArgMatches<'_>, name: &str, most: u32) -> Result<u32, All
     }
 }
 
+/// The number of this name, where one is given. Clap has refused words that give one above `most`.
+fn limit_given(matches: &ArgMatches<'_>, name: &str, most: u64) -> Result<Option<u64>, AllocError>
+    ensures range { IfOk result (λ limit. IfSome limit (λ number. number ≤ most)) }
+    ensures given { IfOk result (λ limit. limit ≡ number_in (rows_of (found_of matches.now)) name.now) }
+{
+    match matches.try_get_one::<u64>(name) {
+        Ok(None) => Ok(None),
+        Ok(Some(number)) if number <= most => Ok(Some(number)),
+        _ => Err(AllocError),
+    }
+}
+
 /// Whether the flag of this name is given.
 fn flag_of(matches: &ArgMatches<'_>, name: &str) -> bool
     ensures { IsFlagIn (rows_of (found_of matches.now)) name.now result }
@@ -68,11 +80,13 @@ fn plan_of(matches: &ArgMatches<'_>) -> Result<Plan, AllocError>
     Ok(Plan::new(workers, piece, WIDE))
 }
 
-/// The options of a tool. `table` has no flags.
+/// The options of a tool. `dist` alone has flags.
 fn options_of(tool: Tool, matches: &ArgMatches<'_>) -> Result<Options, AllocError>
     ensures range { IfOk result (λ options. (1 ≤ options.hops) × (options.hops ≤ 16)) }
     ensures hops { IfOk result (λ options. Some options.hops ≡ number_in (rows_of (found_of matches.now)) (codes "hops")) }
     ensures flags { IfOk result (AreFlagsIn (rows_of (found_of matches.now)) tool) }
+    ensures limit { IfOk result (λ options. options.within ≡ number_in (rows_of (found_of matches.now)) (codes "within")) }
+    ensures small_limit { IfOk result (λ options. IfSome options.within (λ most. most ≤ 2 ^ 60)) }
 {
     let (plain, routes) = match tool {
         Tool::Dist => (flag_of(matches, "plain"), flag_of(matches, "routes")),
@@ -82,6 +96,7 @@ fn options_of(tool: Tool, matches: &ArgMatches<'_>) -> Result<Options, AllocErro
         plain,
         routes,
         hops: number_of(matches, "hops", MOST_HOPS)?,
+        within: limit_given(matches, "within", MOST_LIMIT)?,
     })
 }
 
