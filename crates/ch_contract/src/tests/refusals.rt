@@ -67,6 +67,7 @@ fn shortcut(from: u32, to: u32) -> Shortcut {
 }
 
 /// What the calls answer for node 0 among the legs of a graph.
+#[derive(Clone, Copy)]
 struct Answers<'a> {
     has_witness: bool,
     shortcuts: &'a [Shortcut],
