@@ -25,3 +25,6 @@ pub mod DescentLaws
 pub mod Unpacked
 pub mod RouteWalks
 pub mod Replies
+pub mod LeastPaths
+pub mod JoinedSearches
+pub mod Pairs

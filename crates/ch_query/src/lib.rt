@@ -12,9 +12,14 @@
 #![tactic(auto)]
 
 mod answer;
+mod arcs;
+mod checking;
+mod covering;
 mod descent;
+mod founding;
 pub mod laws;
 mod legs;
+mod lower;
 mod meeting;
 mod query;
 mod routes;
@@ -26,6 +31,7 @@ mod spreading;
 mod unpacking;
 
 pub use answer::{Answer, answer_all};
+pub use checking::check;
 pub use query::{distance, route};
 pub use routes::Route;
 pub use scratch::Scratch;
