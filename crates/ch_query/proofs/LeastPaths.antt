@@ -9,8 +9,8 @@ use Rattle.ch_contract.specs.declared.leg.Leg.{Leg}
 use Rattle.ch_contract.specs.Hierarchy.{LevelsAndLegs, nodes_of, IsLevelled}
 use Rattle.ch_contract.specs.Rows.{row}
 use Rattle.ch_contract.specs.Paths.{IsUpwardPath, path_cost, IsLeastUpwardPath}
-use Rattle.ch_contract.proofs.LegPaths.{path_cost-cons}
-use Rattle.ch_contract.proofs.Ordered.{contains_head, contains_tail, contains_cons, contains_none}
+use Rattle.ch_contract.proofs.theory.LegPaths.{path_cost-cons}
+use Rattle.ch_graph.proofs.Lists.{contains_head, contains_tail, contains_cons, contains_none}
 use Rattle.ch_query.specs.Search.{IsUpwardCost}
 
 -- the same leg before two paths keeps their order

@@ -12,14 +12,16 @@ use Rattle.ch_contract.specs.declared.leg.Leg.{Leg}
 use Rattle.ch_contract.specs.Hierarchy.{LevelsAndLegs, nodes_of, IsLevelled, IsLegUp}
 use Rattle.ch_contract.specs.Rows.{row}
 use Rattle.ch_contract.specs.Paths.{IsUpwardPath, path_cost}
-use Rattle.ch_contract.proofs.LegPaths.{path_cost-cons}
+use Rattle.ch_contract.proofs.theory.LegPaths.{path_cost-cons}
 use Rattle.ch_query.specs.declared.side.Side.{Side}
 use Rattle.ch_query.specs.declared.side.Side.TheVariants.{Up, Down}
 use Rattle.ch_query.specs.Search.{IsUpwardCost}
 use Rattle.ch_query.specs.Side.{rows_of}
 use Rattle.ch_contract.specs.Kept.{MeetsWithin, IsCovered}
+use Rattle.ch_query.specs.Checking.{HasLeg}
 use Rattle.ch_query.specs.Covering.{IsCoveredFrom}
 use Rattle.ch_query.proofs.Expanding.{leg_up}
+use Rattle.ch_query.proofs.FirstFailing.{all_read}
 use Rattle.ch_query.proofs.JoinedSearches.{least_within}
 
 -- a leg is a path
@@ -49,25 +51,6 @@ leg_down_covers H k s t most l h e le =
     meeting_within H k s t s no_cost l.cost most (reached_itself H.up s) (subst (λ q. IsUpwardCost H.down t q l.cost) e (reached_by_leg H k Down t l h))
     (subst (λ q. IsAtMost q most) (sym (no_cost-cost_sum l.cost)) le)
 
--- what holds of the elements before each place that is read holds of all
-pub all_read : {X : Type 0} (P : X → Type 0) (xs : List X) (d : X) → ((i : ℕ) → i < length xs → P (get_or xs i d)) → (x : X) → Contains xs x → P x
-all_read P xs d at x h = subst P (sym (get_or_default xs h.0 x d h.1) ∙ h.2) (at h.0 h.1)
-
--- one element more is read
-pub read_more : {X : Type 0} (P : X → Type 0) (xs : List X) (i : ℕ) (e : X) → ((j : ℕ) (d : X) → j < i → P (get_or xs j d)) → i < length xs → P (get_or xs i e) →
-    (j : ℕ) (d : X) → j < i + 1 → P (get_or xs j d)
-read_more P xs i e before within here j d lt = elim (cases_lt j i) [
-  | inl less ↦ before j d less
-  | inr ge ↦ let same : i ≡ j = omega arith in subst (λ k. P (get_or xs k d)) same (subst P (get_or_default xs i e d within) here)
-]
-
--- what is not above is within
-pub within_unless : (a b : Cost) (r : Bool) → (IsTrue r ↔ IsBelow a b) → not r ≡ true → IsAtMost b a
-within_unless a b r e out = elim (IsAtMost_or_IsBelow b a) [
-  | inl le ↦ le
-  | inr below ↦ absurd (false≢true (ap not (sym (e.1 below)) ∙ out))
-]
-
 -- the leg a and this one are covered
 abbrev pub IsPairCovered : LevelsAndLegs → Leg → Leg → Type 0
 IsPairCovered H a b = a.node ≢ b.node → MeetsWithin H a.node b.node (cost_sum a.cost b.cost)
@@ -79,8 +62,17 @@ all_pairs H v a items i d e past each b h =
 
 -- each leg down to v was read
 pub all_covered : (H : LevelsAndLegs) (v : ℕ) (items : List Leg) (i : ℕ) (d : Leg) → items ≡ row H.down v → length items ≤ i → ((j : ℕ) (d : Leg) → j < i → IsCoveredFrom H v (get_or items j d)) → IsCovered H v
-all_covered H v items i d e past each a h =
-    all_read (IsCoveredFrom H v) items d (λ j lt. each j d (omega arith)) a (subst (λ xs. Contains xs a) (sym e) h)
+all_covered H v items i d e past each a b ha hb ne =
+    all_read (IsCoveredFrom H v) items d (λ j lt. each j d (omega arith)) a (subst (λ xs. Contains xs a) (sym e) ha) b hb ne
+
+-- a leg that is not covered
+pub not_covered : (H : LevelsAndLegs) (v : ℕ) (a : Leg) → Contains (row H.down v) a → (IsCoveredFrom H v a → ⊥) → IsCovered H v → ⊥
+not_covered H v a has bad covered = bad (λ b hb ne. covered a b has hb ne)
+
+-- a leg within the bound covers
+pub leg_covers : (H : LevelsAndLegs) → IsLevelled H → (s t : ℕ) (most : Cost) → HasLeg H s t most → MeetsWithin H s t most
+leg_covers H k s t most (c, m, (l, cost, middle, inl (has, node)), le) = leg_up_covers H k s t most l has node (subst (λ q. IsAtMost q most) (sym cost) le)
+leg_covers H k s t most (c, m, (l, cost, middle, inr (has, node)), le) = leg_down_covers H k s t most l has node (subst (λ q. IsAtMost q most) (sym cost) le)
 
 -- a leg that is read from a row
 pub row_leg_up : (H : LevelsAndLegs) → IsLevelled H → (side : Side) (v : ℕ) (legs : List Leg) (i : ℕ) (d : Leg) → legs ≡ row (rows_of H side) v → i < length legs →

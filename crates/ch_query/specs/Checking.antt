@@ -1,5 +1,5 @@
 -- A saved hierarchy beside a graph.
-use Rattle.std.specs.Prelude.{◌≡◌, ◌≢◌, ℕ, ◌≤◌, ◌<◌, ◌⊎◌, ◌↔◌, List, [], length, slice_index_or, AllPairs, Contains, Option, Some, None, Result, Err, IsOk}
+use Rattle.std.specs.Prelude.{◌≡◌, ◌≢◌, ℕ, ◌≤◌, ◌<◌, ◌⊎◌, ◌↔◌, List, [], length, slice_index_or, AllPairs, Contains, Option, Some, None, MatchOption, Result, Err, IsOk}
 use Rattle.ch_graph.specs.declared.arc.InArc.{InArc}
 use Rattle.ch_graph.specs.declared.cost.Cost.{Cost}
 use Rattle.ch_graph.specs.declared.saved.SavedLeg.{SavedLeg}
@@ -35,6 +35,10 @@ pub record AreArcRows (g : Network) (rows : List (List InArc)) : Type 0 where
   pub each : (v : ℕ) (a : InArc) → v < g.nodes → Contains (slice_index_or rows v []) a ↔ (Contains g.arcs a × (a.from ≡ v))
   pub order : (v : ℕ) → v < g.nodes → AllPairs (λ a b. a.to ≤ b.to) (slice_index_or rows v [])
 
+-- some of these arcs leads to this node, at this weight
+abbrev pub HasArc : List InArc → ℕ → ℕ → Type 0
+HasArc arcs end weight = (a : InArc) × Contains arcs a × (a.to ≡ end) × (a.weight ≡ weight)
+
 -- where it has no middle, the leg is an arc of the graph
 abbrev pub IsArcIfBase : Network → SavedLeg → Type 0
 IsArcIfBase g l = l.middle ≡ None → (l.cost.arcs ≡ 1) × Contains g.arcs (record { from = l.from; to = l.to; weight = l.cost.weight })
@@ -46,6 +50,15 @@ IsSumOver H l v = (a b : Leg) × Contains (row H.down v) a × (a.node ≡ l.from
 -- where it has a middle, the leg is the two legs of this
 abbrev pub IsSumIfShortcut : LevelsAndLegs → SavedLeg → Type 0
 IsSumIfShortcut H l = (v : ℕ) → l.middle ≡ Some v → IsSumOver H l v
+
+-- what the leg of a row at this node costs, if it has one
+abbrev pub IsRowCost : List Leg → ℕ → Option Cost → Type 0
+IsRowCost legs x answer = MatchOption answer ((l : Leg) → Contains legs l → l.node ≢ x) (λ c. (l : Leg) × Contains legs l × (l.node ≡ x) × (l.cost ≡ c))
+
+-- what the one leg from u to w costs, if there is one
+abbrev pub IsLegCost : LevelsAndLegs → ℕ → ℕ → Option Cost → Type 0
+IsLegCost H u w answer =
+    MatchOption answer ((c : Cost) (m : Option ℕ) → IsLeg H u w c m → ⊥) (λ c. ((m : Option ℕ) × IsLeg H u w c m) × ((d : Cost) (m : Option ℕ) → IsLeg H u w d m → d ≡ c))
 
 -- some leg from u to w costs at most this
 abbrev pub HasLeg : LevelsAndLegs → ℕ → ℕ → Cost → Type 0

@@ -104,9 +104,10 @@ fn advance(hierarchy: &Hierarchy, here: &mut Search, there: &Search, most: Cost)
         return Shown::Past;
     };
     here.settle(hierarchy, node, cost);
-    if joins(hierarchy, there, node, cost, most)
-        || joins_by_leg(hierarchy, here, there, node, most)
-    {
+    if joins(hierarchy, there, node, cost, most) {
+        return Shown::Joined;
+    }
+    if joins_by_leg(hierarchy, here, there, node, most) {
         return Shown::Joined;
     }
     Shown::Settled

@@ -1,15 +1,16 @@
 //! What the legs of a saved hierarchy stand for, and the legs of a graph's arcs.
-ghost use Rattle.std.specs.Prelude.{◌≡◌, ◌<◌, ◌≤◌, ◌↔◌, All, AllPairs, Contains, IfOk, IsTrue, MatchOption};
+ghost use Rattle.std.specs.Prelude.{◌<◌, ◌↔◌, All, Contains, IfOk, IsTrue, MatchOption};
 ghost use Rattle.ch_graph.specs.declared.arc.InArc.{InArc as AnyArc};
 ghost use Rattle.ch_graph.specs.declared.saved.SavedLeg.{SavedLeg as LegOfFile};
+ghost use Rattle.ch_graph.specs.Graph.{Network};
 ghost use Rattle.ch_contract.specs.Hierarchy.{nodes_of};
 ghost use Rattle.ch_contract.specs.Assembling.{IsFirstFailing};
-ghost use Rattle.ch_query.specs.Checking.{IsArcIfBase, IsSumOver, IsSumIfShortcut, IsServed};
+ghost use Rattle.ch_query.specs.Checking.{AreArcRows, IsArcIfBase, IsSumOver, IsSumIfShortcut, IsServed};
 
 use crate::arcs::{arc_rows, has_arc};
 use crate::legs::{cost_in_row, is_leg_within};
 use ch_contract::Hierarchy;
-use ch_graph::{Cost, Graph, InArc, SavedLeg};
+use ch_graph::{Cost, Graph, InArc, Rows, SavedLeg};
 use std::alloc::{AllocError, Global};
 
 /// The place of the first leg without a middle that is no arc of the graph.
@@ -23,19 +24,20 @@ pub(crate) fn first_without_arc(
 {
     let rows = arc_rows(alloc, graph)?;
     for (place, leg) in legs.iter().enumerate() {
-        if leg.middle.is_none() && !is_in_row(rows.row(leg.from), *leg) {
+        if !is_arc_if_base(&rows, *leg) {
             return Ok(Some(place));
         }
     }
     Ok(None)
 }
 
-/// Whether the leg is an arc of the row, which holds the arcs from its first node.
-fn is_in_row(row: &[InArc], leg: SavedLeg) -> bool
-    requires { AllPairs (λ (a : AnyArc) (b : AnyArc). a.to ≤ b.to) row.now }
-    ensures { IsTrue result ↔ ((leg.cost.arcs ≡ 1) × ((a : AnyArc) × Contains row.now a × (a.to ≡ leg.to) × (a.weight ≡ leg.cost.weight))) }
+/// Whether the leg has a middle, or is an arc of the graph that has these rows.
+fn is_arc_if_base(rows: &Rows<InArc>, leg: SavedLeg) -> bool
+    requires { (g : Network) × AreArcRows g rows.now × (leg.from < g.nodes) }
+    ensures { (g : Network) → AreArcRows g rows.now → leg.from < g.nodes → (IsTrue result ↔ IsArcIfBase g leg) }
 {
-    leg.cost.arcs == 1 && has_arc(row, leg.to, leg.cost.weight)
+    leg.middle.is_some()
+        || leg.cost.arcs == 1 && has_arc(rows.row(leg.from), leg.to, leg.cost.weight)
 }
 
 /// The place of the first leg with a middle that isn't the two legs of this.
@@ -43,13 +45,21 @@ pub(crate) fn first_false_shortcut(hierarchy: &Hierarchy, legs: &[SavedLeg]) -> 
     ensures { MatchOption result (All (IsSumIfShortcut hierarchy.now) legs.now) (IsFirstFailing (IsSumIfShortcut hierarchy.now) legs.now) }
 {
     for (place, leg) in legs.iter().enumerate() {
-        if let Some(middle) = leg.middle {
-            if !is_sum_over(hierarchy, *leg, middle) {
-                return Some(place);
-            }
+        if !is_sum_if_shortcut(hierarchy, *leg) {
+            return Some(place);
         }
     }
     None
+}
+
+/// Whether the leg has no middle, or is the two legs of this.
+fn is_sum_if_shortcut(hierarchy: &Hierarchy, leg: SavedLeg) -> bool
+    ensures { IsTrue result ↔ IsSumIfShortcut hierarchy.now leg }
+{
+    match leg.middle {
+        Some(middle) => is_sum_over(hierarchy, leg, middle),
+        None => true,
+    }
 }
 
 /// Whether the leg is the leg to `middle` and the one from there. These stand in the rows of `middle`, which
@@ -60,12 +70,13 @@ fn is_sum_over(hierarchy: &Hierarchy, leg: SavedLeg, middle: u32) -> bool
     if middle >= hierarchy.nodes() {
         return false;
     }
-    let into = cost_in_row(hierarchy.down(middle), leg.from);
-    let out = cost_in_row(hierarchy.up(middle), leg.to);
-    match (into, out) {
-        (Some(into), Some(out)) => into.plus(out) == leg.cost,
-        _ => false,
-    }
+    let Some(into) = cost_in_row(hierarchy.down(middle), leg.from) else {
+        return false;
+    };
+    let Some(out) = cost_in_row(hierarchy.up(middle), leg.to) else {
+        return false;
+    };
+    into.plus(out) == leg.cost
 }
 
 /// The place of the first arc, no loop, without a leg that costs at most as much.

@@ -1,9 +1,9 @@
 //! Legs of a row.
-ghost use Rattle.std.specs.Prelude.{◌≡◌, ◌≢◌, ◌<◌, ◌↔◌, Contains, IsTrue, MatchOption};
+ghost use Rattle.std.specs.Prelude.{◌≡◌, ◌<◌, ◌↔◌, Contains, IsTrue};
 ghost use Rattle.ch_contract.specs.Hierarchy.{nodes_of};
 ghost use Rattle.ch_contract.specs.Rows.{IsRow};
 ghost use Rattle.ch_contract.specs.declared.leg.Leg.{Leg as RowLeg};
-ghost use Rattle.ch_query.specs.Checking.{HasLeg};
+ghost use Rattle.ch_query.specs.Checking.{HasLeg, IsRowCost, IsLegCost};
 
 use crate::search::is_below;
 use ch_contract::{Hierarchy, Leg};
@@ -24,7 +24,7 @@ pub(crate) fn leg_at(row: &[Leg], node: u32) -> Leg
 /// What the leg of the row at `node` costs, if it has one, by binary search.
 pub(crate) fn cost_in_row(row: &[Leg], node: u32) -> Option<Cost>
     requires { IsRow row.now }
-    ensures { MatchOption result ((l : RowLeg) → Contains row.now l → l.node ≢ node) (λ c. (l : RowLeg) × Contains row.now l × (l.node ≡ node) × (l.cost ≡ c)) }
+    ensures { IsRowCost row.now node result }
 {
     match row.binary_search_by_key(&node, |leg| leg.node) {
         Ok(place) => Some(row[place].cost),
@@ -32,19 +32,26 @@ pub(crate) fn cost_in_row(row: &[Leg], node: u32) -> Option<Cost>
     }
 }
 
-/// Whether the leg from `start` to `end`, which stands in a row of the lower of the two, costs at most
-/// `most`.
+/// What the leg from `start` to `end` costs, if there is one. It stands in a row of the lower of the two.
+fn leg_cost(hierarchy: &Hierarchy, start: u32, end: u32) -> Option<Cost>
+    requires start { start < nodes_of hierarchy.now }
+    requires end { end < nodes_of hierarchy.now }
+    ensures { IsLegCost hierarchy.now start end result }
+{
+    if hierarchy.level(start) < hierarchy.level(end) {
+        cost_in_row(hierarchy.up(start), end)
+    } else {
+        cost_in_row(hierarchy.down(end), start)
+    }
+}
+
+/// Whether a leg leads from `start` to `end` and costs at most `most`.
 pub(crate) fn is_leg_within(hierarchy: &Hierarchy, start: u32, end: u32, most: Cost) -> bool
     requires start { start < nodes_of hierarchy.now }
     requires end { end < nodes_of hierarchy.now }
     ensures { IsTrue result ↔ HasLeg hierarchy.now start end most }
 {
-    let found = if hierarchy.level(start) < hierarchy.level(end) {
-        cost_in_row(hierarchy.up(start), end)
-    } else {
-        cost_in_row(hierarchy.down(end), start)
-    };
-    match found {
+    match leg_cost(hierarchy, start, end) {
         Some(cost) => !is_below(most, cost),
         None => false,
     }

@@ -25,6 +25,8 @@ fn is_pair_covered(
     ensures covered { IsTrue result ↔ MeetsWithin hierarchy.now start end most }
     ensures scratch { scratch.new ≡ scratch.old }
 {
+    // The getter tells the proof that the hierarchy has levels.
+    let _ = hierarchy.nodes();
     if is_leg_within(hierarchy, start, end, most) {
         return true;
     }
