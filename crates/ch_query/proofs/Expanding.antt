@@ -33,7 +33,7 @@ rows_size H k Up = k.up.0
 rows_size H k Down = k.down.0
 
 -- no level is above the number of nodes
-level_small : (H : LevelsAndLegs) → IsLevelled H → (v : ℕ) → slice_index H.level v ≤ nodes_of H
+pub level_small : (H : LevelsAndLegs) → IsLevelled H → (v : ℕ) → slice_index H.level v ≤ nodes_of H
 level_small H k v = elim (cases_lt v (length H.level)) [
   | inl lt ↦ (All-get_or (λ l. (1 ≤ l) × (l ≤ nodes_of H)) H.level v 0 lt k.levels.0).1
   | inr ge ↦ let e = get_or_past H.level v 0 ge in omega arith

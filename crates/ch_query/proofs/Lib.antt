@@ -25,3 +25,10 @@ pub mod DescentLaws
 pub mod Unpacked
 pub mod RouteWalks
 pub mod Replies
+pub mod LeastPaths
+pub mod JoinedSearches
+pub mod FirstFailing
+pub mod LegCosts
+pub mod ArcRows
+pub mod Pairs
+pub mod Checked

@@ -72,7 +72,7 @@ none_in_row : (v : ℕ) (l : Leg) → Contains (row [] v) l → ⊥
 none_in_row v l h = let lt = h.1 in omega arith
 
 -- a search that does not stall leaves no node idle
-never_idle : (H : LevelsAndLegs) (x : Search) → x.stalls ≡ false → (v : ℕ) (c : Cost) → idle_of H x v c → ⊥
+pub never_idle : (H : LevelsAndLegs) (x : Search) → x.stalls ≡ false → (v : ℕ) (c : Cost) → idle_of H x v c → ⊥
 never_idle H x off v c idle = none_in_row v idle.leg (subst (λ b. Contains (row (back_of H x.side b) v) idle.leg) off idle.has)
 
 -- a search that ended without stalling, and its touched nodes in order

@@ -16,3 +16,5 @@ pub mod Spread
 pub mod Tasks
 pub mod SearchSpace
 pub mod SearchSpaceLaws
+pub mod Checking
+pub mod Covering

@@ -1,9 +1,13 @@
 //! Legs of a row.
-ghost use Rattle.std.specs.Prelude.{◌≡◌, Contains};
+ghost use Rattle.std.specs.Prelude.{◌≡◌, ◌<◌, ◌↔◌, Contains, IsTrue};
+ghost use Rattle.ch_contract.specs.Hierarchy.{nodes_of};
 ghost use Rattle.ch_contract.specs.Rows.{IsRow};
 ghost use Rattle.ch_contract.specs.declared.leg.Leg.{Leg as RowLeg};
+ghost use Rattle.ch_query.specs.Checking.{HasLeg, IsRowCost, IsLegCost};
 
-use ch_contract::Leg;
+use crate::search::is_below;
+use ch_contract::{Hierarchy, Leg};
+use ch_graph::Cost;
 
 /// The leg of the row at `node`, which it has, by binary search.
 pub(crate) fn leg_at(row: &[Leg], node: u32) -> Leg
@@ -14,5 +18,41 @@ pub(crate) fn leg_at(row: &[Leg], node: u32) -> Leg
     match row.binary_search_by_key(&node, |leg| leg.node) {
         Ok(place) => row[place],
         Err(_) => unreachable!(),
+    }
+}
+
+/// What the leg of the row at `node` costs, if it has one, by binary search.
+pub(crate) fn cost_in_row(row: &[Leg], node: u32) -> Option<Cost>
+    requires { IsRow row.now }
+    ensures { IsRowCost row.now node result }
+{
+    match row.binary_search_by_key(&node, |leg| leg.node) {
+        Ok(place) => Some(row[place].cost),
+        Err(_) => None,
+    }
+}
+
+/// What the leg from `start` to `end` costs, if there is one. It stands in a row of the lower of the two.
+fn leg_cost(hierarchy: &Hierarchy, start: u32, end: u32) -> Option<Cost>
+    requires start { start < nodes_of hierarchy.now }
+    requires end { end < nodes_of hierarchy.now }
+    ensures { IsLegCost hierarchy.now start end result }
+{
+    if hierarchy.level(start) < hierarchy.level(end) {
+        cost_in_row(hierarchy.up(start), end)
+    } else {
+        cost_in_row(hierarchy.down(end), start)
+    }
+}
+
+/// Whether a leg leads from `start` to `end` and costs at most `most`.
+pub(crate) fn is_leg_within(hierarchy: &Hierarchy, start: u32, end: u32, most: Cost) -> bool
+    requires start { start < nodes_of hierarchy.now }
+    requires end { end < nodes_of hierarchy.now }
+    ensures { IsTrue result ↔ HasLeg hierarchy.now start end most }
+{
+    match leg_cost(hierarchy, start, end) {
+        Some(cost) => !is_below(most, cost),
+        None => false,
     }
 }

@@ -7,14 +7,20 @@
 //! A distance takes no memory: its room is a [`Scratch`], which one query leaves clean for the next.
 //! [`spread`] lists all that a node reaches by legs to higher nodes, with the exact least costs, on every
 //! hierarchy with levels; [`search_space`] lists those of them over which distances lead, for tables, on
-//! every hierarchy that is right for a graph. [`answer_all`] gives the answers to many queries in their order, however a plan
-//! cuts them among workers.
+//! every hierarchy that is right for a graph. [`answer_all`] gives the answers to many queries in their order,
+//! however a plan cuts them among workers. [`check`] accepts a saved hierarchy, whoever made it, exactly where
+//! it is right for the graph, and else tells its first fault.
 #![tactic(auto)]
 
 mod answer;
+mod arcs;
+mod checking;
+mod covering;
 mod descent;
+mod founding;
 pub mod laws;
 mod legs;
+mod lower;
 mod meeting;
 mod query;
 mod routes;
@@ -26,6 +32,7 @@ mod spreading;
 mod unpacking;
 
 pub use answer::{Answer, answer_all};
+pub use checking::check;
 pub use query::{distance, route};
 pub use routes::Route;
 pub use scratch::Scratch;

@@ -5,9 +5,9 @@ ghost use Rattle.std.specs.Prelude.{◌≡◌, ◌<◌, IfOk};
 ghost use Rattle.ch_contract.specs.Hierarchy.{nodes_of};
 ghost use Rattle.ch_query.specs.Distance.{IsKeptForSome};
 
-use crate::{Answer, Scratch, Side, answer_all, distance, spread};
-use ch_contract::{Hierarchy, build};
-use ch_graph::{Cost, Graph, InArc};
+use crate::{Answer, Scratch, Side, answer_all, check, distance, route, spread};
+use ch_contract::{CheckError, Hierarchy, build};
+use ch_graph::{Cost, Graph, InArc, Saved, SavedLeg};
 use ch_work::{Open, Plan};
 use std::alloc::{AllocError, Global};
 use std::process::Abort;
@@ -179,4 +179,73 @@ fn answers_with_routes_on_the_ring(rt: HostRuntime) -> Result<(), Fail> {
         }
     }
     Ok(())
+}
+
+/// A leg of the ring of this many arcs, and as much weight.
+fn ring_leg(from: u32, to: u32, arcs: u64, middle: Option<u32>) -> SavedLeg {
+    SavedLeg {
+        from,
+        to,
+        cost: Cost { weight: arcs, arcs },
+        middle,
+    }
+}
+
+/// The hierarchy of the ring, as a file has it.
+fn ring_saved(alloc: Global) -> Result<Saved, AllocError> {
+    let legs = [
+        ring_leg(0, 1, 1, None),
+        ring_leg(4, 0, 1, None),
+        ring_leg(1, 2, 1, None),
+        ring_leg(4, 1, 2, Some(0)),
+        ring_leg(2, 3, 1, None),
+        ring_leg(4, 2, 3, Some(1)),
+        ring_leg(3, 4, 1, None),
+        ring_leg(4, 3, 4, Some(2)),
+    ];
+    Ok(Saved {
+        order: again!(Vec::from_slice(alloc, &[0, 1, 2, 3, 4])),
+        legs: again!(Vec::from_slice(alloc, &legs)),
+    })
+}
+
+/// The ring's saved hierarchy is accepted, with the levels of its order.
+fn expect_ring_accepted(rt: &impl Abort, alloc: Global) -> Result<(), Fail> {
+    let graph = ring(alloc)?;
+    let saved = ring_saved(alloc)?;
+    let answer = match check(alloc, &graph, &saved) {
+        Err(CheckError::NoMemory) => check(alloc, &graph, &saved),
+        answer => answer,
+    };
+    let Ok(hierarchy) = answer else {
+        panic!(rt; "refused");
+    };
+    assert!(rt; hierarchy.nodes() == 5);
+    assert_eq!(rt; hierarchy.level(3), 4);
+    assert_eq!(rt; hierarchy.down(1).len(), 1);
+    Ok(())
+}
+
+#[test]
+fn refused_in_turn(rt: HostRuntime) -> Result<(), Fail> {
+    let alloc = rt.alloc();
+    let ring = ring_hierarchy(&rt, alloc)?;
+    let mut scratch = again!(Scratch::new(alloc, 5));
+    let Some(found) = again!(route(alloc, &ring, &mut scratch, 4, 3)) else {
+        panic!(rt; "no route");
+    };
+    assert_eq!(rt; found.arcs.len(), 4);
+    let up = again!(spread(alloc, &ring, &mut scratch, 0, Side::Up));
+    expect_spread(&rt, &up, &[(0, 0), (1, 1), (2, 2), (3, 3), (4, 4)]);
+    let queries = [(4, 3), (2, 1)];
+    for workers in [1, 2] {
+        let plan = Plan::new(workers, 1, 64);
+        let answers = again!(answer_all(&rt, alloc, &ring, &queries, true, &plan, &Open));
+        assert_eq!(rt; answers.len(), 2);
+        for (answer, query) in answers.iter().zip(&queries) {
+            assert_eq!(rt; (answer.from, answer.to), *query);
+            expect_arcs(&rt, answer);
+        }
+    }
+    expect_ring_accepted(&rt, alloc)
 }

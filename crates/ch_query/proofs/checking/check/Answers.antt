@@ -1,0 +1,31 @@
+use Rattle.std.proofs.Common.{refl}
+use Rattle.std.specs.Prelude.{Ok}
+use Rattle.ch_contract.proofs.theory.SavedFaults.{checks_value, checks_refused}
+use Rattle.ch_query.proofs.Checked.{accepted_by}
+use Rattle.ch_query.proofs.checking.check.Goals as goal
+
+pub returns-in_err-hierarchy-clause-accepted : goal.returns-in_err-hierarchy-clause-accepted
+returns-in_err-hierarchy-clause-accepted c =
+    accepted_by c.args.graph.now c.args.saved.now c.from_residual.result
+    (checks_refused c.args.graph.now c.args.saved.now c.from_residual.result c.in_err-hierarchy.field-0.0 c.from_residual.ensures.1
+    (c.in_err-hierarchy.ensures.value, c.in_err-hierarchy.ensures.fault))
+
+pub returns-in_err-hierarchy-clause-fault : goal.returns-in_err-hierarchy-clause-fault
+returns-in_err-hierarchy-clause-fault c =
+    (checks_refused c.args.graph.now c.args.saved.now c.from_residual.result c.in_err-hierarchy.field-0.0 c.from_residual.ensures.1
+    (c.in_err-hierarchy.ensures.value, c.in_err-hierarchy.ensures.fault)).1
+
+pub first_late_fault-requires : goal.first_late_fault-requires
+first_late_fault-requires c = (c.in_ok-hierarchy.ensures.value c.in_ok-hierarchy.hierarchy).0 refl
+
+pub returns-in-None-clause-accepted : goal.returns-in-None-clause-accepted
+returns-in-None-clause-accepted c =
+    let named = (c.in_ok-hierarchy.ensures.value c.in_ok-hierarchy.hierarchy).0 refl in
+    let kept = rw c.in-None.is at c.in_ok-fault.ensures in
+    accepted_by c.args.graph.now c.args.saved.now (Ok c.in_ok-hierarchy.hierarchy) (checks_value c.args.graph.now c.args.saved.now c.in_ok-hierarchy.hierarchy (named.0, kept))
+
+pub returns-in-None-clause-fault : goal.returns-in-None-clause-fault
+returns-in-None-clause-fault c =
+    let named = (c.in_ok-hierarchy.ensures.value c.in_ok-hierarchy.hierarchy).0 refl in
+    let kept = rw c.in-None.is at c.in_ok-fault.ensures in
+    (checks_value c.args.graph.now c.args.saved.now c.in_ok-hierarchy.hierarchy (named.0, kept)).1

@@ -1,0 +1,9 @@
+use Rattle.std.proofs.Common.{◌≡◌, ℕ, ◌<◌}
+use Rattle.ch_contract.specs.Kept.{IsCovered}
+use Rattle.ch_query.proofs.lower.first_uncovered.Given as goal
+
+abbrev pub invariant-loop-node : goal.invariant-loop-node
+invariant-loop-node l = record {
+  covered : (u : ℕ) → u < l.node → IsCovered l.hierarchy u;
+  scratch : l.scratch ≡ l.fn.scratch;
+}

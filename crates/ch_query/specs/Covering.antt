@@ -1,0 +1,50 @@
+-- Two searches that look for a way up and down within a bound.
+use Rattle.std.specs.Prelude.{◌≡◌, ◌≢◌, ℕ, ◌<◌, Contains, Bool, true, false, List, Option, Some}
+use Rattle.ch_graph.specs.declared.cost.Cost.{Cost}
+use Rattle.ch_graph.specs.Cost.{IsAtMost, IsBelow, cost_sum, cost_at}
+use Rattle.ch_contract.specs.Hierarchy.{LevelsAndLegs, nodes_of}
+use Rattle.ch_contract.specs.Kept.{MeetsWithin, IsCovered}
+use Rattle.ch_contract.specs.declared.leg.Leg.{Leg}
+use Rattle.ch_contract.specs.Rows.{row}
+use Rattle.ch_query.specs.declared.search.Search.{Search}
+use Rattle.ch_query.specs.declared.covering.Shown.{Shown}
+use Rattle.ch_query.specs.declared.covering.Shown.TheVariants.{Joined, Settled, Past}
+use Rattle.ch_query.specs.Search.{IsSettled, IsUpwardCost}
+use Rattle.ch_query.specs.Side.{rows_of}
+use Rattle.ch_query.specs.Underway.{IsUnderway}
+
+abbrev pub joined : Shown → Bool
+joined Joined = true
+joined Settled = false
+joined Past = false
+
+abbrev pub settled : Shown → Bool
+settled Joined = false
+settled Settled = true
+settled Past = false
+
+-- where the leg a and one up from v lead between nodes that differ, going up and down costs no more
+abbrev pub IsCoveredFrom : LevelsAndLegs → ℕ → Leg → Type 0
+IsCoveredFrom H v a = (b : Leg) → Contains (row H.up v) b → a.node ≢ b.node → MeetsWithin H a.node b.node (cost_sum a.cost b.cost)
+
+-- the first node through which some pair of legs is not covered
+pub record IsFirstUncovered (H : LevelsAndLegs) (v : ℕ) : Type 0 where
+  pub within : v < nodes_of H
+  pub fails : IsCovered H v → ⊥
+  pub first : (u : ℕ) → u < v → IsCovered H u
+
+-- each key is more than this
+abbrev pub IsPastCost : List (Option Cost) → Cost → Type 0
+IsPastCost queue most = (v : ℕ) (d : Cost) → cost_at queue v ≡ Some d → IsBelow most d
+
+-- two searches reach some node, at no more than this together
+abbrev pub AreJoined : LevelsAndLegs → Search → Search → Cost → Type 0
+AreJoined H x y most =
+    (v : ℕ) × (a b : Cost) × IsUpwardCost (rows_of H x.side) x.source v a × IsUpwardCost (rows_of H y.side) y.source v b × IsAtMost (cost_sum a b) most
+
+-- two searches underway that stall nowhere, and each node that both settled costs more than this together
+pub record AreApart (H : LevelsAndLegs) (x y : Search) (most : Cost) : Type 0 where
+  pub here : IsUnderway H x
+  pub there : IsUnderway H y
+  pub stalls : (x.stalls ≡ false) × (y.stalls ≡ false)
+  pub apart : (v : ℕ) (a b : Cost) → IsSettled x.costs.items x.queue v a → IsSettled y.costs.items y.queue v b → IsBelow most (cost_sum a b)

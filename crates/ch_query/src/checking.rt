@@ -1,0 +1,64 @@
+//! Whether a saved hierarchy, of any origin, is right for a graph.
+ghost use Rattle.std.specs.Prelude.{◌≡◌, IfOk, MatchOption};
+ghost use Rattle.ch_contract.specs.declared.fault.CheckFault.{CheckFault as AnyFault};
+ghost use Rattle.ch_contract.specs.declared.fault.CheckFault.TheVariants as CheckFault;
+ghost use Rattle.ch_contract.specs.declared.fault.CheckError.TheVariants as CheckError;
+ghost use Rattle.ch_contract.specs.Kept.{IsKept};
+ghost use Rattle.ch_contract.specs.Saved.{IsFirstFault, NamesFor, NamesKept, AnswersWhere};
+ghost use Rattle.ch_query.specs.Checking.{IsOkWhere, IsFaultless};
+
+use crate::founding::{first_false_shortcut, first_unserved, first_without_arc};
+use crate::lower::first_uncovered;
+use crate::scratch::Scratch;
+use ch_contract::{CheckError, CheckFault, Hierarchy, assemble};
+use ch_graph::{Graph, Saved};
+use std::alloc::{AllocError, Global};
+
+/// The hierarchy that a saved one names, where it is right for the graph: its distances and routes are
+/// then those of the graph, whoever made it. Its levels and legs are those of the argument.
+///
+/// After [`assemble`] it looks for each leg's arc or two legs, and for each arc's leg. Then it searches from
+/// both ends of each two legs through a lower node, unless a leg costs no more than they do. It takes a
+/// number of steps that is linear in the number of nodes, arcs and legs, but for a logarithm, and what these
+/// searches take.
+///
+/// # Errors
+/// The first fault of all seven kinds, or `NoMemory`; what was lent is as before.
+pub fn check(alloc: Global, graph: &Graph, saved: &Saved) -> Result<Hierarchy, CheckError>
+    ensures accepted { IsOkWhere result (IsFaultless graph.now saved.now) }
+    ensures hierarchy { IfOk result (NamesKept graph.now saved.now) }
+    ensures fault { (f : AnyFault) → AnswersWhere result (Err (CheckError.Fault f)) (IsFirstFault graph.now saved.now f) }
+{
+    let hierarchy = assemble(alloc, graph, saved)?;
+    match first_late_fault(alloc, graph, saved, &hierarchy)? {
+        Some(fault) => Err(CheckError::Fault(fault)),
+        None => Ok(hierarchy),
+    }
+}
+
+/// The first fault of the hierarchy that is named, as it stands beside the graph.
+fn first_late_fault(
+    alloc: Global,
+    graph: &Graph,
+    saved: &Saved,
+    hierarchy: &Hierarchy,
+) -> Result<Option<CheckFault>, AllocError>
+    requires { NamesFor graph.now saved.now hierarchy.now }
+    ensures { IfOk result (λ found. MatchOption found (IsKept graph.now hierarchy.now) (IsFirstFault graph.now saved.now)) }
+{
+    let legs = saved.legs.as_slice();
+    if let Some(place) = first_without_arc(alloc, graph, legs)? {
+        return Ok(Some(CheckFault::Base(place)));
+    }
+    if let Some(place) = first_false_shortcut(hierarchy, legs) {
+        return Ok(Some(CheckFault::Middle(place)));
+    }
+    if let Some(place) = first_unserved(hierarchy, graph.arcs()) {
+        return Ok(Some(CheckFault::Arc(place)));
+    }
+    let mut scratch = Scratch::new(alloc, hierarchy.nodes())?;
+    match first_uncovered(hierarchy, &mut scratch) {
+        Some(node) => Ok(Some(CheckFault::Lower(node))),
+        None => Ok(None),
+    }
+}

@@ -1,0 +1,164 @@
+//! Whether going up from one node and down to another costs no more than a bound.
+ghost use Rattle.std.specs.Prelude.{◌≡◌, ◌+◌, ◌^◌, ◌<◌, ◌≤◌, ◌↔◌, true, false, IsTrue, Some};
+ghost use Rattle.ch_graph.specs.declared.cost.Cost.{Cost as CostOf};
+ghost use Rattle.ch_graph.specs.Cost.{IsAtMost, IsBelow, cost_at, cost_sum};
+ghost use Rattle.ch_contract.specs.Hierarchy.{nodes_of};
+ghost use Rattle.ch_contract.specs.Kept.{MeetsWithin};
+ghost use Rattle.ch_query.specs.declared.side.Side.TheVariants.{Up, Down};
+ghost use Rattle.ch_query.specs.declared.covering.Shown.TheVariants as Shown;
+ghost use Rattle.ch_query.specs.Underway.{unsettled_in, IsSameSearch, IsUnderway, IsClean};
+ghost use Rattle.ch_query.specs.Covering.{joined, settled, IsPastCost, AreJoined, AreApart};
+
+use crate::search::{Search, is_below};
+use ch_contract::Hierarchy;
+use ch_graph::Cost;
+use ch_queue::KeyQueue;
+
+/// What a step of two searches shows.
+#[derive(Clone, Copy)]
+enum Shown {
+    /// Both reach some node within the bound.
+    Joined,
+    /// One more node is settled.
+    Settled,
+    /// No node is left within the bound.
+    Past,
+}
+
+impl Shown {
+    fn is_joined(self) -> bool
+        ensures { result ≡ joined self }
+    {
+        match self {
+            Shown::Joined => true,
+            Shown::Settled | Shown::Past => false,
+        }
+    }
+
+    fn is_settled(self) -> bool
+        ensures { result ≡ settled self }
+    {
+        match self {
+            Shown::Settled => true,
+            Shown::Joined | Shown::Past => false,
+        }
+    }
+}
+
+/// Whether each key is above the bound.
+fn is_past(queue: &KeyQueue<Cost>, most: Cost) -> bool
+    ensures { result ≡ true → IsPastCost queue.now most }
+{
+    match queue.least() {
+        Some((key, _)) => is_below(most, key),
+        None => true,
+    }
+}
+
+/// Whether `cost` at `node` here and what is known there are within the bound.
+fn joins(hierarchy: &Hierarchy, there: &Search, node: u32, cost: Cost, most: Cost) -> bool
+    requires there { IsUnderway hierarchy.now there.now }
+    requires node { node < nodes_of hierarchy.now }
+    requires cost { (cost.weight ≤ 2 ^ 60) × (cost.arcs ≤ 2 ^ 50) }
+    ensures joined { result ≡ true → (d : CostOf) × (cost_at there.now.costs.items node ≡ Some d) × IsAtMost (cost_sum cost d) most }
+    ensures apart { result ≡ false → (d : CostOf) → cost_at there.now.costs.items node ≡ Some d → IsBelow most (cost_sum cost d) }
+{
+    match there.costs[node as usize] {
+        Some(known) => !is_below(most, cost.plus(known)),
+        None => false,
+    }
+}
+
+/// Whether a leg of `node`, whose legs were taken, leads to a node that both reach within the bound.
+fn joins_by_leg(hierarchy: &Hierarchy, here: &Search, there: &Search, node: u32, most: Cost) -> bool
+    requires here { IsUnderway hierarchy.now here.now }
+    requires there { IsUnderway hierarchy.now there.now }
+    requires node { node < nodes_of hierarchy.now }
+    ensures { result ≡ true → AreJoined hierarchy.now here.now there.now most }
+{
+    for leg in here.side.legs(hierarchy, node) {
+        if let Some(cost) = here.costs[leg.node as usize] {
+            if joins(hierarchy, there, leg.node, cost, most) {
+                return true;
+            }
+        }
+    }
+    false
+}
+
+/// Settles one node of `here`, unless all that is left is above the bound.
+fn advance(hierarchy: &Hierarchy, here: &mut Search, there: &Search, most: Cost) -> Shown
+    requires apart { AreApart hierarchy.now here.old there.now most }
+    ensures same { IsSameSearch here.old here.new }
+    ensures underway { IsUnderway hierarchy.now here.new }
+    ensures joined { joined result ≡ true → AreJoined hierarchy.now here.new there.now most }
+    ensures apart { joined result ≡ false → AreApart hierarchy.now here.new there.now most }
+    ensures fewer { unsettled_in here.new ≤ unsettled_in here.old }
+    ensures settled { settled result ≡ true → unsettled_in here.new < unsettled_in here.old }
+    ensures past { result ≡ Shown.Past → (here.new ≡ here.old) × IsPastCost here.old.queue most }
+{
+    if is_past(&here.queue, most) {
+        return Shown::Past;
+    }
+    let Some((cost, node)) = here.queue.pop() else {
+        return Shown::Past;
+    };
+    here.settle(hierarchy, node, cost);
+    if joins(hierarchy, there, node, cost, most) {
+        return Shown::Joined;
+    }
+    if joins_by_leg(hierarchy, here, there, node, most) {
+        return Shown::Joined;
+    }
+    Shown::Settled
+}
+
+/// Lets each side settle one node.
+fn step(hierarchy: &Hierarchy, up: &mut Search, down: &mut Search, most: Cost) -> Shown
+    requires apart { AreApart hierarchy.now up.old down.old most }
+    ensures up { IsSameSearch up.old up.new × IsUnderway hierarchy.now up.new }
+    ensures down { IsSameSearch down.old down.new × IsUnderway hierarchy.now down.new }
+    ensures joined { joined result ≡ true → AreJoined hierarchy.now up.new down.new most }
+    ensures settled { settled result ≡ true → AreApart hierarchy.now up.new down.new most × (unsettled_in up.new + unsettled_in down.new < unsettled_in up.old + unsettled_in down.old) }
+    ensures past { result ≡ Shown.Past → AreApart hierarchy.now up.new down.new most × IsPastCost up.new.queue most × IsPastCost down.new.queue most }
+{
+    match advance(hierarchy, up, down, most) {
+        Shown::Joined => Shown::Joined,
+        Shown::Settled => {
+            if advance(hierarchy, down, up, most).is_joined() {
+                return Shown::Joined;
+            }
+            Shown::Settled
+        }
+        Shown::Past => advance(hierarchy, down, up, most),
+    }
+}
+
+/// Whether going up from `start` to some node and down from there to `end` costs at most `most`. It
+/// settles no node that costs more, and none once a way is found.
+pub(crate) fn meets_within(
+    hierarchy: &Hierarchy,
+    up: &mut Search,
+    down: &mut Search,
+    start: u32,
+    end: u32,
+    most: Cost,
+) -> bool
+    requires up { IsClean (nodes_of hierarchy.now) up.old × (up.old.side ≡ Up) }
+    requires down { IsClean (nodes_of hierarchy.now) down.old × (down.old.side ≡ Down) }
+    requires start { start < nodes_of hierarchy.now }
+    requires end { end < nodes_of hierarchy.now }
+    ensures covered { IsTrue result ↔ MeetsWithin hierarchy.now start end most }
+    ensures up { IsClean (nodes_of hierarchy.now) up.new × (up.new.side ≡ Up) }
+    ensures down { IsClean (nodes_of hierarchy.now) down.new × (down.new.side ≡ Down) }
+{
+    up.begin(hierarchy, start, false);
+    down.begin(hierarchy, end, false);
+    let mut shown = Shown::Settled;
+    while shown.is_settled() {
+        shown = step(hierarchy, up, down, most);
+    }
+    up.clean();
+    down.clean();
+    shown.is_joined()
+}

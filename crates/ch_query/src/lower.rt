@@ -1,0 +1,91 @@
+//! Pairs of legs through a lower node.
+ghost use Rattle.std.specs.Prelude.{◌≡◌, ◌<◌, ◌↔◌, ℕ, Contains, IsTrue, MatchOption};
+ghost use Rattle.ch_contract.specs.Hierarchy.{nodes_of};
+ghost use Rattle.ch_contract.specs.Kept.{MeetsWithin, IsCovered};
+ghost use Rattle.ch_contract.specs.Rows.{row};
+ghost use Rattle.ch_query.specs.Covering.{IsCoveredFrom, IsFirstUncovered};
+
+use crate::covering::meets_within;
+use crate::legs::is_leg_within;
+use crate::scratch::Scratch;
+use ch_contract::{Hierarchy, Leg};
+use ch_graph::Cost;
+
+/// Whether going from `start` up and down to `end` costs at most `most`. Mostly a leg shows it.
+fn is_pair_covered(
+    hierarchy: &Hierarchy,
+    scratch: &mut Scratch,
+    start: u32,
+    end: u32,
+    most: Cost,
+) -> bool
+    requires scratch { scratch.old ≡ nodes_of hierarchy.now }
+    requires start { start < nodes_of hierarchy.now }
+    requires end { end < nodes_of hierarchy.now }
+    ensures covered { IsTrue result ↔ MeetsWithin hierarchy.now start end most }
+    ensures scratch { scratch.new ≡ scratch.old }
+{
+    // The getter tells the proof that the hierarchy has levels.
+    let _ = hierarchy.nodes();
+    if is_leg_within(hierarchy, start, end, most) {
+        return true;
+    }
+    meets_within(
+        hierarchy,
+        &mut scratch.up,
+        &mut scratch.down,
+        start,
+        end,
+        most,
+    )
+}
+
+/// Whether the leg `into` and each leg up from `node` are covered.
+fn are_covered_from(hierarchy: &Hierarchy, scratch: &mut Scratch, node: u32, into: Leg) -> bool
+    requires scratch { scratch.old ≡ nodes_of hierarchy.now }
+    requires node { node < nodes_of hierarchy.now }
+    requires has { Contains (row hierarchy.now.down node) into }
+    ensures covered { IsTrue result ↔ IsCoveredFrom hierarchy.now node into }
+    ensures scratch { scratch.new ≡ scratch.old }
+{
+    for out in hierarchy.up(node) {
+        if into.node == out.node {
+            continue;
+        }
+        let most = into.cost.plus(out.cost);
+        if !is_pair_covered(hierarchy, scratch, into.node, out.node, most) {
+            return false;
+        }
+    }
+    true
+}
+
+/// Whether each pair of legs through `node` is covered.
+fn is_covered(hierarchy: &Hierarchy, scratch: &mut Scratch, node: u32) -> bool
+    requires scratch { scratch.old ≡ nodes_of hierarchy.now }
+    requires node { node < nodes_of hierarchy.now }
+    ensures covered { IsTrue result ↔ IsCovered hierarchy.now node }
+    ensures scratch { scratch.new ≡ scratch.old }
+{
+    for into in hierarchy.down(node) {
+        if !are_covered_from(hierarchy, scratch, node, *into) {
+            return false;
+        }
+    }
+    true
+}
+
+/// The least numbered node through which some pair of legs, between nodes that differ, costs less than
+/// every way up and down between these nodes; `None` where there is no such node.
+pub(crate) fn first_uncovered(hierarchy: &Hierarchy, scratch: &mut Scratch) -> Option<u32>
+    requires scratch { scratch.old ≡ nodes_of hierarchy.now }
+    ensures first { MatchOption result ((v : ℕ) → v < nodes_of hierarchy.now → IsCovered hierarchy.now v) (IsFirstUncovered hierarchy.now) }
+    ensures scratch { scratch.new ≡ scratch.old }
+{
+    for node in 0..hierarchy.nodes() {
+        if !is_covered(hierarchy, scratch, node) {
+            return Some(node);
+        }
+    }
+    None
+}
