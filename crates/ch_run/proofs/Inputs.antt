@@ -12,6 +12,8 @@ use Rattle.ch_run.specs.Run.{IsOf, IsUnread, StopsAt}
 pub refused_for : (which : Which) (error : ReadError) (fault : ReadFault) → refused_by which error ≡ refusal_of which fault → error ≡ Fault fault
 refused_for Which.Graph (Fault f) fault same = cc
 refused_for Which.Graph NoMemory fault same = cc
+refused_for Which.Saved (Fault f) fault same = cc
+refused_for Which.Saved NoMemory fault same = cc
 refused_for Which.Queries (Fault f) fault same = cc
 refused_for Which.Queries NoMemory fault same = cc
 refused_for Which.Sources (Fault f) fault same = cc
@@ -22,6 +24,7 @@ refused_for Which.Targets NoMemory fault same = cc
 -- an input that gave no bytes has no fault of a file
 pub unread_not : (which : Which) (fault : ReadFault) → IsUnread which (refusal_of which fault) → ⊥
 unread_not Which.Graph fault h = h
+unread_not Which.Saved fault h = h
 unread_not Which.Queries fault h = h
 unread_not Which.Sources fault h = h
 unread_not Which.Targets fault h = h
@@ -30,6 +33,8 @@ unread_not Which.Targets fault h = h
 pub refused_is_of : (which : Which) (error : ReadError) → IsOf which (refused_by which error)
 refused_is_of Which.Graph (Fault f) = refl
 refused_is_of Which.Graph NoMemory = tt
+refused_is_of Which.Saved (Fault f) = refl
+refused_is_of Which.Saved NoMemory = tt
 refused_is_of Which.Queries (Fault f) = refl
 refused_is_of Which.Queries NoMemory = tt
 refused_is_of Which.Sources (Fault f) = refl
@@ -47,6 +52,8 @@ unread_is_of which (RunFault.Sources f) h = absurd h
 unread_is_of which (RunFault.Targets f) h = absurd h
 unread_is_of which RunFault.Cells h = absurd h
 unread_is_of which (RunFault.Write count) h = absurd h
+unread_is_of which (RunFault.Saved f) h = absurd h
+unread_is_of which (RunFault.Check f) h = absurd h
 
 -- a fault that stops a run is of one input
 pub of_one : (which other : Which) (fault : RunFault) → IsOf which fault → StopsAt other fault → other ≡ which
@@ -58,3 +65,5 @@ of_one which other RunFault.Memory h k = absurd (k.1 refl)
 of_one which other (RunFault.Device input) h k = k.0 ∙ sym h
 of_one which other RunFault.Cells h k = absurd h
 of_one which other (RunFault.Write count) h k = absurd h
+of_one which other (RunFault.Saved f) h k = k.0 ∙ sym h
+of_one which other (RunFault.Check f) h k = k.0 ∙ sym h

@@ -3,4 +3,6 @@ pub mod Bytes
 pub mod Inputs
 pub mod OneText
 pub mod Tables
+pub mod Saving
+pub mod OneSavedText
 pub mod Writes

@@ -25,7 +25,7 @@ use Rattle.ch_read.specs.Names.{NamesGraph, NamesNodes, NamesQueries}
 use Rattle.ch_read.proofs.OneAnswer.{graph_answer, nodes_answer, queries_answer}
 
 -- what an input that tells its bytes has given are these
-given_bytes : (before after : Option (List ℕ)) (bytes given : List ℕ) → before ≡ Some bytes → HasGiven before after given → given ≡ bytes
+pub given_bytes : (before after : Option (List ℕ)) (bytes given : List ℕ) → before ≡ Some bytes → HasGiven before after given → given ≡ bytes
 given_bytes None after bytes given told h = absurd (none-some bytes told)
 given_bytes (Some old) after bytes given told h = sym h.0 ∙ same_Some old bytes told
 
@@ -98,7 +98,7 @@ one_answers_text : (P : ℕ × ℕ → Answer → Type 0) → ((q : ℕ × ℕ) 
 one_answers_text P one queries text other h k = h.2 ∙ ap (flat_map answer_text) (one_list P one queries h.0 k.0 h.1 k.1) ∙ sym k.2
 
 -- the answers have one text, where the routes are by one hierarchy, which is kept
-one_text_by : (routes : Bool) (g : Network) (From : LevelsAndLegs → Type 0) → ((H K : LevelsAndLegs) → From H → From K → H ≡ K) → ((H : LevelsAndLegs) → From H → IsKept g H) →
+pub one_text_by : (routes : Bool) (g : Network) (From : LevelsAndLegs → Type 0) → ((H K : LevelsAndLegs) → From H → From K → H ≡ K) → ((H : LevelsAndLegs) → From H → IsKept g H) →
     (queries : List (ℕ × ℕ)) (text other : List ℕ) → IsTextBy routes g From queries text → IsTextBy routes g From queries other → text ≡ other
 one_text_by false g From one kept queries text other t u = one_answers_text (AnswersShortly g) (one_short g) queries text other t u
 one_text_by true g From one kept queries text other t u =
@@ -106,17 +106,17 @@ one_text_by true g From one kept queries text other t u =
     one_answers_text (AnswersWithRoute g t.0) (one_routed g t.0 (kept t.0 t.1)) queries text other t.2 (subst (λ (H : LevelsAndLegs). HasText (AnswersWithRoute g H) queries other) same u.2)
 
 -- a graph is named by its bytes
-same_graph : (graph : Reading) (bytes : List ℕ) (g h : Network) → graph.before ≡ Some bytes → ReadsGraph graph g → ReadsGraph graph h → g ≡ h
+pub same_graph : (graph : Reading) (bytes : List ℕ) (g h : Network) → graph.before ≡ Some bytes → ReadsGraph graph g → ReadsGraph graph h → g ≡ h
 same_graph graph bytes g h told a b =
     (graph_answer bytes).one_value g h (subst (λ xs. NamesGraph xs g) (given_bytes graph.before graph.after bytes a.0 told a.1) a.2) (subst (λ xs. NamesGraph xs h) (given_bytes graph.before graph.after bytes b.0 told b.1) b.2)
 
 -- queries are named by their bytes
-same_queries : (queries : Reading) (bytes : List ℕ) (n : ℕ) (p q : List (ℕ × ℕ)) → queries.before ≡ Some bytes → ReadsQueries queries n p → ReadsQueries queries n q → p ≡ q
+pub same_queries : (queries : Reading) (bytes : List ℕ) (n : ℕ) (p q : List (ℕ × ℕ)) → queries.before ≡ Some bytes → ReadsQueries queries n p → ReadsQueries queries n q → p ≡ q
 same_queries queries bytes n p q told a b =
     (queries_answer bytes n).one_value p q (subst (λ xs. NamesQueries xs n p) (given_bytes queries.before queries.after bytes a.0 told a.1) a.2) (subst (λ xs. NamesQueries xs n q) (given_bytes queries.before queries.after bytes b.0 told b.1) b.2)
 
 -- a list of nodes is named by its bytes
-same_nodes : (list : Reading) (bytes : List ℕ) (n : ℕ) (p q : List ℕ) → list.before ≡ Some bytes → ReadsNodes list n p → ReadsNodes list n q → p ≡ q
+pub same_nodes : (list : Reading) (bytes : List ℕ) (n : ℕ) (p q : List ℕ) → list.before ≡ Some bytes → ReadsNodes list n p → ReadsNodes list n q → p ≡ q
 same_nodes list bytes n p q told a b =
     (nodes_answer bytes n).one_value p q (subst (λ xs. NamesNodes xs n p) (given_bytes list.before list.after bytes a.0 told a.1) a.2) (subst (λ xs. NamesNodes xs n q) (given_bytes list.before list.after bytes b.0 told b.1) b.2)
 
@@ -125,7 +125,7 @@ one_row : (g : Network) (limit : Option ℕ) (targets : List ℕ) (s : ℕ) (xs 
 one_row g limit targets s xs ys h k = one_list (IsCell g limit s) (one_cell_within g limit s) targets xs ys h k
 
 -- a table has one text
-one_table_text : (g : Network) (limit : Option ℕ) (sources targets text other : List ℕ) → IsTableText g limit sources targets text → IsTableText g limit sources targets other → text ≡ other
+pub one_table_text : (g : Network) (limit : Option ℕ) (sources targets text other : List ℕ) → IsTableText g limit sources targets text → IsTableText g limit sources targets other → text ≡ other
 one_table_text g limit sources targets text other h k =
     h.2 ∙ ap (λ rows. flat_map row_text (zip sources rows)) (one_list (IsTableRow g limit targets) (one_row g limit targets) sources h.0 k.0 h.1 k.1) ∙ sym k.2
 

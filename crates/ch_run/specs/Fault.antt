@@ -9,11 +9,12 @@ use Rattle.ch_run.specs.declared.fault.Which.{Which}
 -- the word for an input
 abbrev pub input_name : Which → List ℕ
 input_name Which.Graph = codes "graph"
+input_name Which.Saved = codes "saved"
 input_name Which.Queries = codes "queries"
 input_name Which.Sources = codes "sources"
 input_name Which.Targets = codes "targets"
 
--- the exit status of a fault: 1 where a file or the size of a table was refused, 3 where the system refused something
+-- the exit status of a fault: 1 where a file, a saved hierarchy or the size of a table was refused, 3 where the system refused something
 abbrev pub status_of : RunFault → ℕ
 status_of (RunFault.Graph _) = 1
 status_of (RunFault.Queries _) = 1
@@ -23,10 +24,13 @@ status_of RunFault.Cells = 1
 status_of RunFault.Memory = 3
 status_of (RunFault.Device _) = 3
 status_of (RunFault.Write _) = 3
+status_of (RunFault.Saved _) = 1
+status_of (RunFault.Check _) = 1
 
 -- the fault of a run whose input has this fault
 abbrev pub refusal_of : Which → ReadFault → RunFault
 refusal_of Which.Graph fault = RunFault.Graph fault
+refusal_of Which.Saved fault = RunFault.Saved fault
 refusal_of Which.Queries fault = RunFault.Queries fault
 refusal_of Which.Sources fault = RunFault.Sources fault
 refusal_of Which.Targets fault = RunFault.Targets fault

@@ -2,6 +2,9 @@ pub mod Device
 pub mod Fault
 pub mod Lists
 pub mod Run
+pub mod SaveText
+pub mod SavedRun
+pub mod SavedTextLaws
 pub mod TableText
 pub mod TextLaws
 pub mod Text

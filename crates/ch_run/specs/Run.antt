@@ -108,6 +108,8 @@ IsUnread which (RunFault.Sources fault) = ⊥
 IsUnread which (RunFault.Targets fault) = ⊥
 IsUnread which RunFault.Cells = ⊥
 IsUnread which (RunFault.Write count) = ⊥
+IsUnread which (RunFault.Saved fault) = ⊥
+IsUnread which (RunFault.Check fault) = ⊥
 
 -- what reading this input may end in: it is refused, it can't be read, or there is no memory
 abbrev pub IsOf : Which → RunFault → Type 0
@@ -119,6 +121,8 @@ IsOf which RunFault.Cells = ⊥
 IsOf which RunFault.Memory = ⊤
 IsOf which (RunFault.Device input) = which ≡ input
 IsOf which (RunFault.Write count) = ⊥
+IsOf which (RunFault.Saved fault) = which ≡ Which.Saved
+IsOf which (RunFault.Check fault) = which ≡ Which.Saved
 
 -- the output refused a write
 abbrev pub IsWrite : RunFault → Type 0
@@ -130,6 +134,8 @@ IsWrite (RunFault.Targets fault) = ⊥
 IsWrite RunFault.Cells = ⊥
 IsWrite RunFault.Memory = ⊥
 IsWrite (RunFault.Device which) = ⊥
+IsWrite (RunFault.Saved fault) = ⊥
+IsWrite (RunFault.Check fault) = ⊥
 
 -- what a run that answers queries may end in: the graph or the queries are refused or can't be read,
 -- there is no memory, or the output refuses a write

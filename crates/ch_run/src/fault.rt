@@ -3,6 +3,7 @@
 ghost use Rattle.std.specs.Prelude.{◌≡◌, Some};
 ghost use Rattle.ch_run.specs.Fault.{input_name, refused_by, status_of};
 
+use ch_contract::CheckFault;
 use ch_read::{ReadError, ReadFault};
 use std::alloc::{AllocError, AllocFailed};
 use std::fmt;
@@ -12,6 +13,7 @@ use thiserror::Error;
 #[derive(Clone, Copy, Debug, PartialEq, Eq)]
 pub enum Which {
     Graph,
+    Saved,
     Queries,
     Sources,
     Targets,
@@ -25,6 +27,7 @@ impl Which {
         match error {
             ReadError::Fault(fault) => match self {
                 Which::Graph => RunFault::Graph(fault),
+                Which::Saved => RunFault::Saved(fault),
                 Which::Queries => RunFault::Queries(fault),
                 Which::Sources => RunFault::Sources(fault),
                 Which::Targets => RunFault::Targets(fault),
@@ -40,6 +43,7 @@ impl fmt::Display for Which {
     fn fmt<W: fmt::Write>(&self, f: &mut fmt::Formatter<W>) -> fmt::Result {
         match self {
             Which::Graph => f.write_str("graph"),
+            Which::Saved => f.write_str("saved"),
             Which::Queries => f.write_str("queries"),
             Which::Sources => f.write_str("sources"),
             Which::Targets => f.write_str("targets"),
@@ -76,6 +80,12 @@ pub enum RunFault {
     /// A write failed, or took no byte, after so many bytes had been written and flushed.
     #[error("chtab: cannot write after {0} bytes")]
     Write(u64),
+    /// The saved hierarchy's file has this fault.
+    #[error("chtab: saved {0}")]
+    Saved(ReadFault),
+    /// The saved hierarchy isn't right for the graph, for this fault.
+    #[error("chtab: saved hierarchy refused: {0}")]
+    Check(CheckFault),
 }
 
 impl From<AllocError> for RunFault {
@@ -98,8 +108,8 @@ impl<T: Drop> From<AllocFailed<T>> for RunFault {
     }
 }
 
-/// The program's exit status for a fault: 1 where a file or the
-/// size of a table was refused, 3 where the system refused
+/// The program's exit status for a fault: 1 where a file, a saved
+/// hierarchy or the size of a table was refused, 3 where the system refused
 /// memory, a file or a write.
 pub fn status(fault: &RunFault) -> u8
     ensures { result ≡ status_of fault.now }
@@ -109,6 +119,8 @@ pub fn status(fault: &RunFault) -> u8
         | RunFault::Queries(_)
         | RunFault::Sources(_)
         | RunFault::Targets(_)
+        | RunFault::Saved(_)
+        | RunFault::Check(_)
         | RunFault::Cells => 1,
         RunFault::Memory | RunFault::Device(_) | RunFault::Write(_) => 3,
     }

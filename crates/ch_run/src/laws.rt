@@ -1,4 +1,5 @@
 //! Laws of texts, each the contract of a function that does nothing.
+ghost use Rattle.ch_run.specs.SavedTextLaws.{HierarchiesHaveOneText, SavedAnswersHaveOneText, SavedTablesHaveOneText};
 ghost use Rattle.ch_run.specs.TextLaws.{AnswersHaveOneText, TablesHaveOneText};
 
 /// The definitions name one text: the order of contraction, the meet, each choice and the arcs of each leg
@@ -6,4 +7,12 @@ ghost use Rattle.ch_run.specs.TextLaws.{AnswersHaveOneText, TablesHaveOneText};
 pub fn one_text()
     ensures answers { AnswersHaveOneText }
     ensures tables { TablesHaveOneText }
+{}
+
+/// They name one text too where answers and tables are made by a saved hierarchy, of any origin, and where a
+/// hierarchy is saved.
+pub fn one_saved_text()
+    ensures answers { SavedAnswersHaveOneText }
+    ensures tables { SavedTablesHaveOneText }
+    ensures hierarchies { HierarchiesHaveOneText }
 {}

@@ -14,6 +14,7 @@ pub mod laws;
 mod options;
 mod plan;
 mod run;
+mod save_text;
 mod text;
 
 pub use device::{
@@ -23,4 +24,4 @@ pub use device::{
 pub use fault::{RunFault, Which, status};
 pub use options::Options;
 pub use plan::{Gate, Open, Plan};
-pub use run::{run_dist, run_table};
+pub use run::{run_dist, run_dist_saved, run_save, run_table, run_table_saved};

@@ -115,7 +115,7 @@ fn push_arc(text: &mut Vec<u8>, arc: &InArc) -> Result<(), AllocError>
 }
 
 /// Adds two nodes, and a space after each.
-fn push_ends(text: &mut Vec<u8>, from: u32, to: u32) -> Result<(), AllocError>
+pub(crate) fn push_ends(text: &mut Vec<u8>, from: u32, to: u32) -> Result<(), AllocError>
     ensures { OnOk result (text.new.items ≡ text.old.items ++ node_text from ++ codes " " ++ node_text to ++ codes " ") }
 {
     push_node(text, from)?;
@@ -125,7 +125,7 @@ fn push_ends(text: &mut Vec<u8>, from: u32, to: u32) -> Result<(), AllocError>
 }
 
 /// Adds a node, counted from 1.
-fn push_node(text: &mut Vec<u8>, node: u32) -> Result<(), AllocError>
+pub(crate) fn push_node(text: &mut Vec<u8>, node: u32) -> Result<(), AllocError>
     ensures { OnOk result (text.new.items ≡ text.old.items ++ node_text node) }
 {
     push_number(text, node as u64 + 1)
@@ -142,7 +142,7 @@ fn push_weight(text: &mut Vec<u8>, weight: Option<u64>) -> Result<(), AllocError
 }
 
 /// Adds a number in decimal.
-fn push_number(text: &mut Vec<u8>, number: u64) -> Result<(), AllocError>
+pub(crate) fn push_number(text: &mut Vec<u8>, number: u64) -> Result<(), AllocError>
     ensures { OnOk result (text.new.items ≡ text.old.items ++ decimal number) }
 {
     let mut buffer = Buffer::new();
@@ -150,7 +150,7 @@ fn push_number(text: &mut Vec<u8>, number: u64) -> Result<(), AllocError>
 }
 
 /// Adds bytes, for all of which room is reserved first.
-fn push_all(text: &mut Vec<u8>, bytes: &[u8]) -> Result<(), AllocError>
+pub(crate) fn push_all(text: &mut Vec<u8>, bytes: &[u8]) -> Result<(), AllocError>
     ensures { OnOk result (text.new.items ≡ text.old.items ++ bytes.now) }
 {
     text.reserve(bytes.len())?;

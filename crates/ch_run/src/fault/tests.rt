@@ -57,11 +57,42 @@ fn each_fault_has_its_line_and_status(rt: HostRuntime) -> Result<(), Fail> {
             "chtab: cannot write after 65536 bytes",
             3,
         ),
+        (
+            RunFault::Saved(fault),
+            "chtab: saved line 2: node out of range",
+            1,
+        ),
+        (
+            RunFault::Device(Which::Saved),
+            "chtab: cannot read saved",
+            3,
+        ),
     ];
     for (fault, line, code) in rows {
         let text = format!(in rt.alloc(); "{fault}")?;
         assert_eq!(rt; text.as_str(), line);
         assert_eq!(rt; status(&fault), code, "of {line}");
+    }
+    Ok(())
+}
+
+#[test]
+fn each_refusal_of_a_hierarchy_has_its_word(rt: HostRuntime) -> Result<(), Fail> {
+    let rows = [
+        (CheckFault::Order, "order"),
+        (CheckFault::Pair(2), "pair"),
+        (CheckFault::Bound(2), "bound"),
+        (CheckFault::Base(2), "base"),
+        (CheckFault::Middle(2), "middle"),
+        (CheckFault::Arc(2), "arc"),
+        (CheckFault::Lower(2), "lower"),
+    ];
+    for (refused, word) in rows {
+        let fault = RunFault::Check(refused);
+        let text = format!(in rt.alloc(); "{fault}")?;
+        let line = format!(in rt.alloc(); "chtab: saved hierarchy refused: {word}")?;
+        assert_eq!(rt; text.as_str(), line.as_str());
+        assert_eq!(rt; status(&fault), 1, "of {word}");
     }
     Ok(())
 }

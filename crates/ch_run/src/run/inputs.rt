@@ -71,7 +71,11 @@ pub(crate) fn nodes_from<I: Input>(
 }
 
 /// The bytes of an input, read to its end.
-fn bytes_from<I: Input>(alloc: Global, input: &mut I, which: Which) -> Result<Vec<u8>, RunFault>
+pub(crate) fn bytes_from<I: Input>(
+    alloc: Global,
+    input: &mut I,
+    which: Which,
+) -> Result<Vec<u8>, RunFault>
     requires { I.failed input.old < 2 ^ 64 - 1 }
     ensures bytes { IfOk result (λ bytes. HasGiven (I.left input.old) (I.left input.new) bytes.items) }
     ensures unread { IfErr result (IsUnread which) }

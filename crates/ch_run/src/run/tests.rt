@@ -1,7 +1,7 @@
 //! Runs over devices in memory: worked files and their texts, each refusal, and devices that fail.
 ghost use Rattle.ch_contract.specs.Legs.{IsHopBound};
 
-use super::{run_dist, run_table};
+use super::{run_dist, run_dist_saved, run_save, run_table, run_table_saved};
 use crate::device::{MemoryInput, MemoryOutput};
 use crate::fault::RunFault;
 use crate::options::Options;
@@ -17,6 +17,7 @@ mod failures;
 mod memory;
 mod refusals;
 mod routes;
+mod saved;
 mod tables;
 mod workers;
 
@@ -50,6 +51,13 @@ const ANSWERS: &[u8] = b"d 1 3 9\nd 3 1 -\n";
 
 /// Four nodes, each of the others tied to the first.
 const STAR: &[u8] = b"p sp 4 6\na 1 2 1\na 2 1 1\na 1 3 1\na 3 1 1\na 1 4 1\na 4 1 1\n";
+
+/// The files of the hierarchies of these two graphs. The star's has a line of 9 bytes, four of 4, and then a
+/// line of 12 for each leg.
+const LINE_SAVED: &[u8] = b"p ch 3 2\no 1\no 2\no 3\nl 1 2 4 1 0\nl 2 3 5 1 0\n";
+
+const STAR_SAVED: &[u8] =
+    b"p ch 4 8\no 2\no 1\no 3\no 4\nl 2 1 1 1 0\nl 1 2 1 1 0\nl 1 3 1 1 0\nl 1 4 1 1 0\nl 3 1 1 1 0\nl 4 1 1 1 0\nl 3 4 2 2 1\nl 4 3 2 2 1\n";
 
 /// The sources and targets of a table of the three-node graph, and its text.
 const SOURCES: &[u8] = b"p aux sp ss 3\ns 1\ns 1\ns 3\n";
@@ -126,6 +134,80 @@ fn run_lists_within<R: Threads + Sync>(
         &mut MemoryInput::new(targets, 4096),
         &mut output,
         &options,
+        plan,
+        &Open,
+    );
+    Ok((result, output))
+}
+
+/// The answer of a run that saves the hierarchy of this graph, and what it wrote.
+fn saved_of<R: Threads + Sync>(
+    rt: &R,
+    alloc: Global,
+    graph: &[u8],
+    options: &Options,
+    plan: &Plan,
+) -> Result<(Result<(), RunFault>, MemoryOutput), AllocError>
+    requires { IsHopBound options.now.hops }
+{
+    let mut output = MemoryOutput::new(alloc, 4096, 4096)?;
+    let result = run_save(
+        rt,
+        alloc,
+        &mut MemoryInput::new(graph, 4096),
+        &mut output,
+        options,
+        plan,
+        &Open,
+    );
+    Ok((result, output))
+}
+
+/// The answer of a run over these files, the second of which is a saved hierarchy, and what it wrote.
+fn run_saved<R: Threads + Sync>(
+    rt: &R,
+    alloc: Global,
+    graph: &[u8],
+    saved: &[u8],
+    queries: &[u8],
+    options: &Options,
+    plan: &Plan,
+) -> Result<(Result<(), RunFault>, MemoryOutput), AllocError> {
+    let mut output = MemoryOutput::new(alloc, 4096, 4096)?;
+    let result = run_dist_saved(
+        rt,
+        alloc,
+        &mut MemoryInput::new(graph, 4096),
+        &mut MemoryInput::new(saved, 4096),
+        &mut MemoryInput::new(queries, 4096),
+        &mut output,
+        options,
+        plan,
+        &Open,
+    );
+    Ok((result, output))
+}
+
+/// The answer of a run that makes a table by a saved hierarchy, and what it wrote.
+fn run_lists_saved<R: Threads + Sync>(
+    rt: &R,
+    alloc: Global,
+    graph: &[u8],
+    saved: &[u8],
+    sources: &[u8],
+    targets: &[u8],
+    plan: &Plan,
+) -> Result<(Result<(), RunFault>, MemoryOutput), AllocError> {
+    let mut output = MemoryOutput::new(alloc, 4096, 4096)?;
+    let result = run_table_saved(
+        rt,
+        alloc,
+        &mut MemoryInput::new(graph, 4096),
+        &mut MemoryInput::new(saved, 4096),
+        &mut MemoryInput::new(sources, 4096),
+        &mut MemoryInput::new(targets, 4096),
+        &mut output,
+        &BY_HIERARCHY,
         plan,
         &Open,
     );

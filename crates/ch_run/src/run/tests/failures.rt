@@ -1,11 +1,14 @@
 //! Each read and each write fails in turn, for devices that move a byte, a few or all at a call.
 ghost use Rattle.std.specs.Prelude.{◌≡◌, ◌<◌, IfOk};
 
-use super::{BY_HIERARCHY, LINE, SOURCES, STAR, TABLE, TARGETS, THERE_AND_BACK, WITH_ROUTES};
+use super::{
+    BY_HIERARCHY, LINE, LINE_SAVED, SOURCES, STAR, STAR_SAVED, TABLE, TARGETS, THERE_AND_BACK,
+    WITH_ROUTES,
+};
 use crate::device::{Input, MemoryInput, MemoryOutput, Output};
 use crate::fault::{RunFault, Which};
 use crate::plan::{Open, Plan};
-use crate::run::{run_dist, run_table};
+use crate::run::{run_dist, run_dist_saved, run_save, run_table, run_table_saved};
 use std::alloc::{AllocError, Global};
 use std::process::Abort;
 use std::test::Fail;
@@ -23,11 +26,39 @@ enum Failing {
     Idle(u64),
 }
 
-/// The files of a run, in the order in which they are read, and the text that it owes.
+/// What a run is asked for.
+#[derive(Clone, Copy)]
+enum Asked<'a> {
+    Hierarchy,
+    Answers(&'a [u8]),
+    Table(&'a [u8], &'a [u8]),
+}
+
+/// The files of a run, with a saved hierarchy or without, and the text that it owes.
 #[derive(Clone, Copy)]
 struct Example<'a> {
-    files: [(Which, &'a [u8]); 3],
+    graph: &'a [u8],
+    saved: Option<&'a [u8]>,
+    asked: Asked<'a>,
     text: &'a [u8],
+}
+
+impl<'a> Example<'a> {
+    /// The files, in the order in which they are read.
+    fn files(&self) -> [(Which, Option<&'a [u8]>); 5] {
+        let (queries, sources, targets) = match self.asked {
+            Asked::Hierarchy => (None, None, None),
+            Asked::Answers(queries) => (Some(queries), None, None),
+            Asked::Table(sources, targets) => (None, Some(sources), Some(targets)),
+        };
+        [
+            (Which::Graph, Some(self.graph)),
+            (Which::Saved, self.saved),
+            (Which::Queries, queries),
+            (Which::Sources, sources),
+            (Which::Targets, targets),
+        ]
+    }
 }
 
 /// What a run answered, and what its output took.
@@ -40,11 +71,10 @@ fn calls(length: usize, most: usize) -> u64
     length.div_ceil(most) as u64
 }
 
-fn input<'a>(file: (Which, &'a [u8]), most: usize, failing: Failing) -> MemoryInput<'a>
+fn input<'a>(which: Which, bytes: &'a [u8], most: usize, failing: Failing) -> MemoryInput<'a>
     requires { 0 < most }
     ensures { ⟦<MemoryInput<'a> as Input>⟧.failed result ≡ 0 }
 {
-    let (which, bytes) = file;
     let input = MemoryInput::new(bytes, most);
     match failing {
         Failing::Read(other, reads) if other == which => input.failing_after(reads),
@@ -64,7 +94,7 @@ fn output(alloc: Global, most: usize, failing: Failing) -> Result<MemoryOutput, 
     }
 }
 
-/// Answers the queries with routes, or makes the table, with one call that goes wrong.
+/// Does what the run is asked for, with one call that goes wrong.
 fn ended<R: Threads + Sync>(
     rt: &R,
     alloc: Global,
@@ -74,36 +104,160 @@ fn ended<R: Threads + Sync>(
 ) -> Result<Ended, AllocError>
     requires { 0 < most }
 {
+    match (example.asked, example.saved) {
+        (Asked::Hierarchy, _) => hierarchy_saved(rt, alloc, example.graph, most, failing),
+        (Asked::Answers(queries), None) => {
+            answers(rt, alloc, example.graph, queries, most, failing)
+        }
+        (Asked::Answers(queries), Some(saved)) => {
+            answers_saved(rt, alloc, example.graph, saved, queries, most, failing)
+        }
+        (Asked::Table(sources, targets), None) => {
+            table(rt, alloc, example.graph, sources, targets, most, failing)
+        }
+        (Asked::Table(sources, targets), Some(saved)) => {
+            table_saved(
+                rt,
+                alloc,
+                example.graph,
+                saved,
+                sources,
+                targets,
+                most,
+                failing,
+            )
+        }
+    }
+}
+
+/// Saves the hierarchy of the graph.
+fn hierarchy_saved<R: Threads + Sync>(
+    rt: &R,
+    alloc: Global,
+    graph: &[u8],
+    most: usize,
+    failing: Failing,
+) -> Result<Ended, AllocError>
+    requires { 0 < most }
+{
     let mut output = output(alloc, most, failing)?;
-    let [graph, second, third] = example.files;
-    let mut graph = input(graph, most, failing);
-    let mut first_list = input(second, most, failing);
-    let plan = Plan::new(1, 64, 64);
-    let result = if second.0 == Which::Queries {
-        run_dist(
-            rt,
-            alloc,
-            &mut graph,
-            &mut first_list,
-            &mut output,
-            &WITH_ROUTES,
-            &plan,
-            &Open,
-        )
-    } else {
-        let mut targets = input(third, most, failing);
-        run_table(
-            rt,
-            alloc,
-            &mut graph,
-            &mut first_list,
-            &mut targets,
-            &mut output,
-            &BY_HIERARCHY,
-            &plan,
-            &Open,
-        )
-    };
+    let result = run_save(
+        rt,
+        alloc,
+        &mut input(Which::Graph, graph, most, failing),
+        &mut output,
+        &BY_HIERARCHY,
+        &Plan::new(1, 64, 64),
+        &Open,
+    );
+    Ok((result, output))
+}
+
+/// Answers the queries with routes.
+fn answers<R: Threads + Sync>(
+    rt: &R,
+    alloc: Global,
+    graph: &[u8],
+    queries: &[u8],
+    most: usize,
+    failing: Failing,
+) -> Result<Ended, AllocError>
+    requires { 0 < most }
+{
+    let mut output = output(alloc, most, failing)?;
+    let result = run_dist(
+        rt,
+        alloc,
+        &mut input(Which::Graph, graph, most, failing),
+        &mut input(Which::Queries, queries, most, failing),
+        &mut output,
+        &WITH_ROUTES,
+        &Plan::new(1, 64, 64),
+        &Open,
+    );
+    Ok((result, output))
+}
+
+/// Answers the queries with routes, by a saved hierarchy.
+fn answers_saved<R: Threads + Sync>(
+    rt: &R,
+    alloc: Global,
+    graph: &[u8],
+    saved: &[u8],
+    queries: &[u8],
+    most: usize,
+    failing: Failing,
+) -> Result<Ended, AllocError>
+    requires { 0 < most }
+{
+    let mut output = output(alloc, most, failing)?;
+    let result = run_dist_saved(
+        rt,
+        alloc,
+        &mut input(Which::Graph, graph, most, failing),
+        &mut input(Which::Saved, saved, most, failing),
+        &mut input(Which::Queries, queries, most, failing),
+        &mut output,
+        &WITH_ROUTES,
+        &Plan::new(1, 64, 64),
+        &Open,
+    );
+    Ok((result, output))
+}
+
+/// Makes the table.
+fn table<R: Threads + Sync>(
+    rt: &R,
+    alloc: Global,
+    graph: &[u8],
+    sources: &[u8],
+    targets: &[u8],
+    most: usize,
+    failing: Failing,
+) -> Result<Ended, AllocError>
+    requires { 0 < most }
+{
+    let mut output = output(alloc, most, failing)?;
+    let result = run_table(
+        rt,
+        alloc,
+        &mut input(Which::Graph, graph, most, failing),
+        &mut input(Which::Sources, sources, most, failing),
+        &mut input(Which::Targets, targets, most, failing),
+        &mut output,
+        &BY_HIERARCHY,
+        &Plan::new(1, 64, 64),
+        &Open,
+    );
+    Ok((result, output))
+}
+
+/// Makes the table by a saved hierarchy.
+fn table_saved<R: Threads + Sync>(
+    rt: &R,
+    alloc: Global,
+    graph: &[u8],
+    saved: &[u8],
+    sources: &[u8],
+    targets: &[u8],
+    most: usize,
+    failing: Failing,
+) -> Result<Ended, AllocError>
+    requires { 0 < most }
+{
+    let mut output = output(alloc, most, failing)?;
+    let result = run_table_saved(
+        rt,
+        alloc,
+        &mut input(Which::Graph, graph, most, failing),
+        &mut input(Which::Saved, saved, most, failing),
+        &mut input(Which::Sources, sources, most, failing),
+        &mut input(Which::Targets, targets, most, failing),
+        &mut output,
+        &BY_HIERARCHY,
+        &Plan::new(1, 64, 64),
+        &Open,
+    );
     Ok((result, output))
 }
 
@@ -138,7 +292,10 @@ fn expect_reads<R: Threads + Abort + Sync>(
 ) -> Result<(), Fail>
     requires { 0 < most }
 {
-    for (which, bytes) in example.files {
+    for (which, bytes) in example.files() {
+        let Some(bytes) = bytes else {
+            continue;
+        };
         // The last read gives no byte.
         for before in 0..calls(bytes.len(), most).saturating_add(1) {
             let failing = Failing::Read(which, before);
@@ -168,41 +325,37 @@ fn expect_writes<R: Threads + Abort + Sync>(
     Ok(())
 }
 
-/// Three files, of which a run that answers queries has two: the graph stands for the third again.
-fn of_queries<'a>(graph: &'a [u8], queries: &'a [u8], text: &'a [u8]) -> Example<'a> {
-    Example {
-        files: [
-            (Which::Graph, graph),
-            (Which::Queries, queries),
-            (Which::Graph, graph),
-        ],
-        text,
-    }
-}
-
 #[test]
 fn each_call_of_a_device_fails(rt: HostRuntime) -> Result<(), Fail> {
-    let line = b"d 1 3 9\nr 2\na 1 2 4\na 2 3 5\nd 3 1 -\n";
-    let star = b"d 3 4 2\nr 2\na 3 1 1\na 1 4 1\n";
-    let examples = [
-        of_queries(LINE, THERE_AND_BACK, line),
-        of_queries(STAR, b"p aux sp p2p 1\nq 3 4\n", star),
-        Example {
-            files: [
-                (Which::Graph, LINE),
-                (Which::Sources, SOURCES),
-                (Which::Targets, TARGETS),
-            ],
-            text: TABLE,
-        },
+    let line_text: &[u8] = b"d 1 3 9\nr 2\na 1 2 4\na 2 3 5\nd 3 1 -\n";
+    let there: &[u8] = b"p aux sp p2p 1\nq 3 4\n";
+    let star_text: &[u8] = b"d 3 4 2\nr 2\na 3 1 1\na 1 4 1\n";
+    let runs = [
+        (LINE, None, Asked::Answers(THERE_AND_BACK), line_text),
+        (STAR, None, Asked::Answers(there), star_text),
+        (LINE, None, Asked::Table(SOURCES, TARGETS), TABLE),
+        (STAR, None, Asked::Hierarchy, STAR_SAVED),
+        (STAR, Some(STAR_SAVED), Asked::Answers(there), star_text),
+        (
+            LINE,
+            Some(LINE_SAVED),
+            Asked::Table(SOURCES, TARGETS),
+            TABLE,
+        ),
     ];
     let alloc = rt.alloc();
-    for example in &examples {
+    for (graph, saved, asked, text) in runs {
+        let example = Example {
+            graph,
+            saved,
+            asked,
+            text,
+        };
         for most in PARTS {
-            let length = example.text.len();
-            expect(&rt, alloc, example, most, Failing::Nothing, Ok(()), length)?;
-            expect_reads(&rt, alloc, example, most)?;
-            expect_writes(&rt, alloc, example, most)?;
+            let length = text.len();
+            expect(&rt, alloc, &example, most, Failing::Nothing, Ok(()), length)?;
+            expect_reads(&rt, alloc, &example, most)?;
+            expect_writes(&rt, alloc, &example, most)?;
         }
     }
     Ok(())

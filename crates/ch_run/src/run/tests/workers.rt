@@ -5,7 +5,8 @@ ghost use Rattle.ch_contract.specs.Legs.{IsHopBound};
 ghost use Rattle.ch_query.specs.Distance.{IsKeptForSome};
 
 use super::{
-    ANSWERS, BY_HIERARCHY, LINE, PLAIN, STAR, THERE_AND_BACK, WITH_ROUTES, run, run_lists,
+    ANSWERS, BY_HIERARCHY, LINE, LINE_SAVED, PLAIN, SOURCES, STAR, STAR_SAVED, TABLE, TARGETS,
+    THERE_AND_BACK, WITH_ROUTES, run, run_lists, run_lists_saved, run_saved, saved_of,
 };
 use crate::device::{MemoryInput, MemoryOutput};
 use crate::fault::RunFault;
@@ -44,11 +45,34 @@ fn no_plan_changes_a_byte(rt: HostRuntime) -> Result<(), Fail> {
                     output.bytes(),
                     b"d 3 4 2\nr 2\na 3 1 1\na 1 4 1\n".as_slice()
                 );
-                let sources: &[u8] = b"p aux sp ss 3\ns 1\ns 1\ns 3\n";
-                let targets: &[u8] = b"p aux sp ss 2\ns 3\ns 2\n";
-                let (result, output) = run_lists(&rt, rt.alloc(), LINE, sources, targets, &plan)?;
+                let (result, output) = run_lists(&rt, rt.alloc(), LINE, SOURCES, TARGETS, &plan)?;
                 assert_eq!(rt; result, Ok(()));
-                assert_eq!(rt; output.bytes(), b"t 1 9 4\nt 1 9 4\nt 3 0 -\n".as_slice());
+                assert_eq!(rt; output.bytes(), TABLE);
+                let (result, output) = saved_of(&rt, rt.alloc(), STAR, &BY_HIERARCHY, &plan)?;
+                assert_eq!(rt; result, Ok(()));
+                assert_eq!(rt; output.bytes(), STAR_SAVED);
+                let (result, output) = run_saved(
+                    &rt,
+                    rt.alloc(),
+                    LINE,
+                    LINE_SAVED,
+                    THERE_AND_BACK,
+                    &BY_HIERARCHY,
+                    &plan,
+                )?;
+                assert_eq!(rt; result, Ok(()));
+                assert_eq!(rt; output.bytes(), ANSWERS);
+                let (result, output) = run_lists_saved(
+                    &rt,
+                    rt.alloc(),
+                    LINE,
+                    LINE_SAVED,
+                    SOURCES,
+                    TARGETS,
+                    &plan,
+                )?;
+                assert_eq!(rt; result, Ok(()));
+                assert_eq!(rt; output.bytes(), TABLE);
             }
         }
     }

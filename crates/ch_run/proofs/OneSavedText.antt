@@ -1,0 +1,85 @@
+-- The definitions name one text where a hierarchy is saved, and where one was.
+use Rattle.std.proofs.Common.{◌≡◌, ℕ, ◌<◌, List, length, Option, Some, sym, ap, ◌∙◌, subst, arith}
+use Rattle.std.specs.Prelude.{not, ◌&&◌, slice_index}
+use Rattle.std.specs.List.{flat_map}
+use Rattle.std.proofs.lemmas.List.{ext_get_or}
+use Rattle.ch_graph.specs.Graph.{Network}
+use Rattle.ch_graph.specs.Saved.{OrderAndLegs}
+use Rattle.ch_read.specs.Names.{NamesSaved}
+use Rattle.ch_read.proofs.OneAnswer.{saved_answer}
+use Rattle.ch_contract.specs.Hierarchy.{LevelsAndLegs, nodes_of, IsHierarchy}
+use Rattle.ch_contract.specs.Kept.{IsKept}
+use Rattle.ch_contract.specs.Saved.{NamesHierarchy}
+use Rattle.ch_contract.proofs.theory.OneOrder.{one_hierarchy}
+use Rattle.ch_contract.proofs.theory.OneSaved.{one_saved}
+use Rattle.ch_contract.proofs.theory.SavedLevels.{level_of}
+use Rattle.ch_run.specs.Run.{Reading, ReadsNodes, ReadsQueries}
+use Rattle.ch_run.specs.SavedRun.{AreChecked, ReadsSaved}
+use Rattle.ch_run.specs.SavedTextLaws.{SavedAnswersHaveOneText, SavedTablesHaveOneText, HierarchiesHaveOneText}
+use Rattle.ch_run.specs.SaveText.{IsByLevel, IsHierarchyText, legs_at, saved_text}
+use Rattle.ch_run.specs.TableText.{IsTableText}
+use Rattle.ch_run.specs.Text.{IsTextBy}
+use Rattle.ch_run.proofs.OneText.{given_bytes, one_table_text, one_text_by, same_graph, same_nodes, same_queries}
+
+-- a saved hierarchy is named by its bytes
+same_saved : (saved : Reading) (bytes : List ℕ) (n : ℕ) (s t : OrderAndLegs) → saved.before ≡ Some bytes → ReadsSaved saved n s → ReadsSaved saved n t → s ≡ t
+same_saved saved bytes n s t told a b =
+    (saved_answer bytes n).one_value s t (subst (λ xs. NamesSaved xs n s) (given_bytes saved.before saved.after bytes a.0 told a.1) a.2) (subst (λ xs. NamesSaved xs n t) (given_bytes saved.before saved.after bytes b.0 told b.1) b.2)
+
+module _ (graph saved : Reading) (graph_bytes saved_bytes : List ℕ) (told_graph : graph.before ≡ Some graph_bytes) (told_saved : saved.before ≡ Some saved_bytes)
+    (g k : Network) (s t : OrderAndLegs) (H K : LevelsAndLegs) (a : AreChecked graph saved g s H) (b : AreChecked graph saved k t K) where
+  -- the graph and the hierarchy are one
+  one_graph : g ≡ k
+  one_graph = same_graph graph graph_bytes g k told_graph a.reads_graph b.reads_graph
+
+  one_checked : H ≡ K
+  one_checked =
+      let same : s ≡ t = same_saved saved saved_bytes g.nodes s t told_saved a.reads_saved (subst (λ (n : Network). ReadsSaved saved n.nodes t) (sym one_graph) b.reads_saved) in
+      one_saved s H K a.names.0 (subst (λ r. NamesHierarchy r K) (sym same) b.names.0)
+
+-- inputs that tell their bytes are answered by one text
+pub one_saved_text : SavedAnswersHaveOneText
+one_saved_text options graph saved queries graph_bytes saved_bytes query_bytes text other told_graph told_saved told_queries h k =
+    let same : h.0 ≡ k.0 = one_graph graph saved graph_bytes saved_bytes told_graph told_saved h.0 k.0 h.1 k.1 h.2 k.2 h.3 k.3 in
+    let hierarchy : h.2 ≡ k.2 = one_checked graph saved graph_bytes saved_bytes told_graph told_saved h.0 k.0 h.1 k.1 h.2 k.2 h.3 k.3 in
+    let pairs : h.4.0 ≡ k.4.0 = same_queries queries query_bytes h.0.nodes h.4.0 k.4.0 told_queries h.4.1 (subst (λ (g : Network). ReadsQueries queries g.nodes k.4.0) (sym same) k.4.1) in
+    let routes = not options.plain && options.routes in
+    let on_graph : IsTextBy routes h.0 (λ K. K ≡ k.2) k.4.0 other = subst (λ (g : Network). IsTextBy routes g (λ K. K ≡ k.2) k.4.0 other) (sym same) k.4.2 in
+    let by_one : IsTextBy routes h.0 (λ K. K ≡ h.2) k.4.0 other = subst (λ (H : LevelsAndLegs). IsTextBy routes h.0 (λ K. K ≡ H) k.4.0 other) (sym hierarchy) on_graph in
+    let here : IsTextBy routes h.0 (λ K. K ≡ h.2) h.4.0 other = subst (λ p. IsTextBy routes h.0 (λ K. K ≡ h.2) p other) (sym pairs) by_one in
+    let one : (A B : LevelsAndLegs) → A ≡ h.2 → B ≡ h.2 → A ≡ B = λ A B x y. x ∙ sym y in
+    let kept : (A : LevelsAndLegs) → A ≡ h.2 → IsKept h.0 A = λ A x. subst (IsKept h.0) (sym x) h.3.names.1 in
+    one_text_by routes h.0 (λ K. K ≡ h.2) one kept h.4.0 text other h.4.2 here
+
+-- inputs that tell their bytes have one table
+pub one_saved_table : SavedTablesHaveOneText
+one_saved_table options graph saved sources targets graph_bytes saved_bytes source_bytes target_bytes text other told_graph told_saved told_sources told_targets h k =
+    let same : h.0 ≡ k.0 = one_graph graph saved graph_bytes saved_bytes told_graph told_saved h.0 k.0 h.1 k.1 h.2 k.2 h.3 k.3 in
+    let from : h.4.0 ≡ k.4.0 = same_nodes sources source_bytes h.0.nodes h.4.0 k.4.0 told_sources h.4.2.0 (subst (λ (g : Network). ReadsNodes sources g.nodes k.4.0) (sym same) k.4.2.0) in
+    let to : h.4.1 ≡ k.4.1 = same_nodes targets target_bytes h.0.nodes h.4.1 k.4.1 told_targets h.4.2.1 (subst (λ (g : Network). ReadsNodes targets g.nodes k.4.1) (sym same) k.4.2.1) in
+    let first : IsTableText h.0 options.within k.4.0 k.4.1 other = subst (λ (g : Network). IsTableText g options.within k.4.0 k.4.1 other) (sym same) k.4.3 in
+    let second : IsTableText h.0 options.within h.4.0 k.4.1 other = subst (λ xs. IsTableText h.0 options.within xs k.4.1 other) (sym from) first in
+    one_table_text h.0 options.within h.4.0 h.4.1 text other h.4.3 (subst (λ xs. IsTableText h.0 options.within h.4.0 xs other) (sym to) second)
+
+-- nodes stand in one order of level
+one_by_level : (H : LevelsAndLegs) (order other : List ℕ) → IsByLevel H order → IsByLevel H other → order ≡ other
+one_by_level H order other a b = ext_get_or 0 order other (a.nodes.count ∙ sym b.nodes.count) (λ i lt.
+    let same = b.nodes.count in
+    let size = a.nodes.count in
+    let at = level_of (nodes_of H) order H.level a.nodes a.levels (slice_index other i) (b.nodes.within i (omega arith)) in
+    let level = b.levels.each i (omega arith) in
+    let place : at.0 ≡ i = (let e = at.3 in omega arith) in
+    ap (slice_index order) (sym place) ∙ at.2)
+
+-- a hierarchy has one text
+one_hierarchy_text : (H : LevelsAndLegs) (text other : List ℕ) → IsHierarchyText H text → IsHierarchyText H other → text ≡ other
+one_hierarchy_text H text other h k =
+    h.2 ∙ ap (λ order. saved_text (record { order = order; legs = flat_map (legs_at H) order })) (one_by_level H h.0 k.0 h.1 k.1) ∙ sym k.2
+
+-- an input that tells its bytes is saved as one text
+pub one_save_text : HierarchiesHaveOneText
+one_save_text options graph graph_bytes text other told_graph h k =
+    let same : h.0 ≡ k.0 = same_graph graph graph_bytes h.0 k.0 told_graph h.2 k.2 in
+    let on_graph = subst (λ (g : Network). IsHierarchy g options.hops k.3.0) (sym same) k.3.1 in
+    let hierarchy : h.3.0 ≡ k.3.0 = one_hierarchy h.0 options.hops h.3.0 k.3.0 h.3.1 on_graph in
+    one_hierarchy_text h.3.0 text other h.3.2 (subst (λ (H : LevelsAndLegs). IsHierarchyText H other) (sym hierarchy) k.3.2)

@@ -1,0 +1,20 @@
+use Rattle.std.proofs.Common.{inr}
+use Rattle.ch_run.proofs.Writes.{delivered, gone_past}
+use Rattle.ch_run.specs.declared.fault.Which.TheVariants as Which
+use Rattle.ch_run.proofs.run.dist_saved.run_dist_saved.Goals as goal
+
+pub returns-clause-written : goal.returns-clause-written
+returns-clause-written g c =
+    let value = c.in_ok-checked.ensures.value in
+    delivered c.write_text.result _ _ _ _ (_, value.0, _, value.1, (_, c.in_ok-queries.ensures.value, rw (c.deref-2.ensures.value, c.deref.ensures.value) c.in_ok-text.ensures)) c.write_text.ensures.written
+
+pub returns-clause-unwritten : goal.returns-clause-unwritten
+returns-clause-unwritten g c =
+    let value = c.in_ok-checked.ensures.value in
+    inr (c.write_text.ensures.own, (_, value.0, _, value.1, (_, c.in_ok-queries.ensures.value)))
+
+pub returns-clause-queries_unread : goal.returns-clause-queries_unread
+returns-clause-queries_unread g c =
+    let value = c.in_ok-checked.ensures.value in
+    let past = gone_past c.write_text.result c.write_text.ensures.own in
+    inr (past Which.Graph, past Which.Saved, (_, value.0, _, value.1, tt))

@@ -1,0 +1,19 @@
+use Rattle.std.proofs.Common.{◌≡◌, refl, sym, ◌∙◌, subst}
+use Rattle.ch_read.specs.declared.form.Form.TheVariants.{Saved}
+use Rattle.ch_read.specs.declared.fault.ReadError.TheVariants.{Fault}
+use Rattle.ch_read.specs.Checks.{IsFault}
+use Rattle.ch_read.specs.Names.{NamesSaved}
+use Rattle.ch_run.specs.declared.fault.Which.TheVariants as Which
+use Rattle.ch_run.proofs.Inputs.{refused_for}
+use Rattle.ch_run.proofs.run.saved.saved_from.Goals as goal
+
+pub returns-in-Ok-clause-value : goal.returns-in-Ok-clause-value
+returns-in-Ok-clause-value g c =
+    let named = rw c.nodes.ensures at (c.in-Ok.ensures.value c.in-Ok.saved).0 refl in
+    (c.in_ok-bytes.bytes.items, c.in_ok-bytes.ensures.bytes, subst (λ bytes. NamesSaved bytes c.args.graph.now.nodes c.in-Ok.saved) c.deref.ensures.value named)
+
+pub returns-clause-refused : goal.returns-clause-refused
+returns-clause-refused g c fault same =
+    let is : c.in-Err.error ≡ Fault fault = refused_for Which.Saved _ fault (sym c.refusal.ensures ∙ cc) in
+    let refused = rw c.nodes.ensures at (c.read_saved.ensures.fault fault).0 (rw (c.in-Err.is, is) refl) in
+    (c.in_ok-bytes.bytes.items, c.in_ok-bytes.ensures.bytes, subst (λ bytes. IsFault (Saved c.args.graph.now.nodes) bytes fault.line fault.kind) c.deref.ensures.value refused)

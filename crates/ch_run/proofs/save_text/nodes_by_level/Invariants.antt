@@ -1,0 +1,7 @@
+use Rattle.std.proofs.Common.{◌≡◌, vec_len}
+use Rattle.ch_contract.specs.Hierarchy.{nodes_of, IsLevelled}
+use Rattle.ch_run.proofs.Saving.{HasPlaced}
+use Rattle.ch_run.proofs.save_text.nodes_by_level.Given as goal
+
+abbrev pub invariant-loop-node : goal.invariant-loop-node
+invariant-loop-node l = HasPlaced l.hierarchy l.order.items l.node

@@ -1,0 +1,10 @@
+use Rattle.std.proofs.Common.{◌≡◌, ◌++◌, flat_map, ap, sym, ◌∙◌}
+use Rattle.ch_run.specs.SaveText.{leg_text, legs_at}
+use Rattle.ch_run.proofs.Texts.{all_grown}
+use Rattle.ch_run.proofs.Saving.{text_of_each}
+use Rattle.ch_run.proofs.save_text.push_rows.Goals as goal
+
+pub returns : goal.returns
+returns c =
+    all_grown (λ node. flat_map leg_text (legs_at c.args.hierarchy.now node)) c.args.nodes.now c.loop-node.node-index c.args.text.now.items c.loop-node.text.items c.loop-node-test.false c.loop-node.invariant
+    ∙ ap (λ t. c.args.text.now.items ++ t) (sym (text_of_each leg_text (legs_at c.args.hierarchy.now) c.args.nodes.now))

@@ -1,0 +1,21 @@
+-- The definitions name one text, where a hierarchy is saved and where one was.
+use Rattle.std.specs.Prelude.{◌≡◌, ℕ, List, Some}
+use Rattle.ch_run.specs.declared.options.Options.{Options}
+use Rattle.ch_run.specs.Run.{Reading}
+use Rattle.ch_run.specs.SavedRun.{IsAnsweredFrom, IsSavedBy, IsTabledFrom}
+
+-- two texts that answer the same bytes, as the same options ask, are equal
+abbrev pub SavedAnswersHaveOneText : Type 0
+SavedAnswersHaveOneText = (options : Options) (graph saved queries : Reading) (graph_bytes saved_bytes query_bytes text other : List ℕ) →
+    graph.before ≡ Some graph_bytes → saved.before ≡ Some saved_bytes → queries.before ≡ Some query_bytes →
+    IsAnsweredFrom options graph saved queries text → IsAnsweredFrom options graph saved queries other → text ≡ other
+
+-- two texts that are the table of the same bytes, within the same options' limit, are equal
+abbrev pub SavedTablesHaveOneText : Type 0
+SavedTablesHaveOneText = (options : Options) (graph saved sources targets : Reading) (graph_bytes saved_bytes source_bytes target_bytes text other : List ℕ) →
+    graph.before ≡ Some graph_bytes → saved.before ≡ Some saved_bytes → sources.before ≡ Some source_bytes → targets.before ≡ Some target_bytes →
+    IsTabledFrom options graph saved sources targets text → IsTabledFrom options graph saved sources targets other → text ≡ other
+
+-- two texts of the hierarchy of the same bytes are equal
+abbrev pub HierarchiesHaveOneText : Type 0
+HierarchiesHaveOneText = (options : Options) (graph : Reading) (graph_bytes text other : List ℕ) → graph.before ≡ Some graph_bytes → IsSavedBy options graph text → IsSavedBy options graph other → text ≡ other

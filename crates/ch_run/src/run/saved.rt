@@ -1,0 +1,75 @@
+//! Saved hierarchies, read to their end, judged and checked.
+ghost use Rattle.std.specs.Prelude.{◌≡◌, ◌-◌, ◌^◌, ◌<◌, ◌↔◌, ◌⊎◌, IfOk, IfErr};
+ghost use Rattle.ch_graph.specs.Saved.{OrderAndLegs};
+ghost use Rattle.ch_read.specs.declared.fault.ReadFault.{ReadFault as FaultAt};
+ghost use Rattle.ch_contract.specs.declared.fault.CheckFault.{CheckFault as FaultOf};
+ghost use Rattle.ch_run.specs.Run.{AcceptsGraph, GoesPast, IsGraphRefused, IsOf, reading};
+ghost use Rattle.ch_run.specs.SavedRun.{AreChecked, HasCheckRefused, HasSavedRefused, IsOfChecked, IsSavedRefused, ReadsSaved};
+
+use super::inputs::{bytes_from, graph_from};
+use crate::device::Input;
+use crate::fault::{RunFault, Which};
+use ch_contract::{CheckError, Hierarchy};
+use ch_graph::{Graph, Saved};
+use ch_query::check;
+use ch_read::read_saved;
+use std::alloc::Global;
+
+/// A graph, and a hierarchy that is right for it.
+#[derive(Drop)]
+pub(crate) struct Checked {
+    pub(crate) graph: Graph,
+    pub(crate) hierarchy: Hierarchy,
+}
+
+/// Reads a graph to its end, and then a saved hierarchy, which is checked for the graph.
+pub(crate) fn checked_from<I: Input, S: Input>(
+    alloc: Global,
+    graph: &mut I,
+    saved: &mut S,
+) -> Result<Checked, RunFault>
+    requires graph { I.failed graph.old < 2 ^ 64 - 1 }
+    requires saved { S.failed saved.old < 2 ^ 64 - 1 }
+
+    ensures value { IfOk result (λ checked. (s : OrderAndLegs) ×
+        AreChecked (reading I.left graph.old graph.new) (reading S.left saved.old saved.new) checked.graph s checked.hierarchy) }
+
+    ensures own { IfErr result IsOfChecked }
+    ensures graph_refused { (fault : FaultAt) → result ≡ Err (RunFault.Graph fault) →
+        IsGraphRefused (reading I.left graph.old graph.new) fault }
+    ensures saved_refused { (fault : FaultAt) → result ≡ Err (RunFault.Saved fault) →
+        HasSavedRefused (reading I.left graph.old graph.new) (reading S.left saved.old saved.new) fault }
+    ensures check_refused { (fault : FaultOf) → result ≡ Err (RunFault.Check fault) →
+        HasCheckRefused (reading I.left graph.old graph.new) (reading S.left saved.old saved.new) fault }
+
+    ensures graph_device { (result ≡ Err (RunFault.Device Which.Graph)) ↔ (I.failed graph.old < I.failed graph.new) }
+    ensures saved_device { (result ≡ Err (RunFault.Device Which.Saved)) ↔ (S.failed saved.old < S.failed saved.new) }
+    ensures saved_unread { (saved.new ≡ saved.old)
+        ⊎ (GoesPast Which.Graph result × AcceptsGraph (reading I.left graph.old graph.new)) }
+{
+    let graph = graph_from(alloc, graph)?;
+    // The getter tells the proof that the graph keeps the limits.
+    let _ = graph.arcs();
+    let saved = saved_from(alloc, saved, &graph)?;
+    match check(alloc, &graph, &saved) {
+        Ok(hierarchy) => Ok(Checked { graph, hierarchy }),
+        Err(CheckError::Fault(fault)) => Err(RunFault::Check(fault)),
+        Err(CheckError::NoMemory) => Err(RunFault::Memory),
+    }
+}
+
+/// Reads an input to its end, as a saved hierarchy on this graph.
+fn saved_from<S: Input>(alloc: Global, input: &mut S, graph: &Graph) -> Result<Saved, RunFault>
+    requires { S.failed input.old < 2 ^ 64 - 1 }
+    ensures value { IfOk result (ReadsSaved (reading S.left input.old input.new) graph.now.nodes) }
+    ensures refused { (fault : FaultAt) → result ≡ Err (RunFault.Saved fault) → IsSavedRefused (reading S.left input.old input.new) graph.now.nodes fault }
+    ensures device { (result ≡ Err (RunFault.Device Which.Saved)) ↔ (S.failed input.old < S.failed input.new) }
+    ensures of_input { IfErr result (IsOf Which.Saved) }
+    ensures unchecked { (fault : FaultOf) → result ≡ Err (RunFault.Check fault) → ⊥ }
+{
+    let bytes = bytes_from(alloc, input, Which::Saved)?;
+    match read_saved(alloc, &bytes, graph.nodes()) {
+        Ok(saved) => Ok(saved),
+        Err(error) => Err(Which::Saved.refusal(error)),
+    }
+}

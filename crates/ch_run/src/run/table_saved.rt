@@ -1,0 +1,100 @@
+//! Runs that make tables by a saved hierarchy.
+ghost use Rattle.std.specs.Prelude.{◌≡◌, ◌-◌, ◌^◌, ◌<◌, ◌↔◌, ◌⊎◌, IfErr, IsErrAnd};
+ghost use Rattle.ch_read.specs.declared.fault.ReadFault.{ReadFault as FaultAt};
+ghost use Rattle.ch_contract.specs.declared.fault.CheckFault.{CheckFault as FaultOf};
+ghost use Rattle.ch_run.specs.Run.{AcceptsGraph, Delivers, GoesPast, IsGraphRefused, IsWrite, reading};
+ghost use Rattle.ch_run.specs.SavedRun.{AcceptsListsFrom, AcceptsSaved, AcceptsSourcesFrom, HasCellsRefusedFrom, HasCheckRefused, HasSavedRefused, HasSourcesRefusedFrom, HasTargetsRefusedFrom, IsOfTableSaved, IsTabledFrom};
+
+use super::lists::lists_from;
+use super::output::write_text;
+use super::saved::checked_from;
+use super::texts::table_by;
+use crate::device::{Input, Output};
+use crate::fault::{RunFault, Which};
+use crate::options::Options;
+use crate::plan::{Gate, Plan};
+use std::alloc::Global;
+use std::thread::Threads;
+
+/// Reads a graph, a hierarchy that was saved, by whatever program, a list of sources and a list of targets, and
+/// writes a row for each source with the distance to each target, in order. With a limit of the options a distance that
+/// is more is left out, as one where there is no walk.
+///
+/// Each input is read to its end and judged before the next is read, the saved hierarchy also on the graph, and the
+/// whole text is made before the first write. The table is the same for every plan and gate. Of the options only `within` is used.
+///
+/// # Errors
+/// The first fault of the graph, of the saved hierarchy's lines, of the hierarchy on the graph (`Check`), of the
+/// sources or the targets, a device that refused a read, `Cells` where there are more than 2^22 of them, or want of
+/// memory: nothing was written then. `Write(count)`, where the output took `count` bytes of the text and no more.
+pub fn run_table_saved<
+    R: Threads + Sync,
+    I: Input,
+    S: Input,
+    J: Input,
+    L: Input,
+    O: Output,
+    G: Gate,
+>(
+    rt: &R,
+    alloc: Global,
+    graph: &mut I,
+    saved: &mut S,
+    sources: &mut J,
+    targets: &mut L,
+    output: &mut O,
+    options: &Options,
+    plan: &Plan,
+    gate: &G,
+) -> Result<(), RunFault>
+    requires graph { I.failed graph.old < 2 ^ 64 - 1 }
+    requires saved { S.failed saved.old < 2 ^ 64 - 1 }
+    requires sources { J.failed sources.old < 2 ^ 64 - 1 }
+    requires targets { L.failed targets.old < 2 ^ 64 - 1 }
+    requires failures { O.failed output.old < 2 ^ 64 - 1 }
+    requires zeros { O.idle output.old < 2 ^ 64 - 1 }
+
+    // What is written is the table of what was read: all of it, or its first bytes.
+    ensures written { Delivers result (O.taken output.old) (O.taken output.new)
+        (IsTabledFrom options.now (reading I.left graph.old graph.new) (reading S.left saved.old saved.new) (reading J.left sources.old sources.new) (reading L.left targets.old targets.new)) }
+
+    // A run ends in a fault of its own, a file is refused for what it holds, and the lists where they make too many cells.
+    ensures own { IfErr result IsOfTableSaved }
+    ensures graph_refused { (fault : FaultAt) → result ≡ Err (RunFault.Graph fault) →
+        IsGraphRefused (reading I.left graph.old graph.new) fault }
+    ensures saved_refused { (fault : FaultAt) → result ≡ Err (RunFault.Saved fault) →
+        HasSavedRefused (reading I.left graph.old graph.new) (reading S.left saved.old saved.new) fault }
+    ensures check_refused { (fault : FaultOf) → result ≡ Err (RunFault.Check fault) →
+        HasCheckRefused (reading I.left graph.old graph.new) (reading S.left saved.old saved.new) fault }
+    ensures sources_refused { (fault : FaultAt) → result ≡ Err (RunFault.Sources fault) →
+        HasSourcesRefusedFrom (reading I.left graph.old graph.new) (reading S.left saved.old saved.new) (reading J.left sources.old sources.new) fault }
+    ensures targets_refused { (fault : FaultAt) → result ≡ Err (RunFault.Targets fault) →
+        HasTargetsRefusedFrom (reading I.left graph.old graph.new) (reading S.left saved.old saved.new) (reading J.left sources.old sources.new) (reading L.left targets.old targets.new) fault }
+    ensures cells_refused { result ≡ Err RunFault.Cells →
+        HasCellsRefusedFrom (reading I.left graph.old graph.new) (reading S.left saved.old saved.new) (reading J.left sources.old sources.new) (reading L.left targets.old targets.new) }
+
+    // A device's fault is told exactly where the device counted one.
+    ensures graph_device { (result ≡ Err (RunFault.Device Which.Graph)) ↔ (I.failed graph.old < I.failed graph.new) }
+    ensures saved_device { (result ≡ Err (RunFault.Device Which.Saved)) ↔ (S.failed saved.old < S.failed saved.new) }
+    ensures sources_device { (result ≡ Err (RunFault.Device Which.Sources)) ↔ (J.failed sources.old < J.failed sources.new) }
+    ensures targets_device { (result ≡ Err (RunFault.Device Which.Targets)) ↔ (L.failed targets.old < L.failed targets.new) }
+    ensures output_device { IsErrAnd result IsWrite ↔ ((O.failed output.old < O.failed output.new) ⊎ (O.idle output.old < O.idle output.new)) }
+
+    // Nothing is touched before all that comes earlier was accepted.
+    ensures saved_unread { (saved.new ≡ saved.old)
+        ⊎ (GoesPast Which.Graph result × AcceptsGraph (reading I.left graph.old graph.new)) }
+    ensures sources_unread { (sources.new ≡ sources.old)
+        ⊎ (GoesPast Which.Graph result × GoesPast Which.Saved result
+        × AcceptsSaved (reading I.left graph.old graph.new) (reading S.left saved.old saved.new)) }
+    ensures targets_unread { (targets.new ≡ targets.old)
+        ⊎ (GoesPast Which.Graph result × GoesPast Which.Saved result × GoesPast Which.Sources result
+        × AcceptsSourcesFrom (reading I.left graph.old graph.new) (reading S.left saved.old saved.new) (reading J.left sources.old sources.new)) }
+    ensures unwritten { (output.new ≡ output.old)
+        ⊎ (IfErr result IsWrite
+        × AcceptsListsFrom (reading I.left graph.old graph.new) (reading S.left saved.old saved.new) (reading J.left sources.old sources.new) (reading L.left targets.old targets.new)) }
+{
+    let checked = checked_from(alloc, graph, saved)?;
+    let lists = lists_from(alloc, sources, targets, &checked.graph)?;
+    let text = table_by(rt, alloc, &checked.hierarchy, &lists, options.within, plan, gate)?;
+    write_text(output, &text)
+}
