@@ -48,15 +48,12 @@ apart_swapped H x y most m = record {
   here = m.there;
   there = m.here;
   stalls = (m.stalls.1, m.stalls.0);
+  limits = (m.limits.1, m.limits.0);
   apart = λ v a b h k. subst (IsBelow most) (cost_sum_comm b a) (m.apart v b a k h);
 }
 
 pub joined_swapped : (H : LevelsAndLegs) (x y : Search) (most : Cost) → AreJoined H x y most → AreJoined H y x most
 joined_swapped H x y most j = (j.0, j.2, j.1, j.4, j.3, subst (λ q. IsAtMost q most) (cost_sum_comm j.1 j.2) j.5)
-
--- nothing is settled at first
-pub apart_first : (H : LevelsAndLegs) (x y : Search) (most : Cost) → IsUnderway H x → IsUnderway H y → x.stalls ≡ false → y.stalls ≡ false → IsFresh x → AreApart H x y most
-apart_first H x y most here there a b fresh = record { here = here; there = there; stalls = (a, b); apart = λ v c d h k. absurd (fresh v c h) }
 
 -- one side settles v at cost c, and takes its legs
 module _ (H : LevelsAndLegs) (x y : Search) (most : Cost) (m : AreApart H x y most) (q : List (Option Cost)) (v : ℕ) (c : Cost)
@@ -79,6 +76,7 @@ module _ (H : LevelsAndLegs) (x y : Search) (most : Cost) (m : AreApart H x y mo
     here = u;
     there = m.there;
     stalls = (same.stalls ∙ m.stalls.0, m.stalls.1);
+    limits = (same.most ∙ m.limits.0, m.limits.1);
     apart = λ w a b h k. elim (popped_settled _ _ _ _ _ m.here.search v c l.has l.least (key_within x.queue v c l.has) w a
         (subst (λ r. IsSettled x.costs.items r w a) e (settled w a h))) [
           | inl was ↦ m.apart w a b was k
@@ -120,12 +118,12 @@ joined_covers H k x y s t most up down xs yt j =
     (j.0, cost_sum rise.0 fall.0, (rise.0, fall.0, rise.1, fall.1, refl), IsAtMost_trans _ (cost_sum j.1 j.2) _ (IsAtMost-cost_sum rise.0 j.1 fall.0 j.2 rise.2 fall.2) j.5)
 
 -- a node that a search would reach within the bound is settled, where all that is left is above it
-settled_within : (H : LevelsAndLegs) (x : Search) (most : Cost) (side : Side) (s m : ℕ) (a : Cost) → IsUnderway H x → x.stalls ≡ false → IsPastCost x.queue most → x.side ≡ side → x.source ≡ s →
+settled_within : (H : LevelsAndLegs) (x : Search) (most : Cost) (side : Side) (s m : ℕ) (a : Cost) → IsUnderway H x → x.stalls ≡ false → x.most ≡ 2 ^ 60 → IsPastCost x.queue most → x.side ≡ side → x.source ≡ s →
     IsLeastUpwardPath (rows_of H side) s m a → IsAtMost a most → (d : Cost) × IsSettled x.costs.items x.queue m d × IsAtMost d a
-settled_within H x most side s m a u off past is from least le =
+settled_within H x most side s m a u off all past is from least le =
     let is_there = subst (λ q. IsLeastUpwardPath (rows_of H q) s m a) (sym is) least in
     let there = subst (λ q. IsLeastUpwardPath (rows_of H x.side) q m a) (sym from) is_there in
-    let end = matched (rows_of H x.side) x.source _ x.costs.items x.queue u.search m a there.weight (λ w d k. then_below a most d le (past w d k)) (λ w e legs idle p q. never_idle H x off w e idle)
+    let end = matched (rows_of H x.side) x.source _ x.costs.items x.queue u.search m a (let light = there.weight in omega arith) (λ w d k. then_below a most d le (past w d k)) (λ w e legs idle p q. never_idle H x off w e idle)
     there.path.0 there.path.1 (subst (λ q. IsAtMost q a) (sym there.path.2) (IsAtMost_refl a)) in
     (end.0, end.1, subst (IsAtMost end.0) there.path.2 end.2)
 
@@ -138,8 +136,8 @@ apart_covers H x y s t most up down xs yt m px py w =
     let sum : IsAtMost (cost_sum a b) most = subst (λ q. IsAtMost q most) (sym w.2.4) w.3 in
     let low : IsAtMost a most = IsAtMost_trans a (cost_sum a b) most (IsAtMost-cost_sum_self a b) sum in
     let right : IsAtMost b (cost_sum a b) = subst (IsAtMost b) (cost_sum_comm b a) (IsAtMost-cost_sum_self b a) in
-    let here = settled_within H x most Up s w.0 a m.here m.stalls.0 px up xs w.2.2 low in
-    let there = settled_within H y most Down t w.0 b m.there m.stalls.1 py down yt w.2.3 (IsAtMost_trans b (cost_sum a b) most right sum) in
+    let here = settled_within H x most Up s w.0 a m.here m.stalls.0 m.limits.0 px up xs w.2.2 low in
+    let there = settled_within H y most Down t w.0 b m.there m.stalls.1 m.limits.1 py down yt w.2.3 (IsAtMost_trans b (cost_sum a b) most right sum) in
     IsBelow_not most (cost_sum here.0 there.0) (m.apart w.0 here.0 there.0 here.1 there.1)
     (IsAtMost_trans _ (cost_sum a b) _ (IsAtMost-cost_sum here.0 a there.0 b here.2 there.2) sum)
 

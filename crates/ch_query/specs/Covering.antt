@@ -1,5 +1,5 @@
 -- Two searches that look for a way up and down within a bound.
-use Rattle.std.specs.Prelude.{◌≡◌, ◌≢◌, ℕ, ◌<◌, Contains, Bool, true, false, List, Option, Some}
+use Rattle.std.specs.Prelude.{◌≡◌, ◌≢◌, ℕ, ◌^◌, ◌<◌, Contains, Bool, true, false, List, Option, Some}
 use Rattle.ch_graph.specs.declared.cost.Cost.{Cost}
 use Rattle.ch_graph.specs.Cost.{IsAtMost, IsBelow, cost_sum, cost_at}
 use Rattle.ch_contract.specs.Hierarchy.{LevelsAndLegs, nodes_of}
@@ -42,9 +42,10 @@ abbrev pub AreJoined : LevelsAndLegs → Search → Search → Cost → Type 0
 AreJoined H x y most =
     (v : ℕ) × (a b : Cost) × IsUpwardCost (rows_of H x.side) x.source v a × IsUpwardCost (rows_of H y.side) y.source v b × IsAtMost (cost_sum a b) most
 
--- two searches underway that stall nowhere, and each node that both settled costs more than this together
+-- two searches underway within the limits alone that stall nowhere, and each node that both settled costs more than this together
 pub record AreApart (H : LevelsAndLegs) (x y : Search) (most : Cost) : Type 0 where
   pub here : IsUnderway H x
   pub there : IsUnderway H y
   pub stalls : (x.stalls ≡ false) × (y.stalls ≡ false)
+  pub limits : (x.most ≡ 2 ^ 60) × (y.most ≡ 2 ^ 60)
   pub apart : (v : ℕ) (a b : Cost) → IsSettled x.costs.items x.queue v a → IsSettled y.costs.items y.queue v b → IsBelow most (cost_sum a b)

@@ -260,7 +260,7 @@ fn refused_in_turn(rt: HostRuntime) -> Result<(), Fail> {
         panic!(rt; "no route");
     };
     assert_eq!(rt; found.arcs.len(), 4);
-    let up = again!(spread(alloc, &ring, &mut scratch, 0, Side::Up));
+    let up = again!(spread(alloc, &ring, &mut scratch, 0, Side::Up, None));
     expect_spread(&rt, &up, &[(0, 0), (1, 1), (2, 2), (3, 3), (4, 4)]);
     let queries = [(4, 3), (2, 1)];
     for workers in [1, 2] {
