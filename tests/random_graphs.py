@@ -4,9 +4,11 @@
   random_graphs.py [GRAPHS [SEED]]
 
 Weights of 0, parallel arcs, loops, unreachable parts and weights up to the limit are among them (300 graphs, seed 1). For each graph
-and for 1 and 3 workers, 1 and 5 hops: `dist`, `dist --routes` and `table`; and `dist --plain`. Distances are those of Dijkstra's
-algorithm over pairs of weight and number of arcs, each route is a walk of the graph of that weight and that number of arcs, and all
-runs of one kind write the same bytes. The last line is 'N passed, N failed', of graphs.
+and for 1 and 3 workers, 1 and 5 hops: `dist`, `dist --routes` and `table`, also within a limit; `save`, and the same by the saved
+hierarchy; and `dist --plain`. Distances are those of Dijkstra's algorithm over pairs of weight and number of arcs, each route is a
+walk of the graph of that weight and that number of arcs, all runs of one kind write the same bytes, and an independent checker finds
+no fault in what is saved. A hierarchy that this script makes by an order of its own is accepted, and gives the same distances.
+The last line is 'N passed, N failed', of graphs.
 """
 import collections
 import heapq
@@ -18,6 +20,8 @@ import sys
 import tempfile
 from concurrent.futures import ThreadPoolExecutor
 
+import checking
+from reading import read
 from routes import check_route
 
 ROOT = pathlib.Path(__file__).resolve().parent.parent
@@ -66,6 +70,17 @@ def check_text(arcs, wanted, text):
     assert next(lines, None) is None, "lines are left"
 
 
+def check_saved(nodes, arcs, text):
+    """The hierarchy is right for the graph, and its lines stand in the order that `save` has."""
+    _, (order, legs) = read("saved", text.encode(), nodes)
+    order = [node for node, in order]
+    assert checking.first_fault(nodes, arcs, order, legs) is None, text
+    level = checking.levels_of(order)
+    place = {True: lambda leg: (level[leg[0]], 0, leg[1]), False: lambda leg: (level[leg[1]], 1, leg[0])}
+    legs.sort(key=lambda leg: place[level[leg[0]] < level[leg[1]]](leg))
+    assert text == checking.text_of(nodes, order, legs), text
+
+
 class Folder:
     """The files of one graph, and runs of the program on them."""
 
@@ -74,7 +89,11 @@ class Folder:
 
     def write(self, name, problem, letter, items):
         lines = [f"p {problem} {len(items)}", *(" ".join(map(str, (letter, *item))) for item in items)]
-        (self.path / name).write_text("\n".join(lines) + "\n")
+        self.save(name, "\n".join(lines) + "\n")
+
+    def save(self, name, text):
+        (self.path / name).write_text(text)
+        return text
 
     def run(self, tool, *words):
         done = subprocess.run([PROGRAM, tool, *words], cwd=self.path, capture_output=True, text=True)
@@ -82,35 +101,71 @@ class Folder:
         return done.stdout
 
 
+class Case:
+    """A random graph with queries and lists, and what is owed for them."""
+
+    def __init__(self, seed):
+        draw = random.Random(seed)
+        self.nodes, self.arcs = drawn(draw)
+        ahead = collections.defaultdict(list)
+        for start, end, weight in self.arcs:
+            ahead[start].append((end, weight))
+        self.costs = {source: least_costs(source, ahead) for source in range(1, self.nodes + 1)}
+        self.queries = [(draw.randint(1, self.nodes), draw.randint(1, self.nodes)) for _ in range(draw.choice((0, 1, 40)))]
+        self.lists = [[(draw.randint(1, self.nodes),) for _ in range(draw.choice((0, 1, 12)))] for _ in range(2)]
+        self.limit = draw.choice([0, LIMIT, *(weight for known in self.costs.values() for weight, _ in known.values())])
+        self.order = draw.sample(range(1, self.nodes + 1), self.nodes)
+
+    def answers(self):
+        """Each query with the least cost, or None where there is no walk."""
+        return [(start, end, self.costs[start].get(end)) for start, end in self.queries]
+
+    def distances(self):
+        return "".join(f"d {start} {end} {cost[0] if cost else '-'}\n" for start, end, cost in self.answers())
+
+    def cell(self, source, target, most):
+        cost = self.costs[source].get(target)
+        return str(cost[0]) if cost and cost[0] <= most else "-"
+
+    def table(self, most):
+        rows = [["t", str(source), *(self.cell(source, target, most) for target, in self.lists[1])] for source, in self.lists[0]]
+        return "".join(" ".join(row) + "\n" for row in rows)
+
+    def write(self, folder):
+        folder.write("graph.gr", f"sp {self.nodes}", "a", self.arcs)
+        folder.write("queries.p2p", "aux sp p2p", "q", self.queries)
+        folder.write("from.ss", "aux sp ss", "s", self.lists[0])
+        folder.write("to.ss", "aux sp ss", "s", self.lists[1])
+
+
+def check_runs(case, folder, *options):
+    """The distances and tables of runs with these options are right; gives the text of routes."""
+    lists = ["graph.gr", "from.ss", "to.ss"]
+    assert folder.run("dist", *options, "graph.gr", "queries.p2p") == case.distances()
+    assert folder.run("table", *options, *lists) == case.table(LIMIT)
+    assert folder.run("table", "--within", str(case.limit), *options, *lists) == case.table(case.limit)
+    text = folder.run("dist", "--routes", *options, "graph.gr", "queries.p2p")
+    check_text(set(case.arcs), case.answers(), text)
+    return text
+
+
 def check_graph(seed):
-    draw = random.Random(seed)
-    nodes, arcs = drawn(draw)
-    ahead = collections.defaultdict(list)
-    for start, end, weight in arcs:
-        ahead[start].append((end, weight))
-    costs = {source: least_costs(source, ahead) for source in range(1, nodes + 1)}
-    queries = [(draw.randint(1, nodes), draw.randint(1, nodes)) for _ in range(draw.choice((0, 1, 40)))]
-    lists = [[(draw.randint(1, nodes),) for _ in range(draw.choice((0, 1, 12)))] for _ in range(2)]
-    wanted = [(start, end, costs[start].get(end)) for start, end in queries]
-    distances = "".join(f"d {start} {end} {cost[0] if cost else '-'}\n" for start, end, cost in wanted)
-    rows = [["t", source, *(costs[source].get(target, ["-"])[0] for target, in lists[1])] for source, in lists[0]]
+    case = Case(seed)
     with tempfile.TemporaryDirectory() as kept:
         folder = Folder(kept)
-        folder.write("graph.gr", f"sp {nodes}", "a", arcs)
-        folder.write("queries.p2p", "aux sp p2p", "q", queries)
-        folder.write("from.ss", "aux sp ss", "s", lists[0])
-        folder.write("to.ss", "aux sp ss", "s", lists[1])
+        case.write(folder)
+        assert folder.run("dist", "--plain", "graph.gr", "queries.p2p") == case.distances()
         texts = set()
-        assert folder.run("dist", "--plain", "graph.gr", "queries.p2p") == distances
         for workers, hops in ((1, 1), (1, 5), (3, 1), (3, 5)):
-            options = ["--workers", str(workers), "--piece", "3", "--hops", str(hops)]
-            assert folder.run("dist", *options, "graph.gr", "queries.p2p") == distances
-            texts.add((hops, folder.run("dist", "--routes", *options, "graph.gr", "queries.p2p")))
-            table = folder.run("table", *options, "graph.gr", "from.ss", "to.ss")
-            assert [line.split() for line in table.splitlines()] == [[str(cell) for cell in row] for row in rows]
-    assert len(texts) == 2, "the routes depend on the number of workers"
-    for _, text in texts:
-        check_text(set(arcs), wanted, text)
+            options = ["--workers", str(workers), "--piece", "3"]
+            saved = folder.save("saved.ch", folder.run("save", *options, "--hops", str(hops), "graph.gr"))
+            check_saved(case.nodes, case.arcs, saved)
+            texts.add((hops, saved, check_runs(case, folder, *options, "--hops", str(hops))))
+            texts.add((hops, saved, check_runs(case, folder, *options, "--saved", "saved.ch")))
+        assert len(texts) == 2, "a text depends on the number of workers, or on whether the hierarchy was saved"
+        own = checking.contracted(case.nodes, case.arcs, case.order)
+        folder.save("own.ch", checking.text_of(case.nodes, case.order, own))
+        check_runs(case, folder, "--saved", "own.ch")
 
 
 def outcome(seed):

@@ -4,7 +4,7 @@ use Rattle.std.specs.Box.{box_value}
 use Rattle.std.specs.Prelude.{Box, option_map}
 use Rattle.std.specs.Str.Parse.{ParsesUnsigned}
 use Rattle.clap.specs.Matches.{subcommand_name_of}
-use Rattle.clap.specs.Words.{App, HasMatchesOf, IsAmong, Kinds, ReadsOne, Row, Text, fault_of, is_simple_and_free, one_text, rows_of, subcommand_rows, subcommand_rows_of}
+use Rattle.clap.specs.Words.{App, HasMatchesOf, IsAmong, Kinds, ReadsOne, Row, Text, TriesOne, fault_of, is_simple_and_free, one_text, rows_of, subcommand_rows, subcommand_rows_of}
 use Rattle.clap.specs.declared.error.kind.ErrorKind.{ErrorKind}
 use Rattle.clap.specs.declared.error.kind.ErrorKind.TheVariants.{OutOfMemory}
 use Rattle.clap.specs.declared.parser.matches.ArgMatches.{ArgMatches}
@@ -48,6 +48,26 @@ is_number {E} gives found name read number parses none value is =
         let reads : ReadsOne gives text (Some number) = subst (λ (r : Option ℕ). ReadsOne gives text r) is (value text refl) in
         let parsed = parses text (Ok number) reads in
         ap (λ n. Some n) parsed.1
+
+-- the limit that is read of the text given under a name is the number that it writes, and none where none is given
+pub is_limit : {E : Type 0} (gives : List ℕ → Result ℕ E → Type 0) (found : Found) (name : Text) (read : Result (Option ℕ) E) (limit : Option ℕ)
+    → ((text : List ℕ) (r : Result ℕ E) → gives text r → ParsesUnsigned 64 10 text r) → (one_text found name ≡ None → read ≡ Ok None)
+    → ((text : List ℕ) → one_text found name ≡ Some text → TriesOne gives text read) → read ≡ Ok limit
+    → limit ≡ number_in (rows_of found) name
+is_limit {E} gives found name read limit parses none value is =
+    let P : Option Text → Type 0 = λ text. limit ≡ option_map number_of text in
+    subst P (one_text-rows found name) (at (one_text found name) none value)
+  where
+    written : (text : Text) (limit : Option ℕ) → TriesOne gives text (Ok limit) → limit ≡ Some (number_of text)
+    written text None tries = absurd tries
+    written text (Some number) tries = ap (λ n. Some n) (parses text (Ok number) tries).1
+
+    at : (text : Option Text) → (text ≡ None → read ≡ Ok None) → ((t : List ℕ) → text ≡ Some t → TriesOne gives t read)
+        → limit ≡ option_map number_of text
+    at None none value =
+        let both : Ok limit ≡ Ok None = sym is ∙ none refl in
+        cc
+    at (Some text) none value = written text limit (subst (λ (r : Result (Option ℕ) E). TriesOne gives text r) is (value text refl))
 
 -- what clap says of the faults of a command of this form holds of what is wrong with the words
 pub of-faults : (P : Kinds → Type 0) (form : App) (words : List Text) → form ≡ chtab_form → (is_simple_and_free form ≡ true → P (fault_of form words)) → P (faults_of words)

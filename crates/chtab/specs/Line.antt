@@ -1,5 +1,5 @@
 -- The words of the command line, and what they say.
-use Rattle.std.specs.Prelude.{◌≡◌, ◌≢◌, ℕ, pos, ◌≤◌, [], ◌∷◌, ◌++◌, Bool, List, Option, Some, None, true, false, codes, fold, length, map, option_map, ⊤, vec_len}
+use Rattle.std.specs.Prelude.{◌≡◌, ◌≢◌, ℕ, pos, ◌^◌, ◌≤◌, [], ◌∷◌, ◌++◌, Bool, ◌&&◌, not, List, Option, Some, None, IfSome, is_some, true, false, codes, fold, length, map, option_map, ⊤, vec_len}
 use Rattle.std.specs.Str.Parse.{digits_value, without_leading_plus}
 use Rattle.std.specs.String.{string_bytes}
 use Rattle.clap.specs.Words.{App, IsAmong, Kinds, Row, Rule, Text, fault_of, first_of, new_app, new_rule, one_of, subcommand_of, with_rule, with_subcommand}
@@ -13,17 +13,19 @@ use Rattle.ch_work.specs.Plan.{Division, IsWithinLimits}
 use Rattle.chtab.specs.declared.line.Line.{Line}
 use Rattle.chtab.specs.declared.line.LineFault.{LineFault}
 use Rattle.chtab.specs.declared.line.Tool.{Tool}
-use Rattle.chtab.specs.declared.line.Tool.TheVariants.{Dist, Table}
+use Rattle.chtab.specs.declared.line.Tool.TheVariants.{Dist, Table, Save}
 
 -- the word that names a tool
 abbrev pub name_of : Tool → Text
 name_of Dist = codes "dist"
 name_of Table = codes "table"
+name_of Save = codes "save"
 
 -- the files of a tool, in their order
 abbrev pub file_names : Tool → List Text
 file_names Dist = codes "GRAPH" ∷ codes "QUERIES" ∷ []
 file_names Table = codes "GRAPH" ∷ codes "SOURCES" ∷ codes "TARGETS" ∷ []
+file_names Save = codes "GRAPH" ∷ []
 
 -- a flag
 abbrev pub flag_rule : Text → Rule
@@ -34,22 +36,35 @@ abbrev pub number_rule : Text → ℕ → Text → Rule
 number_rule name most default =
     record (new_rule name) { long = Some name; action = Some Set; value_names = 1; parser = Some (parser.Signed (pos 1) (pos most)); defaults = default ∷ [] }
 
+-- an option: a number from 0 to the most, which may be left out
+abbrev pub limit_rule : Text → ℕ → Rule
+limit_rule name most = record (new_rule name) { long = Some name; action = Some Set; value_names = 1; parser = Some (parser.Unsigned 0 most) }
+
+-- an option: a file, which may be left out
+abbrev pub file_option_rule : Text → Rule
+file_option_rule name = record (new_rule name) { long = Some name; action = Some Set; value_names = 1 }
+
 -- a file that must be named
 abbrev pub file_rule : Text → Rule
 file_rule name = record (new_rule name) { required = true; action = Some Set }
 
--- `[--plain] [--routes]`, which `dist` alone reads
-abbrev pub flag_rules : Tool → List Rule
-flag_rules Dist = flag_rule (codes "plain") ∷ flag_rule (codes "routes") ∷ []
-flag_rules Table = []
+-- `[--saved FILE]`
+abbrev pub saved_rule : Rule
+saved_rule = file_option_rule (codes "saved")
+
+-- `[--plain] [--routes] [--saved FILE]` of `dist`, and `[--within R] [--saved FILE]` of `table`
+abbrev pub own_rules : Tool → List Rule
+own_rules Dist = flag_rule (codes "plain") ∷ flag_rule (codes "routes") ∷ saved_rule ∷ []
+own_rules Table = limit_rule (codes "within") (2 ^ 60) ∷ saved_rule ∷ []
+own_rules Save = []
 
 -- `[--workers N] [--piece K] [--hops H]`, which each tool reads
 abbrev pub number_rules : List Rule
 number_rules = number_rule (codes "workers") 64 (codes "1") ∷ number_rule (codes "piece") 1048576 (codes "64") ∷ number_rule (codes "hops") 16 (codes "5") ∷ []
 
--- the words after a tool's name: its flags, its numbers and its files
+-- the words after a tool's name: its own options, its numbers and its files
 abbrev pub form_of : Tool → App
-form_of tool = fold with_rule (new_app (name_of tool)) (flag_rules tool ++ number_rules ++ map file_rule (file_names tool))
+form_of tool = fold with_rule (new_app (name_of tool)) (own_rules tool ++ number_rules ++ map file_rule (file_names tool))
 
 -- the program's own words, before its tools are added
 abbrev pub program_form : App
@@ -57,7 +72,7 @@ program_form = on_top (λ s. record s { no_binary_name = true; subcommand_requir
 
 -- the words after the program's name: a tool, and its words
 abbrev pub chtab_form : App
-chtab_form = with_subcommand (with_subcommand program_form (form_of Dist).top) (form_of Table).top
+chtab_form = with_subcommand (with_subcommand (with_subcommand program_form (form_of Dist).top) (form_of Table).top) (form_of Save).top
 
 -- what is wrong with the words, as clap tells it: nothing, or the kinds of fault that come first
 abbrev pub faults_of : List Text → Kinds
@@ -80,7 +95,7 @@ IsFlagIn given name = IsFlag (one_of name given)
 abbrev pub number_of : Text → ℕ
 number_of text = digits_value 10 (without_leading_plus text)
 
--- the number given as the option of this name, or its default
+-- the number given as the option of this name, or its default where it has one
 abbrev pub number_in : List Row → Text → Option ℕ
 number_in given name = option_map number_of (one_of name given)
 
@@ -88,10 +103,11 @@ number_in given name = option_map number_of (one_of name given)
 abbrev pub files_in : List Row → List Text → List (Option Text)
 files_in given = map (λ name. first_of name given)
 
--- the flags of `dist` are as given, and those of `table` are off
+-- the flags of `dist` are as given, and the other tools have none
 abbrev pub AreFlagsIn : List Row → Tool → Options → Type 0
 AreFlagsIn given Dist options = IsFlagIn given (codes "plain") options.plain × IsFlagIn given (codes "routes") options.routes
 AreFlagsIn given Table options = (options.plain ≡ false) × (options.routes ≡ false)
+AreFlagsIn given Save options = (options.plain ≡ false) × (options.routes ≡ false)
 
 -- workers and pieces are as given, and a step's work is shared from 64 items on
 pub record IsPlanIn (given : List Row) (plan : Division) : Type 0 where
@@ -103,7 +119,9 @@ pub record IsPlanIn (given : List Row) (plan : Division) : Type 0 where
 pub record IsGivenBy (given : List Row) (line : Line) : Type 0 where
   pub flags : AreFlagsIn given line.tool line.options
   pub hops : Some line.options.hops ≡ number_in given (codes "hops")
+  pub limit : line.options.within ≡ number_in given (codes "within")
   pub plan : IsPlanIn given line.plan
+  pub saved : option_map string_bytes line.saved ≡ first_of (codes "saved") given
   pub named : map (λ file. Some (string_bytes file)) line.files.items ≡ files_in given (file_names line.tool)
 
 -- nothing is wrong with the words, and they name the line's tool and give it what the line holds
@@ -113,11 +131,16 @@ pub record IsReadFrom (words : List Text) (line : Line) : Type 0 where
   pub matched : given_by words ≡ Some (name_of line.tool, given)
   pub read : IsGivenBy given line
 
+-- the run reads a saved hierarchy: one is named, and plain distances take none
+abbrev pub reads_saved : Line → Bool
+reads_saved line = is_some line.saved && not line.options.plain
+
 -- the numbers of a line are within the program's limits, and it names each file of its tool
 pub record IsAllowed (line : Line) : Type 0 where
   pub files : vec_len line.files ≡ length (file_names line.tool)
   pub some_hops : 1 ≤ line.options.hops
   pub few_hops : line.options.hops ≤ 16
+  pub limit : IfSome line.options.within (λ most. most ≤ 2 ^ 60)
   pub plan : IsWithinLimits line.plan
 
 -- the fault is told for an error of this kind

@@ -21,6 +21,8 @@ const MOST_WORKERS: u32 = 64;
 const MOST_PIECE: u32 = 1_048_576;
 /// The most legs of a witness path.
 const MOST_HOPS: u32 = 16;
+/// The most weight that a limit on cells may have.
+const MOST_LIMIT: u64 = 1 << 60;
 
 /// What the program does.
 #[derive(Clone, Copy, Debug, PartialEq, Eq)]
@@ -29,6 +31,8 @@ pub enum Tool {
     Dist,
     /// Writes the distances from each source to each target.
     Table,
+    /// Writes the hierarchy of a graph.
+    Save,
 }
 
 /// What the words say.
@@ -37,6 +41,8 @@ pub struct Line {
     pub tool: Tool,
     /// The files, in the order of the arguments.
     pub files: Vec<String>,
+    /// The file of a saved hierarchy, which is read in place of building one. `save` has none.
+    pub saved: Option<String>,
     pub options: Options,
     pub plan: Plan,
 }
@@ -125,13 +131,15 @@ fn tool_of(name: &str) -> Option<Tool>
     match name {
         "dist" => Some(Tool::Dist),
         "table" => Some(Tool::Table),
+        "save" => Some(Tool::Save),
         _ => None,
     }
 }
 
 /// Reads the words after the program's name:
-/// `dist [--plain] [--routes] [--workers N] [--piece K] [--hops H] GRAPH QUERIES` or
-/// `table [--workers N] [--piece K] [--hops H] GRAPH SOURCES TARGETS`.
+/// `dist [--plain] [--routes] [--saved FILE] [--workers N] [--piece K] [--hops H] GRAPH QUERIES`,
+/// `table [--within R] [--saved FILE] [--workers N] [--piece K] [--hops H] GRAPH SOURCES TARGETS` or
+/// `save [--workers N] [--piece K] [--hops H] GRAPH`.
 ///
 /// # Errors
 /// `Help` where the words ask for it; `Refused` where they aren't of this form; `NoMemory`.

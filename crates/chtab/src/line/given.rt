@@ -1,12 +1,12 @@
 //! What the words give the arguments of a tool.
 
-ghost use Rattle.std.specs.Prelude.{◌≡◌, ◌≤◌, IfOk, Some, codes, map};
+ghost use Rattle.std.specs.Prelude.{◌≡◌, ◌^◌, ◌≤◌, IfOk, IfSome, Some, codes, map, option_map};
 ghost use Rattle.std.specs.String.{string_bytes};
 ghost use Rattle.clap.specs.Words.{first_of, found_of, rows_of};
 ghost use Rattle.ch_work.specs.Plan.{IsWithinLimits};
 ghost use Rattle.chtab.specs.Line.{AreFlagsIn, IsAllowed, IsFlagIn, IsGivenBy, IsPlanIn, file_names, files_in, number_in};
 
-use super::{Line, MOST_HOPS, MOST_PIECE, MOST_WORKERS, Tool};
+use super::{Line, MOST_HOPS, MOST_LIMIT, MOST_PIECE, MOST_WORKERS, Tool};
 use ch_run::{Options, Plan};
 use clap::ArgMatches;
 use std::alloc::{AllocError, Global};
@@ -14,12 +14,26 @@ use std::alloc::{AllocError, Global};
 /// From how many items on a step's work is shared.
 const WIDE: u32 = 64;
 
+/// The file of this name, where one is given.
+fn file_given(
+    alloc: Global,
+    matches: &ArgMatches<'_>,
+    name: &str,
+) -> Result<Option<String>, AllocError>
+    ensures { IfOk result (λ file. option_map string_bytes file ≡ first_of name.now (rows_of (found_of matches.now))) }
+{
+    match matches.get_str(name) {
+        Some(file) => Ok(Some(String::from_str(alloc, file)?)),
+        None => Ok(None),
+    }
+}
+
 /// The file of this name. Clap has refused words that leave it out.
 fn file_of(alloc: Global, matches: &ArgMatches<'_>, name: &str) -> Result<String, AllocError>
     ensures { IfOk result (λ file. Some (string_bytes file) ≡ first_of name.now (rows_of (found_of matches.now))) }
 {
-    match matches.get_str(name) {
-        Some(file) => String::from_str(alloc, file),
+    match file_given(alloc, matches, name)? {
+        Some(file) => Ok(file),
         None => Err(AllocError),
     }
 }
@@ -36,6 +50,7 @@ fn files_of(alloc: Global, tool: Tool, matches: &ArgMatches<'_>) -> Result<Vec<S
             files.push(file_of(alloc, matches, "SOURCES")?)?;
             files.push(file_of(alloc, matches, "TARGETS")?)?;
         }
+        Tool::Save => {}
     }
     Ok(files)
 }
@@ -47,6 +62,18 @@ fn number_of(matches: &ArgMatches<'_>, name: &str, most: u32) -> Result<u32, All
 {
     match matches.get_one(name) {
         Some(number) if 1 <= number && number <= most => Ok(number),
+        _ => Err(AllocError),
+    }
+}
+
+/// The number of this name, where one is given. Clap has refused words that give one above `most`.
+fn limit_given(matches: &ArgMatches<'_>, name: &str, most: u64) -> Result<Option<u64>, AllocError>
+    ensures range { IfOk result (λ limit. IfSome limit (λ number. number ≤ most)) }
+    ensures given { IfOk result (λ limit. limit ≡ number_in (rows_of (found_of matches.now)) name.now) }
+{
+    match matches.try_get_one::<u64>(name) {
+        Ok(None) => Ok(None),
+        Ok(Some(number)) if number <= most => Ok(Some(number)),
         _ => Err(AllocError),
     }
 }
@@ -68,20 +95,23 @@ fn plan_of(matches: &ArgMatches<'_>) -> Result<Plan, AllocError>
     Ok(Plan::new(workers, piece, WIDE))
 }
 
-/// The options of a tool. `table` has no flags.
+/// The options of a tool. `dist` alone has flags.
 fn options_of(tool: Tool, matches: &ArgMatches<'_>) -> Result<Options, AllocError>
     ensures range { IfOk result (λ options. (1 ≤ options.hops) × (options.hops ≤ 16)) }
     ensures hops { IfOk result (λ options. Some options.hops ≡ number_in (rows_of (found_of matches.now)) (codes "hops")) }
     ensures flags { IfOk result (AreFlagsIn (rows_of (found_of matches.now)) tool) }
+    ensures limit { IfOk result (λ options. options.within ≡ number_in (rows_of (found_of matches.now)) (codes "within")) }
+    ensures small_limit { IfOk result (λ options. IfSome options.within (λ most. most ≤ 2 ^ 60)) }
 {
     let (plain, routes) = match tool {
         Tool::Dist => (flag_of(matches, "plain"), flag_of(matches, "routes")),
-        Tool::Table => (false, false),
+        Tool::Table | Tool::Save => (false, false),
     };
     Ok(Options {
         plain,
         routes,
         hops: number_of(matches, "hops", MOST_HOPS)?,
+        within: limit_given(matches, "within", MOST_LIMIT)?,
     })
 }
 
@@ -94,6 +124,7 @@ pub fn line_of(alloc: Global, tool: Tool, matches: &ArgMatches<'_>) -> Result<Li
     Ok(Line {
         tool,
         files: files_of(alloc, tool, matches)?,
+        saved: file_given(alloc, matches, "saved")?,
         options: options_of(tool, matches)?,
         plan: plan_of(matches)?,
     })

@@ -1,9 +1,18 @@
 use super::*;
-use std::test::Fail;
 
-fn is_refused(rt: &HostRuntime, words: &[&str], part: &str) -> bool {
-    let answer = read_words(rt.alloc(), words);
-    matches!(&answer, Err(LineFault::Refused(text)) if text.as_str().contains(part))
+mod refusals;
+
+/// The options where the words give none.
+const NONE_GIVEN: Options = Options {
+    plain: false,
+    routes: false,
+    hops: 5,
+    within: None,
+};
+
+/// The plan where the words give none.
+fn usual_plan() -> Plan {
+    Plan::new(1, 64, 64)
 }
 
 #[test]
@@ -37,10 +46,11 @@ fn flags_and_files_stand_in_any_order(rt: HostRuntime) {
         let options = Options {
             plain,
             routes,
-            hops: 5,
+            ..NONE_GIVEN
         };
         assert_eq!(rt; line.options, options);
-        assert_eq!(rt; line.plan, Plan::new(1, 64, 64));
+        assert_eq!(rt; line.plan, usual_plan());
+        assert!(rt; line.saved.is_none());
     }
 }
 
@@ -49,6 +59,8 @@ fn dist_reads_every_option(rt: HostRuntime) {
     let words = [
         "dist",
         "--routes",
+        "--saved",
+        "h",
         "--workers",
         "64",
         "--piece",
@@ -64,12 +76,13 @@ fn dist_reads_every_option(rt: HostRuntime) {
     assert_eq!(rt; line.files[0].as_str(), "g");
     assert_eq!(rt; line.files[1].as_str(), "q");
     let options = Options {
-        plain: false,
         routes: true,
         hops: 16,
+        ..NONE_GIVEN
     };
     assert_eq!(rt; line.options, options);
     assert_eq!(rt; line.plan, Plan::new(64, 1, 64));
+    assert!(rt; is_saved(&line, "h"));
 }
 
 #[test]
@@ -105,138 +118,90 @@ fn table_reads_three_files_and_the_numbers(rt: HostRuntime) {
         assert_eq!(rt; line.files[0].as_str(), "g");
         assert_eq!(rt; line.files[1].as_str(), "s");
         assert_eq!(rt; line.files[2].as_str(), "t");
-        let options = Options {
-            plain: false,
-            routes: false,
-            hops,
-        };
+        let options = Options { hops, ..NONE_GIVEN };
         assert_eq!(rt; line.options, options);
         assert_eq!(rt; line.plan, plan);
+        assert!(rt; line.saved.is_none());
     }
 }
 
 #[test]
-fn numbers_outside_their_ranges_are_refused(rt: HostRuntime) {
-    let rows = [
-        ("--workers", "65", "65 is not in 1..=64"),
-        ("--workers", "0", "0 is not in 1..=64"),
-        ("--piece", "1048577", "1048577 is not in 1..=1048576"),
-        ("--piece", "0", "0 is not in 1..=1048576"),
-        ("--hops", "17", "17 is not in 1..=16"),
-        ("--hops", "0", "0 is not in 1..=16"),
-        ("--hops", "x", "invalid value 'x'"),
-        ("--workers", "1.5", "invalid value '1.5'"),
+fn table_reads_a_limit(rt: HostRuntime) {
+    let rows: [(&[&str], u64); 4] = [
+        (&["table", "--within", "8", "g", "s", "t"], 8),
+        (&["table", "g", "s", "t", "--within=0"], 0),
+        (
+            &["table", "--within", "1152921504606846976", "g", "s", "t"],
+            1 << 60,
+        ),
+        (&["table", "g", "--within", "+007", "s", "t"], 7),
     ];
-    for (name, number, part) in rows {
-        let dist = ["dist", name, number, "--routes", "g", "q"];
-        assert!(rt; is_refused(&rt, dist.as_slice(), part), "dist: {part}");
-        let table = ["table", name, number, "g", "s", "t"];
-        assert!(rt; is_refused(&rt, table.as_slice(), part), "table: {part}");
+    for (words, within) in rows {
+        let line = read_words(rt.alloc(), words).expect(&rt, "a line");
+        assert_eq!(rt; line.tool, Tool::Table);
+        assert_eq!(rt; line.files.len(), 3);
+        let options = Options {
+            within: Some(within),
+            ..NONE_GIVEN
+        };
+        assert_eq!(rt; line.options, options);
+        assert_eq!(rt; line.plan, usual_plan());
     }
 }
 
+/// Whether the line names this saved hierarchy.
+fn is_saved(line: &Line, path: &str) -> bool {
+    matches!(&line.saved, Some(saved) if saved.as_str() == path)
+}
+
 #[test]
-fn other_words_are_refused(rt: HostRuntime) {
-    let rows: [(&[&str], &str); 15] = [
-        (&[], "requires a subcommand"),
-        (&["help"], "unrecognized subcommand 'help'"),
-        (&["tables", "g", "s", "t"], "unrecognized subcommand"),
-        (&["--plain", "dist", "g", "q"], "unexpected argument"),
-        (&["dist"], "required arguments were not provided"),
-        (&["dist", "g"], "required arguments were not provided"),
-        (&["dist", "g", "q", "r"], "unexpected argument 'r'"),
-        (&["table", "g", "s"], "required arguments were not provided"),
-        (&["table", "g", "s", "t", "u"], "unexpected argument 'u'"),
+fn a_saved_hierarchy_is_named(rt: HostRuntime) {
+    let rows: [(&[&str], &str); 5] = [
+        (&["dist", "--saved", "h", "g", "q"], "h"),
+        (&["dist", "g", "q", "--saved=g"], "g"),
+        (&["dist", "--plain", "--saved", "h", "g", "q"], "h"),
         (
-            &["table", "--plain", "g", "s", "t"],
-            "unexpected argument '--plain'",
+            &["table", "g", "--saved", "h", "s", "--within", "0", "t"],
+            "h",
         ),
-        (
-            &["table", "--routes", "g", "s", "t"],
-            "unexpected argument '--routes'",
-        ),
-        (&["dist", "g", "q", "--hops"], "a value is required"),
-        (
-            &["dist", "--hops", "2", "--hops", "2", "g", "q"],
-            "cannot be used multiple times",
-        ),
-        (
-            &["dist", "--plain", "--plain", "g", "q"],
-            "cannot be used multiple times",
-        ),
-        (&["dist", "--version", "g", "q"], "unexpected argument"),
+        (&["table", "--saved=", "g", "s", "t"], ""),
     ];
-    for (words, part) in rows {
-        assert!(rt; is_refused(&rt, words, part), "{part}");
+    for (words, saved) in rows {
+        let line = read_words(rt.alloc(), words).expect(&rt, "a line");
+        assert!(rt; is_saved(&line, saved), "{saved}");
+        assert_eq!(rt; line.files[0].as_str(), "g");
     }
 }
 
 #[test]
-fn help_says_what_each_word_means(rt: HostRuntime) {
-    let rows: [(&[&str], &[&str]); 3] = [
+fn save_reads_a_graph_and_the_numbers(rt: HostRuntime) {
+    let rows: [(&[&str], u32, Plan); 2] = [
+        (&["save", "g"], 5, Plan::new(1, 64, 64)),
         (
-            &["--help"],
             &[
-                "Usage: chtab <COMMAND>",
-                "dist",
-                "table",
-                "chtab dist --routes roads.gr pairs.p2p",
-                "chtab table roads.gr depots.ss shops.ss",
+                "save",
+                "--workers",
+                "64",
+                "g",
+                "--piece",
+                "1",
+                "--hops",
+                "16",
             ],
-        ),
-        (
-            &["dist", "--help"],
-            &[
-                "Usage: chtab dist [OPTIONS] <GRAPH> <QUERIES>",
-                "--plain",
-                "ignore --routes, --workers, --piece and --hops [default: off]",
-                "--routes",
-                "in order [default: off]",
-                "--workers <N>",
-                "same for each number [default: 1]",
-                "--piece <K>",
-                "from 1 to 1048576 [default: 64]",
-                "--hops <H>",
-                "from 1 to 16 [default: 5]",
-                "Example: chtab dist --routes roads.gr pairs.p2p",
-            ],
-        ),
-        (
-            &["table", "--help"],
-            &[
-                "Usage: chtab table [OPTIONS] <GRAPH> <SOURCES> <TARGETS>",
-                "--workers <N>",
-                "--piece <K>",
-                "--hops <H>",
-                "p aux sp ss K",
-                "Example: chtab table roads.gr depots.ss shops.ss",
-            ],
+            16,
+            Plan::new(64, 1, 64),
         ),
     ];
-    for (words, parts) in rows {
-        let answer = read_words(rt.alloc(), words);
-        for part in parts {
-            let is_told =
-                matches!(&answer, Err(LineFault::Help(text)) if text.as_str().contains(part));
-            assert!(rt; is_told, "{part}");
-        }
+    for (words, hops, plan) in rows {
+        let line = read_words(rt.alloc(), words).expect(&rt, "a line");
+        assert_eq!(rt; line.tool, Tool::Save);
+        assert_eq!(rt; line.files.len(), 1);
+        assert_eq!(rt; line.files[0].as_str(), "g");
+        let options = Options { hops, ..NONE_GIVEN };
+        assert_eq!(rt; line.options, options);
+        assert_eq!(rt; line.plan, plan);
+        assert!(rt; line.saved.is_none());
     }
-}
-
-#[test]
-fn a_line_fault_has_its_text_and_status(rt: HostRuntime) -> Result<(), Fail> {
-    let help = LineFault::Help(String::from_str(rt.alloc(), "help\n")?);
-    let rows = [
-        (help, "help\n", 0),
-        (refused(rt.alloc(), "no tool\n"), "no tool\n", 2),
-        (LineFault::NoMemory, "chtab: out of memory", 3),
-    ];
-    for (fault, line, code) in &rows {
-        let text = format!(in rt.alloc(); "{fault}")?;
-        assert_eq!(rt; text.as_str(), *line);
-        assert_eq!(rt; line_status(fault), *code, "of {line}");
-    }
-    Ok(())
 }
 
 /// It holds when any one request for memory is refused: the words are then told as refused for want of memory,
@@ -246,6 +211,8 @@ fn refused_in_turn(rt: HostRuntime) {
     let words = [
         "dist",
         "--routes",
+        "--saved",
+        "h",
         "--workers",
         "64",
         "--piece",
@@ -265,4 +232,5 @@ fn refused_in_turn(rt: HostRuntime) {
     assert_eq!(rt; line.files[1].as_str(), "q");
     assert_eq!(rt; line.options.hops, 16);
     assert_eq!(rt; line.plan, Plan::new(64, 1, 64));
+    assert!(rt; is_saved(&line, "h"));
 }
