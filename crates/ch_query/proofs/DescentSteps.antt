@@ -1,5 +1,5 @@
 -- The way back, step by step.
-use Rattle.std.proofs.Common.{◌≡◌, ℕ, ◌+◌, ◌<◌, ◌≤◌, List, [], ◌∷◌, ◌++◌, map, length, Contains, Some, refl, sym, ◌∙◌, ap, subst, arith, get_or, ◌^◌, inl, inr, Vec, vec_len}
+use Rattle.std.proofs.Common.{◌≡◌, ℕ, ◌+◌, ◌<◌, ◌≤◌, List, [], ◌∷◌, ◌++◌, map, length, Contains, Some, refl, sym, ◌∙◌, ap, subst, arith, get_or, inl, inr, Vec, vec_len}
 use Rattle.std.specs.Prelude.{◌≢◌, slice_index, vec_capacity, is_some}
 use Rattle.std.specs.declared.alloc.Global.{Global}
 use Rattle.std.proofs.lemmas.List.{append_assoc, append-nil, map_push, get_or_default}
@@ -78,8 +78,8 @@ module _ (H : LevelsAndLegs) (k : IsKeptForSome H) (y : Search) (m x : ℕ) (c :
   node_within = let size = r.underway.parents.size in let lt = some_within y.costs.items x (ap is_some t.known) in omega arith
 
   module _ (ne : x ≢ y.source) where
-    light : c.weight ≤ 2 ^ 60
-    light = r.least.weight
+    light : c.weight ≤ y.most
+    light = r.underway.search.light m c r.known
 
     of : IsParent (rows_of H y.side) y.costs.items y.queue x t.cost (slice_index y.parents.items x)
     of = parent _ _ _ _ _ _ r.underway.search r.underway.parents m c light r.past r.avoids x ne t.cost t.known t.least t.tail t.path t.cheap

@@ -1,5 +1,6 @@
 -- What one side of a search knows at its end.
-use Rattle.std.proofs.Common.{◌≡◌, ℕ, ◌^◌, ◌≤◌, List, [], ◌∷◌, Option, Some, None, refl, sym, ◌∙◌, ap, subst, arith, inl, inr}
+use Rattle.std.proofs.Common.{◌≡◌, ℕ, ◌^◌, ◌<◌, ◌≤◌, List, [], ◌∷◌, Option, Some, None, refl, sym, ◌∙◌, ap, subst, arith, inl, inr}
+use Rattle.std.proofs.lemmas.Bool.{cases_lt}
 use Rattle.std.proofs.lemmas.Option.{same_Some}
 use Rattle.ch_graph.specs.declared.cost.Cost.{Cost}
 use Rattle.ch_graph.specs.Cost.{IsAtMost, IsBelow, cost_sum, no_cost, cost_at}
@@ -15,8 +16,8 @@ pub reached_least : (rows : List (List Leg)) (s m : ℕ) (a b : Cost) → IsLeas
 reached_least rows s m a b l r le =
     IsAtMost_antisymm b a le (subst (IsAtMost a) r.path.2 (l.least r.path.0 r.path.1 (subst (λ (q : Cost). q.weight ≤ 2 ^ 60) (sym r.path.2) r.weight)))
 
-module _ (rows : List (List Leg)) (s : ℕ) (Idle : ℕ → Cost → Type 0) (best queue : List (Option Cost)) (p : IsSearch rows s Idle best queue)
-    (m : ℕ) (c : Cost) (light : c.weight ≤ 2 ^ 60) (past : (x : ℕ) (d : Cost) → cost_at queue x ≡ Some d → IsBelow c d) (avoids : AvoidsIdle rows Idle m c) where
+module _ {most : ℕ} (rows : List (List Leg)) (s : ℕ) (Idle : ℕ → Cost → Type 0) (best queue : List (Option Cost)) (p : IsSearch most rows s Idle best queue)
+    (m : ℕ) (c : Cost) (light : c.weight ≤ most) (past : (x : ℕ) (d : Cost) → cost_at queue x ≡ Some d → IsBelow c d) (avoids : AvoidsIdle rows Idle m c) where
   -- a node known at no more than c is settled
   settled : (x : ℕ) (e : Cost) → cost_at best x ≡ Some e → IsAtMost e c → IsSettled best queue x e
   settled x e k le = (k, at (cost_at queue x) refl)
@@ -53,10 +54,10 @@ module _ (rows : List (List Leg)) (s : ℕ) (Idle : ℕ → Cost → Type 0) (be
       (along s no_cost legs p.start path (subst (λ q. IsAtMost q c) (sym (no_cost-cost_sum (path_cost legs))) le))
 
 -- at the end of a search without idle nodes each cost is the least
-module _ (rows : List (List Leg)) (s : ℕ) (Idle : ℕ → Cost → Type 0) (best queue : List (Option Cost)) (p : IsSearch rows s Idle best queue)
+module _ {most : ℕ} (rows : List (List Leg)) (s : ℕ) (Idle : ℕ → Cost → Type 0) (best queue : List (Option Cost)) (p : IsSearch most rows s Idle best queue)
     (never : (v : ℕ) (c : Cost) → Idle v c → ⊥) (done : IsEmpty queue) where
-  -- each upward path is matched
-  pub covered : (m : ℕ) (legs : List Leg) → IsUpwardPath rows s m legs → (path_cost legs).weight ≤ 2 ^ 60 → (a : Cost) × IsSettled best queue m a × IsAtMost a (path_cost legs)
+  -- each upward path that is no heavier is matched
+  pub covered : (m : ℕ) (legs : List Leg) → IsUpwardPath rows s m legs → (path_cost legs).weight ≤ most → (a : Cost) × IsSettled best queue m a × IsAtMost a (path_cost legs)
   covered m legs path light = matched rows s Idle best queue p m (path_cost legs) light (λ x d e. absurd (done x d e)) (λ x e k idle q le. never x e idle)
       legs path (IsAtMost_refl (path_cost legs))
 
@@ -65,13 +66,16 @@ module _ (rows : List (List Leg)) (s : ℕ) (Idle : ℕ → Cost → Type 0) (be
   known_least m c e = record {
     path = (p.sound m c e).path;
     weight = (p.sound m c e).weight;
-    least = λ legs path light. let r = covered m legs path light in subst (λ q. IsAtMost q (path_cost legs)) (same_Some _ _ (sym r.1.0 ∙ e)) r.2;
+    least = λ legs path _. elim (cases_lt most (path_cost legs).weight) [
+      | inl heavy ↦ let light = p.light m c e in (omega arith, λ same. omega arith)
+      | inr light ↦ let r = covered m legs path light in subst (λ q. IsAtMost q (path_cost legs)) (same_Some _ _ (sym r.1.0 ∙ e)) r.2
+    ];
   }
 
-  -- and the least is known
-  pub least_known : (m : ℕ) (c : Cost) → IsLeastUpwardPath rows s m c → cost_at best m ≡ Some c
-  least_known m c h =
-      let light : (path_cost h.path.0).weight ≤ 2 ^ 60 = subst (λ (q : Cost). q.weight ≤ 2 ^ 60) (sym h.path.2) h.weight in
+  -- and the least is known, where it is no heavier
+  pub least_known : (m : ℕ) (c : Cost) → IsLeastUpwardPath rows s m c → c.weight ≤ most → cost_at best m ≡ Some c
+  least_known m c h low =
+      let light : (path_cost h.path.0).weight ≤ most = subst (λ (q : Cost). q.weight ≤ most) (sym h.path.2) low in
       let r = covered m h.path.0 h.path.1 light in
       let k = known_least m r.0 r.1.0 in
       let le : IsAtMost r.0 c = subst (IsAtMost r.0) h.path.2 r.2 in

@@ -53,38 +53,51 @@ reached_arcs H k side s v c r =
     omega arith
 
 -- what a search of the program asks for, part by part
-ExpandingOf : LevelsAndLegs → Side → ℕ → Bool → List (Option Cost) → List (Option Cost) → ℕ → Cost → Type 0
-ExpandingOf H side s stalls best queue v c = IsExpanding (rows_of H side) s (OrNode (IsStalled (rows_of H side) (back_of H side stalls) s) v) best queue v c
+ExpandingOf : LevelsAndLegs → ℕ → Side → ℕ → Bool → List (Option Cost) → List (Option Cost) → ℕ → Cost → Type 0
+ExpandingOf H most side s stalls best queue v c = IsExpanding most (rows_of H side) s (OrNode (IsStalled (rows_of H side) (back_of H side stalls) s) v) best queue v c
 
 -- it is asked of equal parts too
-moved : (H : LevelsAndLegs) (side side' : Side) (s s' : ℕ) (stalls stalls' : Bool) (best queue : List (Option Cost)) (v : ℕ) (c : Cost) → side' ≡ side → s' ≡ s →
-    stalls' ≡ stalls → ExpandingOf H side s stalls best queue v c → ExpandingOf H side' s' stalls' best queue v c
-moved H side side' s s' stalls stalls' best queue v c a b d x =
-    subst (λ q. ExpandingOf H side' s' q best queue v c) (sym d)
-    (subst (λ q. ExpandingOf H side' q stalls best queue v c) (sym b) (subst (λ q. ExpandingOf H q s stalls best queue v c) (sym a) x))
+moved : (H : LevelsAndLegs) (y z : Search) (best queue : List (Option Cost)) (v : ℕ) (c : Cost) → IsSameSearch y z →
+    ExpandingOf H y.most y.side y.source y.stalls best queue v c → ExpandingOf H z.most z.side z.source z.stalls best queue v c
+moved H y z best queue v c same x =
+    subst (λ q. ExpandingOf H q z.side z.source z.stalls best queue v c) (sym same.most)
+    (subst (λ q. ExpandingOf H y.most z.side z.source q best queue v c) (sym same.stalls)
+    (subst (λ q. ExpandingOf H y.most z.side q y.stalls best queue v c) (sym same.source)
+    (subst (λ q. ExpandingOf H y.most q y.source y.stalls best queue v c) (sym same.side) x)))
 
 -- the same of parents
-ParentsOf : LevelsAndLegs → Side → ℕ → Bool → List (Option Cost) → List (Option Cost) → List ℕ → ℕ → Type 0
-ParentsOf H side s stalls best queue parents v = AreParents (rows_of H side) s (OrNode (IsStalled (rows_of H side) (back_of H side stalls) s) v) best queue parents
+ParentsOf : LevelsAndLegs → ℕ → Side → ℕ → Bool → List (Option Cost) → List (Option Cost) → List ℕ → ℕ → Type 0
+ParentsOf H most side s stalls best queue parents v = AreParents most (rows_of H side) s (OrNode (IsStalled (rows_of H side) (back_of H side stalls) s) v) best queue parents
 
 -- it is asked of equal parts too
-moved_parents : (H : LevelsAndLegs) (side side' : Side) (s s' : ℕ) (stalls stalls' : Bool) (best best' queue queue' : List (Option Cost)) (parents parents' : List ℕ)
-    (v : ℕ) → side' ≡ side → s' ≡ s → stalls' ≡ stalls → best' ≡ best → queue' ≡ queue → parents' ≡ parents →
-    ParentsOf H side s stalls best queue parents v → ParentsOf H side' s' stalls' best' queue' parents' v
-moved_parents H side side' s s' stalls stalls' best best' queue queue' parents parents' v a b d e f g x =
-    subst (λ q. ParentsOf H side' s' q best' queue' parents' v) (sym d) (subst (λ q. ParentsOf H side' q stalls best' queue' parents' v) (sym b)
-    (subst (λ q. ParentsOf H q s stalls best' queue' parents' v) (sym a) (subst (λ q. ParentsOf H side s stalls q queue' parents' v) (sym e)
-    (subst (λ q. ParentsOf H side s stalls best q parents' v) (sym f) (subst (λ q. ParentsOf H side s stalls best queue q v) (sym g) x)))))
+moved_parents : (H : LevelsAndLegs) (y z : Search) (best queue : List (Option Cost)) (parents : List ℕ) (v : ℕ) → IsSameSearch y z → z.costs.items ≡ best →
+    z.queue ≡ queue → z.parents.items ≡ parents → ParentsOf H y.most y.side y.source y.stalls best queue parents v →
+    ParentsOf H z.most z.side z.source z.stalls z.costs.items z.queue z.parents.items v
+moved_parents H y z best queue parents v same e f g x =
+    subst (λ q. ParentsOf H q z.side z.source z.stalls z.costs.items z.queue z.parents.items v) (sym same.most)
+    (subst (λ q. ParentsOf H y.most z.side z.source q z.costs.items z.queue z.parents.items v) (sym same.stalls)
+    (subst (λ q. ParentsOf H y.most z.side q y.stalls z.costs.items z.queue z.parents.items v) (sym same.source)
+    (subst (λ q. ParentsOf H y.most q y.source y.stalls z.costs.items z.queue z.parents.items v) (sym same.side)
+    (subst (λ q. ParentsOf H y.most y.side y.source y.stalls q z.queue z.parents.items v) (sym e)
+    (subst (λ q. ParentsOf H y.most y.side y.source y.stalls best q z.parents.items v) (sym f)
+    (subst (λ q. ParentsOf H y.most y.side y.source y.stalls best queue q v) (sym g) x))))))
 
 -- what stays the same twice stays the same
 same_then : (x y z : Search) → IsSameSearch x y → IsSameSearch y z → IsSameSearch x z
 same_then x y z a b = record { side = b.side ∙ a.side; source = b.source ∙ a.source; stalls = b.stalls ∙ a.stalls; most = b.most ∙ a.most }
 
+-- a leg that is taken by one of two equal searches is taken by the other
+still_relaxed : (y z : Search) (c : Cost) (v : ℕ) (k : Leg) (best : List (Option Cost)) → IsSameSearch y z → z.costs.items ≡ best →
+    IsRelaxedFrom y.most best c k × IsNoEarlier y.most best z.parents.items v c k → IsRelaxedFrom z.most z.costs.items c k × IsNoEarlier z.most z.costs.items z.parents.items v c k
+still_relaxed y z c v k best same e r =
+    subst (λ most. IsRelaxedFrom most z.costs.items c k × IsNoEarlier most z.costs.items z.parents.items v c k) (sym same.most)
+    (subst (λ q. IsRelaxedFrom y.most q c k × IsNoEarlier y.most q z.parents.items v c k) (sym e) r)
+
 -- the leg shows nothing cheaper
 module _ (H : LevelsAndLegs) (x y z : Search) (v : ℕ) (c : Cost) (legs : List Leg) (l : Leg) (p : IsPartlyExpanded H x y v c legs) (e : z.costs.items ≡ y.costs.items)
     (f : z.queue ≡ y.queue) (t : IsTouched z.costs.items z.touched) (same : IsSameSearch y z)
-    (parents : AreParents (rows_of H y.side) y.source (OrNode (idle_of H y) v) y.costs.items y.queue z.parents.items)
-    (relaxed : (k : Leg) → Contains (legs ++ l ∷ []) k → IsRelaxedFrom y.costs.items c k × IsNoEarlier y.costs.items z.parents.items v c k) where
+    (parents : AreParents y.most (rows_of H y.side) y.source (OrNode (idle_of H y) v) y.costs.items y.queue z.parents.items)
+    (relaxed : (k : Leg) → Contains (legs ++ l ∷ []) k → IsRelaxedFrom y.most y.costs.items c k × IsNoEarlier y.most y.costs.items z.parents.items v c k) where
   -- then one leg more is taken
   partly_same : IsPartlyExpanded H x z v c (legs ++ l ∷ [])
   unfolding ExpandingOf ParentsOf
@@ -93,14 +106,13 @@ module _ (H : LevelsAndLegs) (x y z : Search) (v : ℕ) (c : Cost) (legs : List 
     expanding = record {
       levelled = p.expanding.levelled;
       within = p.expanding.within;
-      search = moved H y.side z.side y.source z.source y.stalls z.stalls z.costs.items z.queue v c same.side same.source same.stalls
-          (subst (λ q. ExpandingOf H y.side y.source y.stalls z.costs.items q v c) (sym f) (subst (λ q. ExpandingOf H y.side y.source y.stalls q y.queue v c) (sym e) p.expanding.search));
-      parents = moved_parents H y.side z.side y.source z.source y.stalls z.stalls y.costs.items z.costs.items y.queue z.queue z.parents.items z.parents.items v
-          same.side same.source same.stalls e f refl parents;
+      search = moved H y z z.costs.items z.queue v c same
+          (subst (λ q. ExpandingOf H y.most y.side y.source y.stalls z.costs.items q v c) (sym f)
+          (subst (λ q. ExpandingOf H y.most y.side y.source y.stalls q y.queue v c) (sym e) p.expanding.search));
+      parents = moved_parents H y z y.costs.items y.queue z.parents.items v same e f refl parents;
       touched = t;
-      most = same.most ∙ p.expanding.most;
     };
-    relaxed = λ k of. subst (λ q. IsRelaxedFrom q c k × IsNoEarlier q z.parents.items v c k) (sym e) (relaxed k of);
+    relaxed = λ k of. still_relaxed y z c v k y.costs.items same e (relaxed k of);
     settled = λ w d k. p.settled w d (sym (ap (λ q. cost_at q w) e) ∙ k.0, sym (ap (λ q. cost_at q w) f) ∙ k.1);
     stays = λ w d k. let s = p.stays w d k in (ap (λ q. cost_at q w) e ∙ s.0, ap (λ q. cost_at q w) f ∙ s.1);
     measure = ap (λ q. unsettled q z.queue) e ∙ ap (unsettled y.costs.items) f ∙ p.measure;
@@ -113,17 +125,17 @@ pub partly_more : (H : LevelsAndLegs) (x y z : Search) (v : ℕ) (c : Cost) (leg
 unfolding ExpandingOf ParentsOf
 partly_more H x y z v c legs l p has within (inl (e, f, is, inl (early, g))) t same =
     partly_same H x y z v c legs l p e f t same
-    (subst (λ q. AreParents (rows_of H y.side) y.source (OrNode (idle_of H y) v) y.costs.items y.queue q) (sym g) p.expanding.parents)
+    (subst (λ q. AreParents y.most (rows_of H y.side) y.source (OrNode (idle_of H y) v) y.costs.items y.queue q) (sym g) p.expanding.parents)
     (λ k of. elim (Contains-push_cases legs l k of) [
-      | inl old ↦ ((p.relaxed k old).0, subst (λ q. IsNoEarlier y.costs.items q v c k) (sym g) (p.relaxed k old).1)
-      | inr new ↦ subst (λ m. IsRelaxedFrom y.costs.items c m × IsNoEarlier y.costs.items z.parents.items v c m) new
-          (is, subst (λ q. IsNoEarlier y.costs.items q v c l) (sym g) early)
+      | inl old ↦ ((p.relaxed k old).0, subst (λ q. IsNoEarlier y.most y.costs.items q v c k) (sym g) (p.relaxed k old).1)
+      | inr new ↦ subst (λ m. IsRelaxedFrom y.most y.costs.items c m × IsNoEarlier y.most y.costs.items z.parents.items v c m) new
+          (is, subst (λ q. IsNoEarlier y.most y.costs.items q v c l) (sym g) early)
     ])
 partly_more H x y z v c legs l p has within (inl (e, f, is, inr (equal, lt, g))) t same =
     let here = p.expanding.search.here in
     let old_parents = p.expanding.parents in
     partly_same H x y z v c legs l p e f t same
-    (subst (λ q. AreParents (rows_of H y.side) y.source (OrNode (idle_of H y) v) y.costs.items y.queue q) (sym g)
+    (subst (λ q. AreParents y.most (rows_of H y.side) y.source (OrNode (idle_of H y) v) y.costs.items y.queue q) (sym g)
     (equal_parents _ _ _ _ _ _ v c here old_parents l has within equal lt))
     (λ k of. elim (Contains-push_cases legs l k of) [
       | inl old ↦ (
@@ -134,7 +146,7 @@ partly_more H x y z v c legs l p has within (inl (e, f, is, inr (equal, lt, g)))
             let i = ap (λ q. slice_index q k.node) g in
             omega arith,
       )
-      | inr new ↦ subst (λ m. IsRelaxedFrom y.costs.items c m × IsNoEarlier y.costs.items z.parents.items v c m) new (
+      | inr new ↦ subst (λ m. IsRelaxedFrom y.most y.costs.items c m × IsNoEarlier y.most y.costs.items z.parents.items v c m) new (
         is,
         λ low at.
             let d = equal_here _ _ _ _ _ _ v c here old_parents l has within equal lt in
@@ -153,19 +165,17 @@ partly_more H x y z v c legs l p has within (inr (light, lower, e, f, g)) t same
       expanding = record {
         levelled = p.expanding.levelled;
         within = p.expanding.within;
-        search = moved H y.side z.side y.source z.source y.stalls z.stalls z.costs.items z.queue v c same.side same.source same.stalls
-            (subst (λ q. ExpandingOf H y.side y.source y.stalls z.costs.items q v c) (sym f)
-            (subst (λ q. ExpandingOf H y.side y.source y.stalls q queue v c) (sym e) (lowered _ _ _ _ _ v c s l has light lower)));
-        parents = moved_parents H y.side z.side y.source z.source y.stalls z.stalls _ z.costs.items _ z.queue _ z.parents.items v
-            same.side same.source same.stalls e f g (lowered_parents _ _ _ _ _ _ v c s a l has light lower);
+        search = moved H y z z.costs.items z.queue v c same
+            (subst (λ q. ExpandingOf H y.most y.side y.source y.stalls z.costs.items q v c) (sym f)
+            (subst (λ q. ExpandingOf H y.most y.side y.source y.stalls q queue v c) (sym e) (lowered _ _ _ _ _ v c s l has light lower)));
+        parents = moved_parents H y z best queue parents v same e f g (lowered_parents _ _ _ _ _ _ v c s a l has light lower);
         touched = t;
-        most = same.most ∙ p.expanding.most;
       };
       relaxed = λ k of.
-          subst (λ q. IsRelaxedFrom q c k × IsNoEarlier q z.parents.items v c k) (sym e) (subst (λ q. IsRelaxedFrom best c k × IsNoEarlier best q v c k) (sym g)
+          still_relaxed y z c v k best same e (subst (λ q. IsRelaxedFrom y.most best c k × IsNoEarlier y.most best q v c k) (sym g)
           (elim (Contains-push_cases legs l k of) [
             | inl old ↦ (lowered_keeps _ _ _ _ _ v c s l has light lower c k (p.relaxed k old).0, lowered_no_earlier _ _ _ _ _ _ v c s a l has light lower k (p.relaxed k old).1)
-            | inr is ↦ subst (λ m. IsRelaxedFrom best c m × IsNoEarlier best parents v c m) is
+            | inr is ↦ subst (λ m. IsRelaxedFrom y.most best c m × IsNoEarlier y.most best parents v c m) is
                 (lowered_relaxes _ _ _ _ _ v c s l has light lower, lowered_itself _ _ _ _ _ _ v c s a l has light lower)
           ]));
       settled = λ w d k. p.settled w d (lowered_settled _ _ _ _ _ v c s l has light lower w d (sym (ap (λ q. cost_at q w) e) ∙ k.0, sym (ap (λ q. cost_at q w) f) ∙ k.1));
@@ -194,7 +204,6 @@ partly_whole H x y v c legs p e =
       search = expanded _ _ _ _ _ v c p.expanding.search (λ l of. (p.relaxed l (whole l of)).0);
       parents = finish_parents _ _ _ _ _ _ v c p.expanding.search.here p.expanding.parents (inr (λ l of. (p.relaxed l (whole l of)).1));
       touched = p.expanding.touched;
-      most = p.expanding.most;
     }
 
 -- the leg that the program reads

@@ -36,7 +36,7 @@ meeting_walks g H k s t m d h = subst (IsWalkCost g s t) h.4 (IsWalkCost-cost_su
     (reached_up g H k s m h.0 (least_reached H.up s m h.0 h.2)) (reached_down g H k t m h.1 (least_reached H.down t m h.1 h.3)))
 
 module _ (g : Network) (H : LevelsAndLegs) (k : HasWalks g H) (s t : ℕ) (best_up queue_up best_down queue_down : List (Option Cost)) (least : Option (Cost × ℕ))
-    (up : IsSearch H.up s (IdleUp g s) best_up queue_up) (down : IsSearch H.down t (IdleDown g t) best_down queue_down)
+    (up : IsSearch (2 ^ 60) H.up s (IdleUp g s) best_up queue_up) (down : IsSearch (2 ^ 60) H.down t (IdleDown g t) best_down queue_down)
     (seen : IsSeen best_up queue_up best_down queue_down least) (found : IsFound H s t least) (past_up : IsPast queue_up least)
     (past_down : IsPast queue_down least) where
   -- the sum that is known is what a walk costs

@@ -1,5 +1,5 @@
 -- Two searches that are past the least sum have found the meet.
-use Rattle.std.proofs.Common.{◌≡◌, ℕ, Bool, true, List, [], ◌∷◌, Option, Some, None, refl, ◌∙◌, subst, inl, inr}
+use Rattle.std.proofs.Common.{◌≡◌, ℕ, ◌^◌, Bool, true, List, [], ◌∷◌, Option, Some, None, refl, ◌∙◌, subst, inl, inr}
 use Rattle.std.specs.Prelude.{MatchOption}
 use Rattle.ch_graph.specs.declared.cost.Cost.{Cost}
 use Rattle.ch_graph.specs.Cost.{IsBelow, cost_sum}
@@ -45,41 +45,43 @@ idle_down g H k t v c i = (
 )
 
 -- more nodes may be idle
-weaker : (rows : List (List Leg)) (s : ℕ) (I J : ℕ → Cost → Type 0) (best queue : List (Option Cost)) → ((v : ℕ) (c : Cost) → I v c → J v c) →
-    IsSearch rows s I best queue → IsSearch rows s J best queue
+weaker : {most : ℕ} (rows : List (List Leg)) (s : ℕ) (I J : ℕ → Cost → Type 0) (best queue : List (Option Cost)) → ((v : ℕ) (c : Cost) → I v c → J v c) →
+    IsSearch most rows s I best queue → IsSearch most rows s J best queue
 weaker rows s I J best queue f p = record {
+  limits = p.limits;
   sizes = p.sizes;
   start = p.start;
   sound = p.sound;
+  light = p.light;
   queued = p.queued;
   order = p.order;
   frontier = λ v c h. elim (p.frontier v c h) [ inl idle ↦ inl (f v c idle) | inr legs ↦ inr legs ];
 }
 
 -- a search by parts
-SearchBy : LevelsAndLegs → Side → ℕ → Bool → List (Option Cost) → List (Option Cost) → Type 0
-SearchBy H side s stalls best queue = IsSearch (rows_of H side) s (IsStalled (rows_of H side) (back_of H side stalls) s) best queue
+SearchBy : LevelsAndLegs → ℕ → Side → ℕ → Bool → List (Option Cost) → List (Option Cost) → Type 0
+SearchBy H most side s stalls best queue = IsSearch most (rows_of H side) s (IsStalled (rows_of H side) (back_of H side stalls) s) best queue
 
 -- a search underway, by its parts
-by_parts : (H : LevelsAndLegs) (x : Search) (side : Side) (s : ℕ) → IsUnderway H x → x.side ≡ side → x.source ≡ s → x.stalls ≡ true →
-    SearchBy H side s true x.costs.items x.queue
+by_parts : (H : LevelsAndLegs) (x : Search) (side : Side) (s : ℕ) → IsUnderway H x → x.side ≡ side → x.source ≡ s → x.stalls ≡ true → x.most ≡ 2 ^ 60 →
+    SearchBy H (2 ^ 60) side s true x.costs.items x.queue
 unfolding SearchBy
-by_parts H x side s u a b d =
-    subst (λ q. SearchBy H side s q x.costs.items x.queue) d (subst (λ q. SearchBy H side q x.stalls x.costs.items x.queue) b
-    (subst (λ q. SearchBy H q x.source x.stalls x.costs.items x.queue) a u.search))
+by_parts H x side s u a b d e =
+    subst (λ q. SearchBy H q side s true x.costs.items x.queue) e (subst (λ q. SearchBy H x.most side s q x.costs.items x.queue) d
+    (subst (λ q. SearchBy H x.most side q x.stalls x.costs.items x.queue) b (subst (λ q. SearchBy H x.most q x.source x.stalls x.costs.items x.queue) a u.search)))
 
 module _ (g : Network) (H : LevelsAndLegs) (k : HasWalks g H) (x y : Search) (s t : ℕ) (least : Option (Cost × ℕ)) (m : AreMeeting H x y least) (up : x.side ≡ Up)
     (down : y.side ≡ Down) (xs : x.source ≡ s) (yt : y.source ≡ t)
     (past_here : IsPast x.queue least) (past_there : IsPast y.queue least) where
   -- the search from s
-  pub search_up : IsSearch H.up s (IdleUp g s) x.costs.items x.queue
+  pub search_up : IsSearch (2 ^ 60) H.up s (IdleUp g s) x.costs.items x.queue
   unfolding SearchBy
-  search_up = weaker _ _ _ _ _ _ (idle_up g H k s) (by_parts H x Up s m.here up xs m.stalls.0)
+  search_up = weaker _ _ _ _ _ _ (idle_up g H k s) (by_parts H x Up s m.here up xs m.stalls.0 m.most.0)
 
   -- the search from t
-  pub search_down : IsSearch H.down t (IdleDown g t) y.costs.items y.queue
+  pub search_down : IsSearch (2 ^ 60) H.down t (IdleDown g t) y.costs.items y.queue
   unfolding SearchBy
-  search_down = weaker _ _ _ _ _ _ (idle_down g H k t) (by_parts H y Down t m.there down yt m.stalls.1)
+  search_down = weaker _ _ _ _ _ _ (idle_down g H k t) (by_parts H y Down t m.there down yt m.stalls.1 m.most.1)
 
   -- the known sum is that of paths from s and t
   pub found : IsFound H s t least

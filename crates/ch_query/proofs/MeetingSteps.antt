@@ -34,6 +34,7 @@ swapped H x y least m = record {
   here = m.there;
   there = m.here;
   stalls = (m.stalls.1, m.stalls.0);
+  most = (m.most.1, m.most.0);
   seen = λ v a b h k. let r = m.seen v b a k h in (r.0, r.1, subst (λ q. MeetsFirst r.0 (q, v)) (cost_sum_comm b a) r.2);
   found = λ e is. let f = m.found e is in (f.1, f.0, f.3, f.2, cost_sum_comm f.1 f.0 ∙ f.4);
 }
@@ -85,6 +86,7 @@ module _ (H : LevelsAndLegs) (x y : Search) (least : Option (Cost × ℕ)) (m : 
     here = u;
     there = m.there;
     stalls = (same.stalls ∙ m.stalls.0, m.stalls.1);
+    most = (same.most ∙ m.most.0, m.most.1);
     seen = λ w a b h k. seen w a b (settled w a h) k;
     found = λ f e'.
         let r = found_at _ refl met f e' in

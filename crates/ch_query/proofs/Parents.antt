@@ -18,11 +18,11 @@ use Rattle.ch_query.proofs.Steps.{popped_settled, popped_stays, lowered_settled,
 use Rattle.ch_query.proofs.End.{matched}
 
 -- taking the least out of the queue
-module _ (rows : List (List Leg)) (s : ℕ) (Idle : ℕ → Cost → Type 0) (best queue : List (Option Cost)) (parents : List ℕ) (p : IsSearch rows s Idle best queue)
-    (a : AreParents rows s Idle best queue parents)
+module _ {most : ℕ} (rows : List (List Leg)) (s : ℕ) (Idle : ℕ → Cost → Type 0) (best queue : List (Option Cost)) (parents : List ℕ) (p : IsSearch most rows s Idle best queue)
+    (a : AreParents most rows s Idle best queue parents)
     (v : ℕ) (c : Cost) (key : cost_at queue v ≡ Some c) (least : (x : ℕ) (d : Cost) → cost_at queue x ≡ Some d → IsAtMost c d) (within : v < length queue) where
   -- the parents of the others stay
-  pub popped_parents : AreParents rows s (OrNode Idle v) best (set queue v None) parents
+  pub popped_parents : AreParents most rows s (OrNode Idle v) best (set queue v None) parents
   popped_parents = record {
     size = a.size;
     led = λ x e ne k. let q = a.led x e ne k in record { cost = q.cost; settled = popped_stays _ _ _ _ _ p v c key least within _ _ q.settled; leg = q.leg; has = q.has; node = q.node; sum = q.sum };
@@ -33,9 +33,9 @@ module _ (rows : List (List Leg)) (s : ℕ) (Idle : ℕ → Cost → Type 0) (be
   }
 
 -- a leg of v that shows a cheaper path
-module _ (rows : List (List Leg)) (s : ℕ) (Idle : ℕ → Cost → Type 0) (best queue : List (Option Cost)) (parents : List ℕ) (v : ℕ) (c : Cost)
-    (x : IsExpanding rows s Idle best queue v c) (a : AreParents rows s Idle best queue parents)
-    (l : Leg) (has : Contains (row rows v) l) (light : c.weight + l.cost.weight ≤ 2 ^ 60) (h : WouldLower best l.node (cost_sum c l.cost)) where
+module _ {most : ℕ} (rows : List (List Leg)) (s : ℕ) (Idle : ℕ → Cost → Type 0) (best queue : List (Option Cost)) (parents : List ℕ) (v : ℕ) (c : Cost)
+    (x : IsExpanding most rows s Idle best queue v c) (a : AreParents most rows s Idle best queue parents)
+    (l : Leg) (has : Contains (row rows v) l) (light : c.weight + l.cost.weight ≤ most) (h : WouldLower best l.node (cost_sum c l.cost)) where
   best' : List (Option Cost)
   best' = set best l.node (Some (cost_sum c l.cost))
 
@@ -77,16 +77,16 @@ module _ (rows : List (List Leg)) (s : ℕ) (Idle : ℕ → Cost → Type 0) (be
   ]
 
   -- a leg relaxed before costs more
-  dearer : (d : Cost) (k : Leg) → k.node ≡ l.node → IsRelaxedFrom best d k → cost_at best' k.node ≡ Some (cost_sum d k.cost) → ⊥
+  dearer : (d : Cost) (k : Leg) → k.node ≡ l.node → IsRelaxedFrom most best d k → cost_at best' k.node ≡ Some (cost_sum d k.cost) → ⊥
   dearer d k is r e =
       let same : cost_sum c l.cost ≡ cost_sum d k.cost = same_Some _ _ (sym cost_here ∙ ap (cost_at best') (sym is) ∙ e) in
-      let low : d.weight + k.cost.weight ≤ 2 ^ 60 = subst (λ (q : Cost). q.weight ≤ 2 ^ 60) same light in
+      let low : d.weight + k.cost.weight ≤ most = subst (λ (q : Cost). q.weight ≤ most) same light in
       let old = r low in
       let lt = h.lower old.0 (ap (cost_at best) (sym is) ∙ old.1) in
       IsBelow_not (cost_sum c l.cost) old.0 lt (subst (IsAtMost old.0) (sym same) old.2)
 
   -- no earlier node gives the same cost
-  first : (u : ℕ) (d : Cost) → IsSettled best queue u d → Idle u d ⊎ ((k : Leg) → Contains (row rows u) k → IsNoEarlier best' (set parents l.node v) u d k)
+  first : (u : ℕ) (d : Cost) → IsSettled best queue u d → Idle u d ⊎ ((k : Leg) → Contains (row rows u) k → IsNoEarlier most best' (set parents l.node v) u d k)
   first u d was = elim (x.search.frontier u d was) [
     | inl idle ↦ inl idle
     | inr relaxed ↦ elim (a.first u d was) [
@@ -99,7 +99,7 @@ module _ (rows : List (List Leg)) (s : ℕ) (Idle : ℕ → Cost → Type 0) (be
   ]
 
   -- so the parents are right again
-  pub lowered_parents : AreParents rows s Idle (set best l.node (Some (cost_sum c l.cost))) (set queue l.node (Some (cost_sum c l.cost))) (set parents l.node v)
+  pub lowered_parents : AreParents most rows s Idle (set best l.node (Some (cost_sum c l.cost))) (set queue l.node (Some (cost_sum c l.cost))) (set parents l.node v)
   unfolding best' queue'
   lowered_parents = record {
     size = length-set parents l.node v ∙ a.size ∙ sym (length-set best l.node _);
@@ -108,7 +108,7 @@ module _ (rows : List (List Leg)) (s : ℕ) (Idle : ℕ → Cost → Type 0) (be
   }
 
   -- the earlier legs of v, and this one
-  pub lowered_no_earlier : (k : Leg) → IsNoEarlier best parents v c k → IsNoEarlier (set best l.node (Some (cost_sum c l.cost))) (set parents l.node v) v c k
+  pub lowered_no_earlier : (k : Leg) → IsNoEarlier most best parents v c k → IsNoEarlier most (set best l.node (Some (cost_sum c l.cost))) (set parents l.node v) v c k
   unfolding best'
   lowered_no_earlier k n low e = elim (cases_eq k.node l.node) [
     | inl is ↦ let at = ap (slice_index (set parents l.node v)) is ∙ here in omega arith
@@ -116,12 +116,12 @@ module _ (rows : List (List Leg)) (s : ℕ) (Idle : ℕ → Cost → Type 0) (be
   ]
 
   -- and this one
-  pub lowered_itself : IsNoEarlier (set best l.node (Some (cost_sum c l.cost))) (set parents l.node v) v c l
+  pub lowered_itself : IsNoEarlier most (set best l.node (Some (cost_sum c l.cost))) (set parents l.node v) v c l
   lowered_itself _ _ = let at = here in omega arith
 
 -- a leg of v that shows an equal cost: the lesser parent stays
-module _ (rows : List (List Leg)) (s : ℕ) (Idle : ℕ → Cost → Type 0) (best queue : List (Option Cost)) (parents : List ℕ) (v : ℕ) (c : Cost)
-    (settled : IsSettled best queue v c) (a : AreParents rows s Idle best queue parents)
+module _ {most : ℕ} (rows : List (List Leg)) (s : ℕ) (Idle : ℕ → Cost → Type 0) (best queue : List (Option Cost)) (parents : List ℕ) (v : ℕ) (c : Cost)
+    (settled : IsSettled best queue v c) (a : AreParents most rows s Idle best queue parents)
     (l : Leg) (has : Contains (row rows v) l) (within : l.node < length best) (same : cost_at best l.node ≡ Some (cost_sum c l.cost))
     (earlier : v < slice_index parents l.node) where
   -- the parent of the leg's node is v
@@ -148,7 +148,7 @@ module _ (rows : List (List Leg)) (s : ℕ) (Idle : ℕ → Cost → Type 0) (be
   equal_here = now
 
   -- so the parents are right again
-  pub equal_parents : AreParents rows s Idle best queue (set parents l.node v)
+  pub equal_parents : AreParents most rows s Idle best queue (set parents l.node v)
   equal_parents = record {
     size = length-set parents l.node v ∙ a.size;
     led = λ y e ne k. elim (cases_eq y l.node) [
@@ -160,21 +160,21 @@ module _ (rows : List (List Leg)) (s : ℕ) (Idle : ℕ → Cost → Type 0) (be
   }
 
 -- a node whose legs are all taken, or that may be left idle
-pub finish_parents : (rows : List (List Leg)) (s : ℕ) (Idle : ℕ → Cost → Type 0) (best queue : List (Option Cost)) (parents : List ℕ) (v : ℕ) (c : Cost) →
-    IsSettled best queue v c → AreParents rows s (OrNode Idle v) best queue parents →
-    Idle v c ⊎ ((l : Leg) → Contains (row rows v) l → IsNoEarlier best parents v c l) → AreParents rows s Idle best queue parents
-finish_parents rows s Idle best queue parents v c here a done = record {
-  size = a.size;
-  led = a.led;
-  first = λ u d k. elim (a.first u d k) [
-    | inl (inl idle) ↦ inl idle
-    | inl (inr is) ↦
-        let same : c ≡ d = same_Some _ _ (sym here.0 ∙ ap (cost_at best) (sym is) ∙ k.0) in
-        subst (λ q. Idle q d ⊎ ((l : Leg) → Contains (row rows q) l → IsNoEarlier best parents q d l)) (sym is)
-        (subst (λ q. Idle v q ⊎ ((l : Leg) → Contains (row rows v) l → IsNoEarlier best parents v q l)) same done)
-    | inr legs ↦ inr legs
-  ];
-}
+module _ {most : ℕ} (rows : List (List Leg)) (s : ℕ) (Idle : ℕ → Cost → Type 0) (best queue : List (Option Cost)) (parents : List ℕ) (v : ℕ) (c : Cost)
+    (here : IsSettled best queue v c) (a : AreParents most rows s (OrNode Idle v) best queue parents) where
+  pub finish_parents : Idle v c ⊎ ((l : Leg) → Contains (row rows v) l → IsNoEarlier most best parents v c l) → AreParents most rows s Idle best queue parents
+  finish_parents done = record {
+    size = a.size;
+    led = a.led;
+    first = λ u d k. elim (a.first u d k) [
+      | inl (inl idle) ↦ inl idle
+      | inl (inr is) ↦
+          let same : c ≡ d = same_Some _ _ (sym here.0 ∙ ap (cost_at best) (sym is) ∙ k.0) in
+          subst (λ q. Idle q d ⊎ ((l : Leg) → Contains (row rows q) l → IsNoEarlier most best parents q d l)) (sym is)
+          (subst (λ q. Idle v q ⊎ ((l : Leg) → Contains (row rows v) l → IsNoEarlier most best parents v q l)) same done)
+      | inr legs ↦ inr legs
+    ];
+  }
 
 -- at the end
 path_append : (rows : List (List Leg)) (a b d : ℕ) (xs ys : List Leg) → IsUpwardPath rows a b xs → IsUpwardPath rows b d ys → IsUpwardPath rows a d (xs ++ ys)
@@ -197,9 +197,9 @@ least_same rows a x d e h k = IsAtMost_antisymm d e (half d e h k) (half e d k h
     half : (d e : Cost) → IsLeastUpwardPath rows a x d → IsLeastUpwardPath rows a x e → IsAtMost d e
     half d e h k = subst (IsAtMost d) k.path.2 (h.least k.path.0 k.path.1 (subst (λ (q : Cost). q.weight ≤ 2 ^ 60) (sym k.path.2) k.weight))
 
-module _ (rows : List (List Leg)) (s : ℕ) (Idle : ℕ → Cost → Type 0) (best queue : List (Option Cost)) (parents : List ℕ) (p : IsSearch rows s Idle best queue)
-    (a : AreParents rows s Idle best queue parents)
-    (m : ℕ) (c : Cost) (light : c.weight ≤ 2 ^ 60) (past : (x : ℕ) (d : Cost) → cost_at queue x ≡ Some d → IsBelow c d) (avoids : AvoidsIdle rows Idle m c)
+module _ {most : ℕ} (rows : List (List Leg)) (s : ℕ) (Idle : ℕ → Cost → Type 0) (best queue : List (Option Cost)) (parents : List ℕ) (p : IsSearch most rows s Idle best queue)
+    (a : AreParents most rows s Idle best queue parents)
+    (m : ℕ) (c : Cost) (light : c.weight ≤ most) (past : (x : ℕ) (d : Cost) → cost_at queue x ≡ Some d → IsBelow c d) (avoids : AvoidsIdle rows Idle m c)
     (x : ℕ) (ne : x ≢ s) (e : Cost) (known : cost_at best x ≡ Some e) (tight : IsLeastUpwardPath rows s x e) (tail : List Leg) (path : IsUpwardPath rows x m tail)
     (le : IsAtMost (cost_sum e (path_cost tail)) c) where
   -- the parent of x
@@ -242,7 +242,7 @@ module _ (rows : List (List Leg)) (s : ℕ) (Idle : ℕ → Cost → Type 0) (be
             ap (cost_sum b) (path_cost-cons k tail) ∙ sym (cost_sum_assoc b k.cost (path_cost tail)) ∙ ap (λ z. cost_sum z (path_cost tail)) is in
             let low : IsAtMost (cost_sum b (path_cost (k ∷ tail))) c = subst (λ z. IsAtMost z c) (sym total) le in
             let under : IsAtMost b c = IsAtMost_trans b (cost_sum b (path_cost (k ∷ tail))) c (IsAtMost-cost_sum_self b (path_cost (k ∷ tail))) low in
-            let r = matched rows s Idle best queue p w b last.3.weight (λ y d key. then_below b c d under (past y d key)) (avoids_inner rows Idle w m b c (k ∷ tail) on low avoids)
+            let r = matched rows s Idle best queue p w b (let w = under.0 in omega arith) (λ y d key. then_below b c d under (past y d key)) (avoids_inner rows Idle w m b c (k ∷ tail) on low avoids)
             last.3.path.0 last.3.path.1 (subst (λ z. IsAtMost z b) (sym last.3.path.2) (IsAtMost_refl b)) in
             let rb : IsAtMost r.0 b = subst (IsAtMost r.0) last.3.path.2 r.2 in
             let sound = p.sound w r.0 r.1.0 in
@@ -251,7 +251,7 @@ module _ (rows : List (List Leg)) (s : ℕ) (Idle : ℕ → Cost → Type 0) (be
             elim (a.first w r.0 r.1) [
               | inl idle ↦ absurd (avoids w r.0 (k ∷ tail) idle on (subst (λ z. IsAtMost (cost_sum z (path_cost (k ∷ tail))) c) (sym same) low))
               | inr legs ↦ subst (λ z. slice_index parents z ≤ w) last.1 (legs k last.0
-                  (let t = tight.weight in let w = ap (λ (z : Cost). z.weight) (ap (λ z. cost_sum z k.cost) same ∙ is) in omega arith)
+                  (let t = p.light x e known in let w = ap (λ (z : Cost). z.weight) (ap (λ z. cost_sum z k.cost) same ∙ is) in omega arith)
                   (ap (cost_at best) last.1 ∙ known ∙ ap Some (sym is ∙ ap (λ z. cost_sum z k.cost) (sym same))))
             ];
       }

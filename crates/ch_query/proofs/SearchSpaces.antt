@@ -1,5 +1,5 @@
 -- A search that stalls, at its end: what it knows of tight nodes, and the list of the nodes at which it did not stall.
-use Rattle.std.proofs.Common.{◌≡◌, ℕ, ◌+◌, ◌<◌, Bool, true, List, [], ◌∷◌, ◌++◌, length, Contains, take, Option, Some, None, get_or, get_or-take, length-take, set, refl, sym, ◌∙◌, ap, subst, arith, inl, inr}
+use Rattle.std.proofs.Common.{◌≡◌, ℕ, ◌+◌, ◌<◌, ◌≤◌, Bool, true, List, [], ◌∷◌, ◌++◌, length, Contains, take, Option, Some, None, get_or, get_or-take, length-take, set, refl, sym, ◌∙◌, ap, subst, arith, inl, inr}
 use Rattle.std.specs.Prelude.{◌⊎◌, ◌≢◌, AllPairs, is_some}
 use Rattle.std.specs.List.Sorted.{IsPermutation}
 use Rattle.std.proofs.lemmas.Option.{same_Some, none-some}
@@ -21,6 +21,7 @@ use Rattle.ch_query.specs.declared.side.Side.{Side}
 use Rattle.ch_query.specs.declared.side.Side.TheVariants.{Up, Down}
 use Rattle.ch_query.specs.declared.search.Search.{Search}
 use Rattle.ch_query.specs.Distance.{IsKeptForSome}
+use Rattle.ch_query.specs.Limits.{IsWithin, IsMost}
 use Rattle.ch_query.specs.Meeting.{IsFresh}
 use Rattle.ch_query.specs.Search.{IsSettled, IsSearch, IsLeastKey, IsStalled, AvoidsIdle, IsEmpty}
 use Rattle.ch_query.specs.SearchSpace.{IsTight, IsSearchSpace}
@@ -56,12 +57,12 @@ tight_least H Up s m c tight = tight.0
 tight_least H Down s m c tight = tight.0
 
 -- a search at its end, and a node whose least paths avoid idle nodes
-module _ (rows : List (List Leg)) (s : ℕ) (Idle : ℕ → Cost → Type 0) (best queue : List (Option Cost)) (p : IsSearch rows s Idle best queue) (done : IsEmpty queue)
-    (m : ℕ) (c : Cost) (l : IsLeastUpwardPath rows s m c) (avoids : AvoidsIdle rows Idle m c) where
+module _ {most : ℕ} (rows : List (List Leg)) (s : ℕ) (Idle : ℕ → Cost → Type 0) (best queue : List (Option Cost)) (p : IsSearch most rows s Idle best queue) (done : IsEmpty queue)
+    (m : ℕ) (c : Cost) (l : IsLeastUpwardPath rows s m c) (low : c.weight ≤ most) (avoids : AvoidsIdle rows Idle m c) where
   -- the node is settled at its least cost
   pub end_settled : IsSettled best queue m c
   end_settled =
-      let r = matched rows s Idle best queue p m c l.weight (λ x d e. absurd (done x d e)) avoids l.path.0 l.path.1 (subst (λ q. IsAtMost q c) (sym l.path.2) (IsAtMost_refl c)) in
+      let r = matched rows s Idle best queue p m c low (λ x d e. absurd (done x d e)) avoids l.path.0 l.path.1 (subst (λ q. IsAtMost q c) (sym l.path.2) (IsAtMost_refl c)) in
       subst (IsSettled best queue m) (reached_least rows s m c r.0 l (p.sound m r.0 r.1.0) (subst (IsAtMost r.0) l.path.2 r.2)) r.1
 
   -- and is not idle there
@@ -181,8 +182,8 @@ module _ (best : List (Option Cost)) (nodes : List ℕ) (rises : AllPairs (λ a 
   })
 
 -- a search that ended, and stalls
-module _ (H : LevelsAndLegs) (k : IsKeptForSome H) (x : Search) (u : IsUnderway H x) (on : x.stalls ≡ true) (done : IsEmpty x.queue) (nodes sorted : List ℕ)
-    (a : AreUnstalled H x nodes) (p : IsPermutation nodes sorted) where
+module _ (H : LevelsAndLegs) (k : IsKeptForSome H) (x : Search) (u : IsUnderway H x) (on : x.stalls ≡ true) (done : IsEmpty x.queue) (limit : Option ℕ)
+    (most : IsMost limit x.most) (nodes sorted : List ℕ) (a : AreUnstalled H x nodes) (p : IsPermutation nodes sorted) where
   -- it stalls at no node on a path to a tight node at its least cost
   avoids : (v : ℕ) (c : Cost) → IsTight H x.side x.source v c → AvoidsIdle (rows_of H x.side) (idle_of H x) v c
   avoids v c tight = subst (λ b. AvoidsIdle (rows_of H x.side) (IsStalled (rows_of H x.side) (back_of H x.side b) x.source) v c) (sym on)
@@ -193,19 +194,20 @@ module _ (H : LevelsAndLegs) (k : IsKeptForSome H) (x : Search) (u : IsUnderway 
   unstalled_known v h = let s = a.settled v (Contains-permutation sorted nodes v (IsPermutation-sym nodes sorted p) h) in ap is_some s.1.0
 
   -- with their weights they are the search space
-  space_is : (list : List (ℕ × ℕ)) → AreWeights x.costs.items sorted list → IsSearchSpace H x.side x.source list
+  space_is : (list : List (ℕ × ℕ)) → AreWeights x.costs.items sorted list → IsSearchSpace H x.side limit x.source list
   space_is list w = record {
     order = w.order;
-    sound = λ v y h. let s = w.sound v y h in (s.1, u.search.sound v s.1 s.2, s.3);
-    whole = λ v c tight.
+    sound = λ v y h. let s = w.sound v y h in ((s.1, u.search.sound v s.1 s.2, s.3), subst (IsWithin limit) s.3 (most.sound s.1.weight (u.search.light v s.1 s.2)));
+    whole = λ v c tight within.
         let least = tight_least H x.side x.source v c tight in
-        let settled = end_settled _ _ _ _ _ u.search done v c least (avoids v c tight) in
+        let low = most.whole c.weight least.weight within in
+        let settled = end_settled _ _ _ _ _ u.search done v c least low (avoids v c tight) in
         elim (a.whole v c settled) [
-          | inl idle ↦ absurd (end_not_idle _ _ _ _ _ u.search done v c least (avoids v c tight) idle)
+          | inl idle ↦ absurd (end_not_idle _ _ _ _ _ u.search done v c least low (avoids v c tight) idle)
           | inr has ↦ w.whole v c (Contains-permutation nodes sorted v p has) settled.0
         ];
   }
 
   -- by the source and the side with which it began
-  pub space_of : (s : ℕ) (side : Side) → x.source ≡ s → x.side ≡ side → (list : List (ℕ × ℕ)) → AreWeights x.costs.items sorted list → IsSearchSpace H side s list
-  space_of s side source is list w = subst (λ q. IsSearchSpace H q s list) is (subst (λ q. IsSearchSpace H x.side q list) source (space_is list w))
+  pub space_of : (s : ℕ) (side : Side) → x.source ≡ s → x.side ≡ side → (list : List (ℕ × ℕ)) → AreWeights x.costs.items sorted list → IsSearchSpace H side limit s list
+  space_of s side source is list w = subst (λ q. IsSearchSpace H q limit s list) is (subst (λ q. IsSearchSpace H x.side limit q list) source (space_is list w))

@@ -1,5 +1,5 @@
 -- What the search spaces of two nodes say together: the distance between them.
-use Rattle.std.proofs.Common.{◌≡◌, ℕ, ◌+◌, ◌≤◌, List, Contains, Option, Some, None, sym, ap, subst, arith, inl, inr}
+use Rattle.std.proofs.Common.{◌≡◌, ℕ, ◌+◌, ◌≤◌, List, Contains, Option, Some, None, refl, sym, ap, subst, arith, inl, inr}
 use Rattle.std.specs.Prelude.{MatchOption}
 use Rattle.ch_graph.specs.declared.cost.Cost.{Cost}
 use Rattle.ch_graph.specs.Cost.{cost_sum}
@@ -12,7 +12,8 @@ use Rattle.ch_contract.specs.Paths.{NeverMeets}
 use Rattle.ch_contract.specs.KeptLaws.{HasWalks, IsLeastMeeting, MeetingsAreDistances}
 use Rattle.ch_contract.proofs.theory.KeptWalks.{kept_has_walks, meetings_are_distances}
 use Rattle.ch_query.specs.declared.side.Side.TheVariants.{Up, Down}
-use Rattle.ch_query.specs.Distance.{IsKeptForSome, IsDistanceBy, IsLeastWeight}
+use Rattle.ch_query.specs.Distance.{IsKeptForSome, IsLeastWeight}
+use Rattle.ch_query.specs.Limits.{IsWithin, IsCut, IsDistanceWithin}
 use Rattle.ch_query.specs.SearchSpace.{IsPathWeight, IsTight, IsSearchSpace}
 use Rattle.ch_query.specs.SearchSpaceLaws.{IsLeastSharedSum}
 use Rattle.ch_query.proofs.Distances.{weight_is_distance}
@@ -22,10 +23,17 @@ use Rattle.ch_query.proofs.LeastMeeting.{reached_up, reached_down, least_reached
 abbrev pub IsNodeSum : (ℕ → ℕ → Type 0) → (ℕ → ℕ → Type 0) → ℕ → Type 0
 IsNodeSum P Q x = (v a b : ℕ) × P v a × Q v b × (a + b ≡ x)
 
--- P says weights of paths up from s and of each tight node its least, and Q says the same of paths down to t
-module _ (H : LevelsAndLegs) (k : IsKeptForSome H) (s t : ℕ) (P Q : ℕ → ℕ → Type 0)
-    (up_sound : (v x : ℕ) → P v x → IsPathWeight H.up s v x) (up_whole : (v : ℕ) (c : Cost) → IsTight H Up s v c → P v c.weight)
-    (down_sound : (v x : ℕ) → Q v x → IsPathWeight H.down t v x) (down_whole : (v : ℕ) (c : Cost) → IsTight H Down t v c → Q v c.weight) where
+-- what is no more than a weight within the limit is within it
+pub within_less : (limit : Option ℕ) (x y : ℕ) → x ≤ y → IsWithin limit y → IsWithin limit x
+within_less None x y le w = tt
+within_less (Some most) x y le w = omega arith
+
+-- P says weights of paths up from s and of each tight node its least, all of them within the limit, and Q says the same of paths down to t
+module _ (H : LevelsAndLegs) (k : IsKeptForSome H) (limit : Option ℕ) (s t : ℕ) (P Q : ℕ → ℕ → Type 0)
+    (up_sound : (v x : ℕ) → P v x → IsPathWeight H.up s v x × IsWithin limit x)
+    (up_whole : (v : ℕ) (c : Cost) → IsTight H Up s v c → IsWithin limit c.weight → P v c.weight)
+    (down_sound : (v x : ℕ) → Q v x → IsPathWeight H.down t v x × IsWithin limit x)
+    (down_whole : (v : ℕ) (c : Cost) → IsTight H Down t v c → IsWithin limit c.weight → Q v c.weight) where
   -- the graph for which the hierarchy is kept
   g : Network
   g = k.0
@@ -41,8 +49,8 @@ module _ (H : LevelsAndLegs) (k : IsKeptForSome H) (s t : ℕ) (P Q : ℕ → �
   -- a sum is the weight of a walk
   sum_walks : (x : ℕ) → IsNodeSum P Q x → (d : Cost) × IsWalkCost g s t d × (d.weight ≡ x)
   sum_walks x h =
-      let up = up_sound h.0 h.1 h.3 in
-      let down = down_sound h.0 h.2 h.4 in (
+      let up = (up_sound h.0 h.1 h.3).0 in
+      let down = (down_sound h.0 h.2 h.4).0 in (
         cost_sum up.0 down.0,
         IsWalkCost-cost_sum g s h.0 t up.0 down.0 (reached_up g H walks s h.0 up.0 up.1) (reached_down g H walks t h.0 down.0 down.1),
         (let a = up.2 in let b = down.2 in let e = h.5 in omega arith),
@@ -62,43 +70,60 @@ module _ (H : LevelsAndLegs) (k : IsKeptForSome H) (s t : ℕ) (P Q : ℕ → �
   pub none_without_walk : NeverMeets H s t → (x : ℕ) → IsNodeSum P Q x → ⊥
   none_without_walk never x sum = let walk = sum_walks x sum in (law.never s t).1 never walk.1.0 walk.1.1
 
-  -- and the least cost is a sum
-  pub attained : (c : Cost) → IsLeastMeeting H s t c → IsNodeSum P Q c.weight
-  attained c h =
+  -- and the least cost is a sum, where its weight is within the limit
+  pub attained : (c : Cost) → IsLeastMeeting H s t c → IsWithin limit c.weight → IsNodeSum P Q c.weight
+  attained c h low =
       let m = h.meets.0 in
       let a = h.meets.1.0 in
       let b = h.meets.1.1 in
       let up = h.meets.1.2 in
       let down = h.meets.1.3 in
+      let sum : a.weight + b.weight ≡ c.weight = ap (λ (q : Cost). q.weight) h.meets.1.4 in
       let whole : IsLeast g s t (cost_sum a b) = subst (IsLeast g s t) (sym h.meets.1.4) ((law.least s t c).1 h) in
       let rise = reached_up g H walks s m a (least_reached H.up s m a up) in
       let fall = reached_down g H walks t m b (least_reached H.down t m b down) in (
         m,
         a.weight,
         b.weight,
-        up_whole m a (up, (law.least s m a).0 (IsLeast-front g s m t a b whole rise fall)),
-        down_whole m b (down, (law.least m t b).0 (IsLeast-back g s m t a b whole rise fall)),
-        ap (λ (q : Cost). q.weight) h.meets.1.4,
+        up_whole m a (up, (law.least s m a).0 (IsLeast-front g s m t a b whole rise fall)) (within_less limit a.weight c.weight (omega arith) low),
+        down_whole m b (down, (law.least m t b).0 (IsLeast-back g s m t a b whole rise fall)) (within_less limit b.weight c.weight (omega arith) low),
+        sum,
       )
 
-  -- so the least sum is the least weight
-  pub least_sum_is_least : (o : Option ℕ) → MatchOption o ((x : ℕ) → IsNodeSum P Q x → ⊥) (λ x. IsNodeSum P Q x × ((y : ℕ) → IsNodeSum P Q y → x ≤ y)) → IsLeastWeight H s t o
-  least_sum_is_least None none = elim (walks.decided s t) [
-    | inl found ↦ absurd (none found.0.weight (attained found.0 ((law.least s t found.0).0 found.1)))
-    | inr away ↦ (law.never s t).0 away
-  ]
-  least_sum_is_least (Some x) least = elim (walks.decided s t) [
+  -- so the least sum within the limit is the least weight, where that is within the limit
+  least_sum_cuts : (c : Cost) → IsLeastMeeting H s t c → (o : Option ℕ) →
+      MatchOption o ((x : ℕ) → IsNodeSum P Q x → IsWithin limit x → ⊥) (λ x. IsNodeSum P Q x × IsWithin limit x × ((y : ℕ) → IsNodeSum P Q y → IsWithin limit y → x ≤ y)) →
+      IsCut limit (Some c.weight) o
+  least_sum_cuts c h None none = (λ low. absurd (none c.weight (attained c h low) low), λ _. refl)
+  least_sum_cuts c h (Some x) least =
+      let low = no_less c h x least.0 in (
+        λ within. let high = least.2 c.weight (attained c h within) within in let same : x ≡ c.weight = omega arith in ap Some same,
+        λ above. absurd (above (within_less limit c.weight x low least.1)),
+      )
+
+  -- and there is none where there is no walk
+  no_sum_cuts : NeverMeets H s t → (o : Option ℕ) →
+      MatchOption o ((x : ℕ) → IsNodeSum P Q x → IsWithin limit x → ⊥) (λ x. IsNodeSum P Q x × IsWithin limit x × ((y : ℕ) → IsNodeSum P Q y → IsWithin limit y → x ≤ y)) → o ≡ None
+  no_sum_cuts never None none = refl
+  no_sum_cuts never (Some x) least = absurd (none_without_walk never x least.0)
+
+  -- so it is the distance within the limit
+  pub least_sum_is_distance : (o : Option ℕ) →
+      MatchOption o ((x : ℕ) → IsNodeSum P Q x → IsWithin limit x → ⊥) (λ x. IsNodeSum P Q x × IsWithin limit x × ((y : ℕ) → IsNodeSum P Q y → IsWithin limit y → x ≤ y)) →
+      IsDistanceWithin H limit s t o
+  least_sum_is_distance o sum = elim (walks.decided s t) [
     | inl found ↦
-        let meeting = (law.least s t found.0).0 found.1 in
-        let low = no_less found.0 meeting x least.0 in
-        let high = least.1 found.0.weight (attained found.0 meeting) in
-        (found.0, meeting, omega arith)
-    | inr away ↦ absurd (none_without_walk ((law.never s t).0 away) x least.0)
+        let c = found.0 in
+        let meeting = (law.least s t c).0 found.1 in
+        let least : IsLeastWeight H s t (Some c.weight) = (c, meeting, refl) in
+        record { whole = Some c.weight; least = least; distance = weight_is_distance H s t (Some c.weight) least; cut = least_sum_cuts c meeting o sum }
+    | inr away ↦
+        let never = (law.never s t).0 away in
+        record { whole = None; least = never; distance = weight_is_distance H s t None never; cut = no_sum_cuts never o sum }
   ]
 
--- two search spaces give the distance
-pub spaces_give_distance : (H : LevelsAndLegs) (s t : ℕ) (ups downs : List (ℕ × ℕ)) (answer : Option ℕ) → IsKeptForSome H → IsSearchSpace H Up s ups →
-    IsSearchSpace H Down t downs → IsLeastSharedSum ups downs answer → IsLeastWeight H s t answer × IsDistanceBy H s t answer
-spaces_give_distance H s t ups downs answer k up down least =
-    let is = least_sum_is_least H k s t (λ v x. Contains ups (v, x)) (λ v x. Contains downs (v, x)) up.sound up.whole down.sound down.whole answer least in
-    (is, weight_is_distance H s t answer is)
+-- two search spaces within the limit give the distance within it
+pub spaces_give_distance : (H : LevelsAndLegs) (limit : Option ℕ) (s t : ℕ) (ups downs : List (ℕ × ℕ)) (answer : Option ℕ) → IsKeptForSome H → IsSearchSpace H Up limit s ups →
+    IsSearchSpace H Down limit t downs → IsLeastSharedSum limit ups downs answer → IsDistanceWithin H limit s t answer
+spaces_give_distance H limit s t ups downs answer k up down least =
+    least_sum_is_distance H k limit s t (λ v x. Contains ups (v, x)) (λ v x. Contains downs (v, x)) up.sound up.whole down.sound down.whole answer least

@@ -20,6 +20,7 @@ use Rattle.ch_contract.specs.Hierarchy.{LevelsAndLegs}
 use Rattle.ch_contract.specs.Rows.{row}
 use Rattle.ch_query.specs.declared.side.Side.{Side}
 use Rattle.ch_query.specs.declared.search.Search.{Search}
+use Rattle.ch_query.specs.Limits.{IsMost}
 use Rattle.ch_query.specs.Search.{IsEmpty}
 use Rattle.ch_query.specs.Underway.{back_of, IsTouched, IsRoom, idle_of, IsUnderway}
 use Rattle.ch_query.specs.Side.{rows_of}
@@ -55,12 +56,11 @@ sorted_underway H x sorted u p order len capacity = record {
   search = u.search;
   parents = u.parents;
   touched = touched_sorted x.costs.items x.touched sorted u.touched p order len capacity;
-  most = u.most;
 }
 
 -- a search underway has room
 pub underway_room : (H : LevelsAndLegs) (x : Search) → IsUnderway H x → IsRoom x
-underway_room H x u = record { queue = u.search.sizes.1 ∙ sym u.search.sizes.0; parents = u.parents.size; touched = u.touched; most = u.most }
+underway_room H x u = record { queue = u.search.sizes.1 ∙ sym u.search.sizes.0; parents = u.parents.size; touched = u.touched; most = u.search.limits }
 
 -- a known cost is the one that is listed
 some_known : (o : Option Cost) → is_some o ≡ true → o ≡ Some (unwrap_or o no_cost)
@@ -76,7 +76,8 @@ never_idle : (H : LevelsAndLegs) (x : Search) → x.stalls ≡ false → (v : �
 never_idle H x off v c idle = none_in_row v idle.leg (subst (λ b. Contains (row (back_of H x.side b) v) idle.leg) off idle.has)
 
 -- a search that ended without stalling, and its touched nodes in order
-module _ (H : LevelsAndLegs) (x : Search) (u : IsUnderway H x) (off : x.stalls ≡ false) (done : IsEmpty x.queue) (nodes : List ℕ) (rises : AllPairs (λ a b. a < b) nodes)
+module _ (H : LevelsAndLegs) (x : Search) (u : IsUnderway H x) (off : x.stalls ≡ false) (done : IsEmpty x.queue) (limit : Option ℕ) (most : IsMost limit x.most)
+    (nodes : List ℕ) (rises : AllPairs (λ a b. a < b) nodes)
     (reached : (v : ℕ) → Contains nodes v → is_some (cost_at x.costs.items v) ≡ true) (all : (v : ℕ) → is_some (cost_at x.costs.items v) ≡ true → Contains nodes v) where
   -- an entry of the list, by its place
   at : (i : ℕ) (d : ℕ × Cost) → i < length nodes → get_or (map (entry x.costs.items) nodes) i d ≡ entry x.costs.items (get_or nodes i 0)
@@ -87,7 +88,7 @@ module _ (H : LevelsAndLegs) (x : Search) (u : IsUnderway H x) (off : x.stalls �
   size = length-map nodes (entry x.costs.items)
 
   -- the nodes with their costs are all that is reached
-  pub spread_is : IsSpread (rows_of H x.side) x.source (map (entry x.costs.items) nodes)
+  pub spread_is : IsSpread (rows_of H x.side) limit x.source (map (entry x.costs.items) nodes)
   spread_is = record {
     order = λ i j d lt within.
         let n = size in
@@ -104,10 +105,11 @@ module _ (H : LevelsAndLegs) (x : Search) (u : IsUnderway H x) (off : x.stalls �
         let node : get_or nodes h.0 0 ≡ v = ap (λ (e : ℕ × Cost). e.0) is in
         let has : Contains nodes v = subst (Contains nodes) node (Contains-get_or nodes h.0 0 low) in
         let cost : unwrap_or (cost_at x.costs.items v) no_cost ≡ c = ap (λ q. unwrap_or (cost_at x.costs.items q) no_cost) (sym node) ∙ ap (λ (e : ℕ × Cost). e.1) is in
-        known_least _ _ _ _ _ u.search (never_idle H x off) done v c (some_known _ (reached v has) ∙ ap Some cost);
-    whole = λ v c h.
+        let known : cost_at x.costs.items v ≡ Some c = some_known _ (reached v has) ∙ ap Some cost in
+        (known_least _ _ _ _ _ u.search (never_idle H x off) done v c known, most.sound c.weight (u.search.light v c known));
+    whole = λ v c h low.
         let n = size in
-        let known = least_known _ _ _ _ _ u.search (never_idle H x off) done v c h in
+        let known = least_known _ _ _ _ _ u.search (never_idle H x off) done v c h (most.whole c.weight h.weight low) in
         let has = all v (ap is_some known) in
         let low : has.0 < length (map (entry x.costs.items) nodes) = (let lt = has.1 in omega arith) in
         let node : get_or nodes has.0 0 ≡ v = sym (get_or_default nodes has.0 v 0 has.1) ∙ has.2 in
@@ -115,14 +117,15 @@ module _ (H : LevelsAndLegs) (x : Search) (u : IsUnderway H x) (off : x.stalls �
   }
 
 -- the nodes of a search that ended without stalling, once they are sorted
-pub spread_of : (H : LevelsAndLegs) (x : Search) (sorted : Vec ℕ Global) (s : ℕ) (side : Side) → IsUnderway H x → x.stalls ≡ false → x.source ≡ s → x.side ≡ side → IsEmpty x.queue →
-    IsPermutation x.touched.items sorted.items → IsSorted nat_cmp sorted.items → IsSpread (rows_of H side) s (map (entry x.costs.items) sorted.items)
-spread_of H x sorted s side u off source is done p order =
-    let spread = spread_is H x u off done sorted.items (sorted_rises x.touched.items sorted.items u.touched.distinct p order)
+pub spread_of : (H : LevelsAndLegs) (x : Search) (sorted : Vec ℕ Global) (s : ℕ) (side : Side) (limit : Option ℕ) → IsMost limit x.most → IsUnderway H x → x.stalls ≡ false → x.source ≡ s → x.side ≡ side → IsEmpty x.queue →
+    IsPermutation x.touched.items sorted.items → IsSorted nat_cmp sorted.items →
+    IsSpread (rows_of H side) limit s (map (entry x.costs.items) sorted.items)
+spread_of H x sorted s side limit most u off source is done p order =
+    let spread = spread_is H x u off done limit most sorted.items (sorted_rises x.touched.items sorted.items u.touched.distinct p order)
     (λ v h. u.touched.reached v (Contains-permutation sorted.items x.touched.items v (IsPermutation-sym x.touched.items sorted.items p) h))
     (λ v k. Contains-permutation x.touched.items sorted.items v p (u.touched.listed v k)) in
-    let from_source = subst (λ q. IsSpread (rows_of H x.side) q (map (entry x.costs.items) sorted.items)) source spread in
-    subst (λ q. IsSpread (rows_of H q) s (map (entry x.costs.items) sorted.items)) is from_source
+    let from_source = subst (λ q. IsSpread (rows_of H x.side) limit q (map (entry x.costs.items) sorted.items)) source spread in
+    subst (λ q. IsSpread (rows_of H q) limit s (map (entry x.costs.items) sorted.items)) is from_source
 
 -- a touched node that is listed has a cost
 pub item_known : (best : List (Option Cost)) (touched : Vec ℕ Global) (items : List ℕ) (i : ℕ) → IsTouched best touched → items ≡ touched.items → i < length items →

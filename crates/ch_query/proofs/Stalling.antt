@@ -58,5 +58,4 @@ module _ (H : LevelsAndLegs) (x : Search) (v : ℕ) (c : Cost) (u : IsExpandingA
     search = stalled _ _ _ _ _ v c u.search idle;
     parents = finish_parents _ _ _ _ _ _ v c u.search.here u.parents (inl idle);
     touched = u.touched;
-    most = u.most;
   }

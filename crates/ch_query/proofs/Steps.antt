@@ -20,7 +20,7 @@ count_by_set : {X : Type 0} (p : X → Bool) (xs : List X) (i : ℕ) (y d : X) �
 count_by_set p xs i y d h = sum_by-set (λ x. cond (p x) 1 0) xs i y d h
 
 -- taking the least out of the queue
-module _ (rows : List (List Leg)) (s : ℕ) (Idle : ℕ → Cost → Type 0) (best queue : List (Option Cost)) (p : IsSearch rows s Idle best queue)
+module _ {most : ℕ} (rows : List (List Leg)) (s : ℕ) (Idle : ℕ → Cost → Type 0) (best queue : List (Option Cost)) (p : IsSearch most rows s Idle best queue)
     (v : ℕ) (c : Cost) (key : cost_at queue v ≡ Some c) (least : (x : ℕ) (d : Cost) → cost_at queue x ≡ Some d → IsAtMost c d) (within : v < length queue) where
   -- the queue without v
   left : List (Option Cost)
@@ -62,13 +62,15 @@ module _ (rows : List (List Leg)) (s : ℕ) (Idle : ℕ → Cost → Type 0) (be
   ]
 
   -- the legs of v are to be taken next
-  pub popped : IsExpanding rows s (OrNode Idle v) best (set queue v None) v c
+  pub popped : IsExpanding most rows s (OrNode Idle v) best (set queue v None) v c
   unfolding left
   popped = record {
     search = record {
+      limits = p.limits;
       sizes = (p.sizes.0, length-set queue v None ∙ p.sizes.1);
       start = p.start;
       sound = p.sound;
+      light = p.light;
       queued = λ x d e. p.queued x d (still x d e);
       order = λ x w a d h e. elim (settled_was x a h) [
         | inl was ↦ p.order x w a d was (still w d e)
@@ -109,9 +111,9 @@ module _ (rows : List (List Leg)) (s : ℕ) (Idle : ℕ → Cost → Type 0) (be
   popped_falls = let n = count_by_set is_some queue v None None within in omega (arith, rw key at n)
 
 -- a leg of v that shows a cheaper path
-module _ (rows : List (List Leg)) (s : ℕ) (Idle : ℕ → Cost → Type 0) (best queue : List (Option Cost)) (v : ℕ) (c : Cost)
-    (x : IsExpanding rows s Idle best queue v c)
-    (l : Leg) (has : Contains (row rows v) l) (light : c.weight + l.cost.weight ≤ 2 ^ 60) (h : WouldLower best l.node (cost_sum c l.cost)) where
+module _ {most : ℕ} (rows : List (List Leg)) (s : ℕ) (Idle : ℕ → Cost → Type 0) (best queue : List (Option Cost)) (v : ℕ) (c : Cost)
+    (x : IsExpanding most rows s Idle best queue v c)
+    (l : Leg) (has : Contains (row rows v) l) (light : c.weight + l.cost.weight ≤ most) (h : WouldLower best l.node (cost_sum c l.cost)) where
   -- the sum
   d : Cost
   d = cost_sum c l.cost
@@ -167,7 +169,7 @@ module _ (rows : List (List Leg)) (s : ℕ) (Idle : ℕ → Cost → Type 0) (be
   ]
 
   -- what was relaxed is so now
-  relaxed_stays : (a : Cost) (k : Leg) → IsRelaxedFrom best a k → IsRelaxedFrom best' a k
+  relaxed_stays : (a : Cost) (k : Leg) → IsRelaxedFrom most best a k → IsRelaxedFrom most best' a k
   unfolding d
   relaxed_stays a k r w =
       let old = r w in
@@ -183,7 +185,7 @@ module _ (rows : List (List Leg)) (s : ℕ) (Idle : ℕ → Cost → Type 0) (be
       let r = x.search.sound v c x.here.0 in
       record {
         path = (r.path.0 ++ l ∷ [], path_push rows s v r.path.0 l r.path.1 has, cost_push r.path.0 l ∙ ap (λ q. cost_sum q l.cost) r.path.2);
-        weight = light;
+        weight = (let most = x.search.limits in omega arith);
       }
 
   -- each cost is that of a path
@@ -193,6 +195,14 @@ module _ (rows : List (List Leg)) (s : ℕ) (Idle : ℕ → Cost → Type 0) (be
         let is : d ≡ a = same_Some _ _ (sym best_here ∙ ap (cost_at best') (sym here) ∙ e) in
         subst (λ q. IsUpwardCost rows s q a) (sym here) (subst (IsUpwardCost rows s l.node) is reached)
     | inr away ↦ x.search.sound y a (sym (best_other y away) ∙ e)
+  ]
+
+  -- and no heavier than it may be
+  not_heavy : (y : ℕ) (a : Cost) → cost_at best' y ≡ Some a → a.weight ≤ most
+  unfolding d
+  not_heavy y a e = elim (cases_eq y l.node) [
+    | inl here ↦ let is : d ≡ a = same_Some _ _ (sym best_here ∙ ap (cost_at best') (sym here) ∙ e) in subst (λ (q : Cost). q.weight ≤ most) is light
+    | inr away ↦ x.search.light y a (sym (best_other y away) ∙ e)
   ]
 
   -- each key is a cost
@@ -221,13 +231,15 @@ module _ (rows : List (List Leg)) (s : ℕ) (Idle : ℕ → Cost → Type 0) (be
   ]
 
   -- so the search goes on
-  pub lowered : IsExpanding rows s Idle (set best l.node (Some (cost_sum c l.cost))) (set queue l.node (Some (cost_sum c l.cost))) v c
+  pub lowered : IsExpanding most rows s Idle (set best l.node (Some (cost_sum c l.cost))) (set queue l.node (Some (cost_sum c l.cost))) v c
   unfolding d best' queue'
   lowered = record {
     search = record {
+      limits = x.search.limits;
       sizes = (length-set best l.node _ ∙ x.search.sizes.0, length-set queue l.node _ ∙ x.search.sizes.1);
       start = start;
       sound = sound;
+      light = not_heavy;
       queued = queued;
       order = order;
       frontier = λ y a k. elim (x.search.frontier y a (settled_earlier y a k)) [ inl idle ↦ inl idle | inr legs ↦ inr (λ m of. relaxed_stays a m (legs m of)) ];
@@ -249,12 +261,12 @@ module _ (rows : List (List Leg)) (s : ℕ) (Idle : ℕ → Cost → Type 0) (be
   lowered_stays = settled_stays
 
   -- what was relaxed is so now
-  pub lowered_keeps : (a : Cost) (k : Leg) → IsRelaxedFrom best a k → IsRelaxedFrom (set best l.node (Some (cost_sum c l.cost))) a k
+  pub lowered_keeps : (a : Cost) (k : Leg) → IsRelaxedFrom most best a k → IsRelaxedFrom most (set best l.node (Some (cost_sum c l.cost))) a k
   unfolding d best' queue'
   lowered_keeps = relaxed_stays
 
   -- the leg is relaxed
-  pub lowered_relaxes : IsRelaxedFrom (set best l.node (Some (cost_sum c l.cost))) c l
+  pub lowered_relaxes : IsRelaxedFrom most (set best l.node (Some (cost_sum c l.cost))) c l
   unfolding d best' queue'
   lowered_relaxes _ = (d, best_here, IsAtMost_refl d)
 
@@ -279,30 +291,32 @@ module _ (rows : List (List Leg)) (s : ℕ) (Idle : ℕ → Cost → Type 0) (be
   lowered_counts = counts _ _ refl refl
 
 -- a node whose legs are all relaxed, or that may be left idle
-module _ (rows : List (List Leg)) (s : ℕ) (Idle : ℕ → Cost → Type 0) (best queue : List (Option Cost)) (v : ℕ) (c : Cost)
-    (x : IsExpanding rows s (OrNode Idle v) best queue v c) where
+module _ {most : ℕ} (rows : List (List Leg)) (s : ℕ) (Idle : ℕ → Cost → Type 0) (best queue : List (Option Cost)) (v : ℕ) (c : Cost)
+    (x : IsExpanding most rows s (OrNode Idle v) best queue v c) where
   -- then the search is between two nodes
-  finish : Idle v c ⊎ ((l : Leg) → Contains (row rows v) l → IsRelaxedFrom best c l) → IsSearch rows s Idle best queue
+  finish : Idle v c ⊎ ((l : Leg) → Contains (row rows v) l → IsRelaxedFrom most best c l) → IsSearch most rows s Idle best queue
   finish done = record {
+    limits = x.search.limits;
     sizes = x.search.sizes;
     start = x.search.start;
     sound = x.search.sound;
+    light = x.search.light;
     queued = x.search.queued;
     order = x.search.order;
     frontier = λ y a k. elim (x.search.frontier y a k) [
       | inl (inl idle) ↦ inl idle
       | inl (inr is) ↦
           let same : c ≡ a = same_Some _ _ (sym x.here.0 ∙ ap (cost_at best) (sym is) ∙ k.0) in
-          subst (λ q. Idle q a ⊎ ((l : Leg) → Contains (row rows q) l → IsRelaxedFrom best a l)) (sym is)
-          (subst (λ q. Idle v q ⊎ ((l : Leg) → Contains (row rows v) l → IsRelaxedFrom best q l)) same done)
+          subst (λ q. Idle q a ⊎ ((l : Leg) → Contains (row rows q) l → IsRelaxedFrom most best a l)) (sym is)
+          (subst (λ q. Idle v q ⊎ ((l : Leg) → Contains (row rows v) l → IsRelaxedFrom most best q l)) same done)
       | inr legs ↦ inr legs
     ];
   }
 
   -- where all its legs are relaxed
-  pub expanded : ((l : Leg) → Contains (row rows v) l → IsRelaxedFrom best c l) → IsSearch rows s Idle best queue
+  pub expanded : ((l : Leg) → Contains (row rows v) l → IsRelaxedFrom most best c l) → IsSearch most rows s Idle best queue
   expanded legs = finish (inr legs)
 
   -- where it is idle
-  pub stalled : Idle v c → IsSearch rows s Idle best queue
+  pub stalled : Idle v c → IsSearch most rows s Idle best queue
   stalled idle = finish (inl idle)

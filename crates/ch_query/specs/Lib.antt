@@ -1,5 +1,6 @@
 pub mod Values
 pub mod Distance
+pub mod Limits
 pub mod Search
 pub mod Parents
 pub mod Side

@@ -1,5 +1,5 @@
 -- Two searches of the program that are to meet.
-use Rattle.std.specs.Prelude.{◌≡◌, ℕ, ◌⊎◌, true, Option, Some, None}
+use Rattle.std.specs.Prelude.{◌≡◌, ℕ, ◌^◌, ◌⊎◌, true, Option, Some, None}
 use Rattle.ch_graph.specs.declared.cost.Cost.{Cost}
 use Rattle.ch_graph.specs.Cost.{cost_sum}
 use Rattle.ch_contract.specs.Hierarchy.{LevelsAndLegs}
@@ -25,11 +25,12 @@ abbrev pub IsFoundBy : LevelsAndLegs → Search → Search → Option (Cost × �
 IsFoundBy H x y least =
     (e : Cost × ℕ) → least ≡ Some e → (a b : Cost) × IsUpwardCost (rows_of H x.side) x.source e.1 a × IsUpwardCost (rows_of H y.side) y.source e.1 b × (cost_sum a b ≡ e.0)
 
--- two searches underway that stall, and the least sum that they know: it covers all nodes that both settled
+-- two searches underway that stall, for paths of any weight within the limits, and the least sum that they know: it covers all nodes that both settled
 pub record AreMeeting (H : LevelsAndLegs) (x y : Search) (least : Option (Cost × ℕ)) : Type 0 where
   pub here : IsUnderway H x
   pub there : IsUnderway H y
   pub stalls : (x.stalls ≡ true) × (y.stalls ≡ true)
+  pub most : (x.most ≡ 2 ^ 60) × (y.most ≡ 2 ^ 60)
   pub seen : IsSeen x.costs.items x.queue y.costs.items y.queue least
   pub found : IsFoundBy H x y least
 

@@ -1,5 +1,5 @@
 -- For each reached node the least numbered node before it on a least path.
-use Rattle.std.specs.Prelude.{◌≡◌, ◌≢◌, ℕ, ◌+◌, ◌^◌, ◌≤◌, ◌⊎◌, List, length, slice_index, Contains, Option, Some}
+use Rattle.std.specs.Prelude.{◌≡◌, ◌≢◌, ℕ, ◌+◌, ◌≤◌, ◌⊎◌, List, length, slice_index, Contains, Option, Some}
 use Rattle.ch_graph.specs.declared.cost.Cost.{Cost}
 use Rattle.ch_graph.specs.Cost.{cost_sum, cost_at}
 use Rattle.ch_contract.specs.declared.leg.Leg.{Leg}
@@ -17,14 +17,14 @@ pub record IsParent (rows : List (List Leg)) (best queue : List (Option Cost)) (
   pub sum : cost_sum cost leg.cost ≡ e
 
 -- u is no earlier than the parent of each node that it gives its cost
-abbrev pub IsNoEarlier : List (Option Cost) → List ℕ → ℕ → Cost → Leg → Type 0
-IsNoEarlier best parents u c l = c.weight + l.cost.weight ≤ 2 ^ 60 → cost_at best l.node ≡ Some (cost_sum c l.cost) → slice_index parents l.node ≤ u
+abbrev pub IsNoEarlier : ℕ → List (Option Cost) → List ℕ → ℕ → Cost → Leg → Type 0
+IsNoEarlier most best parents u c l = c.weight + l.cost.weight ≤ most → cost_at best l.node ≡ Some (cost_sum c l.cost) → slice_index parents l.node ≤ u
 
 -- each reached node but the source has a parent, and no settled node with a leg that gives it its cost is before it
-pub record AreParents (rows : List (List Leg)) (s : ℕ) (Idle : ℕ → Cost → Type 0) (best queue : List (Option Cost)) (parents : List ℕ) : Type 0 where
+pub record AreParents (most : ℕ) (rows : List (List Leg)) (s : ℕ) (Idle : ℕ → Cost → Type 0) (best queue : List (Option Cost)) (parents : List ℕ) : Type 0 where
   pub size : length parents ≡ length best
   pub led : (x : ℕ) (e : Cost) → x ≢ s → cost_at best x ≡ Some e → IsParent rows best queue x e (slice_index parents x)
-  pub first : (u : ℕ) (c : Cost) → IsSettled best queue u c → Idle u c ⊎ ((l : Leg) → Contains (row rows u) l → IsNoEarlier best parents u c l)
+  pub first : (u : ℕ) (c : Cost) → IsSettled best queue u c → Idle u c ⊎ ((l : Leg) → Contains (row rows u) l → IsNoEarlier most best parents u c l)
 
 -- l leads up from u to x, last on a least path from a
 abbrev pub IsLast : List (List Leg) → ℕ → ℕ → ℕ → Leg → Type 0

@@ -11,25 +11,27 @@ use Rattle.ch_contract.specs.Paths.{IsUpwardPath, path_cost}
 abbrev pub IsSettled : List (Option Cost) → List (Option Cost) → ℕ → Cost → Type 0
 IsSettled best queue v c = (cost_at best v ≡ Some c) × (cost_at queue v ≡ None)
 
--- taken from a node of cost c, the leg shows nothing cheaper than what is known
-abbrev pub IsRelaxedFrom : List (Option Cost) → Cost → Leg → Type 0
-IsRelaxedFrom best c l = c.weight + l.cost.weight ≤ 2 ^ 60 → (e : Cost) × (cost_at best l.node ≡ Some e) × IsAtMost e (cost_sum c l.cost)
+-- taken from a node of cost c, the leg shows nothing cheaper than what is known, where the sum weighs no more than `most`
+abbrev pub IsRelaxedFrom : ℕ → List (Option Cost) → Cost → Leg → Type 0
+IsRelaxedFrom most best c l = c.weight + l.cost.weight ≤ most → (e : Cost) × (cost_at best l.node ≡ Some e) × IsAtMost e (cost_sum c l.cost)
 
 -- some upward path from s to v costs c, and weighs at most 2 ^ 60
 pub record IsUpwardCost (rows : List (List Leg)) (s v : ℕ) (c : Cost) : Type 0 where
   pub path : (legs : List Leg) × IsUpwardPath rows s v legs × (path_cost legs ≡ c)
   pub weight : c.weight ≤ 2 ^ 60
 
--- a search from s, where the nodes that are idle at their cost need not have their legs taken
-pub record IsSearch (rows : List (List Leg)) (s : ℕ) (Idle : ℕ → Cost → Type 0) (best queue : List (Option Cost)) : Type 0 where
+-- a search from s for paths that weigh no more than `most`, where the nodes that are idle at their cost need not have their legs taken
+pub record IsSearch (most : ℕ) (rows : List (List Leg)) (s : ℕ) (Idle : ℕ → Cost → Type 0) (best queue : List (Option Cost)) : Type 0 where
+  pub limits : most ≤ 2 ^ 60
   pub sizes : (length best ≡ length rows) × (length queue ≡ length rows)
   pub start : cost_at best s ≡ Some no_cost
   pub sound : (v : ℕ) (c : Cost) → cost_at best v ≡ Some c → IsUpwardCost rows s v c
+  pub light : (v : ℕ) (c : Cost) → cost_at best v ≡ Some c → c.weight ≤ most
   pub queued : (v : ℕ) (c : Cost) → cost_at queue v ≡ Some c → cost_at best v ≡ Some c
   -- no settled node costs more than a queued one
   pub order : (v w : ℕ) (c d : Cost) → IsSettled best queue v c → cost_at queue w ≡ Some d → IsAtMost c d
   -- the legs of a settled node were taken, or it is idle
-  pub frontier : (v : ℕ) (c : Cost) → IsSettled best queue v c → Idle v c ⊎ ((l : Leg) → Contains (row rows v) l → IsRelaxedFrom best c l)
+  pub frontier : (v : ℕ) (c : Cost) → IsSettled best queue v c → Idle v c ⊎ ((l : Leg) → Contains (row rows v) l → IsRelaxedFrom most best c l)
 
 -- v is a node in the queue with the least key, c
 pub record IsLeastKey (queue : List (Option Cost)) (v : ℕ) (c : Cost) : Type 0 where
@@ -37,8 +39,8 @@ pub record IsLeastKey (queue : List (Option Cost)) (v : ℕ) (c : Cost) : Type 0
   pub least : (x : ℕ) (d : Cost) → cost_at queue x ≡ Some d → IsAtMost c d
 
 -- v was settled last, at cost c, and its legs are being taken
-pub record IsExpanding (rows : List (List Leg)) (s : ℕ) (Idle : ℕ → Cost → Type 0) (best queue : List (Option Cost)) (v : ℕ) (c : Cost) : Type 0 where
-  pub search : IsSearch rows s Idle best queue
+pub record IsExpanding (most : ℕ) (rows : List (List Leg)) (s : ℕ) (Idle : ℕ → Cost → Type 0) (best queue : List (Option Cost)) (v : ℕ) (c : Cost) : Type 0 where
+  pub search : IsSearch most rows s Idle best queue
   pub here : IsSettled best queue v c
   pub latest : (x : ℕ) (a : Cost) → IsSettled best queue x a → IsAtMost a c
 
@@ -77,10 +79,10 @@ pub record WouldLower (best : List (Option Cost)) (w : ℕ) (d : Cost) : Type 0 
 
 -- what taking a leg of v, settled at cost c, changes of costs, queue and parents: it shows nothing cheaper, and the lesser of two parents stays;
 -- or its node gets the sum as cost and key, and v as parent
-abbrev pub Relaxes : List (Option Cost) → List (Option Cost) → List ℕ → ℕ → Cost → Leg → List (Option Cost) → List (Option Cost) → List ℕ → Type 0
-Relaxes best queue parents v c l best' queue' parents' =
-    ((best' ≡ best) × (queue' ≡ queue) × IsRelaxedFrom best c l
-    × (((c.weight + l.cost.weight ≤ 2 ^ 60 → cost_at best l.node ≡ Some (cost_sum c l.cost) → slice_index parents l.node ≤ v) × (parents' ≡ parents))
+abbrev pub Relaxes : ℕ → List (Option Cost) → List (Option Cost) → List ℕ → ℕ → Cost → Leg → List (Option Cost) → List (Option Cost) → List ℕ → Type 0
+Relaxes most best queue parents v c l best' queue' parents' =
+    ((best' ≡ best) × (queue' ≡ queue) × IsRelaxedFrom most best c l
+    × (((c.weight + l.cost.weight ≤ most → cost_at best l.node ≡ Some (cost_sum c l.cost) → slice_index parents l.node ≤ v) × (parents' ≡ parents))
     ⊎ ((cost_at best l.node ≡ Some (cost_sum c l.cost)) × (v < slice_index parents l.node) × (parents' ≡ slice_set parents l.node v))))
-    ⊎ ((c.weight + l.cost.weight ≤ 2 ^ 60) × WouldLower best l.node (cost_sum c l.cost) × (best' ≡ slice_set best l.node (Some (cost_sum c l.cost)))
+    ⊎ ((c.weight + l.cost.weight ≤ most) × WouldLower best l.node (cost_sum c l.cost) × (best' ≡ slice_set best l.node (Some (cost_sum c l.cost)))
     × (queue' ≡ slice_set queue l.node (Some (cost_sum c l.cost))) × (parents' ≡ slice_set parents l.node v))

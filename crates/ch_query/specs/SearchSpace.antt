@@ -1,5 +1,5 @@
 -- What a search to higher nodes answers that stalls: weights of paths, and among them those of all least walks.
-use Rattle.std.specs.Prelude.{◌≡◌, ℕ, ◌<◌, List, AllPairs, Contains}
+use Rattle.std.specs.Prelude.{◌≡◌, ℕ, ◌<◌, List, AllPairs, Contains, Option}
 use Rattle.ch_graph.specs.declared.cost.Cost.{Cost}
 use Rattle.ch_contract.specs.declared.leg.Leg.{Leg}
 use Rattle.ch_contract.specs.Hierarchy.{LevelsAndLegs}
@@ -7,6 +7,7 @@ use Rattle.ch_contract.specs.Paths.{IsUp, IsDown}
 use Rattle.ch_contract.specs.KeptLaws.{IsLeastMeeting}
 use Rattle.ch_query.specs.declared.side.Side.{Side}
 use Rattle.ch_query.specs.declared.side.Side.TheVariants.{Up, Down}
+use Rattle.ch_query.specs.Limits.{IsWithin}
 use Rattle.ch_query.specs.Search.{IsUpwardCost}
 use Rattle.ch_query.specs.Side.{rows_of}
 
@@ -19,8 +20,9 @@ abbrev pub IsTight : LevelsAndLegs → Side → ℕ → ℕ → Cost → Type 0
 IsTight H Up s v c = IsUp H s v c × IsLeastMeeting H s v c
 IsTight H Down s v c = IsDown H v s c × IsLeastMeeting H v s c
 
--- nodes and weights, in order of node: each weight is that of an upward path from s, and each tight node is there with its least
-pub record IsSearchSpace (H : LevelsAndLegs) (side : Side) (s : ℕ) (list : List (ℕ × ℕ)) : Type 0 where
+-- nodes and weights within the limit, in order of node: each weight is that of an upward path from s, and each tight node whose least
+-- weight is within the limit is there with it
+pub record IsSearchSpace (H : LevelsAndLegs) (side : Side) (limit : Option ℕ) (s : ℕ) (list : List (ℕ × ℕ)) : Type 0 where
   pub order : AllPairs (λ a b. a.0 < b.0) list
-  pub sound : (v x : ℕ) → Contains list (v, x) → IsPathWeight (rows_of H side) s v x
-  pub whole : (v : ℕ) (c : Cost) → IsTight H side s v c → Contains list (v, c.weight)
+  pub sound : (v x : ℕ) → Contains list (v, x) → IsPathWeight (rows_of H side) s v x × IsWithin limit x
+  pub whole : (v : ℕ) (c : Cost) → IsTight H side s v c → IsWithin limit c.weight → Contains list (v, c.weight)

@@ -2,18 +2,21 @@
 use Rattle.std.specs.Prelude.{◌≡◌, ℕ, ◌+◌, ◌≤◌, List, Contains, Option, MatchOption}
 use Rattle.ch_contract.specs.Hierarchy.{LevelsAndLegs}
 use Rattle.ch_query.specs.declared.side.Side.TheVariants.{Up, Down}
-use Rattle.ch_query.specs.Distance.{IsKeptForSome, IsDistanceBy, IsLeastWeight}
+use Rattle.ch_query.specs.Distance.{IsKeptForSome}
+use Rattle.ch_query.specs.Limits.{IsWithin, IsDistanceWithin}
 use Rattle.ch_query.specs.SearchSpace.{IsSearchSpace}
 
 -- x is the sum of the weights that two lists have for one node
 abbrev pub IsSharedSum : List (ℕ × ℕ) → List (ℕ × ℕ) → ℕ → Type 0
 IsSharedSum ups downs x = (v a b : ℕ) × Contains ups (v, a) × Contains downs (v, b) × (a + b ≡ x)
 
--- the least of these sums, and none where there are none
-abbrev pub IsLeastSharedSum : List (ℕ × ℕ) → List (ℕ × ℕ) → Option ℕ → Type 0
-IsLeastSharedSum ups downs answer = MatchOption answer ((x : ℕ) → IsSharedSum ups downs x → ⊥) (λ x. IsSharedSum ups downs x × ((y : ℕ) → IsSharedSum ups downs y → x ≤ y))
+-- the least of these sums that are within the limit, and none where there are none
+abbrev pub IsLeastSharedSum : Option ℕ → List (ℕ × ℕ) → List (ℕ × ℕ) → Option ℕ → Type 0
+IsLeastSharedSum limit ups downs answer = MatchOption answer ((x : ℕ) → IsSharedSum ups downs x → IsWithin limit x → ⊥)
+    (λ x. IsSharedSum ups downs x × IsWithin limit x × ((y : ℕ) → IsSharedSum ups downs y → IsWithin limit y → x ≤ y))
 
--- in a kept hierarchy the least sum of a search space up from s and one down to t is the distance, and there is none exactly where there is no walk
+-- in a kept hierarchy the least sum of a search space up from s and one down to t is the distance, where all are within a limit, and there is
+-- none exactly where there is no walk of a weight within it
 abbrev pub SearchSpacesGiveDistances : Type 0
-SearchSpacesGiveDistances = (H : LevelsAndLegs) (s t : ℕ) (ups downs : List (ℕ × ℕ)) (answer : Option ℕ) → IsKeptForSome H →
-    IsSearchSpace H Up s ups → IsSearchSpace H Down t downs → IsLeastSharedSum ups downs answer → IsLeastWeight H s t answer × IsDistanceBy H s t answer
+SearchSpacesGiveDistances = (H : LevelsAndLegs) (limit : Option ℕ) (s t : ℕ) (ups downs : List (ℕ × ℕ)) (answer : Option ℕ) → IsKeptForSome H →
+    IsSearchSpace H Up limit s ups → IsSearchSpace H Down limit t downs → IsLeastSharedSum limit ups downs answer → IsDistanceWithin H limit s t answer

@@ -4,12 +4,13 @@ use Rattle.ch_graph.specs.declared.cost.Cost.{Cost}
 use Rattle.ch_graph.specs.Cost.{no_cost, cost_at}
 use Rattle.ch_contract.specs.declared.leg.Leg.{Leg}
 use Rattle.ch_contract.specs.Paths.{IsLeastUpwardPath}
+use Rattle.ch_query.specs.Limits.{IsWithin}
 
--- exactly the nodes that are reached from s, with their least costs, in order of node
-pub record IsSpread (rows : List (List Leg)) (s : ℕ) (list : List (ℕ × Cost)) : Type 0 where
+-- exactly the nodes that are reached from s at a weight within the limit, with their least costs, in order of node
+pub record IsSpread (rows : List (List Leg)) (limit : Option ℕ) (s : ℕ) (list : List (ℕ × Cost)) : Type 0 where
   pub order : AllPairs (λ a b. a.0 < b.0) list
-  pub sound : (v : ℕ) (c : Cost) → Contains list (v, c) → IsLeastUpwardPath rows s v c
-  pub whole : (v : ℕ) (c : Cost) → IsLeastUpwardPath rows s v c → Contains list (v, c)
+  pub sound : (v : ℕ) (c : Cost) → Contains list (v, c) → IsLeastUpwardPath rows s v c × IsWithin limit c.weight
+  pub whole : (v : ℕ) (c : Cost) → IsLeastUpwardPath rows s v c → IsWithin limit c.weight → Contains list (v, c)
 
 -- a node and its cost
 abbrev pub entry : List (Option Cost) → ℕ → ℕ × Cost

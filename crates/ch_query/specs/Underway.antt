@@ -25,12 +25,12 @@ pub record IsTouched (best : List (Option Cost)) (touched : Vec ℕ Global) : Ty
   pub listed : (v : ℕ) → is_some (cost_at best v) ≡ true → Contains touched.items v
   pub distinct : AllPairs ◌≢◌ touched.items
 
--- the lists are for the same nodes, the touched ones are known, and paths may weigh as much as the limits let them
+-- the lists are for the same nodes, the touched ones are known, and paths may weigh no more than the limits let them
 pub record IsRoom (x : Search) : Type 0 where
   pub queue : length x.queue ≡ length x.costs.items
   pub parents : length x.parents.items ≡ length x.costs.items
   pub touched : IsTouched x.costs.items x.touched
-  pub most : x.most ≡ 2 ^ 60
+  pub most : x.most ≤ 2 ^ 60
 
 -- how many nodes are not settled
 abbrev pub unsettled_in : Search → ℕ
@@ -50,19 +50,17 @@ idle_of H x v c = IsStalled (rows_of H x.side) (back_of H x.side x.stalls) x.sou
 -- a search between two nodes
 pub record IsUnderway (H : LevelsAndLegs) (x : Search) : Type 0 where
   pub levelled : IsLevelled H
-  pub search : IsSearch (rows_of H x.side) x.source (idle_of H x) x.costs.items x.queue
-  pub parents : AreParents (rows_of H x.side) x.source (idle_of H x) x.costs.items x.queue x.parents.items
+  pub search : IsSearch x.most (rows_of H x.side) x.source (idle_of H x) x.costs.items x.queue
+  pub parents : AreParents x.most (rows_of H x.side) x.source (idle_of H x) x.costs.items x.queue x.parents.items
   pub touched : IsTouched x.costs.items x.touched
-  pub most : x.most ≡ 2 ^ 60
 
 -- a search that takes the legs of v, which was settled last, at cost c
 pub record IsExpandingAt (H : LevelsAndLegs) (x : Search) (v : ℕ) (c : Cost) : Type 0 where
   pub levelled : IsLevelled H
   pub within : v < nodes_of H
-  pub search : IsExpanding (rows_of H x.side) x.source (OrNode (idle_of H x) v) x.costs.items x.queue v c
-  pub parents : AreParents (rows_of H x.side) x.source (OrNode (idle_of H x) v) x.costs.items x.queue x.parents.items
+  pub search : IsExpanding x.most (rows_of H x.side) x.source (OrNode (idle_of H x) v) x.costs.items x.queue v c
+  pub parents : AreParents x.most (rows_of H x.side) x.source (OrNode (idle_of H x) v) x.costs.items x.queue x.parents.items
   pub touched : IsTouched x.costs.items x.touched
-  pub most : x.most ≡ 2 ^ 60
 
 -- nodes that are settled, each once, and among them all that need to be expanded
 pub record AreUnstalled (H : LevelsAndLegs) (x : Search) (nodes : List ℕ) : Type 0 where
@@ -78,7 +76,7 @@ pub record AreWeights (best : List (Option Cost)) (nodes : List ℕ) (list : Lis
 
 -- what taking a leg of v, settled at cost c, changes
 abbrev pub RelaxesIn : Search → ℕ → Cost → Leg → Search → Type 0
-RelaxesIn x v c l y = Relaxes x.costs.items x.queue x.parents.items v c l y.costs.items y.queue y.parents.items
+RelaxesIn x v c l y = Relaxes x.most x.costs.items x.queue x.parents.items v c l y.costs.items y.queue y.parents.items
 
 -- what is settled in y was settled in x, at the same cost
 abbrev pub KeepsSettled : Search → Search → Type 0
@@ -88,7 +86,7 @@ KeepsSettled x y = (v : ℕ) (c : Cost) → IsSettled y.costs.items y.queue v c 
 pub record IsPartlyExpanded (H : LevelsAndLegs) (x y : Search) (v : ℕ) (c : Cost) (legs : List Leg) : Type 0 where
   pub same : IsSameSearch x y
   pub expanding : IsExpandingAt H y v c
-  pub relaxed : (l : Leg) → Contains legs l → IsRelaxedFrom y.costs.items c l × IsNoEarlier y.costs.items y.parents.items v c l
+  pub relaxed : (l : Leg) → Contains legs l → IsRelaxedFrom y.most y.costs.items c l × IsNoEarlier y.most y.costs.items y.parents.items v c l
   pub settled : KeepsSettled x y
   pub stays : KeepsSettled y x
   pub measure : unsettled_in y ≡ unsettled_in x

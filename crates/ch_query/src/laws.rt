@@ -15,8 +15,8 @@ pub fn routes_are_least_walks()
 {}
 
 /// In each hierarchy that is right for a graph the least sum of the weights that a search space up from one
-/// node and one down to another have for one node is the distance, and there is none exactly where there is
-/// no walk.
+/// node and one down to another have for one node is the distance, where all of these are within a limit, and
+/// there is none exactly where there is no walk of a weight within it.
 pub fn search_spaces_give_distances()
     ensures { SearchSpacesGiveDistances }
 {}

@@ -2,6 +2,7 @@
 ghost use Rattle.std.specs.Prelude.{◌≡◌, ◌+◌, ◌^◌, ◌<◌, ◌≤◌, ◌↔◌, length, slice_set, Some, true, false, IsTrue, IfOk};
 ghost use Rattle.ch_graph.specs.Cost.{IsBelow};
 ghost use Rattle.ch_contract.specs.Hierarchy.{nodes_of};
+ghost use Rattle.ch_query.specs.Limits.{IsMost};
 ghost use Rattle.ch_query.specs.Underway.{idle_of, unsettled_in, IsTouched, IsRoom, RelaxesIn, IsSameSearch, IsUnderway, IsExpandingAt, KeepsSettled, IsClean};
 ghost use Rattle.ch_query.specs.Meeting.{IsFresh};
 
@@ -22,8 +23,8 @@ pub(crate) struct Search {
     /// Whether a node to which a higher node shows a cheaper way is left unexpanded. A spread, which has to
     /// find all least paths, does not stall.
     pub(crate) stalls: bool,
-    /// The most that a path may weigh. A leg that would make it weigh more is not taken. Today it is the
-    /// limit in all searches.
+    /// The most that a path may weigh. A leg that would make it weigh more is not taken, so no node that is
+    /// farther away gets a key.
     pub(crate) most: u64,
     /// By node: the least cost known of a path from the source to it.
     pub(crate) costs: Vec<Option<Cost>>,
@@ -57,7 +58,7 @@ impl Search {
         })
     }
 
-    /// Puts the source into a clean search.
+    /// Puts the source into a clean search for paths of any weight within the limits.
     pub(crate) fn begin(&mut self, hierarchy: &Hierarchy, source: u32, stalls: bool)
         requires clean { IsClean (nodes_of hierarchy.now) self.old }
         requires source { source < nodes_of hierarchy.now }
@@ -65,11 +66,34 @@ impl Search {
         ensures side { self.new.side ≡ self.old.side }
         ensures source { self.new.source ≡ source }
         ensures stalls { self.new.stalls ≡ stalls }
+        ensures most { self.new.most ≡ 2 ^ 60 }
+        ensures fresh { IsFresh self.new }
+    {
+        self.begin_up_to(hierarchy, source, stalls, MOST_WEIGHT);
+    }
+
+    /// Puts the source into a clean search for paths that weigh no more than `most`.
+    pub(crate) fn begin_up_to(
+        &mut self,
+        hierarchy: &Hierarchy,
+        source: u32,
+        stalls: bool,
+        most: u64,
+    )
+        requires clean { IsClean (nodes_of hierarchy.now) self.old }
+        requires source { source < nodes_of hierarchy.now }
+        requires most { most ≤ 2 ^ 60 }
+        ensures underway { IsUnderway hierarchy.now self.new }
+        ensures side { self.new.side ≡ self.old.side }
+        ensures source { self.new.source ≡ source }
+        ensures stalls { self.new.stalls ≡ stalls }
+        ensures most { self.new.most ≡ most }
         ensures fresh { IsFresh self.new }
     {
         let _nodes = hierarchy.nodes();
         self.source = source;
         self.stalls = stalls;
+        self.most = most;
         let nothing = Cost { weight: 0, arcs: 0 };
         self.reach(source, nothing, source);
     }
@@ -178,6 +202,16 @@ impl Search {
         while let Some(node) = self.touched.pop() {
             self.costs[node as usize] = None;
         }
+    }
+}
+
+/// The most that the weight of a path within the limit may be.
+pub(crate) fn most_within(within: Option<u64>) -> u64
+    ensures { IsMost within result }
+{
+    match within {
+        Some(most) => most.min(MOST_WEIGHT),
+        None => MOST_WEIGHT,
     }
 }
 

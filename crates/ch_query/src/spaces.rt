@@ -3,13 +3,14 @@ ghost use Rattle.std.specs.Prelude.{◌≡◌, ℕ, ◌<◌, true, is_some, IfOk
 ghost use Rattle.ch_graph.specs.Cost.{cost_at};
 ghost use Rattle.ch_contract.specs.Hierarchy.{nodes_of};
 ghost use Rattle.ch_query.specs.Distance.{IsKeptForSome};
+ghost use Rattle.ch_query.specs.Limits.{IsMost};
 ghost use Rattle.ch_query.specs.Meeting.{IsFresh};
 ghost use Rattle.ch_query.specs.Search.{IsEmpty};
 ghost use Rattle.ch_query.specs.SearchSpace.{IsSearchSpace};
 ghost use Rattle.ch_query.specs.Underway.{AreUnstalled, AreWeights, IsSameSearch, IsUnderway, IsClean};
 
 use crate::scratch::Scratch;
-use crate::search::Search;
+use crate::search::{Search, most_within};
 use crate::side::Side;
 use ch_contract::Hierarchy;
 use std::alloc::{AllocError, Global};
@@ -53,17 +54,19 @@ impl Search {
         Ok(list)
     }
 
-    /// The search space of the node where the search began.
+    /// The search space of the node where the search began, for paths within the limit.
     fn space_from(
         &mut self,
         alloc: Global,
         hierarchy: &Hierarchy,
+        within: Option<u64>,
     ) -> Result<Vec<(u32, u64)>, AllocError>
         requires kept { IsKeptForSome hierarchy.now }
         requires underway { IsUnderway hierarchy.now self.old }
         requires fresh { IsFresh self.old }
         requires stalls { self.old.stalls ≡ true }
-        ensures space { IfOk result (λ list. IsSearchSpace hierarchy.now self.old.side self.old.source list.items) }
+        requires most { IsMost within self.old.most }
+        ensures space { IfOk result (λ list. IsSearchSpace hierarchy.now self.old.side within self.old.source list.items) }
         ensures underway { IsUnderway hierarchy.now self.new }
         ensures side { self.new.side ≡ self.old.side }
     {
@@ -72,22 +75,24 @@ impl Search {
         self.weights(alloc, &nodes)
     }
 
-    /// The search space of a node. The search is clean afterwards, also where there is no memory.
+    /// The search space of a node within the limit. The search is clean afterwards, also where there is no
+    /// memory.
     fn space(
         &mut self,
         alloc: Global,
         hierarchy: &Hierarchy,
         source: u32,
+        within: Option<u64>,
     ) -> Result<Vec<(u32, u64)>, AllocError>
         requires kept { IsKeptForSome hierarchy.now }
         requires clean { IsClean (nodes_of hierarchy.now) self.old }
         requires source { source < nodes_of hierarchy.now }
-        ensures space { IfOk result (λ list. IsSearchSpace hierarchy.now self.old.side source list.items) }
+        ensures space { IfOk result (λ list. IsSearchSpace hierarchy.now self.old.side within source list.items) }
         ensures clean { IsClean (nodes_of hierarchy.now) self.new }
         ensures side { self.new.side ≡ self.old.side }
     {
-        self.begin(hierarchy, source, true);
-        let list = self.space_from(alloc, hierarchy);
+        self.begin_up_to(hierarchy, source, true, most_within(within));
+        let list = self.space_from(alloc, hierarchy, within);
         self.clean();
         list
     }
@@ -99,7 +104,8 @@ impl Search {
 /// It searches as [`distance`](crate::distance) does, but to its end: a reached node to which a higher node
 /// shows a cheaper way is not expanded, and has no entry ("stall on demand", Geisberger, Sanders, Schultes
 /// and Delling 2008). Each node whose least path is a least walk of the graph has an entry, with its weight,
-/// and those are the nodes over which distances lead. A [`spread`](crate::spread) has the least paths to all.
+/// and those are the nodes over which distances lead. With a limit `within`, entries weigh at most that, and
+/// each such node has one whose weight does. A [`spread`](crate::spread) has the least paths to all.
 ///
 /// # Errors
 /// `AllocError` where there is no memory for the list; the scratch then serves on.
@@ -109,15 +115,16 @@ pub fn search_space(
     scratch: &mut Scratch,
     source: u32,
     side: Side,
+    within: Option<u64>,
 ) -> Result<Vec<(u32, u64)>, AllocError>
     requires kept { IsKeptForSome hierarchy.now }
     requires scratch { scratch.old ≡ nodes_of hierarchy.now }
     requires source { source < nodes_of hierarchy.now }
-    ensures space { IfOk result (λ list. IsSearchSpace hierarchy.now side source list.items) }
+    ensures space { IfOk result (λ list. IsSearchSpace hierarchy.now side within source list.items) }
     ensures scratch { scratch.new ≡ scratch.old }
 {
     match side {
-        Side::Up => scratch.up.space(alloc, hierarchy, source),
-        Side::Down => scratch.down.space(alloc, hierarchy, source),
+        Side::Up => scratch.up.space(alloc, hierarchy, source, within),
+        Side::Down => scratch.down.space(alloc, hierarchy, source, within),
     }
 }

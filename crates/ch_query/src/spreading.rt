@@ -7,7 +7,7 @@ ghost use Rattle.ch_query.specs.Side.{rows_of};
 ghost use Rattle.ch_query.specs.Spread.{IsSpread, entry};
 
 use crate::scratch::Scratch;
-use crate::search::Search;
+use crate::search::{Search, most_within};
 use crate::side::Side;
 use ch_contract::Hierarchy;
 use ch_graph::Cost;
@@ -40,20 +40,22 @@ impl Search {
         Ok(list)
     }
 
-    /// All least costs from the source. The search is clean afterwards, also where there is no memory.
+    /// All least costs from the source within the limit. The search is clean afterwards, also where there is
+    /// no memory.
     fn spread(
         &mut self,
         alloc: Global,
         hierarchy: &Hierarchy,
         source: u32,
+        within: Option<u64>,
     ) -> Result<Vec<(u32, Cost)>, AllocError>
         requires clean { IsClean (nodes_of hierarchy.now) self.old }
         requires source { source < nodes_of hierarchy.now }
-        ensures spread { IfOk result (λ list. IsSpread (rows_of hierarchy.now self.old.side) source list.items) }
+        ensures spread { IfOk result (λ list. IsSpread (rows_of hierarchy.now self.old.side) within source list.items) }
         ensures clean { IsClean (nodes_of hierarchy.now) self.new }
         ensures side { self.new.side ≡ self.old.side }
     {
-        self.begin(hierarchy, source, false);
+        self.begin_up_to(hierarchy, source, false, most_within(within));
         self.explore(hierarchy);
         self.touched.sort_unstable();
         let list = self.listed(alloc);
@@ -63,7 +65,8 @@ impl Search {
 }
 
 /// The nodes that `source` reaches by legs to higher nodes in this direction, with the least costs of the
-/// paths, ordered by node.
+/// paths, ordered by node: all of them, or those whose least path weighs at most `within`. With such a limit the
+/// search ends where the least weight that is left is more.
 ///
 /// # Errors
 /// `AllocError` where there is no memory for the list.
@@ -73,14 +76,15 @@ pub fn spread(
     scratch: &mut Scratch,
     source: u32,
     side: Side,
+    within: Option<u64>,
 ) -> Result<Vec<(u32, Cost)>, AllocError>
     requires scratch { scratch.old ≡ nodes_of hierarchy.now }
     requires source { source < nodes_of hierarchy.now }
-    ensures spread { IfOk result (λ list. IsSpread (rows_of hierarchy.now side) source list.items) }
+    ensures spread { IfOk result (λ list. IsSpread (rows_of hierarchy.now side) within source list.items) }
     ensures scratch { scratch.new ≡ scratch.old }
 {
     match side {
-        Side::Up => scratch.up.spread(alloc, hierarchy, source),
-        Side::Down => scratch.down.spread(alloc, hierarchy, source),
+        Side::Up => scratch.up.spread(alloc, hierarchy, source, within),
+        Side::Down => scratch.down.spread(alloc, hierarchy, source, within),
     }
 }

@@ -3,3 +3,4 @@ pub mod Bytes
 pub mod Inputs
 pub mod OneText
 pub mod Tables
+pub mod Writes

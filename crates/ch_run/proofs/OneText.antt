@@ -1,13 +1,13 @@
 -- The definitions name one text.
-use Rattle.std.proofs.Common.{◌≡◌, ℕ, Bool, true, false, List, [], ◌∷◌, Option, Some, None, sym, ap, ap₂, ◌∙◌, refl, subst, arith}
+use Rattle.std.proofs.Common.{◌≡◌, ℕ, Bool, true, false, List, [], ◌∷◌, Option, Some, None, sym, ap, ap₂, ◌∙◌, refl, subst, arith, inl, inr}
 use Rattle.std.specs.List.{AllZip, zip, flat_map}
 use Rattle.std.specs.Prelude.{not, ◌&&◌}
+use Rattle.std.proofs.lemmas.Bool.{cases_lt}
 use Rattle.std.proofs.lemmas.Option.{none-some, same_Some}
 use Rattle.ch_graph.specs.declared.arc.InArc.{InArc}
-use Rattle.ch_graph.specs.Graph.{Network, IsWithinLimits}
+use Rattle.ch_graph.specs.Graph.{Network}
 use Rattle.ch_graph.specs.Walk.{IsAnswer, IsDistance}
-use Rattle.ch_contract.specs.Legs.{IsHopBound}
-use Rattle.ch_contract.specs.Hierarchy.{LevelsAndLegs}
+use Rattle.ch_contract.specs.Hierarchy.{LevelsAndLegs, IsHierarchy}
 use Rattle.ch_contract.specs.Kept.{IsKept}
 use Rattle.ch_contract.proofs.theory.BuiltKept.{hierarchies_kept}
 use Rattle.ch_contract.proofs.theory.OneOrder.{one_hierarchy}
@@ -16,7 +16,8 @@ use Rattle.ch_query.specs.declared.routes.Route.{Route}
 use Rattle.ch_query.specs.Answers.{HasArcs}
 use Rattle.ch_query.proofs.RouteWalks.{route_one}
 use Rattle.ch_run.specs.Text.{AnswersShortly, AnswersWithRoute, HasText, IsText, IsTextBy, answer_text}
-use Rattle.ch_run.specs.TableText.{IsTableRow, IsTableText, row_text}
+use Rattle.ch_query.specs.Limits.{IsCut}
+use Rattle.ch_run.specs.TableText.{IsCell, IsTableRow, IsTableText, row_text}
 use Rattle.ch_run.specs.Device.{HasGiven}
 use Rattle.ch_run.specs.Run.{Reading, ReadsGraph, ReadsNodes, ReadsQueries}
 use Rattle.ch_run.specs.TextLaws.{AnswersHaveOneText, TablesHaveOneText}
@@ -53,6 +54,19 @@ one_cell g s t None (Some y) h k = absurd (h k.walk.0 k.walk.1)
 one_cell g s t (Some x) None h k = absurd (k h.walk.0 h.walk.1)
 one_cell g s t (Some x) (Some y) h k = ap Some (one_distance g s t x y h k)
 
+-- what is left of it within a limit is one
+one_cut : (limit whole a b : Option ℕ) → IsCut limit whole a → IsCut limit whole b → a ≡ b
+one_cut limit None a b h k = h ∙ sym k
+one_cut None (Some x) a b h k = h.0 tt ∙ sym (k.0 tt)
+one_cut (Some most) (Some x) a b h k = elim (cases_lt most x) [
+  | inl above ↦ h.1 (λ low. omega arith) ∙ sym (k.1 (λ low. omega arith))
+  | inr low ↦ h.0 low ∙ sym (k.0 low)
+]
+
+-- so a cell is one
+one_cell_within : (g : Network) (limit : Option ℕ) (s t : ℕ) (a b : Option ℕ) → IsCell g limit s t a → IsCell g limit s t b → a ≡ b
+one_cell_within g limit s t a b h k = one_cut limit h.0 a b h.2 (subst (λ whole. IsCut limit whole b) (sym (one_cell g s t h.0 k.0 h.1 k.1)) k.2)
+
 -- answers with equal parts are equal
 same_answers : (a b : Answer) → a.from ≡ b.from → a.to ≡ b.to → a.weight ≡ b.weight → a.arcs ≡ b.arcs → a ≡ b
 same_answers a b from to weight arcs = λ i. record { from = from i; to = to i; weight = weight i; arcs = arcs i }
@@ -83,13 +97,13 @@ one_routed g H kept query a b h k =
 one_answers_text : (P : ℕ × ℕ → Answer → Type 0) → ((q : ℕ × ℕ) (a b : Answer) → P q a → P q b → a ≡ b) → (queries : List (ℕ × ℕ)) (text other : List ℕ) → HasText P queries text → HasText P queries other → text ≡ other
 one_answers_text P one queries text other h k = h.2 ∙ ap (flat_map answer_text) (one_list P one queries h.0 k.0 h.1 k.1) ∙ sym k.2
 
--- the answers have one text
-one_text_by : (routes : Bool) (g : Network) (h : ℕ) → IsWithinLimits g → IsHopBound h → (queries : List (ℕ × ℕ)) (text other : List ℕ) → IsTextBy routes g h queries text → IsTextBy routes g h queries other → text ≡ other
-one_text_by false g h limits hops queries text other t u = one_answers_text (AnswersShortly g) (one_short g) queries text other t u
-one_text_by true g h limits hops queries text other t u =
-    let same = one_hierarchy g h u.0 t.0 u.1 t.1 in
-    let kept = hierarchies_kept g h t.0 limits hops t.1 in
-    one_answers_text (AnswersWithRoute g t.0) (one_routed g t.0 kept) queries text other t.2 (subst (λ (H : LevelsAndLegs). HasText (AnswersWithRoute g H) queries other) same u.2)
+-- the answers have one text, where the routes are by one hierarchy, which is kept
+one_text_by : (routes : Bool) (g : Network) (From : LevelsAndLegs → Type 0) → ((H K : LevelsAndLegs) → From H → From K → H ≡ K) → ((H : LevelsAndLegs) → From H → IsKept g H) →
+    (queries : List (ℕ × ℕ)) (text other : List ℕ) → IsTextBy routes g From queries text → IsTextBy routes g From queries other → text ≡ other
+one_text_by false g From one kept queries text other t u = one_answers_text (AnswersShortly g) (one_short g) queries text other t u
+one_text_by true g From one kept queries text other t u =
+    let same : u.0 ≡ t.0 = one u.0 t.0 u.1 t.1 in
+    one_answers_text (AnswersWithRoute g t.0) (one_routed g t.0 (kept t.0 t.1)) queries text other t.2 (subst (λ (H : LevelsAndLegs). HasText (AnswersWithRoute g H) queries other) same u.2)
 
 -- a graph is named by its bytes
 same_graph : (graph : Reading) (bytes : List ℕ) (g h : Network) → graph.before ≡ Some bytes → ReadsGraph graph g → ReadsGraph graph h → g ≡ h
@@ -107,13 +121,13 @@ same_nodes list bytes n p q told a b =
     (nodes_answer bytes n).one_value p q (subst (λ xs. NamesNodes xs n p) (given_bytes list.before list.after bytes a.0 told a.1) a.2) (subst (λ xs. NamesNodes xs n q) (given_bytes list.before list.after bytes b.0 told b.1) b.2)
 
 -- a row has one list of cells
-one_row : (g : Network) (targets : List ℕ) (s : ℕ) (xs ys : List (Option ℕ)) → IsTableRow g targets s xs → IsTableRow g targets s ys → xs ≡ ys
-one_row g targets s xs ys h k = one_list (IsAnswer g s) (one_cell g s) targets xs ys h k
+one_row : (g : Network) (limit : Option ℕ) (targets : List ℕ) (s : ℕ) (xs ys : List (Option ℕ)) → IsTableRow g limit targets s xs → IsTableRow g limit targets s ys → xs ≡ ys
+one_row g limit targets s xs ys h k = one_list (IsCell g limit s) (one_cell_within g limit s) targets xs ys h k
 
 -- a table has one text
-one_table_text : (g : Network) (sources targets text other : List ℕ) → IsTableText g sources targets text → IsTableText g sources targets other → text ≡ other
-one_table_text g sources targets text other h k =
-    h.2 ∙ ap (λ rows. flat_map row_text (zip sources rows)) (one_list (IsTableRow g targets) (one_row g targets) sources h.0 k.0 h.1 k.1) ∙ sym k.2
+one_table_text : (g : Network) (limit : Option ℕ) (sources targets text other : List ℕ) → IsTableText g limit sources targets text → IsTableText g limit sources targets other → text ≡ other
+one_table_text g limit sources targets text other h k =
+    h.2 ∙ ap (λ rows. flat_map row_text (zip sources rows)) (one_list (IsTableRow g limit targets) (one_row g limit targets) sources h.0 k.0 h.1 k.1) ∙ sym k.2
 
 -- inputs that tell their bytes are answered by one text
 pub one_text : AnswersHaveOneText
@@ -121,14 +135,15 @@ one_text options graph queries graph_bytes query_bytes text other hops told_grap
     let same : h.0 ≡ k.0 = same_graph graph graph_bytes h.0 k.0 told_graph h.3 k.3 in
     let pairs : h.1 ≡ k.1 = same_queries queries query_bytes h.0.nodes h.1 k.1 told_queries h.4 (subst (λ (g : Network). ReadsQueries queries g.nodes k.1) (sym same) k.4) in
     let here : IsText options h.0 h.1 other = subst (λ p. IsText options h.0 p other) (sym pairs) (subst (λ (g : Network). IsText options g k.1 other) (sym same) k.5) in
-    one_text_by (not options.plain && options.routes) h.0 options.hops h.2 hops h.1 text other h.5 here
+    let kept : (H : LevelsAndLegs) → IsHierarchy h.0 options.hops H → IsKept h.0 H = λ H is. hierarchies_kept h.0 options.hops H h.2 hops is in
+    one_text_by (not options.plain && options.routes) h.0 (IsHierarchy h.0 options.hops) (one_hierarchy h.0 options.hops) kept h.1 text other h.5 here
 
 -- inputs that tell their bytes have one table
 pub one_table : TablesHaveOneText
-one_table graph sources targets graph_bytes source_bytes target_bytes text other told_graph told_sources told_targets h k =
+one_table options graph sources targets graph_bytes source_bytes target_bytes text other told_graph told_sources told_targets h k =
     let same : h.0 ≡ k.0 = same_graph graph graph_bytes h.0 k.0 told_graph h.3 k.3 in
     let from : h.1 ≡ k.1 = same_nodes sources source_bytes h.0.nodes h.1 k.1 told_sources h.4 (subst (λ (g : Network). ReadsNodes sources g.nodes k.1) (sym same) k.4) in
     let to : h.2 ≡ k.2 = same_nodes targets target_bytes h.0.nodes h.2 k.2 told_targets h.5 (subst (λ (g : Network). ReadsNodes targets g.nodes k.2) (sym same) k.5) in
-    let first : IsTableText h.0 k.1 k.2 other = subst (λ (g : Network). IsTableText g k.1 k.2 other) (sym same) k.7 in
-    let second : IsTableText h.0 h.1 k.2 other = subst (λ xs. IsTableText h.0 xs k.2 other) (sym from) first in
-    one_table_text h.0 h.1 h.2 text other h.7 (subst (λ xs. IsTableText h.0 h.1 xs other) (sym to) second)
+    let first : IsTableText h.0 options.within k.1 k.2 other = subst (λ (g : Network). IsTableText g options.within k.1 k.2 other) (sym same) k.7 in
+    let second : IsTableText h.0 options.within h.1 k.2 other = subst (λ xs. IsTableText h.0 options.within xs k.2 other) (sym from) first in
+    one_table_text h.0 options.within h.1 h.2 text other h.7 (subst (λ xs. IsTableText h.0 options.within h.1 xs other) (sym to) second)

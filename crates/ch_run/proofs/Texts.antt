@@ -1,11 +1,11 @@
 -- Texts that grow item by item, and the texts of answers.
-use Rattle.std.proofs.Common.{◌≡◌, ℕ, ◌+◌, ◌<◌, ◌≤◌, Bool, true, false, List, [], ◌∷◌, ◌++◌, length, take, get_or, Option, Some, None, sym, ap, ◌∙◌, subst, arith}
+use Rattle.std.proofs.Common.{◌≡◌, ℕ, ◌+◌, ◌<◌, ◌≤◌, Bool, true, false, List, [], ◌∷◌, ◌++◌, length, take, get_or, Option, Some, None, refl, sym, ap, ◌∙◌, subst, arith}
 use Rattle.std.proofs.lemmas.List.{take_more, take_all, flat_map_more}
 use Rattle.std.proofs.lemmas.Slice.Zip.{all_zipped_more, length-zip, get_or-zip}
 use Rattle.std.specs.List.{AllZip, zip, flat_map}
 use Rattle.ch_graph.specs.declared.arc.InArc.{InArc}
 use Rattle.ch_graph.specs.Graph.{Network, IsWithinLimits}
-use Rattle.ch_contract.specs.Hierarchy.{LevelsAndLegs, IsHierarchy}
+use Rattle.ch_contract.specs.Hierarchy.{LevelsAndLegs}
 use Rattle.ch_contract.specs.Kept.{IsKept}
 use Rattle.ch_query.specs.declared.answer.Answer.{Answer}
 use Rattle.ch_query.specs.Answers.{HasArcs, IsReply}
@@ -13,9 +13,10 @@ use Rattle.std.proofs.lemmas.Option.{none-some, same_Some}
 use Rattle.ch_graph.specs.Walk.{IsAnswer}
 use Rattle.ch_query.specs.Routes.{IsLeastWalk}
 use Rattle.ch_query.proofs.RouteWalks.{route_least_walk}
-use Rattle.ch_table.specs.Table.{IsCellBy, IsRowBy}
+use Rattle.ch_query.specs.Limits.{IsDistanceWithin}
+use Rattle.ch_table.specs.Table.{IsRowBy}
 use Rattle.ch_run.specs.Text.{Answers, AnswersShortly, AnswersWithRoute, IsTextBy, answer_text}
-use Rattle.ch_run.specs.TableText.{IsTableRow, IsTableText, row_text}
+use Rattle.ch_run.specs.TableText.{IsCell, IsTableRow, IsTableText, row_text}
 
 -- one more item is written
 pub grown : {X : Type 0} (f : X → List ℕ) (items : List X) (i : ℕ) (d : X) (start before after : List ℕ) → i < length items →
@@ -64,25 +65,30 @@ reply_walks g H limits kept s t (Some x) None h arcs is = absurd h
 reply_walks g H limits kept s t (Some x) (Some xs) h arcs is =
     subst (IsLeastWalk g s t) (same_Some xs arcs is) (route_least_walk g H kept limits s t (record { weight = x; arcs = xs }) h).0
 
--- what a graph's hierarchy answers to the queries, written out, is the text that is asked for
-pub replies_text : (g : Network) (h : ℕ) (H : LevelsAndLegs) → IsWithinLimits g → IsHierarchy g h H → IsKept g H → (routes : Bool) (queries : List (ℕ × ℕ)) (answers : List Answer) (text : List ℕ) →
-    AllZip (IsReply H routes) queries answers → text ≡ flat_map answer_text answers → IsTextBy routes g h queries text
-replies_text g h H limits hierarchy kept false queries answers text replies is =
+-- what a hierarchy that is right for a graph answers to the queries, written out, is the text that is asked for
+pub replies_text : (g : Network) (H : LevelsAndLegs) → IsWithinLimits g → IsKept g H → (routes : Bool) (queries : List (ℕ × ℕ)) (answers : List Answer) (text : List ℕ) →
+    AllZip (IsReply H routes) queries answers → text ≡ flat_map answer_text answers → IsTextBy routes g (λ K. K ≡ H) queries text
+replies_text g H limits kept false queries answers text replies is =
     (answers, each_weaker (IsReply H false) (AnswersShortly g) (λ query a r. (reply_answers g H limits kept false query a r, r.arcs)) queries answers replies, is)
-replies_text g h H limits hierarchy kept true queries answers text replies is =
+replies_text g H limits kept true queries answers text replies is =
     let routed : (query : ℕ × ℕ) (a : Answer) → IsReply H true query a → AnswersWithRoute g H query a = λ query a r. record {
       answers = reply_answers g H limits kept true query a r;
       route = r.arcs;
       walk = reply_walks g H limits kept query.0 query.1 a.weight a.arcs r.arcs;
     } in
-    (H, hierarchy, (answers, each_weaker (IsReply H true) (AnswersWithRoute g H) routed queries answers replies, is))
+    (H, refl, (answers, each_weaker (IsReply H true) (AnswersWithRoute g H) routed queries answers replies, is))
+
+-- a text by a hierarchy is one by each set of hierarchies that it is in
+pub text_from : (routes : Bool) (g : Network) (H : LevelsAndLegs) (From : LevelsAndLegs → Type 0) → From H → (queries : List (ℕ × ℕ)) (text : List ℕ) → IsTextBy routes g (λ K. K ≡ H) queries text → IsTextBy routes g From queries text
+text_from false g H From is queries text t = t
+text_from true g H From is queries text t = (t.0, subst From (sym t.1) is, t.2)
 
 -- a table of a hierarchy that is right for a graph, written out, is the table of the graph
-pub cells_text : (g : Network) (H : LevelsAndLegs) → IsWithinLimits g → IsKept g H → (sources targets : List ℕ) (rows : List (List (Option ℕ))) (text : List ℕ) →
-    AllZip (IsRowBy H targets) sources rows → text ≡ flat_map row_text (zip sources rows) → IsTableText g sources targets text
-cells_text g H limits kept sources targets rows text table is = (
+pub cells_text : (g : Network) (H : LevelsAndLegs) → IsWithinLimits g → IsKept g H → (limit : Option ℕ) (sources targets : List ℕ) (rows : List (List (Option ℕ))) (text : List ℕ) →
+    AllZip (IsRowBy H limit targets) sources rows → text ≡ flat_map row_text (zip sources rows) → IsTableText g limit sources targets text
+cells_text g H limits kept limit sources targets rows text table is = (
   rows,
-  each_weaker (IsRowBy H targets) (IsTableRow g targets)
-      (λ s cells row. each_weaker (IsCellBy H s) (IsAnswer g s) (λ t cell by. by.distance g limits kept) targets cells row) sources rows table,
+  each_weaker (IsRowBy H limit targets) (IsTableRow g limit targets)
+      (λ s cells row. each_weaker (IsDistanceWithin H limit s) (IsCell g limit s) (λ t cell by. (by.whole, by.distance g limits kept, by.cut)) targets cells row) sources rows table,
   is,
 )

@@ -63,10 +63,10 @@ abbrev pub AcceptsLists : Reading → Reading → Reading → Type 0
 AcceptsLists graph sources targets =
     (g : Network) × (from to : List ℕ) × ReadsGraph graph g × ReadsNodes sources g.nodes from × ReadsNodes targets g.nodes to × (HasTooManyCells from to → ⊥)
 
--- the inputs name a graph and two lists of its nodes, and the text is the table of these
-abbrev pub IsTabledBy : Reading → Reading → Reading → List ℕ → Type 0
-IsTabledBy graph sources targets text =
-    (g : Network) × (from to : List ℕ) × ReadsGraph graph g × ReadsNodes sources g.nodes from × ReadsNodes targets g.nodes to × (HasTooManyCells from to → ⊥) × IsTableText g from to text
+-- the inputs name a graph and two lists of its nodes, and the text is the table of these within the limit of the options
+abbrev pub IsTabledBy : Options → Reading → Reading → Reading → List ℕ → Type 0
+IsTabledBy options graph sources targets text =
+    (g : Network) × (from to : List ℕ) × ReadsGraph graph g × ReadsNodes sources g.nodes from × ReadsNodes targets g.nodes to × (HasTooManyCells from to → ⊥) × IsTableText g options.within from to text
 
 -- the inputs name a graph and two lists of its nodes that make too many cells
 abbrev pub HasCellsRefused : Reading → Reading → Reading → Type 0

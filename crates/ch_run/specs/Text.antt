@@ -56,18 +56,19 @@ HasText P queries text = (answers : List Answer) × AllZip P queries answers × 
 abbrev pub IsDistanceText : Network → List (ℕ × ℕ) → List ℕ → Type 0
 IsDistanceText g queries text = HasText (AnswersShortly g) queries text
 
--- distances and routes, by the contraction hierarchy where a witness has at most h legs
-abbrev pub IsRouteText : Network → ℕ → List (ℕ × ℕ) → List ℕ → Type 0
-IsRouteText g h queries text = (H : LevelsAndLegs) × IsHierarchy g h H × HasText (AnswersWithRoute g H) queries text
+-- distances and routes, by one of these hierarchies
+abbrev pub IsRouteText : Network → (LevelsAndLegs → Type 0) → List (ℕ × ℕ) → List ℕ → Type 0
+IsRouteText g From queries text = (H : LevelsAndLegs) × From H × HasText (AnswersWithRoute g H) queries text
 
--- routes are written where they are wanted and a hierarchy is built
+-- routes are written where they are wanted and a hierarchy is used
 abbrev pub writes_routes : Options → Bool
 writes_routes options = not options.plain && options.routes
 
-abbrev pub IsTextBy : Bool → Network → ℕ → List (ℕ × ℕ) → List ℕ → Type 0
-IsTextBy false g h queries text = IsDistanceText g queries text
-IsTextBy true g h queries text = IsRouteText g h queries text
+-- distances, and where they are wanted the routes by one of these hierarchies
+abbrev pub IsTextBy : Bool → Network → (LevelsAndLegs → Type 0) → List (ℕ × ℕ) → List ℕ → Type 0
+IsTextBy false g From queries text = IsDistanceText g queries text
+IsTextBy true g From queries text = IsRouteText g From queries text
 
--- the text that answers the queries as the options ask
+-- the text that answers the queries as the options ask, with routes by the contraction hierarchy of the graph
 abbrev pub IsText : Options → Network → List (ℕ × ℕ) → List ℕ → Type 0
-IsText options g queries text = IsTextBy (writes_routes options) g options.hops queries text
+IsText options g queries text = IsTextBy (writes_routes options) g (IsHierarchy g options.hops) queries text

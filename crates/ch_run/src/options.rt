@@ -1,6 +1,6 @@
-//! How queries are answered.
+//! How queries are answered and tables made.
 
-/// How queries are answered.
+/// How queries are answered and tables made.
 #[derive(Clone, Copy, Debug, PartialEq, Eq)]
 pub struct Options {
     /// Whether distances come from rounds of relaxation over all arcs, and not from a hierarchy.
@@ -9,4 +9,7 @@ pub struct Options {
     pub routes: bool,
     /// The most legs of a witness, from 1 to 16.
     pub hops: u32,
+    /// The greatest distance that a table tells, if there is one: a cell that is more has none. Answers to queries
+    /// have no limit.
+    pub within: Option<u64>,
 }

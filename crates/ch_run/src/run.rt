@@ -2,7 +2,10 @@
 
 mod dist;
 mod inputs;
+mod lists;
+mod output;
 mod table;
+mod texts;
 
 pub use dist::run_dist;
 pub use table::run_table;

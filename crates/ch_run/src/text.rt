@@ -1,7 +1,7 @@
 //! The texts of answers and tables, with nodes counted from 1. An answer is a line `d S T X`, with `-` for
 //! the distance where there is no walk; with its route a line `r K` and K lines `a U V W` follow. A row of a
 //! table is a line `t S`, with the distance to each target after it.
-ghost use Rattle.std.specs.Prelude.{◌≡◌, ◌≤◌, ◌++◌, length, flat_map, Some, IfOk, OnOk, decimal};
+ghost use Rattle.std.specs.Prelude.{◌≡◌, ◌≤◌, ◌++◌, length, flat_map, Some, IfOk, OnOk, codes, decimal};
 ghost use Rattle.std.specs.List.{zip};
 ghost use Rattle.ch_run.specs.Text.{answer_text, arc_text, distance_text, node_text, route_text, weight_text};
 ghost use Rattle.ch_run.specs.TableText.{cell_text, row_text};
@@ -79,10 +79,7 @@ fn push_distance(text: &mut Vec<u8>, answer: &Answer) -> Result<(), AllocError>
     ensures { OnOk result (text.new.items ≡ text.old.items ++ distance_text answer.now) }
 {
     push_all(text, b"d ")?;
-    push_node(text, answer.from)?;
-    push_all(text, b" ")?;
-    push_node(text, answer.to)?;
-    push_all(text, b" ")?;
+    push_ends(text, answer.from, answer.to)?;
     push_weight(text, answer.weight)?;
     push_all(text, b"\n")
 }
@@ -112,12 +109,19 @@ fn push_arc(text: &mut Vec<u8>, arc: &InArc) -> Result<(), AllocError>
     ensures { OnOk result (text.new.items ≡ text.old.items ++ arc_text arc.now) }
 {
     push_all(text, b"a ")?;
-    push_node(text, arc.from)?;
-    push_all(text, b" ")?;
-    push_node(text, arc.to)?;
-    push_all(text, b" ")?;
+    push_ends(text, arc.from, arc.to)?;
     push_number(text, arc.weight)?;
     push_all(text, b"\n")
+}
+
+/// Adds two nodes, and a space after each.
+fn push_ends(text: &mut Vec<u8>, from: u32, to: u32) -> Result<(), AllocError>
+    ensures { OnOk result (text.new.items ≡ text.old.items ++ node_text from ++ codes " " ++ node_text to ++ codes " ") }
+{
+    push_node(text, from)?;
+    push_all(text, b" ")?;
+    push_node(text, to)?;
+    push_all(text, b" ")
 }
 
 /// Adds a node, counted from 1.

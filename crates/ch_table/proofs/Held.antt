@@ -1,12 +1,12 @@
 -- Lists of nodes and weights, their entries, and the buckets that hold them.
-use Rattle.std.proofs.Common.{◌≡◌, ℕ, ◌+◌, ◌<◌, ◌≤◌, List, [], ◌∷◌, ◌++◌, length, map, Contains, get_or, refl, sym, ◌∙◌, ap, subst, arith, inl, inr}
+use Rattle.std.proofs.Common.{◌≡◌, ℕ, ◌+◌, ◌<◌, List, [], ◌++◌, length, map, Contains, get_or, refl, sym, ap, subst, arith, inl, inr}
 use Rattle.std.specs.Prelude.{◌==◌, All, slice_index_or}
 use Rattle.std.specs.List.{filter}
 use Rattle.std.proofs.lemmas.Bool.{cases_lt, eqb-true}
 use Rattle.std.proofs.lemmas.Bool.Decides.{nat_tests}
 use Rattle.std.proofs.lemmas.List.{get_or_past}
 use Rattle.std.proofs.lemmas.List.Elements.{All-contains, Contains-append_left, Contains-append_right, Contains-append_cases, Contains-get_or}
-use Rattle.ch_graph.specs.Rows.{AreRowsOf, values_of}
+use Rattle.ch_graph.specs.Rows.{AreRowsOf}
 use Rattle.ch_graph.proofs.Lists.{contains_none, contains_map, contains_map_of, contains_filter, contains_filter_of}
 use Rattle.ch_table.specs.Buckets.{HoldLists}
 use Rattle.ch_table.specs.Entries.{entry_of, AreEntriesOf}

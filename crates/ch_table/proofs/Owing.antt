@@ -1,48 +1,54 @@
 -- What the nodes owe, entry by entry and node by node.
-use Rattle.std.proofs.Common.{◌≡◌, ◌⊎◌, ℕ, ◌+◌, ◌*◌, ◌<◌, ◌≤◌, ◌^◌, List, [], ◌∷◌, ◌++◌, Contains, take, get_or, refl, sym, ap, subst, arith, inl, inr}
-use Rattle.std.specs.Prelude.{All, slice_index_or}
+use Rattle.std.proofs.Common.{◌≡◌, ℕ, ◌+◌, ◌*◌, ◌<◌, ◌≤◌, ◌^◌, Option, List, [], ◌∷◌, ◌++◌, Contains, take, get_or, sym, ap, subst, arith, inl, inr}
+use Rattle.std.specs.Prelude.{All}
 use Rattle.std.proofs.lemmas.List.Elements.{Contains-append_left, Contains-push, Contains-push_cases}
 use Rattle.std.proofs.lemmas.Nat.{mul-add-lt}
 use Rattle.ch_graph.proofs.Lists.{contains_none}
 use Rattle.std.proofs.lemmas.Bool.{cases_lt}
+use Rattle.ch_query.specs.Limits.{IsWithin}
 use Rattle.ch_table.specs.Sums.{BothSides, IsEntryAmong, IsOwedInRow, IsOwedBy, IsOwedAt, IsOwedAmong}
 use Rattle.ch_work.specs.declared.board.known.Known.{Known}
 use Rattle.ch_work.specs.Owed.{HasPaid}
-use Rattle.ch_work.proofs.Payments.{One, paid_none, paid_then}
+use Rattle.ch_work.proofs.Payments.{paid_none, paid_then}
+
+-- one weight at one cell, where it is within the limit
+abbrev pub OneWithin : Option ℕ → ℕ → ℕ → ℕ → ℕ → Type 0
+OneWithin limit cell weight at x = (at ≡ cell) × (x ≡ weight) × IsWithin limit x
 
 -- without entries of targets nothing is owed
-pub row_none : (first weight : ℕ) (v : Known) → HasPaid (IsOwedInRow first weight []) v v
-row_none first weight v = paid_none (IsOwedInRow first weight []) v (λ cell x o. contains_none (o.0, o.1) o.2)
+pub row_none : (limit : Option ℕ) (first weight : ℕ) (v : Known) → HasPaid (IsOwedInRow limit first weight []) v v
+row_none limit first weight v = paid_none (IsOwedInRow limit first weight []) v (λ cell x o. contains_none (o.0, o.1) o.2)
 
 -- one entry more
-pub row_more : (first weight i : ℕ) (targets : List (ℕ × ℕ)) (entry : ℕ × ℕ) → take (i + 1) targets ≡ take i targets ++ entry ∷ [] → (u v w : Known) →
-    HasPaid (IsOwedInRow first weight (take i targets)) u v → HasPaid (One (first + entry.0) (weight + entry.1)) v w → HasPaid (IsOwedInRow first weight (take (i + 1) targets)) u w
-row_more first weight i targets entry is u v w =
-    paid_then (IsOwedInRow first weight (take i targets)) (One (first + entry.0) (weight + entry.1)) (IsOwedInRow first weight (take (i + 1) targets)) u v w
+pub row_more : (limit : Option ℕ) (first weight i : ℕ) (targets : List (ℕ × ℕ)) (entry : ℕ × ℕ) → take (i + 1) targets ≡ take i targets ++ entry ∷ [] → (u v w : Known) →
+    HasPaid (IsOwedInRow limit first weight (take i targets)) u v → HasPaid (OneWithin limit (first + entry.0) (weight + entry.1)) v w →
+    HasPaid (IsOwedInRow limit first weight (take (i + 1) targets)) u w
+row_more limit first weight i targets entry is u v w =
+    paid_then (IsOwedInRow limit first weight (take i targets)) (OneWithin limit (first + entry.0) (weight + entry.1)) (IsOwedInRow limit first weight (take (i + 1) targets)) u v w
     (λ cell x o. elim (Contains-push_cases (take i targets) entry (o.0, o.1) (subst (λ l. Contains l (o.0, o.1)) is o.2)) [
-      | inl before ↦ inl (o.0, o.1, before, o.3, o.4)
+      | inl before ↦ inl (o.0, o.1, before, o.3, o.4, o.5)
       | inr here ↦
           let place : entry.0 ≡ o.0 = ap (λ (e : ℕ × ℕ). e.0) here in
           let rest : entry.1 ≡ o.1 = ap (λ (e : ℕ × ℕ). e.1) here in
           let at = o.3 in
           let sum = o.4 in
-          inr (omega arith, omega arith)
+          inr (omega arith, omega arith, o.5)
     ])
-    (λ cell x o. (o.0, o.1, subst (λ l. Contains l (o.0, o.1)) (sym is) (Contains-append_left (take i targets) (entry ∷ []) (o.0, o.1) o.2), o.3, o.4))
-    (λ cell x o. (entry.0, entry.1, subst (λ l. Contains l entry) (sym is) (Contains-push (take i targets) entry), o.0, o.1))
+    (λ cell x o. (o.0, o.1, subst (λ l. Contains l (o.0, o.1)) (sym is) (Contains-append_left (take i targets) (entry ∷ []) (o.0, o.1) o.2), o.3, o.4, o.5))
+    (λ cell x o. (entry.0, entry.1, subst (λ l. Contains l entry) (sym is) (Contains-push (take i targets) entry), o.0, o.1, o.2))
 
 -- without entries of sources nothing is owed
-pub node_none : (columns : ℕ) (targets : List (ℕ × ℕ)) (v : Known) → HasPaid (IsOwedBy columns [] targets) v v
-node_none columns targets v = paid_none (IsOwedBy columns [] targets) v (λ cell x o. contains_none (o.0, o.1) o.2)
+pub node_none : (limit : Option ℕ) (columns : ℕ) (targets : List (ℕ × ℕ)) (v : Known) → HasPaid (IsOwedBy limit columns [] targets) v v
+node_none limit columns targets v = paid_none (IsOwedBy limit columns [] targets) v (λ cell x o. contains_none (o.0, o.1) o.2)
 
 -- one entry more, and its row
-pub node_more : (columns i : ℕ) (sources targets : List (ℕ × ℕ)) (entry : ℕ × ℕ) → take (i + 1) sources ≡ take i sources ++ entry ∷ [] → (u v w : Known) →
-    HasPaid (IsOwedBy columns (take i sources) targets) u v → HasPaid (IsOwedInRow (entry.0 * columns) entry.1 targets) v w → HasPaid (IsOwedBy columns (take (i + 1) sources) targets) u w
-node_more columns i sources targets entry is u v w =
-    paid_then (IsOwedBy columns (take i sources) targets) (IsOwedInRow (entry.0 * columns) entry.1 targets) (IsOwedBy columns (take (i + 1) sources) targets) u v w
+pub node_more : (limit : Option ℕ) (columns i : ℕ) (sources targets : List (ℕ × ℕ)) (entry : ℕ × ℕ) → take (i + 1) sources ≡ take i sources ++ entry ∷ [] → (u v w : Known) →
+    HasPaid (IsOwedBy limit columns (take i sources) targets) u v → HasPaid (IsOwedInRow limit (entry.0 * columns) entry.1 targets) v w → HasPaid (IsOwedBy limit columns (take (i + 1) sources) targets) u w
+node_more limit columns i sources targets entry is u v w =
+    paid_then (IsOwedBy limit columns (take i sources) targets) (IsOwedInRow limit (entry.0 * columns) entry.1 targets) (IsOwedBy limit columns (take (i + 1) sources) targets) u v w
     (λ cell x o. elim (Contains-push_cases (take i sources) entry (o.0, o.1) (subst (λ l. Contains l (o.0, o.1)) is o.2)) [
       | inl before ↦ inl (o.0, o.1, before, o.3)
-      | inr here ↦ inr (subst (λ (e : ℕ × ℕ). IsOwedInRow (e.0 * columns) e.1 targets cell x) (sym here) o.3)
+      | inr here ↦ inr (subst (λ (e : ℕ × ℕ). IsOwedInRow limit (e.0 * columns) e.1 targets cell x) (sym here) o.3)
     ])
     (λ cell x o. (o.0, o.1, subst (λ l. Contains l (o.0, o.1)) (sym is) (Contains-append_left (take i sources) (entry ∷ []) (o.0, o.1) o.2), o.3))
     (λ cell x o. (entry.0, entry.1, subst (λ l. Contains l entry) (sym is) (Contains-push (take i sources) entry), o))

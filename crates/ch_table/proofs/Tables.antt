@@ -1,17 +1,18 @@
 -- The cells of a table: the least sums that the nodes owe, and what they mean.
-use Rattle.std.proofs.Common.{◌≡◌, ℕ, zero, suc, ◌+◌, ◌-◌, ◌*◌, ◌<◌, ◌≤◌, ◌^◌, min, List, [], ◌∷◌, length, Contains, Option, Some, None, get_or, refl, sym, ◌∙◌, ap, subst, arith, map}
+use Rattle.std.proofs.Common.{◌≡◌, ℕ, zero, suc, ◌+◌, ◌*◌, ◌<◌, ◌≤◌, ◌^◌, min, List, [], ◌∷◌, length, Contains, Option, Some, None, get_or, refl, sym, ◌∙◌, subst, arith}
 use Rattle.std.specs.Prelude.{All, slice_index, slice_index_or, slice_range, Vec}
 use Rattle.std.specs.declared.alloc.Global.{Global}
 use Rattle.std.specs.List.{AllZip}
 use Rattle.std.proofs.lemmas.List.Edits.{length-between, get_or-between}
 use Rattle.std.proofs.lemmas.List.Elements.{All-get_or, Contains-get_or}
 use Rattle.std.proofs.lemmas.List.FromFn.{length-map-range_with_len, get_or-map-range_with_len}
-use Rattle.std.proofs.lemmas.Nat.{same_from_place, mul-add-lt, mul-le}
+use Rattle.std.proofs.lemmas.Nat.{same_from_place, mul-le}
 use Rattle.ch_graph.proofs.Lists.{zipped_length}
 use Rattle.ch_contract.specs.Hierarchy.{LevelsAndLegs, nodes_of, IsLevelled}
 use Rattle.ch_query.specs.declared.side.Side.{Side}
 use Rattle.ch_query.specs.declared.side.Side.TheVariants.{Up, Down}
 use Rattle.ch_query.specs.Distance.{IsKeptForSome}
+use Rattle.ch_query.specs.Limits.{IsWithin, IsDistanceWithin}
 use Rattle.ch_query.specs.SearchSpace.{IsSearchSpace}
 use Rattle.ch_query.specs.Side.{rows_of}
 use Rattle.ch_query.specs.SearchSpaceLaws.{IsSharedSum, IsLeastSharedSum}
@@ -21,7 +22,7 @@ use Rattle.ch_work.specs.Pieces.{pieces_of}
 use Rattle.ch_work.proofs.PieceLists.{piece_of}
 use Rattle.ch_table.specs.Buckets.{HoldSearchSpaces}
 use Rattle.ch_table.specs.Sums.{BothSides, AreWithin, IsEntryAmong, IsOwedAmong}
-use Rattle.ch_table.specs.Table.{IsCellBy, IsRowBy, rows_of_cells}
+use Rattle.ch_table.specs.Table.{IsRowBy, rows_of_cells}
 use Rattle.ch_table.proofs.Entries.{path_within, rows_up}
 use Rattle.ch_table.proofs.Held.{held_within}
 
@@ -56,12 +57,12 @@ row_fits rows columns i lt =
     let most = mul-le (i + 1) columns rows columns (omega arith) (omega arith) in omega arith
 
 -- the entries of a search space are those of paths
-module _ (H : LevelsAndLegs) (side : Side) (nodes : List ℕ) (buckets : List (List (ℕ × ℕ))) (hold : HoldSearchSpaces H side nodes buckets) where
+module _ (H : LevelsAndLegs) (side : Side) (limit : Option ℕ) (nodes : List ℕ) (buckets : List (List (ℕ × ℕ))) (hold : HoldSearchSpaces H side limit nodes buckets) where
   pub spaces_count : length hold.spaces ≡ length nodes
-  spaces_count = zipped_length (IsSearchSpace H side) nodes hold.spaces hold.each
+  spaces_count = zipped_length (IsSearchSpace H side limit) nodes hold.spaces hold.each
 
-  space_at : (j : ℕ) → j < length nodes → IsSearchSpace H side (slice_index nodes j) (slice_index_or hold.spaces j [])
-  space_at j lt = zip_at (IsSearchSpace H side) 0 [] nodes hold.spaces hold.each j lt
+  space_at : (j : ℕ) → j < length nodes → IsSearchSpace H side limit (slice_index nodes j) (slice_index_or hold.spaces j [])
+  space_at j lt = zip_at (IsSearchSpace H side limit) 0 [] nodes hold.spaces hold.each j lt
 
   pub entries_among : (v : ℕ) → All (IsEntryAmong (length nodes)) (slice_index_or buckets v [])
   entries_among v k d lt =
@@ -70,20 +71,21 @@ module _ (H : LevelsAndLegs) (side : Side) (nodes : List ℕ) (buckets : List (L
       let r = hold.held.sound v e.0 e.1 (Contains-get_or bucket k d lt) in
       let size = spaces_count in
       let place : e.0 < length nodes = (let within = r.0 in omega arith) in
-      let path = (space_at e.0 place).sound v e.1 r.1 in
+      let path = ((space_at e.0 place).sound v e.1 r.1).0 in
       (place, let w = path.1.weight in let same = path.2 in omega arith)
 
-module _ (H : LevelsAndLegs) (sources targets : List ℕ) (ups downs : List (List (ℕ × ℕ))) (rise : HoldSearchSpaces H Up sources ups) (fall : HoldSearchSpaces H Down targets downs) where
+module _ (H : LevelsAndLegs) (limit : Option ℕ) (sources targets : List ℕ) (ups downs : List (List (ℕ × ℕ))) (rise : HoldSearchSpaces H Up limit sources ups)
+    (fall : HoldSearchSpaces H Down limit targets downs) where
   -- the buckets of both sides
   abbrev sides : BothSides
-  sides = record { ups = ups; downs = downs; rows = length sources; columns = length targets }
+  sides = record { ups = ups; downs = downs; rows = length sources; columns = length targets; limit = limit }
 
   -- they fit the cells
   pub within : length sources * length targets ≤ 2 ^ 22 → AreWithin sides
   within few = record {
     nodes = fall.held.count ∙ sym rise.held.count;
-    ups = entries_among H Up sources ups rise;
-    downs = entries_among H Down targets downs fall;
+    ups = entries_among H Up limit sources ups rise;
+    downs = entries_among H Down limit targets downs fall;
     cells = few;
   }
 
@@ -97,74 +99,76 @@ module _ (H : LevelsAndLegs) (sources targets : List ℕ) (ups downs : List (Lis
     abbrev cell : ℕ
     cell = i * length targets + j
 
-    -- what nodes owe to the cell is shared by the two search spaces
-    owed_shared : (from to x : ℕ) → IsOwedAmong sides from to cell x → IsSharedSum up down x
+    -- what nodes owe to the cell is shared by the two search spaces, and within the limit
+    owed_shared : (from to x : ℕ) → IsOwedAmong sides from to cell x → IsSharedSum up down x × IsWithin limit x
     owed_shared from to x o =
         let v = o.0 in
         let source = rise.held.sound v o.3.0 o.3.1 o.3.2 in
         let there = o.3.3 in
         let target = fall.held.sound v there.0 there.1 there.2 in
-        let size = spaces_count H Down targets downs fall in
+        let size = spaces_count H Down limit targets downs fall in
         let inside : there.0 < length targets = (let lt = target.0 in omega arith) in
         let same = same_from_place o.3.0 there.0 i j (length targets) inside column (sym there.3) in (
-          v,
-          o.3.1,
-          there.1,
-          subst (λ q. Contains (slice_index_or rise.spaces q []) (v, o.3.1)) same.0 source.1,
-          subst (λ q. Contains (slice_index_or fall.spaces q []) (v, there.1)) same.1 target.1,
-          sym there.4,
+          (
+            v,
+            o.3.1,
+            there.1,
+            subst (λ q. Contains (slice_index_or rise.spaces q []) (v, o.3.1)) same.0 source.1,
+            subst (λ q. Contains (slice_index_or fall.spaces q []) (v, there.1)) same.1 target.1,
+            sym there.4,
+          ),
+          there.5,
         )
 
     -- and what they share is owed by the piece of its node
-    shared_owed : (p x : ℕ) → 0 < p → IsSharedSum up down x → (k : ℕ) × (k < pieces_of (length ups) p) × owed_by (IsOwedAmong sides) (length ups) p k cell x
-    shared_owed p x positive h =
+    shared_owed : (p x : ℕ) → 0 < p → IsSharedSum up down x → IsWithin limit x → (k : ℕ) × (k < pieces_of (length ups) p) × owed_by (IsOwedAmong sides) (length ups) p k cell x
+    shared_owed p x positive h low =
         let v = h.0 in
-        let size = spaces_count H Up sources ups rise in
-        let size' = spaces_count H Down targets downs fall in
+        let size = spaces_count H Up limit sources ups rise in
+        let size' = spaces_count H Down limit targets downs fall in
         let source = rise.held.whole v i h.1 (omega arith) h.3 in
         let target = fall.held.whole v j h.2 (omega arith) h.4 in
         let piece = piece_of (length ups) p v positive (held_within ups v (i, h.1) source) in
-        (piece.0, piece.1, (v, piece.2, piece.3, (i, h.1, source, (j, h.2, target, refl, sym h.5))))
+        (piece.0, piece.1, (v, piece.2, piece.3, (i, h.1, source, (j, h.2, target, refl, sym h.5, low))))
 
-    -- so the least that is owed is the distance
-    cell_is : (p : ℕ) (o : Option ℕ) → 0 < p → IsKeptForSome H → IsLeastOwed (IsOwedAmong sides) (length ups) p cell o → IsCellBy H (slice_index sources i) (slice_index targets j) o
+    -- so the least that is owed is the distance within the limit
+    cell_is : (p : ℕ) (o : Option ℕ) → 0 < p → IsKeptForSome H → IsLeastOwed (IsOwedAmong sides) (length ups) p cell o →
+        IsDistanceWithin H limit (slice_index sources i) (slice_index targets j) o
     cell_is p o positive kept h =
         let s = slice_index sources i in
         let t = slice_index targets j in
-        let is = spaces_give_distance H s t up down o kept (space_at H Up sources ups rise i row) (space_at H Down targets downs fall j column) (shared o h) in
-        record { least = is.0; distance = is.1 }
+        spaces_give_distance H limit s t up down o kept (space_at H Up limit sources ups rise i row) (space_at H Down limit targets downs fall j column) (shared o h)
       where
-        shared : (q : Option ℕ) → IsLeastOwed (IsOwedAmong sides) (length ups) p cell q → IsLeastSharedSum up down q
-        shared None least = λ x sum. let r = shared_owed p x positive sum in least r.0 x r.1 r.2
-        shared (Some x) least = (
-          owed_shared (least.0.0 * p) (min (least.0.0 * p + p) (length ups)) x least.0.2,
-          λ y sum. let r = shared_owed p y positive sum in least.1 r.0 y r.1 r.2,
-        )
+        shared : (q : Option ℕ) → IsLeastOwed (IsOwedAmong sides) (length ups) p cell q → IsLeastSharedSum limit up down q
+        shared None least = λ x sum low. let r = shared_owed p x positive sum low in least r.0 x r.1 r.2
+        shared (Some x) least =
+            let owed = owed_shared (least.0.0 * p) (min (least.0.0 * p + p) (length ups)) x least.0.2 in
+            (owed.0, owed.1, λ y sum low. let r = shared_owed p y positive sum low in least.1 r.0 y r.1 r.2)
 
   -- and the cells are the table
   pub table_is : (p : ℕ) (cells : List (Option ℕ)) → 0 < p → IsKeptForSome H → length cells ≡ length sources * length targets →
       ((cell : ℕ) (d : Option ℕ) → cell < length sources * length targets → IsLeastOwed (IsOwedAmong sides) (length ups) p cell (slice_index_or cells cell d)) →
-      AllZip (IsRowBy H targets) sources (rows_of_cells (length sources) (length targets) cells)
+      AllZip (IsRowBy H limit targets) sources (rows_of_cells (length sources) (length targets) cells)
   table_is p cells positive kept size least =
       let n = length sources in
       let m = length targets in
-      all_zip_at (IsRowBy H targets) 0 [] sources (rows_of_cells n m cells) (length_rows n m cells) (λ i row.
+      all_zip_at (IsRowBy H limit targets) 0 [] sources (rows_of_cells n m cells) (length_rows n m cells) (λ i row.
       let fits = row_fits n m i row in
       let part = slice_range cells (i * m) (i * m + m) in
       let count : length part ≡ m = (let l = length-between cells (i * m) (i * m + m) (omega arith) in omega arith) in
-      subst (IsRowBy H targets (slice_index sources i)) (sym (row_at n m cells i row))
-      (all_zip_at (IsCellBy H (slice_index sources i)) 0 None targets part count (λ j column.
-      subst (IsCellBy H (slice_index sources i) (slice_index targets j)) (sym (get_or-between cells (i * m) (i * m + m) j None (omega arith)))
+      subst (IsRowBy H limit targets (slice_index sources i)) (sym (row_at n m cells i row))
+      (all_zip_at (IsDistanceWithin H limit (slice_index sources i)) 0 None targets part count (λ j column.
+      subst (IsDistanceWithin H limit (slice_index sources i) (slice_index targets j)) (sym (get_or-between cells (i * m) (i * m + m) j None (omega arith)))
       (cell_is i j row column p (slice_index_or cells (i * m + j) None) positive kept (least (i * m + j) None (omega arith))))))
 
 -- search spaces lie within the nodes
-pub spaces_within : (H : LevelsAndLegs) (side : Side) (levelled : IsLevelled H) (nodes : List ℕ) → All (λ x. x < nodes_of H) nodes → (spaces : List (Vec (ℕ × ℕ) Global)) →
-    AllZip (λ node (space : Vec (ℕ × ℕ) Global). IsSearchSpace H side node space.items) nodes spaces → All (λ (space : Vec (ℕ × ℕ) Global). All (λ pair. pair.0 < nodes_of H) space.items) spaces
-spaces_within H side levelled nodes below spaces each k d lt k' d' lt' =
-    let size = zipped_length (λ node (space : Vec (ℕ × ℕ) Global). IsSearchSpace H side node space.items) nodes spaces each in
+pub spaces_within : (H : LevelsAndLegs) (side : Side) (limit : Option ℕ) (levelled : IsLevelled H) (nodes : List ℕ) → All (λ x. x < nodes_of H) nodes → (spaces : List (Vec (ℕ × ℕ) Global)) →
+    AllZip (λ node (space : Vec (ℕ × ℕ) Global). IsSearchSpace H side limit node space.items) nodes spaces → All (λ (space : Vec (ℕ × ℕ) Global). All (λ pair. pair.0 < nodes_of H) space.items) spaces
+spaces_within H side limit levelled nodes below spaces each k d lt k' d' lt' =
+    let size = zipped_length (λ node (space : Vec (ℕ × ℕ) Global). IsSearchSpace H side limit node space.items) nodes spaces each in
     let low : k < length nodes = omega arith in
-    let space = zip_at (λ node (list : Vec (ℕ × ℕ) Global). IsSearchSpace H side node list.items) 0 d nodes spaces each k low in
+    let space = zip_at (λ node (list : Vec (ℕ × ℕ) Global). IsSearchSpace H side limit node list.items) 0 d nodes spaces each k low in
     let list = (get_or spaces k d).items in
     let pair = get_or list k' d' in
-    let path = space.sound pair.0 pair.1 (Contains-get_or list k' d' lt') in
+    let path = (space.sound pair.0 pair.1 (Contains-get_or list k' d' lt')).0 in
     path_within H (rows_of H side) (rows_up H side levelled) (get_or nodes k 0) pair.0 path.1.path.0 (All-get_or (λ x. x < nodes_of H) nodes k 0 low below) path.1.path.1

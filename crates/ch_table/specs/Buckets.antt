@@ -1,23 +1,24 @@
 -- Buckets: what each node knows of the nodes of a list.
-use Rattle.std.specs.Prelude.{◌≡◌, ℕ, ◌<◌, List, [], length, slice_index, slice_index_or, AllPairs, Contains}
+use Rattle.std.specs.Prelude.{◌≡◌, ℕ, ◌<◌, List, [], length, slice_index, slice_index_or, AllPairs, Contains, Option}
 use Rattle.std.specs.List.{AllZip}
 use Rattle.ch_graph.specs.declared.cost.Cost.{Cost}
 use Rattle.ch_contract.specs.declared.leg.Leg.{Leg}
 use Rattle.ch_contract.specs.Hierarchy.{LevelsAndLegs, nodes_of}
 use Rattle.ch_contract.specs.Paths.{IsLeastUpwardPath}
 use Rattle.ch_query.specs.declared.side.Side.{Side}
+use Rattle.ch_query.specs.Limits.{IsWithin}
 use Rattle.ch_query.specs.SearchSpace.{IsSearchSpace}
 
--- an entry for each place whose node has an upward path to v: the place, and the least weight; ordered by place
-pub record IsBucket (rows : List (List Leg)) (nodes : List ℕ) (v : ℕ) (bucket : List (ℕ × ℕ)) : Type 0 where
+-- an entry for each place whose node has an upward path to v of a weight within the limit: the place, and the least weight; ordered by place
+pub record IsBucket (rows : List (List Leg)) (limit : Option ℕ) (nodes : List ℕ) (v : ℕ) (bucket : List (ℕ × ℕ)) : Type 0 where
   pub order : AllPairs (λ a b. a.0 < b.0) bucket
-  pub sound : (j x : ℕ) → Contains bucket (j, x) → (j < length nodes) × (c : Cost) × IsLeastUpwardPath rows (slice_index nodes j) v c × (c.weight ≡ x)
-  pub whole : (j : ℕ) (c : Cost) → j < length nodes → IsLeastUpwardPath rows (slice_index nodes j) v c → Contains bucket (j, c.weight)
+  pub sound : (j x : ℕ) → Contains bucket (j, x) → (j < length nodes) × (c : Cost) × IsLeastUpwardPath rows (slice_index nodes j) v c × (c.weight ≡ x) × IsWithin limit x
+  pub whole : (j : ℕ) (c : Cost) → j < length nodes → IsLeastUpwardPath rows (slice_index nodes j) v c → IsWithin limit c.weight → Contains bucket (j, c.weight)
 
 -- a bucket for each node
-pub record AreBuckets (rows : List (List Leg)) (nodes : List ℕ) (buckets : List (List (ℕ × ℕ))) : Type 0 where
+pub record AreBuckets (rows : List (List Leg)) (limit : Option ℕ) (nodes : List ℕ) (buckets : List (List (ℕ × ℕ))) : Type 0 where
   pub count : length buckets ≡ length rows
-  pub each : (v : ℕ) → IsBucket rows nodes v (slice_index_or buckets v [])
+  pub each : (v : ℕ) → IsBucket rows limit nodes v (slice_index_or buckets v [])
 
 -- a bucket for each of n nodes: that of v has (j, x) exactly where list j has (v, x)
 pub record HoldLists (n : ℕ) (lists : List (List (ℕ × ℕ))) (buckets : List (List (ℕ × ℕ))) : Type 0 where
@@ -25,8 +26,8 @@ pub record HoldLists (n : ℕ) (lists : List (List (ℕ × ℕ))) (buckets : Lis
   pub sound : (v j x : ℕ) → Contains (slice_index_or buckets v []) (j, x) → (j < length lists) × Contains (slice_index_or lists j []) (v, x)
   pub whole : (v j x : ℕ) → j < length lists → Contains (slice_index_or lists j []) (v, x) → Contains (slice_index_or buckets v []) (j, x)
 
--- entries of paths, with all that lie on a least way: the buckets hold a search space of each of the nodes
-pub record HoldSearchSpaces (H : LevelsAndLegs) (side : Side) (nodes : List ℕ) (buckets : List (List (ℕ × ℕ))) : Type 0 where
+-- entries of paths, with all that lie on a least way, where the weight is within the limit: the buckets hold a search space of each of the nodes
+pub record HoldSearchSpaces (H : LevelsAndLegs) (side : Side) (limit : Option ℕ) (nodes : List ℕ) (buckets : List (List (ℕ × ℕ))) : Type 0 where
   pub spaces : List (List (ℕ × ℕ))
-  pub each : AllZip (IsSearchSpace H side) nodes spaces
+  pub each : AllZip (IsSearchSpace H side limit) nodes spaces
   pub held : HoldLists (nodes_of H) spaces buckets

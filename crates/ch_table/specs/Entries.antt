@@ -1,18 +1,19 @@
 -- The entries of buckets, each after the node whose bucket it is in.
-use Rattle.std.specs.Prelude.{◌≡◌, ℕ, ◌<◌, List, [], slice_index, slice_index_or, AllPairs, Contains}
+use Rattle.std.specs.Prelude.{◌≡◌, ℕ, ◌<◌, List, [], slice_index, slice_index_or, AllPairs, Contains, Option}
 use Rattle.ch_graph.specs.declared.cost.Cost.{Cost}
 use Rattle.ch_contract.specs.declared.leg.Leg.{Leg}
 use Rattle.ch_contract.specs.Paths.{IsLeastUpwardPath}
+use Rattle.ch_query.specs.Limits.{IsWithin}
 
 -- the entry for place j at a node that is reached
 abbrev pub entry_at : ℕ → ℕ × Cost → ℕ × (ℕ × ℕ)
 entry_at j reached = (reached.0, (j, reached.1.weight))
 
--- for each of the first k places an entry at each node that its node has an upward path to; those at one node are ordered by place
-pub record AreEntries (rows : List (List Leg)) (nodes : List ℕ) (k : ℕ) (entries : List (ℕ × (ℕ × ℕ))) : Type 0 where
+-- for each of the first k places an entry at each node that its node has an upward path to, of a weight within the limit; those at one node are ordered by place
+pub record AreEntries (rows : List (List Leg)) (limit : Option ℕ) (nodes : List ℕ) (k : ℕ) (entries : List (ℕ × (ℕ × ℕ))) : Type 0 where
   pub order : AllPairs (λ a b. a.0 ≡ b.0 → a.1.0 < b.1.0) entries
-  pub sound : (v j x : ℕ) → Contains entries (v, (j, x)) → (j < k) × (c : Cost) × IsLeastUpwardPath rows (slice_index nodes j) v c × (c.weight ≡ x)
-  pub whole : (v j : ℕ) (c : Cost) → j < k → IsLeastUpwardPath rows (slice_index nodes j) v c → Contains entries (v, (j, c.weight))
+  pub sound : (v j x : ℕ) → Contains entries (v, (j, x)) → (j < k) × (c : Cost) × IsLeastUpwardPath rows (slice_index nodes j) v c × (c.weight ≡ x) × IsWithin limit x
+  pub whole : (v j : ℕ) (c : Cost) → j < k → IsLeastUpwardPath rows (slice_index nodes j) v c → IsWithin limit c.weight → Contains entries (v, (j, c.weight))
 
 -- the entry for place j of a node and a weight
 abbrev pub entry_of : ℕ → ℕ × ℕ → ℕ × (ℕ × ℕ)

@@ -1,12 +1,14 @@
--- What the nodes owe to the cells of a table: the sums of what their two buckets hold.
-use Rattle.std.specs.Prelude.{◌≡◌, ℕ, ◌+◌, ◌*◌, ◌^◌, ◌<◌, ◌≤◌, List, [], length, slice_index_or, Contains, All}
+-- What the nodes owe to the cells of a table: the sums within a limit of what their two buckets hold.
+use Rattle.std.specs.Prelude.{◌≡◌, ℕ, ◌+◌, ◌*◌, ◌^◌, ◌<◌, ◌≤◌, List, [], length, slice_index_or, Contains, All, Option}
+use Rattle.ch_query.specs.Limits.{IsWithin}
 
--- the buckets of the sources and of the targets, and how many of these there are: cell `i * columns + j` is that of source i and target j
+-- the buckets of the sources and of the targets, how many of these there are, and the limit on sums: cell `i * columns + j` is that of source i and target j
 pub record BothSides : Type 0 where
   pub ups : List (List (ℕ × ℕ))
   pub downs : List (List (ℕ × ℕ))
   pub rows : ℕ
   pub columns : ℕ
+  pub limit : Option ℕ
 
 -- the entry has one of so many places, and a weight of a path
 abbrev pub IsEntryAmong : ℕ → ℕ × ℕ → Type 0
@@ -19,17 +21,17 @@ pub record AreWithin (S : BothSides) : Type 0 where
   pub downs : (v : ℕ) → All (IsEntryAmong S.columns) (slice_index_or S.downs v [])
   pub cells : S.rows * S.columns ≤ 2 ^ 22
 
--- what the weight of a source whose row begins at `first` owes with these entries of targets
-abbrev pub IsOwedInRow : ℕ → ℕ → List (ℕ × ℕ) → ℕ → ℕ → Type 0
-IsOwedInRow first weight targets cell x = (j b : ℕ) × Contains targets (j, b) × (cell ≡ first + j) × (x ≡ weight + b)
+-- what the weight of a source whose row begins at `first` owes with these entries of targets: each sum that is within the limit
+abbrev pub IsOwedInRow : Option ℕ → ℕ → ℕ → List (ℕ × ℕ) → ℕ → ℕ → Type 0
+IsOwedInRow limit first weight targets cell x = (j b : ℕ) × Contains targets (j, b) × (cell ≡ first + j) × (x ≡ weight + b) × IsWithin limit x
 
 -- what these entries of sources owe with these of targets
-abbrev pub IsOwedBy : ℕ → List (ℕ × ℕ) → List (ℕ × ℕ) → ℕ → ℕ → Type 0
-IsOwedBy columns sources targets cell x = (i a : ℕ) × Contains sources (i, a) × IsOwedInRow (i * columns) a targets cell x
+abbrev pub IsOwedBy : Option ℕ → ℕ → List (ℕ × ℕ) → List (ℕ × ℕ) → ℕ → ℕ → Type 0
+IsOwedBy limit columns sources targets cell x = (i a : ℕ) × Contains sources (i, a) × IsOwedInRow limit (i * columns) a targets cell x
 
 -- what node v owes
 abbrev pub IsOwedAt : BothSides → ℕ → ℕ → ℕ → Type 0
-IsOwedAt S v = IsOwedBy S.columns (slice_index_or S.ups v []) (slice_index_or S.downs v [])
+IsOwedAt S v = IsOwedBy S.limit S.columns (slice_index_or S.ups v []) (slice_index_or S.downs v [])
 
 -- what the nodes from one number up to another owe
 abbrev pub IsOwedAmong : BothSides → ℕ → ℕ → ℕ → ℕ → Type 0

@@ -12,7 +12,8 @@ use std::alloc::{AllocError, Global};
 use std::marker::Model;
 
 /// For each node the targets that it reaches by going down, each as its place and the least weight of such
-/// a path, ordered by place; or the sources that reach it by going up.
+/// a path, ordered by place; or the sources that reach it by going up. With a limit those whose weight is at most
+/// that.
 #[derive(Debug, Drop)]
 pub struct Buckets {
     rows: Rows<(u32, u64)>,
@@ -27,7 +28,8 @@ impl Model for Buckets {
 }
 
 impl Buckets {
-    /// The buckets of the targets. A target that comes again has an entry for each of its places.
+    /// The buckets of the targets, of the weights that are at most `within` where there is such a limit. A target
+    /// that comes again has an entry for each of its places.
     ///
     /// # Errors
     /// `AllocError` where there is no memory.
@@ -35,16 +37,17 @@ impl Buckets {
         alloc: Global,
         hierarchy: &Hierarchy,
         targets: &[u32],
+        within: Option<u64>,
     ) -> Result<Buckets, AllocError>
         requires targets { All (λ t. t < nodes_of hierarchy.now) targets.now }
         requires count { length targets.now ≤ 65536 }
-        ensures { IfOk result (AreBuckets hierarchy.now.down targets.now) }
+        ensures { IfOk result (AreBuckets hierarchy.now.down within targets.now) }
     {
-        Buckets::fill_side(alloc, hierarchy, targets, Side::Down)
+        Buckets::fill_side(alloc, hierarchy, targets, Side::Down, within)
     }
 
-    /// The buckets of the sources: for each node the sources that reach it by going up. A source that comes
-    /// again has an entry for each of its places.
+    /// The buckets of the sources: for each node the sources that reach it by going up, of the weights that are
+    /// at most `within` where there is such a limit. A source that comes again has an entry for each of its places.
     ///
     /// # Errors
     /// `AllocError` where there is no memory.
@@ -52,12 +55,13 @@ impl Buckets {
         alloc: Global,
         hierarchy: &Hierarchy,
         sources: &[u32],
+        within: Option<u64>,
     ) -> Result<Buckets, AllocError>
         requires sources { All (λ s. s < nodes_of hierarchy.now) sources.now }
         requires count { length sources.now ≤ 65536 }
-        ensures { IfOk result (AreBuckets hierarchy.now.up sources.now) }
+        ensures { IfOk result (AreBuckets hierarchy.now.up within sources.now) }
     {
-        Buckets::fill_side(alloc, hierarchy, sources, Side::Up)
+        Buckets::fill_side(alloc, hierarchy, sources, Side::Up, within)
     }
 
     /// The buckets of these nodes, by their paths to higher nodes in this direction.
@@ -66,12 +70,13 @@ impl Buckets {
         hierarchy: &Hierarchy,
         nodes: &[u32],
         side: Side,
+        within: Option<u64>,
     ) -> Result<Buckets, AllocError>
         requires nodes { All (λ x. x < nodes_of hierarchy.now) nodes.now }
         requires count { length nodes.now ≤ 65536 }
-        ensures { IfOk result (AreBuckets (rows_of hierarchy.now side) nodes.now) }
+        ensures { IfOk result (AreBuckets (rows_of hierarchy.now side) within nodes.now) }
     {
-        let entries = entries(alloc, hierarchy, nodes, side)?;
+        let entries = entries(alloc, hierarchy, nodes, side, within)?;
         let rows = Rows::build(alloc, hierarchy.nodes(), &entries)?;
         Ok(Buckets { rows })
     }
@@ -109,15 +114,16 @@ fn entries(
     hierarchy: &Hierarchy,
     nodes: &[u32],
     side: Side,
+    within: Option<u64>,
 ) -> Result<Vec<Entry>, AllocError>
     requires nodes { All (λ x. x < nodes_of hierarchy.now) nodes.now }
     requires count { length nodes.now ≤ 65536 }
-    ensures { IfOk result (λ list. AreEntries (rows_of hierarchy.now side) nodes.now (length nodes.now) list.items) }
+    ensures { IfOk result (λ list. AreEntries (rows_of hierarchy.now side) within nodes.now (length nodes.now) list.items) }
 {
     let mut scratch = Scratch::new(alloc, hierarchy.nodes())?;
     let mut entries = Vec::new(alloc);
     for (place, node) in nodes.iter().enumerate() {
-        let reached = spread(alloc, hierarchy, &mut scratch, *node, side)?;
+        let reached = spread(alloc, hierarchy, &mut scratch, *node, side, within)?;
         push_entries(&mut entries, place as u32, &reached)?;
     }
     Ok(entries)

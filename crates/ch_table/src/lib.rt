@@ -4,7 +4,9 @@
 //! It stands on ch_graph, ch_contract, ch_query and ch_work. Proved of it: on every hierarchy [`Buckets`]
 //! hold at each node exactly the targets that it reaches by going down, or the sources that reach it by going
 //! up, with the least weights of such paths, ordered by place; on every hierarchy that is right for a graph each
-//! cell of [`table`] is the least weight of a walk, or says that there is no walk, for every plan and gate.
+//! cell of [`table`] is the least weight of a walk, or says that there is no walk, for every plan and gate. With a
+//! limit the buckets hold exactly the weights that are at most that, and a cell is none where the least weight is
+//! more.
 #![tactic(auto)]
 
 mod buckets;

@@ -14,12 +14,14 @@ use ch_work::{Gate, Plan, run_cells};
 use std::alloc::{AllocError, Global};
 use std::thread::Threads;
 
-/// The distances from each source to each target.
+/// The distances from each source to each target; with a limit `within` those that are at most that, and none
+/// for the others.
 ///
 /// Each target is searched from once, down its paths to higher nodes, and leaves its weight in the bucket of
 /// each node that it reaches; so is each source, up (Knopp, Sanders, Schultes, Schulz and Wagner 2007). At each
 /// node the entries of sources and those of targets owe their sums to the cells, which all workers share. The
-/// workers share the targets, then the sources, then the nodes.
+/// workers share the targets, then the sources, then the nodes. With a limit a search ends where the least weight
+/// that is left is more, and no greater sum is owed.
 ///
 /// # Errors
 /// `AllocError` where there is no memory.
@@ -29,6 +31,7 @@ pub fn table<R: Threads + Sync, G: Gate>(
     hierarchy: &Hierarchy,
     sources: &[u32],
     targets: &[u32],
+    within: Option<u64>,
     plan: &Plan,
     gate: &G,
 ) -> Result<Table, AllocError>
@@ -37,10 +40,19 @@ pub fn table<R: Threads + Sync, G: Gate>(
     requires targets { All (λ t. t < nodes_of hierarchy.now) targets.now }
     requires lists { (length sources.now ≤ 65536) × (length targets.now ≤ 65536) }
     requires cells { length sources.now * length targets.now ≤ 2 ^ 22 }
-    ensures { IfOk result (AllZip (IsRowBy hierarchy.now targets.now) sources.now) }
+    ensures { IfOk result (AllZip (IsRowBy hierarchy.now within targets.now) sources.now) }
 {
-    let downs = search_spaces(rt, alloc, hierarchy, targets, Side::Down, plan, gate)?;
-    let ups = search_spaces(rt, alloc, hierarchy, sources, Side::Up, plan, gate)?;
+    let downs = search_spaces(
+        rt,
+        alloc,
+        hierarchy,
+        targets,
+        Side::Down,
+        within,
+        plan,
+        gate,
+    )?;
+    let ups = search_spaces(rt, alloc, hierarchy, sources, Side::Up, within, plan, gate)?;
     let rows = sources.len() as u32;
     let columns = targets.len() as u32;
     let sums = Sums {
@@ -48,6 +60,7 @@ pub fn table<R: Threads + Sync, G: Gate>(
         targets: &downs,
         rows,
         columns,
+        within,
     };
     let nodes = hierarchy.nodes();
     // The getter tells the proof that a piece has an item.

@@ -12,41 +12,49 @@ use std::alloc::{AllocError, Global};
 use std::marker::Model;
 use std::thread::Threads;
 
-/// The buckets that hold the search spaces of these nodes in this direction. The workers share the nodes.
+/// The buckets that hold the search spaces of these nodes in this direction, within the limit. The workers share
+/// the nodes.
 pub(crate) fn search_spaces<R: Threads + Sync, G: Gate>(
     rt: &R,
     alloc: Global,
     hierarchy: &Hierarchy,
     nodes: &[u32],
     side: Side,
+    within: Option<u64>,
     plan: &Plan,
     gate: &G,
 ) -> Result<Buckets, AllocError>
     requires kept { IsKeptForSome hierarchy.now }
     requires nodes { All (λ x. x < nodes_of hierarchy.now) nodes.now }
     requires count { length nodes.now ≤ 65536 }
-    ensures { IfOk result (HoldSearchSpaces hierarchy.now side nodes.now) }
+    ensures { IfOk result (HoldSearchSpaces hierarchy.now side within nodes.now) }
 {
-    let searches = Searches { hierarchy, side };
+    let searches = Searches {
+        hierarchy,
+        side,
+        within,
+    };
     let spaces = run_list(rt, alloc, nodes, plan, gate, &searches)?;
     Buckets::of_lists(alloc, hierarchy.nodes(), &spaces)
 }
 
-/// Searches from nodes, in one direction.
+/// Searches from nodes, in one direction, within a limit.
 #[derive(Drop)]
 struct Searches<'a> {
     hierarchy: &'a Hierarchy,
     side: Side,
+    within: Option<u64>,
 }
 
 impl<'a> Model for Searches<'a> {
+    ghost use Rattle.std.specs.Prelude.{ℕ, Option};
     ghost use Rattle.ch_contract.specs.Hierarchy.{LevelsAndLegs};
     ghost use Rattle.ch_query.specs.declared.side.Side.{Side};
     ghost use Rattle.ch_query.specs.Distance.{IsKeptForSome};
 
-    ghost Value = { LevelsAndLegs × Side };
+    ghost Value = { LevelsAndLegs × Side × Option ℕ };
 
-    ghost view = { λ job. (job.hierarchy.now, job.side) };
+    ghost view = { λ job. (job.hierarchy.now, job.side, job.within) };
 
     ghost invariant = { λ job. IsKeptForSome job.hierarchy.now };
 }
@@ -64,7 +72,7 @@ impl<'a> ListJob for Searches<'a> {
 
     ghost takes = { λ job node. node < nodes_of job.0 };
 
-    ghost meaning = { λ job node space. IsSearchSpace job.0 job.1 node space.items };
+    ghost meaning = { λ job node space. IsSearchSpace job.0 job.1 job.2 node space.items };
 
     ghost clean = { λ job scratch. scratch ≡ nodes_of job.0 };
 
@@ -78,6 +86,6 @@ impl<'a> ListJob for Searches<'a> {
         room: &mut Scratch,
         item: &u32,
     ) -> Result<Vec<(u32, u64)>, AllocError> {
-        search_space(alloc, self.hierarchy, room, *item, self.side)
+        search_space(alloc, self.hierarchy, room, *item, self.side, self.within)
     }
 }

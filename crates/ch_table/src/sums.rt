@@ -1,5 +1,6 @@
 //! What the nodes owe to the cells of a table.
-ghost use Rattle.std.specs.Prelude.{◌≡◌, ◌+◌, ◌*◌, ◌^◌, ◌<◌, ◌≤◌, length, All};
+ghost use Rattle.std.specs.Prelude.{◌≡◌, ◌+◌, ◌*◌, ◌^◌, ◌<◌, ◌≤◌, ◌↔◌, IsTrue, length, All};
+ghost use Rattle.ch_query.specs.Limits.{IsWithin};
 ghost use Rattle.ch_table.specs.Sums.{IsOwedInRow, IsOwedAt};
 ghost use Rattle.ch_work.specs.Owed.{HasPaid};
 ghost use Rattle.ch_work.specs.Passes.{view_of, size_of, IsPassOf};
@@ -9,14 +10,15 @@ use ch_work::{Board, CellJob, Pass, pay};
 use std::alloc::{AllocError, Global};
 use std::marker::Model;
 
-/// The sums of what the nodes' buckets hold, for each source and target that meet at a node. Cell
-/// `i * columns + j` is that of source i and target j.
+/// The sums within the limit of what the nodes' buckets hold, for each source and target that meet at a node.
+/// Cell `i * columns + j` is that of source i and target j.
 #[derive(Drop)]
 pub(crate) struct Sums<'a> {
     pub(crate) sources: &'a Buckets,
     pub(crate) targets: &'a Buckets,
     pub(crate) rows: u32,
     pub(crate) columns: u32,
+    pub(crate) within: Option<u64>,
 }
 
 impl<'a> Model for Sums<'a> {
@@ -24,9 +26,9 @@ impl<'a> Model for Sums<'a> {
 
     ghost Value = { BothSides };
 
-    ghost view = { λ s. record { ups = s.sources.now; downs = s.targets.now; rows = s.rows; columns = s.columns } };
+    ghost view = { λ s. record { ups = s.sources.now; downs = s.targets.now; rows = s.rows; columns = s.columns; limit = s.within } };
 
-    ghost invariant = { λ s. AreWithin (record { ups = s.sources.now; downs = s.targets.now; rows = s.rows; columns = s.columns }) };
+    ghost invariant = { λ s. AreWithin (record { ups = s.sources.now; downs = s.targets.now; rows = s.rows; columns = s.columns; limit = s.within }) };
 }
 
 impl<'a> CellJob for Sums<'a> {
@@ -64,22 +66,53 @@ impl<'a> Sums<'a> {
     {
         let targets = self.targets.at(node);
         for (source, weight) in self.sources.at(node) {
-            pay_row(board, pass, *source * self.columns, *weight, targets);
+            let first = *source * self.columns;
+            pay_row(board, pass, first, *weight, targets, self.within);
         }
     }
 }
 
 /// Pays what a source owes at a node to the cells of its row, of which the first is given: its weight there
-/// and that of each target.
-fn pay_row(board: &Board, pass: &mut Pass, first: u32, weight: u64, targets: &[(u32, u64)])
+/// and that of each target, where their sum is within the limit.
+fn pay_row(
+    board: &Board,
+    pass: &mut Pass,
+    first: u32,
+    weight: u64,
+    targets: &[(u32, u64)],
+    within: Option<u64>,
+)
     requires board { IsPassOf board.now pass.old }
     requires weight { weight ≤ 2 ^ 60 }
     requires targets { All (λ entry. (first + entry.0 < (size_of board.now).cells) × (entry.1 ≤ 2 ^ 60)) targets.now }
     requires cells { (size_of board.now).cells ≤ 2 ^ 22 }
     ensures board { IsPassOf board.now pass.new }
-    ensures paid { HasPaid (IsOwedInRow first weight targets.now) (view_of pass.old) (view_of pass.new) }
+    ensures paid { HasPaid (IsOwedInRow within first weight targets.now) (view_of pass.old) (view_of pass.new) }
 {
     for (target, rest) in targets {
-        pay(board, pass, first + *target, weight + *rest);
+        pay_within(board, pass, first + *target, weight + *rest, within);
+    }
+}
+
+/// Pays one weight that is owed to a cell where it is within the limit.
+fn pay_within(board: &Board, pass: &mut Pass, cell: u32, weight: u64, within: Option<u64>)
+    requires board { IsPassOf board.now pass.old }
+    requires cell { cell < (size_of board.now).cells }
+    requires weight { weight ≤ 2 ^ 61 }
+    ensures board { IsPassOf board.now pass.new }
+    ensures paid { HasPaid (λ at x. (at ≡ cell) × (x ≡ weight) × IsWithin within x) (view_of pass.old) (view_of pass.new) }
+{
+    if is_within(within, weight) {
+        pay(board, pass, cell, weight);
+    }
+}
+
+/// Whether the weight is at most the limit, if there is one.
+fn is_within(within: Option<u64>, weight: u64) -> bool
+    ensures { IsTrue result ↔ IsWithin within weight }
+{
+    match within {
+        Some(most) => weight <= most,
+        None => true,
     }
 }

@@ -15,13 +15,14 @@ use std::process::Abort;
 use std::test::Fail;
 use std::thread::Threads;
 
-/// A graph, the sources and targets of a table, and its rows. Nodes are counted from 1, as in files.
+/// A graph, the sources, targets and limit of a table, and its rows. Nodes are counted from 1, as in files.
 #[derive(Clone, Copy)]
 struct Example<'a> {
     nodes: u32,
     arcs: &'a [(u32, u32, u64)],
     sources: &'a [u32],
     targets: &'a [u32],
+    within: Option<u64>,
     rows: &'a [&'a [Option<u64>]],
 }
 
@@ -83,7 +84,16 @@ fn expect<R: Threads + Abort + Sync>(rt: &R, alloc: Global, example: &Example) -
     for workers in [1, 2, 64] {
         for piece in [1, 1000] {
             let plan = Plan::new(workers, piece, 1);
-            let found = table(rt, alloc, &hierarchy, &sources, &targets, &plan, &Open)?;
+            let found = table(
+                rt,
+                alloc,
+                &hierarchy,
+                &sources,
+                &targets,
+                example.within,
+                &plan,
+                &Open,
+            )?;
             expect_rows(rt, &found, example.rows);
         }
     }
@@ -105,6 +115,7 @@ fn a_ring(rt: HostRuntime) -> Result<(), Fail> {
         arcs: RING,
         sources: &[5, 1],
         targets: &[4, 4, 5],
+        within: None,
         rows: &[&[Some(4), Some(4), Some(0)], &[Some(3), Some(3), Some(4)]],
     };
     expect(&rt, rt.alloc(), &example)
@@ -117,7 +128,64 @@ fn a_line_with_a_source_twice(rt: HostRuntime) -> Result<(), Fail> {
         arcs: LINE,
         sources: &[1, 1, 3],
         targets: &[3, 2],
+        within: None,
         rows: &[&[Some(9), Some(4)], &[Some(9), Some(4)], &[Some(0), None]],
+    };
+    expect(&rt, rt.alloc(), &example)
+}
+
+/// A cell at the limit stays, and one above it has none.
+#[test]
+fn a_line_within_limits(rt: HostRuntime) -> Result<(), Fail> {
+    let near: &[Option<u64>] = &[None, Some(4)];
+    let far: &[Option<u64>] = &[Some(9), Some(4)];
+    let none: &[Option<u64>] = &[None, None];
+    let itself: &[Option<u64>] = &[Some(0), None];
+    for (within, first) in [
+        (0, none),
+        (3, none),
+        (4, near),
+        (8, near),
+        (9, far),
+        (1 << 60, far),
+        (u64::MAX, far),
+    ] {
+        let example = Example {
+            nodes: 3,
+            arcs: LINE,
+            sources: &[1, 1, 3],
+            targets: &[3, 2],
+            within: Some(within),
+            rows: &[first, first, itself],
+        };
+        expect(&rt, rt.alloc(), &example)?;
+    }
+    Ok(())
+}
+
+/// Weights of 0 are within a limit of 0.
+#[test]
+fn no_weight_within_a_limit_of_none(rt: HostRuntime) -> Result<(), Fail> {
+    let example = Example {
+        nodes: 3,
+        arcs: &[(1, 2, 0), (2, 3, 0), (1, 3, 0)],
+        sources: &[1],
+        targets: &[3],
+        within: Some(0),
+        rows: &[&[Some(0)]],
+    };
+    expect(&rt, rt.alloc(), &example)
+}
+
+#[test]
+fn a_ring_within_a_limit(rt: HostRuntime) -> Result<(), Fail> {
+    let example = Example {
+        nodes: 5,
+        arcs: RING,
+        sources: &[5],
+        targets: &[4, 3],
+        within: Some(3),
+        rows: &[&[None, Some(3)]],
     };
     expect(&rt, rt.alloc(), &example)
 }
@@ -129,6 +197,7 @@ fn no_sources(rt: HostRuntime) -> Result<(), Fail> {
         arcs: RING,
         sources: &[],
         targets: &[4, 5],
+        within: None,
         rows: &[],
     };
     expect(&rt, rt.alloc(), &example)
@@ -141,6 +210,7 @@ fn no_targets(rt: HostRuntime) -> Result<(), Fail> {
         arcs: RING,
         sources: &[5, 1, 5],
         targets: &[],
+        within: None,
         rows: &[&[], &[], &[]],
     };
     expect(&rt, rt.alloc(), &example)
@@ -152,10 +222,11 @@ fn expect_buckets<R: Abort>(
     alloc: Global,
     hierarchy: &Hierarchy,
     targets: &[u32],
+    within: Option<u64>,
     rows: &[&[(u32, u64)]],
 ) -> Result<(), Fail> {
     let targets = from_zero(rt, alloc, hierarchy, targets)?;
-    let buckets = Buckets::fill(alloc, hierarchy, &targets)?;
+    let buckets = Buckets::fill(alloc, hierarchy, &targets, within)?;
     let nodes = hierarchy.nodes();
     assert!(rt; rows.len() == nodes as usize);
     for node in 0..nodes {
@@ -170,10 +241,11 @@ fn expect_buckets_up<R: Abort>(
     alloc: Global,
     hierarchy: &Hierarchy,
     sources: &[u32],
+    within: Option<u64>,
     rows: &[&[(u32, u64)]],
 ) -> Result<(), Fail> {
     let sources = from_zero(rt, alloc, hierarchy, sources)?;
-    let buckets = Buckets::fill_up(alloc, hierarchy, &sources)?;
+    let buckets = Buckets::fill_up(alloc, hierarchy, &sources, within)?;
     let nodes = hierarchy.nodes();
     assert!(rt; rows.len() == nodes as usize);
     for node in 0..nodes {
@@ -193,6 +265,7 @@ fn buckets_of_a_ring(rt: HostRuntime) -> Result<(), Fail> {
         alloc,
         &hierarchy,
         &[4, 4, 5],
+        None,
         &[&[], &[], &[], first, last],
     )
 }
@@ -203,7 +276,7 @@ fn buckets_of_a_line(rt: HostRuntime) -> Result<(), Fail> {
     let hierarchy = hierarchy(&rt, alloc, 3, LINE)?;
     let middle: &[(u32, u64)] = &[(1, 0)];
     let end: &[(u32, u64)] = &[(0, 0)];
-    expect_buckets(&rt, alloc, &hierarchy, &[3, 2], &[&[], middle, end])
+    expect_buckets(&rt, alloc, &hierarchy, &[3, 2], None, &[&[], middle, end])
 }
 
 #[test]
@@ -213,7 +286,34 @@ fn buckets_of_sources_on_a_line(rt: HostRuntime) -> Result<(), Fail> {
     let first: &[(u32, u64)] = &[(0, 0), (1, 0)];
     let middle: &[(u32, u64)] = &[(0, 4), (1, 4)];
     let end: &[(u32, u64)] = &[(0, 9), (1, 9), (2, 0)];
-    expect_buckets_up(&rt, alloc, &hierarchy, &[1, 1, 3], &[first, middle, end])
+    let sources: &[u32] = &[1, 1, 3];
+    let all: &[&[(u32, u64)]] = &[first, middle, end];
+    expect_buckets_up(&rt, alloc, &hierarchy, sources, None, all)?;
+    expect_buckets_up(&rt, alloc, &hierarchy, sources, Some(9), all)?;
+    let last: &[(u32, u64)] = &[(2, 0)];
+    let near: &[&[(u32, u64)]] = &[first, middle, last];
+    expect_buckets_up(&rt, alloc, &hierarchy, sources, Some(8), near)
+}
+
+/// On the ring node 4 is 4 away from node 5, by the one path that leads down to it.
+#[test]
+fn buckets_of_a_ring_within_limits(rt: HostRuntime) -> Result<(), Fail> {
+    let alloc = rt.alloc();
+    let hierarchy = hierarchy(&rt, alloc, 5, RING)?;
+    let first: &[(u32, u64)] = &[(0, 0)];
+    let far: &[(u32, u64)] = &[(0, 4), (1, 0)];
+    let near: &[(u32, u64)] = &[(1, 0)];
+    for (within, last) in [(3, near), (4, far), (0, near)] {
+        expect_buckets(
+            &rt,
+            alloc,
+            &hierarchy,
+            &[4, 5],
+            Some(within),
+            &[&[], &[], &[], first, last],
+        )?;
+    }
+    Ok(())
 }
 
 /// Each target, each source and each node is a piece: the table is made by the cells that workers share.
@@ -225,7 +325,9 @@ fn gates_passed(rt: HostRuntime) -> Result<(), Fail> {
     let targets = from_zero(&rt, alloc, &hierarchy, &[3, 2])?;
     let gate = CountingGate::new(alloc, 4)?;
     let plan = Plan::new(2, 1, 64);
-    table(&rt, alloc, &hierarchy, &sources, &targets, &plan, &gate)?;
+    table(
+        &rt, alloc, &hierarchy, &sources, &targets, None, &plan, &gate,
+    )?;
     for (piece, expected) in [Some(3), Some(3), Some(2), Some(0), None]
         .iter()
         .enumerate()
@@ -279,13 +381,15 @@ fn refused_in_turn(rt: HostRuntime) -> Result<(), Fail> {
     let hierarchy = built_again(&rt, alloc, &graph)?;
     let sources = again!(from_zero(&rt, alloc, &hierarchy, &[1, 3]));
     let targets = again!(from_zero(&rt, alloc, &hierarchy, &[3, 2]));
-    let buckets = again!(Buckets::fill_up(alloc, &hierarchy, &sources));
+    let buckets = again!(Buckets::fill_up(alloc, &hierarchy, &sources, None));
     let nodes = hierarchy.nodes();
     assert!(rt; nodes > 2);
     assert_eq!(rt; buckets.at(2), [(0, 9), (1, 0)].as_slice());
     for workers in [1, 2] {
         let plan = Plan::new(workers, 1, 1);
-        let found = again!(table(&rt, alloc, &hierarchy, &sources, &targets, &plan, &Open));
+        let found = again!(table(
+            &rt, alloc, &hierarchy, &sources, &targets, None, &plan, &Open
+        ));
         expect_rows(&rt, &found, &[&[Some(9), Some(4)], &[Some(0), None]]);
     }
     Ok(())

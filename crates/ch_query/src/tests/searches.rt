@@ -68,9 +68,9 @@ fn spreads_up_the_ring(rt: HostRuntime) -> Result<(), Fail> {
     let alloc = rt.alloc();
     let ring = ring_hierarchy(&rt, alloc)?;
     let mut scratch = again!(Scratch::new(alloc, 5));
-    let all_up = again!(spread(alloc, &ring, &mut scratch, 0, Side::Up));
+    let all_up = again!(spread(alloc, &ring, &mut scratch, 0, Side::Up, None));
     expect_spread(&rt, &all_up, &[(0, 0), (1, 1), (2, 2), (3, 3), (4, 4)]);
-    let last_up = again!(spread(alloc, &ring, &mut scratch, 2, Side::Up));
+    let last_up = again!(spread(alloc, &ring, &mut scratch, 2, Side::Up, None));
     expect_spread(&rt, &last_up, &[(2, 0), (3, 1), (4, 2)]);
     Ok(())
 }
@@ -80,9 +80,9 @@ fn spreads_down_the_ring(rt: HostRuntime) -> Result<(), Fail> {
     let alloc = rt.alloc();
     let ring = ring_hierarchy(&rt, alloc)?;
     let mut scratch = again!(Scratch::new(alloc, 5));
-    let one_down = again!(spread(alloc, &ring, &mut scratch, 0, Side::Down));
+    let one_down = again!(spread(alloc, &ring, &mut scratch, 0, Side::Down, None));
     expect_spread(&rt, &one_down, &[(0, 0), (4, 1)]);
-    let far_down = again!(spread(alloc, &ring, &mut scratch, 3, Side::Down));
+    let far_down = again!(spread(alloc, &ring, &mut scratch, 3, Side::Down, None));
     expect_spread(&rt, &far_down, &[(3, 0), (4, 4)]);
     Ok(())
 }
@@ -92,10 +92,35 @@ fn a_source_without_legs_reaches_itself_alone(rt: HostRuntime) -> Result<(), Fai
     let alloc = rt.alloc();
     let ring = ring_hierarchy(&rt, alloc)?;
     let mut scratch = again!(Scratch::new(alloc, 5));
-    let up = again!(spread(alloc, &ring, &mut scratch, 4, Side::Up));
+    let up = again!(spread(alloc, &ring, &mut scratch, 4, Side::Up, None));
     expect_spread(&rt, &up, &[(4, 0)]);
-    let down = again!(spread(alloc, &ring, &mut scratch, 4, Side::Down));
+    let down = again!(spread(alloc, &ring, &mut scratch, 4, Side::Down, None));
     expect_spread(&rt, &down, &[(4, 0)]);
+    Ok(())
+}
+
+/// With a limit a spread has what weighs at most that, and a limit past all weights leaves nothing out. The
+/// search before leaves no limit behind.
+#[test]
+fn spreads_within_a_limit(rt: HostRuntime) -> Result<(), Fail> {
+    let alloc = rt.alloc();
+    let ring = ring_hierarchy(&rt, alloc)?;
+    let mut scratch = again!(Scratch::new(alloc, 5));
+    let near = again!(spread(alloc, &ring, &mut scratch, 0, Side::Up, Some(2)));
+    expect_spread(&rt, &near, &[(0, 0), (1, 1), (2, 2)]);
+    let itself = again!(spread(alloc, &ring, &mut scratch, 0, Side::Up, Some(0)));
+    expect_spread(&rt, &itself, &[(0, 0)]);
+    let too_far = again!(spread(alloc, &ring, &mut scratch, 3, Side::Down, Some(3)));
+    expect_spread(&rt, &too_far, &[(3, 0)]);
+    let just_there = again!(spread(alloc, &ring, &mut scratch, 3, Side::Down, Some(4)));
+    expect_spread(&rt, &just_there, &[(3, 0), (4, 4)]);
+    for most in [1 << 60, u64::MAX] {
+        let all = again!(spread(alloc, &ring, &mut scratch, 2, Side::Up, Some(most)));
+        expect_spread(&rt, &all, &[(2, 0), (3, 1), (4, 2)]);
+    }
+    let cut = again!(spread(alloc, &ring, &mut scratch, 4, Side::Down, Some(0)));
+    expect_spread(&rt, &cut, &[(4, 0)]);
+    assert_eq!(rt; distance(&ring, &mut scratch, 4, 3), Some(4));
     Ok(())
 }
 
@@ -108,7 +133,7 @@ fn distances_on_the_ring_and_a_spread_after_them(rt: HostRuntime) -> Result<(), 
     assert_eq!(rt; distance(&ring, &mut scratch, 0, 4), Some(4));
     assert_eq!(rt; distance(&ring, &mut scratch, 2, 1), Some(4));
     assert_eq!(rt; distance(&ring, &mut scratch, 1, 1), Some(0));
-    let down = again!(spread(alloc, &ring, &mut scratch, 1, Side::Down));
+    let down = again!(spread(alloc, &ring, &mut scratch, 1, Side::Down, None));
     expect_spread(&rt, &down, &[(1, 0), (4, 2)]);
     assert_eq!(rt; distance(&ring, &mut scratch, 4, 3), Some(4));
     Ok(())

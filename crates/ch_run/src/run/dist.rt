@@ -1,21 +1,20 @@
 //! Runs that answer queries.
 ghost use Rattle.std.specs.Prelude.{◌≡◌, ◌-◌, ◌^◌, ◌<◌, ◌≤◌, ◌↔◌, ◌⊎◌, length, IfOk, IfErr, IsErrAnd};
-ghost use Rattle.std.specs.List.{AllZip};
 ghost use Rattle.ch_read.specs.declared.fault.ReadFault.{ReadFault as FaultAt};
 ghost use Rattle.ch_contract.specs.Legs.{IsHopBound};
 ghost use Rattle.ch_query.specs.Answers.{AreQueries};
-ghost use Rattle.ch_run.specs.Text.{AnswersShortly, IsText};
+ghost use Rattle.ch_run.specs.Text.{IsText};
 ghost use Rattle.ch_run.specs.Run.{AcceptsGraph, AcceptsQueries, Delivers, GoesPast, HasQueriesRefused, IsAnsweredBy, IsGraphRefused, IsOfDist, IsWrite, reading};
 
 use super::inputs::{graph_from, queries_from};
-use crate::device::{Input, Output, write_all};
+use super::output::write_text;
+use super::texts::{answers_by, plain_text};
+use crate::device::{Input, Output};
 use crate::fault::{RunFault, Which};
 use crate::options::Options;
 use crate::plan::{Gate, Plan};
-use crate::text::answers_text;
 use ch_contract::build;
-use ch_graph::{Graph, plain_distance};
-use ch_query::{Answer, answer_all};
+use ch_graph::Graph;
 use std::alloc::{AllocError, Global};
 use std::thread::Threads;
 
@@ -68,10 +67,7 @@ pub fn run_dist<R: Threads + Sync, I: Input, J: Input, O: Output, G: Gate>(
     let graph = graph_from(alloc, graph)?;
     let queries = queries_from(alloc, queries, &graph)?;
     let text = text_of(rt, alloc, &graph, &queries, options, plan, gate)?;
-    match write_all(output, &text) {
-        Ok(()) => Ok(()),
-        Err(count) => Err(RunFault::Write(count)),
-    }
+    write_text(output, &text)
 }
 
 /// The text that answers the queries, by the way that the options name.
@@ -90,32 +86,9 @@ fn text_of<R: Threads + Sync, G: Gate>(
     ensures { IfOk result (λ text. IsText options.now graph.now queries.now text.items) }
 {
     if options.plain {
-        let answers = plain_answers(alloc, graph, queries)?;
-        return answers_text(alloc, &answers);
+        return plain_text(alloc, graph, queries);
     }
     let hierarchy = build(rt, alloc, graph, options.hops, plan, gate)?;
-    let answers = answer_all(rt, alloc, &hierarchy, queries, options.routes, plan, gate)?;
-    answers_text(alloc, &answers)
-}
-
-/// The answers to the queries in order, each by its plain distance.
-fn plain_answers(
-    alloc: Global,
-    graph: &Graph,
-    queries: &[(u32, u32)],
-) -> Result<Vec<Answer>, AllocError>
-    requires { AreQueries graph.now.nodes queries.now }
-    ensures { IfOk result (λ answers. AllZip (AnswersShortly graph.now) queries.now answers.items) }
-{
-    let mut answers = Vec::with_capacity(alloc, queries.len())?;
-    for (from, to) in queries {
-        let weight = plain_distance(alloc, graph, *from, *to)?;
-        answers.push(Answer {
-            from: *from,
-            to: *to,
-            weight,
-            arcs: None,
-        })?;
-    }
-    Ok(answers)
+    let routes = options.routes;
+    answers_by(rt, alloc, &hierarchy, queries, routes, plan, gate)
 }

@@ -1,30 +1,30 @@
 //! Runs that make tables.
-ghost use Rattle.std.specs.Prelude.{◌≡◌, ◌-◌, ◌^◌, ◌<◌, ◌≤◌, ◌↔◌, ◌⊎◌, length, All, IfOk, IfErr, IsErrAnd};
+ghost use Rattle.std.specs.Prelude.{◌≡◌, ◌-◌, ◌^◌, ◌<◌, ◌↔◌, ◌⊎◌, IfOk, IfErr, IsErrAnd};
 ghost use Rattle.ch_read.specs.declared.fault.ReadFault.{ReadFault as FaultAt};
 ghost use Rattle.ch_contract.specs.Legs.{IsHopBound};
 ghost use Rattle.ch_run.specs.TableText.{IsTableText};
-ghost use Rattle.ch_run.specs.Run.{AcceptsGraph, AcceptsLists, AcceptsSources, Delivers, GoesPast, HasCellsRefused, HasSourcesRefused, HasTargetsRefused, HasTooManyCells, IsGraphRefused, IsOfTable, IsTabledBy, IsWrite, reading};
+ghost use Rattle.ch_run.specs.Lists.{AreLists};
+ghost use Rattle.ch_run.specs.Run.{AcceptsGraph, AcceptsLists, AcceptsSources, Delivers, GoesPast, HasCellsRefused, HasSourcesRefused, HasTargetsRefused, IsGraphRefused, IsOfTable, IsTabledBy, IsWrite, reading};
 
-use super::inputs::{graph_from, nodes_from};
-use crate::device::{Input, Output, write_all};
+use super::inputs::graph_from;
+use super::lists::{Lists, lists_from};
+use super::output::write_text;
+use super::texts::table_by;
+use crate::device::{Input, Output};
 use crate::fault::{RunFault, Which};
 use crate::options::Options;
 use crate::plan::{Gate, Plan};
-use crate::text::table_text;
 use ch_contract::build;
 use ch_graph::Graph;
-use ch_table::table;
 use std::alloc::{AllocError, Global};
 use std::thread::Threads;
 
-/// The most cells of a table.
-const MOST_CELLS: usize = 1 << 22;
-
 /// Reads a graph, a list of sources and a list of targets, and writes a row for each source with the
-/// distance to each target, in order.
+/// distance to each target, in order. With a limit of the options a distance that is more is left out, as one
+/// where there is no walk.
 ///
 /// Each input is read to its end and judged before the next is read, and the whole text is made before
-/// the first write. The table is the same for every plan and gate. Of the options only `hops` is used.
+/// the first write. The table is the same for every plan and gate. Of the options `hops` and `within` are used.
 ///
 /// # Errors
 /// The first fault of the graph, the sources or the targets, a device that refused a read, `Cells` where
@@ -50,7 +50,7 @@ pub fn run_table<R: Threads + Sync, I: Input, J: Input, L: Input, O: Output, G: 
 
     // What is written is the table of what was read: all of it, or its first bytes.
     ensures written { Delivers result (O.taken output.old) (O.taken output.new)
-        (IsTabledBy (reading I.left graph.old graph.new) (reading J.left sources.old sources.new) (reading L.left targets.old targets.new)) }
+        (IsTabledBy options.now (reading I.left graph.old graph.new) (reading J.left sources.old sources.new) (reading L.left targets.old targets.new)) }
 
     // A run ends in a fault of its own, a file is refused for what it holds, and the lists where they make too many cells.
     ensures own { IfErr result IsOfTable }
@@ -80,37 +80,25 @@ pub fn run_table<R: Threads + Sync, I: Input, J: Input, L: Input, O: Output, G: 
         × AcceptsLists (reading I.left graph.old graph.new) (reading J.left sources.old sources.new) (reading L.left targets.old targets.new)) }
 {
     let graph = graph_from(alloc, graph)?;
-    let sources = nodes_from(alloc, sources, &graph, Which::Sources)?;
-    let targets = nodes_from(alloc, targets, &graph, Which::Targets)?;
-    if sources.len() * targets.len() > MOST_CELLS {
-        return Err(RunFault::Cells);
-    }
-    let text = table_of(rt, alloc, &graph, &sources, &targets, options, plan, gate)?;
-    match write_all(output, &text) {
-        Ok(()) => Ok(()),
-        Err(count) => Err(RunFault::Write(count)),
-    }
+    let lists = lists_from(alloc, sources, targets, &graph)?;
+    let text = table_of(rt, alloc, &graph, &lists, options, plan, gate)?;
+    write_text(output, &text)
 }
 
-/// The text of the table of these sources and targets.
+/// The text of the table of these lists, by the hierarchy that is built for it.
 fn table_of<R: Threads + Sync, G: Gate>(
     rt: &R,
     alloc: Global,
     graph: &Graph,
-    sources: &[u32],
-    targets: &[u32],
+    lists: &Lists,
     options: &Options,
     plan: &Plan,
     gate: &G,
 ) -> Result<Vec<u8>, AllocError>
-    requires sources { All (λ node. node < graph.now.nodes) sources.now }
-    requires targets { All (λ node. node < graph.now.nodes) targets.now }
-    requires lists { (length sources.now ≤ 65536) × (length targets.now ≤ 65536) }
-    requires cells { HasTooManyCells sources.now targets.now → ⊥ }
     requires hops { IsHopBound options.now.hops }
-    ensures { IfOk result (λ text. IsTableText graph.now sources.now targets.now text.items) }
+    requires lists { AreLists graph.now.nodes lists.now.sources.items lists.now.targets.items }
+    ensures { IfOk result (λ text. IsTableText graph.now options.now.within lists.now.sources.items lists.now.targets.items text.items) }
 {
     let hierarchy = build(rt, alloc, graph, options.hops, plan, gate)?;
-    let cells = table(rt, alloc, &hierarchy, sources, targets, plan, gate)?;
-    table_text(alloc, sources, &cells)
+    table_by(rt, alloc, &hierarchy, lists, options.within, plan, gate)
 }

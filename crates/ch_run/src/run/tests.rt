@@ -24,18 +24,21 @@ const PLAIN: Options = Options {
     plain: true,
     routes: false,
     hops: 5,
+    within: None,
 };
 
 const BY_HIERARCHY: Options = Options {
     plain: false,
     routes: false,
     hops: 5,
+    within: None,
 };
 
 const WITH_ROUTES: Options = Options {
     plain: false,
     routes: true,
     hops: 5,
+    within: None,
 };
 
 /// The three-node graph, the queries there and back, and their answers.
@@ -95,6 +98,25 @@ fn run_lists<R: Threads + Sync>(
     targets: &[u8],
     plan: &Plan,
 ) -> Result<(Result<(), RunFault>, MemoryOutput), AllocError> {
+    run_lists_within(rt, alloc, graph, sources, targets, None, plan)
+}
+
+/// The same within a limit.
+fn run_lists_within<R: Threads + Sync>(
+    rt: &R,
+    alloc: Global,
+    graph: &[u8],
+    sources: &[u8],
+    targets: &[u8],
+    within: Option<u64>,
+    plan: &Plan,
+) -> Result<(Result<(), RunFault>, MemoryOutput), AllocError> {
+    let options = Options {
+        plain: false,
+        routes: false,
+        hops: 5,
+        within,
+    };
     let mut output = MemoryOutput::new(alloc, TABLE_ROOM, 4096)?;
     let result = run_table(
         rt,
@@ -103,7 +125,7 @@ fn run_lists<R: Threads + Sync>(
         &mut MemoryInput::new(sources, 4096),
         &mut MemoryInput::new(targets, 4096),
         &mut output,
-        &BY_HIERARCHY,
+        &options,
         plan,
         &Open,
     );

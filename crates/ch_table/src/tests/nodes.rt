@@ -20,6 +20,7 @@ fn owed_at<R: Threads + Sync>(
     hierarchy: &Hierarchy,
     sources: &[u32],
     targets: &[u32],
+    within: Option<u64>,
     node: u32,
 ) -> Result<Vec<Option<u64>>, AllocError>
     requires kept { IsKeptForSome hierarchy.now }
@@ -29,8 +30,26 @@ fn owed_at<R: Threads + Sync>(
     requires node { node < nodes_of hierarchy.now }
 {
     let plan = Plan::new(1, 1, 64);
-    let downs = search_spaces(rt, alloc, hierarchy, targets, Side::Down, &plan, &Open)?;
-    let ups = search_spaces(rt, alloc, hierarchy, sources, Side::Up, &plan, &Open)?;
+    let downs = search_spaces(
+        rt,
+        alloc,
+        hierarchy,
+        targets,
+        Side::Down,
+        within,
+        &plan,
+        &Open,
+    )?;
+    let ups = search_spaces(
+        rt,
+        alloc,
+        hierarchy,
+        sources,
+        Side::Up,
+        within,
+        &plan,
+        &Open,
+    )?;
     let rows = sources.len() as u32;
     let columns = targets.len() as u32;
     let sums = Sums {
@@ -38,6 +57,7 @@ fn owed_at<R: Threads + Sync>(
         targets: &downs,
         rows,
         columns,
+        within,
     };
     let (board, mut passes) = Board::new(alloc, 0, rows * columns, 1)?;
     let Some(mut pass) = passes.pop() else {
@@ -54,20 +74,24 @@ fn a_node_owes_the_sums_of_its_buckets(rt: HostRuntime) -> Result<(), Fail> {
     let hierarchy = hierarchy(&rt, alloc, 3, LINE)?;
     let sources = from_zero(&rt, alloc, &hierarchy, &[1, 1, 3])?;
     let targets = from_zero(&rt, alloc, &hierarchy, &[3, 2])?;
-    let owed = [
-        [None, None, None, None, None, None],
-        [None, Some(4), None, Some(4), None, None],
-        [Some(9), None, Some(9), None, Some(0), None],
-    ];
+    let first = [None, None, None, None, None, None];
+    let middle = [None, Some(4), None, Some(4), None, None];
+    let last = [Some(9), None, Some(9), None, Some(0), None];
+    let near = [None, None, None, None, Some(0), None];
     let nodes = hierarchy.nodes();
     assert!(rt; nodes == 3);
-    for node in 0..nodes {
-        let cells = owed_at(&rt, alloc, &hierarchy, &sources, &targets, node)?;
-        assert_eq!(rt;
-            cells.as_slice(),
-            owed[node as usize].as_slice(),
-            "node {node}"
-        );
+    for (within, owed) in [
+        (None, [first, middle, last]),
+        (Some(8), [first, middle, near]),
+    ] {
+        for node in 0..nodes {
+            let cells = owed_at(&rt, alloc, &hierarchy, &sources, &targets, within, node)?;
+            assert_eq!(rt;
+                cells.as_slice(),
+                owed[node as usize].as_slice(),
+                "node {node}"
+            );
+        }
     }
     Ok(())
 }

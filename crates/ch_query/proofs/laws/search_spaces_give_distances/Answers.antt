@@ -2,4 +2,4 @@ use Rattle.ch_query.proofs.SharedSums.{spaces_give_distance}
 use Rattle.ch_query.proofs.laws.search_spaces_give_distances.Goals as goal
 
 pub returns : goal.returns
-returns c H s t ups downs answer k up down least = spaces_give_distance H s t ups downs answer k up down least
+returns c H limit s t ups downs answer k up down least = spaces_give_distance H limit s t ups downs answer k up down least

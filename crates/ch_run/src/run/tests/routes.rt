@@ -82,6 +82,7 @@ fn no_bound_on_hops_changes_an_answer(rt: HostRuntime) -> Result<(), Fail> {
                 plain: false,
                 routes,
                 hops,
+                within: None,
             };
             let (result, output) = run(
                 &rt,
@@ -104,6 +105,7 @@ fn the_plain_way_writes_no_routes(rt: HostRuntime) -> Result<(), Fail> {
         plain: true,
         routes: true,
         hops: 5,
+        within: None,
     };
     let plan = Plan::new(1, 64, 64);
     let (result, output) = run(&rt, rt.alloc(), LINE, THERE_AND_BACK, &options, &plan)?;

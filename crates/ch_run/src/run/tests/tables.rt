@@ -1,6 +1,6 @@
 //! Worked tables.
 
-use super::{LINE, RING, repeated, run_lists};
+use super::{LINE, RING, SOURCES, TABLE, TARGETS, repeated, run_lists, run_lists_within};
 use crate::fault::RunFault;
 use crate::plan::Plan;
 use std::test::Fail;
@@ -50,6 +50,44 @@ fn a_row_stands_for_each_source(rt: HostRuntime) -> Result<(), Fail> {
         let (result, output) = run_lists(&rt, rt.alloc(), graph, sources, targets, &plan)?;
         assert_eq!(rt; result, Ok(()));
         assert_eq!(rt; output.bytes(), text);
+    }
+    Ok(())
+}
+
+/// A cell that is more than the limit is written as one where there is no walk; one at the limit stays.
+#[test]
+fn tables_within_limits(rt: HostRuntime) -> Result<(), Fail> {
+    let one: &[u8] = b"p aux sp ss 1\ns 1\n";
+    let three: &[u8] = b"p aux sp ss 1\ns 3\n";
+    let none: &[u8] = b"t 1 - -\nt 1 - -\nt 3 0 -\n";
+    let near: &[u8] = b"t 1 - 4\nt 1 - 4\nt 3 0 -\n";
+    let free: &[u8] = b"p sp 3 3\na 1 2 0\na 2 3 0\na 1 3 0\n";
+    let five: &[u8] = b"p aux sp ss 1\ns 5\n";
+    let four_and_three: &[u8] = b"p aux sp ss 2\ns 4\ns 3\n";
+    let cases: [(&[u8], &[u8], &[u8], u64, &[u8]); 6] = [
+        (LINE, SOURCES, TARGETS, 8, near),
+        (LINE, SOURCES, TARGETS, 9, TABLE),
+        (LINE, SOURCES, TARGETS, 1 << 60, TABLE),
+        (LINE, SOURCES, TARGETS, 0, none),
+        // Weights of 0 are within a limit of 0.
+        (free, one, three, 0, b"t 1 0\n"),
+        (RING, five, four_and_three, 3, b"t 5 - 3\n"),
+    ];
+    for workers in [1, 2] {
+        let plan = Plan::new(workers, 1, 1);
+        for (graph, sources, targets, within, text) in cases {
+            let (result, output) = run_lists_within(
+                &rt,
+                rt.alloc(),
+                graph,
+                sources,
+                targets,
+                Some(within),
+                &plan,
+            )?;
+            assert_eq!(rt; result, Ok(()));
+            assert_eq!(rt; output.bytes(), text);
+        }
     }
     Ok(())
 }

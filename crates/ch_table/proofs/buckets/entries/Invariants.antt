@@ -7,5 +7,5 @@ use Rattle.ch_table.proofs.buckets.entries.Given as goal
 abbrev pub invariant-loop-place : goal.invariant-loop-place
 invariant-loop-place l = record {
   scratch : l.scratch ≡ nodes_of l.hierarchy;
-  entries : AreEntries (rows_of l.hierarchy l.side) l.nodes l.place l.entries.items;
+  entries : AreEntries (rows_of l.hierarchy l.side) l.within l.nodes l.place l.entries.items;
 }

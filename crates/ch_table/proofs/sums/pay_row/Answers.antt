@@ -5,13 +5,13 @@ use Rattle.ch_table.proofs.Owing.{row_none, row_more}
 use Rattle.ch_table.proofs.sums.pay_row.Goals as goal
 
 pub loop-target-init : goal.loop-target-init
-loop-target-init c = (search rules, row_none c.args.first c.args.weight (view_of c.args.pass.now))
+loop-target-init c = (search rules, row_none c.args.within c.args.first c.args.weight (view_of c.args.pass.now))
 
 pub loop-target-preserved : goal.loop-target-preserved
 loop-target-preserved c =
     let a = c.args in
     let i = c.loop-target.target-index in
     let step = take_more a.targets.now i (0, 0) c.loop-target-test.true in (
-      c.pay.ensures.board,
-      row_more a.first a.weight i a.targets.now (get_or a.targets.now i (0, 0)) step (view_of a.pass.now) (view_of c.loop-target.pass) (view_of c.pay.new.pass) c.loop-target.invariant.1 c.pay.ensures.paid,
+      c.pay_within.ensures.board,
+      row_more a.within a.first a.weight i a.targets.now (get_or a.targets.now i (0, 0)) step (view_of a.pass.now) (view_of c.loop-target.pass) (view_of c.pay_within.new.pass) c.loop-target.invariant.1 c.pay_within.ensures.paid,
     )

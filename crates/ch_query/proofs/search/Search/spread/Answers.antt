@@ -1,5 +1,6 @@
 use Rattle.std.proofs.Common.{sym, ◌∙◌, subst}
 use Rattle.std.proofs.lemmas.Result.{IfOk-weaker}
+use Rattle.ch_query.specs.Limits.{IsMost}
 use Rattle.ch_query.specs.Side.{rows_of}
 use Rattle.ch_query.specs.Spread.{IsSpread}
 use Rattle.ch_query.proofs.Spreads.{touched_sorted, sorted_underway, underway_room, spread_of}
@@ -21,7 +22,9 @@ returns-clause-spread c =
     let sorted = c.sort_unstable.ensures in
     let H = c.args.hierarchy.now in
     let side = c.args.self.now.side in
-    let begun = c.begin.ensures in
-    let is = spread_of H c.explore.new.self c.sort_unstable.new.self c.args.source side c.explore.ensures.underway
+    let begun = c.begin_up_to.ensures in
+    let within = c.args.within in
+    let most = subst (IsMost within) (sym (same.most ∙ begun.most)) c.most_within.ensures in
+    let is = spread_of H c.explore.new.self c.sort_unstable.new.self c.args.source side within most c.explore.ensures.underway
     (same.stalls ∙ begun.stalls) (same.source ∙ begun.source) (same.side ∙ begun.side) c.explore.ensures.done sorted.permutation sorted.sorted in
-    IfOk-weaker _ _ _ (λ list e. subst (IsSpread (rows_of H side) c.args.source) (sym e) is) c.listed-list.ensures
+    IfOk-weaker _ _ _ (λ list e. subst (IsSpread (rows_of H side) within c.args.source) (sym e) is) c.listed-list.ensures

@@ -1,4 +1,4 @@
-use Rattle.std.proofs.Common.{◌≡◌, ℕ, ◌*◌, ◌+◌, List, [], take, get_or, ap, sym, ◌∙◌, subst}
+use Rattle.std.proofs.Common.{ℕ, ◌*◌, ◌+◌, Option, List, [], take, get_or, ap, sym, ◌∙◌, subst}
 use Rattle.std.specs.Prelude.{All, slice_index_or}
 use Rattle.std.proofs.lemmas.List.{take_more}
 use Rattle.std.proofs.lemmas.List.Elements.{All-get_or}
@@ -11,7 +11,7 @@ use Rattle.ch_table.proofs.sums.Sums.pay_node.Goals as goal
 pub pay_row-requires-clause-targets : goal.pay_row-requires-clause-targets
 pay_row-requires-clause-targets c =
     let inside = c.self.inside in
-    let S : BothSides = record { ups = inside.sources.now; downs = inside.targets.now; rows = inside.rows; columns = inside.columns } in
+    let S : BothSides = record { ups = inside.sources.now; downs = inside.targets.now; rows = inside.rows; columns = inside.columns; limit = inside.within } in
     let sources = c.at-source-items.result.now in
     let targets = c.at-targets.result.now in
     let i = c.loop-source.source-index in
@@ -26,6 +26,7 @@ loop-source-preserved c =
     let a = c.args in
     let S = a.self.now in
     let columns = c.self.inside.columns in
+    let limit = c.self.inside.within in
     let sources = c.at-source-items.result.now in
     let targets = c.at-targets.result.now in
     let i = c.loop-source.source-index in
@@ -33,11 +34,12 @@ loop-source-preserved c =
     let v = view_of c.loop-source.pass in
     let w = view_of c.pay_row.new.pass in
     let same = ap (λ (s : BothSides). s.columns) c.self.view_is in
+    let same_limit = ap (λ (s : BothSides). s.limit) c.self.view_is in
     let those = c.at-source-items.ensures ∙ ap (λ (s : BothSides). slice_index_or s.ups a.node []) c.self.view_is in
     let these = c.at-targets.ensures ∙ ap (λ (s : BothSides). slice_index_or s.downs a.node []) c.self.view_is in
-    let Before : ℕ × List (ℕ × ℕ) × List (ℕ × ℕ) → Type 0 = λ t. HasPaid (IsOwedBy t.0 (take i t.1) t.2) u v in
-    let After : ℕ × List (ℕ × ℕ) × List (ℕ × ℕ) → Type 0 = λ t. HasPaid (IsOwedBy t.0 (take (i + 1) t.1) t.2) u w in
-    let before : HasPaid (IsOwedBy columns (take i sources) targets) u v = subst Before (λ k. (sym same k, sym those k, sym these k)) c.loop-source.invariant.1 in
+    let Before : Option ℕ × ℕ × List (ℕ × ℕ) × List (ℕ × ℕ) → Type 0 = λ t. HasPaid (IsOwedBy t.0 t.1 (take i t.2) t.3) u v in
+    let After : Option ℕ × ℕ × List (ℕ × ℕ) × List (ℕ × ℕ) → Type 0 = λ t. HasPaid (IsOwedBy t.0 t.1 (take (i + 1) t.2) t.3) u w in
+    let before : HasPaid (IsOwedBy limit columns (take i sources) targets) u v = subst Before (λ k. (sym same_limit k, sym same k, sym those k, sym these k)) c.loop-source.invariant.1 in
     let step = take_more sources i (0, 0) c.loop-source-test.true in
-    let after = node_more columns i sources targets (get_or sources i (0, 0)) step u v w before c.pay_row.ensures.paid in
-    (c.pay_row.ensures.board, subst After (λ k. (same k, those k, these k)) after)
+    let after = node_more limit columns i sources targets (get_or sources i (0, 0)) step u v w before c.pay_row.ensures.paid in
+    (c.pay_row.ensures.board, subst After (λ k. (same_limit k, same k, those k, these k)) after)

@@ -8,4 +8,4 @@ use Rattle.ch_table.proofs.sums.Sums.pay_node.Given as goal
 abbrev pub invariant-loop-source : goal.invariant-loop-source
 invariant-loop-source l =
     IsPassOf l.board l.pass
-    × HasPaid (IsOwedBy l.self.columns (take l.source-index (slice_index_or l.self.ups l.node [])) (slice_index_or l.self.downs l.node [])) (view_of l.fn.pass) (view_of l.pass)
+    × HasPaid (IsOwedBy l.self.limit l.self.columns (take l.source-index (slice_index_or l.self.ups l.node [])) (slice_index_or l.self.downs l.node [])) (view_of l.fn.pass) (view_of l.pass)

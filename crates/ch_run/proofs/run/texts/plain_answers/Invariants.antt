@@ -1,7 +1,7 @@
 use Rattle.std.proofs.Common.{take}
 use Rattle.std.specs.List.{AllZip}
 use Rattle.ch_run.specs.Text.{AnswersShortly}
-use Rattle.ch_run.proofs.run.dist.plain_answers.Given as goal
+use Rattle.ch_run.proofs.run.texts.plain_answers.Given as goal
 
 abbrev pub invariant-loop-from : goal.invariant-loop-from
 invariant-loop-from l = AllZip (AnswersShortly l.graph) (take l.from-index l.queries) l.answers.items

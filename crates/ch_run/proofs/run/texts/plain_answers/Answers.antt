@@ -1,6 +1,6 @@
 use Rattle.std.proofs.Common.{refl}
 use Rattle.ch_run.proofs.Texts.{answered}
-use Rattle.ch_run.proofs.run.dist.plain_answers.Goals as goal
+use Rattle.ch_run.proofs.run.texts.plain_answers.Goals as goal
 
 pub loop-from-preserved : goal.loop-from-preserved
 loop-from-preserved c =

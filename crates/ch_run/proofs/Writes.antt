@@ -1,0 +1,35 @@
+-- How runs end: with a fault that was met, or with their writes.
+use Rattle.std.proofs.Common.{◌≡◌, ℕ, List, Option, sym, ap, ◌∙◌, subst}
+use Rattle.std.specs.Prelude.{Result, Ok, Err, IfErr, IsErrAnd}
+use Rattle.std.proofs.lemmas.Result.{IfErr-weaker}
+use Rattle.ch_run.specs.declared.fault.RunFault.{RunFault}
+use Rattle.ch_run.specs.declared.fault.Which.{Which}
+use Rattle.ch_run.specs.Run.{Delivers, GoesPast, IsWrite, StopsAt}
+
+-- a fault that is passed on is the one that was met
+pub passed_on : {S T : Type 0} (r : Result T RunFault) (e fault : RunFault) → IsErrAnd r (λ y. y ≡ e) → r ≡ Err fault → ◌≡◌ {A = Result S RunFault} (Err e) (Err fault)
+passed_on (Ok x) e fault is same = absurd is
+passed_on {S} (Err y) e fault is same =
+    let one : y ≡ fault = cc in
+    let told : RunFault → Result S RunFault = λ f. Err f in
+    ap told (sym is ∙ one)
+
+-- a refused write is no input's fault
+past_inputs : (which : Which) (fault : RunFault) → IsWrite fault → StopsAt which fault → ⊥
+past_inputs which (RunFault.Write count) h k = k.0
+past_inputs which (RunFault.Graph f) h k = h
+past_inputs which (RunFault.Queries f) h k = h
+past_inputs which (RunFault.Sources f) h k = h
+past_inputs which (RunFault.Targets f) h k = h
+past_inputs which RunFault.Cells h k = h
+past_inputs which RunFault.Memory h k = h
+past_inputs which (RunFault.Device input) h k = h
+
+-- a run that ends in no fault but a refused write stopped at no input
+pub gone_past : {T : Type 0} (r : Result T RunFault) → IfErr r IsWrite → (which : Which) → GoesPast which r
+gone_past r own which = IfErr-weaker r IsWrite (λ fault. StopsAt which fault → ⊥) (past_inputs which) own
+
+-- a text that was delivered is one of which P holds
+pub delivered : {T : Type 0} (r : Result T RunFault) (old new : Option (List ℕ)) (text : List ℕ) (P : List ℕ → Type 0) → P text → Delivers r old new (λ bytes. bytes ≡ text) → Delivers r old new P
+delivered (Ok _) old new text P is h = (h.0, subst P (sym h.1) is, h.2)
+delivered (Err fault) old new text P is h = λ count same. let d = h count same in (d.0, subst P (sym d.1) is, d.2, d.3)

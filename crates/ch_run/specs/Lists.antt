@@ -1,0 +1,33 @@
+-- What is read of the two lists of a table, on a graph of so many nodes.
+use Rattle.std.specs.Prelude.{◌≡◌, ℕ, ◌^◌, ◌*◌, ◌<◌, ◌≤◌, ◌⊎◌, List, length, All}
+use Rattle.ch_read.specs.declared.fault.ReadFault.{ReadFault}
+use Rattle.ch_run.specs.declared.fault.Which.{Which}
+use Rattle.ch_run.specs.declared.fault.RunFault.{RunFault}
+use Rattle.ch_run.specs.Run.{Reading, ReadsNodes, HasTooManyCells, IsListRefused, IsOf}
+
+-- lists of the nodes, within the limits, that don't make too many cells
+pub record AreLists (nodes : ℕ) (from to : List ℕ) : Type 0 where
+  pub sources : All (λ node. node < nodes) from
+  pub targets : All (λ node. node < nodes) to
+  pub sizes : (length from ≤ 65536) × (length to ≤ 65536)
+  pub cells : length from * length to ≤ 2 ^ 22
+
+-- the input was read to its end and names a list of the nodes
+abbrev pub AcceptsList : Reading → ℕ → Type 0
+AcceptsList list nodes = (listed : List ℕ) × ReadsNodes list nodes listed
+
+-- the inputs were read to their end and name these lists, which don't make too many cells
+abbrev pub ReadsLists : Reading → Reading → ℕ → List ℕ → List ℕ → Type 0
+ReadsLists sources targets nodes from to = ReadsNodes sources nodes from × ReadsNodes targets nodes to × (HasTooManyCells from to → ⊥)
+
+-- the sources were accepted, and the targets have this fault
+abbrev pub HaveTargetsRefused : Reading → Reading → ℕ → ReadFault → Type 0
+HaveTargetsRefused sources targets nodes fault = AcceptsList sources nodes × IsListRefused targets nodes fault
+
+-- the lists were accepted, and make too many cells
+abbrev pub HaveCellsRefused : Reading → Reading → ℕ → Type 0
+HaveCellsRefused sources targets nodes = (from to : List ℕ) × ReadsNodes sources nodes from × ReadsNodes targets nodes to × HasTooManyCells from to
+
+-- what reading the lists may end in: one of them is refused or can't be read, or they make too many cells
+abbrev pub IsOfLists : RunFault → Type 0
+IsOfLists fault = IsOf Which.Sources fault ⊎ IsOf Which.Targets fault ⊎ (fault ≡ RunFault.Cells)

@@ -1,0 +1,57 @@
+//! The two lists of a table.
+ghost use Rattle.std.specs.Prelude.{◌≡◌, ◌-◌, ◌^◌, ◌<◌, ◌↔◌, ◌⊎◌, ℕ, List, IfOk, IfErr};
+ghost use Rattle.ch_read.specs.declared.fault.ReadFault.{ReadFault as FaultAt};
+ghost use Rattle.ch_run.specs.Lists.{AreLists, ReadsLists, AcceptsList, HaveTargetsRefused, HaveCellsRefused, IsOfLists};
+ghost use Rattle.ch_run.specs.Run.{GoesPast, IsListRefused, reading};
+
+use super::inputs::nodes_from;
+use crate::device::Input;
+use crate::fault::{RunFault, Which};
+use ch_graph::Graph;
+use std::alloc::Global;
+
+/// The most cells of a table.
+const MOST_CELLS: usize = 1 << 22;
+
+/// The sources and the targets of a table.
+#[derive(Drop)]
+pub(crate) struct Lists {
+    pub(crate) sources: Vec<u32>,
+    pub(crate) targets: Vec<u32>,
+}
+
+/// Reads the sources to their end and then the targets, as lists of nodes of this graph that make no
+/// more than 2^22 cells.
+pub(crate) fn lists_from<J: Input, L: Input>(
+    alloc: Global,
+    sources: &mut J,
+    targets: &mut L,
+    graph: &Graph,
+) -> Result<Lists, RunFault>
+    requires sources { J.failed sources.old < 2 ^ 64 - 1 }
+    requires targets { L.failed targets.old < 2 ^ 64 - 1 }
+
+    ensures value { IfOk result (λ lists.
+        ReadsLists (reading J.left sources.old sources.new) (reading L.left targets.old targets.new) graph.now.nodes lists.sources.items lists.targets.items) }
+    ensures within { IfOk result (λ lists. AreLists graph.now.nodes lists.sources.items lists.targets.items) }
+
+    ensures own { IfErr result IsOfLists }
+    ensures sources_refused { (fault : FaultAt) → result ≡ Err (RunFault.Sources fault) →
+        IsListRefused (reading J.left sources.old sources.new) graph.now.nodes fault }
+    ensures targets_refused { (fault : FaultAt) → result ≡ Err (RunFault.Targets fault) →
+        HaveTargetsRefused (reading J.left sources.old sources.new) (reading L.left targets.old targets.new) graph.now.nodes fault }
+    ensures cells_refused { result ≡ Err RunFault.Cells →
+        HaveCellsRefused (reading J.left sources.old sources.new) (reading L.left targets.old targets.new) graph.now.nodes }
+
+    ensures sources_device { (result ≡ Err (RunFault.Device Which.Sources)) ↔ (J.failed sources.old < J.failed sources.new) }
+    ensures targets_device { (result ≡ Err (RunFault.Device Which.Targets)) ↔ (L.failed targets.old < L.failed targets.new) }
+    ensures targets_unread { (targets.new ≡ targets.old)
+        ⊎ (GoesPast Which.Sources result × AcceptsList (reading J.left sources.old sources.new) graph.now.nodes) }
+{
+    let sources = nodes_from(alloc, sources, graph, Which::Sources)?;
+    let targets = nodes_from(alloc, targets, graph, Which::Targets)?;
+    if sources.len() * targets.len() > MOST_CELLS {
+        return Err(RunFault::Cells);
+    }
+    Ok(Lists { sources, targets })
+}
