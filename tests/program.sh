@@ -52,6 +52,27 @@ list_of() {
   for node in "$@"; do printf 's %d\n' "$node"; done
 }
 
+# all_pairs GRAPH: the queries from each node of a graph to each node.
+all_pairs() {
+  awk '$1 == "p" { print "p aux sp p2p", $3 * $3; for (s = 1; s <= $3; s++) for (t = 1; t <= $3; t++) print "q", s, t }' "$1"
+}
+
+# expect_same_saved NAME GRAPH QUERIES SOURCES TARGETS: a graph that is saved gives the same routes and the same table.
+expect_same_saved() {
+  "$root/chtab" save "$2" >same.ch
+  compare "$1, saved, status" 0 "$?"
+  expect "$1, routes by the saved hierarchy" 0 "$("$root/chtab" dist --routes "$2" "$3")" "" dist --routes --saved same.ch "$2" "$3"
+  expect "$1, table by the saved hierarchy" 0 "$("$root/chtab" table "$2" "$4" "$5")" "" table --saved same.ch "$2" "$4" "$5"
+}
+
+# expect_saved NAME STATUS OUT ERR GRAPH QUERIES ORDER LEG..: routes by a saved hierarchy of this order and these legs.
+expect_saved() {
+  local name=$1 status=$2 out=$3 err=$4 graph=$5 queries=$6 order=$7
+  shift 7
+  { printf 'p ch %d %d\n' "$(wc -w <<<"$order")" "$#"; printf 'o %d\n' $order; printf 'l %s\n' "$@"; } >saved.ch
+  expect "$name" "$status" "$out" "$err" dist --routes --saved saved.ch "$graph" "$queries"
+}
+
 # refused NAME LINE GRAPH QUERIES: these texts as files are refused with this line, and nothing is written.
 refused() {
   printf "$3" >graph.gr
@@ -126,6 +147,11 @@ for most in 0 60000 300000 1152921504606846976; do
       table --within "$most" --workers "$workers" "$lg" from.ss to.ss
   done
 done
+expect_same_saved "Liechtenstein" "$lg" fifty.p2p from.ss to.ss
+compare "Liechtenstein, saved by two workers" "$(cksum <same.ch)" "$("$root/chtab" save --workers 2 --piece 7 "$lg" | cksum)"
+expect "Liechtenstein, saved, two workers" 0 "$table" "" table --workers 2 --saved same.ch "$lg" from.ss to.ss
+expect "Liechtenstein, saved, within a limit" 0 "$("$root/chtab" table --within 60000 "$lg" from.ss to.ss)" "" \
+  table --within 60000 --saved same.ch "$lg" from.ss to.ss
 
 printf 'p sp 3 2\na 1 2 4\na 2 3 5\n' >graph.gr
 python3 -c '
@@ -175,6 +201,95 @@ expect_words "a limit for dist" 2 err "--within" dist --within 8 graph.gr querie
 
 g=$root/examples/first.gr
 q=$root/examples/first.p2p
+ch=$root/examples/first.ch
+
+printf 'p sp 0 0\n' >none.gr
+printf 'p sp 4 6\na 1 2 1\na 2 1 1\na 1 3 1\na 3 1 1\na 1 4 1\na 4 1 1\n' >star.gr
+printf 'p sp 4 4\na 1 2 1\na 2 4 1\na 1 3 1\na 3 4 1\n' >square.gr
+printf 'p sp 4 4\na 1 2 0\na 2 3 0\na 3 1 0\na 3 4 2\n' >loop.gr
+printf 'p sp 5 5\na 1 2 1\na 2 3 1\na 1 4 0\na 4 5 0\na 5 3 0\n' >around.gr
+list_of >nothing.ss
+list_of 1 2 3 >nodes.ss
+all_pairs none.gr >none.p2p
+expect_same_saved "no node" none.gr none.p2p nothing.ss nothing.ss
+for name in graph zero ring star square loop around; do
+  all_pairs $name.gr >$name.p2p
+  expect_same_saved "the graph $name" $name.gr $name.p2p nodes.ss nodes.ss
+done
+expect "example first, saved" 0 "$(cat "$ch")" "" save "$g"
+expect "example first, by the saved file" 0 "$(python3 "$root/tests/dijkstra.py" "$g" "$q")" "" dist --saved "$ch" "$g" "$q"
+expect "no node, saved" 0 "p ch 0 0" "" save --workers 2 none.gr
+
+routes=$("$root/chtab" dist --routes "$g" "$q")
+no="chtab: saved hierarchy refused:"
+one="1 2 4 1 0"
+two="2 3 5 1 0"
+expect_saved "another order" 0 "$routes" "" "$g" "$q" "1 3 2" "$one" "$two"
+expect_saved "a shortcut is missing" 1 "" "$no lower" "$g" "$q" "2 1 3" "$one" "$two"
+expect_saved "the shortcut is there" 0 "$routes" "" "$g" "$q" "2 1 3" "$one" "$two" "1 3 9 2 2"
+expect_saved "a shortcut that is too cheap" 1 "" "$no middle" "$g" "$q" "2 1 3" "$one" "$two" "1 3 8 2 2"
+expect_saved "a leg without an arc" 1 "" "$no base" "$g" "$q" "2 1 3" "$one" "$two" "1 3 9 2 0"
+expect_saved "a leg of too many arcs" 1 "" "$no bound" "$g" "$q" "2 1 3" "$one" "$two" "1 3 9 3 2"
+expect_saved "an arc without a leg" 1 "" "$no arc" "$g" "$q" "1 3 2" "$one"
+expect_saved "a leg twice" 1 "" "$no pair" "$g" "$q" "1 3 2" "$one" "$two" "$one"
+expect_saved "a node twice" 1 "" "$no order" "$g" "$q" "1 1 2" "$one" "$two"
+
+star_legs=("2 1 1 1 0" "1 2 1 1 0" "1 3 1 1 0" "1 4 1 1 0" "3 1 1 1 0" "4 1 1 1 0" "3 4 2 2 1" "4 3 2 2 1")
+expect_saved "a star" 0 "$("$root/chtab" dist --routes star.gr star.p2p)" "" star.gr star.p2p "2 1 3 4" "${star_legs[@]}"
+expect "a star, saved" 0 "$(cat saved.ch)" "" save star.gr
+words=(arc arc middle middle middle middle lower lower)
+for place in "${!star_legs[@]}"; do
+  expect_saved "a star without its leg $place" 1 "" "$no ${words[place]}" star.gr star.p2p "2 1 3 4" \
+    "${star_legs[@]:0:place}" "${star_legs[@]:place+1}"
+done
+
+# refused_saved NAME LINE SAVED: this text as saved hierarchy is refused with this line, by dist and by table.
+refused_saved() {
+  printf "$3" >saved.ch
+  expect "$1" 1 "" "chtab: $2" dist --saved saved.ch "$g" "$q"
+  expect "$1, table" 1 "" "chtab: $2" table --saved saved.ch "$g" one.ss three.ss
+}
+
+refused_saved "saved: no line" "saved line 1: no problem line" ''
+refused_saved "saved: an unknown line" "saved line 1: unknown line" 'a 1 2 4\n'
+refused_saved "saved: a bad problem line" "saved line 1: bad problem line" 'p sp 3 2\n'
+refused_saved "saved: a second problem line" "saved line 2: second problem line" 'p ch 3 0\np ch 3 0\n'
+refused_saved "saved: another number of nodes" "saved line 1: size too large" 'p ch 2 0\n'
+refused_saved "saved: too many legs" "saved line 1: size too large" 'p ch 3 1125899906842625\n'
+refused_saved "saved: as many legs as may be" "saved line 2: too few lines" 'p ch 3 1125899906842624\n'
+refused_saved "saved: a bad node line" "saved line 2: bad line" 'p ch 3 0\no 1 2\n'
+refused_saved "saved: a bad leg line" "saved line 2: bad line" 'p ch 3 1\nl 1 2 4 1\n'
+refused_saved "saved: too many nodes" "saved line 5: too many lines" 'p ch 3 0\no 1\no 2\no 3\no 3\n'
+refused_saved "saved: a leg too many" "saved line 2: too many lines" 'p ch 3 0\nl 1 2 4 1 0\n'
+refused_saved "saved: no such node" "saved line 2: node out of range" 'p ch 3 0\no 4\n'
+refused_saved "saved: a leg to no node" "saved line 2: node out of range" 'p ch 3 1\nl 1 0 4 1 0\n'
+refused_saved "saved: no such middle" "saved line 2: node out of range" 'p ch 3 1\nl 1 2 4 1 4\n'
+refused_saved "saved: a leg too heavy" "saved line 2: weight too large" 'p ch 3 1\nl 1 2 1152921504606846977 1 0\n'
+refused_saved "saved: a leg of too many arcs" "saved line 2: weight too large" 'p ch 3 1\nl 1 2 4 33554433 0\n'
+refused_saved "saved: too few nodes" "saved line 4: too few lines" 'p ch 3 0\no 1\no 2\n'
+refused_saved "saved: too few legs" "saved line 5: too few lines" 'p ch 3 1\no 1\no 2\no 3\n'
+
+printf 'p\n' >bad.txt
+expect "the graph is judged before the saved hierarchy" 1 "" "chtab: graph line 1: bad problem line" dist --saved bad.txt bad.txt bad.txt
+expect "the saved hierarchy is judged before the queries" 1 "" "chtab: saved line 1: bad problem line" dist --saved bad.txt "$g" bad.txt
+expect_saved "it is checked before the queries" 1 "" "$no order" "$g" bad.txt "1 1 2" "$one" "$two"
+expect "it is judged before the sources" 1 "" "chtab: saved line 1: bad problem line" table --saved bad.txt "$g" bad.txt bad.txt
+expect "then the queries are judged" 1 "" "chtab: queries line 1: bad problem line" dist --saved "$ch" "$g" bad.txt
+expect "a missing graph, and no saved hierarchy" 3 "" "chtab: cannot read graph" dist --saved missing.ch missing.gr missing.p2p
+expect "a missing hierarchy" 3 "" "chtab: cannot read saved" dist --saved missing.ch "$g" missing.p2p
+expect "a missing hierarchy, table" 3 "" "chtab: cannot read saved" table --saved missing.ch "$g" missing.ss missing.ss
+expect "a folder as saved hierarchy" 3 "" "chtab: cannot read saved" dist --saved "$root" "$g" "$q"
+expect "missing queries, and a saved hierarchy" 3 "" "chtab: cannot read queries" dist --saved "$ch" "$g" missing.p2p
+expect "a missing graph to save" 3 "" "chtab: cannot read graph" save missing.gr
+expect "a folder to save" 3 "" "chtab: cannot read graph" save "$root"
+expect "a refused graph to save" 1 "" "chtab: graph line 1: bad problem line" save bad.txt
+expect "plain distances read no saved hierarchy" 0 "$("$root/chtab" dist "$g" "$q")" "" dist --plain --saved missing.ch "$g" "$q"
+expect "a saved hierarchy leaves hops out" 0 "$routes" "" dist --routes --hops 1 --saved "$ch" "$g" "$q"
+expect_words "a saved hierarchy to save" 2 err "--saved" save --saved "$ch" "$g"
+expect_words "two files to save" 2 err "'$q'" save "$g" "$q"
+expect_words "no saved file" 2 err "--saved" dist --saved
+expect_words "help of save" 0 out "chtab save roads.gr" save --help
+
 expect "a missing graph" 3 "" "chtab: cannot read graph" dist --plain missing.gr "$q"
 expect "missing queries" 3 "" "chtab: cannot read queries" dist --plain "$g" missing.p2p
 expect "a folder as graph" 3 "" "chtab: cannot read graph" dist --plain "$root" "$q"
@@ -183,6 +298,9 @@ expect "a folder as queries" 3 "" "chtab: cannot read queries" dist --plain "$g"
 "$root/chtab" dist --plain "$g" "$q" >/dev/full 2>err.txt
 compare "a full device, status" 3 "$?"
 compare "a full device, standard error" "chtab: cannot write after 0 bytes" "$(cat err.txt)"
+"$root/chtab" save "$g" >/dev/full 2>err.txt
+compare "a full device for a hierarchy, status" 3 "$?"
+compare "a full device for a hierarchy, standard error" "chtab: cannot write after 0 bytes" "$(cat err.txt)"
 
 python3 - "$root/chtab" "$g" "$q" 2>err.txt <<'PYTHON'
 import os, subprocess, sys

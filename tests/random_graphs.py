@@ -4,9 +4,11 @@
   random_graphs.py [GRAPHS [SEED]]
 
 Weights of 0, parallel arcs, loops, unreachable parts and weights up to the limit are among them (300 graphs, seed 1). For each graph
-and for 1 and 3 workers, 1 and 5 hops: `dist`, `dist --routes` and `table`, also within a limit; and `dist --plain`. Distances are those
-of Dijkstra's algorithm over pairs of weight and number of arcs, each route is a walk of the graph of that weight and that number of
-arcs, and all runs of one kind write the same bytes. The last line is 'N passed, N failed', of graphs.
+and for 1 and 3 workers, 1 and 5 hops: `dist`, `dist --routes` and `table`, also within a limit; `save`, and the same by the saved
+hierarchy; and `dist --plain`. Distances are those of Dijkstra's algorithm over pairs of weight and number of arcs, each route is a
+walk of the graph of that weight and that number of arcs, all runs of one kind write the same bytes, and an independent checker finds
+no fault in what is saved. A hierarchy that this script makes by an order of its own is accepted, and gives the same distances.
+The last line is 'N passed, N failed', of graphs.
 """
 import collections
 import heapq
@@ -18,6 +20,8 @@ import sys
 import tempfile
 from concurrent.futures import ThreadPoolExecutor
 
+import checking
+from reading import read
 from routes import check_route
 
 ROOT = pathlib.Path(__file__).resolve().parent.parent
@@ -66,6 +70,17 @@ def check_text(arcs, wanted, text):
     assert next(lines, None) is None, "lines are left"
 
 
+def check_saved(nodes, arcs, text):
+    """The hierarchy is right for the graph, and its lines stand in the order that `save` has."""
+    _, (order, legs) = read("saved", text.encode(), nodes)
+    order = [node for node, in order]
+    assert checking.first_fault(nodes, arcs, order, legs) is None, text
+    level = checking.levels_of(order)
+    place = {True: lambda leg: (level[leg[0]], 0, leg[1]), False: lambda leg: (level[leg[1]], 1, leg[0])}
+    legs.sort(key=lambda leg: place[level[leg[0]] < level[leg[1]]](leg))
+    assert text == checking.text_of(nodes, order, legs), text
+
+
 class Folder:
     """The files of one graph, and runs of the program on them."""
 
@@ -74,7 +89,11 @@ class Folder:
 
     def write(self, name, problem, letter, items):
         lines = [f"p {problem} {len(items)}", *(" ".join(map(str, (letter, *item))) for item in items)]
-        (self.path / name).write_text("\n".join(lines) + "\n")
+        self.save(name, "\n".join(lines) + "\n")
+
+    def save(self, name, text):
+        (self.path / name).write_text(text)
+        return text
 
     def run(self, tool, *words):
         done = subprocess.run([PROGRAM, tool, *words], cwd=self.path, capture_output=True, text=True)
@@ -95,6 +114,7 @@ class Case:
         self.queries = [(draw.randint(1, self.nodes), draw.randint(1, self.nodes)) for _ in range(draw.choice((0, 1, 40)))]
         self.lists = [[(draw.randint(1, self.nodes),) for _ in range(draw.choice((0, 1, 12)))] for _ in range(2)]
         self.limit = draw.choice([0, LIMIT, *(weight for known in self.costs.values() for weight, _ in known.values())])
+        self.order = draw.sample(range(1, self.nodes + 1), self.nodes)
 
     def answers(self):
         """Each query with the least cost, or None where there is no walk."""
@@ -137,9 +157,15 @@ def check_graph(seed):
         assert folder.run("dist", "--plain", "graph.gr", "queries.p2p") == case.distances()
         texts = set()
         for workers, hops in ((1, 1), (1, 5), (3, 1), (3, 5)):
-            options = ["--workers", str(workers), "--piece", "3", "--hops", str(hops)]
-            texts.add((hops, check_runs(case, folder, *options)))
-        assert len(texts) == 2, "the routes depend on the number of workers"
+            options = ["--workers", str(workers), "--piece", "3"]
+            saved = folder.save("saved.ch", folder.run("save", *options, "--hops", str(hops), "graph.gr"))
+            check_saved(case.nodes, case.arcs, saved)
+            texts.add((hops, saved, check_runs(case, folder, *options, "--hops", str(hops))))
+            texts.add((hops, saved, check_runs(case, folder, *options, "--saved", "saved.ch")))
+        assert len(texts) == 2, "a text depends on the number of workers, or on whether the hierarchy was saved"
+        own = checking.contracted(case.nodes, case.arcs, case.order)
+        folder.save("own.ch", checking.text_of(case.nodes, case.order, own))
+        check_runs(case, folder, "--saved", "own.ch")
 
 
 def outcome(seed):

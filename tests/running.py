@@ -32,6 +32,12 @@ def run(words, folder, environment=None, command=(PROGRAM,)):
         return Answer("stopped", b"", b"")
 
 
+def with_files(words, files):
+    """The words of a run over these files, each named by what it is to the program, in the order in which they are read."""
+    saved = ["--saved", files["saved"]] if "saved" in files else []
+    return [*words, *saved, *(file for which, file in files.items() if which != "saved")]
+
+
 def in_pairs(call, items):
     """The values of the call at each item, in order, made by two threads."""
     with ThreadPoolExecutor(2) as pool:

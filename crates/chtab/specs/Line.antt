@@ -1,5 +1,5 @@
 -- The words of the command line, and what they say.
-use Rattle.std.specs.Prelude.{◌≡◌, ◌≢◌, ℕ, pos, ◌^◌, ◌≤◌, [], ◌∷◌, ◌++◌, Bool, List, Option, Some, None, IfSome, true, false, codes, fold, length, map, option_map, ⊤, vec_len}
+use Rattle.std.specs.Prelude.{◌≡◌, ◌≢◌, ℕ, pos, ◌^◌, ◌≤◌, [], ◌∷◌, ◌++◌, Bool, ◌&&◌, not, List, Option, Some, None, IfSome, is_some, true, false, codes, fold, length, map, option_map, ⊤, vec_len}
 use Rattle.std.specs.Str.Parse.{digits_value, without_leading_plus}
 use Rattle.std.specs.String.{string_bytes}
 use Rattle.clap.specs.Words.{App, IsAmong, Kinds, Row, Rule, Text, fault_of, first_of, new_app, new_rule, one_of, subcommand_of, with_rule, with_subcommand}
@@ -13,17 +13,19 @@ use Rattle.ch_work.specs.Plan.{Division, IsWithinLimits}
 use Rattle.chtab.specs.declared.line.Line.{Line}
 use Rattle.chtab.specs.declared.line.LineFault.{LineFault}
 use Rattle.chtab.specs.declared.line.Tool.{Tool}
-use Rattle.chtab.specs.declared.line.Tool.TheVariants.{Dist, Table}
+use Rattle.chtab.specs.declared.line.Tool.TheVariants.{Dist, Table, Save}
 
 -- the word that names a tool
 abbrev pub name_of : Tool → Text
 name_of Dist = codes "dist"
 name_of Table = codes "table"
+name_of Save = codes "save"
 
 -- the files of a tool, in their order
 abbrev pub file_names : Tool → List Text
 file_names Dist = codes "GRAPH" ∷ codes "QUERIES" ∷ []
 file_names Table = codes "GRAPH" ∷ codes "SOURCES" ∷ codes "TARGETS" ∷ []
+file_names Save = codes "GRAPH" ∷ []
 
 -- a flag
 abbrev pub flag_rule : Text → Rule
@@ -38,14 +40,23 @@ number_rule name most default =
 abbrev pub limit_rule : Text → ℕ → Rule
 limit_rule name most = record (new_rule name) { long = Some name; action = Some Set; value_names = 1; parser = Some (parser.Unsigned 0 most) }
 
+-- an option: a file, which may be left out
+abbrev pub file_option_rule : Text → Rule
+file_option_rule name = record (new_rule name) { long = Some name; action = Some Set; value_names = 1 }
+
 -- a file that must be named
 abbrev pub file_rule : Text → Rule
 file_rule name = record (new_rule name) { required = true; action = Some Set }
 
--- `[--plain] [--routes]` of `dist`, and `[--within R]` of `table`
+-- `[--saved FILE]`
+abbrev pub saved_rule : Rule
+saved_rule = file_option_rule (codes "saved")
+
+-- `[--plain] [--routes] [--saved FILE]` of `dist`, and `[--within R] [--saved FILE]` of `table`
 abbrev pub own_rules : Tool → List Rule
-own_rules Dist = flag_rule (codes "plain") ∷ flag_rule (codes "routes") ∷ []
-own_rules Table = limit_rule (codes "within") (2 ^ 60) ∷ []
+own_rules Dist = flag_rule (codes "plain") ∷ flag_rule (codes "routes") ∷ saved_rule ∷ []
+own_rules Table = limit_rule (codes "within") (2 ^ 60) ∷ saved_rule ∷ []
+own_rules Save = []
 
 -- `[--workers N] [--piece K] [--hops H]`, which each tool reads
 abbrev pub number_rules : List Rule
@@ -61,7 +72,7 @@ program_form = on_top (λ s. record s { no_binary_name = true; subcommand_requir
 
 -- the words after the program's name: a tool, and its words
 abbrev pub chtab_form : App
-chtab_form = with_subcommand (with_subcommand program_form (form_of Dist).top) (form_of Table).top
+chtab_form = with_subcommand (with_subcommand (with_subcommand program_form (form_of Dist).top) (form_of Table).top) (form_of Save).top
 
 -- what is wrong with the words, as clap tells it: nothing, or the kinds of fault that come first
 abbrev pub faults_of : List Text → Kinds
@@ -92,10 +103,11 @@ number_in given name = option_map number_of (one_of name given)
 abbrev pub files_in : List Row → List Text → List (Option Text)
 files_in given = map (λ name. first_of name given)
 
--- the flags of `dist` are as given, and those of `table` are off
+-- the flags of `dist` are as given, and the other tools have none
 abbrev pub AreFlagsIn : List Row → Tool → Options → Type 0
 AreFlagsIn given Dist options = IsFlagIn given (codes "plain") options.plain × IsFlagIn given (codes "routes") options.routes
 AreFlagsIn given Table options = (options.plain ≡ false) × (options.routes ≡ false)
+AreFlagsIn given Save options = (options.plain ≡ false) × (options.routes ≡ false)
 
 -- workers and pieces are as given, and a step's work is shared from 64 items on
 pub record IsPlanIn (given : List Row) (plan : Division) : Type 0 where
@@ -109,6 +121,7 @@ pub record IsGivenBy (given : List Row) (line : Line) : Type 0 where
   pub hops : Some line.options.hops ≡ number_in given (codes "hops")
   pub limit : line.options.within ≡ number_in given (codes "within")
   pub plan : IsPlanIn given line.plan
+  pub saved : option_map string_bytes line.saved ≡ first_of (codes "saved") given
   pub named : map (λ file. Some (string_bytes file)) line.files.items ≡ files_in given (file_names line.tool)
 
 -- nothing is wrong with the words, and they name the line's tool and give it what the line holds
@@ -117,6 +130,10 @@ pub record IsReadFrom (words : List Text) (line : Line) : Type 0 where
   pub given : List Row
   pub matched : given_by words ≡ Some (name_of line.tool, given)
   pub read : IsGivenBy given line
+
+-- the run reads a saved hierarchy: one is named, and plain distances take none
+abbrev pub reads_saved : Line → Bool
+reads_saved line = is_some line.saved && not line.options.plain
 
 -- the numbers of a line are within the program's limits, and it names each file of its tool
 pub record IsAllowed (line : Line) : Type 0 where

@@ -31,6 +31,8 @@ pub enum Tool {
     Dist,
     /// Writes the distances from each source to each target.
     Table,
+    /// Writes the hierarchy of a graph.
+    Save,
 }
 
 /// What the words say.
@@ -39,6 +41,8 @@ pub struct Line {
     pub tool: Tool,
     /// The files, in the order of the arguments.
     pub files: Vec<String>,
+    /// The file of a saved hierarchy, which is read in place of building one. `save` has none.
+    pub saved: Option<String>,
     pub options: Options,
     pub plan: Plan,
 }
@@ -127,13 +131,15 @@ fn tool_of(name: &str) -> Option<Tool>
     match name {
         "dist" => Some(Tool::Dist),
         "table" => Some(Tool::Table),
+        "save" => Some(Tool::Save),
         _ => None,
     }
 }
 
 /// Reads the words after the program's name:
-/// `dist [--plain] [--routes] [--workers N] [--piece K] [--hops H] GRAPH QUERIES` or
-/// `table [--within R] [--workers N] [--piece K] [--hops H] GRAPH SOURCES TARGETS`.
+/// `dist [--plain] [--routes] [--saved FILE] [--workers N] [--piece K] [--hops H] GRAPH QUERIES`,
+/// `table [--within R] [--saved FILE] [--workers N] [--piece K] [--hops H] GRAPH SOURCES TARGETS` or
+/// `save [--workers N] [--piece K] [--hops H] GRAPH`.
 ///
 /// # Errors
 /// `Help` where the words ask for it; `Refused` where they aren't of this form; `NoMemory`.

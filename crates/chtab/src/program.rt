@@ -1,18 +1,16 @@
 //! The program: words in, text, fault line and exit status out.
 
-ghost use Rattle.std.specs.Prelude.{◌≡◌, ◌≤◌};
-ghost use Rattle.chtab.specs.Line.{IsAllowed};
+ghost use Rattle.std.specs.Prelude.{◌≡◌};
 ghost use Rattle.chtab.specs.Program.{exit_status_of};
 
-use crate::line::{Line, LineFault, Tool, line_status, read_words, refused};
-use ch_run::{
-    Open, ReaderInput, RunFault, Which, WriterOutput, run_dist, run_table, status, write_all,
-};
+use crate::line::{LineFault, line_status, read_words, refused};
+use crate::runs::run_line;
+use ch_run::{RunFault, WriterOutput, status, write_all};
 use std::alloc::{AllocError, Global};
 use std::io::ErrorKind;
 use std::rt::{Env, Files};
 use std::thread::Threads;
-use std::{env, fs, io};
+use std::{env, io};
 
 /// Why the program ends with no answer.
 #[derive(Debug, Drop)]
@@ -57,61 +55,6 @@ fn texts_of<'a>(alloc: Global, words: &'a [String]) -> Result<Vec<&'a str>, Allo
     Ok(texts)
 }
 
-/// Opens the file of an input.
-fn opened<R: Files>(rt: &R, path: &str, which: Which) -> Result<R::File, RunFault> {
-    match fs::open(rt, path) {
-        Ok(file) => Ok(file),
-        Err(error) if error.kind() == ErrorKind::OutOfMemory => Err(RunFault::Memory),
-        Err(_) => Err(RunFault::Device(which)),
-    }
-}
-
-/// Answers the queries of a line. Both files are opened before either is read.
-fn dist<R: Files + Print + Threads + Sync + AllocGlobal>(
-    rt: &R,
-    line: &Line,
-) -> Result<(), RunFault>
-    requires allowed { IsAllowed line.now }
-    requires tool { line.now.tool ≡ Tool.Dist }
-{
-    let graph = opened(rt, line.files[0].as_str(), Which::Graph)?;
-    let queries = opened(rt, line.files[1].as_str(), Which::Queries)?;
-    run_dist(
-        rt,
-        rt.alloc(),
-        &mut ReaderInput::new(graph),
-        &mut ReaderInput::new(queries),
-        &mut WriterOutput::new(io::writer(rt)),
-        &line.options,
-        &line.plan,
-        &Open,
-    )
-}
-
-/// Makes the table of a line. All files are opened before one is read.
-fn table<R: Files + Print + Threads + Sync + AllocGlobal>(
-    rt: &R,
-    line: &Line,
-) -> Result<(), RunFault>
-    requires allowed { IsAllowed line.now }
-    requires tool { line.now.tool ≡ Tool.Table }
-{
-    let graph = opened(rt, line.files[0].as_str(), Which::Graph)?;
-    let sources = opened(rt, line.files[1].as_str(), Which::Sources)?;
-    let targets = opened(rt, line.files[2].as_str(), Which::Targets)?;
-    run_table(
-        rt,
-        rt.alloc(),
-        &mut ReaderInput::new(graph),
-        &mut ReaderInput::new(sources),
-        &mut ReaderInput::new(targets),
-        &mut WriterOutput::new(io::writer(rt)),
-        &line.options,
-        &line.plan,
-        &Open,
-    )
-}
-
 /// Reads the words, and does what they name.
 fn answered<R: Env + Files + Print + Threads + Sync + AllocGlobal>(
     rt: &R,
@@ -119,10 +62,7 @@ fn answered<R: Env + Files + Print + Threads + Sync + AllocGlobal>(
     let words = words_of(rt)?;
     let texts = texts_of(rt.alloc(), &words)?;
     let line = read_words(rt.alloc(), &texts)?;
-    match line.tool {
-        Tool::Dist => Ok(dist(rt, &line)?),
-        Tool::Table => Ok(table(rt, &line)?),
-    }
+    Ok(run_line(rt, &line)?)
 }
 
 /// Writes the text of help to standard output.

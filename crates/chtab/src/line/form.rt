@@ -3,8 +3,8 @@
 ghost use Rattle.std.specs.Prelude.{◌≡◌, IfOk, codes, false, fold};
 ghost use Rattle.clap.specs.Words.{app_of, rule_of, with_rule};
 ghost use Rattle.clap.specs.declared.builder.command.Command.TheViews.{out-Command as fields_of};
-ghost use Rattle.chtab.specs.declared.line.Tool.TheVariants.{Dist, Table};
-ghost use Rattle.chtab.specs.Line.{chtab_form, file_rule, flag_rule, form_of, limit_rule, number_rule, number_rules};
+ghost use Rattle.chtab.specs.declared.line.Tool.TheVariants.{Dist, Save, Table};
+ghost use Rattle.chtab.specs.Line.{chtab_form, file_option_rule, file_rule, flag_rule, form_of, limit_rule, number_rule, number_rules, saved_rule};
 
 use super::{MOST_HOPS, MOST_LIMIT, MOST_PIECE, MOST_WORKERS};
 use clap::builder::ValueParser;
@@ -58,6 +58,18 @@ fn limit<'a>(alloc: Global, name: &'a str, value: &'a str, most: u64) -> Arg<'a>
         .value_parser(ValueParser::unsigned(0, most))
 }
 
+/// An option that may be left out: a file.
+fn file_option<'a>(alloc: Global, name: &'a str, help: &'a str) -> Arg<'a>
+    ensures rule { rule_of result ≡ file_option_rule name.entry.now }
+    ensures local { result.global ≡ false }
+{
+    Arg::new(alloc, name)
+        .long(name)
+        .action(ArgAction::Set)
+        .value_name("FILE")
+        .help(help)
+}
+
 /// Adds the numbers that each tool reads.
 fn with_numbers<'a>(alloc: Global, command: Command<'a>) -> Result<Command<'a>, AllocError>
     ensures form { IfOk result (λ c. app_of c ≡ fold with_rule (app_of command.entry) number_rules) }
@@ -74,6 +86,21 @@ fn with_numbers<'a>(alloc: Global, command: Command<'a>) -> Result<Command<'a>, 
         "The most legs of a witness path when the hierarchy is built, from 1 to 16",
     );
     command.arg(workers)?.arg(piece)?.arg(hops)
+}
+
+/// The file of a saved hierarchy.
+fn saved<'a>(alloc: Global) -> Arg<'a>
+    ensures rule { rule_of result ≡ saved_rule }
+    ensures local { result.global ≡ false }
+{
+    file_option(
+        alloc,
+        "saved",
+        "Read the hierarchy from this file, and check it, in place of building one, and ignore --hops: \
+        `chtab save` or any other program wrote it, as `p ch N L`, N lines `o V`, the nodes in order of \
+        level, and L lines `l U V W A M`, a leg from U to V of weight W and A arcs with the middle M, \
+        or 0 for none [default: none]",
+    )
 }
 
 /// The file of the graph.
@@ -97,7 +124,7 @@ fn dist_command<'a>(alloc: Global) -> Result<Command<'a>, AllocError>
     let plain = flag(
         alloc,
         "plain",
-        "Answer by rounds of relaxation over all arcs, without the hierarchy, and ignore --routes, \
+        "Answer by rounds of relaxation over all arcs, without a hierarchy, and ignore --routes, --saved, \
         --workers, --piece and --hops [default: off]",
     );
     let routes = flag(
@@ -110,7 +137,8 @@ fn dist_command<'a>(alloc: Global) -> Result<Command<'a>, AllocError>
         .about("For each query, writes `d S T X`: X is the distance from S to T, or - for no path")
         .after_help("Example: chtab dist --routes roads.gr pairs.p2p")
         .arg(plain)?
-        .arg(routes)?;
+        .arg(routes)?
+        .arg(saved(alloc))?;
     with_numbers(alloc, command)?.arg(graph(alloc))?.arg(file(
         alloc,
         "QUERIES",
@@ -137,7 +165,8 @@ fn table_command<'a>(alloc: Global) -> Result<Command<'a>, AllocError>
             chtab table roads.gr depots.ss shops.ss\n  \
             chtab table --within 900000 roads.gr homes.ss doctors.ss",
         )
-        .arg(within)?;
+        .arg(within)?
+        .arg(saved(alloc))?;
     with_numbers(alloc, command)?
         .arg(graph(alloc))?
         .arg(file(
@@ -148,6 +177,17 @@ fn table_command<'a>(alloc: Global) -> Result<Command<'a>, AllocError>
         .arg(file(alloc, "TARGETS", "A .ss file, as for SOURCES"))
 }
 
+/// What clap reads after `save`.
+fn save_command<'a>(alloc: Global) -> Result<Command<'a>, AllocError>
+    ensures form { IfOk result (λ c. app_of c ≡ form_of Save) }
+    ensures local { IfOk result (λ c. (fields_of c).has_globals ≡ false) }
+{
+    let command = Command::new(alloc, "save")
+        .about("Writes the hierarchy of the graph, which `dist` and `table` read by --saved")
+        .after_help("Example: chtab save roads.gr >roads.ch");
+    with_numbers(alloc, command)?.arg(graph(alloc))
+}
+
 /// What clap reads: the words after the program's name.
 pub fn command<'a>(alloc: Global) -> Result<Command<'a>, AllocError>
     ensures { IfOk result (λ c. app_of c ≡ chtab_form) }
@@ -156,13 +196,15 @@ pub fn command<'a>(alloc: Global) -> Result<Command<'a>, AllocError>
         .bin_name("chtab")?
         .about("Exact distances on directed graphs")
         .after_help(
-            "See `chtab dist --help` and `chtab table --help`. Examples:\n  \
+            "See `chtab dist --help`, `chtab table --help` and `chtab save --help`. Examples:\n  \
             chtab dist --routes roads.gr pairs.p2p\n  \
-            chtab table roads.gr depots.ss shops.ss",
+            chtab table roads.gr depots.ss shops.ss\n  \
+            chtab save roads.gr >roads.ch",
         )
         .no_binary_name(true)
         .subcommand_required(true)
         .disable_help_subcommand(true)
         .subcommand(dist_command(alloc)?)?
-        .subcommand(table_command(alloc)?)
+        .subcommand(table_command(alloc)?)?
+        .subcommand(save_command(alloc)?)
 }

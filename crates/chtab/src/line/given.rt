@@ -1,6 +1,6 @@
 //! What the words give the arguments of a tool.
 
-ghost use Rattle.std.specs.Prelude.{◌≡◌, ◌^◌, ◌≤◌, IfOk, IfSome, Some, codes, map};
+ghost use Rattle.std.specs.Prelude.{◌≡◌, ◌^◌, ◌≤◌, IfOk, IfSome, Some, codes, map, option_map};
 ghost use Rattle.std.specs.String.{string_bytes};
 ghost use Rattle.clap.specs.Words.{first_of, found_of, rows_of};
 ghost use Rattle.ch_work.specs.Plan.{IsWithinLimits};
@@ -14,12 +14,26 @@ use std::alloc::{AllocError, Global};
 /// From how many items on a step's work is shared.
 const WIDE: u32 = 64;
 
+/// The file of this name, where one is given.
+fn file_given(
+    alloc: Global,
+    matches: &ArgMatches<'_>,
+    name: &str,
+) -> Result<Option<String>, AllocError>
+    ensures { IfOk result (λ file. option_map string_bytes file ≡ first_of name.now (rows_of (found_of matches.now))) }
+{
+    match matches.get_str(name) {
+        Some(file) => Ok(Some(String::from_str(alloc, file)?)),
+        None => Ok(None),
+    }
+}
+
 /// The file of this name. Clap has refused words that leave it out.
 fn file_of(alloc: Global, matches: &ArgMatches<'_>, name: &str) -> Result<String, AllocError>
     ensures { IfOk result (λ file. Some (string_bytes file) ≡ first_of name.now (rows_of (found_of matches.now))) }
 {
-    match matches.get_str(name) {
-        Some(file) => String::from_str(alloc, file),
+    match file_given(alloc, matches, name)? {
+        Some(file) => Ok(file),
         None => Err(AllocError),
     }
 }
@@ -36,6 +50,7 @@ fn files_of(alloc: Global, tool: Tool, matches: &ArgMatches<'_>) -> Result<Vec<S
             files.push(file_of(alloc, matches, "SOURCES")?)?;
             files.push(file_of(alloc, matches, "TARGETS")?)?;
         }
+        Tool::Save => {}
     }
     Ok(files)
 }
@@ -90,7 +105,7 @@ fn options_of(tool: Tool, matches: &ArgMatches<'_>) -> Result<Options, AllocErro
 {
     let (plain, routes) = match tool {
         Tool::Dist => (flag_of(matches, "plain"), flag_of(matches, "routes")),
-        Tool::Table => (false, false),
+        Tool::Table | Tool::Save => (false, false),
     };
     Ok(Options {
         plain,
@@ -109,6 +124,7 @@ pub fn line_of(alloc: Global, tool: Tool, matches: &ArgMatches<'_>) -> Result<Li
     Ok(Line {
         tool,
         files: files_of(alloc, tool, matches)?,
+        saved: file_given(alloc, matches, "saved")?,
         options: options_of(tool, matches)?,
         plan: plan_of(matches)?,
     })

@@ -50,6 +50,7 @@ fn flags_and_files_stand_in_any_order(rt: HostRuntime) {
         };
         assert_eq!(rt; line.options, options);
         assert_eq!(rt; line.plan, usual_plan());
+        assert!(rt; line.saved.is_none());
     }
 }
 
@@ -58,6 +59,8 @@ fn dist_reads_every_option(rt: HostRuntime) {
     let words = [
         "dist",
         "--routes",
+        "--saved",
+        "h",
         "--workers",
         "64",
         "--piece",
@@ -79,6 +82,7 @@ fn dist_reads_every_option(rt: HostRuntime) {
     };
     assert_eq!(rt; line.options, options);
     assert_eq!(rt; line.plan, Plan::new(64, 1, 64));
+    assert!(rt; is_saved(&line, "h"));
 }
 
 #[test]
@@ -117,6 +121,7 @@ fn table_reads_three_files_and_the_numbers(rt: HostRuntime) {
         let options = Options { hops, ..NONE_GIVEN };
         assert_eq!(rt; line.options, options);
         assert_eq!(rt; line.plan, plan);
+        assert!(rt; line.saved.is_none());
     }
 }
 
@@ -144,6 +149,61 @@ fn table_reads_a_limit(rt: HostRuntime) {
     }
 }
 
+/// Whether the line names this saved hierarchy.
+fn is_saved(line: &Line, path: &str) -> bool {
+    matches!(&line.saved, Some(saved) if saved.as_str() == path)
+}
+
+#[test]
+fn a_saved_hierarchy_is_named(rt: HostRuntime) {
+    let rows: [(&[&str], &str); 5] = [
+        (&["dist", "--saved", "h", "g", "q"], "h"),
+        (&["dist", "g", "q", "--saved=g"], "g"),
+        (&["dist", "--plain", "--saved", "h", "g", "q"], "h"),
+        (
+            &["table", "g", "--saved", "h", "s", "--within", "0", "t"],
+            "h",
+        ),
+        (&["table", "--saved=", "g", "s", "t"], ""),
+    ];
+    for (words, saved) in rows {
+        let line = read_words(rt.alloc(), words).expect(&rt, "a line");
+        assert!(rt; is_saved(&line, saved), "{saved}");
+        assert_eq!(rt; line.files[0].as_str(), "g");
+    }
+}
+
+#[test]
+fn save_reads_a_graph_and_the_numbers(rt: HostRuntime) {
+    let rows: [(&[&str], u32, Plan); 2] = [
+        (&["save", "g"], 5, Plan::new(1, 64, 64)),
+        (
+            &[
+                "save",
+                "--workers",
+                "64",
+                "g",
+                "--piece",
+                "1",
+                "--hops",
+                "16",
+            ],
+            16,
+            Plan::new(64, 1, 64),
+        ),
+    ];
+    for (words, hops, plan) in rows {
+        let line = read_words(rt.alloc(), words).expect(&rt, "a line");
+        assert_eq!(rt; line.tool, Tool::Save);
+        assert_eq!(rt; line.files.len(), 1);
+        assert_eq!(rt; line.files[0].as_str(), "g");
+        let options = Options { hops, ..NONE_GIVEN };
+        assert_eq!(rt; line.options, options);
+        assert_eq!(rt; line.plan, plan);
+        assert!(rt; line.saved.is_none());
+    }
+}
+
 /// It holds when any one request for memory is refused: the words are then told as refused for want of memory,
 /// and read again they give the line that ample memory gives.
 #[test]
@@ -151,6 +211,8 @@ fn refused_in_turn(rt: HostRuntime) {
     let words = [
         "dist",
         "--routes",
+        "--saved",
+        "h",
         "--workers",
         "64",
         "--piece",
@@ -170,4 +232,5 @@ fn refused_in_turn(rt: HostRuntime) {
     assert_eq!(rt; line.files[1].as_str(), "q");
     assert_eq!(rt; line.options.hops, 16);
     assert_eq!(rt; line.plan, Plan::new(64, 1, 64));
+    assert!(rt; is_saved(&line, "h"));
 }

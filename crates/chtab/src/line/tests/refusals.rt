@@ -24,6 +24,8 @@ fn numbers_outside_their_ranges_are_refused(rt: HostRuntime) {
         assert!(rt; is_refused(&rt, dist.as_slice(), part), "dist: {part}");
         let table = ["table", name, number, "g", "s", "t"];
         assert!(rt; is_refused(&rt, table.as_slice(), part), "table: {part}");
+        let save = ["save", "g", name, number];
+        assert!(rt; is_refused(&rt, save.as_slice(), part), "save: {part}");
     }
 }
 
@@ -47,7 +49,7 @@ fn limits_outside_their_range_are_refused(rt: HostRuntime) {
 
 #[test]
 fn other_words_are_refused(rt: HostRuntime) {
-    let rows: [(&[&str], &str); 19] = [
+    let rows: [(&[&str], &str); 26] = [
         (&[], "requires a subcommand"),
         (&["help"], "unrecognized subcommand 'help'"),
         (&["tables", "g", "s", "t"], "unrecognized subcommand"),
@@ -88,6 +90,22 @@ fn other_words_are_refused(rt: HostRuntime) {
             &["table", "--within", "1", "--within", "1", "g", "s", "t"],
             "cannot be used multiple times",
         ),
+        (&["dist", "g", "q", "--saved"], "a value is required"),
+        (
+            &["dist", "--saved", "h", "--saved", "h", "g", "q"],
+            "cannot be used multiple times",
+        ),
+        (
+            &["dist", "--saved", "g", "q"],
+            "required arguments were not provided",
+        ),
+        (&["save"], "required arguments were not provided"),
+        (&["save", "g", "h"], "unexpected argument 'h'"),
+        (
+            &["save", "--saved", "h", "g"],
+            "unexpected argument '--saved'",
+        ),
+        (&["save", "--plain", "g"], "unexpected argument '--plain'"),
     ];
     for (words, part) in rows {
         assert!(rt; is_refused(&rt, words, part), "{part}");
@@ -96,7 +114,7 @@ fn other_words_are_refused(rt: HostRuntime) {
 
 #[test]
 fn help_says_what_each_word_means(rt: HostRuntime) {
-    let rows: [(&[&str], &[&str]); 3] = [
+    let rows: [(&[&str], &[&str]); 4] = [
         (
             &["--help"],
             &[
@@ -104,7 +122,9 @@ fn help_says_what_each_word_means(rt: HostRuntime) {
                 "dist",
                 "table",
                 "chtab dist --routes roads.gr pairs.p2p",
+                "save",
                 "chtab table roads.gr depots.ss shops.ss",
+                "chtab save roads.gr >roads.ch",
             ],
         ),
         (
@@ -112,9 +132,12 @@ fn help_says_what_each_word_means(rt: HostRuntime) {
             &[
                 "Usage: chtab dist [OPTIONS] <GRAPH> <QUERIES>",
                 "--plain",
-                "ignore --routes, --workers, --piece and --hops [default: off]",
+                "ignore --routes, --saved, --workers, --piece and --hops [default: off]",
                 "--routes",
                 "in order [default: off]",
+                "--saved <FILE>",
+                "ignore --hops: `chtab save` or any other program wrote it",
+                "p ch N L",
                 "--workers <N>",
                 "same for each number [default: 1]",
                 "--piece <K>",
@@ -134,8 +157,19 @@ fn help_says_what_each_word_means(rt: HostRuntime) {
                 "p aux sp ss K",
                 "--within <R>",
                 "from 0 to 1152921504606846976: cells above R are written as - [default: no limit]",
+                "--saved <FILE>",
                 "chtab table roads.gr depots.ss shops.ss",
                 "chtab table --within 900000 roads.gr homes.ss doctors.ss",
+            ],
+        ),
+        (
+            &["save", "--help"],
+            &[
+                "Usage: chtab save [OPTIONS] <GRAPH>",
+                "--workers <N>",
+                "--piece <K>",
+                "--hops <H>",
+                "Example: chtab save roads.gr >roads.ch",
             ],
         ),
     ];

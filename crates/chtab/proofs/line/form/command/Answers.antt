@@ -10,7 +10,9 @@ returns c =
     let named : app_of c.disable_help_subcommand.result ≡ program_form = search rules in
     let dist = ap (λ (form : App). form.top) c.in_ok-dist_command.ensures.form in
     let table = ap (λ (form : App). form.top) c.in_ok-table_command.ensures.form in
+    let save = ap (λ (form : App). form.top) c.in_ok-save_command.ensures.form in
     let with_dist : app_of c.in_ok-subcommand.field-0 ≡ with_subcommand program_form (form_of Dist).top =
     c.in_ok-subcommand.ensures.shape c.in_ok-dist_command.ensures.local ∙ ap₂ with_subcommand named dist in
-    IfOk-weaker c.subcommand-2.result _ _
-    (λ command added. added.shape c.in_ok-table_command.ensures.local ∙ ap₂ with_subcommand with_dist table) c.subcommand-2.ensures
+    let with_table = c.in_ok-subcommand-2.ensures.shape c.in_ok-table_command.ensures.local ∙ ap₂ with_subcommand with_dist table in
+    IfOk-weaker c.subcommand-3.result _ _
+    (λ command added. added.shape c.in_ok-save_command.ensures.local ∙ ap₂ with_subcommand with_table save) c.subcommand-3.ensures

@@ -10,17 +10,18 @@ returns-clause-form c =
     let named : app_of c.after_help.result ≡ new_app (codes "table") = search rules in
     let limit_is : rule_of c.help-within.result ≡ limit_rule (codes "within") (2 ^ 60) = search rules in
     let limit_local : c.help-within.result.global ≡ false = search rules in
-    let with_limit : app_of c.in_ok-command.command ≡ with_rule (new_app (codes "table")) (limit_rule (codes "within") (2 ^ 60)) =
-    c.in_ok-command.ensures.shape limit_local ∙ ap₂ with_rule named limit_is in
-    let with_numbers = c.in_ok-with_numbers.ensures.form ∙ ap (λ form. fold with_rule form number_rules) with_limit in
-    let with_graph = c.in_ok-arg.ensures.shape c.graph.ensures.local ∙ ap₂ with_rule with_numbers c.graph.ensures.rule in
-    let with_sources = c.in_ok-arg-2.ensures.shape c.file.ensures.local ∙ ap₂ with_rule with_graph c.file.ensures.rule in
-    IfOk-weaker c.arg-4.result _ _ (λ command added. added.shape c.file-2.ensures.local ∙ ap₂ with_rule with_sources c.file-2.ensures.rule) c.arg-4.ensures
+    let with_limit : app_of c.in_ok-arg.field-0 ≡ with_rule (new_app (codes "table")) (limit_rule (codes "within") (2 ^ 60)) =
+    c.in_ok-arg.ensures.shape limit_local ∙ ap₂ with_rule named limit_is in
+    let with_saved = c.in_ok-command.ensures.shape c.saved.ensures.local ∙ ap₂ with_rule with_limit c.saved.ensures.rule in
+    let with_numbers = c.in_ok-with_numbers.ensures.form ∙ ap (λ form. fold with_rule form number_rules) with_saved in
+    let with_graph = c.in_ok-arg-2.ensures.shape c.graph.ensures.local ∙ ap₂ with_rule with_numbers c.graph.ensures.rule in
+    let with_sources = c.in_ok-arg-3.ensures.shape c.file.ensures.local ∙ ap₂ with_rule with_graph c.file.ensures.rule in
+    IfOk-weaker c.arg-5.result _ _ (λ command added. added.shape c.file-2.ensures.local ∙ ap₂ with_rule with_sources c.file-2.ensures.rule) c.arg-5.ensures
 
 pub returns-clause-local : goal.returns-clause-local
 returns-clause-local c =
     let limit_local : c.help-within.result.global ≡ false = search rules in
     let limited : (out-Command c.in_ok-command.command).has_globals ≡ false = search rules in
     let numbered : (out-Command c.in_ok-with_numbers.field-0).has_globals ≡ false = c.in_ok-with_numbers.ensures.local limited in
-    let before : (out-Command c.in_ok-arg-2.field-0).has_globals ≡ false = search rules in
-    IfOk-weaker c.arg-4.result _ _ (λ command added. search rules) c.arg-4.ensures
+    let before : (out-Command c.in_ok-arg-3.field-0).has_globals ≡ false = search rules in
+    IfOk-weaker c.arg-5.result _ _ (λ command added. search rules) c.arg-5.ensures
