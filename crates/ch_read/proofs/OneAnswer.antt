@@ -95,13 +95,18 @@ accepted_heading form bytes a = at (heading_in form (lines bytes)) refl (sym (at
     at (Some h) e clear = (h, e)
     at None e clear = absurd (none-some NoProblem (sym clear))
 
-pub graph_answer : (bytes : List ℕ) → HasOneAnswer (NamesGraph bytes) Graph bytes
-graph_answer bytes = record {
-  some = elim (accepted_or_faulty Graph bytes) [ inl a ↦ inl (value a) | inr f ↦ inr f ];
+-- what names a value of each accepted file, and one value of it, gives one answer
+answers : {A : Type 0} (form : Form) (bytes : List ℕ) (Names : A → Type 0) → (IsAccepted form bytes → (x : A) × Names x) → ((x y : A) → Names x → Names y → x ≡ y) → ((x : A) → Names x → IsAccepted form bytes) →
+    HasOneAnswer Names form bytes
+answers form bytes Names value same accepted = record {
+  some = elim (accepted_or_faulty form bytes) [ inl a ↦ inl (value a) | inr f ↦ inr f ];
   one_value = same;
-  one_fault = one_fault Graph bytes;
-  not_both = λ g f named is. not_both Graph bytes f named.accepted is;
+  one_fault = one_fault form bytes;
+  not_both = λ x f named is. not_both form bytes f (accepted x named) is;
 }
+
+pub graph_answer : (bytes : List ℕ) → HasOneAnswer (NamesGraph bytes) Graph bytes
+graph_answer bytes = answers Graph bytes (NamesGraph bytes) value same (λ g named. named.accepted)
   where
     value : IsAccepted Graph bytes → (g : Network) × NamesGraph bytes g
     value a =
@@ -115,32 +120,14 @@ graph_answer bytes = record {
         λ i. record { nodes = nodes i; arcs = arcs i }
 
 pub queries_answer : (bytes : List ℕ) (n : ℕ) → HasOneAnswer (NamesQueries bytes n) (Queries n) bytes
-queries_answer bytes n = record {
-  some = elim (accepted_or_faulty (Queries n) bytes) [ inl a ↦ inl (_, record { accepted = a; value = refl }) | inr f ↦ inr f ];
-  one_value = λ x y named other. named.value ∙ sym other.value;
-  one_fault = one_fault (Queries n) bytes;
-  not_both = λ x f named is. not_both (Queries n) bytes f named.accepted is;
-}
+queries_answer bytes n = answers (Queries n) bytes (NamesQueries bytes n) (λ a. (_, record { accepted = a; value = refl })) (λ x y named other. named.value ∙ sym other.value) (λ x named. named.accepted)
 
 pub nodes_answer : (bytes : List ℕ) (n : ℕ) → HasOneAnswer (NamesNodes bytes n) (Nodes n) bytes
-nodes_answer bytes n = record {
-  some = elim (accepted_or_faulty (Nodes n) bytes) [ inl a ↦ inl (_, record { accepted = a; value = refl }) | inr f ↦ inr f ];
-  one_value = λ x y named other. named.value ∙ sym other.value;
-  one_fault = one_fault (Nodes n) bytes;
-  not_both = λ x f named is. not_both (Nodes n) bytes f named.accepted is;
-}
+nodes_answer bytes n = answers (Nodes n) bytes (NamesNodes bytes n) (λ a. (_, record { accepted = a; value = refl })) (λ x y named other. named.value ∙ sym other.value) (λ x named. named.accepted)
 
 pub saved_answer : (bytes : List ℕ) (n : ℕ) → HasOneAnswer (NamesSaved bytes n) (Saved n) bytes
-saved_answer bytes n = record {
-  some = elim (accepted_or_faulty (Saved n) bytes) [ inl a ↦ inl (value, record { accepted = a; order = refl; legs = refl }) | inr f ↦ inr f ];
-  one_value = same;
-  one_fault = one_fault (Saved n) bytes;
-  not_both = λ x f named is. not_both (Saved n) bytes f named.accepted is;
-}
+saved_answer bytes n = answers (Saved n) bytes (NamesSaved bytes n) (λ a. (_, record { accepted = a; order = refl; legs = refl })) same (λ x named. named.accepted)
   where
-    value : OrderAndLegs
-    value = record { order = map node_from (items_in (Saved n) First (lines bytes)); legs = map leg_from (items_in (Saved n) Second (lines bytes)) }
-
     same : (x y : OrderAndLegs) → NamesSaved bytes n x → NamesSaved bytes n y → x ≡ y
     same x y named other =
         let order : x.order ≡ y.order = named.order ∙ sym other.order in

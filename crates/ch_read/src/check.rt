@@ -144,37 +144,15 @@ fn heading_of(form: Form, values: &[u64; MOST_NUMBERS]) -> Option<Heading>
         (λ h. (h ≡ declared) × (is_size form declared ≡ true)) }
 {
     match form {
-        Form::Graph if values[0] <= u64::from(MOST_NODES) && values[1] <= MOST_ARCS as u64 => Some(
-            Heading {
-                nodes: values[0] as u32,
-                items: Counts {
-                    first: values[1],
-                    second: 0,
-                },
-            },
-        ),
-        Form::Queries(nodes) if values[0] <= MOST_QUERIES => Some(Heading {
-            nodes,
-            items: Counts {
-                first: values[0],
-                second: 0,
-            },
-        }),
-        Form::Nodes(nodes) if values[0] <= MOST_LISTED => Some(Heading {
-            nodes,
-            items: Counts {
-                first: values[0],
-                second: 0,
-            },
-        }),
+        Form::Graph if values[0] <= u64::from(MOST_NODES) && values[1] <= MOST_ARCS as u64 => {
+            Some(Heading::new(values[0] as u32, values[1], 0))
+        }
+        Form::Queries(nodes) if values[0] <= MOST_QUERIES => {
+            Some(Heading::new(nodes, values[0], 0))
+        }
+        Form::Nodes(nodes) if values[0] <= MOST_LISTED => Some(Heading::new(nodes, values[0], 0)),
         Form::Saved(nodes) if values[0] == u64::from(nodes) && values[1] <= MOST_LEGS => {
-            Some(Heading {
-                nodes,
-                items: Counts {
-                    first: values[0],
-                    second: values[1],
-                },
-            })
+            Some(Heading::new(nodes, values[0], values[1]))
         }
         _ => None,
     }

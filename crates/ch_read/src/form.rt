@@ -120,3 +120,15 @@ impl Counts {
         }
     }
 }
+
+impl Heading {
+    /// So many nodes, and so many items of each part.
+    pub(crate) fn new(nodes: u32, first: u64, second: u64) -> Heading
+        ensures { result ≡ record { nodes = nodes; items = record { first = first; second = second } } }
+    {
+        Heading {
+            nodes,
+            items: Counts { first, second },
+        }
+    }
+}

@@ -149,6 +149,28 @@ legs_of_rows n legs entries rows a =
     a.each v (omega arith) ∙ leg_values legs v entries ∙ sym (ap (map (leg_of legs)) (e.each v (omega arith)))
     ∙ sym (get_or-map (λ es. map (leg_of legs) es) (entry_rows n entries) v [] [] (omega arith)))
 
+-- a leg of these rows is one of the list
+of_rows : (n : ℕ) (low high : SavedLeg → ℕ) (levels : List ℕ) (legs : List SavedLeg) (entries : List Placed) (rows : List (List Leg)) → IsSide low high levels legs entries → AreRowsOf n (map (keyed_leg legs) entries) rows →
+    ((l : SavedLeg) → Contains legs l → (low l < n) × (high l < n)) → (v : ℕ) (l : Leg) → Contains (row rows v) l →
+    (x : SavedLeg) × Contains legs x × (low x ≡ v) × (high x ≡ l.node) × (x.cost ≡ l.cost) × (x.middle ≡ l.middle)
+of_rows n low high levels legs entries rows side are ends v l h =
+    let sorted = sorted_rows n entries (entry_rows n entries) side.order (entry_rows_are n entries) in
+    let k = row_leg_saved n low high levels legs entries (entry_rows n entries) side.placed sorted ends v l (in_row_below rows n v l are.count h)
+    (subst (λ rs. Contains (row rs v) l) (legs_of_rows n legs entries rows are) h) in
+    (get_or legs k.0 no_saved_leg, Contains-get_or legs k.0 no_saved_leg k.1, k.2, k.3, k.4, k.5)
+
+-- and one of the list that goes up stands in them
+in_rows : (n : ℕ) (low high : SavedLeg → ℕ) (levels : List ℕ) (legs : List SavedLeg) (entries : List Placed) (rows : List (List Leg)) → IsSide low high levels legs entries → AreRowsOf n (map (keyed_leg legs) entries) rows →
+    ((l : SavedLeg) → Contains legs l → (low l < n) × (high l < n)) → (x : SavedLeg) → Contains legs x → slice_index levels (low x) < slice_index levels (high x) →
+    Contains (row rows (low x)) (record { node = high x; cost = x.cost; middle = x.middle })
+in_rows n low high levels legs entries rows side are ends x h up =
+    let sorted = sorted_rows n entries (entry_rows n entries) side.order (entry_rows_are n entries) in
+    let at : get_or legs h.0 no_saved_leg ≡ x = sym (get_or_default legs h.0 x no_saved_leg h.1) ∙ h.2 in
+    let stands = saved_row_leg n low high levels legs entries (entry_rows n entries) side.placed sorted ends h.0 h.1
+    (subst (λ (q : SavedLeg). slice_index levels (low q) < slice_index levels (high q)) (sym at) up) in
+    subst (λ rs. Contains (row rs (low x)) (record { node = high x; cost = x.cost; middle = x.middle })) (sym (legs_of_rows n legs entries rows are))
+    (subst (λ (q : SavedLeg). Contains (row (map (λ es. map (leg_of legs) es) (entry_rows n entries)) (low q)) (record { node = high q; cost = q.cost; middle = q.middle })) at stands)
+
 -- where no entry has the nodes of another, no row has a double
 single_rows : (n : ℕ) (low high : SavedLeg → ℕ) (levels : List ℕ) (legs : List SavedLeg) (entries : List Placed) → IsSide low high levels legs entries →
     (v p : ℕ) → v < n → IsDouble (get_or (entry_rows n entries) v []) p → ⊥
@@ -186,44 +208,19 @@ module _ (n : ℕ) (s : OrderAndLegs) (ups downs : List Placed) (H : LevelsAndLe
 
   there : (u w : ℕ) (c : Cost) (m : Option ℕ) → IsLeg H u w c m → Contains s.legs (record { from = u; to = w; cost = c; middle = m })
   there u w c m (l, cost, middle, inl h) =
-      let k = row_leg_saved n from_of to_of H.level s.legs ups (entry_rows n ups) pairs.up.placed up_sorted rise u l (in_row_below H.up n u l a.count h.0)
-      (subst (λ rs. Contains (row rs u) l) (legs_of_rows n s.legs ups H.up a) h.0) in
-      subst (Contains s.legs) (same_saved (get_or s.legs k.0 no_saved_leg) u w c m k.2 (k.3 ∙ h.1) (k.4 ∙ cost) (k.5 ∙ middle)) (Contains-get_or s.legs k.0 no_saved_leg k.1)
+      let k = of_rows n from_of to_of H.level s.legs ups H.up pairs.up a rise u l h.0 in
+      subst (Contains s.legs) (same_saved k.0 u w c m k.2 (k.3 ∙ h.1) (k.4 ∙ cost) (k.5 ∙ middle)) k.1
   there u w c m (l, cost, middle, inr h) =
-      let k = row_leg_saved n to_of from_of H.level s.legs downs (entry_rows n downs) pairs.down.placed down_sorted fall w l (in_row_below H.down n w l b.count h.0)
-      (subst (λ rs. Contains (row rs w) l) (legs_of_rows n s.legs downs H.down b) h.0) in
-      subst (Contains s.legs) (same_saved (get_or s.legs k.0 no_saved_leg) u w c m (k.3 ∙ h.1) k.2 (k.4 ∙ cost) (k.5 ∙ middle)) (Contains-get_or s.legs k.0 no_saved_leg k.1)
+      let k = of_rows n to_of from_of H.level s.legs downs H.down pairs.down b fall w l h.0 in
+      subst (Contains s.legs) (same_saved k.0 u w c m (k.3 ∙ h.1) k.2 (k.4 ∙ cost) (k.5 ∙ middle)) k.1
 
   back : (u w : ℕ) (c : Cost) (m : Option ℕ) → Contains s.legs (record { from = u; to = w; cost = c; middle = m }) → IsLeg H u w c m
   back u w c m h =
       let x : SavedLeg = record { from = u; to = w; cost = c; middle = m } in
-      let at : get_or s.legs h.0 no_saved_leg ≡ x = sym (get_or_default s.legs h.0 x no_saved_leg h.1) ∙ h.2 in
       let joins = pairs.joins x h in
       elim (one_is_higher n s.order H.level is are u w joins.0 joins.1 joins.2) [
-        | inl up ↦
-            let r = saved_row_leg n from_of to_of H.level s.legs ups (entry_rows n ups) pairs.up.placed up_sorted rise h.0 h.1
-            (subst (λ (q : SavedLeg). slice_index H.level q.from < slice_index H.level q.to) (sym at) up) in (
-              record { node = w; cost = c; middle = m },
-              refl,
-              refl,
-              inl (
-                subst (λ rs. Contains (row rs u) (record { node = w; cost = c; middle = m })) (sym (legs_of_rows n s.legs ups H.up a))
-                    (subst (λ (q : SavedLeg). Contains (row (map (λ es. map (leg_of s.legs) es) (entry_rows n ups)) q.from) (record { node = q.to; cost = q.cost; middle = q.middle })) at r),
-                refl,
-              ),
-            )
-        | inr down ↦
-            let r = saved_row_leg n to_of from_of H.level s.legs downs (entry_rows n downs) pairs.down.placed down_sorted fall h.0 h.1
-            (subst (λ (q : SavedLeg). slice_index H.level q.to < slice_index H.level q.from) (sym at) down) in (
-              record { node = u; cost = c; middle = m },
-              refl,
-              refl,
-              inr (
-                subst (λ rs. Contains (row rs w) (record { node = u; cost = c; middle = m })) (sym (legs_of_rows n s.legs downs H.down b))
-                    (subst (λ (q : SavedLeg). Contains (row (map (λ es. map (leg_of s.legs) es) (entry_rows n downs)) q.to) (record { node = q.from; cost = q.cost; middle = q.middle })) at r),
-                refl,
-              ),
-            )
+        | inl up ↦ (record { node = w; cost = c; middle = m }, refl, refl, inl (in_rows n from_of to_of H.level s.legs ups H.up pairs.up a rise x h up, refl))
+        | inr down ↦ (record { node = u; cost = c; middle = m }, refl, refl, inr (in_rows n to_of from_of H.level s.legs downs H.down pairs.down b fall x h down, refl))
       ]
 
   -- make the hierarchy that is named
@@ -238,13 +235,15 @@ module _ (n : ℕ) (s : OrderAndLegs) (ups downs : List Placed) (H : LevelsAndLe
     size,
   )
 
--- the same of the lists that are at hand
-pub rows_name : (g : Network) (s : OrderAndLegs) (n : ℕ) (order levels : List ℕ) (legs : List SavedLeg) (ups downs : List Placed) (up down : List (List Leg)) → g.nodes ≤ MOST_NODES → n ≡ g.nodes → order ≡ s.order → legs ≡ s.legs →
-    IsOrderOf n order → AreLevelsOf order levels → ArePairs n levels legs ups downs → ((l : SavedLeg) → Contains legs l → IsWithinBounds n l) →
-    AreRowsOf n (map (keyed_leg legs) ups) up → AreRowsOf n (map (keyed_leg legs) downs) down → NamesFor g s (record { level = levels; up = up; down = down })
-rows_name g s n order levels legs ups downs up down small nodes a b is are pairs light x y =
+-- the same of the lists that are at hand, and of slices of them
+pub rows_name : (g : Network) (s : OrderAndLegs) (n : ℕ) (order levels levels' : List ℕ) (legs : List SavedLeg) (ups ups' downs downs' : List Placed) (up down : List (List Leg)) →
+    g.nodes ≤ MOST_NODES → n ≡ g.nodes → order ≡ s.order → legs ≡ s.legs → levels' ≡ levels → ups' ≡ ups → downs' ≡ downs →
+    IsOrderOf n order → AreLevelsOf order levels → ArePairs n levels' legs ups downs → ((l : SavedLeg) → Contains legs l → IsWithinBounds n l) →
+    AreRowsOf n (map (keyed_leg legs) ups') up → AreRowsOf n (map (keyed_leg legs) downs') down → NamesFor g s (record { level = levels; up = up; down = down })
+rows_name g s n order levels levels' legs ups ups' downs downs' up down small nodes a b same_levels same_ups same_downs is are pairs light x y =
     let H : LevelsAndLegs = record { level = levels; up = up; down = down } in
-    let named = named_by_rows n (record { order = order; legs = legs }) ups downs H (omega arith) is are pairs light x y in
+    let named = named_by_rows n (record { order = order; legs = legs }) ups downs H (omega arith) is are (subst (λ q. ArePairs n q legs ups downs) same_levels pairs) light
+    (subst (λ q. AreRowsOf n (map (keyed_leg legs) q) up) same_ups x) (subst (λ q. AreRowsOf n (map (keyed_leg legs) q) down) same_downs y) in
     (subst (λ q. NamesHierarchy q H) (same_saved_lists order legs s a b) named.0, named.1 ∙ nodes)
   where
     same_saved_lists : (order : List ℕ) (legs : List SavedLeg) (s : OrderAndLegs) → order ≡ s.order → legs ≡ s.legs → record { order = order; legs = legs } ≡ s

@@ -1,11 +1,9 @@
-use Rattle.std.proofs.Common.{Contains, map, refl, sym, ◌∙◌, ap, subst}
-use Rattle.ch_graph.specs.Rows.{AreRowsOf}
+use Rattle.std.proofs.Common.{Contains, refl, sym, ◌∙◌, ap, subst}
 use Rattle.ch_graph.specs.Saved.{OrderAndLegs}
 use Rattle.ch_contract.specs.declared.fault.CheckFault.TheVariants.{Order, Bound}
 use Rattle.ch_contract.specs.declared.placing.PlacedLegs.{PlacedLegs}
 use Rattle.ch_contract.specs.Saved.{AreLevelsOf, NamesFor}
-use Rattle.ch_contract.specs.Placing.{from_of, to_of, keyed_leg}
-use Rattle.ch_contract.specs.Assembling.{ArePairs}
+use Rattle.ch_contract.specs.Placing.{from_of, to_of}
 use Rattle.ch_contract.proofs.theory.SavedFaults.{IsEarlyFirst, refusal_of, assembles_value, assembles_fault, assembles_refused, order_fault, pair_fault, bound_fault}
 use Rattle.ch_contract.proofs.code.PairFaults.{no_pair_fault, side_below}
 use Rattle.ch_contract.proofs.code.PlacedRows.{rows_name}
@@ -67,32 +65,26 @@ leg_rows-requires-2-clause-places c = λ e h.
 pub from_rows-requires : goal.from_rows-requires
 from_rows-requires c =
     let found = rw c.in-Some.is at c.in_ok-levels.ensures in
-    let small = c.arcs.ensures.limits.size.0 in
-    let pairs = subst (λ q. ArePairs c.nodes-nodes.result q c.as_slice-legs.result.now c.in_ok-pairs.pairs.ups.items c.in_ok-pairs.pairs.downs.items) c.as_slice-2.ensures.value c.in_ok-pairs.ensures.pairs in
-    let up = subst (λ q. AreRowsOf c.nodes-nodes.result (map (keyed_leg c.as_slice-legs.result.now) q) c.in_ok-ups.ups) c.as_slice-3.ensures.value c.in_ok-ups.ensures in
-    let down = subst (λ q. AreRowsOf c.nodes-nodes.result (map (keyed_leg c.as_slice-legs.result.now) q) c.in_ok-downs.downs) c.as_slice-4.ensures.value c.in_ok-downs.ensures in
-    let named = rows_name c.args.graph.now c.args.saved.now c.nodes-nodes.result c.as_slice.result.now c.in-Some.levels.items c.as_slice-legs.result.now c.in_ok-pairs.pairs.ups.items c.in_ok-pairs.pairs.downs.items c.in_ok-ups.ups c.in_ok-downs.downs
-    small c.nodes-nodes.ensures (c.as_slice.ensures.value ∙ ap (λ (q : OrderAndLegs). q.order) c.saved.view_is) (c.as_slice-legs.ensures.value ∙ ap (λ (q : OrderAndLegs). q.legs) c.saved.view_is) found.0 found.1 pairs c.in_default-first_past_bounds.ensures up down in
+    let named = rows_name c.args.graph.now c.args.saved.now c.nodes-nodes.result c.as_slice.result.now c.in-Some.levels.items c.as_slice-2.result.now c.as_slice-legs.result.now
+    c.in_ok-pairs.pairs.ups.items c.as_slice-3.result.now c.in_ok-pairs.pairs.downs.items c.as_slice-4.result.now c.in_ok-ups.ups c.in_ok-downs.downs c.arcs.ensures.limits.size.0 c.nodes-nodes.ensures
+    (c.as_slice.ensures.value ∙ ap (λ (q : OrderAndLegs). q.order) c.saved.view_is) (c.as_slice-legs.ensures.value ∙ ap (λ (q : OrderAndLegs). q.legs) c.saved.view_is)
+    c.as_slice-2.ensures.value c.as_slice-3.ensures.value c.as_slice-4.ensures.value found.0 found.1 c.in_ok-pairs.ensures.pairs c.in_default-first_past_bounds.ensures c.in_ok-ups.ensures c.in_ok-downs.ensures in
     named.0.levelled
 
 pub returns-clause-value : goal.returns-clause-value
 returns-clause-value c =
     let found = rw c.in-Some.is at c.in_ok-levels.ensures in
-    let small = c.arcs.ensures.limits.size.0 in
-    let pairs = subst (λ q. ArePairs c.nodes-nodes.result q c.as_slice-legs.result.now c.in_ok-pairs.pairs.ups.items c.in_ok-pairs.pairs.downs.items) c.as_slice-2.ensures.value c.in_ok-pairs.ensures.pairs in
-    let up = subst (λ q. AreRowsOf c.nodes-nodes.result (map (keyed_leg c.as_slice-legs.result.now) q) c.in_ok-ups.ups) c.as_slice-3.ensures.value c.in_ok-ups.ensures in
-    let down = subst (λ q. AreRowsOf c.nodes-nodes.result (map (keyed_leg c.as_slice-legs.result.now) q) c.in_ok-downs.downs) c.as_slice-4.ensures.value c.in_ok-downs.ensures in
-    let named = rows_name c.args.graph.now c.args.saved.now c.nodes-nodes.result c.as_slice.result.now c.in-Some.levels.items c.as_slice-legs.result.now c.in_ok-pairs.pairs.ups.items c.in_ok-pairs.pairs.downs.items c.in_ok-ups.ups c.in_ok-downs.downs
-    small c.nodes-nodes.ensures (c.as_slice.ensures.value ∙ ap (λ (q : OrderAndLegs). q.order) c.saved.view_is) (c.as_slice-legs.ensures.value ∙ ap (λ (q : OrderAndLegs). q.legs) c.saved.view_is) found.0 found.1 pairs c.in_default-first_past_bounds.ensures up down in
+    let named = rows_name c.args.graph.now c.args.saved.now c.nodes-nodes.result c.as_slice.result.now c.in-Some.levels.items c.as_slice-2.result.now c.as_slice-legs.result.now
+    c.in_ok-pairs.pairs.ups.items c.as_slice-3.result.now c.in_ok-pairs.pairs.downs.items c.as_slice-4.result.now c.in_ok-ups.ups c.in_ok-downs.downs c.arcs.ensures.limits.size.0 c.nodes-nodes.ensures
+    (c.as_slice.ensures.value ∙ ap (λ (q : OrderAndLegs). q.order) c.saved.view_is) (c.as_slice-legs.ensures.value ∙ ap (λ (q : OrderAndLegs). q.legs) c.saved.view_is)
+    c.as_slice-2.ensures.value c.as_slice-3.ensures.value c.as_slice-4.ensures.value found.0 found.1 c.in_ok-pairs.ensures.pairs c.in_default-first_past_bounds.ensures c.in_ok-ups.ensures c.in_ok-downs.ensures in
     (assembles_value c.args.graph.now c.args.saved.now c.from_rows.result (subst (NamesFor c.args.graph.now c.args.saved.now) (sym c.from_rows.ensures) named)).0
 
 pub returns-clause-fault : goal.returns-clause-fault
 returns-clause-fault c =
     let found = rw c.in-Some.is at c.in_ok-levels.ensures in
-    let small = c.arcs.ensures.limits.size.0 in
-    let pairs = subst (λ q. ArePairs c.nodes-nodes.result q c.as_slice-legs.result.now c.in_ok-pairs.pairs.ups.items c.in_ok-pairs.pairs.downs.items) c.as_slice-2.ensures.value c.in_ok-pairs.ensures.pairs in
-    let up = subst (λ q. AreRowsOf c.nodes-nodes.result (map (keyed_leg c.as_slice-legs.result.now) q) c.in_ok-ups.ups) c.as_slice-3.ensures.value c.in_ok-ups.ensures in
-    let down = subst (λ q. AreRowsOf c.nodes-nodes.result (map (keyed_leg c.as_slice-legs.result.now) q) c.in_ok-downs.downs) c.as_slice-4.ensures.value c.in_ok-downs.ensures in
-    let named = rows_name c.args.graph.now c.args.saved.now c.nodes-nodes.result c.as_slice.result.now c.in-Some.levels.items c.as_slice-legs.result.now c.in_ok-pairs.pairs.ups.items c.in_ok-pairs.pairs.downs.items c.in_ok-ups.ups c.in_ok-downs.downs
-    small c.nodes-nodes.ensures (c.as_slice.ensures.value ∙ ap (λ (q : OrderAndLegs). q.order) c.saved.view_is) (c.as_slice-legs.ensures.value ∙ ap (λ (q : OrderAndLegs). q.legs) c.saved.view_is) found.0 found.1 pairs c.in_default-first_past_bounds.ensures up down in
+    let named = rows_name c.args.graph.now c.args.saved.now c.nodes-nodes.result c.as_slice.result.now c.in-Some.levels.items c.as_slice-2.result.now c.as_slice-legs.result.now
+    c.in_ok-pairs.pairs.ups.items c.as_slice-3.result.now c.in_ok-pairs.pairs.downs.items c.as_slice-4.result.now c.in_ok-ups.ups c.in_ok-downs.downs c.arcs.ensures.limits.size.0 c.nodes-nodes.ensures
+    (c.as_slice.ensures.value ∙ ap (λ (q : OrderAndLegs). q.order) c.saved.view_is) (c.as_slice-legs.ensures.value ∙ ap (λ (q : OrderAndLegs). q.legs) c.saved.view_is)
+    c.as_slice-2.ensures.value c.as_slice-3.ensures.value c.as_slice-4.ensures.value found.0 found.1 c.in_ok-pairs.ensures.pairs c.in_default-first_past_bounds.ensures c.in_ok-ups.ensures c.in_ok-downs.ensures in
     (assembles_value c.args.graph.now c.args.saved.now c.from_rows.result (subst (NamesFor c.args.graph.now c.args.saved.now) (sym c.from_rows.ensures) named)).1
