@@ -12,7 +12,7 @@ OUT stands for OUT.gr and OUT.co. TEXT is what chtab wrote (standard input where
            the graph's unit (up to the farthest target where no limit is given). Roads are coloured from the nodes of
            TARGETS.ss, so this is a list of all nodes, as `nearest.py --all` writes it
 
-Example:  ./chtab table liechtenstein.gr from.ss all.ss | tools/picture.py reach liechtenstein --limit 600000 all.ss > reach.svg
+Example:  ./chtab table --within 600000 roads.gr from.ss all.ss | tools/picture.py reach roads --limit 600000 all.ss > reach.svg
 
 Weights are told in minutes or kilometres where a comment of OUT.gr says that they are milliseconds or metres. With --size P the
 longer side of the map has P pixels (800); --title T sets a title.
