@@ -27,13 +27,21 @@ def run(*command):
     return seconds, usage.ru_maxrss / 1024
 
 
+def each_round(rounds, commands):
+    """The seconds of each command of a dictionary, each run once a round: a dictionary a round."""
+    return [{name: run(*command)[0] for name, command in commands.items()} for _ in range(rounds)]
+
+
 def alternating(rounds, commands):
     """The median of the seconds of each command of a dictionary, each run once a round."""
-    taken = {name: [] for name in commands}
-    for _ in range(rounds):
-        for name, command in commands.items():
-            taken[name].append(run(*command)[0])
-    return {name: statistics.median(seconds) for name, seconds in taken.items()}
+    taken = each_round(rounds, commands)
+    return {name: statistics.median(seconds[name] for seconds in taken) for name in commands}
+
+
+def spread(values, form=",.2f"):
+    """The median of the values of all rounds, and the least and the greatest where there are several."""
+    least, middle, most = (format(value, form) for value in (min(values), statistics.median(values), max(values)))
+    return middle if len(values) == 1 else f"{middle} ({least} to {most})"
 
 
 def nodes_of(graph):
