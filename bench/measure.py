@@ -16,20 +16,21 @@ def built():
     subprocess.run([ROOT / "chtab", "--help"], stdout=subprocess.DEVNULL, check=True)
 
 
-def run(*command):
-    """The seconds and the megabytes at the peak of one run."""
+def run(*command, refused=False):
+    """The seconds and the megabytes at the peak of one run, which ends well or by refusing a file."""
     start = time.perf_counter()
-    process = subprocess.Popen([str(word) for word in command], stdout=subprocess.DEVNULL)
+    told = subprocess.DEVNULL if refused else None
+    process = subprocess.Popen([str(word) for word in command], stdout=subprocess.DEVNULL, stderr=told)
     _, status, usage = os.wait4(process.pid, 0)
     seconds = time.perf_counter() - start
-    if status:
+    if os.waitstatus_to_exitcode(status) != refused:
         raise SystemExit(f"{command} ended with {status}")
     return seconds, usage.ru_maxrss / 1024
 
 
-def each_round(rounds, commands):
-    """The seconds of each command of a dictionary, each run once a round: a dictionary a round."""
-    return [{name: run(*command)[0] for name, command in commands.items()} for _ in range(rounds)]
+def each_round(rounds, commands, refused=()):
+    """The seconds of each command of a dictionary, each run once a round: a dictionary a round. Those named refuse a file."""
+    return [{name: run(*command, refused=name in refused)[0] for name, command in commands.items()} for _ in range(rounds)]
 
 
 def alternating(rounds, commands):
