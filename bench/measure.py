@@ -2,6 +2,7 @@
 import os
 import pathlib
 import random
+import resource
 import statistics
 import subprocess
 import tempfile
@@ -28,15 +29,28 @@ def run(*command, refused=False):
     return seconds, usage.ru_maxrss / 1024
 
 
-def each_round(rounds, commands, refused=()):
+def processor_seconds(*command, refused=False):
+    """What one run takes of all processors: on a machine with other work it says more than the time."""
+    before = resource.getrusage(resource.RUSAGE_CHILDREN)
+    run(*command, refused=refused)
+    after = resource.getrusage(resource.RUSAGE_CHILDREN)
+    return after.ru_utime - before.ru_utime + after.ru_stime - before.ru_stime
+
+
+def seconds(*command, refused=False):
+    """The time of one run."""
+    return run(*command, refused=refused)[0]
+
+
+def each_round(rounds, commands, taken=seconds, refused=()):
     """The seconds of each command of a dictionary, each run once a round: a dictionary a round. Those named refuse a file."""
-    return [{name: run(*command, refused=name in refused)[0] for name, command in commands.items()} for _ in range(rounds)]
+    return [{name: taken(*command, refused=name in refused) for name, command in commands.items()} for _ in range(rounds)]
 
 
 def alternating(rounds, commands):
     """The median of the seconds of each command of a dictionary, each run once a round."""
     taken = each_round(rounds, commands)
-    return {name: statistics.median(seconds[name] for seconds in taken) for name in commands}
+    return {name: statistics.median(each[name] for each in taken) for name in commands}
 
 
 def spread(values, form=",.2f"):

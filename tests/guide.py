@@ -1,7 +1,7 @@
 #!/usr/bin/env python3
-"""Runs each command of docs/GUIDE.md as it stands on the page, in order, and compares what it prints with the lines below it.
+"""Runs each command of README.md and docs/GUIDE.md as it stands there, in order, and compares what it prints with the lines below it.
 
-The pictures of the page are those that the commands make, and the code of docs/CALLING.md stands in the sources, where it is proved.
+The pictures of the guide are those that the commands make, and the code of docs/CALLING.md stands in the sources, where it is proved.
 The last line is 'N passed, N failed'.
 """
 import pathlib
@@ -11,17 +11,20 @@ import sys
 import tempfile
 
 ROOT = pathlib.Path(__file__).resolve().parent.parent
-PAGE = ROOT / "docs" / "GUIDE.md"
+PAGES = ROOT / "README.md", ROOT / "docs" / "GUIDE.md"
 
 
 def commands(text):
-    """The commands of the page, each with what it prints."""
-    found = []
-    for line in re.findall(r"^    (.*)$", text, re.MULTILINE):
-        if line.startswith("$ "):
-            found.append((line[2:], []))
+    """The commands of a page, each with what it prints: the lines of its block that follow."""
+    found, is_shown = [], False
+    for line in text.splitlines(keepends=True):
+        if line.startswith("    $ "):
+            found.append((line[6:].strip(), []))
+            is_shown = True
+        elif is_shown and line.startswith("    "):
+            found[-1][1].append(line[4:])
         else:
-            found[-1][1].append(line + "\n")
+            is_shown = False
     return [(command, "".join(lines)) for command, lines in found]
 
 
@@ -35,7 +38,7 @@ def outcome(command, wanted, folder):
 
 def is_the_same(picture, folder):
     made = folder / "guide" / picture
-    if made.exists() and made.read_bytes() == (PAGE.parent / picture).read_bytes():
+    if made.exists() and made.read_bytes() == (ROOT / "docs" / picture).read_bytes():
         return True
     print(f"failed: docs/{picture} is not what the commands make")
     return False
@@ -52,14 +55,13 @@ def stands_in_sources(page):
 
 
 def main():
-    text = PAGE.read_text()
     with tempfile.TemporaryDirectory() as kept:
         folder = pathlib.Path(kept)
         for name in ("tools", "examples"):
             (folder / name).symlink_to(ROOT / name)
         (folder / "chtab").write_text(f'#!/bin/sh\nexec "{ROOT}/chtab" "$@"\n')
         (folder / "chtab").chmod(0o755)
-        outcomes = [outcome(command, wanted, folder) for command, wanted in commands(text)]
+        outcomes = [outcome(command, wanted, folder) for page in PAGES for command, wanted in commands(page.read_text())]
         outcomes += [is_the_same(picture, folder) for picture in ("routes.svg", "reach.svg")]
     outcomes.append(stands_in_sources(ROOT / "docs" / "CALLING.md"))
     failed = outcomes.count(False)

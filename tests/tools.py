@@ -100,6 +100,7 @@ def maps_to_graphs():
     assert items(pathlib.Path("all.gr").read_text()) == BENDS
     assert pathlib.Path("all.nodes").read_text().split() == ["1", "2", "3", "4", "5", "6", "8", "9", "10", "11", "12", "13"]
     assert "python3-pyosmium" in tool("osm_to_gr", "none.osm.pbf", "none", status=1, env=without("osmium"))
+    assert "not OpenStreetMap's XML" in tool("osm_to_gr", f"{COUNTRY}.gr", "none", status=1)
     if importlib.util.find_spec("osmium"):
         write_pbf("village.osm.pbf")
         tool("osm_to_gr", "village.osm.pbf", "pbf")
@@ -149,6 +150,7 @@ def nearest_nodes():
     assert "no second" in tool("nearest", "--queries", f"{COUNTRY}.co", text=text.split("\n")[0], status=1)
     assert "line 2" in tool("nearest", f"{COUNTRY}.co", text="9 47\n47.1 199\n", status=1)
     assert "line 1" in tool("nearest", f"{COUNTRY}.co", text="Vaduz\n", status=1)
+    assert "no line `v" in tool("nearest", "--all", f"{COUNTRY}.gr", status=1)
 
 
 def answers_to_geojson_and_csv():
@@ -197,6 +199,8 @@ def pictures():
     reach = paths_of(tool("picture", "reach", "roads", "--limit", "12437", "--bands", "1", "all.ss", text=rows))
     assert reach[1] == ("#440154", "M64 64l0 1066"), reach[1]
     assert len(paths_of(tool("picture", "reach", "roads", "all.ss", text=rows))) == 7
+    table = tool("to_geojson", "table", "all.ss", text=rows)
+    assert paths_of(tool("picture", "reach", "roads", "--limit", "12437", "--bands", "1", "all.ss", text=table)) == reach
     assert "one source" in tool("picture", "reach", "roads", "all.ss", text=rows + rows, status=1)
 
 

@@ -130,13 +130,13 @@ def main():
     parser.add_argument("places", metavar="PLACES", nargs="?")
     words = parser.parse_args()
     coordinates = read_coordinates(words.coordinates)
+    if not coordinates:
+        refuse(f"{words.coordinates} has no line `v NODE X Y`")
     if words.all:
         print("p aux sp ss", len(coordinates))
         for node in sorted(coordinates):
             print("s", node)
         return
-    if not coordinates:
-        refuse(f"{words.coordinates} has no node")
     with open(words.places) if words.places else sys.stdin as file:
         places = list(read_places(file))
     points = {node: point(*coordinates[node]) for node in sorted(coordinates)}

@@ -243,5 +243,7 @@ def main():
 if __name__ == "__main__":
     try:
         main()
-    except (OSError, RuntimeError, xml.etree.ElementTree.ParseError) as fault:
+    except xml.etree.ElementTree.ParseError as fault:
+        sys.exit(f"osm_to_gr: MAP is not OpenStreetMap's XML: {fault}")
+    except (OSError, RuntimeError) as fault:
         sys.exit(f"osm_to_gr: {fault}")

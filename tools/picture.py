@@ -10,7 +10,8 @@ OUT stands for OUT.gr and OUT.co. TEXT is what chtab wrote (standard input where
   routes   the text of `chtab dist --routes`: each route in a colour of its own, a ring where it begins and a dot where it ends
   reach    the text of `chtab table` with one source: which roads are reached, in B bands of equal time (5) up to the limit R, in
            the graph's unit (up to the farthest target where no limit is given). Roads are coloured from the nodes of
-           TARGETS.ss, so this is a list of all nodes, as `nearest.py --all` writes it
+           TARGETS.ss, so this is a list of all nodes, as `nearest.py --all` writes it. Of more nodes than a run of chtab takes,
+           `blocks.py` makes the row, in OUT.csv, which is read in place of the text
 
 Example:  ./chtab table --within 600000 roads.gr from.ss all.ss | tools/picture.py reach roads --limit 600000 all.ss > reach.svg
 
@@ -136,11 +137,13 @@ def draw_routes(network, file):
 def times_of(targets, file):
     """The source, and the weight to each target that is reached."""
     with open(targets) as lines:
-        nodes = [int(line.split()[1]) for line in lines if line.split()[:1] == ["s"]]
+        nodes = [line.split()[1] for line in lines if line.split()[:1] == ["s"]]
     rows = [line.split() for line in file]
+    if rows[:1] == [[",".join(["source", *nodes])]]:
+        rows = [["t", *(cell or "-" for cell in row[0].split(","))] for row in rows[1:]]
     if len(rows) != 1 or rows[0][0] != "t" or len(rows[0]) != 2 + len(nodes):
         refuse(f"not a text of `chtab table` with one source and {len(nodes)} targets")
-    return int(rows[0][1]), {node: int(cell) for node, cell in zip(nodes, rows[0][2:]) if cell != "-"}
+    return int(rows[0][1]), {int(node): int(cell) for node, cell in zip(nodes, rows[0][2:]) if cell != "-"}
 
 
 def banded(network, times, borders):
