@@ -6,12 +6,11 @@
 
 It shares no code with the program. Nodes go by their number of legs and by their depth, and a shortcut is left out where Dijkstra's
 algorithm finds a way as good among the first few nodes that it settles. The test compares what `--saved` answers with what the
-program answers by its own hierarchy, and then spoils the file: of each file with a shortcut left out, or with one number changed,
-the program has to say that it is refused, or to give the same distances. The last line is 'N passed, N failed'.
+program answers by its own hierarchy, and then leaves shortcuts out of the file, one at a time: the program has to say that it is
+refused, or to give the same distances. The last line is 'N passed, N failed'.
 """
 import heapq
 import random
-import re
 import sys
 import tempfile
 from pathlib import Path
@@ -24,8 +23,8 @@ GRAPH = ROOT / "examples" / "liechtenstein.gr"
 SETTLED = 40
 # The most that a leg may weigh.
 LIMIT = 2**60
-# How many files are spoilt: with a shortcut left out, and with a number changed.
-SHORTCUTS, NUMBERS = 150, 350
+# How many shortcuts are left out, each from a file of its own.
+LEFT_OUT = 300
 
 
 def read_graph(path):
@@ -121,24 +120,10 @@ def items_of(draw, nodes, count, letter, width):
     return [" ".join(map(str, (letter, *(draw.randint(1, nodes) for _ in range(width))))) for _ in range(count)]
 
 
-def without_shortcut(draw, lines):
-    """The file with one shortcut left out, and what was done."""
-    places = [place for place, line in enumerate(lines) if line.startswith("l") and not line.endswith(" 0")]
-    place = draw.choice(places)
-    head = lines[0].split()
-    head[3] = str(int(head[3]) - 1)
-    return [" ".join(head), *lines[1:place], *lines[place + 1:]], f"without line {place + 1}, {lines[place]}"
-
-
-def with_other_number(draw, lines):
-    """The file with one number changed, mostly by little, and what was done."""
-    place = draw.choice([0, *(draw.randrange(1, len(lines)) for _ in range(200))])
-    words = lines[place].split()
-    at = draw.choice([at for at, word in enumerate(words) if word.isdecimal()])
-    number = int(words[at])
-    words[at] = str(max(0, draw.choice((number - 1, number + 1, number // 2, 2 * number, draw.randint(0, 4000), 10**20))))
-    line = " ".join(words)
-    return [*lines[:place], line, *lines[place + 1:]], f"line {place + 1}, {line} for {lines[place]}"
+def without(place, lines):
+    """The file without the leg that stands at this place."""
+    word, letters, nodes, legs = lines[0].split()
+    return [f"{word} {letters} {nodes} {int(legs) - 1}", *lines[1:place], *lines[place + 1:]]
 
 
 class Runs:
@@ -171,23 +156,24 @@ def check_routes(tally, text, distances):
         tally.expect(True, "")
 
 
-def check_spoilt(tally, runs, lines, distances, spoil, count):
-    """Spoils the file as often as this: each time it is refused, or the distances are the same."""
-    def outcome(seed):
-        spoilt, done = spoil(random.Random(f"{spoil.__name__} {seed}"), lines)
-        name = f"{spoil.__name__}.{seed}"
-        runs.write(name, spoilt)
+def check_without(tally, runs, lines, distances):
+    """Leaves shortcuts out, one at a time: the file is refused, or the distances are the same."""
+    shortcuts = [place for place, line in enumerate(lines) if line.startswith("l") and not line.endswith(" 0")]
+
+    def without_one(place):
+        name = f"without.{place}"
+        runs.write(name, without(place, lines))
         answer = runs.answer("dist", "--saved", name)
         (runs.folder / name).unlink()
-        return done, answer
+        return answer
 
+    places = random.Random("shortcuts").sample(shortcuts, LEFT_OUT)
     refused = 0
-    for done, answer in in_pairs(outcome, range(count)):
-        told = re.fullmatch(rb"chtab: saved (line \d+|hierarchy refused): [a-z ]+\n", answer.err)
-        is_refused = answer.status == 1 and answer.out == b"" and told is not None
-        tally.expect(is_refused or answer == distances, f"{done}: status {answer.status}, {answer.err or 'other distances'}")
+    for place, answer in zip(places, in_pairs(without_one, places)):
+        is_refused = answer.status == 1 and answer.out == b"" and answer.err.startswith(b"chtab: saved hierarchy refused: ")
+        tally.expect(is_refused or answer == distances, f"without {lines[place]}: {answer.status}, {answer.err or 'other distances'}")
         refused += is_refused
-    print(f"{spoil.__name__.replace('_', ' ')}: of {count} files {refused} are refused, the others give the same distances")
+    print(f"{len(shortcuts)} shortcuts: of {LEFT_OUT} files without one {refused} are refused, the others give the same distances")
 
 
 def test():
@@ -204,8 +190,7 @@ def test():
                 own, saved = (runs.answer(tool, *words, *more) for more in ([], ["--saved", "own.ch"]))
                 tally.expect(own.status == 0 and saved == own, f"{tool} {words}: {saved.err or 'other answers'}")
         check_routes(tally, runs.answer("dist", "--routes", "--saved", "own.ch").out, distances.out)
-        check_spoilt(tally, runs, lines, distances, without_shortcut, SHORTCUTS)
-        check_spoilt(tally, runs, lines, distances, with_other_number, NUMBERS)
+        check_without(tally, runs, lines, distances)
     tally.finish()
 
 
