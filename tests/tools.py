@@ -199,8 +199,9 @@ def pictures():
     reach = paths_of(tool("picture", "reach", "roads", "--limit", "12437", "--bands", "1", "all.ss", text=rows))
     assert reach[1] == ("#440154", "M64 64l0 1066"), reach[1]
     assert len(paths_of(tool("picture", "reach", "roads", "all.ss", text=rows))) == 7
-    table = tool("to_geojson", "table", "all.ss", text=rows)
-    assert paths_of(tool("picture", "reach", "roads", "--limit", "12437", "--bands", "1", "all.ss", text=table)) == reach
+    near = run(PROGRAM, "table", "--within", "12437", "roads.gr", "one.ss", "all.ss")
+    for same in near, tool("to_geojson", "table", "all.ss", text=rows):
+        assert paths_of(tool("picture", "reach", "roads", "--limit", "12437", "--bands", "1", "all.ss", text=same)) == reach
     assert "one source" in tool("picture", "reach", "roads", "all.ss", text=rows + rows, status=1)
 
 
