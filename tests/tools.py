@@ -199,8 +199,9 @@ def pictures():
     reach = paths_of(tool("picture", "reach", "roads", "--limit", "12437", "--bands", "1", "all.ss", text=rows))
     assert reach[1] == ("#440154", "M64 64l0 1066"), reach[1]
     assert len(paths_of(tool("picture", "reach", "roads", "all.ss", text=rows))) == 7
-    table = tool("to_geojson", "table", "all.ss", text=rows)
-    assert paths_of(tool("picture", "reach", "roads", "--limit", "12437", "--bands", "1", "all.ss", text=table)) == reach
+    near = run(PROGRAM, "table", "--within", "12437", "roads.gr", "one.ss", "all.ss")
+    for same in near, tool("to_geojson", "table", "all.ss", text=rows):
+        assert paths_of(tool("picture", "reach", "roads", "--limit", "12437", "--bands", "1", "all.ss", text=same)) == reach
     assert "one source" in tool("picture", "reach", "roads", "all.ss", text=rows + rows, status=1)
 
 
@@ -214,6 +215,7 @@ def tables_in_blocks():
     words = ["--program", PROGRAM, "--processes", "2", "--side", "4"]
     assert tool("blocks", *words, graph, "from.ss", "to.ss", "table.csv") == "9 by 14 cells in table.csv, from 12 blocks\n"
     assert pathlib.Path("table.csv").read_text() == tool("to_geojson", "table", "to.ss", text=whole)
+    blocks_within_a_limit(graph, words)
     write_list("all.ss", [3, 1, 2])
     tool("blocks", *words, "--side", "2", ROOT / "examples" / "first.gr", "all.ss", "all.ss", "table.npy")
     head, cells = pathlib.Path("table.npy").read_bytes().split(b"\n", 1)
@@ -227,6 +229,14 @@ def tables_in_blocks():
     assert "python3-distributed" in tool("blocks", "--scheduler", "none", *words, *lists, "o.csv", status=1, env=without("distributed"))
     if importlib.util.find_spec("distributed"):
         a_worker_is_lost(graph, pathlib.Path("table.csv").read_text())
+
+
+def blocks_within_a_limit(graph, words):
+    """Cells above the limit are left out."""
+    limit = 1_000_000
+    tool("blocks", *words, "--within", limit, graph, "from.ss", "to.ss", "near.csv")
+    near, rows = ([line.split(",") for line in pathlib.Path(name).read_text().splitlines()] for name in ("near.csv", "table.csv"))
+    assert near == [rows[0], *([row[0], *(cell if int(cell) <= limit else "" for cell in row[1:])] for row in rows[1:])]
 
 
 def a_worker_is_lost(graph, wanted):

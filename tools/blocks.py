@@ -1,12 +1,13 @@
 #!/usr/bin/env python3
 """Makes a table that is larger than one run of chtab may have, or more than one machine can do: in blocks.
 
-  blocks.py [--side K] [--processes P | --scheduler ADDRESS] [--workers W] [--program CHTAB] GRAPH SOURCES.ss TARGETS.ss OUT
+  blocks.py [--side K] [--processes P | --scheduler ADDRESS] [--workers W] [--within R] [--program CHTAB]
+            GRAPH SOURCES.ss TARGETS.ss OUT
 
 GRAPH, SOURCES.ss and TARGETS.ss are as for `chtab table`, but the lists may have any length. They are cut into blocks of K by K (1,024),
 `chtab table` is run on each, and the cells are put together in OUT:
-  OUT.csv   a row for each source, a column for each target, an empty cell where there is no walk
-  OUT.npy   a matrix of 64-bit numbers as numpy reads it, -1 where there is no walk, rows and columns in the lists' order
+  OUT.csv   a row for each source, a column for each target, an empty cell where there is no walk, or none of weight at most R
+  OUT.npy   a matrix of 64-bit numbers as numpy reads it, -1 for such a cell, rows and columns in the lists' order
 
 Example:  tools/blocks.py --processes 2 examples/liechtenstein.gr from.ss to.ss table.csv
 
@@ -141,14 +142,19 @@ def write_npy(file, sources, targets, cells):
         numbers.tofile(file)
 
 
+def command_of(words):
+    """The command for a block, before the two lists."""
+    limit = [] if words.within is None else ["--within", str(words.within)]
+    return [str(words.program), "table", "--workers", str(words.workers), *limit, os.path.abspath(words.graph)]
+
+
 def make(words):
     out = pathlib.Path(words.out)
     write = {".csv": write_csv, ".npy": write_npy}.get(out.suffix)
     if write is None:
         raise Failed("OUT has to end in .csv or .npy")
     sources, targets = listed(words.sources), listed(words.targets)
-    command = [str(words.program), "table", "--workers", str(words.workers), os.path.abspath(words.graph)]
-    blocks = list(cut(sources, targets, words.side, command))
+    blocks = list(cut(sources, targets, words.side, command_of(words)))
     with tempfile.TemporaryDirectory(prefix=f".{out.name}.", dir=out.parent) as kept:
         folder = pathlib.Path(kept)
         with dask(words.scheduler) if words.scheduler else pool(words.processes) as (begin, as_completed):
@@ -166,6 +172,7 @@ def main():
     parser.add_argument("--processes", type=int, default=os.cpu_count())
     parser.add_argument("--scheduler")
     parser.add_argument("--workers", type=int, default=1)
+    parser.add_argument("--within", type=int)
     parser.add_argument("--program", default=ROOT / "chtab")
     for name, shown in ("graph", "GRAPH"), ("sources", "SOURCES.ss"), ("targets", "TARGETS.ss"), ("out", "OUT"):
         parser.add_argument(name, metavar=shown)
