@@ -17,33 +17,34 @@ def built():
     subprocess.run([ROOT / "chtab", "--help"], stdout=subprocess.DEVNULL, check=True)
 
 
-def run(*command):
-    """The seconds and the megabytes at the peak of one run."""
+def run(*command, refused=False):
+    """The seconds and the megabytes at the peak of one run, which ends well or by refusing a file."""
     start = time.perf_counter()
-    process = subprocess.Popen([str(word) for word in command], stdout=subprocess.DEVNULL)
+    told = subprocess.DEVNULL if refused else None
+    process = subprocess.Popen([str(word) for word in command], stdout=subprocess.DEVNULL, stderr=told)
     _, status, usage = os.wait4(process.pid, 0)
     seconds = time.perf_counter() - start
-    if status:
+    if os.waitstatus_to_exitcode(status) != refused:
         raise SystemExit(f"{command} ended with {status}")
     return seconds, usage.ru_maxrss / 1024
 
 
-def processor_seconds(*command):
+def processor_seconds(*command, refused=False):
     """What one run takes of all processors: on a machine with other work it says more than the time."""
     before = resource.getrusage(resource.RUSAGE_CHILDREN)
-    run(*command)
+    run(*command, refused=refused)
     after = resource.getrusage(resource.RUSAGE_CHILDREN)
     return after.ru_utime - before.ru_utime + after.ru_stime - before.ru_stime
 
 
-def seconds(*command):
+def seconds(*command, refused=False):
     """The time of one run."""
-    return run(*command)[0]
+    return run(*command, refused=refused)[0]
 
 
-def each_round(rounds, commands, taken=seconds):
-    """The seconds of each command of a dictionary, each run once a round: a dictionary a round."""
-    return [{name: taken(*command) for name, command in commands.items()} for _ in range(rounds)]
+def each_round(rounds, commands, taken=seconds, refused=()):
+    """The seconds of each command of a dictionary, each run once a round: a dictionary a round. Those named refuse a file."""
+    return [{name: taken(*command, refused=name in refused) for name, command in commands.items()} for _ in range(rounds)]
 
 
 def alternating(rounds, commands):

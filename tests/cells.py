@@ -4,7 +4,8 @@
   cells.py [SIDE [SEED]]
 
 SIDE sources and SIDE targets (60) are drawn from a seed (1), some of them twice. The tables are made by 1, 2 and 4 workers, in pieces of
-several sizes, and by few hops. The last line is 'N passed, N failed', of rows.
+several sizes, by few hops; within several limits, where the cells above the limit are `-`; and by a saved hierarchy. The last line is
+'N passed, N failed', of rows.
 """
 import random
 import sys
@@ -15,7 +16,7 @@ from running import ROOT, Count, build, run
 
 GRAPH = ROOT / "examples" / "liechtenstein.gr"
 NODES = 3137
-# The words of the tables.
+# The words of the tables, but for limits.
 WAYS = [], ["--workers", "2", "--piece", "1"], ["--workers", "4", "--piece", "7"], ["--hops", "1"]
 
 
@@ -44,6 +45,16 @@ def asked(folder, sources, targets):
     return [[line[3] for line in lines[at:at + len(targets)]] for at in range(0, len(lines), len(targets))]
 
 
+def within(limit, rows):
+    return [[cell if cell != "-" and int(cell) <= limit else "-" for cell in row] for row in rows]
+
+
+def limits(rows):
+    """None of them, one in a hundred, a half, all but the longest, and all; the weights of cells themselves, so that `at most` shows."""
+    weights = sorted(int(cell) for row in rows for cell in row if cell != "-")
+    return [0, weights[len(weights) // 100], weights[len(weights) // 2], weights[-1] - 1, weights[-1], 2**60]
+
+
 def compare(tally, folder, sources, wanted, words):
     """Each row of a table."""
     answer = run(["table", *words, GRAPH, "from.ss", "to.ss"], folder)
@@ -63,8 +74,12 @@ def main():
         for name, nodes in ("from.ss", sources), ("to.ss", targets):
             write(folder / name, "ss", "s", [(node,) for node in nodes])
         wanted = asked(folder, sources, targets)
-        for words in WAYS:
+        (folder / "own.ch").write_bytes(run(["save", GRAPH], folder).out)
+        for words in *WAYS, ["--saved", "own.ch"]:
             compare(tally, folder, sources, wanted, words)
+        for limit in limits(wanted):
+            for words in WAYS[0], WAYS[1], ["--saved", "own.ch"]:
+                compare(tally, folder, sources, within(limit, wanted), ["--within", str(limit), *words])
     tally.finish()
 
 

@@ -57,7 +57,7 @@ def stands_in_sources(page):
 def main():
     with tempfile.TemporaryDirectory() as kept:
         folder = pathlib.Path(kept)
-        for name in ("tools", "examples"):
+        for name in ("tools", "examples", "tests"):
             (folder / name).symlink_to(ROOT / name)
         (folder / "chtab").write_text(f'#!/bin/sh\nexec "{ROOT}/chtab" "$@"\n')
         (folder / "chtab").chmod(0o755)

@@ -199,8 +199,9 @@ def pictures():
     reach = paths_of(tool("picture", "reach", "roads", "--limit", "12437", "--bands", "1", "all.ss", text=rows))
     assert reach[1] == ("#440154", "M64 64l0 1066"), reach[1]
     assert len(paths_of(tool("picture", "reach", "roads", "all.ss", text=rows))) == 7
-    table = tool("to_geojson", "table", "all.ss", text=rows)
-    assert paths_of(tool("picture", "reach", "roads", "--limit", "12437", "--bands", "1", "all.ss", text=table)) == reach
+    near = run(PROGRAM, "table", "--within", "12437", "roads.gr", "one.ss", "all.ss")
+    for same in near, tool("to_geojson", "table", "all.ss", text=rows):
+        assert paths_of(tool("picture", "reach", "roads", "--limit", "12437", "--bands", "1", "all.ss", text=same)) == reach
     assert "one source" in tool("picture", "reach", "roads", "all.ss", text=rows + rows, status=1)
 
 
@@ -214,6 +215,7 @@ def tables_in_blocks():
     words = ["--program", PROGRAM, "--processes", "2", "--side", "4"]
     assert tool("blocks", *words, graph, "from.ss", "to.ss", "table.csv") == "9 by 14 cells in table.csv, from 12 blocks\n"
     assert pathlib.Path("table.csv").read_text() == tool("to_geojson", "table", "to.ss", text=whole)
+    blocks_by_saved_hierarchies(graph)
     write_list("all.ss", [3, 1, 2])
     tool("blocks", *words, "--side", "2", ROOT / "examples" / "first.gr", "all.ss", "all.ss", "table.npy")
     head, cells = pathlib.Path("table.npy").read_bytes().split(b"\n", 1)
@@ -227,6 +229,34 @@ def tables_in_blocks():
     assert "python3-distributed" in tool("blocks", "--scheduler", "none", *words, *lists, "o.csv", status=1, env=without("distributed"))
     if importlib.util.find_spec("distributed"):
         a_worker_is_lost(graph, pathlib.Path("table.csv").read_text())
+
+
+def blocks_by_saved_hierarchies(graph):
+    """One is built for all blocks where they outnumber the runs at a time; a given one is read; a limit is handed on."""
+    program = pathlib.Path("noting")
+    program.write_text(f'#!/bin/sh\necho "$*" >> "{os.getcwd()}/noted"\nexec "{PROGRAM}" "$@"\n')
+    program.chmod(0o755)
+    wanted = pathlib.Path("table.csv").read_text()
+
+    def noted(*words):
+        """What the program was called for: with a saved hierarchy, with a limit, or to save."""
+        pathlib.Path("noted").unlink(missing_ok=True)
+        tool("blocks", "--program", program.resolve(), "--side", "7", *words, graph, "from.ss", "to.ss", "again.csv")
+        calls = pathlib.Path("noted").read_text().splitlines()
+        return [sum(word in call.split() for call in calls) for word in ("table", "save", "--saved", "--within")]
+
+    pathlib.Path("own.ch").write_text(run(PROGRAM, "save", graph))
+    for words, calls in ([], [4, 1, 4, 0]), (["--saved", "own.ch"], [4, 0, 4, 0]), (["--side", "9"], [2, 0, 0, 0]):
+        assert noted("--processes", "2", *words) == calls, words
+        assert pathlib.Path("again.csv").read_text() == wanted, words
+    limit = 1_000_000
+    assert noted("--processes", "4", "--within", limit) == [4, 0, 0, 4]
+    rows = [line.split(",") for line in wanted.splitlines()[1:]]
+    cells = [[cell if int(cell) <= limit else "" for cell in row[1:]] for row in rows]
+    assert [line.split(",")[1:] for line in pathlib.Path("again.csv").read_text().splitlines()[1:]] == cells
+    pathlib.Path("own.ch").write_text("p ch 1 0\no 1\n")
+    words = ["--program", PROGRAM, "--saved", "own.ch", graph, "from.ss", "to.ss", "refused.csv"]
+    assert "saved line 1: size too large" in tool("blocks", *words, status=1)
 
 
 def a_worker_is_lost(graph, wanted):

@@ -1,20 +1,24 @@
 #!/usr/bin/env python3
 """Makes a table that is larger than one run of chtab may have, or more than one machine can do: in blocks.
 
-  blocks.py [--side K] [--processes P | --scheduler ADDRESS] [--workers W] [--program CHTAB] GRAPH SOURCES.ss TARGETS.ss OUT
+  blocks.py [--side K] [--processes P | --scheduler ADDRESS] [--workers W] [--within R] [--saved FILE] [--program CHTAB]
+            GRAPH SOURCES.ss TARGETS.ss OUT
 
 GRAPH, SOURCES.ss and TARGETS.ss are as for `chtab table`, but the lists may have any length. They are cut into blocks of K by K (1,024),
 `chtab table` is run on each, and the cells are put together in OUT:
-  OUT.csv   a row for each source, a column for each target, an empty cell where there is no walk
-  OUT.npy   a matrix of 64-bit numbers as numpy reads it, -1 where there is no walk, rows and columns in the lists' order
+  OUT.csv   a row for each source, a column for each target, an empty cell where there is no walk, or none of weight at most R
+  OUT.npy   a matrix of 64-bit numbers as numpy reads it, -1 for such a cell, rows and columns in the lists' order
 
 Example:  tools/blocks.py --processes 2 examples/liechtenstein.gr from.ss to.ss table.csv
 
-P runs are made at a time (as many as there are processors), each with W workers (1). Each run builds the hierarchy of the graph again,
-so a larger K takes less time in all, and more memory for each run.
+P runs are made at a time (as many as there are processors), each with W workers (1). Each run reads the hierarchy of the graph from FILE,
+as `chtab save` wrote it, and checks it. Where no FILE is given and there are more than P blocks, the hierarchy is built once and saved
+beside OUT for as long as that takes; else each run builds it. Either is done again for each block, so a larger K takes less time in all,
+and more memory for each run.
 
 With --scheduler the blocks go to a Dask scheduler (Debian's package python3-distributed) and its workers, on any number of machines, that
-all have GRAPH and the program CHTAB (that of this repository) at the same path. Dask does a block again whose worker is lost.
+all have GRAPH, FILE and the program CHTAB (that of this repository) at the same path; without FILE each run builds the hierarchy, since
+what is saved here is on this machine alone. Dask does a block again whose worker is lost.
 Where a block fails it is told which, no more blocks are begun, and the status is 1. OUT is there once it is whole, and not before.
 """
 import argparse
@@ -141,16 +145,39 @@ def write_npy(file, sources, targets, cells):
         numbers.tofile(file)
 
 
+def save(words, path):
+    """Builds the hierarchy and saves it."""
+    command = [str(words.program), "save", "--workers", str(words.workers), words.graph]
+    with open(path, "wb") as file:
+        done = subprocess.run(command, stdout=file, stderr=subprocess.PIPE)
+    if done.returncode:
+        raise Failed(f"the hierarchy: status {done.returncode}. {done.stderr.decode(errors='replace').strip()}")
+
+
+def command_of(words, count, folder):
+    """The command for a block, before the two lists."""
+    saved = words.saved
+    if not (saved or words.scheduler) and count > words.processes:
+        saved = folder / "saved"
+        save(words, saved)
+    command = [str(words.program), "table", "--workers", str(words.workers)]
+    if words.within is not None:
+        command += ["--within", str(words.within)]
+    if saved:
+        command += ["--saved", os.path.abspath(saved)]
+    return [*command, os.path.abspath(words.graph)]
+
+
 def make(words):
     out = pathlib.Path(words.out)
     write = {".csv": write_csv, ".npy": write_npy}.get(out.suffix)
     if write is None:
         raise Failed("OUT has to end in .csv or .npy")
     sources, targets = listed(words.sources), listed(words.targets)
-    command = [str(words.program), "table", "--workers", str(words.workers), os.path.abspath(words.graph)]
-    blocks = list(cut(sources, targets, words.side, command))
     with tempfile.TemporaryDirectory(prefix=f".{out.name}.", dir=out.parent) as kept:
         folder = pathlib.Path(kept)
+        count = -(-len(sources) // words.side) * -(-len(targets) // words.side)
+        blocks = list(cut(sources, targets, words.side, command_of(words, count, folder)))
         with dask(words.scheduler) if words.scheduler else pool(words.processes) as (begin, as_completed):
             compute(begin, as_completed, blocks, folder)
         whole = folder / "whole"
@@ -166,6 +193,8 @@ def main():
     parser.add_argument("--processes", type=int, default=os.cpu_count())
     parser.add_argument("--scheduler")
     parser.add_argument("--workers", type=int, default=1)
+    parser.add_argument("--within", type=int)
+    parser.add_argument("--saved")
     parser.add_argument("--program", default=ROOT / "chtab")
     for name, shown in ("graph", "GRAPH"), ("sources", "SOURCES.ss"), ("targets", "TARGETS.ss"), ("out", "OUT"):
         parser.add_argument(name, metavar=shown)

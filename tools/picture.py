@@ -13,7 +13,7 @@ OUT stands for OUT.gr and OUT.co. TEXT is what chtab wrote (standard input where
            TARGETS.ss, so this is a list of all nodes, as `nearest.py --all` writes it. Of more nodes than a run of chtab takes,
            `blocks.py` makes the row, in OUT.csv, which is read in place of the text
 
-Example:  ./chtab table liechtenstein.gr from.ss all.ss | tools/picture.py reach liechtenstein --limit 600000 all.ss > reach.svg
+Example:  ./chtab table --within 600000 roads.gr from.ss all.ss | tools/picture.py reach roads --limit 600000 all.ss > reach.svg
 
 Weights are told in minutes or kilometres where a comment of OUT.gr says that they are milliseconds or metres. With --size P the
 longer side of the map has P pixels (800); --title T sets a title.
