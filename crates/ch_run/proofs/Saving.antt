@@ -1,5 +1,5 @@
 -- The nodes of a hierarchy in order of level, and the legs of each.
-use Rattle.std.proofs.Common.{◌≡◌, ℕ, zero, suc, ◌+◌, ◌-◌, ◌*◌, ◌^◌, ◌<◌, ◌≤◌, ◌⊎◌, List, [], ◌∷◌, ◌++◌, length, take, get_or, set, length-set, get_or-set_same, get_or-set_other, Contains, refl, sym, ◌∙◌, ap, subst, arith, inl, inr, length-append, append_assoc}
+use Rattle.std.proofs.Common.{◌≡◌, ℕ, zero, suc, ◌+◌, ◌-◌, ◌*◌, ◌^◌, ◌<◌, ◌≤◌, ◌⊎◌, List, [], ◌∷◌, ◌++◌, length, take, get_or, set, length-set, get_or-set_same, get_or-set_other, Contains, refl, sym, ◌∙◌, ap, subst, arith, inl, inr, length-append}
 use Rattle.std.specs.Prelude.{◌≢◌, All, AllPairs, slice_index, map, codes, decimal}
 use Rattle.std.specs.List.{flat_map}
 use Rattle.std.proofs.lemmas.List.{get_or_default, take_more, flat_map_more, length-map}
@@ -11,6 +11,7 @@ use Rattle.ch_graph.specs.declared.saved.SavedLeg.{SavedLeg}
 use Rattle.ch_contract.specs.declared.leg.Leg.{Leg}
 use Rattle.ch_contract.specs.Rows.{row, IsRow}
 use Rattle.ch_contract.specs.Hierarchy.{LevelsAndLegs, nodes_of, IsLegUp, AreLegsUp, IsLevelled}
+use Rattle.ch_contract.specs.Saved.{AreLevelsOf}
 use Rattle.ch_contract.proofs.theory.Ordered.{every_number}
 use Rattle.ch_contract.proofs.theory.SavedLevels.{order_of}
 use Rattle.ch_run.specs.SaveText.{IsByLevel, legs_at, leg_text, order_text, saved_text}
@@ -65,7 +66,7 @@ module _ (H : LevelsAndLegs) (is : IsLevelled H) where
   -- all nodes are placed
   pub all_placed : (order : List ℕ) (v : ℕ) → HasPlaced H order v → nodes_of H ≤ v → IsByLevel H order
   all_placed order v h end =
-      let levels = record {
+      let levels : AreLevelsOf order H.level = record {
         count = sym h.size;
         each = λ i lt. (
             let at = node_at i (let s = h.size in omega arith) in
@@ -121,7 +122,7 @@ text_of_turned f g (y ∷ ys) = ap (λ t. f (g y) ++ t) (text_of_turned f g ys)
 pub whole_text : (order : List ℕ) (legs : List SavedLeg) (n m : ℕ) (headed ordered text : List ℕ) → n ≡ length order → m ≡ length legs →
     headed ≡ codes "p ch " ++ decimal n ++ codes " " ++ decimal m ++ codes "\n" → ordered ≡ headed ++ flat_map order_text order → text ≡ ordered ++ flat_map leg_text legs →
     text ≡ saved_text (record { order = order; legs = legs })
-whole_text order legs n m headed ordered text n_is m_is a b c = rw (c, b, a, n_is, m_is) (simp append_assoc)
+whole_text order legs n m headed ordered text n_is m_is a b c = rw (c, b, a, n_is, m_is) refl
 
 -- the nodes of an order of level are nodes
 pub all_nodes : (H : LevelsAndLegs) (order : List ℕ) → IsByLevel H order → All (λ node. node < nodes_of H) order

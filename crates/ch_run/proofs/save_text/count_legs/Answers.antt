@@ -1,15 +1,18 @@
-use Rattle.std.proofs.Common.{◌∙◌, ap, arith, length, refl}
+use Rattle.std.proofs.Common.{◌≡◌, ◌^◌, ◌≤◌, ap, arith, length, get_or, refl}
+use Rattle.ch_contract.specs.Rows.{row}
 use Rattle.ch_run.proofs.Saving.{counted, row_short}
 use Rattle.ch_run.proofs.save_text.count_legs.Goals as goal
 
 pub loop-node-preserved : goal.loop-node-preserved
 loop-node-preserved c =
     let H = c.args.hierarchy.now in
-    let ups = c.len.ensures ∙ ap length c.up.ensures.row in
-    let downs = c.len-2.ensures ∙ ap length c.down.ensures.row in
-    let up_most = row_short H c.up.ensures.levelled H.up c.up.ensures.levelled.up _ in
-    let down_most = row_short H c.down.ensures.levelled H.down c.down.ensures.levelled.down _ in
+    let v = get_or c.args.nodes.now c.loop-node.node-index 0 in
+    let ups : length c.up.result.now ≡ length (row H.up v) = ap length c.up.ensures.row in
+    let downs : length c.down.result.now ≡ length (row H.down v) = ap length c.down.ensures.row in
+    let up_most : length (row H.up v) ≤ 2 ^ 25 = row_short H c.up.ensures.levelled H.up c.up.ensures.levelled.up v in
+    let down_most : length (row H.down v) ≤ 2 ^ 25 = row_short H c.down.ensures.levelled H.down c.down.ensures.levelled.down v in
+    let few = c.loop-node.invariant.few in
     record {
-      counts = counted H c.args.nodes.now c.loop-node.node-index c.loop-node.count _ _ _ c.loop-node-test.true refl c.loop-node.invariant.counts ups downs;
-      few = (let few = c.loop-node.invariant.few in omega (arith, ups, downs, up_most, down_most));
+      counts = counted H c.args.nodes.now c.loop-node.node-index c.loop-node.count v _ _ c.loop-node-test.true refl c.loop-node.invariant.counts ups downs;
+      few = omega arith;
     }

@@ -13,7 +13,7 @@ returns-in_err-queries-clause-queries_refused g c fault same =
 pub returns-clause-written : goal.returns-clause-written
 returns-clause-written g c =
     let value = c.in_ok-checked.ensures.value in
-    delivered c.write_text.result _ _ _ _ (_, value.0, _, value.1, (_, c.in_ok-queries.ensures.value, rw (c.deref-2.ensures.value, c.deref.ensures.value) c.in_ok-text.ensures)) c.write_text.ensures.written
+    delivered c.write_text.result _ _ _ _ (_, value.0, _, value.1, (_, c.in_ok-queries.ensures.value, rw c.deref-2.ensures.value (rw c.deref.ensures.value at c.in_ok-text.ensures))) c.write_text.ensures.written
 
 pub returns-clause-unwritten : goal.returns-clause-unwritten
 returns-clause-unwritten g c =
