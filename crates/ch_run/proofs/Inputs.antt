@@ -3,6 +3,8 @@ use Rattle.std.proofs.Common.{◌≡◌, refl, sym, ◌∙◌}
 use Rattle.ch_read.specs.declared.fault.ReadFault.{ReadFault}
 use Rattle.ch_read.specs.declared.fault.ReadError.{ReadError}
 use Rattle.ch_read.specs.declared.fault.ReadError.TheVariants.{Fault, NoMemory}
+use Rattle.std.specs.Prelude.{Result, Err}
+use Rattle.ch_contract.specs.declared.fault.CheckFault.{CheckFault}
 use Rattle.ch_run.specs.declared.fault.Which.{Which}
 use Rattle.ch_run.specs.declared.fault.RunFault.{RunFault}
 use Rattle.ch_run.specs.Fault.{refusal_of, refused_by}
@@ -67,3 +69,7 @@ of_one which other RunFault.Cells h k = absurd h
 of_one which other (RunFault.Write count) h k = absurd h
 of_one which other (RunFault.Saved f) h k = k.0 ∙ sym h
 of_one which other (RunFault.Check f) h k = k.0 ∙ sym h
+
+-- one fault of a saved hierarchy is told
+pub one_refusal : {T : Type 0} (f fault : CheckFault) → ◌≡◌ {A = Result T RunFault} (Err (RunFault.Check f)) (Err (RunFault.Check fault)) → f ≡ fault
+one_refusal f fault same = cc

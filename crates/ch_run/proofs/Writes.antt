@@ -1,10 +1,12 @@
 -- How runs end: with a fault that was met, or with their writes.
-use Rattle.std.proofs.Common.{◌≡◌, ℕ, List, Option, sym, ap, ◌∙◌, subst}
+use Rattle.std.proofs.Common.{◌≡◌, ℕ, List, Option, sym, ap, ◌∙◌, subst, inl, inr}
 use Rattle.std.specs.Prelude.{Result, Ok, Err, IfErr, IsErrAnd}
 use Rattle.std.proofs.lemmas.Result.{IfErr-weaker}
 use Rattle.ch_run.specs.declared.fault.RunFault.{RunFault}
 use Rattle.ch_run.specs.declared.fault.Which.{Which}
+use Rattle.ch_run.specs.Lists.{IsOfLists}
 use Rattle.ch_run.specs.Run.{Delivers, GoesPast, IsWrite, StopsAt}
+use Rattle.ch_run.proofs.Inputs.{of_one}
 
 -- a fault that is passed on is the one that was met
 pub passed_on : {S T : Type 0} (r : Result T RunFault) (e fault : RunFault) → IsErrAnd r (λ y. y ≡ e) → r ≡ Err fault → ◌≡◌ {A = Result S RunFault} (Err e) (Err fault)
@@ -35,3 +37,14 @@ gone_past r own which = IfErr-weaker r IsWrite (λ fault. StopsAt which fault �
 pub delivered : {T : Type 0} (r : Result T RunFault) (old new : Option (List ℕ)) (text : List ℕ) (P : List ℕ → Type 0) → P text → Delivers r old new (λ bytes. bytes ≡ text) → Delivers r old new P
 delivered (Ok _) old new text P is h = (h.0, subst P (sym h.1) is, h.2)
 delivered (Err fault) old new text P is h = λ count same. let d = h count same in (d.0, subst P (sym d.1) is, d.2, d.3)
+
+-- a fault that is passed on stops at no other input
+pub passes_on : {T : Type 0} (r : Result T RunFault) (e : RunFault) (which : Which) → IsErrAnd r (λ y. y ≡ e) → (StopsAt which e → ⊥) → GoesPast which r
+passes_on (Ok x) e which is past = absurd is
+passes_on (Err y) e which is past = λ stops. past (subst (StopsAt which) is stops)
+
+-- a fault of the lists is of no other input
+pub past_lists : (e : RunFault) → IsOfLists e → (which : Which) → (which ≡ Which.Sources → ⊥) → (which ≡ Which.Targets → ⊥) → StopsAt which e → ⊥
+past_lists e (inl sources) which not_sources not_targets stops = not_sources (of_one Which.Sources which e sources stops)
+past_lists e (inr (inl targets)) which not_sources not_targets stops = not_targets (of_one Which.Targets which e targets stops)
+past_lists e (inr (inr cells)) which not_sources not_targets stops = (subst (StopsAt which) cells stops).0

@@ -4,6 +4,8 @@
 //! Proved of it: what the output took after [`run_dist`] and [`run_table`] is exactly the text that the
 //! definitions name for the bytes that the inputs had, which is one ([`laws::one_text`]), for every plan and
 //! gate; a run ends in no fault but its own, and touches nothing before all that comes earlier was accepted.
+//! The same holds of [`run_save`], which writes the graph's hierarchy, and of [`run_dist_saved`] and
+//! [`run_table_saved`], which go by a saved one, of any origin, after it was found right for the graph.
 //! [`Input`] and [`Output`] are devices that count their faults, over memory ([`MemoryInput`],
 //! [`MemoryOutput`]) or over the readers and writers of `std` ([`ReaderInput`], [`WriterOutput`]).
 #![tactic(auto)]

@@ -162,27 +162,31 @@ fn a_search_that_does_not_stall_lists_all(rt: HostRuntime) -> Result<(), Fail> {
     Ok(())
 }
 
-/// Without the entries that weigh more than the limit.
+/// Expects the search space of node 0 of the triangle without the entries that weigh more than the limit.
+fn expect_near_spaces(
+    rt: &impl Abort,
+    alloc: Global,
+    triangle: &Hierarchy,
+    scratch: &mut Scratch,
+    side: Side,
+) -> Result<(), Fail>
+    requires kept { IsKeptForSome triangle.now }
+    requires scratch { scratch.old ≡ nodes_of triangle.now }
+    requires node { 0 < nodes_of triangle.now }
+    ensures scratch { scratch.new ≡ scratch.old }
+{
+    let itself = [(0, 0)];
+    let near = [(0, 0), (2, 1)];
+    expect_space(rt, alloc, triangle, scratch, 0, side, Some(0), &itself)?;
+    expect_space(rt, alloc, triangle, scratch, 0, side, Some(1), &near)?;
+    expect_space(rt, alloc, triangle, scratch, 0, side, None, &near)
+}
+
 #[test]
 fn a_search_space_within_a_limit(rt: HostRuntime) -> Result<(), Fail> {
     let alloc = rt.alloc();
     let triangle = triangle_hierarchy(&rt, alloc)?;
     let mut scratch = again!(Scratch::new(alloc, 3));
-    for side in [Side::Up, Side::Down] {
-        let none = Some(0);
-        expect_space(
-            &rt,
-            alloc,
-            &triangle,
-            &mut scratch,
-            0,
-            side,
-            none,
-            &[(0, 0)],
-        )?;
-        let near = [(0, 0), (2, 1)];
-        expect_space(&rt, alloc, &triangle, &mut scratch, 0, side, Some(1), &near)?;
-        expect_space(&rt, alloc, &triangle, &mut scratch, 0, side, None, &near)?;
-    }
-    Ok(())
+    expect_near_spaces(&rt, alloc, &triangle, &mut scratch, Side::Up)?;
+    expect_near_spaces(&rt, alloc, &triangle, &mut scratch, Side::Down)
 }

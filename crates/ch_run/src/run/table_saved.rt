@@ -95,6 +95,14 @@ pub fn run_table_saved<
 {
     let checked = checked_from(alloc, graph, saved)?;
     let lists = lists_from(alloc, sources, targets, &checked.graph)?;
-    let text = table_by(rt, alloc, &checked.hierarchy, &lists, options.within, plan, gate)?;
+    let text = table_by(
+        rt,
+        alloc,
+        &checked.hierarchy,
+        &lists,
+        options.within,
+        plan,
+        gate,
+    )?;
     write_text(output, &text)
 }

@@ -142,6 +142,7 @@ fn two_pieces_at_once(rt: HostRuntime) -> Result<(), Fail> {
         &hierarchy,
         &[0, 1],
         &[1, 0],
+        None,
         &plan,
         &tabling,
     )?;

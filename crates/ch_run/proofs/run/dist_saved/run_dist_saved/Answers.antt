@@ -1,7 +1,14 @@
 use Rattle.std.proofs.Common.{inr}
-use Rattle.ch_run.proofs.Writes.{delivered, gone_past}
+use Rattle.ch_run.proofs.Writes.{delivered, gone_past, passed_on}
+use Rattle.ch_run.specs.declared.fault.RunFault.TheVariants as RunFault
 use Rattle.ch_run.specs.declared.fault.Which.TheVariants as Which
 use Rattle.ch_run.proofs.run.dist_saved.run_dist_saved.Goals as goal
+
+pub returns-in_err-queries-clause-queries_refused : goal.returns-in_err-queries-clause-queries_refused
+returns-in_err-queries-clause-queries_refused g c fault same =
+    let value = c.in_ok-checked.ensures.value in
+    let told = passed_on c.from_residual-in_err-queries.result c.in_err-queries.field-0.0 (RunFault.Queries fault) c.from_residual-in_err-queries.ensures.1 same in
+    (_, value.0, _, value.1, c.in_err-queries.ensures.refused fault told)
 
 pub returns-clause-written : goal.returns-clause-written
 returns-clause-written g c =

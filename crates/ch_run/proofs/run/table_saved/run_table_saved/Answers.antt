@@ -1,5 +1,6 @@
 use Rattle.std.proofs.Common.{inr}
-use Rattle.ch_run.proofs.Writes.{delivered, gone_past}
+use Rattle.ch_run.proofs.Writes.{delivered, gone_past, passed_on}
+use Rattle.ch_run.specs.declared.fault.RunFault.TheVariants as RunFault
 use Rattle.ch_run.specs.declared.fault.Which.TheVariants as Which
 use Rattle.ch_run.proofs.run.table_saved.run_table_saved.Goals as goal
 
@@ -25,3 +26,21 @@ returns-clause-targets_unread g c =
     let value = c.in_ok-checked.ensures.value in
     let past = gone_past c.write_text.result c.write_text.ensures.own in
     inr (past Which.Graph, past Which.Saved, past Which.Sources, (_, value.0, _, value.1, (_, c.in_ok-lists.ensures.value.0)))
+
+pub returns-in_err-lists-clause-sources_refused : goal.returns-in_err-lists-clause-sources_refused
+returns-in_err-lists-clause-sources_refused g c fault same =
+    let value = c.in_ok-checked.ensures.value in
+    let told = passed_on c.from_residual-in_err-lists.result c.in_err-lists.field-0.0 (RunFault.Sources fault) c.from_residual-in_err-lists.ensures.1 same in
+    (_, value.0, _, value.1, c.in_err-lists.ensures.sources_refused fault told)
+
+pub returns-in_err-lists-clause-targets_refused : goal.returns-in_err-lists-clause-targets_refused
+returns-in_err-lists-clause-targets_refused g c fault same =
+    let value = c.in_ok-checked.ensures.value in
+    let told = passed_on c.from_residual-in_err-lists.result c.in_err-lists.field-0.0 (RunFault.Targets fault) c.from_residual-in_err-lists.ensures.1 same in
+    (_, value.0, _, value.1, c.in_err-lists.ensures.targets_refused fault told)
+
+pub returns-in_err-lists-clause-cells_refused : goal.returns-in_err-lists-clause-cells_refused
+returns-in_err-lists-clause-cells_refused g c same =
+    let value = c.in_ok-checked.ensures.value in
+    let told = passed_on c.from_residual-in_err-lists.result c.in_err-lists.field-0.0 RunFault.Cells c.from_residual-in_err-lists.ensures.1 same in
+    (_, value.0, _, value.1, c.in_err-lists.ensures.cells_refused told)
