@@ -105,6 +105,13 @@ class Inputs:
         """A file of so many sources or targets."""
         return self.listed(count, "ss", "s", 1)
 
+    def saved(self):
+        """The hierarchy, as the program saves it."""
+        path = self.folder / "own.ch"
+        with open(path, "wb") as file:
+            subprocess.run([PROGRAM, "save", self.graph], stdout=file, check=True)
+        return path
+
 
 class Country(Inputs):
     """The same on the shipped network of Liechtenstein."""
