@@ -81,7 +81,8 @@ fn checked(
 ) -> Result<Result<Hierarchy, CheckError>, Fail>
     ensures { IfOk result (λ answer. IfOk answer IsKeptForSome) }
 {
-    let graph = Graph::new(order.len() as u32, again!(Vec::from_slice(alloc, arcs)))?;
+    let nodes = u32::try_from(order.len())?;
+    let graph = Graph::new(nodes, again!(Vec::from_slice(alloc, arcs)))?;
     let saved = Saved {
         order: again!(Vec::from_slice(alloc, order)),
         legs: again!(Vec::from_slice(alloc, legs)),
