@@ -1,6 +1,5 @@
 //! What no clause says: that calls succeed where there is memory, and worked values.
 
 mod routes;
-mod saved;
 mod searches;
 mod spaces;

@@ -5,9 +5,9 @@ ghost use Rattle.std.specs.Prelude.{◌≡◌, ◌<◌, IfOk};
 ghost use Rattle.ch_contract.specs.Hierarchy.{nodes_of};
 ghost use Rattle.ch_query.specs.Distance.{IsKeptForSome};
 
-use crate::{Answer, Scratch, Side, answer_all, check, distance, route, spread};
-use ch_contract::{CheckError, Hierarchy, build};
-use ch_graph::{Cost, Graph, InArc, Saved, SavedLeg};
+use crate::{Answer, Scratch, Side, answer_all, distance, spread};
+use ch_contract::{Hierarchy, build};
+use ch_graph::{Cost, Graph, InArc};
 use ch_work::{Open, Plan};
 use std::alloc::{AllocError, Global};
 use std::process::Abort;
@@ -99,34 +99,6 @@ fn a_source_without_legs_reaches_itself_alone(rt: HostRuntime) -> Result<(), Fai
     Ok(())
 }
 
-/// With a limit a spread has what weighs at most that, and a limit past all weights leaves nothing out. The
-/// search before leaves no limit behind.
-#[test]
-fn spreads_within_a_limit(rt: HostRuntime) -> Result<(), Fail> {
-    let alloc = rt.alloc();
-    let ring = ring_hierarchy(&rt, alloc)?;
-    let mut scratch = again!(Scratch::new(alloc, 5));
-    let near = again!(spread(alloc, &ring, &mut scratch, 0, Side::Up, Some(2)));
-    expect_spread(&rt, &near, &[(0, 0), (1, 1), (2, 2)]);
-    let itself = again!(spread(alloc, &ring, &mut scratch, 0, Side::Up, Some(0)));
-    expect_spread(&rt, &itself, &[(0, 0)]);
-    let too_far = again!(spread(alloc, &ring, &mut scratch, 3, Side::Down, Some(3)));
-    expect_spread(&rt, &too_far, &[(3, 0)]);
-    let just_there = again!(spread(alloc, &ring, &mut scratch, 3, Side::Down, Some(4)));
-    expect_spread(&rt, &just_there, &[(3, 0), (4, 4)]);
-    let whole = [(2, 0), (3, 1), (4, 2)];
-    let most = 1 << 60;
-    let all = again!(spread(alloc, &ring, &mut scratch, 2, Side::Up, Some(most)));
-    expect_spread(&rt, &all, &whole);
-    let past = u64::MAX;
-    let all = again!(spread(alloc, &ring, &mut scratch, 2, Side::Up, Some(past)));
-    expect_spread(&rt, &all, &whole);
-    let cut = again!(spread(alloc, &ring, &mut scratch, 4, Side::Down, Some(0)));
-    expect_spread(&rt, &cut, &[(4, 0)]);
-    assert_eq!(rt; distance(&ring, &mut scratch, 4, 3), Some(4));
-    Ok(())
-}
-
 #[test]
 fn distances_on_the_ring_and_a_spread_after_them(rt: HostRuntime) -> Result<(), Fail> {
     let alloc = rt.alloc();
@@ -207,73 +179,4 @@ fn answers_with_routes_on_the_ring(rt: HostRuntime) -> Result<(), Fail> {
         }
     }
     Ok(())
-}
-
-/// A leg of the ring of this many arcs, and as much weight.
-fn ring_leg(from: u32, to: u32, arcs: u64, middle: Option<u32>) -> SavedLeg {
-    SavedLeg {
-        from,
-        to,
-        cost: Cost { weight: arcs, arcs },
-        middle,
-    }
-}
-
-/// The hierarchy of the ring, as a file has it.
-fn ring_saved(alloc: Global) -> Result<Saved, AllocError> {
-    let legs = [
-        ring_leg(0, 1, 1, None),
-        ring_leg(4, 0, 1, None),
-        ring_leg(1, 2, 1, None),
-        ring_leg(4, 1, 2, Some(0)),
-        ring_leg(2, 3, 1, None),
-        ring_leg(4, 2, 3, Some(1)),
-        ring_leg(3, 4, 1, None),
-        ring_leg(4, 3, 4, Some(2)),
-    ];
-    Ok(Saved {
-        order: again!(Vec::from_slice(alloc, &[0, 1, 2, 3, 4])),
-        legs: again!(Vec::from_slice(alloc, &legs)),
-    })
-}
-
-/// The ring's saved hierarchy is accepted, with the levels of its order.
-fn expect_ring_accepted(rt: &impl Abort, alloc: Global) -> Result<(), Fail> {
-    let graph = ring(alloc)?;
-    let saved = ring_saved(alloc)?;
-    let answer = match check(alloc, &graph, &saved) {
-        Err(CheckError::NoMemory) => check(alloc, &graph, &saved),
-        answer => answer,
-    };
-    let Ok(hierarchy) = answer else {
-        panic!(rt; "refused");
-    };
-    assert!(rt; hierarchy.nodes() == 5);
-    assert_eq!(rt; hierarchy.level(3), 4);
-    assert_eq!(rt; hierarchy.down(1).len(), 1);
-    Ok(())
-}
-
-#[test]
-fn refused_in_turn(rt: HostRuntime) -> Result<(), Fail> {
-    let alloc = rt.alloc();
-    let ring = ring_hierarchy(&rt, alloc)?;
-    let mut scratch = again!(Scratch::new(alloc, 5));
-    let Some(found) = again!(route(alloc, &ring, &mut scratch, 4, 3)) else {
-        panic!(rt; "no route");
-    };
-    assert_eq!(rt; found.arcs.len(), 4);
-    let up = again!(spread(alloc, &ring, &mut scratch, 0, Side::Up, None));
-    expect_spread(&rt, &up, &[(0, 0), (1, 1), (2, 2), (3, 3), (4, 4)]);
-    let queries = [(4, 3), (2, 1)];
-    for workers in [1, 2] {
-        let plan = Plan::new(workers, 1, 64);
-        let answers = again!(answer_all(&rt, alloc, &ring, &queries, true, &plan, &Open));
-        assert_eq!(rt; answers.len(), 2);
-        for (answer, query) in answers.iter().zip(&queries) {
-            assert_eq!(rt; (answer.from, answer.to), *query);
-            expect_arcs(&rt, answer);
-        }
-    }
-    expect_ring_accepted(&rt, alloc)
 }

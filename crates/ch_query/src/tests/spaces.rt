@@ -57,7 +57,7 @@ fn cost(weight: u64, arcs: u64) -> Cost {
     Cost { weight, arcs }
 }
 
-/// Expects these entries of the search space of a node within the limit.
+/// Expects these entries of the search space of a node.
 fn expect_space(
     rt: &impl Abort,
     alloc: Global,
@@ -65,7 +65,6 @@ fn expect_space(
     scratch: &mut Scratch,
     node: u32,
     side: Side,
-    within: Option<u64>,
     entries: &[(u32, u64)],
 ) -> Result<(), Fail>
     requires kept { IsKeptForSome hierarchy.now }
@@ -73,7 +72,7 @@ fn expect_space(
     requires node { node < nodes_of hierarchy.now }
     ensures scratch { scratch.new ≡ scratch.old }
 {
-    let found = again!(search_space(alloc, hierarchy, scratch, node, side, within));
+    let found = again!(search_space(alloc, hierarchy, scratch, node, side, None));
     assert_eq!(rt; found.as_slice(), entries);
     Ok(())
 }
@@ -89,26 +88,8 @@ fn a_stalled_node_has_no_entry(rt: HostRuntime) -> Result<(), Fail> {
     let down = again!(spread(alloc, &triangle, &mut scratch, 0, Side::Down, None));
     assert_eq!(rt; down.as_slice(), whole.as_slice());
     let stalled = [(0, 0), (2, 1)];
-    expect_space(
-        &rt,
-        alloc,
-        &triangle,
-        &mut scratch,
-        0,
-        Side::Up,
-        None,
-        &stalled,
-    )?;
-    expect_space(
-        &rt,
-        alloc,
-        &triangle,
-        &mut scratch,
-        0,
-        Side::Down,
-        None,
-        &stalled,
-    )?;
+    expect_space(&rt, alloc, &triangle, &mut scratch, 0, Side::Up, &stalled)?;
+    expect_space(&rt, alloc, &triangle, &mut scratch, 0, Side::Down, &stalled)?;
     assert_eq!(rt; distance(&triangle, &mut scratch, 0, 1), Some(2));
     Ok(())
 }
@@ -119,36 +100,9 @@ fn a_search_that_does_not_stall_lists_all(rt: HostRuntime) -> Result<(), Fail> {
     let triangle = triangle_hierarchy(&rt, alloc)?;
     let mut scratch = again!(Scratch::new(alloc, 3));
     let middle = [(1, 0), (2, 1)];
-    expect_space(
-        &rt,
-        alloc,
-        &triangle,
-        &mut scratch,
-        1,
-        Side::Up,
-        None,
-        &middle,
-    )?;
-    expect_space(
-        &rt,
-        alloc,
-        &triangle,
-        &mut scratch,
-        1,
-        Side::Down,
-        None,
-        &middle,
-    )?;
-    expect_space(
-        &rt,
-        alloc,
-        &triangle,
-        &mut scratch,
-        2,
-        Side::Up,
-        None,
-        &[(2, 0)],
-    )?;
+    expect_space(&rt, alloc, &triangle, &mut scratch, 1, Side::Up, &middle)?;
+    expect_space(&rt, alloc, &triangle, &mut scratch, 1, Side::Down, &middle)?;
+    expect_space(&rt, alloc, &triangle, &mut scratch, 2, Side::Up, &[(2, 0)])?;
     expect_space(
         &rt,
         alloc,
@@ -156,37 +110,7 @@ fn a_search_that_does_not_stall_lists_all(rt: HostRuntime) -> Result<(), Fail> {
         &mut scratch,
         2,
         Side::Down,
-        None,
         &[(2, 0)],
     )?;
     Ok(())
-}
-
-/// Expects the search space of node 0 of the triangle without the entries that weigh more than the limit.
-fn expect_near_spaces(
-    rt: &impl Abort,
-    alloc: Global,
-    triangle: &Hierarchy,
-    scratch: &mut Scratch,
-    side: Side,
-) -> Result<(), Fail>
-    requires kept { IsKeptForSome triangle.now }
-    requires scratch { scratch.old ≡ nodes_of triangle.now }
-    requires node { 0 < nodes_of triangle.now }
-    ensures scratch { scratch.new ≡ scratch.old }
-{
-    let itself = [(0, 0)];
-    let near = [(0, 0), (2, 1)];
-    expect_space(rt, alloc, triangle, scratch, 0, side, Some(0), &itself)?;
-    expect_space(rt, alloc, triangle, scratch, 0, side, Some(1), &near)?;
-    expect_space(rt, alloc, triangle, scratch, 0, side, None, &near)
-}
-
-#[test]
-fn a_search_space_within_a_limit(rt: HostRuntime) -> Result<(), Fail> {
-    let alloc = rt.alloc();
-    let triangle = triangle_hierarchy(&rt, alloc)?;
-    let mut scratch = again!(Scratch::new(alloc, 3));
-    expect_near_spaces(&rt, alloc, &triangle, &mut scratch, Side::Up)?;
-    expect_near_spaces(&rt, alloc, &triangle, &mut scratch, Side::Down)
 }
