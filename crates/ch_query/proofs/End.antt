@@ -1,7 +1,8 @@
 -- What one side of a search knows at its end.
-use Rattle.std.proofs.Common.{◌≡◌, ℕ, ◌^◌, ◌<◌, ◌≤◌, List, [], ◌∷◌, Option, Some, None, refl, sym, ◌∙◌, ap, subst, arith, inl, inr}
+use Rattle.std.proofs.Common.{◌≡◌, ℕ, ◌<◌, ◌≤◌, List, [], ◌∷◌, Option, Some, None, refl, sym, ◌∙◌, ap, subst, arith, inl, inr}
 use Rattle.std.proofs.lemmas.Bool.{cases_lt}
 use Rattle.std.proofs.lemmas.Option.{same_Some}
+use Rattle.ch_graph.specs.declared.limits.TheConstants.{MOST_WEIGHT}
 use Rattle.ch_graph.specs.declared.cost.Cost.{Cost}
 use Rattle.ch_graph.specs.Cost.{IsAtMost, IsBelow, cost_sum, no_cost, cost_at}
 use Rattle.ch_contract.specs.declared.leg.Leg.{Leg}
@@ -14,7 +15,7 @@ use Rattle.ch_contract.proofs.theory.LegPaths.{path_cost-cons}
 -- a cost that is reached and at most the least one is the least one
 pub reached_least : (rows : List (List Leg)) (s m : ℕ) (a b : Cost) → IsLeastUpwardPath rows s m a → IsUpwardCost rows s m b → IsAtMost b a → b ≡ a
 reached_least rows s m a b l r le =
-    IsAtMost_antisymm b a le (subst (IsAtMost a) r.path.2 (l.least r.path.0 r.path.1 (subst (λ (q : Cost). q.weight ≤ 2 ^ 60) (sym r.path.2) r.weight)))
+    IsAtMost_antisymm b a le (subst (IsAtMost a) r.path.2 (l.least r.path.0 r.path.1 (subst (λ (q : Cost). q.weight ≤ MOST_WEIGHT) (sym r.path.2) r.weight)))
 
 module _ {most : ℕ} (rows : List (List Leg)) (s : ℕ) (Idle : ℕ → Cost → Type 0) (best queue : List (Option Cost)) (p : IsSearch most rows s Idle best queue)
     (m : ℕ) (c : Cost) (light : c.weight ≤ most) (past : (x : ℕ) (d : Cost) → cost_at queue x ≡ Some d → IsBelow c d) (avoids : AvoidsIdle rows Idle m c) where
@@ -79,5 +80,5 @@ module _ {most : ℕ} (rows : List (List Leg)) (s : ℕ) (Idle : ℕ → Cost �
       let r = covered m h.path.0 h.path.1 light in
       let k = known_least m r.0 r.1.0 in
       let le : IsAtMost r.0 c = subst (IsAtMost r.0) h.path.2 r.2 in
-      let ge : IsAtMost c r.0 = subst (IsAtMost c) k.path.2 (h.least k.path.0 k.path.1 (subst (λ (q : Cost). q.weight ≤ 2 ^ 60) (sym k.path.2) k.weight)) in
+      let ge : IsAtMost c r.0 = subst (IsAtMost c) k.path.2 (h.least k.path.0 k.path.1 (subst (λ (q : Cost). q.weight ≤ MOST_WEIGHT) (sym k.path.2) k.weight)) in
       r.1.0 ∙ ap Some (IsAtMost_antisymm r.0 c le ge)

@@ -5,6 +5,7 @@ use Rattle.std.proofs.lemmas.Bool.{cases_lt}
 use Rattle.std.proofs.lemmas.List.{get_or_past, take_more}
 use Rattle.std.proofs.lemmas.List.Elements.{All-contains, Contains-push_cases, Contains-get_or, All-get_or}
 use Rattle.std.proofs.Math.Nat.{mul-le-mul_left}
+use Rattle.ch_graph.specs.declared.limits.TheConstants.{MOST_NODES, MOST_WEIGHT, MOST_PATH_ARCS}
 use Rattle.ch_graph.specs.declared.cost.Cost.{Cost}
 use Rattle.ch_graph.specs.Cost.{cost_sum, cost_at}
 use Rattle.ch_contract.specs.declared.leg.Leg.{Leg}
@@ -40,7 +41,7 @@ level_small H k v = elim (cases_lt v (length H.level)) [
 ]
 
 -- a path has few arcs: fewer for each leg than there are nodes, and no more legs than levels
-pub reached_arcs : (H : LevelsAndLegs) → IsLevelled H → (side : Side) (s v : ℕ) (c : Cost) → IsUpwardCost (rows_of H side) s v c → c.arcs ≤ 2 ^ 50
+pub reached_arcs : (H : LevelsAndLegs) → IsLevelled H → (side : Side) (s v : ℕ) (c : Cost) → IsUpwardCost (rows_of H side) s v c → c.arcs ≤ MOST_PATH_ARCS
 reached_arcs H k side s v c r =
     let n = nodes_of H in
     let rising : AreRising n (slice_index H.level) (rows_of H side) = λ x l has. let u = leg_up H k side x l has in (u.higher, u.arcs) in
@@ -49,7 +50,7 @@ reached_arcs H k side s v c r =
     let small = level_small H k v in
     let count = k.count in
     let first : n * slice_index H.level v ≤ n * n = mul-le-mul_left n small in
-    let second : n * n ≤ n * 2 ^ 25 = mul-le-mul_left n count in
+    let second : n * n ≤ n * MOST_NODES = mul-le-mul_left n count in
     omega arith
 
 -- what a search of the program asks for, part by part
@@ -214,7 +215,7 @@ leg_read H x y v c legs items i d p e lt = subst (λ xs. Contains xs (get_or ite
 -- its node is there, and its sum does not overflow
 pub leg_bounds : (H : LevelsAndLegs) (x y : Search) (v : ℕ) (c : Cost) (legs : List Leg) (l : Leg) → IsPartlyExpanded H x y v c legs →
     Contains (row (rows_of H y.side) v) l →
-    (l.node < length y.costs.items) × (c.weight ≤ 2 ^ 60) × (l.cost.weight ≤ 2 ^ 60) × (c.arcs + l.cost.arcs < 2 ^ 64)
+    (l.node < length y.costs.items) × (c.weight ≤ MOST_WEIGHT) × (l.cost.weight ≤ MOST_WEIGHT) × (c.arcs + l.cost.arcs < 2 ^ 64)
 leg_bounds H x y v c legs l p has =
     let k = p.expanding.levelled in
     let u = leg_up H k y.side v l has in

@@ -1,8 +1,9 @@
 -- Two searches that look for a way up and down within a bound.
-use Rattle.std.proofs.Common.{get_or, ◌≡◌, ℕ, ◌+◌, ◌^◌, ◌<◌, ◌≤◌, false, List, [], ◌∷◌, length, Contains, Option, Some, None, refl, sym, ◌∙◌, ap, subst, arith, set, inl, inr}
+use Rattle.std.proofs.Common.{get_or, ◌≡◌, ℕ, ◌+◌, ◌<◌, ◌≤◌, false, List, [], ◌∷◌, length, Contains, Option, Some, None, refl, sym, ◌∙◌, ap, subst, arith, set, inl, inr}
 use Rattle.std.specs.Prelude.{slice_index, true}
 use Rattle.std.proofs.lemmas.Bool.{false≢true}
 use Rattle.std.proofs.lemmas.List.Elements.{Contains-get_or}
+use Rattle.ch_graph.specs.declared.limits.TheConstants.{MOST_WEIGHT}
 use Rattle.ch_graph.specs.declared.cost.Cost.{Cost}
 use Rattle.ch_graph.specs.Cost.{IsAtMost, IsBelow, cost_sum, cost_at}
 use Rattle.ch_graph.proofs.CostOrder.{IsAtMost_refl, IsAtMost_trans, IsBelow_not}
@@ -103,7 +104,7 @@ pub least_within : (H : LevelsAndLegs) → IsLevelled H → (side : Side) (s v :
 least_within H k side s v a r = elim (decided (rows_of H side) v (nodes_of H) s (λ b legs p. path_short H k side s b legs p)) [
   | inl least ↦
       let le : IsAtMost (path_cost least.0) a = subst (IsAtMost (path_cost least.0)) r.path.2 (least.2 r.path.0 r.path.1) in
-      let light : (path_cost least.0).weight ≤ 2 ^ 60 = (let w = r.weight in let l = le.0 in omega arith) in
+      let light : (path_cost least.0).weight ≤ MOST_WEIGHT = (let w = r.weight in let l = le.0 in omega arith) in
       (path_cost least.0, record { path = (least.0, least.1, refl); weight = light; least = λ ks p w. least.2 ks p }, le)
   | inr never ↦ absurd (never r.path.0 r.path.1)
 ]
@@ -118,7 +119,7 @@ joined_covers H k x y s t most up down xs yt j =
     (j.0, cost_sum rise.0 fall.0, (rise.0, fall.0, rise.1, fall.1, refl), IsAtMost_trans _ (cost_sum j.1 j.2) _ (IsAtMost-cost_sum rise.0 j.1 fall.0 j.2 rise.2 fall.2) j.5)
 
 -- a node that a search would reach within the bound is settled, where all that is left is above it
-settled_within : (H : LevelsAndLegs) (x : Search) (most : Cost) (side : Side) (s m : ℕ) (a : Cost) → IsUnderway H x → x.stalls ≡ false → x.most ≡ 2 ^ 60 → IsPastCost x.queue most → x.side ≡ side → x.source ≡ s →
+settled_within : (H : LevelsAndLegs) (x : Search) (most : Cost) (side : Side) (s m : ℕ) (a : Cost) → IsUnderway H x → x.stalls ≡ false → x.most ≡ MOST_WEIGHT → IsPastCost x.queue most → x.side ≡ side → x.source ≡ s →
     IsLeastUpwardPath (rows_of H side) s m a → IsAtMost a most → (d : Cost) × IsSettled x.costs.items x.queue m d × IsAtMost d a
 settled_within H x most side s m a u off all past is from least le =
     let is_there = subst (λ q. IsLeastUpwardPath (rows_of H q) s m a) (sym is) least in

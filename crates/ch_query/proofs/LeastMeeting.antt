@@ -1,6 +1,7 @@
 -- What both sides know at their end: the least meeting.
-use Rattle.std.proofs.Common.{◌≡◌, ℕ, ◌^◌, ◌≤◌, List, Option, Some, None, sym, ◌∙◌, ap, subst, arith, inl, inr}
+use Rattle.std.proofs.Common.{◌≡◌, ℕ, ◌≤◌, List, Option, Some, None, sym, ◌∙◌, ap, subst, arith, inl, inr}
 use Rattle.std.proofs.lemmas.Option.{same_Some, none-some}
+use Rattle.ch_graph.specs.declared.limits.TheConstants.{MOST_WEIGHT}
 use Rattle.ch_graph.specs.declared.cost.Cost.{Cost}
 use Rattle.ch_graph.specs.Cost.{IsAtMost, IsBelow, cost_sum, cost_at}
 use Rattle.ch_graph.specs.Graph.{Network}
@@ -36,7 +37,7 @@ meeting_walks g H k s t m d h = subst (IsWalkCost g s t) h.4 (IsWalkCost-cost_su
     (reached_up g H k s m h.0 (least_reached H.up s m h.0 h.2)) (reached_down g H k t m h.1 (least_reached H.down t m h.1 h.3)))
 
 module _ (g : Network) (H : LevelsAndLegs) (k : HasWalks g H) (s t : ℕ) (best_up queue_up best_down queue_down : List (Option Cost)) (least : Option (Cost × ℕ))
-    (up : IsSearch (2 ^ 60) H.up s (IdleUp g s) best_up queue_up) (down : IsSearch (2 ^ 60) H.down t (IdleDown g t) best_down queue_down)
+    (up : IsSearch MOST_WEIGHT H.up s (IdleUp g s) best_up queue_up) (down : IsSearch MOST_WEIGHT H.down t (IdleDown g t) best_down queue_down)
     (seen : IsSeen best_up queue_up best_down queue_down least) (found : IsFound H s t least) (past_up : IsPast queue_up least)
     (past_down : IsPast queue_down least) where
   -- the sum that is known is what a walk costs
@@ -49,7 +50,7 @@ module _ (g : Network) (H : LevelsAndLegs) (k : HasWalks g H) (s t : ℕ) (best_
     above queue past a le x d e = let r = past x d e in then_below a r.0.0 d (IsAtMost_trans a c r.0.0 le (IsLeast-IsAtMost g s t c r.0.0 l (found_walks r.0 r.1))) r.2
 
     -- two paths that together cost no more than c
-    module _ (m : ℕ) (ups downs : List Leg) (rise : IsUpwardPath H.up s m ups) (fall : IsUpwardPath H.down t m downs) (light : c.weight ≤ 2 ^ 60)
+    module _ (m : ℕ) (ups downs : List Leg) (rise : IsUpwardPath H.up s m ups) (fall : IsUpwardPath H.down t m downs) (light : c.weight ≤ MOST_WEIGHT)
         (le : IsAtMost (cost_sum (path_cost ups) (path_cost downs)) c) where
       -- no idle node lies on the path from s
       pub avoids_up : AvoidsIdle H.up (IdleUp g s) m (path_cost ups)

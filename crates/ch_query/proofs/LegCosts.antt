@@ -1,7 +1,8 @@
 -- What the legs of rows cost.
-use Rattle.std.proofs.Common.{eqb, ◌≡◌, ℕ, ◌+◌, ◌^◌, ◌<◌, ◌≤◌, ◌⊎◌, List, Contains, Option, Some, None, refl, sym, ◌∙◌, ap, subst, arith, inl, inr}
+use Rattle.std.proofs.Common.{eqb, ◌≡◌, ℕ, ◌+◌, ◌<◌, ◌≤◌, ◌⊎◌, List, Contains, Option, Some, None, refl, sym, ◌∙◌, ap, subst, arith, inl, inr}
 use Rattle.std.specs.Prelude.{slice_index, ◌↔◌, Bool, true, false, not, IsTrue, ◌&&◌}
 use Rattle.std.proofs.lemmas.Bool.{false≢true, eqb-true}
+use Rattle.ch_graph.specs.declared.limits.TheConstants.{MOST_WEIGHT}
 use Rattle.ch_graph.specs.declared.cost.Cost.{Cost}
 use Rattle.ch_graph.specs.declared.saved.SavedLeg.{SavedLeg}
 use Rattle.ch_graph.specs.Cost.{IsAtMost, IsBelow, cost_sum}
@@ -100,7 +101,7 @@ module _ (H : LevelsAndLegs) (k : IsLevelled H) where
           sym (e ∙ (λ i. cost_sum (p i) (q i)))
 
   -- what a row's leg costs is within the limits
-  pub cost_bounds : (side : Side) (v x : ℕ) (legs : List Leg) → legs ≡ row (rows_of H side) v → (c : Cost) → IsRowCost legs x (Some c) → (c.weight ≤ 2 ^ 60) × (c.arcs < nodes_of H)
+  pub cost_bounds : (side : Side) (v x : ℕ) (legs : List Leg) → legs ≡ row (rows_of H side) v → (c : Cost) → IsRowCost legs x (Some c) → (c.weight ≤ MOST_WEIGHT) × (c.arcs < nodes_of H)
   cost_bounds side v x legs is c (l, has, node, cost) =
       let up = leg_up H k side v l (subst (λ xs. Contains xs l) is has) in
-      subst (λ (q : Cost). (q.weight ≤ 2 ^ 60) × (q.arcs < nodes_of H)) cost (up.weight, up.arcs)
+      subst (λ (q : Cost). (q.weight ≤ MOST_WEIGHT) × (q.arcs < nodes_of H)) cost (up.weight, up.arcs)

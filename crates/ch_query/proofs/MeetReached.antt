@@ -1,5 +1,6 @@
 -- Two searches that met have reached the meet at the least costs.
-use Rattle.std.proofs.Common.{◌≡◌, ℕ, ◌^◌, ◌≤◌, Bool, true, List, Some, refl, sym, ◌∙◌, ap, subst}
+use Rattle.std.proofs.Common.{◌≡◌, ℕ, ◌≤◌, Bool, true, List, Some, refl, sym, ◌∙◌, ap, subst}
+use Rattle.ch_graph.specs.declared.limits.TheConstants.{MOST_WEIGHT}
 use Rattle.ch_graph.specs.declared.cost.Cost.{Cost}
 use Rattle.ch_graph.specs.Cost.{IsAtMost, cost_sum}
 use Rattle.ch_graph.specs.Graph.{Network, IsWithinLimits}
@@ -46,7 +47,7 @@ module _ (g : Network) (H : LevelsAndLegs) (limits : IsWithinLimits g) (kept : I
   pub cost_down : Cost
   cost_down = meet.meets.1
 
-  light : c.weight ≤ 2 ^ 60
+  light : c.weight ≤ MOST_WEIGHT
   light = IsLeast-weight g x.source y.source c limits l
 
   -- together

@@ -1,6 +1,7 @@
 -- Two searches that are past the least sum have found the meet.
-use Rattle.std.proofs.Common.{◌≡◌, ℕ, ◌^◌, Bool, true, List, [], ◌∷◌, Option, Some, None, refl, ◌∙◌, subst, inl, inr}
+use Rattle.std.proofs.Common.{◌≡◌, ℕ, Bool, true, List, [], ◌∷◌, Option, Some, None, refl, ◌∙◌, subst, inl, inr}
 use Rattle.std.specs.Prelude.{MatchOption}
+use Rattle.ch_graph.specs.declared.limits.TheConstants.{MOST_WEIGHT}
 use Rattle.ch_graph.specs.declared.cost.Cost.{Cost}
 use Rattle.ch_graph.specs.Cost.{IsBelow, cost_sum}
 use Rattle.ch_graph.specs.Graph.{Network}
@@ -63,8 +64,8 @@ SearchBy : LevelsAndLegs → ℕ → Side → ℕ → Bool → List (Option Cost
 SearchBy H most side s stalls best queue = IsSearch most (rows_of H side) s (IsStalled (rows_of H side) (back_of H side stalls) s) best queue
 
 -- a search underway, by its parts
-by_parts : (H : LevelsAndLegs) (x : Search) (side : Side) (s : ℕ) → IsUnderway H x → x.side ≡ side → x.source ≡ s → x.stalls ≡ true → x.most ≡ 2 ^ 60 →
-    SearchBy H (2 ^ 60) side s true x.costs.items x.queue
+by_parts : (H : LevelsAndLegs) (x : Search) (side : Side) (s : ℕ) → IsUnderway H x → x.side ≡ side → x.source ≡ s → x.stalls ≡ true → x.most ≡ MOST_WEIGHT →
+    SearchBy H MOST_WEIGHT side s true x.costs.items x.queue
 unfolding SearchBy
 by_parts H x side s u a b d e =
     subst (λ q. SearchBy H q side s true x.costs.items x.queue) e (subst (λ q. SearchBy H x.most side s q x.costs.items x.queue) d
@@ -74,12 +75,12 @@ module _ (g : Network) (H : LevelsAndLegs) (k : HasWalks g H) (x y : Search) (s 
     (down : y.side ≡ Down) (xs : x.source ≡ s) (yt : y.source ≡ t)
     (past_here : IsPast x.queue least) (past_there : IsPast y.queue least) where
   -- the search from s
-  pub search_up : IsSearch (2 ^ 60) H.up s (IdleUp g s) x.costs.items x.queue
+  pub search_up : IsSearch MOST_WEIGHT H.up s (IdleUp g s) x.costs.items x.queue
   unfolding SearchBy
   search_up = weaker _ _ _ _ _ _ (idle_up g H k s) (by_parts H x Up s m.here up xs m.stalls.0 m.most.0)
 
   -- the search from t
-  pub search_down : IsSearch (2 ^ 60) H.down t (IdleDown g t) y.costs.items y.queue
+  pub search_down : IsSearch MOST_WEIGHT H.down t (IdleDown g t) y.costs.items y.queue
   unfolding SearchBy
   search_down = weaker _ _ _ _ _ _ (idle_down g H k t) (by_parts H y Down t m.there down yt m.stalls.1 m.most.1)
 

@@ -1,8 +1,9 @@
 -- Parents, step by step, and the choice of a route at the end.
-use Rattle.std.proofs.Common.{◌≡◌, ℕ, ◌+◌, ◌^◌, ◌<◌, ◌≤◌, List, [], ◌∷◌, ◌++◌, length, Contains, Option, Some, None, sym, ◌∙◌, ap, subst, arith, get_or-set_same, get_or-set_other, set, length-set, inl, inr}
+use Rattle.std.proofs.Common.{◌≡◌, ℕ, ◌+◌, ◌<◌, ◌≤◌, List, [], ◌∷◌, ◌++◌, length, Contains, Option, Some, None, sym, ◌∙◌, ap, subst, arith, get_or-set_same, get_or-set_other, set, length-set, inl, inr}
 use Rattle.std.specs.Prelude.{◌⊎◌, ◌≢◌, slice_index}
 use Rattle.std.proofs.lemmas.Bool.{cases_eq}
 use Rattle.std.proofs.lemmas.Option.{same_Some, none-some}
+use Rattle.ch_graph.specs.declared.limits.TheConstants.{MOST_WEIGHT}
 use Rattle.ch_graph.specs.declared.cost.Cost.{Cost}
 use Rattle.ch_graph.specs.Cost.{IsAtMost, IsBelow, cost_sum, cost_at}
 use Rattle.ch_contract.specs.declared.leg.Leg.{Leg}
@@ -195,7 +196,7 @@ pub least_same : (rows : List (List Leg)) (a x : ℕ) (d e : Cost) → IsLeastUp
 least_same rows a x d e h k = IsAtMost_antisymm d e (half d e h k) (half e d k h)
   where
     half : (d e : Cost) → IsLeastUpwardPath rows a x d → IsLeastUpwardPath rows a x e → IsAtMost d e
-    half d e h k = subst (IsAtMost d) k.path.2 (h.least k.path.0 k.path.1 (subst (λ (q : Cost). q.weight ≤ 2 ^ 60) (sym k.path.2) k.weight))
+    half d e h k = subst (IsAtMost d) k.path.2 (h.least k.path.0 k.path.1 (subst (λ (q : Cost). q.weight ≤ MOST_WEIGHT) (sym k.path.2) k.weight))
 
 module _ {most : ℕ} (rows : List (List Leg)) (s : ℕ) (Idle : ℕ → Cost → Type 0) (best queue : List (Option Cost)) (parents : List ℕ) (p : IsSearch most rows s Idle best queue)
     (a : AreParents most rows s Idle best queue parents)
@@ -246,7 +247,7 @@ module _ {most : ℕ} (rows : List (List Leg)) (s : ℕ) (Idle : ℕ → Cost �
             last.3.path.0 last.3.path.1 (subst (λ z. IsAtMost z b) (sym last.3.path.2) (IsAtMost_refl b)) in
             let rb : IsAtMost r.0 b = subst (IsAtMost r.0) last.3.path.2 r.2 in
             let sound = p.sound w r.0 r.1.0 in
-            let br : IsAtMost b r.0 = subst (IsAtMost b) sound.path.2 (last.3.least sound.path.0 sound.path.1 (subst (λ (z : Cost). z.weight ≤ 2 ^ 60) (sym sound.path.2) sound.weight)) in
+            let br : IsAtMost b r.0 = subst (IsAtMost b) sound.path.2 (last.3.least sound.path.0 sound.path.1 (subst (λ (z : Cost). z.weight ≤ MOST_WEIGHT) (sym sound.path.2) sound.weight)) in
             let same : r.0 ≡ b = IsAtMost_antisymm r.0 b rb br in
             elim (a.first w r.0 r.1) [
               | inl idle ↦ absurd (avoids w r.0 (k ∷ tail) idle on (subst (λ z. IsAtMost (cost_sum z (path_cost (k ∷ tail))) c) (sym same) low))

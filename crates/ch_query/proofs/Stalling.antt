@@ -1,5 +1,6 @@
 -- A node to which a higher node shows a cheaper way is left unexpanded.
 use Rattle.std.proofs.Common.{◌≡◌, ℕ, ◌+◌, ◌^◌, ◌<◌, ◌≤◌, true, List, length, Contains, Some, sym, ◌∙◌, ap, subst, arith, get_or, inl}
+use Rattle.ch_graph.specs.declared.limits.TheConstants.{MOST_SUM}
 use Rattle.ch_graph.specs.declared.cost.Cost.{Cost}
 use Rattle.ch_graph.specs.Cost.{IsBelow, cost_sum, cost_at}
 use Rattle.ch_contract.specs.declared.leg.Leg.{Leg}
@@ -30,7 +31,7 @@ module _ (H : LevelsAndLegs) (x : Search) (v : ℕ) (c : Cost) (u : IsExpandingA
       record { has = has; within = omega arith }
 
   -- their sums do not overflow
-  pub back_sum : (l : Leg) (e : Cost) → IsBackLeg H x v l → cost_at x.costs.items l.node ≡ Some e → (e.weight + l.cost.weight ≤ 2 ^ 61) × (e.arcs + l.cost.arcs < 2 ^ 64)
+  pub back_sum : (l : Leg) (e : Cost) → IsBackLeg H x v l → cost_at x.costs.items l.node ≡ Some e → (e.weight + l.cost.weight ≤ MOST_SUM) × (e.arcs + l.cost.arcs < 2 ^ 64)
   back_sum l e b known =
       let up = leg_up H u.levelled (other x.side) v l b.has in
       let r = u.search.search.sound l.node e known in

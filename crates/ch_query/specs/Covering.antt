@@ -1,5 +1,6 @@
 -- Two searches that look for a way up and down within a bound.
-use Rattle.std.specs.Prelude.{◌≡◌, ◌≢◌, ℕ, ◌^◌, ◌<◌, Contains, Bool, true, false, List, Option, Some}
+use Rattle.std.specs.Prelude.{◌≡◌, ◌≢◌, ℕ, ◌<◌, Contains, Bool, true, false, List, Option, Some}
+use Rattle.ch_graph.specs.declared.limits.TheConstants.{MOST_WEIGHT}
 use Rattle.ch_graph.specs.declared.cost.Cost.{Cost}
 use Rattle.ch_graph.specs.Cost.{IsAtMost, IsBelow, cost_sum, cost_at}
 use Rattle.ch_contract.specs.Hierarchy.{LevelsAndLegs, nodes_of}
@@ -47,5 +48,5 @@ pub record AreApart (H : LevelsAndLegs) (x y : Search) (most : Cost) : Type 0 wh
   pub here : IsUnderway H x
   pub there : IsUnderway H y
   pub stalls : (x.stalls ≡ false) × (y.stalls ≡ false)
-  pub limits : (x.most ≡ 2 ^ 60) × (y.most ≡ 2 ^ 60)
+  pub limits : (x.most ≡ MOST_WEIGHT) × (y.most ≡ MOST_WEIGHT)
   pub apart : (v : ℕ) (a b : Cost) → IsSettled x.costs.items x.queue v a → IsSettled y.costs.items y.queue v b → IsBelow most (cost_sum a b)

@@ -1,5 +1,6 @@
 -- Answers within a limit: a greatest weight that is asked for, or none.
-use Rattle.std.specs.Prelude.{◌≡◌, ℕ, ◌^◌, ◌≤◌, Option, Some, None, ⊤}
+use Rattle.std.specs.Prelude.{◌≡◌, ℕ, ◌≤◌, Option, Some, None, ⊤}
+use Rattle.ch_graph.specs.declared.limits.TheConstants.{MOST_WEIGHT}
 use Rattle.ch_contract.specs.Hierarchy.{LevelsAndLegs}
 use Rattle.ch_query.specs.Distance.{IsDistanceBy, IsLeastWeight}
 
@@ -10,9 +11,9 @@ IsWithin (Some most) x = x ≤ most
 
 -- the most that the weight of a path within the limit may be
 pub record IsMost (limit : Option ℕ) (most : ℕ) : Type 0 where
-  pub limits : most ≤ 2 ^ 60
+  pub limits : most ≤ MOST_WEIGHT
   pub sound : (x : ℕ) → x ≤ most → IsWithin limit x
-  pub whole : (x : ℕ) → x ≤ 2 ^ 60 → IsWithin limit x → x ≤ most
+  pub whole : (x : ℕ) → x ≤ MOST_WEIGHT → IsWithin limit x → x ≤ most
 
 -- the weight where there is one within the limit, and else none
 abbrev pub IsCut : Option ℕ → Option ℕ → Option ℕ → Type 0

@@ -1,5 +1,6 @@
 -- Two searches of the program that are to meet.
-use Rattle.std.specs.Prelude.{◌≡◌, ℕ, ◌^◌, ◌⊎◌, true, Option, Some, None}
+use Rattle.std.specs.Prelude.{◌≡◌, ℕ, ◌⊎◌, true, Option, Some, None}
+use Rattle.ch_graph.specs.declared.limits.TheConstants.{MOST_WEIGHT}
 use Rattle.ch_graph.specs.declared.cost.Cost.{Cost}
 use Rattle.ch_graph.specs.Cost.{cost_sum}
 use Rattle.ch_contract.specs.Hierarchy.{LevelsAndLegs}
@@ -30,7 +31,7 @@ pub record AreMeeting (H : LevelsAndLegs) (x y : Search) (least : Option (Cost �
   pub here : IsUnderway H x
   pub there : IsUnderway H y
   pub stalls : (x.stalls ≡ true) × (y.stalls ≡ true)
-  pub most : (x.most ≡ 2 ^ 60) × (y.most ≡ 2 ^ 60)
+  pub most : (x.most ≡ MOST_WEIGHT) × (y.most ≡ MOST_WEIGHT)
   pub seen : IsSeen x.costs.items x.queue y.costs.items y.queue least
   pub found : IsFoundBy H x y least
 

@@ -1,6 +1,7 @@
 -- One side of a query, as data: for each node the cost of a path to it, and the queue of the nodes that are not settled.
-use Rattle.std.specs.Prelude.{◌≡◌, ℕ, ◌+◌, ◌^◌, ◌<◌, ◌≤◌, ◌⊎◌, Bool, true, false, List, length, slice_index, slice_set, Contains, Option, Some, None, is_some}
+use Rattle.std.specs.Prelude.{◌≡◌, ℕ, ◌+◌, ◌<◌, ◌≤◌, ◌⊎◌, Bool, true, false, List, length, slice_index, slice_set, Contains, Option, Some, None, is_some}
 use Rattle.std.specs.List.{count_by}
+use Rattle.ch_graph.specs.declared.limits.TheConstants.{MOST_WEIGHT}
 use Rattle.ch_graph.specs.declared.cost.Cost.{Cost}
 use Rattle.ch_graph.specs.Cost.{IsAtMost, IsBelow, cost_sum, no_cost, cost_at}
 use Rattle.ch_contract.specs.declared.leg.Leg.{Leg}
@@ -15,14 +16,14 @@ IsSettled best queue v c = (cost_at best v ≡ Some c) × (cost_at queue v ≡ N
 abbrev pub IsRelaxedFrom : ℕ → List (Option Cost) → Cost → Leg → Type 0
 IsRelaxedFrom most best c l = c.weight + l.cost.weight ≤ most → (e : Cost) × (cost_at best l.node ≡ Some e) × IsAtMost e (cost_sum c l.cost)
 
--- some upward path from s to v costs c, and weighs at most 2 ^ 60
+-- some upward path from s to v costs c, and weighs at most MOST_WEIGHT
 pub record IsUpwardCost (rows : List (List Leg)) (s v : ℕ) (c : Cost) : Type 0 where
   pub path : (legs : List Leg) × IsUpwardPath rows s v legs × (path_cost legs ≡ c)
-  pub weight : c.weight ≤ 2 ^ 60
+  pub weight : c.weight ≤ MOST_WEIGHT
 
 -- a search from s for paths that weigh no more than `most`, where the nodes that are idle at their cost need not have their legs taken
 pub record IsSearch (most : ℕ) (rows : List (List Leg)) (s : ℕ) (Idle : ℕ → Cost → Type 0) (best queue : List (Option Cost)) : Type 0 where
-  pub limits : most ≤ 2 ^ 60
+  pub limits : most ≤ MOST_WEIGHT
   pub sizes : (length best ≡ length rows) × (length queue ≡ length rows)
   pub start : cost_at best s ≡ Some no_cost
   pub sound : (v : ℕ) (c : Cost) → cost_at best v ≡ Some c → IsUpwardCost rows s v c

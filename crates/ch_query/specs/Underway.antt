@@ -1,7 +1,8 @@
 -- One side of a query, as the program keeps it.
-use Rattle.std.specs.Prelude.{◌≡◌, ◌≢◌, ℕ, ◌^◌, ◌<◌, ◌≤◌, ◌⊎◌, Bool, true, false, List, [], length, AllPairs, Contains, Option, Some, is_some, Vec, vec_len, vec_capacity}
+use Rattle.std.specs.Prelude.{◌≡◌, ◌≢◌, ℕ, ◌<◌, ◌≤◌, ◌⊎◌, Bool, true, false, List, [], length, AllPairs, Contains, Option, Some, is_some, Vec, vec_len, vec_capacity}
 use Rattle.std.specs.List.{count_by}
 use Rattle.std.specs.declared.alloc.Global.{Global}
+use Rattle.ch_graph.specs.declared.limits.TheConstants.{MOST_WEIGHT}
 use Rattle.ch_graph.specs.declared.cost.Cost.{Cost}
 use Rattle.ch_contract.specs.declared.leg.Leg.{Leg}
 use Rattle.ch_contract.specs.Hierarchy.{LevelsAndLegs, nodes_of, IsLevelled}
@@ -30,7 +31,7 @@ pub record IsRoom (x : Search) : Type 0 where
   pub queue : length x.queue ≡ length x.costs.items
   pub parents : length x.parents.items ≡ length x.costs.items
   pub touched : IsTouched x.costs.items x.touched
-  pub most : x.most ≤ 2 ^ 60
+  pub most : x.most ≤ MOST_WEIGHT
 
 -- how many nodes are not settled
 abbrev pub unsettled_in : Search → ℕ

@@ -1,6 +1,7 @@
 //! Answers to many queries.
-ghost use Rattle.std.specs.Prelude.{◌≡◌, ◌^◌, ◌≤◌, ◌<◌, length, All, true, IfOk};
+ghost use Rattle.std.specs.Prelude.{◌≡◌, ◌≤◌, ◌<◌, length, All, true, IfOk};
 ghost use Rattle.std.specs.List.{AllZip};
+ghost use Rattle.ch_graph.specs.declared.limits.TheConstants.{MOST_QUERIES};
 ghost use Rattle.ch_contract.specs.Hierarchy.{nodes_of};
 ghost use Rattle.ch_query.specs.Distance.{IsKeptForSome};
 ghost use Rattle.ch_query.specs.Answers.{AreQueries, IsReply};
@@ -52,7 +53,7 @@ pub fn answer_all<R: Threads + Sync, G: Gate>(
 ) -> Result<Vec<Answer>, AllocError>
     requires kept { IsKeptForSome hierarchy.now }
     requires queries { AreQueries (nodes_of hierarchy.now) queries.now }
-    requires count { length queries.now ≤ 2 ^ 24 }
+    requires count { length queries.now ≤ MOST_QUERIES }
     ensures { IfOk result (λ answers. AllZip (IsReply hierarchy.now routes) queries.now answers.items) }
 {
     let job = QueryJob { hierarchy, routes };

@@ -1,5 +1,6 @@
 //! Whether going up from one node and down to another costs no more than a bound.
-ghost use Rattle.std.specs.Prelude.{◌≡◌, ◌+◌, ◌^◌, ◌<◌, ◌≤◌, ◌↔◌, true, false, IsTrue, Some};
+ghost use Rattle.std.specs.Prelude.{◌≡◌, ◌+◌, ◌<◌, ◌≤◌, ◌↔◌, true, false, IsTrue, Some};
+ghost use Rattle.ch_graph.specs.declared.limits.TheConstants.{MOST_WEIGHT, MOST_PATH_ARCS};
 ghost use Rattle.ch_graph.specs.declared.cost.Cost.{Cost as CostOf};
 ghost use Rattle.ch_graph.specs.Cost.{IsAtMost, IsBelow, cost_at, cost_sum};
 ghost use Rattle.ch_contract.specs.Hierarchy.{nodes_of};
@@ -59,7 +60,7 @@ fn is_past(queue: &KeyQueue<Cost>, most: Cost) -> bool
 fn joins(hierarchy: &Hierarchy, there: &Search, node: u32, cost: Cost, most: Cost) -> bool
     requires there { IsUnderway hierarchy.now there.now }
     requires node { node < nodes_of hierarchy.now }
-    requires cost { (cost.weight ≤ 2 ^ 60) × (cost.arcs ≤ 2 ^ 50) }
+    requires cost { (cost.weight ≤ MOST_WEIGHT) × (cost.arcs ≤ MOST_PATH_ARCS) }
     ensures joined { result ≡ true → (d : CostOf) × (cost_at there.now.costs.items node ≡ Some d) × IsAtMost (cost_sum cost d) most }
     ensures apart { result ≡ false → (d : CostOf) → cost_at there.now.costs.items node ≡ Some d → IsBelow most (cost_sum cost d) }
 {

@@ -1,5 +1,6 @@
 //! Two searches that meet.
-ghost use Rattle.std.specs.Prelude.{◌≡◌, ◌+◌, ◌^◌, ◌<◌, ◌≤◌, true, false, MatchOption};
+ghost use Rattle.std.specs.Prelude.{◌≡◌, ◌+◌, ◌<◌, ◌≤◌, true, false, MatchOption};
+ghost use Rattle.ch_graph.specs.declared.limits.TheConstants.{MOST_WEIGHT, MOST_PATH_ARCS};
 ghost use Rattle.ch_contract.specs.Hierarchy.{nodes_of};
 ghost use Rattle.ch_contract.specs.Paths.{IsMeet, NeverMeets};
 ghost use Rattle.ch_query.specs.declared.side.Side.TheVariants.{Up, Down};
@@ -36,7 +37,7 @@ fn met(
 ) -> Option<(Cost, u32)>
     requires there { IsUnderway hierarchy.now there.now }
     requires node { node < nodes_of hierarchy.now }
-    requires cost { (cost.weight ≤ 2 ^ 60) × (cost.arcs ≤ 2 ^ 50) }
+    requires cost { (cost.weight ≤ MOST_WEIGHT) × (cost.arcs ≤ MOST_PATH_ARCS) }
     ensures { IsMet (cost_at there.now.costs.items node) node cost least result }
 {
     match there.costs[node as usize] {

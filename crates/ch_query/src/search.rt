@@ -1,5 +1,6 @@
 //! One side of a query: Dijkstra's algorithm from a source, along legs to higher nodes.
 ghost use Rattle.std.specs.Prelude.{◌≡◌, ◌+◌, ◌^◌, ◌<◌, ◌≤◌, ◌↔◌, length, slice_set, Some, true, false, IsTrue, IfOk};
+ghost use Rattle.ch_graph.specs.declared.limits.TheConstants.{MOST_WEIGHT};
 ghost use Rattle.ch_graph.specs.Cost.{IsBelow};
 ghost use Rattle.ch_contract.specs.Hierarchy.{nodes_of};
 ghost use Rattle.ch_query.specs.Limits.{IsMost};
@@ -9,11 +10,9 @@ ghost use Rattle.ch_query.specs.Meeting.{IsFresh};
 use crate::side::Side;
 use ch_contract::{Hierarchy, Leg};
 use ch_graph::Cost;
+use ch_graph::limits::MOST_WEIGHT;
 use ch_queue::KeyQueue;
 use std::alloc::{AllocError, Global};
-
-/// The most that a path weighs within the limits.
-const MOST_WEIGHT: u64 = 1 << 60;
 
 /// What one side of a query knows, and the room for it.
 #[derive(Drop)]
@@ -66,7 +65,7 @@ impl Search {
         ensures side { self.new.side ≡ self.old.side }
         ensures source { self.new.source ≡ source }
         ensures stalls { self.new.stalls ≡ stalls }
-        ensures most { self.new.most ≡ 2 ^ 60 }
+        ensures most { self.new.most ≡ MOST_WEIGHT }
         ensures fresh { IsFresh self.new }
     {
         self.begin_up_to(hierarchy, source, stalls, MOST_WEIGHT);
@@ -82,7 +81,7 @@ impl Search {
     )
         requires clean { IsClean (nodes_of hierarchy.now) self.old }
         requires source { source < nodes_of hierarchy.now }
-        requires most { most ≤ 2 ^ 60 }
+        requires most { most ≤ MOST_WEIGHT }
         ensures underway { IsUnderway hierarchy.now self.new }
         ensures side { self.new.side ≡ self.old.side }
         ensures source { self.new.source ≡ source }
@@ -120,7 +119,7 @@ impl Search {
     fn relax(&mut self, node: u32, cost: Cost, leg: Leg)
         requires node { leg.node < length self.old.costs.items }
         requires room { IsRoom self.old }
-        requires weights { (cost.weight ≤ 2 ^ 60) × (leg.cost.weight ≤ 2 ^ 60) }
+        requires weights { (cost.weight ≤ MOST_WEIGHT) × (leg.cost.weight ≤ MOST_WEIGHT) }
         requires arcs { cost.arcs + leg.cost.arcs < 2 ^ 64 }
         ensures relaxes { RelaxesIn self.old node cost leg self.new }
         ensures touched { IsTouched self.new.costs.items self.new.touched }
