@@ -5,14 +5,19 @@ use Rattle.std.specs.Option.{option_map}
 use Rattle.ch_graph.specs.declared.cost.Cost.{Cost}
 use Rattle.ch_contract.specs.Hierarchy.{LevelsAndLegs}
 use Rattle.ch_contract.specs.Paths.{IsMeet, NeverMeets}
+use Rattle.ch_contract.specs.KeptLaws.{IsLeastMeeting}
 use Rattle.ch_contract.proofs.theory.KeptWalks.{meetings_are_distances}
 use Rattle.ch_query.specs.Distance.{IsDistanceBy, IsLeastWeight}
+
+-- at the meet is a least meeting
+pub meet_is_least : (H : LevelsAndLegs) (s t m : ℕ) (c : Cost) → IsMeet H s t m c → IsLeastMeeting H s t c
+meet_is_least H s t m c meet = record { meets = (m, meet.meets); least = λ n d there. (meet.least n d there).0 }
 
 module _ (H : LevelsAndLegs) (s t : ℕ) where
   -- the weight at the meet is the least one
   pub least_weight : (o : Option (Cost × ℕ)) → MatchOption o (NeverMeets H s t) (λ e. IsMeet H s t e.1 e.0) → IsLeastWeight H s t (option_map (λ e. e.0.weight) o)
   least_weight None never = never
-  least_weight (Some e) meet = (e.0, record { meets = (e.1, meet.meets); least = λ k d there. (meet.least k d there).0 }, refl)
+  least_weight (Some e) meet = (e.0, meet_is_least H s t e.1 e.0 meet, refl)
 
   -- the least weight is the distance in each graph for which the hierarchy is kept
   pub weight_is_distance : (o : Option ℕ) → IsLeastWeight H s t o → IsDistanceBy H s t o

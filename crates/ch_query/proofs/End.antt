@@ -12,15 +12,22 @@ use Rattle.ch_query.specs.Search.{IsSettled, IsUpwardCost, IsSearch, AvoidsIdle,
 use Rattle.ch_graph.proofs.CostSums.{cost_sum_assoc, no_cost-cost_sum, IsAtMost-cost_sum, IsAtMost-cost_sum_self}
 use Rattle.ch_contract.proofs.theory.LegPaths.{path_cost-cons}
 
+-- the end of a least path is reached
+pub least_reached : (rows : List (List Leg)) (s m : ℕ) (a : Cost) → IsLeastUpwardPath rows s m a → IsUpwardCost rows s m a
+least_reached rows s m a l = record { path = l.path; weight = l.weight }
+
+-- at no less than the least cost
+pub reached_no_less : (rows : List (List Leg)) (s m : ℕ) (a b : Cost) → IsLeastUpwardPath rows s m a → IsUpwardCost rows s m b → IsAtMost a b
+reached_no_less rows s m a b l r = subst (IsAtMost a) r.path.2 (l.least r.path.0 r.path.1 (subst (λ (q : Cost). q.weight ≤ MOST_WEIGHT) (sym r.path.2) r.weight))
+
 -- a cost that is reached and at most the least one is the least one
-pub reached_least : (rows : List (List Leg)) (s m : ℕ) (a b : Cost) → IsLeastUpwardPath rows s m a → IsUpwardCost rows s m b → IsAtMost b a → b ≡ a
-reached_least rows s m a b l r le =
-    IsAtMost_antisymm b a le (subst (IsAtMost a) r.path.2 (l.least r.path.0 r.path.1 (subst (λ (q : Cost). q.weight ≤ MOST_WEIGHT) (sym r.path.2) r.weight)))
+reached_least : (rows : List (List Leg)) (s m : ℕ) (a b : Cost) → IsLeastUpwardPath rows s m a → IsUpwardCost rows s m b → IsAtMost b a → b ≡ a
+reached_least rows s m a b l r le = IsAtMost_antisymm b a le (reached_no_less rows s m a b l r)
 
 module _ {most : ℕ} (rows : List (List Leg)) (s : ℕ) (Idle : ℕ → Cost → Type 0) (best queue : List (Option Cost)) (p : IsSearch most rows s Idle best queue)
     (m : ℕ) (c : Cost) (light : c.weight ≤ most) (past : (x : ℕ) (d : Cost) → cost_at queue x ≡ Some d → IsBelow c d) (avoids : AvoidsIdle rows Idle m c) where
   -- a node known at no more than c is settled
-  settled : (x : ℕ) (e : Cost) → cost_at best x ≡ Some e → IsAtMost e c → IsSettled best queue x e
+  pub settled : (x : ℕ) (e : Cost) → cost_at best x ≡ Some e → IsAtMost e c → IsSettled best queue x e
   settled x e k le = (k, at (cost_at queue x) refl)
     where
       at : (o : Option Cost) → cost_at queue x ≡ o → cost_at queue x ≡ None
@@ -54,6 +61,12 @@ module _ {most : ℕ} (rows : List (List Leg)) (s : ℕ) (Idle : ℕ → Cost �
   matched legs path le = subst (λ q. (a : Cost) × IsSettled best queue m a × IsAtMost a q) (no_cost-cost_sum (path_cost legs))
       (along s no_cost legs p.start path (subst (λ q. IsAtMost q c) (sym (no_cost-cost_sum (path_cost legs))) le))
 
+  -- so where c is the least cost to m, m is settled at it
+  pub settled_least : IsLeastUpwardPath rows s m c → IsSettled best queue m c
+  settled_least l =
+      let r = matched l.path.0 l.path.1 (subst (λ q. IsAtMost q c) (sym l.path.2) (IsAtMost_refl c)) in
+      subst (IsSettled best queue m) (reached_least rows s m c r.0 l (p.sound m r.0 r.1.0) (subst (IsAtMost r.0) l.path.2 r.2)) r.1
+
 -- at the end of a search without idle nodes each cost is the least
 module _ {most : ℕ} (rows : List (List Leg)) (s : ℕ) (Idle : ℕ → Cost → Type 0) (best queue : List (Option Cost)) (p : IsSearch most rows s Idle best queue)
     (never : (v : ℕ) (c : Cost) → Idle v c → ⊥) (done : IsEmpty queue) where
@@ -75,10 +88,4 @@ module _ {most : ℕ} (rows : List (List Leg)) (s : ℕ) (Idle : ℕ → Cost �
 
   -- and the least is known, where it is no heavier
   pub least_known : (m : ℕ) (c : Cost) → IsLeastUpwardPath rows s m c → c.weight ≤ most → cost_at best m ≡ Some c
-  least_known m c h low =
-      let light : (path_cost h.path.0).weight ≤ most = subst (λ (q : Cost). q.weight ≤ most) (sym h.path.2) low in
-      let r = covered m h.path.0 h.path.1 light in
-      let k = known_least m r.0 r.1.0 in
-      let le : IsAtMost r.0 c = subst (IsAtMost r.0) h.path.2 r.2 in
-      let ge : IsAtMost c r.0 = subst (IsAtMost c) k.path.2 (h.least k.path.0 k.path.1 (subst (λ (q : Cost). q.weight ≤ MOST_WEIGHT) (sym k.path.2) k.weight)) in
-      r.1.0 ∙ ap Some (IsAtMost_antisymm r.0 c le ge)
+  least_known m c h low = (settled_least rows s Idle best queue p m c low (λ x d e. absurd (done x d e)) (λ x e k idle q le. never x e idle) h).0

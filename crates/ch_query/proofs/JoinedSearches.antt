@@ -23,7 +23,7 @@ use Rattle.ch_query.specs.Underway.{unsettled_in, IsUnderway, IsSameSearch, Keep
 use Rattle.ch_contract.specs.Kept.{MeetsWithin}
 use Rattle.ch_query.specs.Covering.{joined, settled, IsPastCost, AreJoined, AreApart}
 use Rattle.ch_query.specs.Meeting.{IsFresh}
-use Rattle.ch_query.proofs.End.{matched}
+use Rattle.ch_query.proofs.End.{settled_least}
 use Rattle.ch_query.proofs.Expanding.{leg_up, level_small, rows_size}
 use Rattle.ch_query.proofs.LeastPaths.{HasLeast, IsShort, decided}
 use Rattle.ch_query.proofs.PathLaws.{then_below}
@@ -120,13 +120,12 @@ joined_covers H k x y s t most up down xs yt j =
 
 -- a node that a search would reach within the bound is settled, where all that is left is above it
 settled_within : (H : LevelsAndLegs) (x : Search) (most : Cost) (side : Side) (s m : ℕ) (a : Cost) → IsUnderway H x → x.stalls ≡ false → x.most ≡ MOST_WEIGHT → IsPastCost x.queue most → x.side ≡ side → x.source ≡ s →
-    IsLeastUpwardPath (rows_of H side) s m a → IsAtMost a most → (d : Cost) × IsSettled x.costs.items x.queue m d × IsAtMost d a
+    IsLeastUpwardPath (rows_of H side) s m a → IsAtMost a most → IsSettled x.costs.items x.queue m a
 settled_within H x most side s m a u off all past is from least le =
     let is_there = subst (λ q. IsLeastUpwardPath (rows_of H q) s m a) (sym is) least in
     let there = subst (λ q. IsLeastUpwardPath (rows_of H x.side) q m a) (sym from) is_there in
-    let end = matched (rows_of H x.side) x.source _ x.costs.items x.queue u.search m a (let light = there.weight in omega arith) (λ w d k. then_below a most d le (past w d k)) (λ w e legs idle p q. never_idle H x off w e idle)
-    there.path.0 there.path.1 (subst (λ q. IsAtMost q a) (sym there.path.2) (IsAtMost_refl a)) in
-    (end.0, end.1, subst (IsAtMost end.0) there.path.2 end.2)
+    settled_least (rows_of H x.side) x.source _ x.costs.items x.queue u.search m a (let light = there.weight in omega arith) (λ w d k. then_below a most d le (past w d k))
+    (λ w e legs idle p q. never_idle H x off w e idle) there
 
 -- where all that is left on both sides is above the bound, and they are apart, there is no way within it
 pub apart_covers : (H : LevelsAndLegs) (x y : Search) (s t : ℕ) (most : Cost) → x.side ≡ Up → y.side ≡ Down → x.source ≡ s → y.source ≡ t →
@@ -139,8 +138,7 @@ apart_covers H x y s t most up down xs yt m px py w =
     let right : IsAtMost b (cost_sum a b) = subst (IsAtMost b) (cost_sum_comm b a) (IsAtMost-cost_sum_self b a) in
     let here = settled_within H x most Up s w.0 a m.here m.stalls.0 m.limits.0 px up xs w.2.2 low in
     let there = settled_within H y most Down t w.0 b m.there m.stalls.1 m.limits.1 py down yt w.2.3 (IsAtMost_trans b (cost_sum a b) most right sum) in
-    IsBelow_not most (cost_sum here.0 there.0) (m.apart w.0 here.0 there.0 here.1 there.1)
-    (IsAtMost_trans _ (cost_sum a b) _ (IsAtMost-cost_sum here.0 a there.0 b here.2 there.2) sum)
+    IsBelow_not most (cost_sum a b) (m.apart w.0 a b here there) sum
 
 -- a leg of v that is read leads to one of the nodes
 pub own_leg : (H : LevelsAndLegs) (x : Search) (v : ℕ) (legs : List Leg) (i : ℕ) (d : Leg) → IsUnderway H x → legs ≡ row (rows_of H x.side) v → i < length legs →

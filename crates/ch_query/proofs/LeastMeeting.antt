@@ -1,174 +1,121 @@
--- What both sides know at their end: the least meeting.
-use Rattle.std.proofs.Common.{◌≡◌, ℕ, ◌≤◌, List, Option, Some, None, sym, ◌∙◌, ap, subst, arith, inl, inr}
-use Rattle.std.proofs.lemmas.Option.{same_Some, none-some}
-use Rattle.ch_graph.specs.declared.limits.TheConstants.{MOST_WEIGHT}
+-- Two searches that are past the least sum have found the meet, and reached it at its least costs.
+use Rattle.std.proofs.Common.{◌≡◌, ℕ, ◌≤◌, List, Option, Some, None, refl, sym, ◌∙◌, subst, inl, inr}
+use Rattle.std.specs.Prelude.{MatchOption}
+use Rattle.std.proofs.lemmas.Option.{same_Some}
 use Rattle.ch_graph.specs.declared.cost.Cost.{Cost}
-use Rattle.ch_graph.specs.Cost.{IsAtMost, IsBelow, cost_sum, cost_at}
-use Rattle.ch_graph.specs.Graph.{Network}
-use Rattle.ch_graph.specs.Walk.{IsLeast}
+use Rattle.ch_graph.specs.Cost.{IsAtMost, cost_sum}
+use Rattle.ch_graph.specs.Walk.{IsUnreachable}
 use Rattle.ch_graph.specs.WalkLaws.{IsWalkCost}
-use Rattle.ch_contract.specs.KeptLaws.{HasWalks}
-use Rattle.ch_graph.proofs.WalkCosts.{IsWalkCost-cost_sum, IsLeast-IsAtMost}
-use Rattle.ch_contract.specs.declared.leg.Leg.{Leg}
+use Rattle.ch_graph.proofs.CostOrder.{IsAtMost_refl, IsAtMost_trans, IsAtMost_antisymm}
+use Rattle.ch_graph.proofs.CostSums.{cost_sum_comm, IsAtMost-cost_sum_self}
+use Rattle.ch_graph.proofs.LeastSearch.{IsLeast-decided}
+use Rattle.ch_graph.proofs.WalkCosts.{IsLeast-IsAtMost}
 use Rattle.ch_contract.specs.Hierarchy.{LevelsAndLegs}
-use Rattle.ch_contract.specs.Paths.{IsUpwardPath, path_cost, IsLeastUpwardPath, IsMeeting, IsMeet, NeverMeets}
-use Rattle.ch_graph.proofs.CostOrder.{same_costs, IsAtMost_refl, IsAtMost_trans, IsAtMost_antisymm, IsBelow_not}
-use Rattle.ch_query.specs.Search.{IsSettled, IsUpwardCost, IsSearch, AvoidsIdle}
-use Rattle.ch_query.specs.TwoSided.{IdleUp, IdleDown, IsSeen, IsFound, IsPast}
-use Rattle.ch_graph.proofs.CostSums.{cost_sum_assoc, IsAtMost-cost_sum, IsAtMost-cost_sum_self, cost_sum_cancel_left, cost_sum_cancel_right}
-use Rattle.ch_query.proofs.PathLaws.{below_then, then_below, below_sum}
-use Rattle.ch_query.proofs.End.{matched}
+use Rattle.ch_contract.specs.Paths.{IsMeeting, IsMeet, NeverMeets}
+use Rattle.ch_contract.specs.KeptLaws.{IsLeastMeeting, MeetingsAreDistances}
+use Rattle.ch_contract.proofs.theory.KeptWalks.{meetings_are_distances}
+use Rattle.ch_query.specs.declared.side.Side.TheVariants.{Up, Down}
+use Rattle.ch_query.specs.declared.search.Search.{Search}
+use Rattle.ch_query.specs.Covering.{IsPastCost}
+use Rattle.ch_query.specs.Descents.{HasReached}
+use Rattle.ch_query.specs.Distance.{IsKeptForSome}
+use Rattle.ch_query.specs.Meeting.{AreMeeting}
+use Rattle.ch_query.specs.Search.{IsSettled, IsUpwardCost}
+use Rattle.ch_query.specs.SearchSpace.{IsTight}
+use Rattle.ch_query.specs.Side.{rows_of}
+use Rattle.ch_query.specs.TwoSided.{IsFound, IsPast}
+use Rattle.ch_query.proofs.End.{least_reached, settled}
+use Rattle.ch_query.proofs.PathLaws.{then_below}
+use Rattle.ch_query.proofs.TightNodes.{sum_walk, tight_up, tight_down, tight_reached}
 
--- what s reaches upwards it reaches by a walk
-pub reached_up : (g : Network) (H : LevelsAndLegs) → HasWalks g H → (s m : ℕ) (a : Cost) → IsUpwardCost H.up s m a → IsWalkCost g s m a
-reached_up g H k s m a r = subst (IsWalkCost g s m) r.path.2 (k.rises s m r.path.0 r.path.1)
+-- a node that was reached is settled
+reached_settled : (H : LevelsAndLegs) (x : Search) (m : ℕ) (a : Cost) → HasReached H x m a → IsSettled x.costs.items x.queue m a
+reached_settled H x m a r = settled _ _ _ _ _ r.underway.search m a (r.underway.search.light m a r.known) r.past r.avoids m a r.known (IsAtMost_refl a)
 
--- from what t reaches there is a walk to t
-pub reached_down : (g : Network) (H : LevelsAndLegs) → HasWalks g H → (t m : ℕ) (b : Cost) → IsUpwardCost H.down t m b → IsWalkCost g m t b
-reached_down g H k t m b r = subst (IsWalkCost g m t) r.path.2 (k.falls t m r.path.0 r.path.1)
+module _ (H : LevelsAndLegs) (k : IsKeptForSome H) (x y : Search) (least : Option (Cost × ℕ)) (meeting : AreMeeting H x y least) (up : x.side ≡ Up) (down : y.side ≡ Down)
+    (past_here : IsPast x.queue least) (past_there : IsPast y.queue least) where
+  law : MeetingsAreDistances k.0 H
+  law = meetings_are_distances k.0 H k.1 k.2
 
--- the end of a least path is reached
-pub least_reached : (rows : List (List Leg)) (s m : ℕ) (a : Cost) → IsLeastUpwardPath rows s m a → IsUpwardCost rows s m a
-least_reached rows s m a l = record { path = l.path; weight = l.weight }
+  -- what is known is the sum of a path up and one down
+  found : IsFound H x.source y.source least
+  found e is =
+      let f = meeting.found e is in
+      (f.0, f.1, subst (λ q. IsUpwardCost (rows_of H q) x.source e.1 f.0) up f.2, subst (λ q. IsUpwardCost (rows_of H q) y.source e.1 f.1) down f.3, f.4)
 
--- a meeting costs what a walk costs
-meeting_walks : (g : Network) (H : LevelsAndLegs) → HasWalks g H → (s t m : ℕ) (d : Cost) → IsMeeting H s t m d → IsWalkCost g s t d
-meeting_walks g H k s t m d h = subst (IsWalkCost g s t) h.4 (IsWalkCost-cost_sum g s m t h.0 h.1
-    (reached_up g H k s m h.0 (least_reached H.up s m h.0 h.2)) (reached_down g H k t m h.1 (least_reached H.down t m h.1 h.3)))
+  -- so it is what a walk costs
+  found_walks : (e : Cost × ℕ) → least ≡ Some e → IsWalkCost k.0 x.source y.source e.0
+  found_walks e is = let f = found e is in subst (IsWalkCost k.0 x.source y.source) f.4 (sum_walk H k x.source y.source e.1 f.0 f.1 f.2 f.3)
 
-module _ (g : Network) (H : LevelsAndLegs) (k : HasWalks g H) (s t : ℕ) (best_up queue_up best_down queue_down : List (Option Cost)) (least : Option (Cost × ℕ))
-    (up : IsSearch MOST_WEIGHT H.up s (IdleUp g s) best_up queue_up) (down : IsSearch MOST_WEIGHT H.down t (IdleDown g t) best_down queue_down)
-    (seen : IsSeen best_up queue_up best_down queue_down least) (found : IsFound H s t least) (past_up : IsPast queue_up least)
-    (past_down : IsPast queue_down least) where
-  -- the sum that is known is what a walk costs
-  found_walks : (e : Cost × ℕ) → least ≡ Some e → IsWalkCost g s t e.0
-  found_walks e is = let f = found e is in subst (IsWalkCost g s t) f.4 (IsWalkCost-cost_sum g s e.1 t f.0 f.1 (reached_up g H k s e.1 f.0 f.2) (reached_down g H k t e.1 f.1 f.3))
+  -- a least meeting
+  module _ (c : Cost) (h : IsLeastMeeting H x.source y.source c) where
+    -- what is known is no less
+    no_less : (e : Cost × ℕ) → least ≡ Some e → IsAtMost c e.0
+    no_less e is = IsLeast-IsAtMost k.0 x.source y.source c e.0 ((law.least x.source y.source c).1 h) (found_walks e is)
 
-  module _ (c : Cost) (l : IsLeast g s t c) where
-    -- what is left in a queue is dearer than c
-    pub above : (queue : List (Option Cost)) → IsPast queue least → (a : Cost) → IsAtMost a c → (x : ℕ) (d : Cost) → cost_at queue x ≡ Some d → IsBelow a d
-    above queue past a le x d e = let r = past x d e in then_below a r.0.0 d (IsAtMost_trans a c r.0.0 le (IsLeast-IsAtMost g s t c r.0.0 l (found_walks r.0 r.1))) r.2
+    -- so what is left in a queue costs more than c
+    above : (queue : List (Option Cost)) → IsPast queue least → (a : Cost) → IsAtMost a c → IsPastCost queue a
+    above queue past a le v d key = let r = past v d key in then_below a r.0.0 d (IsAtMost_trans a c r.0.0 le (no_less r.0 r.1)) r.2
 
-    -- two paths that together cost no more than c
-    module _ (m : ℕ) (ups downs : List Leg) (rise : IsUpwardPath H.up s m ups) (fall : IsUpwardPath H.down t m downs) (light : c.weight ≤ MOST_WEIGHT)
-        (le : IsAtMost (cost_sum (path_cost ups) (path_cost downs)) c) where
-      -- no idle node lies on the path from s
-      pub avoids_up : AvoidsIdle H.up (IdleUp g s) m (path_cost ups)
-      avoids_up x e legs idle path low =
-          let walk = IsWalkCost-cost_sum g s x t idle.0 _ idle.1 (IsWalkCost-cost_sum g x m t _ _ (k.rises x m legs path) (k.falls t m downs fall)) in
-          let ge = IsLeast-IsAtMost g s t c _ l walk in
-          let less : IsBelow (cost_sum idle.0 (cost_sum (path_cost legs) (path_cost downs))) (cost_sum e (cost_sum (path_cost legs) (path_cost downs))) = below_sum idle.0 e _ idle.2 in
-          let sum : IsAtMost (cost_sum (cost_sum e (path_cost legs)) (path_cost downs)) (cost_sum (path_cost ups) (path_cost downs)) =
-          IsAtMost-cost_sum _ (path_cost ups) (path_cost downs) (path_cost downs) low (IsAtMost_refl (path_cost downs)) in
-          let sum' : IsAtMost (cost_sum e (cost_sum (path_cost legs) (path_cost downs))) c =
-          subst (λ q. IsAtMost q c) (cost_sum_assoc e (path_cost legs) (path_cost downs)) (IsAtMost_trans (cost_sum (cost_sum e (path_cost legs)) (path_cost downs)) _ c sum le) in
-          IsBelow_not _ c (below_then _ _ c less sum') ge
+    -- a path up and one down that cost as much
+    module _ (m : ℕ) (a b : Cost) (rise : IsUpwardCost H.up x.source m a) (fall : IsUpwardCost H.down y.source m b) (sum : cost_sum a b ≡ c) where
+      -- the search up has reached their end
+      pub reached_up : HasReached H x m a
+      reached_up = tight_reached H k x meeting.here meeting.stalls.0 m a (subst (λ q. IsTight H q x.source m a) (sym up) (tight_up H k x.source y.source m a b c h rise fall sum))
+          meeting.most.0 (above x.queue past_here a (subst (IsAtMost a) sum (IsAtMost-cost_sum_self a b)))
 
-      -- no idle node lies on the path from t
-      pub avoids_down : AvoidsIdle H.down (IdleDown g t) m (path_cost downs)
-      avoids_down x e legs idle path low =
-          let walk = IsWalkCost-cost_sum g s m t _ _ (k.rises s m ups rise) (IsWalkCost-cost_sum g m x t _ idle.0 (k.falls x m legs path) idle.1) in
-          let ge = IsLeast-IsAtMost g s t c _ l walk in
-          let swap : cost_sum (path_cost ups) (cost_sum (path_cost legs) idle.0) ≡ cost_sum idle.0 (cost_sum (path_cost legs) (path_cost ups)) = same_costs _ _ (omega arith) (omega arith) in
-          let less : IsBelow (cost_sum idle.0 (cost_sum (path_cost legs) (path_cost ups))) (cost_sum e (cost_sum (path_cost legs) (path_cost ups))) = below_sum idle.0 e _ idle.2 in
-          let sum : IsAtMost (cost_sum (path_cost ups) (cost_sum e (path_cost legs))) (cost_sum (path_cost ups) (path_cost downs)) =
-          IsAtMost-cost_sum (path_cost ups) (path_cost ups) _ (path_cost downs) (IsAtMost_refl (path_cost ups)) low in
-          let swap' : cost_sum (path_cost ups) (cost_sum e (path_cost legs)) ≡ cost_sum e (cost_sum (path_cost legs) (path_cost ups)) = same_costs _ _ (omega arith) (omega arith) in
-          let sum' : IsAtMost (cost_sum e (cost_sum (path_cost legs) (path_cost ups))) c =
-          subst (λ q. IsAtMost q c) swap' (IsAtMost_trans (cost_sum (path_cost ups) (cost_sum e (path_cost legs))) _ c sum le) in
-          IsBelow_not _ c (below_then _ _ c less sum') (subst (IsAtMost c) swap ge)
+      -- and so has the search down
+      pub reached_down : HasReached H y m b
+      reached_down = tight_reached H k y meeting.there meeting.stalls.1 m b (subst (λ q. IsTight H q y.source m b) (sym down) (tight_down H k x.source y.source m a b c h rise fall sum))
+          meeting.most.1 (above y.queue past_there b (subst (IsAtMost b) (cost_sum_comm b a ∙ sum) (IsAtMost-cost_sum_self b a)))
 
-      -- the path from s costs at most c
-      pub low_up : IsAtMost (path_cost ups) c
-      low_up = IsAtMost_trans (path_cost ups) (cost_sum (path_cost ups) (path_cost downs)) c (IsAtMost-cost_sum_self (path_cost ups) _) le
+    -- so c is known, at a node no later than that of any least meeting
+    known : (m : ℕ) → IsMeeting H x.source y.source m c → (e : Cost × ℕ) × (least ≡ Some e) × (e.0 ≡ c) × (e.1 ≤ m)
+    known m (a, b, rise, fall, sum) =
+        let from = least_reached H.up x.source m a rise in
+        let to = least_reached H.down y.source m b fall in
+        let r = meeting.seen m a b (reached_settled H x m a (reached_up m a b from to sum)) (reached_settled H y m b (reached_down m a b from to sum)) in
+        let same : r.0.0 ≡ c = IsAtMost_antisymm r.0.0 c (subst (IsAtMost r.0.0) sum r.2.0) (no_less r.0 r.1) in
+        (r.0, r.1, same, r.2.1 (same ∙ sym sum))
 
-      -- the path from t costs at most c
-      pub low_down : IsAtMost (path_cost downs) c
-      low_down = (let a = le.0 in omega arith, λ w. let a = le.0 in let b = le.1 (omega arith) in omega arith)
-
-      -- so m is settled from s, at no more than its path costs
-      pub settled_up : (a : Cost) × IsSettled best_up queue_up m a × IsAtMost a (path_cost ups)
-      settled_up =
-          matched H.up s (IdleUp g s) best_up queue_up up m (path_cost ups) (let w = low_up.0 in omega arith) (above queue_up past_up (path_cost ups) low_up) avoids_up ups rise (IsAtMost_refl (path_cost ups))
-
-      -- and from t
-      pub settled_down : (a : Cost) × IsSettled best_down queue_down m a × IsAtMost a (path_cost downs)
-      settled_down =
-          matched H.down t (IdleDown g t) best_down queue_down down m (path_cost downs) (let w = low_down.0 in omega arith)
-          (above queue_down past_down (path_cost downs) low_down) avoids_down downs fall (IsAtMost_refl (path_cost downs))
-
-      -- so the least is c, at a node no later than m
-      tight : (e : Cost × ℕ) × (least ≡ Some e) × (e.0 ≡ c) × (e.1 ≤ m)
-      tight =
-          let a = settled_up in
-          let b = settled_down in
-          let r = seen m a.0 b.0 a.1 b.1 in
-          let sum : IsAtMost (cost_sum a.0 b.0) c = IsAtMost_trans (cost_sum a.0 b.0) _ c (IsAtMost-cost_sum a.0 (path_cost ups) b.0 (path_cost downs) a.2 b.2) le in
-          let ge = IsLeast-IsAtMost g s t c r.0.0 l (found_walks r.0 r.1) in
-          let same : r.0.0 ≡ c = IsAtMost_antisymm r.0.0 c (IsAtMost_trans r.0.0 (cost_sum a.0 b.0) c r.2.0 sum) ge in
-          let same' : cost_sum a.0 b.0 ≡ c = IsAtMost_antisymm (cost_sum a.0 b.0) c sum (IsAtMost_trans c r.0.0 (cost_sum a.0 b.0) ge r.2.0) in
-          (r.0, r.1, same, r.2.1 (same ∙ sym same'))
-
-    -- the sum that is known is a meeting of least paths
-    meets_at : (e : Cost × ℕ) → least ≡ Some e → e.0 ≡ c → IsMeeting H s t e.1 c
-    meets_at e is same =
-        let f = found e is in
-        let sum : cost_sum f.0 f.1 ≡ c = f.4 ∙ same in (
-          f.0,
-          f.1,
-          record {
-            path = f.2.path;
-            weight = f.2.weight;
-            least = λ legs path light.
-                let walk = IsWalkCost-cost_sum g s e.1 t _ f.1 (k.rises s e.1 legs path) (reached_down g H k t e.1 f.1 f.3) in
-                cost_sum_cancel_right f.0 (path_cost legs) f.1 (subst (λ q. IsAtMost q (cost_sum (path_cost legs) f.1)) (sym sum) (IsLeast-IsAtMost g s t c _ l walk));
-          },
-          record {
-            path = f.3.path;
-            weight = f.3.weight;
-            least = λ legs path light.
-                let walk = IsWalkCost-cost_sum g s e.1 t f.0 _ (reached_up g H k s e.1 f.0 f.2) (k.falls t e.1 legs path) in
-                cost_sum_cancel_left f.1 (path_cost legs) f.0 (subst (λ q. IsAtMost q (cost_sum f.0 (path_cost legs))) (sym sum) (IsLeast-IsAtMost g s t c _ l walk));
-          },
-          sum,
-        )
-
-    -- so the least sum is at the meet
-    pub least_found : (e : Cost × ℕ) × (least ≡ Some e) × IsMeet H s t e.1 c × (e.0 ≡ c)
-    least_found =
-        let w = k.meets s t c l in
-        let light = w.6 in
-        let r = tight w.0 w.1 w.2 w.3 w.4 light w.5 in (
+    -- and what is known is the meet
+    meet_found : (e : Cost × ℕ) × (least ≡ Some e) × IsMeet H x.source y.source e.1 e.0
+    meet_found =
+        let r = known h.meets.0 h.meets.1 in
+        let f = found r.0 r.1 in
+        let sum = f.4 ∙ r.2 in
+        let from = tight_up H k x.source y.source r.0.1 f.0 f.1 c h f.2 f.3 sum in
+        let to = tight_down H k x.source y.source r.0.1 f.0 f.1 c h f.2 f.3 sum in (
           r.0,
           r.1,
-          record {
-            meets = meets_at r.0 r.1 r.2;
-            least = λ n d h. (
-              IsLeast-IsAtMost g s t c d l (meeting_walks g H k s t n d h),
+          subst (IsMeet H x.source y.source r.0.1) (sym r.2) (record {
+            meets = (f.0, f.1, from.0, to.0, sum);
+            least = λ n d there. (
+              h.least n d there,
               λ same.
-                  let sum : cost_sum (path_cost h.2.path.0) (path_cost h.3.path.0) ≡ c =
-                  ap (λ q. cost_sum q (path_cost h.3.path.0)) h.2.path.2 ∙ ap (cost_sum h.0) h.3.path.2 ∙ h.4 ∙ same in
-                  let more = tight n h.2.path.0 h.3.path.0 h.2.path.1 h.3.path.1 light (subst (λ q. IsAtMost q c) (sym sum) (IsAtMost_refl c)) in
-                  let is : r.0 ≡ more.0 = same_Some _ _ (sym r.1 ∙ more.1) in
-                  subst (λ (q : Cost × ℕ). q.1 ≤ n) (sym is) more.3,
+                  let other = known n (subst (IsMeeting H x.source y.source n) same there) in
+                  subst (λ (q : Cost × ℕ). q.1 ≤ n) (same_Some _ _ (sym other.1 ∙ r.1)) other.3,
             );
-          },
-          r.2,
+          }),
         )
 
-  -- what is known is the meet
-  pub end_some : (e : Cost × ℕ) → least ≡ Some e → IsMeet H s t e.1 e.0
-  end_some e is = elim (k.decided s t) [
+  -- where there is no walk, nothing is known
+  nothing_found : IsUnreachable k.0 x.source y.source → (o : Option (Cost × ℕ)) → least ≡ o →
+      MatchOption o (NeverMeets H x.source y.source) (λ e. IsMeet H x.source y.source e.1 e.0)
+  nothing_found none None is = (law.never x.source y.source).0 none
+  nothing_found none (Some e) is = let w = found_walks e is in absurd (none w.0 w.1)
+
+  -- what is known is the meet, and where there is none no node is reached from both
+  meeting_least : MatchOption least (NeverMeets H x.source y.source) (λ e. IsMeet H x.source y.source e.1 e.0)
+  meeting_least = elim (IsLeast-decided k.0 x.source y.source) [
     | inl some ↦
-        let r = least_found some.0 some.1 in
-        let same : r.0 ≡ e = same_Some _ _ (sym r.1 ∙ is) in
-        subst (λ (q : Cost × ℕ). IsMeet H s t q.1 q.0) same (subst (IsMeet H s t r.0.1) (sym r.3) r.2)
-    | inr none ↦ let w = found_walks e is in absurd (none w.0 w.1)
+        let r = meet_found some.0 ((law.least x.source y.source some.0).0 some.1) in
+        subst (λ o. MatchOption o (NeverMeets H x.source y.source) (λ e. IsMeet H x.source y.source e.1 e.0)) (sym r.1) r.2
+    | inr none ↦ nothing_found none least refl
   ]
 
-  -- where nothing is known there is no meeting
-  pub end_none : least ≡ None → NeverMeets H s t
-  end_none is n d h = elim (k.decided s t) [
-    | inl some ↦ let r = least_found some.0 some.1 in none-some _ (sym is ∙ r.1)
-    | inr none ↦ let w = meeting_walks g H k s t n d h in none w.0 w.1
-  ]
+  -- by the nodes where the searches began
+  pub meeting_between : (s t : ℕ) → x.source ≡ s → y.source ≡ t → MatchOption least (NeverMeets H s t) (λ e. IsMeet H s t e.1 e.0)
+  meeting_between s t from to =
+      subst (λ q. MatchOption least (NeverMeets H s q) (λ e. IsMeet H s q e.1 e.0)) to
+      (subst (λ q. MatchOption least (NeverMeets H q y.source) (λ e. IsMeet H q y.source e.1 e.0)) from meeting_least)

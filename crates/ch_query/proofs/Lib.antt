@@ -2,6 +2,7 @@ pub mod PathLaws
 pub mod Steps
 pub mod Parents
 pub mod End
+pub mod TightNodes
 pub mod LeastMeeting
 pub mod Touched
 pub mod Expanding
@@ -9,7 +10,6 @@ pub mod Popping
 pub mod Spreads
 pub mod Stalling
 pub mod MeetingSteps
-pub mod MeetingEnd
 pub mod Distances
 pub mod SharedSums
 pub mod SearchSpaces
@@ -18,7 +18,6 @@ pub mod RowSearch
 pub mod PendingLegs
 pub mod UnpackingSteps
 pub mod DescentSteps
-pub mod MeetReached
 pub mod RouteArcs
 pub mod RouteAnswers
 pub mod DescentLaws

@@ -3,7 +3,6 @@ use Rattle.std.proofs.Common.{◌≡◌, ℕ, ◌+◌, ◌<◌, ◌≤◌, List,
 use Rattle.std.specs.Prelude.{◌⊎◌, ◌≢◌, slice_index}
 use Rattle.std.proofs.lemmas.Bool.{cases_eq}
 use Rattle.std.proofs.lemmas.Option.{same_Some, none-some}
-use Rattle.ch_graph.specs.declared.limits.TheConstants.{MOST_WEIGHT}
 use Rattle.ch_graph.specs.declared.cost.Cost.{Cost}
 use Rattle.ch_graph.specs.Cost.{IsAtMost, IsBelow, cost_sum, cost_at}
 use Rattle.ch_contract.specs.declared.leg.Leg.{Leg}
@@ -16,7 +15,7 @@ use Rattle.ch_graph.proofs.CostSums.{cost_sum_assoc, IsAtMost-cost_sum, IsAtMost
 use Rattle.ch_contract.proofs.theory.LegPaths.{path_cost-cons, path_cost-append}
 use Rattle.ch_query.proofs.PathLaws.{then_below, cost_push, path_push}
 use Rattle.ch_query.proofs.Steps.{popped_settled, popped_stays, lowered_settled, lowered_stays}
-use Rattle.ch_query.proofs.End.{matched}
+use Rattle.ch_query.proofs.End.{least_reached, reached_no_less, settled_least}
 
 -- taking the least out of the queue
 module _ {most : ℕ} (rows : List (List Leg)) (s : ℕ) (Idle : ℕ → Cost → Type 0) (best queue : List (Option Cost)) (parents : List ℕ) (p : IsSearch most rows s Idle best queue)
@@ -193,10 +192,7 @@ avoids_inner rows Idle w m b c tail path le avoids y e legs idle p low =
 
 -- two least costs are equal
 pub least_same : (rows : List (List Leg)) (a x : ℕ) (d e : Cost) → IsLeastUpwardPath rows a x d → IsLeastUpwardPath rows a x e → d ≡ e
-least_same rows a x d e h k = IsAtMost_antisymm d e (half d e h k) (half e d k h)
-  where
-    half : (d e : Cost) → IsLeastUpwardPath rows a x d → IsLeastUpwardPath rows a x e → IsAtMost d e
-    half d e h k = subst (IsAtMost d) k.path.2 (h.least k.path.0 k.path.1 (subst (λ (q : Cost). q.weight ≤ MOST_WEIGHT) (sym k.path.2) k.weight))
+least_same rows a x d e h k = IsAtMost_antisymm d e (reached_no_less rows a x d e h (least_reached rows a x e k)) (reached_no_less rows a x e d k (least_reached rows a x d h))
 
 module _ {most : ℕ} (rows : List (List Leg)) (s : ℕ) (Idle : ℕ → Cost → Type 0) (best queue : List (Option Cost)) (parents : List ℕ) (p : IsSearch most rows s Idle best queue)
     (a : AreParents most rows s Idle best queue parents)
@@ -243,16 +239,11 @@ module _ {most : ℕ} (rows : List (List Leg)) (s : ℕ) (Idle : ℕ → Cost �
             ap (cost_sum b) (path_cost-cons k tail) ∙ sym (cost_sum_assoc b k.cost (path_cost tail)) ∙ ap (λ z. cost_sum z (path_cost tail)) is in
             let low : IsAtMost (cost_sum b (path_cost (k ∷ tail))) c = subst (λ z. IsAtMost z c) (sym total) le in
             let under : IsAtMost b c = IsAtMost_trans b (cost_sum b (path_cost (k ∷ tail))) c (IsAtMost-cost_sum_self b (path_cost (k ∷ tail))) low in
-            let r = matched rows s Idle best queue p w b (let w = under.0 in omega arith) (λ y d key. then_below b c d under (past y d key)) (avoids_inner rows Idle w m b c (k ∷ tail) on low avoids)
-            last.3.path.0 last.3.path.1 (subst (λ z. IsAtMost z b) (sym last.3.path.2) (IsAtMost_refl b)) in
-            let rb : IsAtMost r.0 b = subst (IsAtMost r.0) last.3.path.2 r.2 in
-            let sound = p.sound w r.0 r.1.0 in
-            let br : IsAtMost b r.0 = subst (IsAtMost b) sound.path.2 (last.3.least sound.path.0 sound.path.1 (subst (λ (z : Cost). z.weight ≤ MOST_WEIGHT) (sym sound.path.2) sound.weight)) in
-            let same : r.0 ≡ b = IsAtMost_antisymm r.0 b rb br in
-            elim (a.first w r.0 r.1) [
-              | inl idle ↦ absurd (avoids w r.0 (k ∷ tail) idle on (subst (λ z. IsAtMost (cost_sum z (path_cost (k ∷ tail))) c) (sym same) low))
-              | inr legs ↦ subst (λ z. slice_index parents z ≤ w) last.1 (legs k last.0
-                  (let t = p.light x e known in let w = ap (λ (z : Cost). z.weight) (ap (λ z. cost_sum z k.cost) same ∙ is) in omega arith)
-                  (ap (cost_at best) last.1 ∙ known ∙ ap Some (sym is ∙ ap (λ z. cost_sum z k.cost) (sym same))))
+            let settled = settled_least rows s Idle best queue p w b (let w = under.0 in omega arith) (λ y d key. then_below b c d under (past y d key))
+            (avoids_inner rows Idle w m b c (k ∷ tail) on low avoids) last.3 in
+            elim (a.first w b settled) [
+              | inl idle ↦ absurd (avoids w b (k ∷ tail) idle on low)
+              | inr legs ↦ subst (λ z. slice_index parents z ≤ w) last.1 (legs k last.0 (let t = p.light x e known in let w = ap (λ (z : Cost). z.weight) is in omega arith)
+                  (ap (cost_at best) last.1 ∙ known ∙ ap Some (sym is)))
             ];
       }

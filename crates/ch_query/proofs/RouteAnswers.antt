@@ -21,7 +21,9 @@ use Rattle.ch_query.specs.Meeting.{AreMeeting}
 use Rattle.ch_query.specs.Routes.{IsRoute, IsRouteBy}
 use Rattle.ch_query.specs.Descents.{HasReached, HasReachedWithRoom, IsTraced}
 use Rattle.ch_query.specs.Unpacking.{ArePending, pending_arcs, HasRoomToUnpack}
-use Rattle.ch_query.proofs.MeetReached.{cost_up, cost_down, cost_both, reached_up, reached_down}
+use Rattle.ch_query.proofs.Distances.{meet_is_least}
+use Rattle.ch_query.proofs.End.{least_reached}
+use Rattle.ch_query.proofs.LeastMeeting.{reached_up, reached_down}
 use Rattle.ch_query.proofs.PendingLegs.{pending_few}
 use Rattle.ch_query.proofs.RouteArcs.{traced_pending, traced_arcs, turned_pending, turned_arcs}
 use Rattle.ch_query.proofs.RouteWalks.{route_least_walk}
@@ -67,22 +69,24 @@ module _ (H : LevelsAndLegs) (k : IsKeptForSome H) (x y : Search) (m : ℕ) (c :
     (past : IsPast x.queue (Some (c, m)) × IsPast y.queue (Some (c, m))) (sides : (x.side ≡ Up) × (y.side ≡ Down)) (meet : IsMeet H x.source y.source m c)
     (start : Vec PendingLeg Global) (none : start.items ≡ []) (len : vec_len start ≡ 0) (exact : vec_capacity start ≡ c.arcs) where
   up : Cost
-  up = cost_up k.0 H k.1 k.2 x y m c meeting past.0 past.1 sides.0 sides.1 meet
+  up = meet.meets.0
 
   down : Cost
-  down = cost_down k.0 H k.1 k.2 x y m c meeting past.0 past.1 sides.0 sides.1 meet
+  down = meet.meets.1
 
   both : up.arcs + down.arcs ≡ c.arcs
   unfolding up down
-  both = ap (λ (q : Cost). q.arcs) (cost_both k.0 H k.1 k.2 x y m c meeting past.0 past.1 sides.0 sides.1 meet)
+  both = ap (λ (q : Cost). q.arcs) meet.meets.4
 
   up_reached : HasReached H x m up
   unfolding up
-  up_reached = reached_up k.0 H k.1 k.2 x y m c meeting past.0 past.1 sides.0 sides.1 meet
+  up_reached = reached_up H k x y (Some (c, m)) meeting sides.0 sides.1 past.0 past.1 c (meet_is_least H x.source y.source m c meet) m meet.meets.0 meet.meets.1
+      (least_reached H.up x.source m meet.meets.0 meet.meets.2) (least_reached H.down y.source m meet.meets.1 meet.meets.3) meet.meets.4
 
   down_reached : HasReached H y m down
   unfolding down
-  down_reached = reached_down k.0 H k.1 k.2 x y m c meeting past.0 past.1 sides.0 sides.1 meet
+  down_reached = reached_down H k x y (Some (c, m)) meeting sides.0 sides.1 past.0 past.1 c (meet_is_least H x.source y.source m c meet) m meet.meets.0 meet.meets.1
+      (least_reached H.up x.source m meet.meets.0 meet.meets.2) (least_reached H.down y.source m meet.meets.1 meet.meets.3) meet.meets.4
 
   -- there is room for the way back to the end
   pub room_down : HasReachedWithRoom H y m start

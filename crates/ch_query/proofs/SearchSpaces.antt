@@ -27,47 +27,9 @@ use Rattle.ch_query.specs.Search.{IsSettled, IsSearch, IsLeastKey, IsStalled, Av
 use Rattle.ch_query.specs.SearchSpace.{IsTight, IsSearchSpace}
 use Rattle.ch_query.specs.Side.{rows_of, other}
 use Rattle.ch_query.specs.Underway.{back_of, idle_of, IsSameSearch, IsUnderway, KeepsSettled, AreUnstalled, AreWeights}
-use Rattle.ch_query.proofs.End.{matched, reached_least}
-use Rattle.ch_query.proofs.MeetingEnd.{idle_up, idle_down}
-use Rattle.ch_query.proofs.PathLaws.{below_then, below_sum}
 use Rattle.ch_query.proofs.Popping.{with_queue, key_within}
 use Rattle.ch_query.proofs.Steps.{popped_settled, popped_stays, popped_here}
-
--- no node at which the search stalls lies on a path to a tight node at its least cost
-pub tight_avoids : (H : LevelsAndLegs) → IsKeptForSome H → (side : Side) (s m : ℕ) (c : Cost) → IsTight H side s m c →
-    AvoidsIdle (rows_of H side) (IsStalled (rows_of H side) (rows_of H (other side)) s) m c
-tight_avoids H k Up s m c tight x e legs idle path le =
-    let walks = kept_has_walks k.0 H k.1 k.2 in
-    let least : IsLeast k.0 s m c = ((meetings_are_distances k.0 H k.1 k.2).least s m c).1 tight.1 in
-    let cheaper = idle_up k.0 H walks s x e idle in
-    let walk = IsWalkCost-cost_sum k.0 s x m cheaper.0 (path_cost legs) cheaper.1 (walks.rises x m legs path) in
-    let less = below_then _ _ c (below_sum cheaper.0 e (path_cost legs) cheaper.2) le in
-    IsBelow_not (cost_sum cheaper.0 (path_cost legs)) c less (IsLeast-IsAtMost k.0 s m c _ least walk)
-tight_avoids H k Down s m c tight x e legs idle path le =
-    let walks = kept_has_walks k.0 H k.1 k.2 in
-    let least : IsLeast k.0 m s c = ((meetings_are_distances k.0 H k.1 k.2).least m s c).1 tight.1 in
-    let cheaper = idle_down k.0 H walks s x e idle in
-    let walk = IsWalkCost-cost_sum k.0 m x s (path_cost legs) cheaper.0 (walks.falls x m legs path) cheaper.1 in
-    let less = below_then _ _ c (below_sum cheaper.0 e (path_cost legs) cheaper.2) le in
-    IsBelow_not (cost_sum cheaper.0 (path_cost legs)) c less (subst (IsAtMost c) (cost_sum_comm (path_cost legs) cheaper.0) (IsLeast-IsAtMost k.0 m s c _ least walk))
-
--- the cost of a tight node is that of a least upward path
-pub tight_least : (H : LevelsAndLegs) (side : Side) (s m : ℕ) (c : Cost) → IsTight H side s m c → IsLeastUpwardPath (rows_of H side) s m c
-tight_least H Up s m c tight = tight.0
-tight_least H Down s m c tight = tight.0
-
--- a search at its end, and a node whose least paths avoid idle nodes
-module _ {most : ℕ} (rows : List (List Leg)) (s : ℕ) (Idle : ℕ → Cost → Type 0) (best queue : List (Option Cost)) (p : IsSearch most rows s Idle best queue) (done : IsEmpty queue)
-    (m : ℕ) (c : Cost) (l : IsLeastUpwardPath rows s m c) (low : c.weight ≤ most) (avoids : AvoidsIdle rows Idle m c) where
-  -- the node is settled at its least cost
-  pub end_settled : IsSettled best queue m c
-  end_settled =
-      let r = matched rows s Idle best queue p m c low (λ x d e. absurd (done x d e)) avoids l.path.0 l.path.1 (subst (λ q. IsAtMost q c) (sym l.path.2) (IsAtMost_refl c)) in
-      subst (IsSettled best queue m) (reached_least rows s m c r.0 l (p.sound m r.0 r.1.0) (subst (IsAtMost r.0) l.path.2 r.2)) r.1
-
-  -- and is not idle there
-  pub end_not_idle : Idle m c → ⊥
-  end_not_idle idle = avoids m c [] idle refl (subst (λ q. IsAtMost q c) (sym (cost_sum-no_cost c)) (IsAtMost_refl c))
+use Rattle.ch_query.proofs.TightNodes.{tight_least, tight_not_idle, tight_settled}
 
 -- no node is settled yet
 pub unstalled_none : (H : LevelsAndLegs) (x : Search) → IsFresh x → AreUnstalled H x []
@@ -184,11 +146,6 @@ module _ (best : List (Option Cost)) (nodes : List ℕ) (rises : AllPairs (λ a 
 -- a search that ended, and stalls
 module _ (H : LevelsAndLegs) (k : IsKeptForSome H) (x : Search) (u : IsUnderway H x) (on : x.stalls ≡ true) (done : IsEmpty x.queue) (limit : Option ℕ)
     (most : IsMost limit x.most) (nodes sorted : List ℕ) (a : AreUnstalled H x nodes) (p : IsPermutation nodes sorted) where
-  -- it stalls at no node on a path to a tight node at its least cost
-  avoids : (v : ℕ) (c : Cost) → IsTight H x.side x.source v c → AvoidsIdle (rows_of H x.side) (idle_of H x) v c
-  avoids v c tight = subst (λ b. AvoidsIdle (rows_of H x.side) (IsStalled (rows_of H x.side) (back_of H x.side b) x.source) v c) (sym on)
-      (tight_avoids H k x.side x.source v c tight)
-
   -- the nodes at which it did not stall have costs
   pub unstalled_known : (v : ℕ) → Contains sorted v → is_some (cost_at x.costs.items v) ≡ true
   unstalled_known v h = let s = a.settled v (Contains-permutation sorted nodes v (IsPermutation-sym nodes sorted p) h) in ap is_some s.1.0
@@ -199,11 +156,10 @@ module _ (H : LevelsAndLegs) (k : IsKeptForSome H) (x : Search) (u : IsUnderway 
     order = w.order;
     sound = λ v y h. let s = w.sound v y h in ((s.1, u.search.sound v s.1 s.2, s.3), subst (IsWithin limit) s.3 (most.sound s.1.weight (u.search.light v s.1 s.2)));
     whole = λ v c tight within.
-        let least = tight_least H x.side x.source v c tight in
-        let low = most.whole c.weight least.weight within in
-        let settled = end_settled _ _ _ _ _ u.search done v c least low (avoids v c tight) in
+        let low = most.whole c.weight (tight_least H x.side x.source v c tight).weight within in
+        let settled = tight_settled H k x u on v c tight low (λ w d key. absurd (done w d key)) in
         elim (a.whole v c settled) [
-          | inl idle ↦ absurd (end_not_idle _ _ _ _ _ u.search done v c least low (avoids v c tight) idle)
+          | inl idle ↦ absurd (tight_not_idle H k x u on v c tight idle)
           | inr has ↦ w.whole v c (Contains-permutation nodes sorted v p has) settled.0
         ];
   }

@@ -6,7 +6,7 @@ use Rattle.ch_graph.specs.Cost.{cost_sum}
 use Rattle.ch_graph.specs.Graph.{Network}
 use Rattle.ch_graph.specs.Walk.{IsLeast}
 use Rattle.ch_graph.specs.WalkLaws.{IsWalkCost}
-use Rattle.ch_graph.proofs.WalkCosts.{IsWalkCost-cost_sum, IsLeast-IsAtMost, IsLeast-front, IsLeast-back}
+use Rattle.ch_graph.proofs.WalkCosts.{IsLeast-IsAtMost}
 use Rattle.ch_contract.specs.Hierarchy.{LevelsAndLegs}
 use Rattle.ch_contract.specs.Paths.{NeverMeets}
 use Rattle.ch_contract.specs.KeptLaws.{HasWalks, IsLeastMeeting, MeetingsAreDistances}
@@ -17,7 +17,8 @@ use Rattle.ch_query.specs.Limits.{IsWithin, IsCut, IsDistanceWithin}
 use Rattle.ch_query.specs.SearchSpace.{IsPathWeight, IsTight, IsSearchSpace}
 use Rattle.ch_query.specs.SearchSpaceLaws.{IsLeastSharedSum}
 use Rattle.ch_query.proofs.Distances.{weight_is_distance}
-use Rattle.ch_query.proofs.LeastMeeting.{reached_up, reached_down, least_reached}
+use Rattle.ch_query.proofs.End.{least_reached}
+use Rattle.ch_query.proofs.TightNodes.{sum_walk, tight_up, tight_down}
 
 -- x is the sum of the weights that P and Q say of one node
 abbrev pub IsNodeSum : (ℕ → ℕ → Type 0) → (ℕ → ℕ → Type 0) → ℕ → Type 0
@@ -48,11 +49,12 @@ module _ (H : LevelsAndLegs) (k : IsKeptForSome H) (limit : Option ℕ) (s t : �
 
   -- a sum is the weight of a walk
   sum_walks : (x : ℕ) → IsNodeSum P Q x → (d : Cost) × IsWalkCost g s t d × (d.weight ≡ x)
+  unfolding g
   sum_walks x h =
       let up = (up_sound h.0 h.1 h.3).0 in
       let down = (down_sound h.0 h.2 h.4).0 in (
         cost_sum up.0 down.0,
-        IsWalkCost-cost_sum g s h.0 t up.0 down.0 (reached_up g H walks s h.0 up.0 up.1) (reached_down g H walks t h.0 down.0 down.1),
+        sum_walk H k s t h.0 up.0 down.0 up.1 down.1,
         (let a = up.2 in let b = down.2 in let e = h.5 in omega arith),
       )
 
@@ -79,14 +81,13 @@ module _ (H : LevelsAndLegs) (k : IsKeptForSome H) (limit : Option ℕ) (s t : �
       let up = h.meets.1.2 in
       let down = h.meets.1.3 in
       let sum : a.weight + b.weight ≡ c.weight = ap (λ (q : Cost). q.weight) h.meets.1.4 in
-      let whole : IsLeast g s t (cost_sum a b) = subst (IsLeast g s t) (sym h.meets.1.4) ((law.least s t c).1 h) in
-      let rise = reached_up g H walks s m a (least_reached H.up s m a up) in
-      let fall = reached_down g H walks t m b (least_reached H.down t m b down) in (
+      let from = least_reached H.up s m a up in
+      let to = least_reached H.down t m b down in (
         m,
         a.weight,
         b.weight,
-        up_whole m a (up, (law.least s m a).0 (IsLeast-front g s m t a b whole rise fall)) (within_less limit a.weight c.weight (omega arith) low),
-        down_whole m b (down, (law.least m t b).0 (IsLeast-back g s m t a b whole rise fall)) (within_less limit b.weight c.weight (omega arith) low),
+        up_whole m a (tight_up H k s t m a b c h from to h.meets.1.4) (within_less limit a.weight c.weight (omega arith) low),
+        down_whole m b (tight_down H k s t m a b c h from to h.meets.1.4) (within_less limit b.weight c.weight (omega arith) low),
         sum,
       )
 

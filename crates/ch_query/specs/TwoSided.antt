@@ -2,18 +2,8 @@
 use Rattle.std.specs.Prelude.{◌≡◌, ℕ, ◌≤◌, List, Option, Some}
 use Rattle.ch_graph.specs.declared.cost.Cost.{Cost}
 use Rattle.ch_graph.specs.Cost.{IsAtMost, IsBelow, cost_sum, cost_at}
-use Rattle.ch_graph.specs.Graph.{Network}
-use Rattle.ch_graph.specs.WalkLaws.{IsWalkCost}
 use Rattle.ch_contract.specs.Hierarchy.{LevelsAndLegs}
 use Rattle.ch_query.specs.Search.{IsSettled, IsUpwardCost}
-
--- some walk from s to v costs less than c
-abbrev pub IdleUp : Network → ℕ → ℕ → Cost → Type 0
-IdleUp g s v c = (d : Cost) × IsWalkCost g s v d × IsBelow d c
-
--- some walk from v to t costs less than c
-abbrev pub IdleDown : Network → ℕ → ℕ → Cost → Type 0
-IdleDown g t v c = (d : Cost) × IsWalkCost g v t d × IsBelow d c
 
 -- of two costs at nodes the first is no more, and at equal cost its node is no later
 abbrev pub MeetsFirst : Cost × ℕ → Cost × ℕ → Type 0
