@@ -8,10 +8,12 @@ use Rattle.std.proofs.Math.Nat.{mul-le-mul_left}
 use Rattle.ch_graph.specs.declared.limits.TheConstants.{MOST_NODES, MOST_WEIGHT, MOST_PATH_ARCS}
 use Rattle.ch_graph.specs.declared.cost.Cost.{Cost}
 use Rattle.ch_graph.specs.Cost.{cost_sum, cost_at}
+use Rattle.ch_graph.proofs.CostSums.{cost_sum-no_cost}
 use Rattle.ch_contract.specs.declared.leg.Leg.{Leg}
 use Rattle.ch_contract.specs.Rows.{row}
 use Rattle.ch_contract.specs.Hierarchy.{LevelsAndLegs, nodes_of, IsLevelled, IsLegUp}
 use Rattle.ch_contract.specs.Paths.{path_cost}
+use Rattle.ch_contract.proofs.theory.LegPaths.{path_cost-cons}
 use Rattle.ch_query.specs.declared.side.Side.{Side}
 use Rattle.ch_query.specs.declared.side.Side.TheVariants.{Up, Down}
 use Rattle.ch_query.specs.declared.search.Search.{Search}
@@ -27,6 +29,10 @@ use Rattle.ch_query.proofs.Steps.{lowered, lowered_settled, lowered_stays, lower
 pub leg_up : (H : LevelsAndLegs) → IsLevelled H → (side : Side) (v : ℕ) (l : Leg) → Contains (row (rows_of H side) v) l → IsLegUp H v l
 leg_up H k Up v l has = All-contains (IsLegUp H v) (row H.up v) l (k.up.1 v).1 has
 leg_up H k Down v l has = All-contains (IsLegUp H v) (row H.down v) l (k.down.1 v).1 has
+
+-- so it is a path
+pub reached_by_leg : (H : LevelsAndLegs) → IsLevelled H → (side : Side) (v : ℕ) (l : Leg) → Contains (row (rows_of H side) v) l → IsUpwardCost (rows_of H side) v l.node l.cost
+reached_by_leg H k side v l h = record { path = (l ∷ [], (h, refl), path_cost-cons l [] ∙ cost_sum-no_cost l.cost); weight = (leg_up H k side v l h).weight }
 
 -- there is a row for each node
 pub rows_size : (H : LevelsAndLegs) → IsLevelled H → (side : Side) → length (rows_of H side) ≡ nodes_of H
@@ -84,7 +90,7 @@ moved_parents H y z best queue parents v same e f g x =
     (subst (λ q. ParentsOf H y.most y.side y.source y.stalls best queue q v) (sym g) x))))))
 
 -- what stays the same twice stays the same
-same_then : (x y z : Search) → IsSameSearch x y → IsSameSearch y z → IsSameSearch x z
+pub same_then : (x y z : Search) → IsSameSearch x y → IsSameSearch y z → IsSameSearch x z
 same_then x y z a b = record { side = b.side ∙ a.side; source = b.source ∙ a.source; stalls = b.stalls ∙ a.stalls; most = b.most ∙ a.most }
 
 -- a leg that is taken by one of two equal searches is taken by the other

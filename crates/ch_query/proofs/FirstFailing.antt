@@ -1,8 +1,8 @@
 -- Lists gone through in order.
 use Rattle.std.proofs.Common.{get_or, ◌≡◌, ℕ, ◌+◌, ◌<◌, ◌≤◌, ◌⊎◌, List, length, Contains, All, refl, sym, ◌∙◌, subst, arith, inl, inr}
-use Rattle.std.specs.Prelude.{slice_get, Some}
+use Rattle.std.specs.Prelude.{slice_get, Some, ◌↔◌, false, IsTrue}
 use Rattle.std.proofs.lemmas.List.{get_or_default}
-use Rattle.std.proofs.lemmas.Bool.{cases_lt}
+use Rattle.std.proofs.lemmas.Bool.{cases_lt, false≢true}
 use Rattle.std.proofs.lemmas.Option.{get_or_from_slice_get}
 use Rattle.ch_contract.specs.Assembling.{IsFirstFailing}
 
@@ -22,9 +22,9 @@ module _ {X : Type 0} (P : X → Type 0) (xs : List X) where
   pub all_hold : (i : ℕ) → length xs ≤ i → ((j : ℕ) (d : X) → j < i → P (get_or xs j d)) → All P xs
   all_hold i past before = λ j d lt. before j d (omega arith)
 
-  -- the element at this place fails
-  pub first_failing : (i : ℕ) (e : X) → i < length xs → (P (get_or xs i e) → ⊥) → ((j : ℕ) (d : X) → j < i → P (get_or xs j d)) → IsFirstFailing P xs i
-  first_failing i e lt bad before = record { within = lt; fails = λ d h. bad (subst P (get_or_default xs i d e lt) h); before = before }
+  -- the element at this place was judged, and fails
+  pub first_failing : (i : ℕ) (e : X) → ((j : ℕ) (d : X) → j < i → P (get_or xs j d)) → i < length xs → (IsTrue false ↔ P (get_or xs i e)) → IsFirstFailing P xs i
+  first_failing i e before lt tells = record { within = lt; fails = λ d h. false≢true (tells.1 (subst P (get_or_default xs i d e lt) h)); before = before }
 
   -- what stands at a place
   pub held_at : (i : ℕ) (x : X) → ((d : X) → P (get_or xs i d)) → slice_get xs i ≡ Some x → P x

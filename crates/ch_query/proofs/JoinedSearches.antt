@@ -99,7 +99,7 @@ path_short : (H : LevelsAndLegs) → IsLevelled H → (side : Side) (a b : ℕ) 
 path_short H k side a b legs p = let rise = path_rises H k side a b legs p in let small = level_small H k b in omega arith
 
 -- where a node is reached, a least path to it costs no more
-pub least_within : (H : LevelsAndLegs) → IsLevelled H → (side : Side) (s v : ℕ) (a : Cost) → IsUpwardCost (rows_of H side) s v a →
+least_within : (H : LevelsAndLegs) → IsLevelled H → (side : Side) (s v : ℕ) (a : Cost) → IsUpwardCost (rows_of H side) s v a →
     (c : Cost) × IsLeastUpwardPath (rows_of H side) s v c × IsAtMost c a
 least_within H k side s v a r = elim (decided (rows_of H side) v (nodes_of H) s (λ b legs p. path_short H k side s b legs p)) [
   | inl least ↦
@@ -109,14 +109,19 @@ least_within H k side s v a r = elim (decided (rows_of H side) v (nodes_of H) s 
   | inr never ↦ absurd (never r.path.0 r.path.1)
 ]
 
--- searches that are joined show a way within the bound
+-- where a node is reached from both ends within the bound, there is a meeting within it
+pub meeting_within : (H : LevelsAndLegs) → IsLevelled H → (s t m : ℕ) (a b most : Cost) → IsUpwardCost H.up s m a → IsUpwardCost H.down t m b → IsAtMost (cost_sum a b) most → MeetsWithin H s t most
+meeting_within H k s t m a b most up down le =
+    let rise = least_within H k Up s m a up in
+    let fall = least_within H k Down t m b down in
+    (m, cost_sum rise.0 fall.0, (rise.0, fall.0, rise.1, fall.1, refl), IsAtMost_trans _ (cost_sum a b) _ (IsAtMost-cost_sum rise.0 a fall.0 b rise.2 fall.2) le)
+
+-- so searches that are joined show a way within it
 pub joined_covers : (H : LevelsAndLegs) → IsLevelled H → (x y : Search) (s t : ℕ) (most : Cost) → x.side ≡ Up → y.side ≡ Down → x.source ≡ s → y.source ≡ t → AreJoined H x y most → MeetsWithin H s t most
 joined_covers H k x y s t most up down xs yt j =
     let a = subst (λ q. IsUpwardCost H.up q j.0 j.1) xs (subst (λ q. IsUpwardCost (rows_of H q) x.source j.0 j.1) up j.3) in
     let b = subst (λ q. IsUpwardCost H.down q j.0 j.2) yt (subst (λ q. IsUpwardCost (rows_of H q) y.source j.0 j.2) down j.4) in
-    let rise = least_within H k Up s j.0 j.1 a in
-    let fall = least_within H k Down t j.0 j.2 b in
-    (j.0, cost_sum rise.0 fall.0, (rise.0, fall.0, rise.1, fall.1, refl), IsAtMost_trans _ (cost_sum j.1 j.2) _ (IsAtMost-cost_sum rise.0 j.1 fall.0 j.2 rise.2 fall.2) j.5)
+    meeting_within H k s t j.0 j.1 j.2 most a b j.5
 
 -- a node that a search would reach within the bound is settled, where all that is left is above it
 settled_within : (H : LevelsAndLegs) (x : Search) (most : Cost) (side : Side) (s m : ℕ) (a : Cost) → IsUnderway H x → x.stalls ≡ false → x.most ≡ MOST_WEIGHT → IsPastCost x.queue most → x.side ≡ side → x.source ≡ s →

@@ -11,7 +11,9 @@ use Rattle.ch_graph.proofs.Numbers.{eqb-refl}
 use Rattle.ch_contract.specs.declared.leg.Leg.{Leg}
 use Rattle.ch_contract.specs.Hierarchy.{LevelsAndLegs, nodes_of, IsLevelled}
 use Rattle.ch_contract.specs.Kept.{IsLeg}
-use Rattle.ch_contract.specs.Rows.{row, IsRow}
+use Rattle.ch_contract.specs.Rows.{row}
+use Rattle.ch_contract.specs.Turned.{turned_hierarchy}
+use Rattle.ch_contract.proofs.theory.Turned.{turned_levelled, turned_leg}
 use Rattle.ch_query.specs.declared.side.Side.{Side}
 use Rattle.ch_query.specs.declared.side.Side.TheVariants.{Up, Down}
 use Rattle.ch_query.specs.Side.{rows_of}
@@ -46,14 +48,14 @@ pub within_none : (H : LevelsAndLegs) (u w : ℕ) (most : Cost) → IsLegCost H 
 within_none H u w most none (c, m, leg, le) = none c m leg
 
 module _ (H : LevelsAndLegs) (k : IsLevelled H) where
-  -- the leg to a higher node stands in the up row
-  pub cost_up : (u w : ℕ) → slice_index H.level u < slice_index H.level w → (legs : List Leg) → legs ≡ row H.up u → (answer : Option Cost) → IsRowCost legs w answer → IsLegCost H u w answer
-  cost_up u w lt legs is None none = λ c m leg. at leg
+  -- the leg to a node that is no lower stands in the up row
+  pub cost_up : (u w : ℕ) → slice_index H.level u ≤ slice_index H.level w → (legs : List Leg) → legs ≡ row H.up u → (answer : Option Cost) → IsRowCost legs w answer → IsLegCost H u w answer
+  cost_up u w le legs is None none = λ c m leg. at leg
     where
       at : {c : Cost} {m : Option ℕ} → IsLeg H u w c m → ⊥
       at (l, cost, middle, inl (has, node)) = none l (subst (λ xs. Contains xs l) (sym is) has) node
       at (l, cost, middle, inr (has, node)) = let rise = (leg_up H k Down w l has).higher in let e = ap (slice_index H.level) node in omega arith
-  cost_up u w lt legs is (Some c) (l, has, node, cost) = ((l.middle, (l, cost, refl, inl (here, node))), λ d m leg. at leg)
+  cost_up u w le legs is (Some c) (l, has, node, cost) = ((l.middle, (l, cost, refl, inl (here, node))), λ d m leg. at leg)
     where
       here : Contains (row H.up u) l
       here = subst (λ xs. Contains xs l) is has
@@ -63,23 +65,17 @@ module _ (H : LevelsAndLegs) (k : IsLevelled H) where
           sym xcost ∙ ap (λ (q : Leg). q.cost) (row_one (row H.up u) (rows_ordered H k Up u) x l xhas here (xnode ∙ sym node)) ∙ cost
       at (x, xcost, middle, inr (xhas, xnode)) = absurd (let rise = (leg_up H k Down w x xhas).higher in let e = ap (slice_index H.level) xnode in omega arith)
 
-  -- any other in the down row
-  pub cost_down : (u w : ℕ) → slice_index H.level w ≤ slice_index H.level u → (legs : List Leg) → legs ≡ row H.down w → (answer : Option Cost) → IsRowCost legs u answer → IsLegCost H u w answer
-  cost_down u w le legs is None none = λ c m leg. at leg
-    where
-      at : {c : Cost} {m : Option ℕ} → IsLeg H u w c m → ⊥
-      at (l, cost, middle, inr (has, node)) = none l (subst (λ xs. Contains xs l) (sym is) has) node
-      at (l, cost, middle, inl (has, node)) = let rise = (leg_up H k Up u l has).higher in let e = ap (slice_index H.level) node in omega arith
-  cost_down u w le legs is (Some c) (l, has, node, cost) = ((l.middle, (l, cost, refl, inr (here, node))), λ d m leg. at leg)
-    where
-      here : Contains (row H.down w) l
-      here = subst (λ xs. Contains xs l) is has
+-- what a leg costs, it costs the other way
+leg_cost_turned : (H : LevelsAndLegs) (u w : ℕ) (answer : Option Cost) → IsLegCost (turned_hierarchy H) w u answer → IsLegCost H u w answer
+leg_cost_turned H u w None none = λ c m leg. none c m (turned_leg H u w c m leg)
+leg_cost_turned H u w (Some c) (one, same) = ((one.0, turned_leg (turned_hierarchy H) w u c one.0 one.1), λ d m leg. same d m (turned_leg H u w d m leg))
 
-      at : {d : Cost} {m : Option ℕ} → IsLeg H u w d m → d ≡ c
-      at (x, xcost, middle, inr (xhas, xnode)) =
-          sym xcost ∙ ap (λ (q : Leg). q.cost) (row_one (row H.down w) (rows_ordered H k Down w) x l xhas here (xnode ∙ sym node)) ∙ cost
-      at (x, xcost, middle, inl (xhas, xnode)) = absurd (let rise = (leg_up H k Up u x xhas).higher in let e = ap (slice_index H.level) xnode in omega arith)
+-- the leg from a node that is no lower stands in the down row
+pub cost_down : (H : LevelsAndLegs) (k : IsLevelled H) (u w : ℕ) → slice_index H.level w ≤ slice_index H.level u → (legs : List Leg) → legs ≡ row H.down w →
+    (answer : Option Cost) → IsRowCost legs u answer → IsLegCost H u w answer
+cost_down H k u w le legs is answer cost = leg_cost_turned H u w answer (cost_up (turned_hierarchy H) (turned_levelled H k) w u le legs is answer cost)
 
+module _ (H : LevelsAndLegs) (k : IsLevelled H) where
   -- where the middle has both legs
   pub sums_over : (leg : SavedLeg) (v : ℕ) (down up : List Leg) → down ≡ row H.down v → up ≡ row H.up v → (into out : Cost) → IsRowCost down leg.from (Some into) → IsRowCost up leg.to (Some out) →
       (cost_sum into out ≡ leg.cost → IsSumOver H leg v) × (IsSumOver H leg v → cost_sum into out ≡ leg.cost)

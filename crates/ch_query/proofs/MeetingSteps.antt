@@ -1,10 +1,10 @@
 -- One side of two searches settles a node.
-use Rattle.std.proofs.Common.{◌≡◌, ℕ, ◌≤◌, List, Option, Some, None, refl, sym, ◌∙◌, ap, subst, arith, set, inl, inr}
+use Rattle.std.proofs.Common.{get_or, ◌≡◌, ℕ, ◌+◌, ◌^◌, ◌<◌, ◌≤◌, List, length, Option, Some, None, refl, sym, ◌∙◌, ap, subst, arith, set, inl, inr}
 use Rattle.std.proofs.lemmas.Option.{same_Some, none-some}
 use Rattle.ch_graph.specs.declared.limits.TheConstants.{MOST_WEIGHT, MOST_PATH_ARCS}
 use Rattle.ch_graph.specs.declared.cost.Cost.{Cost}
 use Rattle.ch_graph.specs.Cost.{IsAtMost, cost_sum, cost_at}
-use Rattle.ch_contract.specs.Hierarchy.{LevelsAndLegs}
+use Rattle.ch_contract.specs.Hierarchy.{LevelsAndLegs, nodes_of}
 use Rattle.ch_graph.proofs.CostOrder.{IsAtMost_refl, IsAtMost_trans, IsAtMost_antisymm}
 use Rattle.ch_query.specs.declared.search.Search.{Search}
 use Rattle.ch_query.specs.Search.{IsSettled, IsLeastKey, IsUpwardCost}
@@ -14,8 +14,9 @@ use Rattle.ch_query.specs.Side.{rows_of}
 use Rattle.ch_query.specs.Meeting.{IsMet, IsFoundBy, AreMeeting}
 use Rattle.ch_graph.proofs.CostSums.{cost_sum_comm}
 use Rattle.ch_query.proofs.Steps.{popped_settled}
-use Rattle.ch_query.proofs.Expanding.{reached_arcs}
+use Rattle.ch_query.proofs.Expanding.{reached_arcs, rows_size}
 use Rattle.ch_query.proofs.Popping.{with_queue, key_within}
+use Rattle.ch_query.proofs.Touched.{read}
 
 -- what comes before what comes before a third comes before it
 pub first_trans : (a b c : Cost × ℕ) → MeetsFirst a b → MeetsFirst b c → MeetsFirst a c
@@ -97,3 +98,13 @@ module _ (H : LevelsAndLegs) (x y : Search) (least : Option (Cost × ℕ)) (m : 
 -- a known cost is within the limits
 pub known_arcs : (H : LevelsAndLegs) (x : Search) (v : ℕ) (c : Cost) → IsUnderway H x → cost_at x.costs.items v ≡ Some c → (c.weight ≤ MOST_WEIGHT) × (c.arcs ≤ MOST_PATH_ARCS)
 known_arcs H x v c u known = let r = u.search.sound v c known in (r.weight, reached_arcs H u.levelled x.side x.source v c r)
+
+-- so what both sides know of a node has room for its sum, where the program reads what the other side knows
+pub both_arcs : (H : LevelsAndLegs) (y : Search) (v : ℕ) (c d : Cost) (r : Option Cost) → IsUnderway H y → v < nodes_of H → c.arcs ≤ MOST_PATH_ARCS →
+    r ≡ get_or y.costs.items v r → r ≡ Some d → c.arcs + d.arcs < 2 ^ 64
+both_arcs H y v c d r u within few is known =
+    let size = u.search.sizes.0 in
+    let rows = rows_size H u.levelled y.side in
+    let lt : v < length y.costs.items = omega arith in
+    let there = (known_arcs H y v d u (sym (read y.costs.items v r lt is) ∙ known)).1 in
+    omega arith

@@ -6,13 +6,12 @@ use Rattle.std.proofs.lemmas.List.Elements.{Contains-get_or}
 use Rattle.std.proofs.lemmas.Bool.{cases_lt, false≢true}
 use Rattle.ch_graph.specs.declared.cost.Cost.{Cost}
 use Rattle.ch_graph.specs.Cost.{IsAtMost, IsBelow, cost_sum, no_cost}
-use Rattle.ch_graph.proofs.CostOrder.{IsAtMost_trans, IsAtMost_or_IsBelow}
-use Rattle.ch_graph.proofs.CostSums.{cost_sum-no_cost, no_cost-cost_sum, IsAtMost-cost_sum}
+use Rattle.ch_graph.proofs.CostSums.{cost_sum-no_cost}
 use Rattle.ch_contract.specs.declared.leg.Leg.{Leg}
 use Rattle.ch_contract.specs.Hierarchy.{LevelsAndLegs, nodes_of, IsLevelled, IsLegUp}
 use Rattle.ch_contract.specs.Rows.{row}
-use Rattle.ch_contract.specs.Paths.{IsUpwardPath, path_cost}
-use Rattle.ch_contract.proofs.theory.LegPaths.{path_cost-cons}
+use Rattle.ch_contract.specs.Turned.{turned_hierarchy}
+use Rattle.ch_contract.proofs.theory.Turned.{turned_levelled, turned_meeting}
 use Rattle.ch_query.specs.declared.side.Side.{Side}
 use Rattle.ch_query.specs.declared.side.Side.TheVariants.{Up, Down}
 use Rattle.ch_query.specs.Search.{IsUpwardCost}
@@ -20,24 +19,13 @@ use Rattle.ch_query.specs.Side.{rows_of}
 use Rattle.ch_contract.specs.Kept.{MeetsWithin, IsCovered}
 use Rattle.ch_query.specs.Checking.{HasLeg}
 use Rattle.ch_query.specs.Covering.{IsCoveredFrom}
-use Rattle.ch_query.proofs.Expanding.{leg_up}
+use Rattle.ch_query.proofs.Expanding.{leg_up, reached_by_leg}
 use Rattle.ch_query.proofs.FirstFailing.{all_read}
-use Rattle.ch_query.proofs.JoinedSearches.{least_within}
-
--- a leg is a path
-reached_by_leg : (H : LevelsAndLegs) → IsLevelled H → (side : Side) (v : ℕ) (l : Leg) → Contains (row (rows_of H side) v) l → IsUpwardCost (rows_of H side) v l.node l.cost
-reached_by_leg H k side v l h = record { path = (l ∷ [], (h, refl), path_cost-cons l [] ∙ cost_sum-no_cost l.cost); weight = (leg_up H k side v l h).weight }
+use Rattle.ch_query.proofs.JoinedSearches.{meeting_within}
 
 -- a node is reached from itself
 reached_itself : (rows : List (List Leg)) (v : ℕ) → IsUpwardCost rows v v no_cost
 reached_itself rows v = record { path = ([], refl, refl); weight = omega arith }
-
--- where a node is reached from both ends within the bound, there is a meeting within it
-pub meeting_within : (H : LevelsAndLegs) → IsLevelled H → (s t m : ℕ) (a b most : Cost) → IsUpwardCost H.up s m a → IsUpwardCost H.down t m b → IsAtMost (cost_sum a b) most → MeetsWithin H s t most
-meeting_within H k s t m a b most up down le =
-    let rise = least_within H k Up s m a up in
-    let fall = least_within H k Down t m b down in
-    (m, cost_sum rise.0 fall.0, (rise.0, fall.0, rise.1, fall.1, refl), IsAtMost_trans _ (cost_sum a b) _ (IsAtMost-cost_sum rise.0 a fall.0 b rise.2 fall.2) le)
 
 -- a leg up within the bound covers
 pub leg_up_covers : (H : LevelsAndLegs) → IsLevelled H → (s t : ℕ) (most : Cost) → (l : Leg) → Contains (row H.up s) l → l.node ≡ t → IsAtMost l.cost most → MeetsWithin H s t most
@@ -48,8 +36,8 @@ leg_up_covers H k s t most l h e le =
 -- so does a leg down
 pub leg_down_covers : (H : LevelsAndLegs) → IsLevelled H → (s t : ℕ) (most : Cost) → (l : Leg) → Contains (row H.down t) l → l.node ≡ s → IsAtMost l.cost most → MeetsWithin H s t most
 leg_down_covers H k s t most l h e le =
-    meeting_within H k s t s no_cost l.cost most (reached_itself H.up s) (subst (λ q. IsUpwardCost H.down t q l.cost) e (reached_by_leg H k Down t l h))
-    (subst (λ q. IsAtMost q most) (sym (no_cost-cost_sum l.cost)) le)
+    let back = leg_up_covers (turned_hierarchy H) (turned_levelled H k) t s most l h e le in
+    (back.0, back.1, turned_meeting (turned_hierarchy H) t s back.0 back.1 back.2, back.3)
 
 -- the leg a and this one are covered
 abbrev pub IsPairCovered : LevelsAndLegs → Leg → Leg → Type 0

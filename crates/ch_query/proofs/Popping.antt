@@ -14,11 +14,11 @@ use Rattle.ch_queue.specs.Queue.{IsLeastEntry}
 use Rattle.ch_query.specs.declared.search.Search.{Search}
 use Rattle.ch_query.specs.Search.{IsLeastKey, IsExpanding, OrNode, unsettled}
 use Rattle.ch_query.specs.Parents.{AreParents}
-use Rattle.ch_query.specs.Underway.{idle_of, unsettled_in, IsUnderway, IsExpandingAt}
+use Rattle.ch_query.specs.Underway.{idle_of, unsettled_in, IsSameSearch, IsUnderway, IsExpandingAt}
 use Rattle.ch_query.specs.Side.{rows_of}
 use Rattle.ch_query.proofs.Steps.{popped, popped_falls}
 use Rattle.ch_query.proofs.Parents.{popped_parents}
-use Rattle.ch_query.proofs.Expanding.{rows_size}
+use Rattle.ch_query.proofs.Expanding.{rows_size, same_then}
 
 -- what comparing two costs tells, where the first is not greater
 at_most_by : (a b : Cost) (o : Ordering) → MatchOrdering o (IsBelow a b) (a ≡ b) (IsBelow b a) → is_gt o ≡ false → IsAtMost a b
@@ -37,6 +37,10 @@ key_within queue v c e = elim (cases_lt v (length queue)) [ inl lt ↦ lt | inr 
 -- the search with another queue
 abbrev pub with_queue : Search → List (Option Cost) → Search
 with_queue x q = record x { queue = q }
+
+-- a search that goes on with another queue stays the same search
+pub same_on : (x y z : Search) (q : List (Option Cost)) → IsSameSearch x y → IsSameSearch (with_queue y q) z → IsSameSearch x z
+same_on x y z q a b = same_then x (with_queue y q) z (record { side = a.side; source = a.source; stalls = a.stalls; most = a.most }) b
 
 -- a search underway whose least node leaves the queue
 module _ (H : LevelsAndLegs) (x : Search) (q : List (Option Cost)) (v : ℕ) (c : Cost) (u : IsUnderway H x) (l : IsLeastKey x.queue v c) (e : q ≡ set x.queue v None) where

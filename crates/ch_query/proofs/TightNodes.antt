@@ -1,5 +1,5 @@
 -- Tight nodes, which lie on least ways: a search that stalls reaches each of them at its least cost.
-use Rattle.std.proofs.Common.{◌≡◌, ℕ, ◌≤◌, true, List, [], ◌∷◌, refl, sym, ◌∙◌, subst, arith}
+use Rattle.std.proofs.Common.{◌≡◌, ℕ, ◌≤◌, true, [], refl, sym, ◌∙◌, subst, arith}
 use Rattle.ch_graph.specs.declared.limits.TheConstants.{MOST_WEIGHT}
 use Rattle.ch_graph.specs.declared.cost.Cost.{Cost}
 use Rattle.ch_graph.specs.Cost.{IsAtMost, cost_sum}
@@ -8,13 +8,11 @@ use Rattle.ch_graph.specs.WalkLaws.{IsWalkCost}
 use Rattle.ch_graph.proofs.CostOrder.{IsAtMost_refl, IsBelow_not}
 use Rattle.ch_graph.proofs.CostSums.{cost_sum_comm, cost_sum-no_cost}
 use Rattle.ch_graph.proofs.WalkCosts.{IsWalkCost-cost_sum, IsLeast-IsAtMost, IsLeast-front}
-use Rattle.ch_contract.specs.declared.leg.Leg.{Leg}
 use Rattle.ch_contract.specs.Hierarchy.{LevelsAndLegs}
 use Rattle.ch_contract.specs.Paths.{path_cost, IsLeastUpwardPath}
 use Rattle.ch_contract.specs.KeptLaws.{IsLeastMeeting}
 use Rattle.ch_contract.specs.Turned.{turned_graph, turned_hierarchy}
 use Rattle.ch_contract.proofs.theory.KeptWalks.{kept_has_walks, meetings_are_distances}
-use Rattle.ch_contract.proofs.theory.LegPaths.{path_cost-cons}
 use Rattle.ch_contract.proofs.theory.Turned.{walk_turned, turned_limits, turned_meeting, turned_kept}
 use Rattle.ch_query.specs.declared.side.Side.{Side}
 use Rattle.ch_query.specs.declared.side.Side.TheVariants.{Up, Down}
@@ -27,6 +25,7 @@ use Rattle.ch_query.specs.SearchSpace.{IsTight}
 use Rattle.ch_query.specs.Side.{rows_of, other}
 use Rattle.ch_query.specs.Underway.{back_of, idle_of, IsUnderway}
 use Rattle.ch_query.proofs.End.{settled_least}
+use Rattle.ch_query.proofs.Expanding.{reached_by_leg}
 use Rattle.ch_query.proofs.PathLaws.{below_then, below_sum}
 
 -- what is right for some graph is right, turned round, for the graph turned round
@@ -69,18 +68,12 @@ tight_down H k s t m a b c h up down sum =
     let back = tight_up (turned_hierarchy H) (kept_turned H k) t s m b a c (least_meeting_turned H s t c h) down up (cost_sum_comm b a ∙ sum) in
     (back.0, least_meeting_turned (turned_hierarchy H) t m b back.1)
 
--- where a search from s stalls, a walk from s costs less
-stall_walk : (H : LevelsAndLegs) (k : IsKeptForSome H) (s v : ℕ) (c : Cost) (i : IsStalled H.up H.down s v c) → IsWalkCost k.0 s v (cost_sum i.cost i.leg.cost)
-stall_walk H k s v c i =
-    let one : path_cost (i.leg ∷ []) ≡ i.leg.cost = path_cost-cons i.leg [] ∙ cost_sum-no_cost i.leg.cost in
-    let last = subst (IsWalkCost k.0 i.leg.node v) one ((kept_has_walks k.0 H k.1 k.2).falls v i.leg.node (i.leg ∷ []) (i.has, refl)) in
-    IsWalkCost-cost_sum k.0 s i.leg.node v i.cost i.leg.cost (walk_up H k s i.leg.node i.cost i.reached) last
-
--- so it stalls at no node on a path to a tight node of its least cost
+-- where a search from s stalls, a walk from s costs less; so it stalls at no node on a path to a tight node of its least cost
 up_avoids : (H : LevelsAndLegs) (k : IsKeptForSome H) (s m : ℕ) (c : Cost) → IsTight H Up s m c → AvoidsIdle H.up (IsStalled H.up H.down s) m c
 up_avoids H k s m c tight x e legs i path le =
     let cheaper = cost_sum i.cost i.leg.cost in
-    let walk = IsWalkCost-cost_sum k.0 s x m cheaper (path_cost legs) (stall_walk H k s x e i) ((kept_has_walks k.0 H k.1 k.2).rises x m legs path) in
+    let there = sum_walk H k s x i.leg.node i.cost i.leg.cost i.reached (reached_by_leg H k.2.levelled Down x i.leg i.has) in
+    let walk = IsWalkCost-cost_sum k.0 s x m cheaper (path_cost legs) there ((kept_has_walks k.0 H k.1 k.2).rises x m legs path) in
     let least = ((meetings_are_distances k.0 H k.1 k.2).least s m c).1 tight.1 in
     IsBelow_not (cost_sum cheaper (path_cost legs)) c (below_then _ _ c (below_sum cheaper e (path_cost legs) i.below) le) (IsLeast-IsAtMost k.0 s m c _ least walk)
 

@@ -1,5 +1,4 @@
-use Rattle.std.proofs.Common.{◌∙◌}
-use Rattle.ch_query.proofs.Popping.{least_key, pop_expands}
+use Rattle.ch_query.proofs.Popping.{least_key, same_on, pop_expands}
 use Rattle.ch_query.proofs.SearchSpaces.{unstalled_skips, unstalled_grows}
 use Rattle.ch_query.proofs.search.Search.explore_unstalled.Goals as goal
 
@@ -12,12 +11,7 @@ loop-cost-preserved-in-Continue-1 c =
     let after = c.settle.ensures in
     record {
       underway = after.underway;
-      same = record {
-        side = after.same.side ∙ before.same.side;
-        source = after.same.source ∙ before.same.source;
-        stalls = after.same.stalls ∙ before.same.stalls;
-        most = after.same.most ∙ before.same.most;
-      };
+      same = same_on _ _ _ _ before.same after.same;
       unstalled = unstalled_grows _ _ _ before.unstalled before.underway _ _ _ (least_key _ _ c.in-Some.ensures.least) c.in-Some.ensures.rest _ after.same after.settled after.stays
           _ c.in_ok-push.ensures.items;
     }
@@ -28,12 +22,7 @@ loop-cost-preserved c =
     let after = c.settle.ensures in
     record {
       underway = after.underway;
-      same = record {
-        side = after.same.side ∙ before.same.side;
-        source = after.same.source ∙ before.same.source;
-        stalls = after.same.stalls ∙ before.same.stalls;
-        most = after.same.most ∙ before.same.most;
-      };
+      same = same_on _ _ _ _ before.same after.same;
       unstalled = unstalled_skips _ _ _ before.unstalled before.underway _ _ _ (least_key _ _ c.in-Some.ensures.least) c.in-Some.ensures.rest _ after.same after.settled after.stays
           (after.stalled c.if-settle.false);
     }
