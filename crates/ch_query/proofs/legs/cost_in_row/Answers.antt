@@ -1,18 +1,13 @@
 use Rattle.std.proofs.Common.{rules, None, refl}
 use Rattle.std.proofs.lemmas.List.Sorted.{answers_always}
-use Rattle.ch_contract.specs.declared.leg.Leg.{Leg}
+use Rattle.ch_contract.proofs.theory.RowLemmas.{no_leg}
 use Rattle.ch_query.proofs.RowSearch.{found_leg, not_missed}
 use Rattle.ch_query.proofs.legs.cost_in_row.Goals as goal
 
--- what a read of a row past its end would give
-blank : Leg
-blank = record { node = 0; cost = record { weight = 0; arcs = 0 }; middle = None }
-
 pub returns-in-Ok : goal.returns-in-Ok
-unfolding blank
 returns-in-Ok c =
     let e = c.in-Ok.ensures in
-    let found = found_leg c.args.row.now c.args.node c.in-Ok.place blank e.bound (e.position (λ l. l.node) (answers_always _ _ _ (λ f a r g called. search rules))) in
+    let found = found_leg c.args.row.now c.args.node c.in-Ok.place no_leg e.bound (e.position (λ l. l.node) (answers_always _ _ _ (λ f a r g called. search rules))) in
     (_, found.0, found.1, refl)
 
 pub returns-in-Err : goal.returns-in-Err
