@@ -42,6 +42,11 @@ module _ (rows : List (List Leg)) (m : ℕ) where
   abbrev IsDecidedOf : List Leg → Type 0
   IsDecidedOf some = HasLeastOf some ⊎ ((k : Leg) (ks : List Leg) → Begins some k ks → ⊥)
 
+  -- a least path after l costs no more than any path that begins with l
+  with_first : (l k : Leg) (here : HasLeast l.node) (ks : List Leg) → l ≡ k → IsUpwardPath rows k.node m ks → IsAtMost (path_cost (l ∷ here.0)) (path_cost (k ∷ ks))
+  with_first l k here ks same path = subst (λ q. IsAtMost (path_cost (l ∷ here.0)) (path_cost (q ∷ ks))) same
+      (leg_before l here.0 ks (here.2 ks (subst (λ (q : Leg). IsUpwardPath rows q.node m ks) (sym same) path)))
+
   -- one leg more
   one_more : (l : Leg) (some : List Leg) → IsDecided l.node → IsDecidedOf some → IsDecidedOf (l ∷ some)
   one_more l some (inl here) (inl there) = elim (IsAtMost_or_IsBelow (path_cost (l ∷ here.0)) (path_cost (there.0 ∷ there.1))) [
@@ -50,8 +55,7 @@ module _ (rows : List (List Leg)) (m : ℕ) where
       here.0,
       (contains_head l some, here.1),
       λ k ks b. elim (contains_cons l k some b.0) [
-        | inl same ↦ subst (λ q. IsAtMost (path_cost (l ∷ here.0)) (path_cost (q ∷ ks))) same
-            (leg_before l here.0 ks (here.2 ks (subst (λ (q : Leg). IsUpwardPath rows q.node m ks) (sym same) b.1)))
+        | inl same ↦ with_first l k here ks same b.1
         | inr more ↦ IsAtMost_trans _ (path_cost (there.0 ∷ there.1)) _ le (there.3 k ks (more, b.1))
       ],
     )
@@ -60,9 +64,7 @@ module _ (rows : List (List Leg)) (m : ℕ) where
       there.1,
       (contains_tail there.0 l some there.2.0, there.2.1),
       λ k ks b. elim (contains_cons l k some b.0) [
-        | inl same ↦ subst (λ q. IsAtMost (path_cost (there.0 ∷ there.1)) (path_cost (q ∷ ks))) same
-            (IsAtMost_trans _ (path_cost (l ∷ here.0)) _ (IsBelow-IsAtMost _ _ below)
-            (leg_before l here.0 ks (here.2 ks (subst (λ (q : Leg). IsUpwardPath rows q.node m ks) (sym same) b.1))))
+        | inl same ↦ IsAtMost_trans _ (path_cost (l ∷ here.0)) _ (IsBelow-IsAtMost _ _ below) (with_first l k here ks same b.1)
         | inr more ↦ there.3 k ks (more, b.1)
       ],
     )
@@ -72,8 +74,7 @@ module _ (rows : List (List Leg)) (m : ℕ) where
     here.0,
     (contains_head l some, here.1),
     λ k ks b. elim (contains_cons l k some b.0) [
-      | inl same ↦ subst (λ q. IsAtMost (path_cost (l ∷ here.0)) (path_cost (q ∷ ks))) same
-          (leg_before l here.0 ks (here.2 ks (subst (λ (q : Leg). IsUpwardPath rows q.node m ks) (sym same) b.1)))
+      | inl same ↦ with_first l k here ks same b.1
       | inr more ↦ absurd (none k ks (more, b.1))
     ],
   )

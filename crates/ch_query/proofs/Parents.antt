@@ -125,38 +125,30 @@ module _ {most : ℕ} (rows : List (List Leg)) (s : ℕ) (Idle : ℕ → Cost �
     (l : Leg) (has : Contains (row rows v) l) (within : l.node < length best) (same : cost_at best l.node ≡ Some (cost_sum c l.cost))
     (earlier : v < slice_index parents l.node) where
   -- the parent of the leg's node is v
-  now : slice_index (set parents l.node v) l.node ≡ v
-  now = get_or-set_same parents l.node v 0 (let n = a.size in omega arith)
+  pub equal_here : slice_index (set parents l.node v) l.node ≡ v
+  equal_here = get_or-set_same parents l.node v 0 (let n = a.size in omega arith)
 
   -- the other parents stay
   else_at : (y : ℕ) → (y ≡ l.node → ⊥) → slice_index (set parents l.node v) y ≡ slice_index parents y
   else_at y ne = get_or-set_other parents l.node y v 0 ne
 
   -- no parent gets a greater number
-  falls : (y : ℕ) → slice_index (set parents l.node v) y ≤ slice_index parents y
-  falls y = elim (cases_eq y l.node) [
-    | inl is ↦ let at = ap (slice_index (set parents l.node v)) is ∙ now in let old = ap (slice_index parents) is in omega arith
+  pub equal_falls : (y : ℕ) → slice_index (set parents l.node v) y ≤ slice_index parents y
+  equal_falls y = elim (cases_eq y l.node) [
+    | inl is ↦ let at = ap (slice_index (set parents l.node v)) is ∙ equal_here in let old = ap (slice_index parents) is in omega arith
     | inr ne ↦ let at = else_at y ne in omega arith
   ]
-
-  -- no parent gets a greater number
-  pub equal_falls : (y : ℕ) → slice_index (set parents l.node v) y ≤ slice_index parents y
-  equal_falls = falls
-
-  -- this leg is no earlier than the parent
-  pub equal_here : slice_index (set parents l.node v) l.node ≡ v
-  equal_here = now
 
   -- so the parents are right again
   pub equal_parents : AreParents most rows s Idle best queue (set parents l.node v)
   equal_parents = record {
     size = length-set parents l.node v ∙ a.size;
     led = λ y e ne k. elim (cases_eq y l.node) [
-      | inl is ↦ subst (IsParent rows best queue y e) (sym (ap (slice_index (set parents l.node v)) is ∙ now))
+      | inl is ↦ subst (IsParent rows best queue y e) (sym (ap (slice_index (set parents l.node v)) is ∙ equal_here))
           (record { cost = c; settled = settled; leg = l; has = has; node = sym is; sum = same_Some _ _ (sym same ∙ ap (cost_at best) (sym is) ∙ k) })
       | inr ne' ↦ subst (IsParent rows best queue y e) (sym (else_at y ne')) (a.led y e ne k)
     ];
-    first = λ u d k. elim (a.first u d k) [ inl idle ↦ inl idle | inr legs ↦ inr (λ m of low e. let n = legs m of low e in let f = falls m.node in omega arith) ];
+    first = λ u d k. elim (a.first u d k) [ inl idle ↦ inl idle | inr legs ↦ inr (λ m of low e. let n = legs m of low e in let f = equal_falls m.node in omega arith) ];
   }
 
 -- a node whose legs are all taken, or that may be left idle

@@ -91,10 +91,12 @@ module _ (H : LevelsAndLegs) (k : IsKeptForSome H) (limit : Option ℕ) (s t : �
         sum,
       )
 
+  -- the least of the sums that are within the limit, and none where there are none
+  abbrev IsLeastSum : Option ℕ → Type 0
+  IsLeastSum o = MatchOption o ((x : ℕ) → IsNodeSum P Q x → IsWithin limit x → ⊥) (λ x. IsNodeSum P Q x × IsWithin limit x × ((y : ℕ) → IsNodeSum P Q y → IsWithin limit y → x ≤ y))
+
   -- so the least sum within the limit is the least weight, where that is within the limit
-  least_sum_cuts : (c : Cost) → IsLeastMeeting H s t c → (o : Option ℕ) →
-      MatchOption o ((x : ℕ) → IsNodeSum P Q x → IsWithin limit x → ⊥) (λ x. IsNodeSum P Q x × IsWithin limit x × ((y : ℕ) → IsNodeSum P Q y → IsWithin limit y → x ≤ y)) →
-      IsCut limit (Some c.weight) o
+  least_sum_cuts : (c : Cost) → IsLeastMeeting H s t c → (o : Option ℕ) → IsLeastSum o → IsCut limit (Some c.weight) o
   least_sum_cuts c h None none = (λ low. absurd (none c.weight (attained c h low) low), λ _. refl)
   least_sum_cuts c h (Some x) least =
       let low = no_less c h x least.0 in (
@@ -103,15 +105,12 @@ module _ (H : LevelsAndLegs) (k : IsKeptForSome H) (limit : Option ℕ) (s t : �
       )
 
   -- and there is none where there is no walk
-  no_sum_cuts : NeverMeets H s t → (o : Option ℕ) →
-      MatchOption o ((x : ℕ) → IsNodeSum P Q x → IsWithin limit x → ⊥) (λ x. IsNodeSum P Q x × IsWithin limit x × ((y : ℕ) → IsNodeSum P Q y → IsWithin limit y → x ≤ y)) → o ≡ None
+  no_sum_cuts : NeverMeets H s t → (o : Option ℕ) → IsLeastSum o → o ≡ None
   no_sum_cuts never None none = refl
   no_sum_cuts never (Some x) least = absurd (none_without_walk never x least.0)
 
   -- so it is the distance within the limit
-  pub least_sum_is_distance : (o : Option ℕ) →
-      MatchOption o ((x : ℕ) → IsNodeSum P Q x → IsWithin limit x → ⊥) (λ x. IsNodeSum P Q x × IsWithin limit x × ((y : ℕ) → IsNodeSum P Q y → IsWithin limit y → x ≤ y)) →
-      IsDistanceWithin H limit s t o
+  pub least_sum_is_distance : (o : Option ℕ) → IsLeastSum o → IsDistanceWithin H limit s t o
   least_sum_is_distance o sum = elim (walks.decided s t) [
     | inl found ↦
         let c = found.0 in
