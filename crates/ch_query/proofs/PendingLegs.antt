@@ -23,14 +23,25 @@ use Rattle.ch_query.proofs.Unpacked.{halves_one, leg_has_arc}
 abbrev pub unpackings : List PendingLeg → ℕ
 unpackings pending = sum_by (λ p. p.cost.arcs + p.cost.arcs - 1) pending
 
+-- three parts in a row
+parts_joined : (arcs here after second rest : List InArc) → arcs ≡ here ++ after → after ≡ second ++ rest → (here ++ second) ++ rest ≡ arcs
+parts_joined arcs here after second rest is parts = append_assoc here second rest ∙ sym (is ∙ ap (λ q. here ++ q) parts)
+
 module _ (H : LevelsAndLegs) where
-  -- the arcs of a leg on top come first
+  -- the arcs of two lists of legs: those of the second come first
+  pub pending_arcs_append : (xs ys : List PendingLeg) (arcs : List InArc) → ArePendingArcs H (xs ++ ys) arcs →
+      (first second : List InArc) × ArePendingArcs H ys first × ArePendingArcs H xs second × (arcs ≡ first ++ second)
+  pending_arcs_append [] ys arcs a = (arcs, [], a, refl, sym (append-nil arcs))
+  pending_arcs_append (p ∷ xs) ys arcs a =
+      let r = pending_arcs_append xs ys a.0 a.2 in
+      (r.0, r.1 ++ a.1, r.2, (r.1, a.1, r.3, a.3, refl), a.4 ∙ ap (λ q. q ++ a.1) r.4 ∙ append_assoc r.0 r.1 a.1)
+
+  -- so those of a leg on top do
   pub pending_arcs_pop : (pending : List PendingLeg) (p : PendingLeg) (arcs : List InArc) → ArePendingArcs H (pending ++ p ∷ []) arcs →
       (here after : List InArc) × IsUnpacked H p.from p.to p.cost.weight p.middle here × ArePendingArcs H pending after × (arcs ≡ here ++ after)
-  pending_arcs_pop [] p arcs a = (a.1, [], a.3, refl, a.4 ∙ ap (λ q. q ++ a.1) a.2 ∙ sym (append-nil a.1))
-  pending_arcs_pop (q ∷ pending) p arcs a =
-      let r = pending_arcs_pop pending p a.0 a.2 in
-      (r.0, r.1 ++ a.1, r.2, (r.1, a.1, r.3, a.3, refl), a.4 ∙ ap (λ z. z ++ a.1) r.4 ∙ append_assoc r.0 r.1 a.1)
+  pending_arcs_pop pending p arcs a =
+      let r = pending_arcs_append pending (p ∷ []) arcs a in
+      (r.2.1, r.1, r.2.3, r.3, r.4 ∙ ap (λ z. z ++ r.1) (r.2.4 ∙ ap (λ z. z ++ r.2.1) r.2.2))
 
   -- and the other way round
   pub pending_arcs_push : (pending : List PendingLeg) (p : PendingLeg) (here after : List InArc) → IsUnpacked H p.from p.to p.cost.weight p.middle here →
@@ -144,5 +155,5 @@ module _ (H : LevelsAndLegs) where
             let two = pending_arcs_pop old second one.1 one.3 in
             let h = s.halves in
             let leg_arcs = shortcut {weight = p.cost.weight} h.first.0 h.first.1 h.second.0 h.second.1 one.2 two.2 in
-            subst (ArePendingArcs H (old ++ p ∷ [])) (append_assoc one.0 two.0 two.1 ∙ sym (ap (λ q. one.0 ++ q) two.4) ∙ sym one.4)
+            subst (ArePendingArcs H (old ++ p ∷ [])) (parts_joined arcs one.0 one.1 two.0 two.1 one.4 two.4)
             (pending_arcs_push old p (one.0 ++ two.0) two.1 (subst (λ m. IsUnpacked H p.from p.to p.cost.weight m (one.0 ++ two.0)) (sym e) leg_arcs) two.3)

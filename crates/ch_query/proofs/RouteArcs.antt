@@ -20,7 +20,7 @@ use Rattle.ch_query.specs.Unpacking.{IsPending, ArePending, pending_arcs, ArePen
 use Rattle.ch_query.specs.Descents.{HasReached, pending_of, IsTraced}
 use Rattle.ch_query.proofs.DescentLaws.{steps_cost, descent_cost}
 use Rattle.ch_query.proofs.DescentSteps.{step_pending, step_arcs}
-use Rattle.ch_query.proofs.PendingLegs.{pending_arcs_pop}
+use Rattle.ch_query.proofs.PendingLegs.{pending_arcs_append, pending_arcs_pop}
 
 -- the legs of chosen steps are those of the hierarchy
 steps_pending : (H : LevelsAndLegs) (side : Side) (a x : ℕ) (steps : List DescentStep) → IsDescent (rows_of H side) a x steps → ArePending H (map (pending_of side) steps)
@@ -63,14 +63,6 @@ pub turned_arcs : (old new : List PendingLeg) → IsPermutation old new → pend
 turned_arcs old new same = sum_by-IsPermutation (λ p. p.cost.arcs) old new same
 
 module _ (H : LevelsAndLegs) where
-  -- the arcs of two lists of legs: those of the second come first
-  pending_arcs_append : (xs ys : List PendingLeg) (arcs : List InArc) → ArePendingArcs H (xs ++ ys) arcs →
-      (first second : List InArc) × ArePendingArcs H ys first × ArePendingArcs H xs second × (arcs ≡ first ++ second)
-  pending_arcs_append [] ys arcs a = (arcs, [], a, refl, sym (append-nil arcs))
-  pending_arcs_append (p ∷ xs) ys arcs a =
-      let r = pending_arcs_append xs ys a.0 a.2 in
-      (r.0, r.1 ++ a.1, r.2, (r.1, a.1, r.3, a.3, refl), a.4 ∙ ap (λ q. q ++ a.1) r.4 ∙ append_assoc r.0 r.1 a.1)
-
   -- the legs of steps up from s
   are_up_arcs : (steps : List DescentStep) (arcs : List InArc) → ArePendingArcs H (map (pending_of Up) steps) arcs → AreUpArcs H steps arcs
   are_up_arcs [] arcs a = a
