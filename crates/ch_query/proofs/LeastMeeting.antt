@@ -57,26 +57,26 @@ module _ (H : LevelsAndLegs) (k : IsKeptForSome H) (x y : Search) (least : Optio
     above : (queue : List (Option Cost)) → IsPast queue least → (a : Cost) → IsAtMost a c → IsPastCost queue a
     above queue past a le v d key = let r = past v d key in then_below a r.0.0 d (IsAtMost_trans a c r.0.0 le (no_less r.0 r.1)) r.2
 
-    -- a path up and one down that cost as much
-    module _ (m : ℕ) (a b : Cost) (rise : IsUpwardCost H.up x.source m a) (fall : IsUpwardCost H.down y.source m b) (sum : cost_sum a b ≡ c) where
-      -- the search up has reached their end
-      pub reached_up : HasReached H x m a
-      reached_up = tight_reached H k x meeting.here meeting.stalls.0 m a (subst (λ q. IsTight H q x.source m a) (sym up) (tight_up H k x.source y.source m a b c h rise fall sum))
-          meeting.most.0 (above x.queue past_here a (subst (IsAtMost a) sum (IsAtMost-cost_sum_self a b)))
-
-      -- and so has the search down
-      pub reached_down : HasReached H y m b
-      reached_down = tight_reached H k y meeting.there meeting.stalls.1 m b (subst (λ q. IsTight H q y.source m b) (sym down) (tight_down H k x.source y.source m a b c h rise fall sum))
-          meeting.most.1 (above y.queue past_there b (subst (IsAtMost b) (cost_sum_comm b a ∙ sum) (IsAtMost-cost_sum_self b a)))
+    -- a node where they meet at that cost is tight on both sides, so both searches have reached it at its least costs
+    pub reached : (m : ℕ) (there : IsMeeting H x.source y.source m c) → HasReached H x m there.0 × HasReached H y m there.1
+    reached m (a, b, rise, fall, sum) =
+        let from = least_reached H.up x.source m a rise in
+        let to = least_reached H.down y.source m b fall in
+        let tight = subst (λ q. IsTight H q x.source m a) (sym up) (tight_up H k x.source y.source m a b c h from to sum) in
+        let tight' = subst (λ q. IsTight H q y.source m b) (sym down) (tight_down H k x.source y.source m a b c h from to sum) in
+        let low = subst (IsAtMost a) sum (IsAtMost-cost_sum_self a b) in
+        let low' = subst (IsAtMost b) (cost_sum_comm b a ∙ sum) (IsAtMost-cost_sum_self b a) in (
+          tight_reached H k x meeting.here meeting.stalls.0 m a tight meeting.most.0 (above x.queue past_here a low),
+          tight_reached H k y meeting.there meeting.stalls.1 m b tight' meeting.most.1 (above y.queue past_there b low'),
+        )
 
     -- so c is known, at a node no later than that of any least meeting
     known : (m : ℕ) → IsMeeting H x.source y.source m c → (e : Cost × ℕ) × (least ≡ Some e) × (e.0 ≡ c) × (e.1 ≤ m)
-    known m (a, b, rise, fall, sum) =
-        let from = least_reached H.up x.source m a rise in
-        let to = least_reached H.down y.source m b fall in
-        let r = meeting.seen m a b (reached_settled H x m a (reached_up m a b from to sum)) (reached_settled H y m b (reached_down m a b from to sum)) in
-        let same : r.0.0 ≡ c = IsAtMost_antisymm r.0.0 c (subst (IsAtMost r.0.0) sum r.2.0) (no_less r.0 r.1) in
-        (r.0, r.1, same, r.2.1 (same ∙ sym sum))
+    known m there =
+        let both = reached m there in
+        let r = meeting.seen m there.0 there.1 (reached_settled H x m there.0 both.0) (reached_settled H y m there.1 both.1) in
+        let same : r.0.0 ≡ c = IsAtMost_antisymm r.0.0 c (subst (IsAtMost r.0.0) there.4 r.2.0) (no_less r.0 r.1) in
+        (r.0, r.1, same, r.2.1 (same ∙ sym there.4))
 
     -- and what is known is the meet
     meet_found : (e : Cost × ℕ) × (least ≡ Some e) × IsMeet H x.source y.source e.1 e.0

@@ -22,8 +22,7 @@ use Rattle.ch_query.specs.Routes.{IsRoute, IsRouteBy}
 use Rattle.ch_query.specs.Descents.{HasReached, HasReachedWithRoom, IsTraced}
 use Rattle.ch_query.specs.Unpacking.{ArePending, pending_arcs, HasRoomToUnpack}
 use Rattle.ch_query.proofs.Distances.{meet_is_least}
-use Rattle.ch_query.proofs.End.{least_reached}
-use Rattle.ch_query.proofs.LeastMeeting.{reached_up, reached_down}
+use Rattle.ch_query.proofs.LeastMeeting.{reached}
 use Rattle.ch_query.proofs.PendingLegs.{pending_few}
 use Rattle.ch_query.proofs.RouteArcs.{traced_pending, traced_arcs, turned_pending, turned_arcs}
 use Rattle.ch_query.proofs.RouteWalks.{route_least_walk}
@@ -78,46 +77,40 @@ module _ (H : LevelsAndLegs) (k : IsKeptForSome H) (x y : Search) (m : ℕ) (c :
   unfolding up down
   both = ap (λ (q : Cost). q.arcs) meet.meets.4
 
-  up_reached : HasReached H x m up
-  unfolding up
-  up_reached = reached_up H k x y (Some (c, m)) meeting sides.0 sides.1 past.0 past.1 c (meet_is_least H x.source y.source m c meet) m meet.meets.0 meet.meets.1
-      (least_reached H.up x.source m meet.meets.0 meet.meets.2) (least_reached H.down y.source m meet.meets.1 meet.meets.3) meet.meets.4
-
-  down_reached : HasReached H y m down
-  unfolding down
-  down_reached = reached_down H k x y (Some (c, m)) meeting sides.0 sides.1 past.0 past.1 c (meet_is_least H x.source y.source m c meet) m meet.meets.0 meet.meets.1
-      (least_reached H.up x.source m meet.meets.0 meet.meets.2) (least_reached H.down y.source m meet.meets.1 meet.meets.3) meet.meets.4
+  reached_both : HasReached H x m up × HasReached H y m down
+  unfolding up down
+  reached_both = reached H k x y (Some (c, m)) meeting sides.0 sides.1 past.0 past.1 c (meet_is_least H x.source y.source m c meet) m meet.meets
 
   -- there is room for the way back to the end
   pub room_down : HasReachedWithRoom H y m start
-  room_down = (down, down_reached, let sum = both in omega arith)
+  room_down = (down, reached_both.1, let sum = both in omega arith)
 
   module _ (fallen turned : Vec PendingLeg Global) (fall : IsTraced H y m start.items fallen.items) (same : vec_capacity fallen ≡ vec_capacity start)
       (turn : IsPermutation fallen.items turned.items) (long : vec_len turned ≡ vec_len fallen)
       (same' : vec_capacity turned ≡ vec_capacity fallen) where
     fallen_pending : ArePending H fallen.items
-    fallen_pending = traced_pending H y m down down_reached start.items fallen.items fall (λ p has. absurd (let e = ap length none in let lt = has.1 in omega arith))
+    fallen_pending = traced_pending H y m down reached_both.1 start.items fallen.items fall (λ p has. absurd (let e = ap length none in let lt = has.1 in omega arith))
 
     fallen_arcs : pending_arcs fallen.items ≡ down.arcs
-    fallen_arcs = let sum = traced_arcs H y m down down_reached start.items fallen.items fall in let nothing = ap pending_arcs none in omega arith
+    fallen_arcs = let sum = traced_arcs H y m down reached_both.1 start.items fallen.items fall in let nothing = ap pending_arcs none in omega arith
 
     -- and for that back to the start
     pub room_up : HasReachedWithRoom H x m turned
     room_up = (
       up,
-      up_reached,
+      reached_both.0,
       let sum = both in let few = pending_few H k fallen.items fallen_pending in let arcs = fallen_arcs in let ok = fallen.ok in omega arith,
     )
 
     module _ (all : Vec PendingLeg Global) (rise : IsTraced H x m turned.items all.items) (same'' : vec_capacity all ≡ vec_capacity turned) where
       -- all are legs of the hierarchy
       pub all_pending : ArePending H all.items
-      all_pending = traced_pending H x m up up_reached turned.items all.items rise (turned_pending H fallen.items turned.items turn fallen_pending)
+      all_pending = traced_pending H x m up reached_both.0 turned.items all.items rise (turned_pending H fallen.items turned.items turn fallen_pending)
 
       -- and there is room for their arcs
       pub room_for_all : (arcs : Vec InArc Global) → vec_len arcs ≡ 0 → vec_capacity arcs ≡ c.arcs → HasRoomToUnpack all arcs
       room_for_all arcs empty exact' =
-          let rising = traced_arcs H x m up up_reached turned.items all.items rise in
+          let rising = traced_arcs H x m up reached_both.0 turned.items all.items rise in
           let falling = turned_arcs fallen.items turned.items turn in
           let down_is = fallen_arcs in
           let sum = both in
