@@ -34,9 +34,6 @@ module _ {most : ℕ} (rows : List (List Leg)) (s : ℕ) (Idle : ℕ → Cost �
       at None q = q
       at (Some d) q = absurd (IsBelow_not c d (past x d q) (subst (λ r. IsAtMost r c) (same_Some _ _ (sym k ∙ p.queued x d q)) le))
 
-  Ends : Cost → Type 0
-  Ends d = (a : Cost) × IsSettled best queue m a × IsAtMost a d
-
   -- along an upward path within c each node is settled, at no more than the path costs
   pub along : (x : ℕ) (e : Cost) (legs : List Leg) → cost_at best x ≡ Some e → IsUpwardPath rows x m legs → IsAtMost (cost_sum e (path_cost legs)) c →
       (a : Cost) × IsSettled best queue m a × IsAtMost a (cost_sum e (path_cost legs))

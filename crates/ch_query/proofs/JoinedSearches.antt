@@ -53,6 +53,7 @@ apart_swapped H x y most m = record {
   apart = λ v a b h k. subst (IsBelow most) (cost_sum_comm b a) (m.apart v b a k h);
 }
 
+-- joined one way they are joined the other way
 pub joined_swapped : (H : LevelsAndLegs) (x y : Search) (most : Cost) → AreJoined H x y most → AreJoined H y x most
 joined_swapped H x y most j = (j.0, j.2, j.1, j.4, j.3, subst (λ q. IsAtMost q most) (cost_sum_comm j.1 j.2) j.5)
 

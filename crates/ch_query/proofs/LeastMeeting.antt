@@ -34,6 +34,7 @@ reached_settled H x m a r = settled _ _ _ _ _ r.underway.search m a (r.underway.
 
 module _ (H : LevelsAndLegs) (k : IsKeptForSome H) (x y : Search) (least : Option (Cost × ℕ)) (meeting : AreMeeting H x y least) (up : x.side ≡ Up) (down : y.side ≡ Down)
     (past_here : IsPast x.queue least) (past_there : IsPast y.queue least) where
+  -- least meetings are distances
   law : MeetingsAreDistances k.0 H
   law = meetings_are_distances k.0 H k.1 k.2
 

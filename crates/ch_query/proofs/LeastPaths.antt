@@ -36,9 +36,11 @@ module _ (rows : List (List Leg)) (m : ℕ) where
   abbrev Begins : List Leg → Leg → List Leg → Type 0
   Begins some l ks = Contains some l × IsUpwardPath rows l.node m ks
 
+  -- one of them that costs no more than any other
   abbrev HasLeastOf : List Leg → Type 0
   HasLeastOf some = (l : Leg) × (legs : List Leg) × Begins some l legs × ((k : Leg) (ks : List Leg) → Begins some k ks → IsAtMost (path_cost (l ∷ legs)) (path_cost (k ∷ ks)))
 
+  -- there is one, or there is none of them
   abbrev IsDecidedOf : List Leg → Type 0
   IsDecidedOf some = HasLeastOf some ⊎ ((k : Leg) (ks : List Leg) → Begins some k ks → ⊥)
 
@@ -92,6 +94,7 @@ module _ (rows : List (List Leg)) (m : ℕ) where
     | inr more ↦ none k ks (more, b.1)
   ])
 
+  -- so it is where it is decided at the end of each leg
   each : (some : List Leg) → ((l : Leg) → Contains some l → IsDecided l.node) → IsDecidedOf some
   each [] decided = inr (λ k ks b. contains_none k b.0)
   each (l ∷ some) decided = one_more l some (decided l (contains_head l some)) (each some (λ k h. decided k (contains_tail k l some h)))

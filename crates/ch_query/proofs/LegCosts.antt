@@ -21,6 +21,7 @@ use Rattle.ch_query.specs.Checking.{IsRowCost, IsLegCost, HasLeg, IsSumOver}
 use Rattle.ch_query.proofs.Expanding.{leg_up}
 use Rattle.ch_query.proofs.Rows.{row_one, rows_ordered}
 
+-- where both hold, each holds
 both_true : (a b : Bool) → (a && b) ≡ true → (a ≡ true) × (b ≡ true)
 both_true true b e = (refl, e)
 both_true false b e = absurd (false≢true e)
@@ -44,6 +45,7 @@ within_some H u w most c false ((m, leg), one) tells = (λ _. (c, m, leg, within
       | inr below ↦ absurd (false≢true (tells.1 below))
     ]
 
+-- where there is no leg, there is none within a bound
 pub within_none : (H : LevelsAndLegs) (u w : ℕ) (most : Cost) → IsLegCost H u w None → HasLeg H u w most → ⊥
 within_none H u w most none (c, m, leg, le) = none c m leg
 

@@ -36,6 +36,7 @@ module _ {most : ℕ} (rows : List (List Leg)) (s : ℕ) (Idle : ℕ → Cost �
 module _ {most : ℕ} (rows : List (List Leg)) (s : ℕ) (Idle : ℕ → Cost → Type 0) (best queue : List (Option Cost)) (parents : List ℕ) (v : ℕ) (c : Cost)
     (x : IsExpanding most rows s Idle best queue v c) (a : AreParents most rows s Idle best queue parents)
     (l : Leg) (has : Contains (row rows v) l) (light : c.weight + l.cost.weight ≤ most) (h : WouldLower best l.node (cost_sum c l.cost)) where
+  -- the costs and the queue, once the leg is taken
   best' : List (Option Cost)
   best' = set best l.node (Some (cost_sum c l.cost))
 
@@ -154,6 +155,7 @@ module _ {most : ℕ} (rows : List (List Leg)) (s : ℕ) (Idle : ℕ → Cost �
 -- a node whose legs are all taken, or that may be left idle
 module _ {most : ℕ} (rows : List (List Leg)) (s : ℕ) (Idle : ℕ → Cost → Type 0) (best queue : List (Option Cost)) (parents : List ℕ) (v : ℕ) (c : Cost)
     (here : IsSettled best queue v c) (a : AreParents most rows s (OrNode Idle v) best queue parents) where
+  -- the parents are right again
   pub finish_parents : Idle v c ⊎ ((l : Leg) → Contains (row rows v) l → IsNoEarlier most best parents v c l) → AreParents most rows s Idle best queue parents
   finish_parents done = record {
     size = a.size;

@@ -52,6 +52,7 @@ module _ (H : LevelsAndLegs) (s t : ℕ) where
   Few answer = MatchOption answer ⊤ (λ route. length route.arcs < nodes_of H)
 
   module _ (s' t' : ℕ) (from : s' ≡ s) (to : t' ≡ t) (r : Result (Option Route) AllocError) (found : IfOk r (FindsRoute H s' t')) where
+    -- it is so by the nodes where the searches began
     finds : IfOk r (FindsRoute H s t)
     finds = subst (λ q. IfOk r (FindsRoute H q t)) from (subst (λ q. IfOk r (FindsRoute H s' q)) to found)
 
@@ -67,16 +68,20 @@ module _ (H : LevelsAndLegs) (s t : ℕ) where
 module _ (H : LevelsAndLegs) (k : IsKeptForSome H) (x y : Search) (m : ℕ) (c : Cost) (meeting : AreMeeting H x y (Some (c, m)))
     (past : IsPast x.queue (Some (c, m)) × IsPast y.queue (Some (c, m))) (sides : (x.side ≡ Up) × (y.side ≡ Down)) (meet : IsMeet H x.source y.source m c)
     (start : Vec PendingLeg Global) (none : start.items ≡ []) (len : vec_len start ≡ 0) (exact : vec_capacity start ≡ c.arcs) where
+  -- what the way up to the meet costs
   up : Cost
   up = meet.meets.0
 
+  -- what the way down from it costs
   down : Cost
   down = meet.meets.1
 
+  -- both have as many arcs as the route
   both : up.arcs + down.arcs ≡ c.arcs
   unfolding up down
   both = ap (λ (q : Cost). q.arcs) meet.meets.4
 
+  -- both searches have reached the meet
   reached_both : HasReached H x m up × HasReached H y m down
   unfolding up down
   reached_both = reached H k x y (Some (c, m)) meeting sides.0 sides.1 past.0 past.1 c (meet_is_least H x.source y.source m c meet) m meet.meets
@@ -88,9 +93,11 @@ module _ (H : LevelsAndLegs) (k : IsKeptForSome H) (x y : Search) (m : ℕ) (c :
   module _ (fallen turned : Vec PendingLeg Global) (fall : IsTraced H y m start.items fallen.items) (same : vec_capacity fallen ≡ vec_capacity start)
       (turn : IsPermutation fallen.items turned.items) (long : vec_len turned ≡ vec_len fallen)
       (same' : vec_capacity turned ≡ vec_capacity fallen) where
+    -- the legs of the way back to the end are legs of the hierarchy
     fallen_pending : ArePending H fallen.items
     fallen_pending = traced_pending H y m down reached_both.1 start.items fallen.items fall (λ p has. absurd (let e = ap length none in let lt = has.1 in omega arith))
 
+    -- for as many arcs as the way down has
     fallen_arcs : pending_arcs fallen.items ≡ down.arcs
     fallen_arcs = let sum = traced_arcs H y m down reached_both.1 start.items fallen.items fall in let nothing = ap pending_arcs none in omega arith
 

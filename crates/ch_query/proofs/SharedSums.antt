@@ -39,10 +39,12 @@ module _ (H : LevelsAndLegs) (k : IsKeptForSome H) (limit : Option â„•) (s t : â
   g : Network
   g = k.0
 
+  -- its paths are walks
   walks : HasWalks g H
   unfolding g
   walks = kept_has_walks k.0 H k.1 k.2
 
+  -- and its least meetings are distances
   law : MeetingsAreDistances g H
   unfolding g
   law = meetings_are_distances k.0 H k.1 k.2
