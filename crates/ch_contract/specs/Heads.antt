@@ -5,8 +5,8 @@ use Rattle.ch_graph.specs.declared.cost.Cost.{Cost}
 use Rattle.ch_graph.specs.Cost.{IsAtMost, cost_sum}
 use Rattle.ch_contract.specs.declared.leg.Leg.{Leg}
 use Rattle.ch_contract.specs.declared.search.Wanted.{Wanted}
-use Rattle.ch_contract.specs.declared.search.Heads.{Heads}
-use Rattle.ch_contract.specs.declared.search.Step.{Step}
+use Rattle.ch_contract.specs.declared.heads.Heads.{Heads}
+use Rattle.ch_contract.specs.declared.heads.Step.{Step}
 use Rattle.ch_contract.specs.HeldCosts.{never, IsLight, IsHeld}
 use Rattle.ch_contract.specs.Legs.{Label, Legs, IsChain, chain_cost}
 use Rattle.ch_contract.specs.Rows.{row}

@@ -119,7 +119,7 @@ impl Construction {
 
     /// Contracts a node, and keeps its level and its legs.
     fn contract<R: Threads + Sync, G: Gate>(
-        self,
+        mut self,
         rt: &R,
         alloc: Global,
         node: u32,
@@ -138,46 +138,29 @@ impl Construction {
         ensures step { IfOk result (λ c. IsStep self.remaining.nodes hops (progress_of self) node (progress_of c)) }
         ensures ready { IfOk result (IsJudging hops) }
     {
-        let Construction {
-            remaining,
-            mut room,
-            mut waiting,
-            mut levels,
-            mut ups,
-            mut downs,
-            contracted,
-        } = self;
-        let place = room.place_of(alloc, &remaining, node, hops)?;
-        let (remaining, removed) = remaining.contract_with(node, room.shortcuts(place))?;
-        room.forget();
-        let _ = waiting.remove(node);
+        let remaining = self.remaining;
+        let (remaining, removed) = self.room.contract(alloc, remaining, node, hops)?;
+        self.remaining = remaining;
+        let _ = self.waiting.remove(node);
         let neighbours = neighbours(alloc, removed.up.as_slice(), removed.down.as_slice())?;
         let job = PriorityJob {
-            remaining: &remaining,
+            remaining: &self.remaining,
             hops,
         };
         job.refresh(
             rt,
             alloc,
             neighbours.as_slice(),
-            &mut room,
-            &mut waiting,
+            &mut self.room,
+            &mut self.waiting,
             plan,
             gate,
         )?;
-        let contracted = contracted + 1;
-        levels[node as usize] = contracted;
-        push_row(&mut ups, node, removed.up.as_slice())?;
-        push_row(&mut downs, node, removed.down.as_slice())?;
-        Ok(Construction {
-            remaining,
-            room,
-            waiting,
-            levels,
-            ups,
-            downs,
-            contracted,
-        })
+        self.contracted += 1;
+        self.levels[node as usize] = self.contracted;
+        push_row(&mut self.ups, node, removed.up.as_slice())?;
+        push_row(&mut self.downs, node, removed.down.as_slice())?;
+        Ok(self)
     }
 
     /// The hierarchy, once every node is contracted. What it doesn't need is freed before its rows are made.

@@ -14,6 +14,7 @@ mod construction;
 mod doubles;
 mod fault;
 mod head;
+mod heads;
 mod hierarchy;
 pub mod laws;
 mod leg;

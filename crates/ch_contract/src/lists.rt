@@ -112,45 +112,39 @@ impl LegLists {
     {
         self.lists[node as usize] = SmallVec::new(alloc);
     }
+}
 
-    /// Puts the shortcuts of `v` in, each in the list of the node from which it leads.
-    pub(crate) fn put_all(&mut self, v: u32, shortcuts: &[Shortcut]) -> Result<(), AllocError>
-        requires nodes { All (λ s. s.from < length self.old) shortcuts.now }
-        requires rows { AreRows self.old }
-        requires ordered { AllPairs IsPairBefore shortcuts.now }
-        ensures { OnOk result (AreOverridden legs_from v shortcuts.now self.old self.new) }
-    {
-        for shortcut in shortcuts {
-            let leg = Leg {
-                node: shortcut.to,
-                cost: shortcut.cost,
-                middle: Some(v),
-            };
-            self.put(shortcut.from, leg)?;
-        }
-        Ok(())
+/// Puts the shortcuts of `v` in on both sides: each in the list of the node from which it leads, and in that of
+/// the node to which it leads.
+pub(crate) fn put_shortcuts(
+    outs: &mut LegLists,
+    ins: &mut LegLists,
+    v: u32,
+    shortcuts: &[Shortcut],
+) -> Result<(), AllocError>
+    requires from { All (λ s. s.from < length outs.old) shortcuts.now }
+    requires to { All (λ s. s.to < length ins.old) shortcuts.now }
+    requires out_rows { AreRows outs.old }
+    requires in_rows { AreRows ins.old }
+    requires ordered { AllPairs IsPairBefore shortcuts.now }
+    ensures outs { OnOk result (AreOverridden legs_from v shortcuts.now outs.old outs.new) }
+    ensures ins { OnOk result (AreOverridden legs_into v shortcuts.now ins.old ins.new) }
+{
+    for shortcut in shortcuts {
+        outs.put(shortcut.from, leg_of(shortcut.to, *shortcut, v))?;
+        ins.put(shortcut.to, leg_of(shortcut.from, *shortcut, v))?;
     }
+    Ok(())
+}
 
-    /// Puts the shortcuts of `v` in, each in the list of the node to which it leads.
-    pub(crate) fn put_all_turned(
-        &mut self,
-        v: u32,
-        shortcuts: &[Shortcut],
-    ) -> Result<(), AllocError>
-        requires nodes { All (λ s. s.to < length self.old) shortcuts.now }
-        requires rows { AreRows self.old }
-        requires ordered { AllPairs IsPairBefore shortcuts.now }
-        ensures { OnOk result (AreOverridden legs_into v shortcuts.now self.old self.new) }
-    {
-        for shortcut in shortcuts {
-            let leg = Leg {
-                node: shortcut.from,
-                cost: shortcut.cost,
-                middle: Some(v),
-            };
-            self.put(shortcut.to, leg)?;
-        }
-        Ok(())
+/// The leg of a shortcut of `v`, as its end has it whose other end this is.
+fn leg_of(node: u32, shortcut: Shortcut, v: u32) -> Leg
+    ensures { result ≡ record { node = node; cost = shortcut.cost; middle = Some v } }
+{
+    Leg {
+        node,
+        cost: shortcut.cost,
+        middle: Some(v),
     }
 }
 

@@ -98,34 +98,12 @@ impl PriorityJob<'_> {
         if nodes.len() < plan.wide() as usize {
             return self.refresh_here(alloc, nodes, room, waiting);
         }
-        if plan.workers() == 1 || nodes.len() <= plan.piece() as usize {
-            return self.refresh_alone(alloc, nodes, room, waiting, plan, gate);
-        }
-        let priorities = run_list(rt, alloc, nodes, plan, gate, self)?;
-        self.set_all(nodes, priorities.as_slice(), waiting);
-        Ok(())
-    }
-
-    /// Gives these nodes the priorities that they have now, judged in this room, piece after piece.
-    fn refresh_alone<G: Gate>(
-        &self,
-        alloc: Global,
-        nodes: &[u32],
-        room: &mut Room,
-        waiting: &mut KeyQueue<i64>,
-        plan: &Plan,
-        gate: &G,
-    ) -> Result<(), AllocError>
-        requires nodes { All (λ x. x < self.now.remaining.now.nodes) nodes.now }
-        requires count { length nodes.now < 2 ^ 32 }
-        requires size { length waiting.old ≡ self.now.remaining.now.nodes }
-        requires ready { IsReady self.now.remaining.now.nodes self.now.hops (legs_of self.now.remaining.now) room.old }
-        ensures anew { OnOk result (AreRefreshed self.now.remaining.now.nodes self.now.hops
-            (legs_of self.now.remaining.now) nodes.now waiting.old waiting.new) }
-        ensures ready { OnOk result (IsReady self.now.remaining.now.nodes self.now.hops
-            (legs_of self.now.remaining.now) room.new) }
-    {
         let piece = plan.piece() as usize;
+        if plan.workers() > 1 && nodes.len() > piece {
+            let priorities = run_list(rt, alloc, nodes, plan, gate, self)?;
+            self.set_all(nodes, priorities.as_slice(), waiting);
+            return Ok(());
+        }
         let mut number = 0;
         let mut from = 0;
         while from < nodes.len() {

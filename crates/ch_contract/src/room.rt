@@ -1,11 +1,12 @@
 //! The room in which nodes are judged.
 ghost use Rattle.std.specs.Prelude.{◌≡◌, ℕ, ◌<◌, ◌++◌, ◌∷◌, [], length, IfOk, IfSome, OnOk, slice_index};
 ghost use Rattle.ch_contract.specs.Legs.{Legs, IsHopBound};
-ghost use Rattle.ch_contract.specs.Contraction.{IsPriority};
+ghost use Rattle.ch_contract.specs.Contraction.{Contracts, IsPriority};
+ghost use Rattle.ch_contract.specs.Rows.{AreLegsFrom, AreLegsTo};
 ghost use Rattle.ch_contract.specs.Remaining.{legs_of};
 ghost use Rattle.ch_contract.specs.Rooms.{AreIdle};
 
-use crate::remaining::Remaining;
+use crate::remaining::{Remaining, Removed};
 use crate::searches::Searches;
 use crate::shortcut::Shortcut;
 use std::alloc::{AllocError, Global};
@@ -67,8 +68,32 @@ impl Room {
         Ok(priority)
     }
 
+    /// Contracts a node with the shortcuts that it has. Those of all nodes are forgotten, since the legs are others
+    /// then.
+    pub(crate) fn contract(
+        &mut self,
+        alloc: Global,
+        remaining: Remaining,
+        node: u32,
+        hops: u32,
+    ) -> Result<(Remaining, Removed), AllocError>
+        requires node { node < remaining.nodes }
+        requires hops { IsHopBound hops }
+        requires ready { IsReady remaining.nodes hops (legs_of remaining) self.old }
+        ensures nodes { IfOk result (λ r. r.0.nodes ≡ remaining.nodes) }
+        ensures legs { IfOk result (λ r. Contracts remaining.nodes hops (legs_of remaining) node (legs_of r.0)) }
+        ensures up { IfOk result (λ r. AreLegsFrom (legs_of remaining) node r.1.up.items) }
+        ensures down { IfOk result (λ r. AreLegsTo (legs_of remaining) node r.1.down.items) }
+        ensures ready { IfOk result (λ r. IsReady r.0.nodes hops (legs_of r.0) self.new) }
+    {
+        let place = self.place_of(alloc, &remaining, node, hops)?;
+        let contracted = remaining.contract_with(node, self.shortcuts(place))?;
+        self.forget();
+        Ok(contracted)
+    }
+
     /// The place of a node among the judged. It is judged first if it isn't yet.
-    pub(crate) fn place_of(
+    fn place_of(
         &mut self,
         alloc: Global,
         remaining: &Remaining,
@@ -90,7 +115,7 @@ impl Room {
     }
 
     /// The shortcuts of the judged node at this place.
-    pub(crate) fn shortcuts(&self, place: usize) -> &[Shortcut]
+    fn shortcuts(&self, place: usize) -> &[Shortcut]
         requires { place < length self.now.lists.items }
         ensures { result.now ≡ list_at self.now place }
     {

@@ -1,9 +1,11 @@
 -- Rounds of a search: after k of them the least costs of chains of at most k legs are known.
-use Rattle.std.proofs.Common.{◌≡◌, ℕ, suc, ◌+◌, ◌*◌, ◌^◌, ◌<◌, ◌≤◌, List, [], ◌∷◌, length, get_or, All, rules, Some, Contains, refl, sym, ◌∙◌, ap, subst, arith, inl, inr}
+use Rattle.std.proofs.Common.{◌≡◌, ℕ, suc, ◌+◌, ◌*◌, ◌<◌, ◌≤◌, List, [], ◌∷◌, length, get_or, All, rules, Some, Contains, refl, sym, ◌∙◌, ap, subst, arith, inl, inr}
 use Rattle.std.specs.Prelude.{◌⊎◌, ◌≢◌}
 use Rattle.std.specs.List.{AllByRecursion}
 use Rattle.std.proofs.lemmas.List.Elements.{All-from_get_or, All-contains, Contains-get_or}
 use Rattle.std.proofs.Math.Nat.{mul-le-mul_right}
+use Rattle.ch_graph.specs.declared.limits.TheConstants.{MOST_NODES, MOST_WEIGHT, MOST_HOPS}
+use Rattle.ch_contract.specs.declared.head.TheConstants.{MOST_CHAIN_ARCS, NEVER_ARCS}
 use Rattle.ch_graph.specs.declared.cost.Cost.{Cost}
 use Rattle.ch_graph.specs.Cost.{IsAtMost, cost_sum, no_cost}
 use Rattle.ch_contract.specs.declared.leg.Leg.{Leg}
@@ -132,7 +134,7 @@ not_among : {X : Type 0} (xs : List X) (x : X) → xs ≡ [] → Contains xs x �
 not_among xs x none c = let at = (subst (λ z. Contains z x) none c).1 in omega arith
 
 -- at first the empty chain is known alone
-pub underway_start : (n : ℕ) (L : Legs) (s : Wanted) (old new : Known) → s.end ≢ s.avoided → (s.most.weight ≤ 2 ^ 60) × (s.most.arcs < 2 ^ 62) →
+pub underway_start : (n : ℕ) (L : Legs) (s : Wanted) (old new : Known) → s.end ≢ s.avoided → (s.most.weight ≤ MOST_WEIGHT) × (s.most.arcs < NEVER_ARCS) →
     s.end < n → IsClean n old → old.next ≡ [] → Lowers (IsOnly s.end no_cost) old new → IsUnderway n L s 0 new
 underway_start n L s old new off most inside clean none low = record {
   size = low.size ∙ clean.size;
@@ -196,18 +198,18 @@ chain_arcs n L u w (x ∷ xs) limits chain =
     let is : (chain_cost L u (x ∷ xs)).arcs ≡ l.0.cost.arcs + (chain_cost L x xs).arcs = ap (λ o. (cost_sum (leg_cost o) (chain_cost L x xs)).arcs) l.1 in
     subst (λ z. z ≤ suc (length xs) * n) (sym is) (omega arith)
 
--- 16 legs of fewer than 2 ^ 25 arcs
-product : (k n : ℕ) → k ≤ 16 → n ≤ 2 ^ 25 → k * n ≤ 2 ^ 29
-product k n h m = omega (arith, mul-le-mul_right {m = k} {n = 16} n h)
+-- as many legs as a witness may have, of fewer arcs each than there are nodes
+product : (k n : ℕ) → k ≤ MOST_HOPS → n ≤ MOST_NODES → k * n ≤ MOST_CHAIN_ARCS
+product k n h m = omega (arith, mul-le-mul_right {m = k} {n = MOST_HOPS} n h)
 
--- so a chain of at most 16 legs stands for few arcs
-pub chain_small : (n : ℕ) (L : Legs) (u w : ℕ) (xs : List ℕ) → AreLegsWithin n L → n ≤ 2 ^ 25 → length xs ≤ 16 → IsChain L u w xs → (chain_cost L u xs).arcs ≤ 2 ^ 29
+-- so a chain of as many legs as a witness may have stands for few arcs
+pub chain_small : (n : ℕ) (L : Legs) (u w : ℕ) (xs : List ℕ) → AreLegsWithin n L → n ≤ MOST_NODES → length xs ≤ MOST_HOPS → IsChain L u w xs → (chain_cost L u xs).arcs ≤ MOST_CHAIN_ARCS
 chain_small n L u w xs limits small few chain =
     let arcs = chain_arcs n L u w xs limits chain in
     let bound = product (length xs) n few small in omega arith
 
 -- a wanted chain is among the n nodes, and its cost is small
-pub wanted_small : (limit n : ℕ) (L : Legs) (s : Wanted) (k x : ℕ) (d : Cost) → AreLegsWithin n L → n ≤ 2 ^ 25 → k ≤ 16 → s.end < n → IsHeld limit s.most →
+pub wanted_small : (limit n : ℕ) (L : Legs) (s : Wanted) (k x : ℕ) (d : Cost) → AreLegsWithin n L → n ≤ MOST_NODES → k ≤ MOST_HOPS → s.end < n → IsHeld limit s.most →
     IsWanted L s k x d → (x < n) × IsHeld limit d
 wanted_small limit n L s k x d limits small few inside most w = (node w.0.nodes w.0.chain, record { limited = limited; weight = weight; arcs = arcs })
   where
@@ -218,17 +220,17 @@ wanted_small limit n L s k x d limits small few inside most w = (node w.0.nodes 
     limited : d.weight ≤ 2 * limit
     limited = let le = w.1.0 in omega (arith, most.limited)
 
-    weight : d.weight ≤ 2 ^ 60
+    weight : d.weight ≤ MOST_WEIGHT
     weight = let le = w.1.0 in omega (arith, most.weight)
 
-    arcs : d.arcs ≤ 2 ^ 29
+    arcs : d.arcs ≤ MOST_CHAIN_ARCS
     arcs =
         let short = w.0.short in
-        subst (λ z. z.arcs ≤ 2 ^ 29) w.0.cost (chain_small n L x s.end w.0.nodes limits small (omega arith) w.0.chain)
+        subst (λ z. z.arcs ≤ MOST_CHAIN_ARCS) w.0.cost (chain_small n L x s.end w.0.nodes limits small (omega arith) w.0.chain)
 
 -- so there is room for one leg more in front of each step
 pub steps_room : (limit : ℕ) (lists : List (List Leg)) (n : ℕ) (s : Wanted) (k : ℕ) (front : List Begun) → AreRows lists → AreLegsWithin n (legs_into lists) → AreLegsUpTo limit (legs_into lists) →
-    n ≤ 2 ^ 25 → k ≤ 16 → s.end < n → IsHeld limit s.most → AreSteps (legs_into lists) s k front → All (λ f. (f.node < n) × IsRoomFor limit n (row lists f.node) f) front
+    n ≤ MOST_NODES → k ≤ MOST_HOPS → s.end < n → IsHeld limit s.most → AreSteps (legs_into lists) s k front → All (λ f. (f.node < n) × IsRoomFor limit n (row lists f.node) f) front
 steps_room limit lists n s k front rows limits light small few inside most steps =
     All-from_get_or (λ f. (f.node < n) × IsRoomFor limit n (row lists f.node) f) front (step_to 0 no_cost) (λ i lt. room (get_or front i (step_to 0 no_cost)) (Contains-get_or front i (step_to 0 no_cost) lt))
   where

@@ -7,8 +7,8 @@ use Rattle.std.proofs.lemmas.List.{get_or-map, length-map, length-set, map-set, 
 use Rattle.std.proofs.lemmas.List.Elements.{All-contains, All-from_get_or, Contains-get_or, Contains-append_left, Contains-push, Contains-push_cases}
 use Rattle.ch_graph.specs.declared.cost.Cost.{Cost}
 use Rattle.ch_graph.specs.Cost.{IsAtMost, cost_sum}
-use Rattle.ch_contract.specs.declared.search.Heads.{Heads}
-use Rattle.ch_contract.specs.declared.search.Step.{Step}
+use Rattle.ch_contract.specs.declared.heads.Heads.{Heads}
+use Rattle.ch_contract.specs.declared.heads.Step.{Step}
 use Rattle.ch_contract.specs.HeldCosts.{never, IsLight, IsHeld, IsAddend}
 use Rattle.ch_contract.specs.Heads.{head_in, head_at, AreTouched, known_of, begun_of, Lowers, IsOnly}
 use Rattle.ch_contract.proofs.code.Lowering.{lowers_here, lowers_none}

@@ -1,7 +1,8 @@
 -- Legs that are light enough for searches over words, and stay so.
-use Rattle.std.proofs.Common.{ℕ, ◌^◌, ◌≤◌, List, sym, ◌∙◌, subst, inl, inr}
+use Rattle.std.proofs.Common.{ℕ, ◌≤◌, List, sym, ◌∙◌, subst, inl, inr}
 use Rattle.std.specs.Prelude.{All}
 use Rattle.std.proofs.lemmas.List.Elements.{All-contains}
+use Rattle.ch_graph.specs.declared.limits.TheConstants.{MOST_WEIGHT}
 use Rattle.ch_graph.specs.declared.arc.InArc.{InArc}
 use Rattle.ch_graph.specs.Graph.{Network}
 use Rattle.ch_contract.specs.declared.leg.Leg.{Leg}
@@ -14,7 +15,7 @@ use Rattle.ch_contract.proofs.theory.OpeningLegs.{arc, opening_leg}
 use Rattle.ch_contract.proofs.theory.Levelled.{contracted_cases}
 
 -- legs within the limits
-pub within_light : (n : ℕ) (L : Legs) → AreLegsWithin n L → AreLegsUpTo (2 ^ 60) L
+pub within_light : (n : ℕ) (L : Legs) → AreLegsWithin n L → AreLegsUpTo MOST_WEIGHT L
 within_light n L limits u w l e = (limits u w l e).weight
 
 -- legs turned round

@@ -19,6 +19,8 @@ use Rattle.ch_contract.proofs.theory.RowLegs.{row_has, row_member, leg_at}
 use Rattle.ch_contract.proofs.theory.RowLemmas.{no_leg, leg_from_at}
 use Rattle.std.proofs.lemmas.Bool.{cases_eq, cases_lt}
 use Rattle.std.proofs.lemmas.Option.{same_Some}
+use Rattle.ch_graph.specs.declared.limits.TheConstants.{MOST_NODES, MOST_WEIGHT, MOST_SUM, MOST_HOPS}
+use Rattle.ch_contract.specs.declared.head.TheConstants.{MOST_CHAIN_ARCS, NEVER_ARCS}
 use Rattle.ch_contract.specs.declared.shortcut.Shortcut.{Shortcut}
 use Rattle.ch_contract.specs.Contraction.{IsShortcut}
 use Rattle.ch_contract.specs.ShortcutLists.{AreShortcutsBefore, EndsBefore}
@@ -56,7 +58,7 @@ module _ (n : ℕ) (outs ins : List (List Leg)) (within : IsWithinLimits n outs 
           record { node = is.ends.0; cost = record { limited = up_to l.node x (label_of l) leg; weight = is.weight; arcs = omega (arith, is.arcs) } }
 
   -- so are the known costs
-  pub heads_small : (limit : ℕ) (s : Wanted) (k : ℕ) (h : Known) → k ≤ 16 → s.end < n → IsHeld limit s.most → AreHeads (legs_into outs) s k h → AreSmall limit h
+  pub heads_small : (limit : ℕ) (s : Wanted) (k : ℕ) (h : Known) → k ≤ MOST_HOPS → s.end < n → IsHeld limit s.most → AreHeads (legs_into outs) s k h → AreSmall limit h
   heads_small limit s k h few inside most heads x = elim (heads.sound x) [
     | inl none ↦ inl none
     | inr w ↦ inr (wanted_small limit n (legs_into outs) s k x (head_at h x) into_within within.nodes few inside most w).1
@@ -64,7 +66,7 @@ module _ (n : ℕ) (outs ins : List (List Leg)) (within : IsWithinLimits n outs 
 
   -- what the search meets is a witness
   pub met_witness : (s : Wanted) (hops : ℕ) (h : Known) (w : ℕ) (most : Cost) → AreHeads (legs_into outs) s (hops - 2) h →
-      (most.weight ≤ 2 ^ 60) × (most.arcs < 2 ^ 62) → IsAtMost most s.most → 1 ≤ hops → w ≢ s.avoided → w ≢ s.end →
+      (most.weight ≤ MOST_WEIGHT) × (most.arcs < NEVER_ARCS) → IsAtMost most s.most → 1 ≤ hops → w ≢ s.avoided → w ≢ s.end →
       IsMet h ins s.avoided w most hops ↔ HasWitness (legs_from outs) s.avoided s.end w most hops
   met_witness s hops h w most heads small wanted one off apart =
       let met = met_is_witness n (legs_into outs) ins s hops h w most turned_rows heads small wanted one off apart in
@@ -73,7 +75,7 @@ module _ (n : ℕ) (outs ins : List (List Leg)) (within : IsWithinLimits n outs 
 
   -- two legs may be added
   pub legs_sum : (u v x w : ℕ) (a b : Leg) → legs_from outs u v ≡ Some (label_of a) → legs_from outs x w ≡ Some (label_of b) →
-      (a.cost.weight + b.cost.weight ≤ 2 ^ 61) × (a.cost.arcs + b.cost.arcs < 2 ^ 64)
+      (a.cost.weight + b.cost.weight ≤ MOST_SUM) × (a.cost.arcs + b.cost.arcs < 2 ^ 64)
   legs_sum u v x w a b e f =
       let p = within.legs u v (label_of a) e in
       let q = within.legs x w (label_of b) f in
@@ -120,11 +122,11 @@ bounded_skip n first l up None never none = All-push (λ (k : Leg). IsCandidate 
 bounded_skip n first l up (Some c) never all = (more_candidate n first l up c all.0, All-push (IsMostFor n first c) up l all.1 (λ it. absurd (never it)))
 
 -- what two legs cost together is a bound that a search holds
-pub candidate_held : (limit n : ℕ) (first l : Leg) → n ≤ 2 ^ 25 → first.cost.weight ≤ limit → l.cost.weight ≤ limit → IsCandidate n first l → IsHeld limit (cost_sum first.cost l.cost)
+pub candidate_held : (limit n : ℕ) (first l : Leg) → n ≤ MOST_NODES → first.cost.weight ≤ limit → l.cost.weight ≤ limit → IsCandidate n first l → IsHeld limit (cost_sum first.cost l.cost)
 candidate_held limit n first l small a b is = record { limited = omega arith; weight = is.weight; arcs = omega (arith, is.arcs) }
 
 -- the dearest candidate is a bound that a search holds
-pub bound_held : (limit n v : ℕ) (L : Legs) (first : Leg) (up : List Leg) (most : Cost) → n ≤ 2 ^ 25 → AreLegsUpTo limit L → L first.node v ≡ Some (label_of first) → AreLegsFrom L v up →
+pub bound_held : (limit n v : ℕ) (L : Legs) (first : Leg) (up : List Leg) (most : Cost) → n ≤ MOST_NODES → AreLegsUpTo limit L → L first.node v ≡ Some (label_of first) → AreLegsFrom L v up →
     AreBounded n first up (Some most) → IsHeld limit most
 bound_held limit n v L first up most small light here row bounded =
     let is = bounded.0 in
@@ -152,18 +154,18 @@ before_no_candidate n h L v first up list here row none are =
         let arcs = is.arcs in
         absurd (All-contains (λ (l : Leg). IsCandidate n first l → ⊥) up (leg_at s.to legs.1) none m (record {
           apart = λ e. is.apart (sym same ∙ e);
-          weight = subst (λ (z : Cost). z.weight ≤ 2 ^ 60) sum is.weight;
+          weight = subst (λ (z : Cost). z.weight ≤ MOST_WEIGHT) sum is.weight;
           arcs = subst (λ (z : Cost). z.arcs < n) sum is.arcs;
         }))
 
 -- the legs from a node may be added to a leg
-pub up_light : (n : ℕ) (L : Legs) (v : ℕ) (up : List Leg) → AreLegsWithin n L → n ≤ 2 ^ 25 → AreLegsFrom L v up →
-    All (λ l. (l.cost.weight ≤ 2 ^ 60) × (l.cost.arcs ≤ 2 ^ 60)) up
-up_light n L v up limits small row = All-from_get_or (λ l. (l.cost.weight ≤ 2 ^ 60) × (l.cost.arcs ≤ 2 ^ 60)) up no_leg
+pub up_light : (n : ℕ) (L : Legs) (v : ℕ) (up : List Leg) → AreLegsWithin n L → n ≤ MOST_NODES → AreLegsFrom L v up →
+    All (λ l. (l.cost.weight ≤ MOST_WEIGHT) × (l.cost.arcs ≤ MOST_NODES)) up
+up_light n L v up limits small row = All-from_get_or (λ l. (l.cost.weight ≤ MOST_WEIGHT) × (l.cost.arcs ≤ MOST_NODES)) up no_leg
     (λ i lt. let is = limits v (get_or up i no_leg).node _ (leg_from_at L v up i no_leg row lt) in (is.weight, omega (arith, is.arcs)))
 
--- no witness stands for more arcs than 2 ^ 29, so the bound on its arcs may be capped
-pub capped_witness : (n : ℕ) (L : Legs) (v u w hops : ℕ) (cost : Cost) (arcs : ℕ) → AreLegsWithin n L → n ≤ 2 ^ 25 → hops ≤ 16 → arcs ≡ min cost.arcs (2 ^ 29) →
+-- no witness stands for more arcs than MOST_CHAIN_ARCS, so the bound on its arcs may be capped
+pub capped_witness : (n : ℕ) (L : Legs) (v u w hops : ℕ) (cost : Cost) (arcs : ℕ) → AreLegsWithin n L → n ≤ MOST_NODES → hops ≤ MOST_HOPS → arcs ≡ min cost.arcs MOST_CHAIN_ARCS →
     HasWitness L v u w (record { weight = cost.weight; arcs = arcs }) hops ↔ HasWitness L v u w cost hops
 capped_witness n L v u w hops cost arcs limits small few is = (
   λ x. (x.0, record { chain = x.1.chain; hops = x.1.hops; away = x.1.away; cheap = loose (chain_cost L u x.0) x.1.cheap }),
@@ -173,5 +175,5 @@ capped_witness n L v u w hops cost arcs limits small few is = (
     loose : (d : Cost) → IsAtMost d (record { weight = cost.weight; arcs = arcs }) → IsAtMost d cost
     loose d le = let weight = le.0 in (weight, λ e. let more = le.1 e in omega arith)
 
-    tight : (d : Cost) → d.arcs ≤ 2 ^ 29 → IsAtMost d cost → IsAtMost d (record { weight = cost.weight; arcs = arcs })
+    tight : (d : Cost) → d.arcs ≤ MOST_CHAIN_ARCS → IsAtMost d cost → IsAtMost d (record { weight = cost.weight; arcs = arcs })
     tight d less le = let weight = le.0 in (weight, λ e. let more = le.1 e in omega arith)

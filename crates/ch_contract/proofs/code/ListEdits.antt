@@ -53,6 +53,25 @@ set_row node other label old new inside rows is row_is legs = record {
     legs_at x y true e = let same = eqb-true node x e in subst (λ z. row_leg (row new z) y ≡ (if other == y then label else row_leg (row old z) y)) same (legs y)
     legs_at x y false e = let ne = eqb-false node x e in ap (λ z. row_leg z y) (elsewhere x (λ same. ne (sym same)))
 
+-- the list of a node, as it is lent to be changed, is its row
+pub lent_row : (xs : List (SmallVec Leg)) (lists : List (List Leg)) (node : ℕ) (lent : SmallVec Leg) → lent ≡ get_or xs node lent → rows_of xs ≡ lists → node < length lists →
+    (node < length xs) × (lent.items ≡ row lists node)
+lent_row xs lists node lent is view inside =
+    let within : node < length xs = omega (arith, inside, length-map xs (λ (v : SmallVec Leg). v.items), ap length view) in
+    (within, ap (λ (v : SmallVec Leg). v.items) is ∙ sym (row_of xs node lent within) ∙ ap (λ z. row z node) view)
+
+-- and a change of it at one node changes the leg there
+pub lent_set : (xs : List (SmallVec Leg)) (lists : List (List Leg)) (node other : ℕ) (label : Option Label) (lent new : SmallVec Leg) → lent ≡ get_or xs node lent → rows_of xs ≡ lists →
+    node < length lists → AreRows lists → IsRow new.items → ((x : ℕ) → row_leg new.items x ≡ (if other == x then label else row_leg lent.items x)) →
+    IsSet node other label lists (rows_of (set xs node new))
+lent_set xs lists node other label lent new same view inside rows row_is legs =
+    let old = lent_row xs lists node lent same view inside in
+    let is = rows_set xs node new old.0 in
+    set_row node other label lists (rows_of (set xs node new)) inside rows
+    (subst (λ z. rows_of (set xs node new) ≡ set z node (row (rows_of (set xs node new)) node)) view is.1)
+    (subst IsRow (sym is.0) row_is)
+    (λ x. ap (λ z. row_leg z x) is.0 ∙ legs x ∙ ap (λ z. if other == x then label else row_leg z x) old.1)
+
 -- there the leg is new
 pub set_here : (node other : ℕ) (label : Option Label) (old new : List (List Leg)) → IsSet node other label old new → row_leg (row new node) other ≡ label
 set_here node other label old new s =

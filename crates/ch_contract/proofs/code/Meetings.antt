@@ -1,8 +1,10 @@
 -- A search that has met the last legs of a chain has found a witness, and the other way round.
-use Rattle.std.proofs.Common.{◌≡◌, ℕ, ◌+◌, ◌-◌, ◌^◌, ◌<◌, ◌≤◌, List, [], ◌∷◌, length, get_or, take, Some, Contains, refl, sym, ◌∙◌, ap, subst, arith, inl, inr}
+use Rattle.std.proofs.Common.{◌≡◌, ℕ, ◌+◌, ◌-◌, ◌<◌, ◌≤◌, List, [], ◌∷◌, length, get_or, take, Some, Contains, refl, sym, ◌∙◌, ap, subst, arith, inl, inr}
 use Rattle.std.specs.Prelude.{◌⊎◌, ◌≢◌, ◌↔◌}
 use Rattle.std.proofs.lemmas.List.{take_all, take_more}
 use Rattle.std.proofs.lemmas.List.Elements.{Contains-push_cases}
+use Rattle.ch_graph.specs.declared.limits.TheConstants.{MOST_WEIGHT}
+use Rattle.ch_contract.specs.declared.head.TheConstants.{NEVER_ARCS}
 use Rattle.ch_graph.specs.declared.cost.Cost.{Cost}
 use Rattle.ch_graph.specs.Cost.{IsAtMost, cost_sum, no_cost}
 use Rattle.ch_contract.specs.declared.leg.Leg.{Leg}
@@ -18,11 +20,11 @@ use Rattle.ch_graph.proofs.CostOrder.{IsAtMost_refl, IsAtMost_trans, IsAtMost-no
 use Rattle.ch_graph.proofs.CostSums.{IsAtMost-cost_sum, cost_sum_comm, cost_sum_assoc}
 
 -- what is at most a cost that is wanted isn't `never`
-never_most : (a c : Cost) → (c.weight ≤ 2 ^ 60) × (c.arcs < 2 ^ 62) → IsAtMost (cost_sum never a) c → ⊥
+never_most : (a c : Cost) → (c.weight ≤ MOST_WEIGHT) × (c.arcs < NEVER_ARCS) → IsAtMost (cost_sum never a) c → ⊥
 never_most a c small le = let weight = le.0 in let arcs = le.1 (omega arith) in omega arith
 
 module _ (n : ℕ) (L : Legs) (lists : List (List Leg)) (s : Wanted) (hops : ℕ) (h : Known) (start : ℕ) (most : Cost)
-    (from : (x : ℕ) → AreLegsFrom L x (row lists x)) (heads : AreHeads L s (hops - 2) h) (small : (most.weight ≤ 2 ^ 60) × (most.arcs < 2 ^ 62))
+    (from : (x : ℕ) → AreLegsFrom L x (row lists x)) (heads : AreHeads L s (hops - 2) h) (small : (most.weight ≤ MOST_WEIGHT) × (most.arcs < NEVER_ARCS))
     (wanted : IsAtMost most s.most) (one : 1 ≤ hops) (off : start ≢ s.avoided) (apart : start ≢ s.end) where
   -- a leg of a list is a leg
   leg_of : (x : ℕ) (l : Leg) → Contains (row lists x) l → L x l.node ≡ Some (label_of l)

@@ -8,7 +8,7 @@ pub fn contraction_keeps_least_costs()
 {}
 
 /// The contraction hierarchy of a graph within the limits is kept for the graph, for each bound on hops
-/// from 1 to 16.
+/// from 1 to [`MOST_HOPS`](ch_graph::limits::MOST_HOPS).
 pub fn hierarchies_are_kept()
     ensures { HierarchiesAreKept }
 {}

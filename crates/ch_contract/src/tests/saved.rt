@@ -2,6 +2,7 @@
 //! their texts. Each test passes also under `rt try --test --fail-alloc N`, which refuses one request.
 
 use crate::{CheckError, CheckFault, Hierarchy, assemble};
+use ch_graph::limits::MOST_WEIGHT;
 use ch_graph::{Cost, Graph, InArc, Saved, SavedLeg};
 use std::alloc::{AllocError, Global};
 use std::process::Abort;
@@ -42,6 +43,15 @@ fn line(alloc: Global) -> Result<Graph, Fail> {
         },
     ];
     Ok(Graph::new(3, again!(Vec::from_slice(alloc, &arcs)))?)
+}
+
+/// The legs of the two arcs of the line, and one that is too heavy.
+fn three_legs() -> (SavedLeg, SavedLeg, SavedLeg) {
+    (
+        leg(1, 2, 4, 1, 0),
+        leg(2, 3, 5, 1, 0),
+        leg(1, 3, MOST_WEIGHT + 1, 2, 0),
+    )
 }
 
 /// What `assemble` answers for the line, tried a second time where the first was refused memory. The order
@@ -111,9 +121,7 @@ fn orders_that_leave_out_or_repeat_nodes(rt: HostRuntime) -> Result<(), Fail> {
 
 #[test]
 fn the_first_faulty_pair_is_named(rt: HostRuntime) -> Result<(), Fail> {
-    let first = leg(1, 2, 4, 1, 0);
-    let second = leg(2, 3, 5, 1, 0);
-    let heavy = leg(1, 3, (1 << 60) + 1, 2, 0);
+    let (first, second, heavy) = three_legs();
     let outside = leg(1, 4, 0, 0, 0);
     expect_faults(
         &rt,
@@ -138,9 +146,7 @@ fn the_first_faulty_pair_is_named(rt: HostRuntime) -> Result<(), Fail> {
 
 #[test]
 fn the_first_leg_past_a_limit_is_named(rt: HostRuntime) -> Result<(), Fail> {
-    let first = leg(1, 2, 4, 1, 0);
-    let second = leg(2, 3, 5, 1, 0);
-    let heavy = leg(1, 3, (1 << 60) + 1, 2, 0);
+    let (first, second, heavy) = three_legs();
     let long = leg(1, 3, 9, 3, 2);
     expect_faults(
         &rt,

@@ -1,7 +1,10 @@
 //! Searches for witnesses beside a plain one, on small random graphs.
-ghost use Rattle.std.specs.Prelude.{◌≡◌, ◌^◌, ◌<◌, ◌≤◌};
+ghost use Rattle.std.specs.Prelude.{◌≡◌, ◌<◌, ◌≤◌};
+ghost use Rattle.ch_graph.specs.declared.limits.TheConstants.{MOST_WEIGHT};
+ghost use Rattle.ch_contract.specs.Legs.{IsHopBound};
 
 use crate::{Remaining, Shortcut};
+use ch_graph::limits::{MOST_HOPS, MOST_WEIGHT};
 use ch_graph::{Cost, Graph, InArc};
 use std::alloc::{AllocError, Global};
 use std::process::Abort;
@@ -103,7 +106,7 @@ fn plain_shortcuts(
                 arcs: first.cost.arcs.saturating_add(second.cost.arcs),
             };
             let known = least.get(second.node as usize).copied().unwrap_or(0);
-            let is_light = cost.weight <= 1 << 60 && cost.arcs < NODES as u64;
+            let is_light = cost.weight <= MOST_WEIGHT && cost.arcs < NODES as u64;
             if first.node != second.node && is_light && key(cost) < known {
                 list.push(Shortcut {
                     from: first.node,
@@ -142,8 +145,8 @@ fn expect_witnesses(
     cost: Cost,
 ) -> Result<(), AllocError>
     requires node { v < remaining.now.nodes }
-    requires hops { (1 ≤ hops) × (hops ≤ 16) }
-    requires cost { cost.weight ≤ 2 ^ 60 }
+    requires hops { IsHopBound hops }
+    requires cost { cost.weight ≤ MOST_WEIGHT }
 {
     let legs = plain_legs(alloc, remaining)?;
     for u in 0..remaining.nodes() {
@@ -164,12 +167,12 @@ fn searches_find_what_a_plain_search_finds(rt: HostRuntime) -> Result<(), Fail> 
     let alloc = rt.alloc();
     let mut numbers = Numbers(88_172_645_463_325_252);
     for round in 0..400u32 {
-        let hops = 1 + round % 16;
-        let bound = match round / 16 % 4 {
+        let hops = 1 + round % MOST_HOPS;
+        let bound = match round / MOST_HOPS % 4 {
             0 => 1,
             1 => 3,
             2 => 50,
-            _ => (1 << 60) / NODES as u64,
+            _ => MOST_WEIGHT / NODES as u64,
         };
         let mut remaining = random_legs(alloc, &mut numbers, bound)?;
         for v in 0..NODES {
@@ -177,7 +180,7 @@ fn searches_find_what_a_plain_search_finds(rt: HostRuntime) -> Result<(), Fail> 
                 let weight = numbers.below(bound).saturating_add(numbers.below(bound));
                 let arcs = numbers.below(NODES as u64);
                 let cost = Cost {
-                    weight: weight.min(1 << 60),
+                    weight: weight.min(MOST_WEIGHT),
                     arcs,
                 };
                 expect_witnesses(&rt, alloc, &remaining, v, hops, cost)?;

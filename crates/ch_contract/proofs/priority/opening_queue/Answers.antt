@@ -3,6 +3,7 @@ use Rattle.std.specs.Prelude.{All}
 use Rattle.std.specs.List.{range_with_len}
 use Rattle.std.proofs.lemmas.List.{length-replicate}
 use Rattle.std.proofs.lemmas.List.FromFn.{length-range_with_len}
+use Rattle.ch_graph.specs.declared.limits.TheConstants.{MOST_NODES}
 use Rattle.ch_contract.specs.Priorities.{AreRefreshed}
 use Rattle.ch_contract.specs.Remaining.{legs_of}
 use Rattle.ch_contract.proofs.code.KeptPriorities.{numbers_below, all_refreshed}
@@ -12,7 +13,7 @@ use Rattle.ch_contract.proofs.priority.opening_queue.Goals as goal
 within : (n count : ℕ) (items lent : List ℕ) → lent ≡ items → items ≡ range_with_len 0 count → count ≡ n → All (λ x. x < n) lent
 within n count items lent a b e = subst (All (λ x. x < n)) (sym (a ∙ b ∙ ap (range_with_len 0) e)) (numbers_below n)
 
-few : (n count : ℕ) (items lent : List ℕ) → lent ≡ items → items ≡ range_with_len 0 count → count ≡ n → n ≤ 2 ^ 25 → length lent < 2 ^ 32
+few : (n count : ℕ) (items lent : List ℕ) → lent ≡ items → items ≡ range_with_len 0 count → count ≡ n → n ≤ MOST_NODES → length lent < 2 ^ 32
 few n count items lent a b e most = omega (arith, ap length (a ∙ b ∙ ap (range_with_len 0) e), length-range_with_len 0 n)
 
 pub run_list-requires-clause-takes : goal.run_list-requires-clause-takes

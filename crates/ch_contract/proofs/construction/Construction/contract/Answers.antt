@@ -30,26 +30,8 @@ refresh-requires-clause-count g c lifetimes bounds =
     let most = c.requires.sizes.nodes in
     omega arith
 
--- the shortcuts, as they are lent, make the contraction
-contracts : (n h v : ℕ) (L M : Legs) (list lent : List Shortcut) → lent ≡ list → AreShortcuts n h L v list → SameLegs M (contracted L v lent) → Contracts n h L v M
-contracts n h v L M list lent e are same = (lent, subst (AreShortcuts n h L v) (sym e) are, same)
-
--- the kept shortcuts at the place of v are those of v
-kept : (n h v place : ℕ) (L : Legs) (room : Room) → IsReady n h L room → (place < length room.judged.items) × (slice_index room.judged.items place ≡ v) → AreShortcuts n h L v (list_at room place)
-kept n h v place L room ready at = subst (λ x. AreShortcuts n h L x (list_at room place)) at.1 (ready.kept place at.0)
-
-pub shortcuts-requires : goal.shortcuts-requires
-shortcuts-requires g c =
-    let places = c.in_ok-place.ensures.ready.places in
-    let inside = c.in_ok-place.ensures.place.0 in
-    omega arith
-
-pub contract_with-requires-clause-shortcuts : goal.contract_with-requires-clause-shortcuts
-contract_with-requires-clause-shortcuts g c =
-    (c.args.hops, subst (AreShortcuts c.args.self.remaining.nodes c.args.hops (legs_of c.args.self.remaining) c.args.node) (sym c.shortcuts.ensures) (kept _ _ _ _ _ _ c.in_ok-place.ensures.ready c.in_ok-place.ensures.place))
-
 pub refresh-requires-clause-ready : goal.refresh-requires-clause-ready
-refresh-requires-clause-ready g c lifetimes bounds = c.forget.ensures _ _ _ c.in_ok-place.ensures.ready.idle
+refresh-requires-clause-ready g c lifetimes bounds = c.in_ok-remaining.ensures.ready
 
 -- the neighbours that are refreshed
 refreshed : (n h : ℕ) (L : Legs) (nodes lent : List ℕ) (old before after : List (Option ℤ)) → lent ≡ nodes → before ≡ old → AreRefreshed n h L lent before after → AreRefreshed n h L nodes old after
@@ -72,7 +54,7 @@ is_stepped g c =
     let list = listed _ _ _ _ _ _ c.as_slice.ensures.value c.as_slice-2.ensures.value c.in_ok-neighbours.ensures c.as_slice-3.ensures.value in
     record {
       nodes = c.in_ok-remaining.ensures.nodes;
-      legs = contracts _ _ _ _ _ _ _ c.shortcuts.ensures (kept _ _ _ _ _ _ c.in_ok-place.ensures.ready c.in_ok-place.ensures.place) c.in_ok-remaining.ensures.legs;
+      legs = c.in_ok-remaining.ensures.legs;
       from = c.in_ok-remaining.ensures.up;
       to = c.in_ok-remaining.ensures.down;
       refreshed = refreshed _ _ _ _ _ _ _ _ list c.remove.ensures.rest c.in_ok-refresh.ensures.anew;

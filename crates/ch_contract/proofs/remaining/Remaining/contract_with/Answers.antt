@@ -1,5 +1,6 @@
-use Rattle.std.proofs.Common.{◌-◌, ◌^◌, ◌<◌, length, List, All, sym, ◌∙◌, ap, subst}
+use Rattle.std.proofs.Common.{◌<◌, length, List, All, sym, ◌∙◌, ap, subst}
 use Rattle.std.proofs.lemmas.List.{length-set}
+use Rattle.ch_contract.specs.declared.head.TheConstants.{MOST_LIGHT}
 use Rattle.ch_contract.specs.declared.leg.Leg.{Leg}
 use Rattle.ch_contract.specs.declared.shortcut.Shortcut.{Shortcut}
 use Rattle.ch_contract.specs.Legs.{SameLegs}
@@ -33,17 +34,17 @@ take_from-requires-2-clause-covers c =
     let is = c.as_slice-2.ensures.value ∙ c.in_ok-up.ensures.items ∙ c.at.ensures in
     subst (HaveAll c.self.inside.ins c.args.v) (sym is) (ins_at c.self.inside.nodes c.self.inside.outs c.self.inside.ins c.self.invariant.0 c.args.v)
 
-pub put_all-requires-clause-nodes : goal.put_all-requires-clause-nodes
+pub put_shortcuts-requires-clause-from : goal.put_shortcuts-requires-clause-from
 unfolding legs_of
-put_all-requires-clause-nodes c =
+put_shortcuts-requires-clause-from c =
     let h = c.requires.shortcuts.0 in
     let are = subst (λ (m : RemainingLegs). AreShortcuts m.nodes h (legs_of m) c.args.v c.args.shortcuts.now) (sym c.self.view_is) c.requires.shortcuts.1 in
     let size = ap length c.clear_at.ensures ∙ length-set c.take_from.new.self c.args.v _ ∙ c.take_from.ensures.size ∙ c.self.invariant.0.sizes.0 in
     subst (λ n. All (λ (s : Shortcut). s.from < n) c.args.shortcuts.now) (sym size) (from_within c.self.inside.nodes c.self.inside.outs c.self.inside.ins c.self.invariant.0 c.args.v h c.args.shortcuts.now are)
 
-pub put_all_turned-requires-clause-nodes : goal.put_all_turned-requires-clause-nodes
+pub put_shortcuts-requires-clause-to : goal.put_shortcuts-requires-clause-to
 unfolding legs_of
-put_all_turned-requires-clause-nodes c =
+put_shortcuts-requires-clause-to c =
     let h = c.requires.shortcuts.0 in
     let are = subst (λ (m : RemainingLegs). AreShortcuts m.nodes h (legs_of m) c.args.v c.args.shortcuts.now) (sym c.self.view_is) c.requires.shortcuts.1 in
     let size = ap length c.clear_at-2.ensures ∙ length-set c.take_from-2.new.self c.args.v _ ∙ c.take_from-2.ensures.size ∙ c.self.invariant.0.sizes.1 in
@@ -57,10 +58,10 @@ invariant_of-remaining c =
     let inside = subst (λ (m : RemainingLegs). c.args.v < m.nodes) (sym c.self.view_is) c.requires.node in
     let left = contraction_leaves c.self.inside.nodes c.self.inside.outs c.self.inside.ins c.self.invariant.0 c.args.v inside h c.args.shortcuts.now are _ _ _ _ _ _
     (record { size = c.take_from.ensures.size; rows = c.take_from.ensures.rows; legs = c.take_from.ensures.legs }) (record { size = c.take_from-2.ensures.size; rows = c.take_from-2.ensures.rows; legs = c.take_from-2.ensures.legs })
-    c.clear_at.ensures c.clear_at-2.ensures c.in_ok-put_all.ensures c.in_ok-put_all_turned.ensures in (
+    c.clear_at.ensures c.clear_at-2.ensures c.in_ok-put_shortcuts.ensures.outs c.in_ok-put_shortcuts.ensures.ins in (
       left.0,
       λ yes. elim c.if-light.branch [
-        | then-light w ↦ contracted_light (2 ^ 30 - 1) (legs_from c.self.inside.outs) c.args.v c.args.shortcuts.now (legs_from c.put_all.new.self) (c.self.invariant.1 w.if-light.true) (w.are_light.ensures (sym w.remaining-is ∙ yes)) left.1
+        | then-light w ↦ contracted_light MOST_LIGHT (legs_from c.self.inside.outs) c.args.v c.args.shortcuts.now (legs_from c.put_shortcuts.new.outs) (c.self.invariant.1 w.if-light.true) (w.are_light.ensures (sym w.remaining-is ∙ yes)) left.1
         | else-light w ↦ let no = sym w.remaining-is ∙ yes in cc
       ],
     )
@@ -73,8 +74,8 @@ returns-clause-legs c =
     let inside = subst (λ (m : RemainingLegs). c.args.v < m.nodes) (sym c.self.view_is) c.requires.node in
     let left = (contraction_leaves c.self.inside.nodes c.self.inside.outs c.self.inside.ins c.self.invariant.0 c.args.v inside h c.args.shortcuts.now are _ _ _ _ _ _
     (record { size = c.take_from.ensures.size; rows = c.take_from.ensures.rows; legs = c.take_from.ensures.legs }) (record { size = c.take_from-2.ensures.size; rows = c.take_from-2.ensures.rows; legs = c.take_from-2.ensures.legs })
-    c.clear_at.ensures c.clear_at-2.ensures c.in_ok-put_all.ensures c.in_ok-put_all_turned.ensures).1 in
-    subst (λ (m : RemainingLegs). SameLegs (legs_from c.put_all.new.self) (contracted (legs_of m) c.args.v c.args.shortcuts.now)) c.self.view_is left
+    c.clear_at.ensures c.clear_at-2.ensures c.in_ok-put_shortcuts.ensures.outs c.in_ok-put_shortcuts.ensures.ins).1 in
+    subst (λ (m : RemainingLegs). SameLegs (legs_from c.put_shortcuts.new.outs) (contracted (legs_of m) c.args.v c.args.shortcuts.now)) c.self.view_is left
 
 pub returns-clause-up : goal.returns-clause-up
 unfolding legs_of

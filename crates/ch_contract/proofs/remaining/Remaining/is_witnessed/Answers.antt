@@ -1,6 +1,7 @@
 use Rattle.std.proofs.Common.{◌≤◌, ◌-◌, sym, subst, arith, ap, ◌∙◌}
 use Rattle.std.specs.Prelude.{IsTrue, ◌↔◌}
 use Rattle.std.proofs.lemmas.List.{length-map}
+use Rattle.ch_graph.specs.declared.limits.TheConstants.{MOST_HOPS}
 use Rattle.ch_contract.specs.Legs.{HasWitness}
 use Rattle.ch_contract.specs.Heads.{AreLegsUpTo, known_of}
 use Rattle.ch_contract.specs.Meeting.{AreListsWithin}
@@ -19,7 +20,7 @@ meets-requires g c =
     let nodes = ap (λ (m : RemainingLegs). m.nodes) c.self.view_is in
     let known = subst (λ (m : RemainingLegs). IsKnown m c.args.wanted c.args.hops (known_of g.K.Head.cost c.args.search.now.heads)) (sym c.self.view_is) c.requires.known in
     let count = c.self.invariant.0.sizes.1 in
-    let few : c.args.hops - 2 ≤ 16 = omega (arith, c.requires.hops) in
+    let few : c.args.hops - 2 ≤ MOST_HOPS = omega (arith, c.requires.hops) in
     let light = subst (λ (m : RemainingLegs). AreLegsUpTo g.K.Head.limit (legs_of m)) (sym c.self.view_is) c.requires.light in
     record {
       start = omega (arith, c.requires.node);

@@ -1,6 +1,7 @@
-use Rattle.std.proofs.Common.{◌-◌, ◌^◌, ◌≤◌, sym, subst}
+use Rattle.std.proofs.Common.{◌≤◌, sym, subst}
 use Rattle.std.specs.Prelude.{filter, All}
 use Rattle.std.proofs.Common.{◌+◌, take}
+use Rattle.ch_contract.specs.declared.head.TheConstants.{MOST_LIGHT}
 use Rattle.ch_contract.specs.Remaining.{legs_of}
 use Rattle.ch_contract.specs.LegLists.{legs_from}
 use Rattle.ch_contract.proofs.theory.Opening.{joins}
@@ -28,7 +29,7 @@ loop-arc-preserved c =
 pub invariant_of-result : goal.invariant_of-result
 invariant_of-result c =
     let opened = open_all c.args.graph.now c.nodes-nodes.result c.arcs-arc-items.result.now c.loop-arc.arc-index c.loop-arc.outs c.loop-arc.ins c.arcs-arc-items.ensures.limits c.nodes-nodes.ensures c.arcs-arc-items.ensures.arcs c.loop-arc-test.false c.loop-arc.invariant in
-    (opened.0, λ light. opened_light (2 ^ 30 - 1) c.args.graph.now (legs_from c.loop-arc.outs) (subst (All (λ a. a.weight ≤ 2 ^ 30 - 1)) c.arcs.ensures.arcs (c.are_light_arcs.ensures light)) opened.1)
+    (opened.0, λ light. opened_light MOST_LIGHT c.args.graph.now (legs_from c.loop-arc.outs) (subst (All (λ a. a.weight ≤ MOST_LIGHT)) c.arcs.ensures.arcs (c.are_light_arcs.ensures light)) opened.1)
 
 pub returns-clause-legs : goal.returns-clause-legs
 unfolding legs_of

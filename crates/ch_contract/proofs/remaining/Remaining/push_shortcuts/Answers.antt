@@ -1,5 +1,6 @@
 use Rattle.ch_contract.specs.Lines.{IsCandidate}
-use Rattle.std.proofs.Common.{◌^◌, ◌≤◌, arith, All, ◌+◌, get_or, sym, ◌∙◌, ap, subst}
+use Rattle.std.proofs.Common.{◌≤◌, arith, All, ◌+◌, get_or, sym, ◌∙◌, ap, subst}
+use Rattle.ch_graph.specs.declared.limits.TheConstants.{MOST_NODES}
 use Rattle.ch_contract.specs.Remaining.{legs_of}
 use Rattle.ch_contract.specs.ShortcutLists.{AreShortcutsBefore}
 use Rattle.ch_contract.proofs.theory.RowLemmas.{leg_from_at, no_leg}
@@ -49,10 +50,10 @@ returns-in_default-clause-list g c =
 
 pub reach-requires-clause-most : goal.reach-requires-clause-most
 reach-requires-clause-most g c =
-    let small : c.nodes-nodes.result ≤ 2 ^ 25 = omega (arith, c.nodes-nodes.ensures.nodes, c.nodes-nodes.ensures.count) in
+    let small : c.nodes-nodes.result ≤ MOST_NODES = omega (arith, c.nodes-nodes.ensures.nodes, c.nodes-nodes.ensures.count) in
     bound_held g.K.Head.limit c.nodes-nodes.result c.args.v (legs_of c.args.self.now) c.args.first c.args.up.now c.in-Some.most small c.requires.light c.requires.first c.requires.up c.in-Some.ensures
 
 pub shortcut-requires-clause-held : goal.shortcut-requires-clause-held
 shortcut-requires-clause-held g c =
-    let small : c.nodes-nodes.result ≤ 2 ^ 25 = omega (arith, c.nodes-nodes.ensures.nodes, c.nodes-nodes.ensures.count) in
+    let small : c.nodes-nodes.result ≤ MOST_NODES = omega (arith, c.nodes-nodes.ensures.nodes, c.nodes-nodes.ensures.count) in
     bound_held g.K.Head.limit c.nodes-nodes.result c.args.v (legs_of c.args.self.now) c.args.first c.args.up.now c.in-Some.most small c.requires.light c.requires.first c.requires.up c.in-Some.ensures

@@ -1,5 +1,6 @@
-use Rattle.std.proofs.Common.{◌≤◌, ◌<◌, ◌^◌, sym, subst, arith, ap, ◌∙◌}
+use Rattle.std.proofs.Common.{◌≤◌, ◌<◌, sym, subst, arith, ap, ◌∙◌}
 use Rattle.std.specs.Prelude.{OnOk}
+use Rattle.ch_graph.specs.declared.limits.TheConstants.{MOST_NODES}
 use Rattle.ch_contract.specs.Legs.{AreLegsWithin}
 use Rattle.ch_contract.specs.Heads.{IsClean, AreLegsUpTo, known_of}
 use Rattle.ch_contract.specs.LegLists.{legs_into}
@@ -22,7 +23,7 @@ reach-requires g c =
       rows = c.self.invariant.0.rows.0;
       limits = subst (λ n. AreLegsWithin n (legs_into outs)) (sym count) (into_within n outs ins c.self.invariant.0);
       light = turned_light g.K.Head.limit outs (subst (λ (m : RemainingLegs). AreLegsUpTo g.K.Head.limit (legs_of m)) (sym c.self.view_is) c.requires.light);
-      nodes = subst (λ n. n ≤ 2 ^ 25) (sym count) c.self.invariant.0.nodes;
+      nodes = subst (λ n. n ≤ MOST_NODES) (sym count) c.self.invariant.0.nodes;
       end = (subst (λ n. c.args.wanted.end < n) (sym (count ∙ nodes)) c.requires.end.0, c.requires.end.1);
       most = c.requires.most;
       rounds = omega (arith, c.saturating_sub.ensures, c.requires.hops);

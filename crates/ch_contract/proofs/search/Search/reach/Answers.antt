@@ -1,5 +1,6 @@
 use Rattle.std.proofs.Common.{true, refl, sym, ◌∙◌, ap, subst, arith, length, All, List, map}
 use Rattle.std.specs.Prelude.{◌≡◌, ◌<◌, ◌≤◌}
+use Rattle.ch_graph.specs.declared.limits.TheConstants.{MOST_HOPS}
 use Rattle.ch_contract.specs.Rows.{row}
 use Rattle.ch_contract.specs.Heads.{Begun, Lowers, IsOnly, IsOnlyWhere, IsOneMoreOf, IsRoomFor, AreHeads, known_of, begun_of}
 use Rattle.ch_contract.specs.LegLists.{legs_into}
@@ -31,7 +32,7 @@ spread_all-requires g c =
     let n = length lists in
     let u = c.loop-round.invariant in
     let front = c.as_slice.ensures.value ∙ ap (λ v. v.items) c.swap.ensures.x_after in
-    let few : c.loop-round._round ≤ 16 = omega (arith, c.requires.rounds) in
+    let few : c.loop-round._round ≤ MOST_HOPS = omega (arith, c.requires.rounds) in
     let room = steps_room limit lists n c.args.wanted c.loop-round._round (known_of cost c.loop-round.self.heads).next c.requires.rows c.requires.limits c.requires.light c.requires.nodes few c.requires.end.0 c.requires.most u.steps in
     let steps = all_mapped (λ f. (f.node < n) × IsRoomFor limit n (row lists f.node) f) (begun_of cost) c.loop-round.self.heads.next.items room in
     record {

@@ -1,0 +1,15 @@
+use Rattle.std.proofs.Common.{◌≤◌, ◌-◌, length, take}
+use Rattle.ch_contract.specs.Rooms.{IsReady}
+use Rattle.ch_contract.specs.Remaining.{legs_of}
+use Rattle.ch_contract.specs.Priorities.{AreRefreshed}
+use Rattle.ch_contract.proofs.priority.PriorityJob.refresh.Given as goal
+
+abbrev pub invariant-loop-from : goal.invariant-loop-from
+invariant-loop-from g l =
+    (l.number ≤ l.from)
+    × (l.from ≤ length l.nodes)
+    × AreRefreshed l.self.remaining.now.nodes l.self.hops (legs_of l.self.remaining.now) (take l.from l.nodes) l.fn.waiting l.waiting
+    × IsReady l.self.remaining.now.nodes l.self.hops (legs_of l.self.remaining.now) l.room
+
+abbrev pub decreases-loop-from : goal.decreases-loop-from
+decreases-loop-from g l = length l.nodes - l.from

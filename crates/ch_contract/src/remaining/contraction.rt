@@ -1,0 +1,79 @@
+//! The contraction of one node.
+ghost use Rattle.std.specs.Prelude.{◌≡◌, ℕ, ◌<◌, IfOk};
+ghost use Rattle.ch_contract.specs.Legs.{SameLegs, IsHopBound};
+ghost use Rattle.ch_contract.specs.Contraction.{AreShortcuts, Contracts, contracted};
+ghost use Rattle.ch_contract.specs.Rows.{AreLegsFrom, AreLegsTo};
+ghost use Rattle.ch_contract.specs.Remaining.{legs_of};
+
+use crate::leg::Leg;
+use crate::lists::put_shortcuts;
+use crate::remaining::Remaining;
+use crate::remaining::light::are_light;
+use crate::shortcut::Shortcut;
+use std::alloc::AllocError;
+
+/// The legs of a contracted node, each list in order of the other node.
+#[derive(Debug, Drop)]
+pub struct Removed {
+    /// The legs from the node.
+    pub up: Vec<Leg>,
+    /// The legs to the node.
+    pub down: Vec<Leg>,
+}
+
+impl Remaining {
+    /// Takes `v` out with all legs that touch it, and puts its shortcuts in. A shortcut takes the place of
+    /// an older leg between its ends, which was dearer.
+    ///
+    /// # Errors
+    /// `AllocError` where there is no memory for the shortcuts or for what they leave. The legs are dropped, so that
+    /// none are left of which half are contracted; the graph can be opened again.
+    pub fn contract(self, v: u32, hops: u32) -> Result<(Remaining, Removed), AllocError>
+        requires node { v < self.nodes }
+        requires hops { IsHopBound hops }
+        ensures nodes { IfOk result (λ r. r.0.nodes ≡ self.nodes) }
+        ensures legs { IfOk result (λ r. Contracts self.nodes hops (legs_of self) v (legs_of r.0)) }
+        ensures up { IfOk result (λ r. AreLegsFrom (legs_of self) v r.1.up.items) }
+        ensures down { IfOk result (λ r. AreLegsTo (legs_of self) v r.1.down.items) }
+    {
+        let shortcuts = self.shortcuts(v, hops)?;
+        self.contract_with(v, shortcuts.as_slice())
+    }
+
+    /// Takes `v` out with all legs that touch it, and puts these shortcuts in, which are those of `v`.
+    pub(crate) fn contract_with(
+        self,
+        v: u32,
+        shortcuts: &[Shortcut],
+    ) -> Result<(Remaining, Removed), AllocError>
+        requires node { v < self.nodes }
+        requires shortcuts { (h : ℕ) × AreShortcuts self.nodes h (legs_of self) v shortcuts.now }
+        ensures nodes { IfOk result (λ r. r.0.nodes ≡ self.nodes) }
+        ensures legs { IfOk result (λ r. SameLegs (legs_of r.0) (contracted (legs_of self) v shortcuts.now)) }
+        ensures up { IfOk result (λ r. AreLegsFrom (legs_of self) v r.1.up.items) }
+        ensures down { IfOk result (λ r. AreLegsTo (legs_of self) v r.1.down.items) }
+    {
+        let up = Vec::from_slice(self.alloc, self.outs.at(v))?;
+        let down = Vec::from_slice(self.alloc, self.ins.at(v))?;
+        let Remaining {
+            nodes,
+            mut outs,
+            mut ins,
+            light,
+            alloc,
+        } = self;
+        outs.take_from(v, down.as_slice());
+        ins.take_from(v, up.as_slice());
+        outs.clear_at(alloc, v);
+        ins.clear_at(alloc, v);
+        put_shortcuts(&mut outs, &mut ins, v, shortcuts)?;
+        let remaining = Remaining {
+            nodes,
+            outs,
+            ins,
+            light: light && are_light(shortcuts),
+            alloc,
+        };
+        Ok((remaining, Removed { up, down }))
+    }
+}

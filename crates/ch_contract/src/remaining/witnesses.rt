@@ -1,0 +1,93 @@
+//! Witnesses among the legs that are left.
+ghost use Rattle.std.specs.Prelude.{◌≢◌, ◌<◌, ◌≤◌, ◌↔◌, IfOk, OnOk, IsTrue};
+ghost use Rattle.ch_graph.specs.declared.limits.TheConstants.{MOST_WEIGHT};
+ghost use Rattle.ch_graph.specs.Cost.{IsAtMost};
+ghost use Rattle.ch_contract.specs.Legs.{HasWitness, IsHopBound};
+ghost use Rattle.ch_contract.specs.HeldCosts.{IsHeld};
+ghost use Rattle.ch_contract.specs.Heads.{known_of, IsClean, AreTouched, AreLegsUpTo};
+ghost use Rattle.ch_contract.specs.Lines.{IsKnown};
+ghost use Rattle.ch_contract.specs.Remaining.{legs_of};
+
+use crate::head::{Head, MOST_CHAIN_ARCS};
+use crate::remaining::Remaining;
+use crate::search::{Search, Wanted};
+use ch_graph::Cost;
+use std::alloc::AllocError;
+
+impl Remaining {
+    /// Whether a chain of 1 to `hops` legs leads from `u` to `w`, never touches `v`, and costs at most
+    /// `cost`. The search goes forward from `u` until two legs are left, and these back from `w`.
+    ///
+    /// # Errors
+    /// `AllocError` where there is no memory for a search. The legs are as they were.
+    pub fn has_witness(
+        &self,
+        v: u32,
+        u: u32,
+        w: u32,
+        cost: Cost,
+        hops: u32,
+    ) -> Result<bool, AllocError>
+        requires nodes { (v < self.now.nodes) × (u < self.now.nodes) × (w < self.now.nodes) }
+        requires apart { (v ≢ u) × (v ≢ w) × (u ≢ w) }
+        requires cost { cost.weight ≤ MOST_WEIGHT }
+        requires hops { IsHopBound hops }
+        ensures { IfOk result (λ found. IsTrue found ↔ HasWitness (legs_of self.now) v u w cost hops) }
+    {
+        let nodes = self.nodes();
+        let most = Cost {
+            weight: cost.weight,
+            arcs: cost.arcs.min(MOST_CHAIN_ARCS),
+        };
+        let wanted = Wanted {
+            end: u,
+            avoided: v,
+            most,
+        };
+        let mut search: Search<Cost> = Search::new(self.alloc, nodes)?;
+        self.reach(&mut search, wanted, hops)?;
+        Ok(self.is_witnessed(&search, wanted, w, most, hops))
+    }
+
+    /// Learns the costs of the chains from the wanted end that leave two legs to go of the `hops` that a
+    /// witness may have.
+    pub(super) fn reach<K: Head>(
+        &self,
+        search: &mut Search<K>,
+        wanted: Wanted,
+        hops: u32,
+    ) -> Result<(), AllocError>
+        requires hops { IsHopBound hops }
+        requires light { AreLegsUpTo K.limit (legs_of self.now) }
+        requires clean { IsClean self.now.nodes (known_of K.cost search.old.heads) }
+        requires end { (wanted.end < self.now.nodes) × (wanted.end ≢ wanted.avoided) }
+        requires most { IsHeld K.limit wanted.most }
+        ensures known { OnOk result (IsKnown self.now wanted hops (known_of K.cost search.new.heads)) }
+        ensures touched { OnOk result (AreTouched (known_of K.cost search.new.heads)) }
+    {
+        search.reach(&self.outs, wanted, hops.saturating_sub(2))
+    }
+
+    /// Whether the chains that are known show a witness from the wanted end to `w`, of at most `hops` legs
+    /// and this cost.
+    pub(super) fn is_witnessed<K: Head>(
+        &self,
+        search: &Search<K>,
+        wanted: Wanted,
+        w: u32,
+        cost: Cost,
+        hops: u32,
+    ) -> bool
+        requires hops { IsHopBound hops }
+        requires light { AreLegsUpTo K.limit (legs_of self.now) }
+        requires known { IsKnown self.now wanted hops (known_of K.cost search.now.heads) }
+        requires node { w < self.now.nodes }
+        requires end { wanted.end < self.now.nodes }
+        requires apart { (w ≢ wanted.avoided) × (w ≢ wanted.end) }
+        requires cost { IsHeld K.limit cost × IsAtMost cost wanted.most }
+        requires most { IsHeld K.limit wanted.most }
+        ensures { IsTrue result ↔ HasWitness (legs_of self.now) wanted.avoided wanted.end w cost hops }
+    {
+        search.meets(&self.ins, wanted.avoided, w, cost, hops)
+    }
+}
