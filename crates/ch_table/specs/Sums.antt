@@ -1,6 +1,8 @@
 -- What the nodes owe to the cells of a table: the sums within a limit of what their two buckets hold.
-use Rattle.std.specs.Prelude.{◌≡◌, ℕ, ◌+◌, ◌*◌, ◌^◌, ◌<◌, ◌≤◌, List, [], length, slice_index_or, Contains, All, Option}
+use Rattle.std.specs.Prelude.{◌≡◌, ℕ, ◌+◌, ◌*◌, ◌<◌, ◌≤◌, List, [], length, slice_index_or, Contains, All, Option}
+use Rattle.ch_graph.specs.declared.limits.TheConstants.{MOST_WEIGHT}
 use Rattle.ch_query.specs.Limits.{IsWithin}
+use Rattle.ch_work.specs.declared.limits.TheConstants.{MOST_CELLS}
 
 -- the buckets of the sources and of the targets, how many of these there are, and the limit on sums: cell `i * columns + j` is that of source i and target j
 pub record BothSides : Type 0 where
@@ -12,14 +14,14 @@ pub record BothSides : Type 0 where
 
 -- the entry has one of so many places, and a weight of a path
 abbrev pub IsEntryAmong : ℕ → ℕ × ℕ → Type 0
-IsEntryAmong places entry = (entry.0 < places) × (entry.1 ≤ 2 ^ 60)
+IsEntryAmong places entry = (entry.0 < places) × (entry.1 ≤ MOST_WEIGHT)
 
 -- the buckets are of the same nodes, and each entry of a row or a column
 pub record AreWithin (S : BothSides) : Type 0 where
   pub nodes : length S.downs ≡ length S.ups
   pub ups : (v : ℕ) → All (IsEntryAmong S.rows) (slice_index_or S.ups v [])
   pub downs : (v : ℕ) → All (IsEntryAmong S.columns) (slice_index_or S.downs v [])
-  pub cells : S.rows * S.columns ≤ 2 ^ 22
+  pub cells : S.rows * S.columns ≤ MOST_CELLS
 
 -- what the weight of a source whose row begins at `first` owes with these entries of targets: each sum that is within the limit
 abbrev pub IsOwedInRow : Option ℕ → ℕ → ℕ → List (ℕ × ℕ) → ℕ → ℕ → Type 0

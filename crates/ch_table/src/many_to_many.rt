@@ -1,9 +1,11 @@
 //! Distances from many nodes to many.
-ghost use Rattle.std.specs.Prelude.{◌*◌, ◌^◌, ◌<◌, ◌≤◌, length, All, IfOk};
+ghost use Rattle.std.specs.Prelude.{◌*◌, ◌<◌, ◌≤◌, length, All, IfOk};
 ghost use Rattle.std.specs.List.{AllZip};
+ghost use Rattle.ch_graph.specs.declared.limits.TheConstants.{MOST_LISTED};
 ghost use Rattle.ch_contract.specs.Hierarchy.{nodes_of};
 ghost use Rattle.ch_query.specs.Distance.{IsKeptForSome};
 ghost use Rattle.ch_table.specs.Table.{IsRowBy};
+ghost use Rattle.ch_work.specs.declared.limits.TheConstants.{MOST_CELLS};
 
 use crate::cells::Table;
 use crate::spaces::search_spaces;
@@ -38,8 +40,8 @@ pub fn table<R: Threads + Sync, G: Gate>(
     requires kept { IsKeptForSome hierarchy.now }
     requires sources { All (λ s. s < nodes_of hierarchy.now) sources.now }
     requires targets { All (λ t. t < nodes_of hierarchy.now) targets.now }
-    requires lists { (length sources.now ≤ 65536) × (length targets.now ≤ 65536) }
-    requires cells { length sources.now * length targets.now ≤ 2 ^ 22 }
+    requires lists { (length sources.now ≤ MOST_LISTED) × (length targets.now ≤ MOST_LISTED) }
+    requires cells { length sources.now * length targets.now ≤ MOST_CELLS }
     ensures { IfOk result (AllZip (IsRowBy hierarchy.now within targets.now) sources.now) }
 {
     let downs = search_spaces(

@@ -1,7 +1,9 @@
 //! What the nodes owe to the cells of a table.
-ghost use Rattle.std.specs.Prelude.{◌≡◌, ◌+◌, ◌*◌, ◌^◌, ◌<◌, ◌≤◌, ◌↔◌, IsTrue, length, All};
+ghost use Rattle.std.specs.Prelude.{◌≡◌, ◌+◌, ◌*◌, ◌<◌, ◌≤◌, ◌↔◌, IsTrue, length, All};
+ghost use Rattle.ch_graph.specs.declared.limits.TheConstants.{MOST_WEIGHT};
 ghost use Rattle.ch_query.specs.Limits.{IsWithin};
 ghost use Rattle.ch_table.specs.Sums.{IsOwedInRow, IsOwedAt};
+ghost use Rattle.ch_work.specs.declared.limits.TheConstants.{MOST_CELLS, MOST_OFFER};
 ghost use Rattle.ch_work.specs.Owed.{HasPaid};
 ghost use Rattle.ch_work.specs.Passes.{view_of, size_of, IsPassOf};
 
@@ -83,9 +85,9 @@ fn pay_row(
     within: Option<u64>,
 )
     requires board { IsPassOf board.now pass.old }
-    requires weight { weight ≤ 2 ^ 60 }
-    requires targets { All (λ entry. (first + entry.0 < (size_of board.now).cells) × (entry.1 ≤ 2 ^ 60)) targets.now }
-    requires cells { (size_of board.now).cells ≤ 2 ^ 22 }
+    requires weight { weight ≤ MOST_WEIGHT }
+    requires targets { All (λ entry. (first + entry.0 < (size_of board.now).cells) × (entry.1 ≤ MOST_WEIGHT)) targets.now }
+    requires cells { (size_of board.now).cells ≤ MOST_CELLS }
     ensures board { IsPassOf board.now pass.new }
     ensures paid { HasPaid (IsOwedInRow within first weight targets.now) (view_of pass.old) (view_of pass.new) }
 {
@@ -98,7 +100,7 @@ fn pay_row(
 fn pay_within(board: &Board, pass: &mut Pass, cell: u32, weight: u64, within: Option<u64>)
     requires board { IsPassOf board.now pass.old }
     requires cell { cell < (size_of board.now).cells }
-    requires weight { weight ≤ 2 ^ 61 }
+    requires weight { weight ≤ MOST_OFFER }
     ensures board { IsPassOf board.now pass.new }
     ensures paid { HasPaid (λ at x. (at ≡ cell) × (x ≡ weight) × IsWithin within x) (view_of pass.old) (view_of pass.new) }
 {
