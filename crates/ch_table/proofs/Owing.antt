@@ -1,8 +1,9 @@
 -- What the nodes owe, entry by entry and node by node.
-use Rattle.std.proofs.Common.{◌≡◌, ℕ, ◌+◌, ◌*◌, ◌<◌, ◌≤◌, ◌^◌, Option, List, [], ◌∷◌, ◌++◌, Contains, take, get_or, sym, ap, subst, arith, inl, inr}
+use Rattle.std.proofs.Common.{◌≡◌, ℕ, ◌+◌, ◌*◌, ◌<◌, ◌≤◌, Option, List, [], ◌∷◌, ◌++◌, Contains, take, get_or, sym, ap, subst, arith, inl, inr}
 use Rattle.std.specs.Prelude.{All}
 use Rattle.std.proofs.lemmas.List.Elements.{Contains-append_left, Contains-push, Contains-push_cases}
 use Rattle.std.proofs.lemmas.Nat.{mul-add-lt}
+use Rattle.ch_graph.specs.declared.limits.TheConstants.{MOST_WEIGHT}
 use Rattle.ch_graph.proofs.Lists.{contains_none}
 use Rattle.std.proofs.lemmas.Bool.{cases_lt}
 use Rattle.ch_query.specs.Limits.{IsWithin}
@@ -69,7 +70,7 @@ nodes_more S from node low u v w =
     (λ cell x o. (node, low, omega arith, o))
 
 -- the cells of a source's row are those of the board, and the weights those of paths
-pub row_cells : (S : BothSides) (cells i : ℕ) (targets : List (ℕ × ℕ)) → i < S.rows → cells ≡ S.rows * S.columns → All (IsEntryAmong S.columns) targets → All (λ entry. (i * S.columns + entry.0 < cells) × (entry.1 ≤ 2 ^ 60)) targets
+pub row_cells : (S : BothSides) (cells i : ℕ) (targets : List (ℕ × ℕ)) → i < S.rows → cells ≡ S.rows * S.columns → All (IsEntryAmong S.columns) targets → All (λ entry. (i * S.columns + entry.0 < cells) × (entry.1 ≤ MOST_WEIGHT)) targets
 row_cells S cells i targets lt size all k d within =
     let e = all k d within in
     let fits = mul-add-lt i S.columns (get_or targets k d).0 S.rows lt e.0 in

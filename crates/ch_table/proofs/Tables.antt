@@ -1,5 +1,5 @@
 -- The cells of a table: the least sums that the nodes owe, and what they mean.
-use Rattle.std.proofs.Common.{◌≡◌, ℕ, zero, suc, ◌+◌, ◌*◌, ◌<◌, ◌≤◌, ◌^◌, min, List, [], ◌∷◌, length, Contains, Option, Some, None, get_or, refl, sym, ◌∙◌, subst, arith}
+use Rattle.std.proofs.Common.{◌≡◌, ℕ, zero, suc, ◌+◌, ◌*◌, ◌<◌, ◌≤◌, min, List, [], ◌∷◌, length, Contains, Option, Some, None, get_or, refl, sym, ◌∙◌, subst, arith}
 use Rattle.std.specs.Prelude.{All, slice_index, slice_index_or, slice_range, Vec}
 use Rattle.std.specs.declared.alloc.Global.{Global}
 use Rattle.std.specs.List.{AllZip}
@@ -17,6 +17,7 @@ use Rattle.ch_query.specs.SearchSpace.{IsSearchSpace}
 use Rattle.ch_query.specs.Side.{rows_of}
 use Rattle.ch_query.specs.SearchSpaceLaws.{IsSharedSum, IsLeastSharedSum}
 use Rattle.ch_query.proofs.SharedSums.{spaces_give_distance}
+use Rattle.ch_work.specs.declared.limits.TheConstants.{MOST_CELLS}
 use Rattle.ch_work.specs.Owed.{owed_by, IsLeastOwed}
 use Rattle.ch_work.specs.Pieces.{pieces_of}
 use Rattle.ch_work.proofs.PieceLists.{piece_of}
@@ -81,7 +82,7 @@ module _ (H : LevelsAndLegs) (limit : Option ℕ) (sources targets : List ℕ) (
   sides = record { ups = ups; downs = downs; rows = length sources; columns = length targets; limit = limit }
 
   -- they fit the cells
-  pub within : length sources * length targets ≤ 2 ^ 22 → AreWithin sides
+  pub within : length sources * length targets ≤ MOST_CELLS → AreWithin sides
   within few = record {
     nodes = fall.held.count ∙ sym rise.held.count;
     ups = entries_among H Up limit sources ups rise;

@@ -1,6 +1,11 @@
 -- What the nodes owe to the cells of a table: the sums within a limit of what their two buckets hold.
-use Rattle.std.specs.Prelude.{◌≡◌, ℕ, ◌+◌, ◌*◌, ◌^◌, ◌<◌, ◌≤◌, List, [], length, slice_index_or, Contains, All, Option}
+use Rattle.std.specs.Prelude.{◌≡◌, ℕ, ◌+◌, ◌*◌, ◌<◌, ◌≤◌, List, [], length, slice_index_or, Contains, All, Option}
+use Rattle.ch_graph.specs.declared.limits.TheConstants.{MOST_WEIGHT}
+use Rattle.ch_contract.specs.Hierarchy.{LevelsAndLegs}
+use Rattle.ch_query.specs.declared.side.Side.TheVariants.{Up, Down}
 use Rattle.ch_query.specs.Limits.{IsWithin}
+use Rattle.ch_work.specs.declared.limits.TheConstants.{MOST_CELLS}
+use Rattle.ch_table.specs.Buckets.{HoldSearchSpaces}
 
 -- the buckets of the sources and of the targets, how many of these there are, and the limit on sums: cell `i * columns + j` is that of source i and target j
 pub record BothSides : Type 0 where
@@ -12,14 +17,22 @@ pub record BothSides : Type 0 where
 
 -- the entry has one of so many places, and a weight of a path
 abbrev pub IsEntryAmong : ℕ → ℕ × ℕ → Type 0
-IsEntryAmong places entry = (entry.0 < places) × (entry.1 ≤ 2 ^ 60)
+IsEntryAmong places entry = (entry.0 < places) × (entry.1 ≤ MOST_WEIGHT)
 
 -- the buckets are of the same nodes, and each entry of a row or a column
 pub record AreWithin (S : BothSides) : Type 0 where
   pub nodes : length S.downs ≡ length S.ups
   pub ups : (v : ℕ) → All (IsEntryAmong S.rows) (slice_index_or S.ups v [])
   pub downs : (v : ℕ) → All (IsEntryAmong S.columns) (slice_index_or S.downs v [])
-  pub cells : S.rows * S.columns ≤ 2 ^ 22
+  pub cells : S.rows * S.columns ≤ MOST_CELLS
+
+-- the buckets hold search spaces of these sources, going up, and of these targets, going down
+pub record AreSidesOf (H : LevelsAndLegs) (most : Option ℕ) (sources targets : List ℕ) (S : BothSides) : Type 0 where
+  pub rise : HoldSearchSpaces H Up most sources S.ups
+  pub fall : HoldSearchSpaces H Down most targets S.downs
+  pub rows : S.rows ≡ length sources
+  pub columns : S.columns ≡ length targets
+  pub limit : S.limit ≡ most
 
 -- what the weight of a source whose row begins at `first` owes with these entries of targets: each sum that is within the limit
 abbrev pub IsOwedInRow : Option ℕ → ℕ → ℕ → List (ℕ × ℕ) → ℕ → ℕ → Type 0

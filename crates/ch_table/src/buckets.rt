@@ -1,5 +1,6 @@
 //! Buckets: at each node the targets that it reaches, or the sources that reach it.
-ghost use Rattle.std.specs.Prelude.{◌≡◌, ◌+◌, ◌++◌, ◌^◌, ◌<◌, ◌≤◌, [], length, map, slice_index_or, All, IfOk, OnOk};
+ghost use Rattle.std.specs.Prelude.{◌≡◌, ◌+◌, ◌++◌, ◌<◌, ◌≤◌, [], length, map, slice_index_or, All, IfOk, OnOk};
+ghost use Rattle.ch_graph.specs.declared.limits.TheConstants.{MOST_LISTED};
 ghost use Rattle.ch_contract.specs.Hierarchy.{nodes_of};
 ghost use Rattle.ch_query.specs.Side.{rows_of};
 ghost use Rattle.ch_table.specs.Buckets.{AreBuckets, HoldLists};
@@ -40,7 +41,7 @@ impl Buckets {
         within: Option<u64>,
     ) -> Result<Buckets, AllocError>
         requires targets { All (λ t. t < nodes_of hierarchy.now) targets.now }
-        requires count { length targets.now ≤ 65536 }
+        requires count { length targets.now ≤ MOST_LISTED }
         ensures { IfOk result (AreBuckets hierarchy.now.down within targets.now) }
     {
         Buckets::fill_side(alloc, hierarchy, targets, Side::Down, within)
@@ -58,7 +59,7 @@ impl Buckets {
         within: Option<u64>,
     ) -> Result<Buckets, AllocError>
         requires sources { All (λ s. s < nodes_of hierarchy.now) sources.now }
-        requires count { length sources.now ≤ 65536 }
+        requires count { length sources.now ≤ MOST_LISTED }
         ensures { IfOk result (AreBuckets hierarchy.now.up within sources.now) }
     {
         Buckets::fill_side(alloc, hierarchy, sources, Side::Up, within)
@@ -73,7 +74,7 @@ impl Buckets {
         within: Option<u64>,
     ) -> Result<Buckets, AllocError>
         requires nodes { All (λ x. x < nodes_of hierarchy.now) nodes.now }
-        requires count { length nodes.now ≤ 65536 }
+        requires count { length nodes.now ≤ MOST_LISTED }
         ensures { IfOk result (AreBuckets (rows_of hierarchy.now side) within nodes.now) }
     {
         let entries = entries(alloc, hierarchy, nodes, side, within)?;
@@ -87,7 +88,7 @@ impl Buckets {
         nodes: u32,
         lists: &[Vec<(u32, u64)>],
     ) -> Result<Buckets, AllocError>
-        requires count { length lists.now ≤ 65536 }
+        requires count { length lists.now ≤ MOST_LISTED }
         requires nodes { All (λ list. All (λ pair. pair.0 < nodes) list.items) lists.now }
         ensures { IfOk result (HoldLists nodes (map (λ list. list.items) lists.now)) }
     {
@@ -117,7 +118,7 @@ fn entries(
     within: Option<u64>,
 ) -> Result<Vec<Entry>, AllocError>
     requires nodes { All (λ x. x < nodes_of hierarchy.now) nodes.now }
-    requires count { length nodes.now ≤ 65536 }
+    requires count { length nodes.now ≤ MOST_LISTED }
     ensures { IfOk result (λ list. AreEntries (rows_of hierarchy.now side) within nodes.now (length nodes.now) list.items) }
 {
     let mut scratch = Scratch::new(alloc, hierarchy.nodes())?;
@@ -145,7 +146,7 @@ fn push_entries(
 
 /// The entries of all lists, place after place.
 fn entries_of(alloc: Global, lists: &[Vec<(u32, u64)>]) -> Result<Vec<Entry>, AllocError>
-    requires { length lists.now ≤ 65536 }
+    requires { length lists.now ≤ MOST_LISTED }
     ensures { IfOk result (λ entries. AreEntriesOf (map (λ list. list.items) lists.now) (length lists.now) entries.items) }
 {
     let mut entries = Vec::with_capacity(alloc, length_of(lists))?;

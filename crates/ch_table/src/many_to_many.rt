@@ -1,15 +1,15 @@
 //! Distances from many nodes to many.
-ghost use Rattle.std.specs.Prelude.{◌*◌, ◌^◌, ◌<◌, ◌≤◌, length, All, IfOk};
+ghost use Rattle.std.specs.Prelude.{◌*◌, ◌<◌, ◌≤◌, length, All, IfOk};
 ghost use Rattle.std.specs.List.{AllZip};
+ghost use Rattle.ch_graph.specs.declared.limits.TheConstants.{MOST_LISTED};
 ghost use Rattle.ch_contract.specs.Hierarchy.{nodes_of};
 ghost use Rattle.ch_query.specs.Distance.{IsKeptForSome};
 ghost use Rattle.ch_table.specs.Table.{IsRowBy};
+ghost use Rattle.ch_work.specs.declared.limits.TheConstants.{MOST_CELLS};
 
 use crate::cells::Table;
-use crate::spaces::search_spaces;
 use crate::sums::Sums;
 use ch_contract::Hierarchy;
-use ch_query::Side;
 use ch_work::{Gate, Plan, run_cells};
 use std::alloc::{AllocError, Global};
 use std::thread::Threads;
@@ -38,30 +38,13 @@ pub fn table<R: Threads + Sync, G: Gate>(
     requires kept { IsKeptForSome hierarchy.now }
     requires sources { All (λ s. s < nodes_of hierarchy.now) sources.now }
     requires targets { All (λ t. t < nodes_of hierarchy.now) targets.now }
-    requires lists { (length sources.now ≤ 65536) × (length targets.now ≤ 65536) }
-    requires cells { length sources.now * length targets.now ≤ 2 ^ 22 }
+    requires lists { (length sources.now ≤ MOST_LISTED) × (length targets.now ≤ MOST_LISTED) }
+    requires cells { length sources.now * length targets.now ≤ MOST_CELLS }
     ensures { IfOk result (AllZip (IsRowBy hierarchy.now within targets.now) sources.now) }
 {
-    let downs = search_spaces(
-        rt,
-        alloc,
-        hierarchy,
-        targets,
-        Side::Down,
-        within,
-        plan,
-        gate,
-    )?;
-    let ups = search_spaces(rt, alloc, hierarchy, sources, Side::Up, within, plan, gate)?;
+    let sums = Sums::search(rt, alloc, hierarchy, sources, targets, within, plan, gate)?;
     let rows = sources.len() as u32;
     let columns = targets.len() as u32;
-    let sums = Sums {
-        sources: &ups,
-        targets: &downs,
-        rows,
-        columns,
-        within,
-    };
     let nodes = hierarchy.nodes();
     // The getter tells the proof that a piece has an item.
     let _ = plan.piece();

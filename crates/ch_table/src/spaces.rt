@@ -1,5 +1,6 @@
 //! The searches of a table, and the buckets that hold what they found.
-ghost use Rattle.std.specs.Prelude.{◌^◌, ◌<◌, ◌≤◌, length, All, IfOk};
+ghost use Rattle.std.specs.Prelude.{◌<◌, ◌≤◌, length, All, IfOk};
+ghost use Rattle.ch_graph.specs.declared.limits.TheConstants.{MOST_LISTED};
 ghost use Rattle.ch_contract.specs.Hierarchy.{nodes_of};
 ghost use Rattle.ch_query.specs.Distance.{IsKeptForSome};
 ghost use Rattle.ch_table.specs.Buckets.{HoldSearchSpaces};
@@ -26,7 +27,7 @@ pub(crate) fn search_spaces<R: Threads + Sync, G: Gate>(
 ) -> Result<Buckets, AllocError>
     requires kept { IsKeptForSome hierarchy.now }
     requires nodes { All (λ x. x < nodes_of hierarchy.now) nodes.now }
-    requires count { length nodes.now ≤ 65536 }
+    requires count { length nodes.now ≤ MOST_LISTED }
     ensures { IfOk result (HoldSearchSpaces hierarchy.now side within nodes.now) }
 {
     let searches = Searches {

@@ -1,37 +1,45 @@
 //! What the nodes owe to the cells of a table.
-ghost use Rattle.std.specs.Prelude.{◌≡◌, ◌+◌, ◌*◌, ◌^◌, ◌<◌, ◌≤◌, ◌↔◌, IsTrue, length, All};
+ghost use Rattle.std.specs.Prelude.{◌≡◌, ◌+◌, ◌*◌, ◌<◌, ◌≤◌, ◌↔◌, IsTrue, length, All, IfOk};
+ghost use Rattle.ch_graph.specs.declared.limits.TheConstants.{MOST_LISTED, MOST_WEIGHT};
+ghost use Rattle.ch_contract.specs.Hierarchy.{nodes_of};
+ghost use Rattle.ch_query.specs.Distance.{IsKeptForSome};
 ghost use Rattle.ch_query.specs.Limits.{IsWithin};
-ghost use Rattle.ch_table.specs.Sums.{IsOwedInRow, IsOwedAt};
+ghost use Rattle.ch_table.specs.Sums.{AreSidesOf, IsOwedInRow, IsOwedAt};
+ghost use Rattle.ch_work.specs.declared.limits.TheConstants.{MOST_CELLS, MOST_OFFER};
 ghost use Rattle.ch_work.specs.Owed.{HasPaid};
 ghost use Rattle.ch_work.specs.Passes.{view_of, size_of, IsPassOf};
 
 use crate::buckets::Buckets;
-use ch_work::{Board, CellJob, Pass, pay};
+use crate::spaces::search_spaces;
+use ch_contract::Hierarchy;
+use ch_query::Side;
+use ch_work::{Board, CellJob, Gate, Pass, Plan, pay};
 use std::alloc::{AllocError, Global};
 use std::marker::Model;
+use std::thread::Threads;
 
 /// The sums within the limit of what the nodes' buckets hold, for each source and target that meet at a node.
 /// Cell `i * columns + j` is that of source i and target j.
 #[derive(Drop)]
-pub(crate) struct Sums<'a> {
-    pub(crate) sources: &'a Buckets,
-    pub(crate) targets: &'a Buckets,
-    pub(crate) rows: u32,
-    pub(crate) columns: u32,
-    pub(crate) within: Option<u64>,
+pub(crate) struct Sums {
+    sources: Buckets,
+    targets: Buckets,
+    rows: u32,
+    columns: u32,
+    within: Option<u64>,
 }
 
-impl<'a> Model for Sums<'a> {
+impl Model for Sums {
     ghost use Rattle.ch_table.specs.Sums.{BothSides, AreWithin};
 
     ghost Value = { BothSides };
 
-    ghost view = { λ s. record { ups = s.sources.now; downs = s.targets.now; rows = s.rows; columns = s.columns; limit = s.within } };
+    ghost view = { λ s. record { ups = s.sources; downs = s.targets; rows = s.rows; columns = s.columns; limit = s.within } };
 
-    ghost invariant = { λ s. AreWithin (record { ups = s.sources.now; downs = s.targets.now; rows = s.rows; columns = s.columns; limit = s.within }) };
+    ghost invariant = { λ s. AreWithin (record { ups = s.sources; downs = s.targets; rows = s.rows; columns = s.columns; limit = s.within }) };
 }
 
-impl<'a> CellJob for Sums<'a> {
+impl CellJob for Sums {
     ghost use Rattle.ch_table.specs.Sums.{IsOwedAmong};
 
     ghost size = { λ sums. length sums.ups };
@@ -55,7 +63,45 @@ impl<'a> CellJob for Sums<'a> {
     }
 }
 
-impl<'a> Sums<'a> {
+impl Sums {
+    /// What nodes owe to the cells of these sources and targets. The workers share the targets, then the sources.
+    pub(crate) fn search<R: Threads + Sync, G: Gate>(
+        rt: &R,
+        alloc: Global,
+        hierarchy: &Hierarchy,
+        sources: &[u32],
+        targets: &[u32],
+        within: Option<u64>,
+        plan: &Plan,
+        gate: &G,
+    ) -> Result<Sums, AllocError>
+        requires kept { IsKeptForSome hierarchy.now }
+        requires sources { All (λ s. s < nodes_of hierarchy.now) sources.now }
+        requires targets { All (λ t. t < nodes_of hierarchy.now) targets.now }
+        requires lists { (length sources.now ≤ MOST_LISTED) × (length targets.now ≤ MOST_LISTED) }
+        requires cells { length sources.now * length targets.now ≤ MOST_CELLS }
+        ensures { IfOk result (AreSidesOf hierarchy.now within sources.now targets.now) }
+    {
+        let downs = search_spaces(
+            rt,
+            alloc,
+            hierarchy,
+            targets,
+            Side::Down,
+            within,
+            plan,
+            gate,
+        )?;
+        let ups = search_spaces(rt, alloc, hierarchy, sources, Side::Up, within, plan, gate)?;
+        Ok(Sums {
+            sources: ups,
+            targets: downs,
+            rows: sources.len() as u32,
+            columns: targets.len() as u32,
+            within,
+        })
+    }
+
     /// Pays what a node owes, row after row.
     fn pay_node(&self, board: &Board, pass: &mut Pass, node: u32)
         requires node { node < length self.now.ups }
@@ -83,9 +129,9 @@ fn pay_row(
     within: Option<u64>,
 )
     requires board { IsPassOf board.now pass.old }
-    requires weight { weight ≤ 2 ^ 60 }
-    requires targets { All (λ entry. (first + entry.0 < (size_of board.now).cells) × (entry.1 ≤ 2 ^ 60)) targets.now }
-    requires cells { (size_of board.now).cells ≤ 2 ^ 22 }
+    requires weight { weight ≤ MOST_WEIGHT }
+    requires targets { All (λ entry. (first + entry.0 < (size_of board.now).cells) × (entry.1 ≤ MOST_WEIGHT)) targets.now }
+    requires cells { (size_of board.now).cells ≤ MOST_CELLS }
     ensures board { IsPassOf board.now pass.new }
     ensures paid { HasPaid (IsOwedInRow within first weight targets.now) (view_of pass.old) (view_of pass.new) }
 {
@@ -98,7 +144,7 @@ fn pay_row(
 fn pay_within(board: &Board, pass: &mut Pass, cell: u32, weight: u64, within: Option<u64>)
     requires board { IsPassOf board.now pass.old }
     requires cell { cell < (size_of board.now).cells }
-    requires weight { weight ≤ 2 ^ 61 }
+    requires weight { weight ≤ MOST_OFFER }
     ensures board { IsPassOf board.now pass.new }
     ensures paid { HasPaid (λ at x. (at ≡ cell) × (x ≡ weight) × IsWithin within x) (view_of pass.old) (view_of pass.new) }
 {

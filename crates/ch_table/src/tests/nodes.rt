@@ -4,10 +4,8 @@ ghost use Rattle.ch_contract.specs.Hierarchy.{nodes_of};
 ghost use Rattle.ch_query.specs.Distance.{IsKeptForSome};
 
 use super::{LINE, from_zero, hierarchy};
-use crate::spaces::search_spaces;
 use crate::sums::Sums;
 use ch_contract::Hierarchy;
-use ch_query::Side;
 use ch_work::{Board, CellJob, Open, Plan};
 use std::alloc::{AllocError, Global};
 use std::test::Fail;
@@ -30,36 +28,9 @@ fn owed_at<R: Threads + Sync>(
     requires node { node < nodes_of hierarchy.now }
 {
     let plan = Plan::new(1, 1, 64);
-    let downs = search_spaces(
-        rt,
-        alloc,
-        hierarchy,
-        targets,
-        Side::Down,
-        within,
-        &plan,
-        &Open,
-    )?;
-    let ups = search_spaces(
-        rt,
-        alloc,
-        hierarchy,
-        sources,
-        Side::Up,
-        within,
-        &plan,
-        &Open,
-    )?;
-    let rows = sources.len() as u32;
-    let columns = targets.len() as u32;
-    let sums = Sums {
-        sources: &ups,
-        targets: &downs,
-        rows,
-        columns,
-        within,
-    };
-    let (board, mut passes) = Board::new(alloc, 0, rows * columns, 1)?;
+    let sums = Sums::search(rt, alloc, hierarchy, sources, targets, within, &plan, &Open)?;
+    let cells = sources.len() as u32 * targets.len() as u32;
+    let (board, mut passes) = Board::new(alloc, 0, cells, 1)?;
     let Some(mut pass) = passes.pop() else {
         return Err(AllocError);
     };

@@ -2,6 +2,7 @@ use Rattle.std.proofs.Common.{ℕ, ◌<◌, ◌≤◌, List, length, map, Vec, s
 use Rattle.std.specs.Prelude.{All}
 use Rattle.std.specs.declared.alloc.Global.{Global}
 use Rattle.std.proofs.lemmas.Result.{IfOk-weaker}
+use Rattle.ch_graph.specs.declared.limits.TheConstants.{MOST_LISTED}
 use Rattle.ch_graph.proofs.Lists.{zipped_length, zipped_map}
 use Rattle.ch_query.specs.SearchSpace.{IsSearchSpace}
 use Rattle.ch_table.specs.Buckets.{HoldLists, HoldSearchSpaces}
@@ -12,8 +13,8 @@ pub of_lists-requires-clause-count : goal.of_lists-requires-clause-count
 of_lists-requires-clause-count g c =
     let a = c.args in
     let size = zipped_length (λ node (space : Vec (ℕ × ℕ) Global). IsSearchSpace a.hierarchy.now a.side a.within node space.items) a.nodes.now c.in_ok-spaces.spaces.items c.in_ok-spaces.ensures in
-    let few : length c.in_ok-spaces.spaces.items ≤ 65536 = omega (arith, size, c.requires.count) in
-    subst (λ (l : List (Vec (ℕ × ℕ) Global)). length l ≤ 65536) (sym c.deref.ensures.value) few
+    let few : length c.in_ok-spaces.spaces.items ≤ MOST_LISTED = omega (arith, size, c.requires.count) in
+    subst (λ (l : List (Vec (ℕ × ℕ) Global)). length l ≤ MOST_LISTED) (sym c.deref.ensures.value) few
 
 pub of_lists-requires-clause-nodes : goal.of_lists-requires-clause-nodes
 of_lists-requires-clause-nodes g c =

@@ -11,7 +11,7 @@ use Rattle.ch_table.proofs.sums.Sums.pay_node.Goals as goal
 pub pay_row-requires-clause-targets : goal.pay_row-requires-clause-targets
 pay_row-requires-clause-targets c =
     let inside = c.self.inside in
-    let S : BothSides = record { ups = inside.sources.now; downs = inside.targets.now; rows = inside.rows; columns = inside.columns; limit = inside.within } in
+    let S : BothSides = record { ups = inside.sources; downs = inside.targets; rows = inside.rows; columns = inside.columns; limit = inside.within } in
     let sources = c.at-source-items.result.now in
     let targets = c.at-targets.result.now in
     let i = c.loop-source.source-index in

@@ -1,0 +1,78 @@
+//! Worked tables, and what passes the gate while one is made.
+use super::{Example, LINE, RING, expect, from_zero, hierarchy};
+use crate::table;
+use ch_work::{CountingGate, Plan};
+use std::test::Fail;
+
+#[test]
+fn a_ring(rt: HostRuntime) -> Result<(), Fail> {
+    let example = Example {
+        nodes: 5,
+        arcs: RING,
+        sources: &[5, 1],
+        targets: &[4, 4, 5],
+        within: None,
+        rows: &[&[Some(4), Some(4), Some(0)], &[Some(3), Some(3), Some(4)]],
+    };
+    expect(&rt, rt.alloc(), &example)
+}
+
+#[test]
+fn a_line_with_a_source_twice(rt: HostRuntime) -> Result<(), Fail> {
+    let example = Example {
+        nodes: 3,
+        arcs: LINE,
+        sources: &[1, 1, 3],
+        targets: &[3, 2],
+        within: None,
+        rows: &[&[Some(9), Some(4)], &[Some(9), Some(4)], &[Some(0), None]],
+    };
+    expect(&rt, rt.alloc(), &example)
+}
+
+#[test]
+fn no_sources(rt: HostRuntime) -> Result<(), Fail> {
+    let example = Example {
+        nodes: 5,
+        arcs: RING,
+        sources: &[],
+        targets: &[4, 5],
+        within: None,
+        rows: &[],
+    };
+    expect(&rt, rt.alloc(), &example)
+}
+
+#[test]
+fn no_targets(rt: HostRuntime) -> Result<(), Fail> {
+    let example = Example {
+        nodes: 5,
+        arcs: RING,
+        sources: &[5, 1, 5],
+        targets: &[],
+        within: None,
+        rows: &[&[], &[], &[]],
+    };
+    expect(&rt, rt.alloc(), &example)
+}
+
+/// Each target, each source and each node is a piece: the table is made by the cells that workers share.
+#[test]
+fn gates_passed(rt: HostRuntime) -> Result<(), Fail> {
+    let alloc = rt.alloc();
+    let hierarchy = hierarchy(&rt, alloc, 3, LINE)?;
+    let sources = from_zero(&rt, alloc, &hierarchy, &[1, 1, 3])?;
+    let targets = from_zero(&rt, alloc, &hierarchy, &[3, 2])?;
+    let gate = CountingGate::new(alloc, 4)?;
+    let plan = Plan::new(2, 1, 64);
+    table(
+        &rt, alloc, &hierarchy, &sources, &targets, None, &plan, &gate,
+    )?;
+    for (piece, expected) in [Some(3), Some(3), Some(2), Some(0), None]
+        .iter()
+        .enumerate()
+    {
+        assert_eq!(rt; gate.passes(piece as u32), *expected, "piece {piece}");
+    }
+    Ok(())
+}
