@@ -1,11 +1,12 @@
 -- The nodes of a hierarchy in order of level, and the legs of each.
-use Rattle.std.proofs.Common.{◌≡◌, ℕ, zero, suc, ◌+◌, ◌-◌, ◌*◌, ◌^◌, ◌<◌, ◌≤◌, ◌⊎◌, List, [], ◌∷◌, ◌++◌, length, take, get_or, set, length-set, get_or-set_same, get_or-set_other, Contains, refl, sym, ◌∙◌, ap, subst, arith, inl, inr, length-append}
+use Rattle.std.proofs.Common.{◌≡◌, ℕ, zero, suc, ◌+◌, ◌-◌, ◌*◌, ◌<◌, ◌≤◌, ◌⊎◌, List, [], ◌∷◌, ◌++◌, length, take, get_or, set, length-set, get_or-set_same, get_or-set_other, Contains, refl, sym, ◌∙◌, ap, subst, arith, inl, inr, length-append}
 use Rattle.std.specs.Prelude.{◌≢◌, All, AllPairs, slice_index, map, codes, decimal}
 use Rattle.std.specs.List.{flat_map}
 use Rattle.std.proofs.lemmas.List.{get_or_default, take_more, flat_map_more, length-map}
 use Rattle.std.proofs.lemmas.List.Elements.{All-cons, All-contains}
 use Rattle.std.proofs.lemmas.List.Concat.{flat_map-append}
 use Rattle.std.proofs.lemmas.Bool.{cases_eq}
+use Rattle.ch_graph.specs.declared.limits.TheConstants.{MOST_NODES}
 use Rattle.ch_graph.proofs.Lists.{contains_cons, pairs_cons}
 use Rattle.ch_graph.specs.declared.saved.SavedLeg.{SavedLeg}
 use Rattle.ch_contract.specs.declared.leg.Leg.{Leg}
@@ -86,10 +87,10 @@ ascends legs rises d (suc i) lt =
 
 module _ (H : LevelsAndLegs) (is : IsLevelled H) (rows : List (List Leg)) (are : AreLegsUp H rows) (v : ℕ) where
   -- a row has at most as many legs as there are nodes
-  pub row_short : length (row rows v) ≤ 2 ^ 25
+  pub row_short : length (row rows v) ≤ MOST_NODES
   row_short = at (row rows v) (are.1 v).0 (are.1 v).1
     where
-      at : (legs : List Leg) → IsRow legs → All (IsLegUp H v) legs → length legs ≤ 2 ^ 25
+      at : (legs : List Leg) → IsRow legs → All (IsLegUp H v) legs → length legs ≤ MOST_NODES
       at [] rises all = omega arith
       at (l ∷ legs) rises all =
           let last = ascends (l ∷ legs) rises l (length legs) (omega arith) in

@@ -1,7 +1,11 @@
 -- What devices give, take and count.
-use Rattle.std.specs.Prelude.{◌≡◌, ℕ, ◌+◌, ◌<◌, ◌++◌, ◌==◌, ◌&&◌, ◌⊎◌, if◌then◌else◌, nat_lt, List, [], Option, Some, None, IsNone, Result, Ok, Err, length, take, MatchResult}
+use Rattle.std.specs.Prelude.{◌≡◌, ℕ, ◌+◌, ◌-◌, ◌^◌, ◌<◌, ◌++◌, ◌==◌, ◌&&◌, ◌⊎◌, if◌then◌else◌, nat_lt, List, [], Option, Some, None, IsNone, Result, Ok, Err, length, take, MatchResult}
 use Rattle.ch_run.specs.declared.device.ReadAllFault.{ReadAllFault}
 use Rattle.ch_run.specs.declared.device.ReadAllFault.TheVariants.{Device, Memory}
+
+-- a count of 64 bits can be raised by one more
+abbrev pub CanCountOneMore : ℕ → Type 0
+CanCountOneMore count = count < 2 ^ 64 - 1
 
 -- how much an answer raises the count of failures: an error raises it by one
 abbrev pub raised : {T E : Type 0} → Result T E → ℕ

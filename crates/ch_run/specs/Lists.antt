@@ -1,5 +1,7 @@
 -- What is read of the two lists of a table, on a graph of so many nodes.
-use Rattle.std.specs.Prelude.{◌≡◌, ℕ, ◌^◌, ◌*◌, ◌<◌, ◌≤◌, ◌⊎◌, List, length, All}
+use Rattle.std.specs.Prelude.{◌≡◌, ℕ, ◌*◌, ◌<◌, ◌≤◌, ◌⊎◌, List, length, All}
+use Rattle.ch_graph.specs.declared.limits.TheConstants.{MOST_LISTED}
+use Rattle.ch_work.specs.declared.limits.TheConstants.{MOST_CELLS}
 use Rattle.ch_read.specs.declared.fault.ReadFault.{ReadFault}
 use Rattle.ch_run.specs.declared.fault.Which.{Which}
 use Rattle.ch_run.specs.declared.fault.RunFault.{RunFault}
@@ -9,8 +11,8 @@ use Rattle.ch_run.specs.Run.{Reading, ReadsNodes, HasTooManyCells, IsListRefused
 pub record AreLists (nodes : ℕ) (from to : List ℕ) : Type 0 where
   pub sources : All (λ node. node < nodes) from
   pub targets : All (λ node. node < nodes) to
-  pub sizes : (length from ≤ 65536) × (length to ≤ 65536)
-  pub cells : length from * length to ≤ 2 ^ 22
+  pub sizes : (length from ≤ MOST_LISTED) × (length to ≤ MOST_LISTED)
+  pub cells : length from * length to ≤ MOST_CELLS
 
 -- the input was read to its end and names a list of the nodes
 abbrev pub AcceptsList : Reading → ℕ → Type 0

@@ -1,5 +1,6 @@
 -- What a run owes: the text that answers the bytes which it was given, or the fault of these bytes.
-use Rattle.std.specs.Prelude.{◌≡◌, ◌≢◌, ◌⊎◌, ℕ, ◌*◌, ◌^◌, ◌<◌, List, length, take, Option, Result, Ok, Err, IfErr, ⊤}
+use Rattle.std.specs.Prelude.{◌≡◌, ◌≢◌, ◌⊎◌, ℕ, ◌*◌, ◌<◌, List, length, take, Option, Result, Ok, Err, IfErr, ⊤}
+use Rattle.ch_work.specs.declared.limits.TheConstants.{MOST_CELLS}
 use Rattle.ch_graph.specs.Graph.{Network, IsWithinLimits}
 use Rattle.ch_read.specs.declared.fault.ReadFault.{ReadFault}
 use Rattle.ch_read.specs.declared.form.Form.TheVariants as Form
@@ -54,9 +55,9 @@ abbrev pub IsAnsweredBy : Options → Reading → Reading → List ℕ → Type 
 IsAnsweredBy options graph queries text =
     (g : Network) × (pairs : List (ℕ × ℕ)) × IsWithinLimits g × ReadsGraph graph g × ReadsQueries queries g.nodes pairs × IsText options g pairs text
 
--- a table has at most 4,194,304 cells
+-- these lists make more cells than a table may have
 abbrev pub HasTooManyCells : List ℕ → List ℕ → Type 0
-HasTooManyCells sources targets = 2 ^ 22 < length sources * length targets
+HasTooManyCells sources targets = MOST_CELLS < length sources * length targets
 
 -- the inputs were read to their end and name a graph and two lists of its nodes, which don't make too many cells
 abbrev pub AcceptsLists : Reading → Reading → Reading → Type 0

@@ -1,7 +1,7 @@
 //! What a run reads its files from and writes its text to.
 
-ghost use Rattle.std.specs.Prelude.{◌≡◌, ◌+◌, ◌-◌, ◌^◌, ◌<◌, ◌≤◌, ℕ, List, Option, Some, codes, length, take, vec_len, IfOk, IfErr, OnOk};
-ghost use Rattle.ch_run.specs.Device.{GivesBytes, HasGiven, HasTaken, CountsFault, TakesBytes, idle_writes, raised, failed_reads};
+ghost use Rattle.std.specs.Prelude.{◌≡◌, ◌+◌, ◌<◌, ◌≤◌, ℕ, List, Option, Some, codes, length, take, vec_len, IfOk, IfErr, OnOk};
+ghost use Rattle.ch_run.specs.Device.{CanCountOneMore, GivesBytes, HasGiven, HasTaken, CountsFault, TakesBytes, idle_writes, raised, failed_reads};
 
 mod file;
 mod memory;
@@ -44,7 +44,7 @@ pub trait Input {
     /// `Ok(0)` into a buffer with room is the end of the input. An `Err` raises the count of
     /// failures by one, and has given no byte where the input tells its bytes.
     fn read(&mut self, buffer: &mut [u8]) -> Result<usize, DeviceFault>
-        requires { failed self.old < 2 ^ 64 - 1 }
+        requires { CanCountOneMore (failed self.old) }
         ensures fits { IfOk result (λ n. n ≤ length buffer.new) }
         ensures failures { failed self.new ≡ failed self.old + raised result }
         ensures bytes { GivesBytes (left self.old) (left self.new) result buffer.new };
@@ -70,8 +70,8 @@ pub trait Output {
     /// An `Err` raises the count of failures by one, and has taken no byte where the output tells
     /// its bytes. One that doesn't may have taken some, which are not counted.
     fn write(&mut self, bytes: &[u8]) -> Result<usize, DeviceFault>
-        requires failures { failed self.old < 2 ^ 64 - 1 }
-        requires zeros { idle self.old < 2 ^ 64 - 1 }
+        requires failures { CanCountOneMore (failed self.old) }
+        requires zeros { CanCountOneMore (idle self.old) }
         ensures fits { IfOk result (λ n. n ≤ length bytes.now) }
         ensures failures { failed self.new ≡ failed self.old + raised result }
         ensures zeros { idle self.new ≡ idle self.old + idle_writes result bytes.now }
@@ -128,7 +128,7 @@ fn buffer_of(alloc: Global, size: usize) -> Result<Vec<u8>, AllocError>
 /// `Device` where a read failed, and `Memory` where there is no memory for the bytes: no read has failed then,
 /// and the input is where its reads left it.
 pub fn read_all<I: Input>(alloc: Global, input: &mut I) -> Result<Vec<u8>, ReadAllFault>
-    requires { I.failed input.old < 2 ^ 64 - 1 }
+    requires { CanCountOneMore (I.failed input.old) }
     ensures bytes { IfOk result (λ bytes. HasGiven (I.left input.old) (I.left input.new) bytes.items) }
     ensures failures { I.failed input.new ≡ I.failed input.old + failed_reads result }
 {
@@ -148,8 +148,8 @@ pub fn read_all<I: Input>(alloc: Global, input: &mut I) -> Result<Vec<u8>, ReadA
 /// The first write that fails, or that takes none of some bytes, ends it: the `Err` is the number
 /// of bytes that were taken before.
 pub fn write_all<O: Output>(output: &mut O, bytes: &[u8]) -> Result<(), u64>
-    requires failures { O.failed output.old < 2 ^ 64 - 1 }
-    requires zeros { O.idle output.old < 2 ^ 64 - 1 }
+    requires failures { CanCountOneMore (O.failed output.old) }
+    requires zeros { CanCountOneMore (O.idle output.old) }
     ensures done { OnOk result (HasTaken (O.taken output.old) (O.taken output.new) bytes.now) }
     ensures part { IfErr result (λ count. (count < length bytes.now) × HasTaken (O.taken output.old) (O.taken output.new) (take count bytes.now)) }
     ensures counts { CountsFault (O.failed output.old) (O.failed output.new) (O.idle output.old) (O.idle output.new) result }

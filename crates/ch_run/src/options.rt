@@ -1,4 +1,6 @@
-//! How queries are answered and tables made.
+//! How queries are answered and tables made, and the limits of this.
+
+pub use ch_graph::limits::{MOST_HOPS, MOST_WEIGHT};
 
 /// How queries are answered and tables made.
 #[derive(Clone, Copy, Debug, PartialEq, Eq)]
@@ -7,7 +9,7 @@ pub struct Options {
     pub plain: bool,
     /// Whether the arcs of a shortest path follow each distance.
     pub routes: bool,
-    /// The most legs of a witness, from 1 to 16.
+    /// The most legs of a witness, from 1 to [`MOST_HOPS`].
     pub hops: u32,
     /// The greatest distance that a table tells, if there is one: a cell that is more has none. Answers to queries
     /// have no limit.

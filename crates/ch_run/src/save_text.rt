@@ -1,6 +1,7 @@
 //! The text of saved hierarchies, with nodes counted from 1: a line `p ch N L`, a line `o V` for each node in
 //! order of level, and in that order a line `l U V W A M` for each leg of a node, first those to higher nodes.
-ghost use Rattle.std.specs.Prelude.{◌≡◌, ◌≤◌, ◌<◌, ◌^◌, ◌++◌, length, flat_map, map, All, IfOk, OnOk, codes, decimal};
+ghost use Rattle.std.specs.Prelude.{◌≡◌, ◌≤◌, ◌<◌, ◌++◌, length, flat_map, map, All, IfOk, OnOk, codes, decimal};
+ghost use Rattle.ch_graph.specs.declared.limits.TheConstants.{MOST_NODES};
 ghost use Rattle.ch_contract.specs.Hierarchy.{nodes_of, IsLevelled};
 ghost use Rattle.ch_run.specs.SaveText.{IsByLevel, IsHierarchyText, leg_down, leg_text, leg_up, legs_at, middle_text, order_text};
 
@@ -38,7 +39,7 @@ fn nodes_by_level(alloc: Global, hierarchy: &Hierarchy) -> Result<Vec<u32>, Allo
 
 /// How many legs these nodes have.
 fn count_legs(hierarchy: &Hierarchy, nodes: &[u32]) -> u64
-    requires count { length nodes.now ≤ 2 ^ 25 }
+    requires count { length nodes.now ≤ MOST_NODES }
     requires within { All (λ node. node < nodes_of hierarchy.now) nodes.now }
     ensures { result ≡ length (flat_map (legs_at hierarchy.now) nodes.now) }
 {

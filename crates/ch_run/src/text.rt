@@ -3,6 +3,7 @@
 //! table is a line `t S`, with the distance to each target after it.
 ghost use Rattle.std.specs.Prelude.{◌≡◌, ◌≤◌, ◌++◌, length, flat_map, Some, IfOk, OnOk, codes, decimal};
 ghost use Rattle.std.specs.List.{zip};
+ghost use Rattle.ch_graph.specs.declared.limits.TheConstants.{MOST_LISTED};
 ghost use Rattle.ch_run.specs.Text.{answer_text, arc_text, distance_text, node_text, route_text, weight_text};
 ghost use Rattle.ch_run.specs.TableText.{cell_text, row_text};
 
@@ -31,7 +32,7 @@ pub fn answers_text(alloc: Global, answers: &[Answer]) -> Result<Vec<u8>, AllocE
 /// # Errors
 /// `AllocError` where there is no memory for it.
 pub fn table_text(alloc: Global, sources: &[u32], table: &Table) -> Result<Vec<u8>, AllocError>
-    requires count { length sources.now ≤ 65536 }
+    requires count { length sources.now ≤ MOST_LISTED }
     requires rows { length table.now ≡ length sources.now }
     ensures { IfOk result (λ text. text.items ≡ flat_map row_text (zip sources.now table.now)) }
 {

@@ -1,9 +1,9 @@
 //! Devices over the readers and writers of `std`, as files and standard output, which don't tell
 //! their bytes.
 
-ghost use Rattle.std.specs.Prelude.{◌≡◌, ◌+◌, ◌-◌, ◌^◌, ◌<◌, ◌≤◌, None, IfOk, length, take};
+ghost use Rattle.std.specs.Prelude.{◌≡◌, ◌+◌, ◌≤◌, None, IfOk, length, take};
 ghost use Rattle.std.specs.Io.KnownBytes.{Appends, Keeps, ReadConsumes, WriteAppends};
-ghost use Rattle.ch_run.specs.Device.{idle_writes, raised};
+ghost use Rattle.ch_run.specs.Device.{CanCountOneMore, idle_writes, raised};
 
 use super::{DeviceFault, Input, Output};
 use std::io::{ErrorKind, Read, Write};
@@ -49,7 +49,7 @@ impl<D: Read + Drop> Input for ReaderInput<D> {
 
     // What it gives is what the reader tells that it gave.
     fn read(&mut self, buffer: &mut [u8]) -> Result<usize, DeviceFault>
-        requires { self.old.failures < 2 ^ 64 - 1 }
+        requires { CanCountOneMore self.old.failures }
         ensures fits { IfOk result (λ count. count ≤ length buffer.new) }
         ensures failures { self.new.failures ≡ self.old.failures + raised result }
         ensures given { ReadConsumes (D.remaining self.old.reader) (D.remaining self.new.reader) result buffer.new }
@@ -140,8 +140,8 @@ impl<D: Write + Drop> Output for WriterOutput<D> {
 
     // What it took is what the writer tells that it took.
     fn write(&mut self, bytes: &[u8]) -> Result<usize, DeviceFault>
-        requires failures { self.old.failures < 2 ^ 64 - 1 }
-        requires zeros { self.old.zeros < 2 ^ 64 - 1 }
+        requires failures { CanCountOneMore self.old.failures }
+        requires zeros { CanCountOneMore self.old.zeros }
         ensures fits { IfOk result (λ count. count ≤ length bytes.now) }
         ensures failures { self.new.failures ≡ self.old.failures + raised result }
         ensures zeros { self.new.zeros ≡ self.old.zeros + idle_writes result bytes.now }

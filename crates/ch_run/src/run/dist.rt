@@ -1,8 +1,10 @@
 //! Runs that answer queries.
-ghost use Rattle.std.specs.Prelude.{◌≡◌, ◌-◌, ◌^◌, ◌<◌, ◌≤◌, ◌↔◌, ◌⊎◌, length, IfOk, IfErr, IsErrAnd};
+ghost use Rattle.std.specs.Prelude.{◌≡◌, ◌<◌, ◌≤◌, ◌↔◌, ◌⊎◌, length, IfOk, IfErr, IsErrAnd};
+ghost use Rattle.ch_graph.specs.declared.limits.TheConstants.{MOST_QUERIES};
 ghost use Rattle.ch_read.specs.declared.fault.ReadFault.{ReadFault as FaultAt};
 ghost use Rattle.ch_contract.specs.Legs.{IsHopBound};
 ghost use Rattle.ch_query.specs.Answers.{AreQueries};
+ghost use Rattle.ch_run.specs.Device.{CanCountOneMore};
 ghost use Rattle.ch_run.specs.Text.{IsText};
 ghost use Rattle.ch_run.specs.Run.{AcceptsGraph, AcceptsQueries, Delivers, GoesPast, HasQueriesRefused, IsAnsweredBy, IsGraphRefused, IsOfDist, IsWrite, reading};
 
@@ -36,10 +38,10 @@ pub fn run_dist<R: Threads + Sync, I: Input, J: Input, O: Output, G: Gate>(
     plan: &Plan,
     gate: &G,
 ) -> Result<(), RunFault>
-    requires graph { I.failed graph.old < 2 ^ 64 - 1 }
-    requires queries { J.failed queries.old < 2 ^ 64 - 1 }
-    requires failures { O.failed output.old < 2 ^ 64 - 1 }
-    requires zeros { O.idle output.old < 2 ^ 64 - 1 }
+    requires graph { CanCountOneMore (I.failed graph.old) }
+    requires queries { CanCountOneMore (J.failed queries.old) }
+    requires failures { CanCountOneMore (O.failed output.old) }
+    requires zeros { CanCountOneMore (O.idle output.old) }
     requires hops { IsHopBound options.now.hops }
 
     // What is written is the text that answers what was read: all of it, or its first bytes.
@@ -81,7 +83,7 @@ fn text_of<R: Threads + Sync, G: Gate>(
     gate: &G,
 ) -> Result<Vec<u8>, AllocError>
     requires queries { AreQueries graph.now.nodes queries.now }
-    requires count { length queries.now ≤ 2 ^ 24 }
+    requires count { length queries.now ≤ MOST_QUERIES }
     requires hops { IsHopBound options.now.hops }
     ensures { IfOk result (λ text. IsText options.now graph.now queries.now text.items) }
 {

@@ -1,10 +1,12 @@
 //! Runs that answer queries by a saved hierarchy.
-ghost use Rattle.std.specs.Prelude.{◌≡◌, ◌-◌, ◌^◌, ◌<◌, ◌≤◌, ◌↔◌, ◌⊎◌, length, IfOk, IfErr, IsErrAnd};
+ghost use Rattle.std.specs.Prelude.{◌≡◌, ◌<◌, ◌≤◌, ◌↔◌, ◌⊎◌, length, IfOk, IfErr, IsErrAnd};
+ghost use Rattle.ch_graph.specs.declared.limits.TheConstants.{MOST_QUERIES};
 ghost use Rattle.ch_graph.specs.Graph.{IsWithinLimits};
 ghost use Rattle.ch_read.specs.declared.fault.ReadFault.{ReadFault as FaultAt};
 ghost use Rattle.ch_contract.specs.declared.fault.CheckFault.{CheckFault as FaultOf};
 ghost use Rattle.ch_contract.specs.Kept.{IsKept};
 ghost use Rattle.ch_query.specs.Answers.{AreQueries};
+ghost use Rattle.ch_run.specs.Device.{CanCountOneMore};
 ghost use Rattle.ch_run.specs.Text.{IsTextBy, writes_routes};
 ghost use Rattle.ch_run.specs.Run.{AcceptsGraph, Delivers, GoesPast, IsGraphRefused, IsWrite, reading};
 ghost use Rattle.ch_run.specs.SavedRun.{AcceptsSaved, AcceptsQueriesFrom, HasCheckRefused, HasSavedRefused, HasQueriesRefusedFrom, IsAnsweredFrom, IsOfDistSaved};
@@ -43,11 +45,11 @@ pub fn run_dist_saved<R: Threads + Sync, I: Input, S: Input, J: Input, O: Output
     plan: &Plan,
     gate: &G,
 ) -> Result<(), RunFault>
-    requires graph { I.failed graph.old < 2 ^ 64 - 1 }
-    requires saved { S.failed saved.old < 2 ^ 64 - 1 }
-    requires queries { J.failed queries.old < 2 ^ 64 - 1 }
-    requires failures { O.failed output.old < 2 ^ 64 - 1 }
-    requires zeros { O.idle output.old < 2 ^ 64 - 1 }
+    requires graph { CanCountOneMore (I.failed graph.old) }
+    requires saved { CanCountOneMore (S.failed saved.old) }
+    requires queries { CanCountOneMore (J.failed queries.old) }
+    requires failures { CanCountOneMore (O.failed output.old) }
+    requires zeros { CanCountOneMore (O.idle output.old) }
 
     // What is written is the text that answers what was read: all of it, or its first bytes.
     ensures written { Delivers result (O.taken output.old) (O.taken output.new)
@@ -99,7 +101,7 @@ fn text_by<R: Threads + Sync, G: Gate>(
     requires limits { IsWithinLimits checked.now.graph }
     requires kept { IsKept checked.now.graph checked.now.hierarchy }
     requires queries { AreQueries checked.now.graph.nodes queries.now }
-    requires count { length queries.now ≤ 2 ^ 24 }
+    requires count { length queries.now ≤ MOST_QUERIES }
     ensures { IfOk result (λ text. IsTextBy (writes_routes options.now) checked.now.graph (λ H. H ≡ checked.now.hierarchy) queries.now text.items) }
 {
     if options.plain {

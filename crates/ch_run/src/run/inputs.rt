@@ -1,7 +1,8 @@
 //! Inputs, read to their end and judged.
-ghost use Rattle.std.specs.Prelude.{◌≡◌, ◌-◌, ◌^◌, ◌<◌, ◌≤◌, ◌↔◌, All, IfOk, IfErr, vec_len};
+ghost use Rattle.std.specs.Prelude.{◌≡◌, ◌<◌, ◌≤◌, ◌↔◌, All, IfOk, IfErr, vec_len};
+ghost use Rattle.ch_graph.specs.declared.limits.TheConstants.{MOST_LISTED, MOST_QUERIES};
 ghost use Rattle.ch_read.specs.declared.fault.ReadFault.{ReadFault as FaultAt};
-ghost use Rattle.ch_run.specs.Device.{HasGiven};
+ghost use Rattle.ch_run.specs.Device.{CanCountOneMore, HasGiven};
 ghost use Rattle.ch_run.specs.Fault.{refusal_of};
 ghost use Rattle.ch_run.specs.Run.{IsGraphRefused, IsListRefused, IsOf, IsQueriesRefused, IsUnread, ReadsGraph, ReadsNodes, ReadsQueries, reading};
 ghost use Rattle.ch_query.specs.Answers.{AreQueries};
@@ -14,7 +15,7 @@ use std::alloc::Global;
 
 /// Reads an input to its end, as a graph.
 pub(crate) fn graph_from<I: Input>(alloc: Global, input: &mut I) -> Result<Graph, RunFault>
-    requires { I.failed input.old < 2 ^ 64 - 1 }
+    requires { CanCountOneMore (I.failed input.old) }
     ensures value { IfOk result (ReadsGraph (reading I.left input.old input.new)) }
     ensures refused { (fault : FaultAt) → result ≡ Err (RunFault.Graph fault) → IsGraphRefused (reading I.left input.old input.new) fault }
     ensures device { (result ≡ Err (RunFault.Device Which.Graph)) ↔ (I.failed input.old < I.failed input.new) }
@@ -33,10 +34,10 @@ pub(crate) fn queries_from<I: Input>(
     input: &mut I,
     graph: &Graph,
 ) -> Result<Vec<(u32, u32)>, RunFault>
-    requires { I.failed input.old < 2 ^ 64 - 1 }
+    requires { CanCountOneMore (I.failed input.old) }
     ensures value { IfOk result (λ queries. ReadsQueries (reading I.left input.old input.new) graph.now.nodes queries.items) }
     ensures within { IfOk result (λ queries. AreQueries graph.now.nodes queries.items) }
-    ensures size { IfOk result (λ queries. vec_len queries ≤ 2 ^ 24) }
+    ensures size { IfOk result (λ queries. vec_len queries ≤ MOST_QUERIES) }
     ensures refused { (fault : FaultAt) → result ≡ Err (RunFault.Queries fault) → IsQueriesRefused (reading I.left input.old input.new) graph.now.nodes fault }
     ensures device { (result ≡ Err (RunFault.Device Which.Queries)) ↔ (I.failed input.old < I.failed input.new) }
     ensures of_input { IfErr result (IsOf Which.Queries) }
@@ -55,10 +56,10 @@ pub(crate) fn nodes_from<I: Input>(
     graph: &Graph,
     which: Which,
 ) -> Result<Vec<u32>, RunFault>
-    requires { I.failed input.old < 2 ^ 64 - 1 }
+    requires { CanCountOneMore (I.failed input.old) }
     ensures value { IfOk result (λ list. ReadsNodes (reading I.left input.old input.new) graph.now.nodes list.items) }
     ensures within { IfOk result (λ list. All (λ node. node < graph.now.nodes) list.items) }
-    ensures size { IfOk result (λ list. vec_len list ≤ 65536) }
+    ensures size { IfOk result (λ list. vec_len list ≤ MOST_LISTED) }
     ensures refused { (fault : FaultAt) → result ≡ Err (refusal_of which fault) → IsListRefused (reading I.left input.old input.new) graph.now.nodes fault }
     ensures device { (result ≡ Err (RunFault.Device which)) ↔ (I.failed input.old < I.failed input.new) }
     ensures of_input { IfErr result (IsOf which) }
@@ -76,7 +77,7 @@ pub(crate) fn bytes_from<I: Input>(
     input: &mut I,
     which: Which,
 ) -> Result<Vec<u8>, RunFault>
-    requires { I.failed input.old < 2 ^ 64 - 1 }
+    requires { CanCountOneMore (I.failed input.old) }
     ensures bytes { IfOk result (λ bytes. HasGiven (I.left input.old) (I.left input.new) bytes.items) }
     ensures unread { IfErr result (IsUnread which) }
     ensures device { (result ≡ Err (RunFault.Device which)) ↔ (I.failed input.old < I.failed input.new) }

@@ -1,6 +1,7 @@
 //! The two lists of a table.
-ghost use Rattle.std.specs.Prelude.{◌≡◌, ◌-◌, ◌^◌, ◌<◌, ◌↔◌, ◌⊎◌, ℕ, List, IfOk, IfErr};
+ghost use Rattle.std.specs.Prelude.{◌≡◌, ◌<◌, ◌↔◌, ◌⊎◌, ℕ, List, IfOk, IfErr};
 ghost use Rattle.ch_read.specs.declared.fault.ReadFault.{ReadFault as FaultAt};
+ghost use Rattle.ch_run.specs.Device.{CanCountOneMore};
 ghost use Rattle.ch_run.specs.Lists.{AreLists, ReadsLists, AcceptsList, HaveTargetsRefused, HaveCellsRefused, IsOfLists};
 ghost use Rattle.ch_run.specs.Run.{GoesPast, IsListRefused, reading};
 
@@ -8,10 +9,8 @@ use super::inputs::nodes_from;
 use crate::device::Input;
 use crate::fault::{RunFault, Which};
 use ch_graph::Graph;
+use ch_work::limits::MOST_CELLS;
 use std::alloc::Global;
-
-/// The most cells of a table.
-const MOST_CELLS: usize = 1 << 22;
 
 /// The sources and the targets of a table.
 #[derive(Drop)]
@@ -28,8 +27,8 @@ pub(crate) fn lists_from<J: Input, L: Input>(
     targets: &mut L,
     graph: &Graph,
 ) -> Result<Lists, RunFault>
-    requires sources { J.failed sources.old < 2 ^ 64 - 1 }
-    requires targets { L.failed targets.old < 2 ^ 64 - 1 }
+    requires sources { CanCountOneMore (J.failed sources.old) }
+    requires targets { CanCountOneMore (L.failed targets.old) }
 
     ensures value { IfOk result (λ lists.
         ReadsLists (reading J.left sources.old sources.new) (reading L.left targets.old targets.new) graph.now.nodes lists.sources.items lists.targets.items) }
@@ -50,7 +49,7 @@ pub(crate) fn lists_from<J: Input, L: Input>(
 {
     let sources = nodes_from(alloc, sources, graph, Which::Sources)?;
     let targets = nodes_from(alloc, targets, graph, Which::Targets)?;
-    if sources.len() * targets.len() > MOST_CELLS {
+    if sources.len() * targets.len() > MOST_CELLS as usize {
         return Err(RunFault::Cells);
     }
     Ok(Lists { sources, targets })

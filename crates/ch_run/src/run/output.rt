@@ -1,5 +1,6 @@
 //! The output, to which a run's text goes last.
-ghost use Rattle.std.specs.Prelude.{◌≡◌, ◌-◌, ◌^◌, ◌<◌, ◌↔◌, ◌⊎◌, IfErr, IsErrAnd};
+ghost use Rattle.std.specs.Prelude.{◌≡◌, ◌<◌, ◌↔◌, ◌⊎◌, IfErr, IsErrAnd};
+ghost use Rattle.ch_run.specs.Device.{CanCountOneMore};
 ghost use Rattle.ch_run.specs.Run.{Delivers, IsWrite};
 
 use crate::device::{Output, write_all};
@@ -7,8 +8,8 @@ use crate::fault::RunFault;
 
 /// Writes the whole text of a run.
 pub(crate) fn write_text<O: Output>(output: &mut O, text: &[u8]) -> Result<(), RunFault>
-    requires failures { O.failed output.old < 2 ^ 64 - 1 }
-    requires zeros { O.idle output.old < 2 ^ 64 - 1 }
+    requires failures { CanCountOneMore (O.failed output.old) }
+    requires zeros { CanCountOneMore (O.idle output.old) }
     ensures written { Delivers result (O.taken output.old) (O.taken output.new) (λ bytes. bytes ≡ text.now) }
     ensures own { IfErr result IsWrite }
     ensures device { IsErrAnd result IsWrite ↔ ((O.failed output.old < O.failed output.new) ⊎ (O.idle output.old < O.idle output.new)) }

@@ -1,7 +1,8 @@
 //! Runs that save the hierarchy of a graph.
-ghost use Rattle.std.specs.Prelude.{◌≡◌, ◌-◌, ◌^◌, ◌<◌, ◌↔◌, ◌⊎◌, IfErr, IsErrAnd};
+ghost use Rattle.std.specs.Prelude.{◌≡◌, ◌<◌, ◌↔◌, ◌⊎◌, IfErr, IsErrAnd};
 ghost use Rattle.ch_read.specs.declared.fault.ReadFault.{ReadFault as FaultAt};
 ghost use Rattle.ch_contract.specs.Legs.{IsHopBound};
+ghost use Rattle.ch_run.specs.Device.{CanCountOneMore};
 ghost use Rattle.ch_run.specs.Run.{AcceptsGraph, Delivers, IsGraphRefused, IsWrite, reading};
 ghost use Rattle.ch_run.specs.SavedRun.{IsOfSave, IsSavedBy};
 
@@ -33,9 +34,9 @@ pub fn run_save<R: Threads + Sync, I: Input, O: Output, G: Gate>(
     plan: &Plan,
     gate: &G,
 ) -> Result<(), RunFault>
-    requires graph { I.failed graph.old < 2 ^ 64 - 1 }
-    requires failures { O.failed output.old < 2 ^ 64 - 1 }
-    requires zeros { O.idle output.old < 2 ^ 64 - 1 }
+    requires graph { CanCountOneMore (I.failed graph.old) }
+    requires failures { CanCountOneMore (O.failed output.old) }
+    requires zeros { CanCountOneMore (O.idle output.old) }
     requires hops { IsHopBound options.now.hops }
 
     // What is written is the text of the graph's hierarchy: all of it, or its first bytes.

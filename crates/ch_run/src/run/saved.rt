@@ -1,8 +1,9 @@
 //! Saved hierarchies, read to their end, judged and checked.
-ghost use Rattle.std.specs.Prelude.{◌≡◌, ◌-◌, ◌^◌, ◌<◌, ◌↔◌, ◌⊎◌, IfOk, IfErr};
+ghost use Rattle.std.specs.Prelude.{◌≡◌, ◌<◌, ◌↔◌, ◌⊎◌, IfOk, IfErr};
 ghost use Rattle.ch_graph.specs.Saved.{OrderAndLegs};
 ghost use Rattle.ch_read.specs.declared.fault.ReadFault.{ReadFault as FaultAt};
 ghost use Rattle.ch_contract.specs.declared.fault.CheckFault.{CheckFault as FaultOf};
+ghost use Rattle.ch_run.specs.Device.{CanCountOneMore};
 ghost use Rattle.ch_run.specs.Run.{AcceptsGraph, GoesPast, IsGraphRefused, IsOf, reading};
 ghost use Rattle.ch_run.specs.SavedRun.{AreChecked, HasCheckRefused, HasSavedRefused, IsOfChecked, IsSavedRefused, ReadsSaved};
 
@@ -28,8 +29,8 @@ pub(crate) fn checked_from<I: Input, S: Input>(
     graph: &mut I,
     saved: &mut S,
 ) -> Result<Checked, RunFault>
-    requires graph { I.failed graph.old < 2 ^ 64 - 1 }
-    requires saved { S.failed saved.old < 2 ^ 64 - 1 }
+    requires graph { CanCountOneMore (I.failed graph.old) }
+    requires saved { CanCountOneMore (S.failed saved.old) }
 
     ensures value { IfOk result (λ checked. (s : OrderAndLegs) ×
         AreChecked (reading I.left graph.old graph.new) (reading S.left saved.old saved.new) checked.graph s checked.hierarchy) }
@@ -60,7 +61,7 @@ pub(crate) fn checked_from<I: Input, S: Input>(
 
 /// Reads an input to its end, as a saved hierarchy on this graph.
 fn saved_from<S: Input>(alloc: Global, input: &mut S, graph: &Graph) -> Result<Saved, RunFault>
-    requires { S.failed input.old < 2 ^ 64 - 1 }
+    requires { CanCountOneMore (S.failed input.old) }
     ensures value { IfOk result (ReadsSaved (reading S.left input.old input.new) graph.now.nodes) }
     ensures refused { (fault : FaultAt) → result ≡ Err (RunFault.Saved fault) → IsSavedRefused (reading S.left input.old input.new) graph.now.nodes fault }
     ensures device { (result ≡ Err (RunFault.Device Which.Saved)) ↔ (S.failed input.old < S.failed input.new) }

@@ -1,7 +1,8 @@
 //! Runs that make tables.
-ghost use Rattle.std.specs.Prelude.{◌≡◌, ◌-◌, ◌^◌, ◌<◌, ◌↔◌, ◌⊎◌, IfOk, IfErr, IsErrAnd};
+ghost use Rattle.std.specs.Prelude.{◌≡◌, ◌<◌, ◌↔◌, ◌⊎◌, IfOk, IfErr, IsErrAnd};
 ghost use Rattle.ch_read.specs.declared.fault.ReadFault.{ReadFault as FaultAt};
 ghost use Rattle.ch_contract.specs.Legs.{IsHopBound};
+ghost use Rattle.ch_run.specs.Device.{CanCountOneMore};
 ghost use Rattle.ch_run.specs.TableText.{IsTableText};
 ghost use Rattle.ch_run.specs.Lists.{AreLists};
 ghost use Rattle.ch_run.specs.Run.{AcceptsGraph, AcceptsLists, AcceptsSources, Delivers, GoesPast, HasCellsRefused, HasSourcesRefused, HasTargetsRefused, IsGraphRefused, IsOfTable, IsTabledBy, IsWrite, reading};
@@ -41,11 +42,11 @@ pub fn run_table<R: Threads + Sync, I: Input, J: Input, L: Input, O: Output, G: 
     plan: &Plan,
     gate: &G,
 ) -> Result<(), RunFault>
-    requires graph { I.failed graph.old < 2 ^ 64 - 1 }
-    requires sources { J.failed sources.old < 2 ^ 64 - 1 }
-    requires targets { L.failed targets.old < 2 ^ 64 - 1 }
-    requires failures { O.failed output.old < 2 ^ 64 - 1 }
-    requires zeros { O.idle output.old < 2 ^ 64 - 1 }
+    requires graph { CanCountOneMore (I.failed graph.old) }
+    requires sources { CanCountOneMore (J.failed sources.old) }
+    requires targets { CanCountOneMore (L.failed targets.old) }
+    requires failures { CanCountOneMore (O.failed output.old) }
+    requires zeros { CanCountOneMore (O.idle output.old) }
     requires hops { IsHopBound options.now.hops }
 
     // What is written is the table of what was read: all of it, or its first bytes.

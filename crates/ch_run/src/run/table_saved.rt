@@ -1,7 +1,8 @@
 //! Runs that make tables by a saved hierarchy.
-ghost use Rattle.std.specs.Prelude.{◌≡◌, ◌-◌, ◌^◌, ◌<◌, ◌↔◌, ◌⊎◌, IfErr, IsErrAnd};
+ghost use Rattle.std.specs.Prelude.{◌≡◌, ◌<◌, ◌↔◌, ◌⊎◌, IfErr, IsErrAnd};
 ghost use Rattle.ch_read.specs.declared.fault.ReadFault.{ReadFault as FaultAt};
 ghost use Rattle.ch_contract.specs.declared.fault.CheckFault.{CheckFault as FaultOf};
+ghost use Rattle.ch_run.specs.Device.{CanCountOneMore};
 ghost use Rattle.ch_run.specs.Run.{AcceptsGraph, Delivers, GoesPast, IsGraphRefused, IsWrite, reading};
 ghost use Rattle.ch_run.specs.SavedRun.{AcceptsListsFrom, AcceptsSaved, AcceptsSourcesFrom, HasCellsRefusedFrom, HasCheckRefused, HasSavedRefused, HasSourcesRefusedFrom, HasTargetsRefusedFrom, IsOfTableSaved, IsTabledFrom};
 
@@ -47,12 +48,12 @@ pub fn run_table_saved<
     plan: &Plan,
     gate: &G,
 ) -> Result<(), RunFault>
-    requires graph { I.failed graph.old < 2 ^ 64 - 1 }
-    requires saved { S.failed saved.old < 2 ^ 64 - 1 }
-    requires sources { J.failed sources.old < 2 ^ 64 - 1 }
-    requires targets { L.failed targets.old < 2 ^ 64 - 1 }
-    requires failures { O.failed output.old < 2 ^ 64 - 1 }
-    requires zeros { O.idle output.old < 2 ^ 64 - 1 }
+    requires graph { CanCountOneMore (I.failed graph.old) }
+    requires saved { CanCountOneMore (S.failed saved.old) }
+    requires sources { CanCountOneMore (J.failed sources.old) }
+    requires targets { CanCountOneMore (L.failed targets.old) }
+    requires failures { CanCountOneMore (O.failed output.old) }
+    requires zeros { CanCountOneMore (O.idle output.old) }
 
     // What is written is the table of what was read: all of it, or its first bytes.
     ensures written { Delivers result (O.taken output.old) (O.taken output.new)

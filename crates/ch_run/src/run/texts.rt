@@ -1,6 +1,7 @@
 //! The texts of runs, made whole before the first write.
-ghost use Rattle.std.specs.Prelude.{◌≡◌, ◌^◌, ◌≤◌, length, IfOk};
+ghost use Rattle.std.specs.Prelude.{◌≡◌, ◌≤◌, length, IfOk};
 ghost use Rattle.std.specs.List.{AllZip};
+ghost use Rattle.ch_graph.specs.declared.limits.TheConstants.{MOST_QUERIES};
 ghost use Rattle.ch_graph.specs.Graph.{Network, IsWithinLimits};
 ghost use Rattle.ch_contract.specs.Hierarchy.{nodes_of};
 ghost use Rattle.ch_contract.specs.Kept.{IsKept};
@@ -32,7 +33,7 @@ pub(crate) fn answers_by<R: Threads + Sync, G: Gate>(
 ) -> Result<Vec<u8>, AllocError>
     requires kept { IsKeptForSome hierarchy.now }
     requires queries { AreQueries (nodes_of hierarchy.now) queries.now }
-    requires count { length queries.now ≤ 2 ^ 24 }
+    requires count { length queries.now ≤ MOST_QUERIES }
     ensures { IfOk result (λ text. (g : Network) → IsWithinLimits g → IsKept g hierarchy.now →
         IsTextBy routes g (λ H. H ≡ hierarchy.now) queries.now text.items) }
 {
