@@ -1,6 +1,6 @@
 -- What `check` answers.
-use Rattle.std.proofs.Common.{get_or, ◌≡◌, ℕ, ◌+◌, ◌<◌, ◌≤◌, ◌⊎◌, List, length, All, Contains, Option, Some, None, refl, sym, ◌∙◌, ap, subst, arith, inl, inr}
-use Rattle.std.specs.Prelude.{◌≢◌, slice_get, Result, Ok, Err, IsOk, IfOk}
+use Rattle.std.proofs.Common.{get_or, ◌≡◌, ℕ, ◌<◌, All, Contains, Option, Some, None, refl, sym, subst, inl, inr}
+use Rattle.std.specs.Prelude.{slice_get, Result, Ok, Err}
 use Rattle.std.proofs.lemmas.Bool.{false≢true}
 use Rattle.std.proofs.lemmas.Option.{slice_get_within, slice_get-get_or}
 use Rattle.std.proofs.lemmas.List.Elements.{All-contains}
@@ -9,18 +9,17 @@ use Rattle.ch_graph.specs.declared.cost.Cost.{Cost}
 use Rattle.ch_graph.specs.declared.saved.SavedLeg.{SavedLeg}
 use Rattle.ch_graph.specs.Graph.{Network, IsWithinLimits, IsArcWithin}
 use Rattle.ch_graph.specs.Saved.{OrderAndLegs}
-use Rattle.ch_contract.specs.declared.fault.CheckFault.{CheckFault}
 use Rattle.ch_contract.specs.declared.fault.CheckFault.TheVariants.{Base, Middle, Arc, Lower}
 use Rattle.ch_contract.specs.declared.fault.CheckError.{CheckError}
 use Rattle.ch_contract.specs.declared.fault.CheckError.TheVariants.{Fault, NoMemory}
 use Rattle.ch_contract.specs.Hierarchy.{LevelsAndLegs, nodes_of}
 use Rattle.ch_contract.specs.Kept.{IsLeg, IsFounded, HasLegWithin, IsCovered, IsKept}
 use Rattle.ch_contract.specs.Assembling.{IsFirstFailing}
-use Rattle.ch_contract.specs.Saved.{NamesFor, NamesKept, HasFault, IsFirstFault}
+use Rattle.ch_contract.specs.Saved.{NamesFor, HasFault, IsFirstFault}
 use Rattle.ch_contract.proofs.theory.OneSaved.{one_saved}
 use Rattle.ch_contract.proofs.theory.SavedFaults.{HasNoneBelow, none_more, first_at, none_early, no_fault, Checks}
 use Rattle.ch_query.specs.declared.side.Side.TheVariants.{Up, Down}
-use Rattle.ch_query.specs.Checking.{IsFaultless, IsOkWhere, IsArcIfBase, IsSumOver, IsSumIfShortcut, IsServed}
+use Rattle.ch_query.specs.Checking.{IsFaultless, IsOkWhere, IsArcIfBase, IsSumIfShortcut, IsServed}
 use Rattle.ch_query.specs.Covering.{IsFirstUncovered}
 use Rattle.ch_query.proofs.Expanding.{leg_up}
 use Rattle.ch_query.proofs.FirstFailing.{held_at}

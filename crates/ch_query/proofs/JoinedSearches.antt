@@ -6,26 +6,25 @@ use Rattle.std.proofs.lemmas.List.Elements.{Contains-get_or}
 use Rattle.ch_graph.specs.declared.limits.TheConstants.{MOST_WEIGHT}
 use Rattle.ch_graph.specs.declared.cost.Cost.{Cost}
 use Rattle.ch_graph.specs.Cost.{IsAtMost, IsBelow, cost_sum, cost_at}
-use Rattle.ch_graph.proofs.CostOrder.{IsAtMost_refl, IsAtMost_trans, IsBelow_not}
+use Rattle.ch_graph.proofs.CostOrder.{IsAtMost_trans, IsBelow_not}
 use Rattle.ch_graph.proofs.CostSums.{cost_sum_comm, IsAtMost-cost_sum, IsAtMost-cost_sum_self}
 use Rattle.ch_contract.specs.declared.leg.Leg.{Leg}
 use Rattle.ch_contract.specs.Hierarchy.{LevelsAndLegs, nodes_of, IsLevelled}
 use Rattle.ch_contract.specs.Rows.{row}
-use Rattle.ch_contract.specs.Paths.{IsUpwardPath, path_cost, IsLeastUpwardPath, IsMeeting}
+use Rattle.ch_contract.specs.Paths.{IsUpwardPath, path_cost, IsLeastUpwardPath}
 use Rattle.ch_query.specs.declared.side.Side.{Side}
 use Rattle.ch_query.specs.declared.side.Side.TheVariants.{Up, Down}
 use Rattle.ch_query.specs.declared.search.Search.{Search}
 use Rattle.ch_query.specs.declared.covering.Shown.{Shown}
 use Rattle.ch_query.specs.declared.covering.Shown.TheVariants.{Joined, Settled, Past}
-use Rattle.ch_query.specs.Search.{IsSettled, IsUpwardCost, IsSearch, IsLeastKey}
+use Rattle.ch_query.specs.Search.{IsSettled, IsUpwardCost, IsLeastKey}
 use Rattle.ch_query.specs.Side.{rows_of}
-use Rattle.ch_query.specs.Underway.{unsettled_in, IsUnderway, IsSameSearch, KeepsSettled}
+use Rattle.ch_query.specs.Underway.{IsUnderway, IsSameSearch, KeepsSettled}
 use Rattle.ch_contract.specs.Kept.{MeetsWithin}
 use Rattle.ch_query.specs.Covering.{joined, settled, IsPastCost, AreJoined, AreApart}
-use Rattle.ch_query.specs.Meeting.{IsFresh}
 use Rattle.ch_query.proofs.End.{settled_least}
 use Rattle.ch_query.proofs.Expanding.{leg_up, level_small, rows_size}
-use Rattle.ch_query.proofs.LeastPaths.{HasLeast, IsShort, decided}
+use Rattle.ch_query.proofs.LeastPaths.{decided}
 use Rattle.ch_query.proofs.PathLaws.{then_below}
 use Rattle.ch_query.proofs.Popping.{with_queue, key_within}
 use Rattle.ch_query.proofs.Spreads.{never_idle}

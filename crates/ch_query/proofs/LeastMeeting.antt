@@ -3,7 +3,7 @@ use Rattle.std.proofs.Common.{◌≡◌, ℕ, ◌≤◌, List, Option, Some, Non
 use Rattle.std.specs.Prelude.{MatchOption}
 use Rattle.std.proofs.lemmas.Option.{same_Some}
 use Rattle.ch_graph.specs.declared.cost.Cost.{Cost}
-use Rattle.ch_graph.specs.Cost.{IsAtMost, cost_sum}
+use Rattle.ch_graph.specs.Cost.{IsAtMost}
 use Rattle.ch_graph.specs.Walk.{IsUnreachable}
 use Rattle.ch_graph.specs.WalkLaws.{IsWalkCost}
 use Rattle.ch_graph.proofs.CostOrder.{IsAtMost_refl, IsAtMost_trans, IsAtMost_antisymm}

@@ -1,5 +1,5 @@
 -- What the legs of rows cost.
-use Rattle.std.proofs.Common.{eqb, ◌≡◌, ℕ, ◌+◌, ◌<◌, ◌≤◌, ◌⊎◌, List, Contains, Option, Some, None, refl, sym, ◌∙◌, ap, subst, arith, inl, inr}
+use Rattle.std.proofs.Common.{eqb, ◌≡◌, ℕ, ◌<◌, ◌≤◌, List, Contains, Option, Some, None, refl, sym, ◌∙◌, ap, subst, arith, inl, inr}
 use Rattle.std.specs.Prelude.{slice_index, ◌↔◌, Bool, true, false, not, IsTrue, ◌&&◌}
 use Rattle.std.proofs.lemmas.Bool.{false≢true, eqb-true}
 use Rattle.ch_graph.specs.declared.limits.TheConstants.{MOST_WEIGHT}

@@ -1,19 +1,18 @@
 -- Pairs of legs through a lower node.
-use Rattle.std.proofs.Common.{get_or, ◌≡◌, ℕ, ◌+◌, ◌^◌, ◌<◌, ◌≤◌, ◌⊎◌, List, [], ◌∷◌, length, Contains, take, refl, sym, ◌∙◌, ap, subst, arith, inl, inr}
-use Rattle.std.specs.Prelude.{◌≢◌, ◌↔◌, Bool, true, not, IsTrue}
-use Rattle.std.proofs.lemmas.List.{get_or_default}
+use Rattle.std.proofs.Common.{get_or, ◌≡◌, ℕ, ◌+◌, ◌<◌, ◌≤◌, List, [], length, Contains, refl, sym, subst, arith, inl, inr}
+use Rattle.std.specs.Prelude.{◌≢◌}
 use Rattle.std.proofs.lemmas.List.Elements.{Contains-get_or}
-use Rattle.std.proofs.lemmas.Bool.{cases_lt, false≢true}
+use Rattle.std.proofs.lemmas.Bool.{cases_lt}
 use Rattle.ch_graph.specs.declared.cost.Cost.{Cost}
-use Rattle.ch_graph.specs.Cost.{IsAtMost, IsBelow, cost_sum, no_cost}
+use Rattle.ch_graph.specs.Cost.{IsAtMost, cost_sum, no_cost}
 use Rattle.ch_graph.proofs.CostSums.{cost_sum-no_cost}
 use Rattle.ch_contract.specs.declared.leg.Leg.{Leg}
-use Rattle.ch_contract.specs.Hierarchy.{LevelsAndLegs, nodes_of, IsLevelled, IsLegUp}
+use Rattle.ch_contract.specs.Hierarchy.{LevelsAndLegs, IsLevelled, IsLegUp}
 use Rattle.ch_contract.specs.Rows.{row}
 use Rattle.ch_contract.specs.Turned.{turned_hierarchy}
 use Rattle.ch_contract.proofs.theory.Turned.{turned_levelled, turned_meeting}
 use Rattle.ch_query.specs.declared.side.Side.{Side}
-use Rattle.ch_query.specs.declared.side.Side.TheVariants.{Up, Down}
+use Rattle.ch_query.specs.declared.side.Side.TheVariants.{Up}
 use Rattle.ch_query.specs.Search.{IsUpwardCost}
 use Rattle.ch_query.specs.Side.{rows_of}
 use Rattle.ch_contract.specs.Kept.{MeetsWithin, IsCovered}

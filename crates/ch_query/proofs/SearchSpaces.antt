@@ -1,5 +1,5 @@
 -- A search that stalls, at its end: what it knows of tight nodes, and the list of the nodes at which it did not stall.
-use Rattle.std.proofs.Common.{◌≡◌, ℕ, ◌+◌, ◌<◌, ◌≤◌, Bool, true, List, [], ◌∷◌, ◌++◌, length, Contains, take, Option, Some, None, get_or, get_or-take, length-take, set, refl, sym, ◌∙◌, ap, subst, arith, inl, inr}
+use Rattle.std.proofs.Common.{◌≡◌, ℕ, ◌+◌, ◌<◌, Bool, true, List, [], ◌∷◌, ◌++◌, length, Contains, take, Option, Some, None, get_or, get_or-take, length-take, set, sym, ◌∙◌, ap, subst, arith, inl, inr}
 use Rattle.std.specs.Prelude.{◌⊎◌, ◌≢◌, AllPairs, is_some}
 use Rattle.std.specs.List.Sorted.{IsPermutation}
 use Rattle.std.proofs.lemmas.Option.{same_Some, none-some}
@@ -8,24 +8,16 @@ use Rattle.std.proofs.lemmas.List.{take_more, get_or_default}
 use Rattle.std.proofs.lemmas.List.Elements.{Contains-append_left, Contains-push, Contains-push_cases, Contains-get_or}
 use Rattle.std.proofs.lemmas.List.Quantifiers.{all_pairs_push}
 use Rattle.ch_graph.specs.declared.cost.Cost.{Cost}
-use Rattle.ch_graph.specs.Cost.{IsAtMost, cost_sum, cost_at}
-use Rattle.ch_graph.specs.Walk.{IsLeast}
-use Rattle.ch_graph.proofs.CostOrder.{IsAtMost_refl, IsBelow_not}
-use Rattle.ch_graph.proofs.CostSums.{cost_sum_comm, cost_sum-no_cost}
-use Rattle.ch_graph.proofs.WalkCosts.{IsWalkCost-cost_sum, IsLeast-IsAtMost}
-use Rattle.ch_contract.specs.declared.leg.Leg.{Leg}
+use Rattle.ch_graph.specs.Cost.{cost_at}
 use Rattle.ch_contract.specs.Hierarchy.{LevelsAndLegs}
-use Rattle.ch_contract.specs.Paths.{path_cost, IsLeastUpwardPath}
-use Rattle.ch_contract.proofs.theory.KeptWalks.{kept_has_walks, meetings_are_distances}
 use Rattle.ch_query.specs.declared.side.Side.{Side}
-use Rattle.ch_query.specs.declared.side.Side.TheVariants.{Up, Down}
 use Rattle.ch_query.specs.declared.search.Search.{Search}
 use Rattle.ch_query.specs.Distance.{IsKeptForSome}
 use Rattle.ch_query.specs.Limits.{IsWithin, IsMost}
 use Rattle.ch_query.specs.Meeting.{IsFresh}
-use Rattle.ch_query.specs.Search.{IsSettled, IsSearch, IsLeastKey, IsStalled, AvoidsIdle, IsEmpty}
-use Rattle.ch_query.specs.SearchSpace.{IsTight, IsSearchSpace}
-use Rattle.ch_query.specs.Side.{rows_of, other}
+use Rattle.ch_query.specs.Search.{IsSettled, IsLeastKey, IsStalled, IsEmpty}
+use Rattle.ch_query.specs.SearchSpace.{IsSearchSpace}
+use Rattle.ch_query.specs.Side.{rows_of}
 use Rattle.ch_query.specs.Underway.{back_of, idle_of, IsSameSearch, IsUnderway, KeepsSettled, AreUnstalled, AreWeights}
 use Rattle.ch_query.proofs.Popping.{with_queue, key_within}
 use Rattle.ch_query.proofs.Steps.{popped_settled, popped_stays, popped_here}

@@ -1,5 +1,5 @@
 -- What the search spaces of two nodes say together: the distance between them.
-use Rattle.std.proofs.Common.{◌≡◌, ℕ, ◌+◌, ◌≤◌, List, Contains, Option, Some, None, refl, sym, ap, subst, arith, inl, inr}
+use Rattle.std.proofs.Common.{◌≡◌, ℕ, ◌+◌, ◌≤◌, List, Contains, Option, Some, None, refl, ap, arith, inl, inr}
 use Rattle.std.specs.Prelude.{MatchOption}
 use Rattle.ch_graph.specs.declared.cost.Cost.{Cost}
 use Rattle.ch_graph.specs.Cost.{cost_sum}

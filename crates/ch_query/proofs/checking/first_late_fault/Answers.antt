@@ -1,5 +1,4 @@
-use Rattle.std.proofs.Common.{List, Contains, All, ◌∙◌, ap, subst}
-use Rattle.ch_graph.specs.declared.saved.SavedLeg.{SavedLeg}
+use Rattle.std.proofs.Common.{Contains, All, ◌∙◌, ap, subst}
 use Rattle.ch_graph.specs.Saved.{OrderAndLegs}
 use Rattle.ch_contract.specs.Assembling.{IsFirstFailing}
 use Rattle.ch_query.specs.Checking.{IsArcIfBase, IsSumIfShortcut, IsServed}

@@ -1,4 +1,4 @@
-use Rattle.std.proofs.Common.{◌∙◌, sym}
+use Rattle.std.proofs.Common.{sym}
 use Rattle.ch_query.proofs.JoinedSearches.{shown_covers}
 use Rattle.ch_query.proofs.covering.meets_within.Goals as goal
 

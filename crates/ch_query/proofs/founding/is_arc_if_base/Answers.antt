@@ -1,4 +1,3 @@
-use Rattle.std.proofs.Common.{sym}
 use Rattle.ch_query.proofs.ArcRows.{base_arc}
 use Rattle.ch_query.proofs.founding.is_arc_if_base.Goals as goal
 

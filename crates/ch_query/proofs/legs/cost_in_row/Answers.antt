@@ -1,4 +1,4 @@
-use Rattle.std.proofs.Common.{rules, None, refl}
+use Rattle.std.proofs.Common.{rules, refl}
 use Rattle.std.proofs.lemmas.List.Sorted.{answers_always}
 use Rattle.ch_contract.proofs.theory.RowLemmas.{no_leg}
 use Rattle.ch_query.proofs.RowSearch.{found_leg, not_missed}

@@ -1,4 +1,4 @@
-use Rattle.std.proofs.Common.{refl, subst}
+use Rattle.std.proofs.Common.{subst}
 use Rattle.std.proofs.lemmas.Bool.{false≢true}
 use Rattle.ch_query.specs.Checking.{IsLegCost}
 use Rattle.ch_query.proofs.LegCosts.{within_some, within_none}

@@ -1,4 +1,4 @@
-use Rattle.std.proofs.Common.{arith, refl, subst}
+use Rattle.std.proofs.Common.{arith, subst}
 use Rattle.ch_contract.specs.Rows.{IsRow}
 use Rattle.ch_query.specs.declared.side.Side.TheVariants.{Up, Down}
 use Rattle.ch_query.proofs.LegCosts.{cost_up, cost_down}

@@ -1,4 +1,4 @@
-use Rattle.std.proofs.Common.{arith, subst, ◌∙◌, sym, None}
+use Rattle.std.proofs.Common.{arith, subst, ◌∙◌, sym}
 use Rattle.ch_graph.specs.Cost.{IsBelow}
 use Rattle.ch_contract.proofs.theory.RowLemmas.{no_leg}
 use Rattle.ch_query.proofs.Stalling.{back_leg, back_sum, stalls_idle}
