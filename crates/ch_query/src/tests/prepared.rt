@@ -53,7 +53,8 @@ pub(super) fn hierarchy<R: Threads + Sync>(
     Ok(again!(build(rt, alloc, &graph, 5, &plan, &Open)))
 }
 
-/// A hierarchy that is right for some graph, and room for queries in it. Contracts see the number of its nodes.
+/// A hierarchy that is right for some graph, and room for queries in it. Contracts see the number of its
+/// nodes.
 #[derive(Drop)]
 pub(super) struct Prepared {
     alloc: Global,

@@ -7,8 +7,8 @@ use std::process::Abort;
 use std::test::Fail;
 use std::thread::Threads;
 
-/// Three roads, open both ways: nodes 0 and 1 are 10 apart by their own, and 2 over node 2. The nodes are contracted
-/// in order, with no shortcut, so each leg is a road.
+/// Three roads, open both ways: nodes 0 and 1 are 10 apart by their own, and 2 over node 2. The nodes are
+/// contracted in order, with no shortcut, so each leg is a road.
 const TRIANGLE: [(u32, u32, u64); 6] = [
     (0, 1, 10),
     (1, 0, 10),
@@ -31,7 +31,7 @@ fn expect<R: Threads + Abort + Sync>(rt: &R, alloc: Global, spaces: &[Space]) ->
     Ok(())
 }
 
-/// What a search from node 0 reaches, each as (node, weight, arcs).
+/// Expects all that node 0 reaches in the triangle, in both directions.
 fn expect_whole(rt: &impl Abort, triangle: &mut Prepared) -> Result<(), AllocError> {
     let whole = [(0, 0, 0), (1, 10, 1), (2, 1, 1)];
     triangle.expect_spread(rt, 0, Side::Up, None, &whole)?;
