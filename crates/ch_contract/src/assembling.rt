@@ -1,5 +1,5 @@
 //! The levels and rows of a saved hierarchy, or its first fault.
-ghost use Rattle.std.specs.Prelude.{◌≡◌, ◌<◌, ℕ, List, Contains, IfOk, MatchOption};
+ghost use Rattle.std.specs.Prelude.{◌≡◌, ℕ, List, Contains, IfOk, MatchOption};
 ghost use Rattle.ch_graph.specs.declared.saved.SavedLeg.{SavedLeg as LegOfFile};
 ghost use Rattle.ch_contract.specs.declared.fault.CheckFault.{CheckFault as AnyFault};
 ghost use Rattle.ch_contract.specs.declared.fault.CheckFault.TheVariants as CheckFault;

@@ -1,9 +1,9 @@
 //! The legs of each node, in a short list for each.
-ghost use Rattle.std.specs.Prelude.{◌≡◌, ℕ, ◌+◌, ◌^◌, ◌<◌, ◌≤◌, ◌==◌, if◌then◌else◌, [], length, All, AllPairs, IfOk, OnOk, Some, None, option_map, find, replicate, slice_index_or, slice_set};
+ghost use Rattle.std.specs.Prelude.{◌≡◌, ℕ, ◌<◌, ◌≤◌, ◌==◌, if◌then◌else◌, [], length, All, AllPairs, IfOk, OnOk, Some, None, option_map, find, replicate, slice_index_or, slice_set};
 ghost use Rattle.ch_contract.specs.declared.leg.Leg.{Leg};
 ghost use Rattle.ch_contract.specs.Contraction.{IsPairBefore};
 ghost use Rattle.ch_contract.specs.Rows.{row, row_leg, label_of, IsRow};
-ghost use Rattle.ch_contract.specs.LegLists.{AreRows, HaveAll, IsSet, AreTaken, AreOverridden, legs_from, legs_into, lighter_arc};
+ghost use Rattle.ch_contract.specs.LegLists.{AreRows, HaveAll, IsSet, AreOverridden, legs_from, legs_into, lighter_arc};
 
 use crate::leg::Leg;
 use crate::shortcut::Shortcut;

@@ -1,5 +1,5 @@
 //! Legs by their lower and their higher node.
-ghost use Rattle.std.specs.Prelude.{◌≡◌, ◌<◌, length, AllPairs, Contains, IfOk, OnOk};
+ghost use Rattle.std.specs.Prelude.{◌<◌, length, AllPairs, Contains, IfOk, OnOk};
 ghost use Rattle.ch_graph.specs.declared.saved.SavedLeg.{SavedLeg as LegOfFile};
 ghost use Rattle.ch_contract.specs.Placing.{from_of, to_of, ArePlaced, IsPushedWhereUp};
 ghost use Rattle.ch_contract.specs.Sorting.{IsEarlier};

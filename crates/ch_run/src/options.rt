@@ -1,6 +1,12 @@
 //! How queries are answered and tables made, and the limits of this.
 
-pub use ch_graph::limits::{MOST_HOPS, MOST_WEIGHT};
+use ch_graph::limits;
+
+/// The most legs of a witness.
+pub const MOST_HOPS: u32 = limits::MOST_HOPS;
+
+/// The greatest limit on a table's distances that has a use: no distance is more.
+pub const MOST_WITHIN: u64 = limits::MOST_WEIGHT;
 
 /// How queries are answered and tables made.
 #[derive(Clone, Copy, Debug, PartialEq, Eq)]

@@ -1,5 +1,5 @@
 -- The words of the command line, and what they say.
-use Rattle.std.specs.Prelude.{◌≡◌, ◌≢◌, ℕ, pos, ◌^◌, ◌≤◌, [], ◌∷◌, ◌++◌, Bool, ◌&&◌, not, List, Option, Some, None, IfSome, is_some, true, false, codes, fold, length, map, option_map, ⊤, vec_len}
+use Rattle.std.specs.Prelude.{◌≡◌, ◌≢◌, ℕ, pos, ◌≤◌, [], ◌∷◌, ◌++◌, Bool, ◌&&◌, not, List, Option, Some, None, IfSome, is_some, true, false, codes, fold, length, map, option_map, ⊤, vec_len}
 use Rattle.std.specs.Str.Parse.{digits_value, without_leading_plus}
 use Rattle.std.specs.String.{string_bytes}
 use Rattle.clap.specs.Words.{App, IsAmong, Kinds, Row, Rule, Text, fault_of, first_of, new_app, new_rule, one_of, subcommand_of, with_rule, with_subcommand}
@@ -8,7 +8,9 @@ use Rattle.clap.specs.declared.builder.ArgAction.TheVariants.{Set, SetTrue}
 use Rattle.clap.specs.declared.builder.value_parser.ValueParser.TheVariants as parser
 use Rattle.clap.specs.declared.error.kind.ErrorKind.{ErrorKind}
 use Rattle.clap.specs.declared.error.kind.ErrorKind.TheVariants.{DisplayHelp, OutOfMemory}
+use Rattle.ch_run.specs.declared.options.TheConstants.{MOST_HOPS, MOST_WITHIN}
 use Rattle.ch_run.specs.declared.options.Options.{Options}
+use Rattle.ch_work.specs.declared.limits.TheConstants.{MOST_WORKERS, MOST_PIECE}
 use Rattle.ch_work.specs.Plan.{Division, IsWithinLimits}
 use Rattle.chtab.specs.declared.line.Line.{Line}
 use Rattle.chtab.specs.declared.line.LineFault.{LineFault}
@@ -55,12 +57,12 @@ saved_rule = file_option_rule (codes "saved")
 -- `[--plain] [--routes] [--saved FILE]` of `dist`, and `[--within R] [--saved FILE]` of `table`
 abbrev pub own_rules : Tool → List Rule
 own_rules Dist = flag_rule (codes "plain") ∷ flag_rule (codes "routes") ∷ saved_rule ∷ []
-own_rules Table = limit_rule (codes "within") (2 ^ 60) ∷ saved_rule ∷ []
+own_rules Table = limit_rule (codes "within") MOST_WITHIN ∷ saved_rule ∷ []
 own_rules Save = []
 
 -- `[--workers N] [--piece K] [--hops H]`, which each tool reads
 abbrev pub number_rules : List Rule
-number_rules = number_rule (codes "workers") 64 (codes "1") ∷ number_rule (codes "piece") 1048576 (codes "64") ∷ number_rule (codes "hops") 16 (codes "5") ∷ []
+number_rules = number_rule (codes "workers") MOST_WORKERS (codes "1") ∷ number_rule (codes "piece") MOST_PIECE (codes "64") ∷ number_rule (codes "hops") MOST_HOPS (codes "5") ∷ []
 
 -- the words after a tool's name: its own options, its numbers and its files
 abbrev pub form_of : Tool → App
@@ -139,8 +141,8 @@ reads_saved line = is_some line.saved && not line.options.plain
 pub record IsAllowed (line : Line) : Type 0 where
   pub files : vec_len line.files ≡ length (file_names line.tool)
   pub some_hops : 1 ≤ line.options.hops
-  pub few_hops : line.options.hops ≤ 16
-  pub limit : IfSome line.options.within (λ most. most ≤ 2 ^ 60)
+  pub few_hops : line.options.hops ≤ MOST_HOPS
+  pub limit : IfSome line.options.within (λ most. most ≤ MOST_WITHIN)
   pub plan : IsWithinLimits line.plan
 
 -- the fault is told for an error of this kind

@@ -11,18 +11,9 @@ use ch_run::{Options, Plan};
 use clap::error::ErrorKind;
 use form::command;
 use given::line_of;
-use std::alloc::{AllocError, AllocFailed, Global};
+use std::alloc::{AllocError, Global};
 use std::error::Error;
 use std::fmt;
-
-/// The most workers that the words may ask for.
-const MOST_WORKERS: u32 = 64;
-/// The most items in a piece.
-const MOST_PIECE: u32 = 1_048_576;
-/// The most legs of a witness path.
-const MOST_HOPS: u32 = 16;
-/// The most weight that a limit on cells may have.
-const MOST_LIMIT: u64 = 1 << 60;
 
 /// What the program does.
 #[derive(Clone, Copy, Debug, PartialEq, Eq)]
@@ -73,16 +64,6 @@ impl From<AllocError> for LineFault {
     ghost from_gives = { λ _ fault. fault ≡ NoMemory };
 
     fn from(_error: AllocError) -> LineFault {
-        LineFault::NoMemory
-    }
-}
-
-impl<T: Drop> From<AllocFailed<T>> for LineFault {
-    ghost use Rattle.chtab.specs.declared.line.LineFault.TheVariants.{NoMemory};
-
-    ghost from_gives = { λ _ fault. fault ≡ NoMemory };
-
-    fn from(_refused: AllocFailed<T>) -> LineFault {
         LineFault::NoMemory
     }
 }

@@ -13,6 +13,21 @@ use std::rt::Files;
 use std::thread::Threads;
 use std::{fs, io};
 
+/// The answer of a run over these files and standard output, by the options and the plan of a line.
+macro_rules! over_files {
+    ($run:ident, $rt:expr, $line:expr, $($file:expr),+) => {
+        $run(
+            $rt,
+            $rt.alloc(),
+            $(&mut ReaderInput::new($file),)+
+            &mut WriterOutput::new(io::writer($rt)),
+            &$line.options,
+            &$line.plan,
+            &Open,
+        )
+    };
+}
+
 /// Does what a line asks for.
 ///
 /// # Errors
@@ -76,16 +91,7 @@ fn dist_by_built<R: Files + Print + Threads + Sync + AllocGlobal>(
     requires allowed { IsAllowed line.now }
     requires built { reads_saved line.now ≡ false }
 {
-    run_dist(
-        rt,
-        rt.alloc(),
-        &mut ReaderInput::new(graph),
-        &mut ReaderInput::new(queries),
-        &mut WriterOutput::new(io::writer(rt)),
-        &line.options,
-        &line.plan,
-        &Open,
-    )
+    over_files!(run_dist, rt, line, graph, queries)
 }
 
 /// Answers queries by a saved hierarchy.
@@ -99,17 +105,7 @@ fn dist_by_saved<R: Files + Print + Threads + Sync + AllocGlobal>(
     requires allowed { IsAllowed line.now }
     requires saved { reads_saved line.now ≡ true }
 {
-    run_dist_saved(
-        rt,
-        rt.alloc(),
-        &mut ReaderInput::new(graph),
-        &mut ReaderInput::new(saved),
-        &mut ReaderInput::new(queries),
-        &mut WriterOutput::new(io::writer(rt)),
-        &line.options,
-        &line.plan,
-        &Open,
-    )
+    over_files!(run_dist_saved, rt, line, graph, saved, queries)
 }
 
 /// Makes the table of a line. All files are opened before one is read.
@@ -141,17 +137,7 @@ fn table_by_built<R: Files + Print + Threads + Sync + AllocGlobal>(
     requires allowed { IsAllowed line.now }
     requires built { reads_saved line.now ≡ false }
 {
-    run_table(
-        rt,
-        rt.alloc(),
-        &mut ReaderInput::new(graph),
-        &mut ReaderInput::new(sources),
-        &mut ReaderInput::new(targets),
-        &mut WriterOutput::new(io::writer(rt)),
-        &line.options,
-        &line.plan,
-        &Open,
-    )
+    over_files!(run_table, rt, line, graph, sources, targets)
 }
 
 /// Makes a table by a saved hierarchy.
@@ -166,18 +152,7 @@ fn table_by_saved<R: Files + Print + Threads + Sync + AllocGlobal>(
     requires allowed { IsAllowed line.now }
     requires saved { reads_saved line.now ≡ true }
 {
-    run_table_saved(
-        rt,
-        rt.alloc(),
-        &mut ReaderInput::new(graph),
-        &mut ReaderInput::new(saved),
-        &mut ReaderInput::new(sources),
-        &mut ReaderInput::new(targets),
-        &mut WriterOutput::new(io::writer(rt)),
-        &line.options,
-        &line.plan,
-        &Open,
-    )
+    over_files!(run_table_saved, rt, line, graph, saved, sources, targets)
 }
 
 /// Writes the hierarchy of a line's graph.
@@ -189,13 +164,5 @@ fn save<R: Files + Print + Threads + Sync + AllocGlobal>(
     requires tool { line.now.tool ≡ Tool.Save }
 {
     let graph = opened(rt, line.files[0].as_str(), Which::Graph)?;
-    run_save(
-        rt,
-        rt.alloc(),
-        &mut ReaderInput::new(graph),
-        &mut WriterOutput::new(io::writer(rt)),
-        &line.options,
-        &line.plan,
-        &Open,
-    )
+    over_files!(run_save, rt, line, graph)
 }

@@ -1,6 +1,6 @@
 -- What heads of any kind stand for.
-use Rattle.std.proofs.Common.{◌≡◌, ℕ, ◌<◌, List, [], ◌∷◌, ◌++◌, length, map, set, get_or, All, Contains, sym, ◌∙◌, ap, subst, arith, inl, inr}
-use Rattle.std.specs.Prelude.{◌⊎◌, ◌≢◌}
+use Rattle.std.proofs.Common.{◌≡◌, ℕ, ◌<◌, Bool, true, false, List, [], ◌∷◌, ◌++◌, length, map, set, get_or, All, Contains, sym, ◌∙◌, ap, subst, arith, inl, inr}
+use Rattle.std.specs.Prelude.{◌⊎◌, ◌≢◌, if◌then◌else◌}
 use Rattle.std.proofs.lemmas.Bool.{cases_eq}
 use Rattle.std.proofs.Math.Seq.{map-set_same}
 use Rattle.std.proofs.lemmas.List.{get_or-map, length-map, length-set, map-set, map-append, get_or-set_same, get_or-set_other}
@@ -40,6 +40,14 @@ two_addend limit a b first second = record {
   weight = omega (arith, first.weight, second.weight);
   arcs = omega (arith, first.arcs, second.arcs);
 }
+
+-- where the test holds, the value is pushed
+pub pushed : {X : Type 0} (b : Bool) (new old : List X) (x : X) → new ≡ (if b then old ++ x ∷ [] else old) → b ≡ true → new ≡ old ++ x ∷ []
+pushed b new old x is holds = is ∙ ap (λ t. if t then old ++ x ∷ [] else old) holds
+
+-- and where it fails, nothing is
+pub not_pushed : {X : Type 0} (b : Bool) (new old : List X) (x : X) → new ≡ (if b then old ++ x ∷ [] else old) → b ≡ false → new ≡ old
+not_pushed b new old x is fails = is ∙ ap (λ t. if t then old ++ x ∷ [] else old) fails
 
 -- one head is put in at one node
 pub lowers_one : {K : Type 0} (cost : K → Cost) (old : Heads K) (node : ℕ) (head : K) (touched : List ℕ) (next : List (Step K)) → node < length old.costs.items →

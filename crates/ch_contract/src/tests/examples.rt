@@ -1,6 +1,5 @@
 //! Graphs with their hierarchies, and that `build` makes these at several plans.
 ghost use Rattle.std.specs.Prelude.{◌<◌};
-ghost use Rattle.ch_contract.specs.Hierarchy.{nodes_of};
 ghost use Rattle.ch_contract.specs.Legs.{IsHopBound};
 
 use crate::{Hierarchy, Leg, build};

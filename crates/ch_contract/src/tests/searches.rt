@@ -1,5 +1,5 @@
 //! Searches for witnesses beside a plain one, on small random graphs.
-ghost use Rattle.std.specs.Prelude.{◌≡◌, ◌<◌, ◌≤◌};
+ghost use Rattle.std.specs.Prelude.{◌<◌, ◌≤◌};
 ghost use Rattle.ch_graph.specs.declared.limits.TheConstants.{MOST_WEIGHT};
 ghost use Rattle.ch_contract.specs.Legs.{IsHopBound};
 

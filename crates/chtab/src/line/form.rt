@@ -6,7 +6,8 @@ ghost use Rattle.clap.specs.declared.builder.command.Command.TheViews.{out-Comma
 ghost use Rattle.chtab.specs.declared.line.Tool.TheVariants.{Dist, Save, Table};
 ghost use Rattle.chtab.specs.Line.{chtab_form, file_option_rule, file_rule, flag_rule, form_of, limit_rule, number_rule, number_rules, saved_rule};
 
-use super::{MOST_HOPS, MOST_LIMIT, MOST_PIECE, MOST_WORKERS};
+use ch_run::{MOST_HOPS, MOST_WITHIN};
+use ch_work::limits::{MOST_PIECE, MOST_WORKERS};
 use clap::builder::ValueParser;
 use clap::{Arg, ArgAction, Command};
 use std::alloc::{AllocError, Global};
@@ -151,7 +152,7 @@ fn table_command<'a>(alloc: Global) -> Result<Command<'a>, AllocError>
     ensures form { IfOk result (λ c. app_of c ≡ form_of Table) }
     ensures local { IfOk result (λ c. (fields_of c).has_globals ≡ false) }
 {
-    let within = limit(alloc, "within", "R", MOST_LIMIT).help(
+    let within = limit(alloc, "within", "R", MOST_WITHIN).help(
         "Write distances of at most R alone, from 0 to 1152921504606846976: cells above R are written as - \
         [default: no limit]",
     );

@@ -1,13 +1,15 @@
 //! What the words give the arguments of a tool.
 
-ghost use Rattle.std.specs.Prelude.{◌≡◌, ◌^◌, ◌≤◌, IfOk, IfSome, Some, codes, map, option_map};
+ghost use Rattle.std.specs.Prelude.{◌≡◌, ◌≤◌, IfOk, IfSome, Some, codes, map, option_map};
 ghost use Rattle.std.specs.String.{string_bytes};
 ghost use Rattle.clap.specs.Words.{first_of, found_of, rows_of};
+ghost use Rattle.ch_run.specs.declared.options.TheConstants.{MOST_HOPS, MOST_WITHIN};
 ghost use Rattle.ch_work.specs.Plan.{IsWithinLimits};
 ghost use Rattle.chtab.specs.Line.{AreFlagsIn, IsAllowed, IsFlagIn, IsGivenBy, IsPlanIn, file_names, files_in, number_in};
 
-use super::{Line, MOST_HOPS, MOST_LIMIT, MOST_PIECE, MOST_WORKERS, Tool};
-use ch_run::{Options, Plan};
+use super::{Line, Tool};
+use ch_run::{MOST_HOPS, MOST_WITHIN, Options, Plan};
+use ch_work::limits::{MOST_PIECE, MOST_WORKERS};
 use clap::ArgMatches;
 use std::alloc::{AllocError, Global};
 
@@ -97,11 +99,11 @@ fn plan_of(matches: &ArgMatches<'_>) -> Result<Plan, AllocError>
 
 /// The options of a tool. `dist` alone has flags.
 fn options_of(tool: Tool, matches: &ArgMatches<'_>) -> Result<Options, AllocError>
-    ensures range { IfOk result (λ options. (1 ≤ options.hops) × (options.hops ≤ 16)) }
+    ensures range { IfOk result (λ options. (1 ≤ options.hops) × (options.hops ≤ MOST_HOPS)) }
     ensures hops { IfOk result (λ options. Some options.hops ≡ number_in (rows_of (found_of matches.now)) (codes "hops")) }
     ensures flags { IfOk result (AreFlagsIn (rows_of (found_of matches.now)) tool) }
     ensures limit { IfOk result (λ options. options.within ≡ number_in (rows_of (found_of matches.now)) (codes "within")) }
-    ensures small_limit { IfOk result (λ options. IfSome options.within (λ most. most ≤ 2 ^ 60)) }
+    ensures small_limit { IfOk result (λ options. IfSome options.within (λ most. most ≤ MOST_WITHIN)) }
 {
     let (plain, routes) = match tool {
         Tool::Dist => (flag_of(matches, "plain"), flag_of(matches, "routes")),
@@ -111,7 +113,7 @@ fn options_of(tool: Tool, matches: &ArgMatches<'_>) -> Result<Options, AllocErro
         plain,
         routes,
         hops: number_of(matches, "hops", MOST_HOPS)?,
-        within: limit_given(matches, "within", MOST_LIMIT)?,
+        within: limit_given(matches, "within", MOST_WITHIN)?,
     })
 }
 

@@ -1,13 +1,8 @@
-use Rattle.std.proofs.Common.{◌≡◌, ◌+◌, ◌<◌, ◌++◌, ℕ, List, Option, map, refl, sym, ◌∙◌, ap, subst, arith, length}
-use Rattle.std.specs.Prelude.{All, ℤ, slice_index}
+use Rattle.std.proofs.Common.{◌≡◌, ◌+◌, ◌<◌, ◌++◌, ℕ, List, Option, map, refl, sym, ◌∙◌, ap, subst, arith}
+use Rattle.std.specs.Prelude.{All, ℤ}
 use Rattle.std.specs.Vec.{with_item}
-use Rattle.ch_contract.specs.Remaining.{legs_of}
 use Rattle.ch_contract.specs.declared.leg.Leg.{Leg}
-use Rattle.ch_contract.specs.declared.room.Room.{Room}
-use Rattle.ch_contract.specs.Rooms.{IsReady, list_at}
-use Rattle.ch_contract.specs.declared.shortcut.Shortcut.{Shortcut}
-use Rattle.ch_contract.specs.Legs.{Legs, SameLegs}
-use Rattle.ch_contract.specs.Contraction.{AreShortcuts, Contracts, contracted}
+use Rattle.ch_contract.specs.Legs.{Legs}
 use Rattle.ch_contract.specs.Priorities.{AreRefreshed, neighbours_in}
 use Rattle.ch_contract.proofs.code.ConstructionCalls.{IsStepped, stepped, sized_still, neighbours_within, neighbours_count}
 use Rattle.ch_contract.proofs.construction.Construction.contract.Goals as goal

@@ -1,11 +1,10 @@
-use Rattle.std.proofs.Common.{refl, sym, ◌∙◌, ap, subst, ◌≡◌, ℕ, true, false, ◌∷◌, ◌++◌, [], List, inl, inr, map, set}
-use Rattle.std.specs.Prelude.{if◌then◌else◌, IsTrue, Bool}
+use Rattle.std.proofs.Common.{sym, ◌∙◌, ap, subst, inl, inr, map, set}
+use Rattle.std.specs.Prelude.{IsTrue}
 use Rattle.std.proofs.lemmas.Bool.{and_parts, and_cases, not-true, not-false, both_ways}
-use Rattle.ch_graph.specs.declared.cost.Cost.{Cost}
 use Rattle.ch_graph.specs.Cost.{IsAtMost}
 use Rattle.ch_contract.specs.Heads.{head_at, known_of, begun_of, IsOnly, IsOnlyWhere, Lowers}
 use Rattle.ch_contract.proofs.code.Lowering.{dearer, lowers_as}
-use Rattle.ch_contract.proofs.code.HeadViews.{head_of, lowers_one, lowers_nothing}
+use Rattle.ch_contract.proofs.code.HeadViews.{head_of, pushed, not_pushed, lowers_one, lowers_nothing}
 use Rattle.ch_contract.proofs.heads.Heads.lower.Goals.{then-is_less, else-is_less}
 use Rattle.ch_contract.proofs.heads.Heads.lower.Goals as goal
 
@@ -21,14 +20,14 @@ returns-clause-lowers g c =
       | then-is_less w ↦
           let both = and_parts wanted _ w.if-is_less.true in
           let less = subst (IsAtMost (cost head)) here (dearer _ _ _ c.is_at_most.ensures (not-true _ both.1)) in
-          let touched = c.push_where.ensures.items ∙ ap (λ b. if b then h.touched.items ++ node ∷ [] else h.touched.items) w.if-is_less.true in
-          let next = c.push_where-2.ensures.items ∙ ap (λ b. if b then h.next.items ++ record { node = node; cost = head } ∷ [] else h.next.items) w.if-is_less.true in
+          let touched = pushed _ c.push_where.new.list.items h.touched.items node c.push_where.ensures.items w.if-is_less.true in
+          let next = pushed _ c.push_where-2.new.list.items h.next.items (record { node = node; cost = head }) c.push_where-2.ensures.items w.if-is_less.true in
           lowers_as (IsOnly node (cost head)) (IsOnlyWhere wanted node (cost head)) (known_of cost h) _ (λ x d m. (both.0, m)) (λ x d m. m.1)
           (subst (λ z. Lowers (IsOnly node (cost head)) (known_of cost h) (record { costs = map cost (set h.costs.items node z); touched = c.push_where.new.list.items; next = map (begun_of cost) c.push_where-2.new.list.items })) (sym w.t-28-is)
           (lowers_one cost h node head _ _ c.requires.node less touched next))
       | else-is_less w ↦
-          let touched = c.push_where.ensures.items ∙ ap (λ b. if b then h.touched.items ++ node ∷ [] else h.touched.items) w.if-is_less.false in
-          let next = c.push_where-2.ensures.items ∙ ap (λ b. if b then h.next.items ++ record { node = node; cost = head } ∷ [] else h.next.items) w.if-is_less.false in
+          let touched = not_pushed _ c.push_where.new.list.items h.touched.items node c.push_where.ensures.items w.if-is_less.false in
+          let next = not_pushed _ c.push_where-2.new.list.items h.next.items (record { node = node; cost = head }) c.push_where-2.ensures.items w.if-is_less.false in
           let known : IsTrue wanted → IsAtMost (head_at (known_of cost h) node) (cost head) = λ yes. elim (and_cases wanted _ w.if-is_less.false) [
             | inl off ↦ absurd (both_ways wanted off yes)
             | inr is ↦ subst (λ z. IsAtMost z (cost head)) here (c.is_at_most.ensures.0 (not-false _ is))

@@ -1,6 +1,6 @@
-use Rattle.std.proofs.Common.{◌+◌, ◌-◌, ◌≤◌, [], length, take, get_or, sym, subst, arith}
+use Rattle.std.proofs.Common.{◌+◌, ◌-◌, [], length, take, get_or, sym, subst, arith}
 use Rattle.std.proofs.lemmas.List.{take_more}
-use Rattle.ch_contract.specs.Heads.{HasRoom, Lowers, IsOneMore, known_of, begun_of}
+use Rattle.ch_contract.specs.Heads.{Lowers, IsOneMore, known_of, begun_of}
 use Rattle.ch_contract.proofs.theory.RowLemmas.{no_leg}
 use Rattle.ch_contract.proofs.code.Lowering.{legs_more, lowers_none, no_more}
 use Rattle.ch_contract.proofs.heads.Heads.spread.Goals as goal

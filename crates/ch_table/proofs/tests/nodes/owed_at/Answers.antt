@@ -1,6 +1,5 @@
-use Rattle.std.proofs.Common.{◌*◌, ◌≤◌, length, arith}
+use Rattle.std.proofs.Common.{length, arith}
 use Rattle.std.proofs.lemmas.Nat.{mul-le}
-use Rattle.ch_work.specs.declared.limits.TheConstants.{MOST_CELLS}
 use Rattle.ch_table.proofs.tests.nodes.owed_at.Goals as goal
 
 pub search-requires-clause-cells : goal.search-requires-clause-cells
