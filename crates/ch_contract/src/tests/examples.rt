@@ -1,6 +1,7 @@
 //! Graphs with their hierarchies, and that `build` makes these at several plans.
 ghost use Rattle.std.specs.Prelude.{◌<◌};
 ghost use Rattle.ch_contract.specs.Legs.{IsHopBound};
+ghost use Rattle.ch_contract.specs.Hierarchy.{nodes_of};
 
 use crate::{Hierarchy, Leg, build};
 use ch_graph::{Cost, Graph, InArc};
@@ -78,19 +79,25 @@ fn expect_legs(rt: &impl Abort, hierarchy: &Hierarchy, legs: &[(u32, u32, u64, u
             weight: *weight,
             arcs: *arcs,
         };
-        let middle = middle.checked_sub(1);
-        let found = if hierarchy.level(*from - 1) < hierarchy.level(*to - 1) {
-            find(hierarchy.up(*from - 1), *to - 1)
-        } else {
-            find(hierarchy.down(*to - 1), *from - 1)
-        };
-        let Some(leg) = found else {
+        let Some(leg) = leg_between(hierarchy, *from - 1, *to - 1) else {
             panic!(rt; "no leg from {from} to {to}");
         };
-        assert_eq!(rt; leg.cost, cost, "from {from} to {to}");
-        assert_eq!(rt; leg.middle, middle, "from {from} to {to}");
+        let is_told = leg.cost == cost && leg.middle == middle.checked_sub(1);
+        assert!(rt; is_told, "from {from} to {to}");
     }
     assert_eq!(rt; leg_count(hierarchy), legs.len());
+}
+
+/// The leg from one node to another, in the row of the lower one.
+fn leg_between(hierarchy: &Hierarchy, from: u32, to: u32) -> Option<Leg>
+    requires from { from < nodes_of hierarchy.now }
+    requires to { to < nodes_of hierarchy.now }
+{
+    if hierarchy.level(from) < hierarchy.level(to) {
+        find(hierarchy.up(from), to)
+    } else {
+        find(hierarchy.down(to), from)
+    }
 }
 
 fn leg_count(hierarchy: &Hierarchy) -> usize {

@@ -1,6 +1,7 @@
 //! What a refusal of memory leaves: the test holds when any one request is refused. The call that meets the
 //! refusal answers want of memory, and the same, made again with what it was lent, answers as with ample memory.
 ghost use Rattle.std.specs.Prelude.{◌≡◌, ◌<◌, IfOk};
+ghost use Rattle.ch_contract.specs.Hierarchy.{nodes_of};
 
 use crate::{CheckError, Hierarchy, Leg, Remaining, Shortcut, assemble, build};
 use ch_graph::{Cost, Graph, InArc, Saved, SavedLeg};
@@ -101,31 +102,41 @@ fn expect_answers(
     Ok(())
 }
 
+/// A node has this level, and these legs to and from higher nodes.
+fn expect_node(
+    rt: &impl Abort,
+    hierarchy: &Hierarchy,
+    node: u32,
+    level: u32,
+    up: &[Leg],
+    down: &[Leg],
+)
+    requires { node < nodes_of hierarchy.now }
+{
+    assert_eq!(rt; hierarchy.level(node), level);
+    assert_eq!(rt; hierarchy.up(node), up);
+    assert_eq!(rt; hierarchy.down(node), down);
+}
+
 fn expect_star(rt: &impl Abort, hierarchy: &Hierarchy) {
     assert!(rt; hierarchy.nodes() == 4);
-    assert_eq!(rt; hierarchy.level(0), 2);
-    assert_eq!(rt; hierarchy.level(1), 1);
-    assert_eq!(rt; hierarchy.level(2), 3);
-    assert_eq!(rt; hierarchy.level(3), 4);
     let higher = [leg(2, 1, None), leg(3, 1, None)];
-    assert_eq!(rt; hierarchy.up(0), higher.as_slice());
-    assert_eq!(rt; hierarchy.down(0), higher.as_slice());
-    assert_eq!(rt; hierarchy.up(1), [leg(0, 1, None)].as_slice());
-    assert_eq!(rt; hierarchy.down(1), [leg(0, 1, None)].as_slice());
-    assert_eq!(rt; hierarchy.up(2), [leg(3, 2, Some(0))].as_slice());
-    assert_eq!(rt; hierarchy.down(2), [leg(3, 2, Some(0))].as_slice());
+    expect_node(rt, hierarchy, 0, 2, &higher, &higher);
+    let middle = [leg(0, 1, None)];
+    expect_node(rt, hierarchy, 1, 1, &middle, &middle);
+    let shortcut = [leg(3, 2, Some(0))];
+    expect_node(rt, hierarchy, 2, 3, &shortcut, &shortcut);
+    expect_node(rt, hierarchy, 3, 4, &[], &[]);
 }
 
 fn expect_ring(rt: &impl Abort, hierarchy: &Hierarchy) {
     assert!(rt; hierarchy.nodes() == 5);
     for node in 0..4u32 {
-        assert_eq!(rt; hierarchy.level(node), node + 1);
-        assert_eq!(rt; hierarchy.up(node), [leg(node + 1, 1, None)].as_slice());
-        let arcs = u64::from(node) + 1;
-        let last = [leg(4, arcs, node.checked_sub(1))];
-        assert_eq!(rt; hierarchy.down(node), last.as_slice());
+        let next = [leg(node + 1, 1, None)];
+        let last = [leg(4, u64::from(node) + 1, node.checked_sub(1))];
+        expect_node(rt, hierarchy, node, node + 1, &next, &last);
     }
-    assert_eq!(rt; hierarchy.level(4), 5);
+    expect_node(rt, hierarchy, 4, 5, &[], &[]);
 }
 
 /// The hierarchy of the ring as a file holds it.
