@@ -42,7 +42,8 @@ fn no_plan_changes_an_answer(rt: HostRuntime) -> Result<(), Fail> {
     let alloc = rt.alloc();
     let ring = hierarchy(&rt, alloc, 5, &RING)?;
     let queries = [(4, 3), (0, 4), (2, 1), (1, 1), (4, 3), (4, 3)];
-    for (workers, piece) in [(1, 1), (1, 1000), (2, 1), (64, 1), (64, 1000)] {
+    let plans = [(1, 1), (1, 1000), (2, 1), (2, 1000), (64, 1), (64, 1000)];
+    for (workers, piece) in plans {
         let plan = Plan::new(workers, piece, 64);
         expect_weights(&rt, alloc, &ring, &queries, &plan, &[4, 4, 4, 0, 4, 4])?;
     }
@@ -53,7 +54,7 @@ fn no_plan_changes_an_answer(rt: HostRuntime) -> Result<(), Fail> {
 fn no_queries_have_no_answers(rt: HostRuntime) -> Result<(), Fail> {
     let alloc = rt.alloc();
     let ring = hierarchy(&rt, alloc, 5, &RING)?;
-    for workers in [1, 64] {
+    for workers in [1, 2, 64] {
         let plan = Plan::new(workers, 1, 64);
         expect_weights(&rt, alloc, &ring, &[], &plan, &[])?;
     }

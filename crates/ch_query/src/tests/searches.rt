@@ -10,13 +10,14 @@ use std::thread::Threads;
 /// A spread: source, side, limit, and its entries, each (node, weight, arcs).
 type Spread<'a> = (u32, Side, Option<u64>, &'a [(u32, u64, u64)]);
 
-/// Expects these spreads on the ring, and a distance after them, for which they leave nothing behind.
+/// Expects these spreads on the ring, with a distance before them and one after them in the same room.
 fn expect<R: Threads + Abort + Sync>(
     rt: &R,
     alloc: Global,
     spreads: &[Spread],
 ) -> Result<(), Fail> {
     let mut ring = Prepared::new(rt, alloc, 5, &RING)?;
+    ring.expect_distance(rt, 0, 4, Some(4));
     for (source, side, within, entries) in spreads {
         ring.expect_spread(rt, *source, *side, *within, entries)?;
     }
@@ -40,10 +41,12 @@ fn spreads_up_the_ring(rt: HostRuntime) -> Result<(), Fail> {
 #[test]
 fn spreads_down_the_ring(rt: HostRuntime) -> Result<(), Fail> {
     let near: &[(u32, u64, u64)] = &[(0, 0, 0), (4, 1, 1)];
+    let middle: &[(u32, u64, u64)] = &[(1, 0, 0), (4, 2, 2)];
     let far: &[(u32, u64, u64)] = &[(3, 0, 0), (4, 4, 4)];
     let itself: &[(u32, u64, u64)] = &[(4, 0, 0)];
     let spreads = [
         (0, Side::Down, None, near),
+        (1, Side::Down, None, middle),
         (3, Side::Down, None, far),
         (4, Side::Down, None, itself),
     ];
@@ -53,12 +56,12 @@ fn spreads_down_the_ring(rt: HostRuntime) -> Result<(), Fail> {
 /// A limit past all weights leaves nothing out.
 #[test]
 fn spreads_up_within_limits(rt: HostRuntime) -> Result<(), Fail> {
-    let near: &[(u32, u64, u64)] = &[(2, 0, 0), (3, 1, 1)];
-    let itself: &[(u32, u64, u64)] = &[(2, 0, 0)];
+    let near: &[(u32, u64, u64)] = &[(0, 0, 0), (1, 1, 1), (2, 2, 2)];
+    let itself: &[(u32, u64, u64)] = &[(0, 0, 0)];
     let whole: &[(u32, u64, u64)] = &[(2, 0, 0), (3, 1, 1), (4, 2, 2)];
     let spreads = [
-        (2, Side::Up, Some(1), near),
-        (2, Side::Up, Some(0), itself),
+        (0, Side::Up, Some(2), near),
+        (0, Side::Up, Some(0), itself),
         (2, Side::Up, Some(1 << 60), whole),
         (2, Side::Up, Some(u64::MAX), whole),
     ];

@@ -2,73 +2,76 @@ use super::*;
 use ch_read::FaultKind;
 use std::test::Fail;
 
+const FAULT: ReadFault = ReadFault {
+    line: 2,
+    kind: FaultKind::NodeRange,
+};
+
+/// Faults, their lines and their statuses.
+const TOLD: [(RunFault, &str, u8); 14] = [
+    (
+        RunFault::Graph(FAULT),
+        "chtab: graph line 2: node out of range",
+        1,
+    ),
+    (
+        RunFault::Queries(FAULT),
+        "chtab: queries line 2: node out of range",
+        1,
+    ),
+    (
+        RunFault::Sources(FAULT),
+        "chtab: sources line 2: node out of range",
+        1,
+    ),
+    (
+        RunFault::Targets(FAULT),
+        "chtab: targets line 2: node out of range",
+        1,
+    ),
+    (RunFault::Cells, "chtab: too many cells", 1),
+    (RunFault::Memory, "chtab: out of memory", 3),
+    (
+        RunFault::Device(Which::Graph),
+        "chtab: cannot read graph",
+        3,
+    ),
+    (
+        RunFault::Device(Which::Queries),
+        "chtab: cannot read queries",
+        3,
+    ),
+    (
+        RunFault::Device(Which::Sources),
+        "chtab: cannot read sources",
+        3,
+    ),
+    (
+        RunFault::Device(Which::Targets),
+        "chtab: cannot read targets",
+        3,
+    ),
+    (RunFault::Write(0), "chtab: cannot write after 0 bytes", 3),
+    (
+        RunFault::Write(65_536),
+        "chtab: cannot write after 65536 bytes",
+        3,
+    ),
+    (
+        RunFault::Saved(FAULT),
+        "chtab: saved line 2: node out of range",
+        1,
+    ),
+    (
+        RunFault::Device(Which::Saved),
+        "chtab: cannot read saved",
+        3,
+    ),
+];
+
 #[test]
 fn each_fault_has_its_line_and_status(rt: HostRuntime) -> Result<(), Fail> {
-    let fault = ReadFault {
-        line: 2,
-        kind: FaultKind::NodeRange,
-    };
-    let rows = [
-        (
-            RunFault::Graph(fault),
-            "chtab: graph line 2: node out of range",
-            1,
-        ),
-        (
-            RunFault::Queries(fault),
-            "chtab: queries line 2: node out of range",
-            1,
-        ),
-        (
-            RunFault::Sources(fault),
-            "chtab: sources line 2: node out of range",
-            1,
-        ),
-        (
-            RunFault::Targets(fault),
-            "chtab: targets line 2: node out of range",
-            1,
-        ),
-        (RunFault::Cells, "chtab: too many cells", 1),
-        (RunFault::Memory, "chtab: out of memory", 3),
-        (
-            RunFault::Device(Which::Graph),
-            "chtab: cannot read graph",
-            3,
-        ),
-        (
-            RunFault::Device(Which::Queries),
-            "chtab: cannot read queries",
-            3,
-        ),
-        (
-            RunFault::Device(Which::Sources),
-            "chtab: cannot read sources",
-            3,
-        ),
-        (
-            RunFault::Device(Which::Targets),
-            "chtab: cannot read targets",
-            3,
-        ),
-        (RunFault::Write(0), "chtab: cannot write after 0 bytes", 3),
-        (
-            RunFault::Write(65_536),
-            "chtab: cannot write after 65536 bytes",
-            3,
-        ),
-        (
-            RunFault::Saved(fault),
-            "chtab: saved line 2: node out of range",
-            1,
-        ),
-        (
-            RunFault::Device(Which::Saved),
-            "chtab: cannot read saved",
-            3,
-        ),
-    ];
-    for (fault, line, code) in rows {
+    for (fault, line, code) in TOLD {
         let text = format!(in rt.alloc(); "{fault}")?;
         assert_eq!(rt; text.as_str(), line);
         assert_eq!(rt; status(&fault), code, "of {line}");

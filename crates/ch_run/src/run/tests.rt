@@ -1,19 +1,21 @@
 //! Runs over devices in memory: worked files and their texts, each refusal, and devices that fail.
 ghost use Rattle.ch_contract.specs.Legs.{IsHopBound};
 
-use super::{run_dist, run_dist_saved, run_save, run_table, run_table_saved};
-use crate::device::{MemoryInput, MemoryOutput};
 use crate::fault::RunFault;
 use crate::options::Options;
-use crate::plan::{Open, Plan};
+use crate::plan::Plan;
 use ch_read::{FaultKind, ReadFault};
+use files::{Asked, Devices, Ended, Failing, Files, run_over};
 use std::alloc::{AllocError, Global};
+use std::process::Abort;
+use std::test::Fail;
 use std::thread::Threads;
 
 mod calling;
 mod devices;
 mod distances;
 mod failures;
+mod files;
 mod memory;
 mod refusals;
 mod routes;
@@ -42,15 +44,21 @@ const WITH_ROUTES: Options = Options {
     within: None,
 };
 
-/// The three-node graph, the queries there and back, and their answers.
+/// The three-node graph, the queries there and back, and their answers, without routes and with them.
 const LINE: &[u8] = b"p sp 3 2\na 1 2 4\na 2 3 5\n";
 
 const THERE_AND_BACK: &[u8] = b"p aux sp p2p 2\nq 1 3\nq 3 1\n";
 
 const ANSWERS: &[u8] = b"d 1 3 9\nd 3 1 -\n";
 
-/// Four nodes, each of the others tied to the first.
+const ROUTES: &[u8] = b"d 1 3 9\nr 2\na 1 2 4\na 2 3 5\nd 3 1 -\n";
+
+/// Four nodes, each of the others tied to the first, a query between two of these, and its answer with its route.
 const STAR: &[u8] = b"p sp 4 6\na 1 2 1\na 2 1 1\na 1 3 1\na 3 1 1\na 1 4 1\na 4 1 1\n";
+
+const ACROSS: &[u8] = b"p aux sp p2p 1\nq 3 4\n";
+
+const STAR_ROUTE: &[u8] = b"d 3 4 2\nr 2\na 3 1 1\na 1 4 1\n";
 
 /// The files of the hierarchies of these two graphs. The star's has a line of 9 bytes, four of 4, and then a
 /// line of 12 for each leg.
@@ -69,149 +77,100 @@ const TABLE: &[u8] = b"t 1 9 4\nt 1 9 4\nt 3 0 -\n";
 /// Five nodes, each with an arc to the next.
 const RING: &[u8] = b"p sp 5 5\na 1 2 1\na 2 3 1\na 3 4 1\na 4 5 1\na 5 1 1\n";
 
-/// The answer of a run over these files, and what it wrote.
+/// Runs of each kind, by options with routes, and their texts.
+const EACH_RUN: [(Files<'static>, &[u8]); 5] = [
+    (
+        Files {
+            graph: STAR,
+            saved: None,
+            asked: Asked::Answers(ACROSS),
+        },
+        STAR_ROUTE,
+    ),
+    (
+        Files {
+            graph: LINE,
+            saved: None,
+            asked: Asked::Table(SOURCES, TARGETS),
+        },
+        TABLE,
+    ),
+    (
+        Files {
+            graph: STAR,
+            saved: None,
+            asked: Asked::Hierarchy,
+        },
+        STAR_SAVED,
+    ),
+    (
+        Files {
+            graph: STAR,
+            saved: Some(STAR_SAVED),
+            asked: Asked::Answers(ACROSS),
+        },
+        STAR_ROUTE,
+    ),
+    (
+        Files {
+            graph: LINE,
+            saved: Some(LINE_SAVED),
+            asked: Asked::Table(SOURCES, TARGETS),
+        },
+        TABLE,
+    ),
+];
+
+/// Devices that move a page at a call and never fail.
+const WHOLE: Devices = Devices {
+    room: 4096,
+    most: 4096,
+    failing: Failing::Nothing,
+};
+
+/// What a run answers and writes over these files.
 fn run<R: Threads + Sync>(
     rt: &R,
     alloc: Global,
-    graph: &[u8],
-    queries: &[u8],
+    files: Files,
     options: &Options,
     plan: &Plan,
-) -> Result<(Result<(), RunFault>, MemoryOutput), AllocError>
+) -> Result<Ended, AllocError>
     requires { IsHopBound options.now.hops }
 {
-    let mut output = MemoryOutput::new(alloc, 4096, 4096)?;
-    let result = run_dist(
-        rt,
-        alloc,
-        &mut MemoryInput::new(graph, 4096),
-        &mut MemoryInput::new(queries, 4096),
-        &mut output,
-        options,
-        plan,
-        &Open,
-    );
-    Ok((result, output))
+    run_over(rt, alloc, &files, options, plan, WHOLE)
 }
 
-/// Room for the text of a table of the most cells.
-const TABLE_ROOM: usize = 1 << 24;
-
-/// The answer of a run that makes a table of these files, and what it wrote.
-fn run_lists<R: Threads + Sync>(
+/// Expects that a run by one worker is done, and that it wrote this text.
+fn expect_text<R: Threads + Abort + Sync>(
     rt: &R,
     alloc: Global,
-    graph: &[u8],
-    sources: &[u8],
-    targets: &[u8],
-    plan: &Plan,
-) -> Result<(Result<(), RunFault>, MemoryOutput), AllocError> {
-    run_lists_within(rt, alloc, graph, sources, targets, None, plan)
-}
-
-/// The same within a limit.
-fn run_lists_within<R: Threads + Sync>(
-    rt: &R,
-    alloc: Global,
-    graph: &[u8],
-    sources: &[u8],
-    targets: &[u8],
-    within: Option<u64>,
-    plan: &Plan,
-) -> Result<(Result<(), RunFault>, MemoryOutput), AllocError> {
-    let options = Options {
-        plain: false,
-        routes: false,
-        hops: 5,
-        within,
-    };
-    let mut output = MemoryOutput::new(alloc, TABLE_ROOM, 4096)?;
-    let result = run_table(
-        rt,
-        alloc,
-        &mut MemoryInput::new(graph, 4096),
-        &mut MemoryInput::new(sources, 4096),
-        &mut MemoryInput::new(targets, 4096),
-        &mut output,
-        &options,
-        plan,
-        &Open,
-    );
-    Ok((result, output))
-}
-
-/// The answer of a run that saves the hierarchy of this graph, and what it wrote.
-fn saved_of<R: Threads + Sync>(
-    rt: &R,
-    alloc: Global,
-    graph: &[u8],
+    files: Files,
     options: &Options,
-    plan: &Plan,
-) -> Result<(Result<(), RunFault>, MemoryOutput), AllocError>
+    text: &[u8],
+) -> Result<(), Fail>
     requires { IsHopBound options.now.hops }
 {
-    let mut output = MemoryOutput::new(alloc, 4096, 4096)?;
-    let result = run_save(
-        rt,
-        alloc,
-        &mut MemoryInput::new(graph, 4096),
-        &mut output,
-        options,
-        plan,
-        &Open,
-    );
-    Ok((result, output))
+    let (result, output) = run(rt, alloc, files, options, &Plan::new(1, 64, 64))?;
+    assert_eq!(rt; result, Ok(()));
+    assert_eq!(rt; output.bytes(), text);
+    Ok(())
 }
 
-/// The answer of a run over these files, the second of which is a saved hierarchy, and what it wrote.
-fn run_saved<R: Threads + Sync>(
+/// Expects that a run by one worker ends in this fault, and that it wrote nothing.
+fn expect_fault<R: Threads + Abort + Sync>(
     rt: &R,
     alloc: Global,
-    graph: &[u8],
-    saved: &[u8],
-    queries: &[u8],
+    files: Files,
     options: &Options,
-    plan: &Plan,
-) -> Result<(Result<(), RunFault>, MemoryOutput), AllocError> {
-    let mut output = MemoryOutput::new(alloc, 4096, 4096)?;
-    let result = run_dist_saved(
-        rt,
-        alloc,
-        &mut MemoryInput::new(graph, 4096),
-        &mut MemoryInput::new(saved, 4096),
-        &mut MemoryInput::new(queries, 4096),
-        &mut output,
-        options,
-        plan,
-        &Open,
-    );
-    Ok((result, output))
-}
-
-/// The answer of a run that makes a table by a saved hierarchy, and what it wrote.
-fn run_lists_saved<R: Threads + Sync>(
-    rt: &R,
-    alloc: Global,
-    graph: &[u8],
-    saved: &[u8],
-    sources: &[u8],
-    targets: &[u8],
-    plan: &Plan,
-) -> Result<(Result<(), RunFault>, MemoryOutput), AllocError> {
-    let mut output = MemoryOutput::new(alloc, 4096, 4096)?;
-    let result = run_table_saved(
-        rt,
-        alloc,
-        &mut MemoryInput::new(graph, 4096),
-        &mut MemoryInput::new(saved, 4096),
-        &mut MemoryInput::new(sources, 4096),
-        &mut MemoryInput::new(targets, 4096),
-        &mut output,
-        &BY_HIERARCHY,
-        plan,
-        &Open,
-    );
-    Ok((result, output))
+    fault: RunFault,
+) -> Result<(), Fail>
+    requires { IsHopBound options.now.hops }
+{
+    let (result, output) = run(rt, alloc, files, options, &Plan::new(1, 64, 64))?;
+    assert_eq!(rt; result, Err(fault));
+    assert_eq!(rt; output.bytes(), b"".as_slice());
+    Ok(())
 }
 
 fn refused(line: u64, kind: FaultKind) -> ReadFault {

@@ -1,4 +1,5 @@
 use super::*;
+use std::process::Abort;
 
 mod refusals;
 
@@ -54,23 +55,26 @@ fn flags_and_files_stand_in_any_order(rt: HostRuntime) {
     }
 }
 
-#[test]
-fn dist_reads_every_option(rt: HostRuntime) {
-    let words = [
-        "dist",
-        "--routes",
-        "--saved",
-        "h",
-        "--workers",
-        "64",
-        "--piece",
-        "1",
-        "--hops",
-        "16",
-        "g",
-        "q",
-    ];
-    let line = read_words(rt.alloc(), words.as_slice()).expect(&rt, "a line");
+/// Words that give every option of `dist`.
+const EVERY_OPTION: &[&str] = &[
+    "dist",
+    "--routes",
+    "--saved",
+    "h",
+    "--workers",
+    "64",
+    "--piece",
+    "1",
+    "--hops",
+    "16",
+    "g",
+    "q",
+];
+
+/// Expects the line that these words give.
+fn expect_every_option<R: Abort>(rt: &R, line: &Line)
+    requires { IsAllowed line.now }
+{
     assert_eq!(rt; line.tool, Tool::Dist);
     assert_eq!(rt; line.files.len(), 2);
     assert_eq!(rt; line.files[0].as_str(), "g");
@@ -82,7 +86,13 @@ fn dist_reads_every_option(rt: HostRuntime) {
     };
     assert_eq!(rt; line.options, options);
     assert_eq!(rt; line.plan, Plan::new(64, 1, 64));
-    assert!(rt; is_saved(&line, "h"));
+    assert!(rt; is_saved(line, "h"));
+}
+
+#[test]
+fn dist_reads_every_option(rt: HostRuntime) {
+    let line = read_words(rt.alloc(), EVERY_OPTION).expect(&rt, "a line");
+    expect_every_option(&rt, &line);
 }
 
 #[test]
@@ -208,29 +218,9 @@ fn save_reads_a_graph_and_the_numbers(rt: HostRuntime) {
 /// and read again they give the line that ample memory gives.
 #[test]
 fn refused_in_turn(rt: HostRuntime) {
-    let words = [
-        "dist",
-        "--routes",
-        "--saved",
-        "h",
-        "--workers",
-        "64",
-        "--piece",
-        "1",
-        "--hops",
-        "16",
-        "g",
-        "q",
-    ];
-    let line = match read_words(rt.alloc(), words.as_slice()) {
-        Err(LineFault::NoMemory) => read_words(rt.alloc(), words.as_slice()),
+    let line = match read_words(rt.alloc(), EVERY_OPTION) {
+        Err(LineFault::NoMemory) => read_words(rt.alloc(), EVERY_OPTION),
         answer => answer,
     };
-    let line = line.expect(&rt, "a line");
-    assert_eq!(rt; line.tool, Tool::Dist);
-    assert_eq!(rt; line.files[0].as_str(), "g");
-    assert_eq!(rt; line.files[1].as_str(), "q");
-    assert_eq!(rt; line.options.hops, 16);
-    assert_eq!(rt; line.plan, Plan::new(64, 1, 64));
-    assert!(rt; is_saved(&line, "h"));
+    expect_every_option(&rt, &line.expect(&rt, "a line"));
 }

@@ -1,7 +1,11 @@
 //! Worked tables.
 
-use super::{LINE, RING, SOURCES, TABLE, TARGETS, repeated, run_lists, run_lists_within};
+use super::{
+    BY_HIERARCHY, Devices, Files, LINE, RING, SOURCES, TABLE, TARGETS, WHOLE, expect_fault,
+    expect_text, repeated, run, run_over,
+};
 use crate::fault::RunFault;
+use crate::options::Options;
 use crate::plan::Plan;
 use std::test::Fail;
 
@@ -11,17 +15,20 @@ fn a_table_of_the_most_cells_is_made_and_one_more_source_is_refused(
 ) -> Result<(), Fail> {
     let list = repeated(rt.alloc(), b"p aux sp ss 2048\n", b"s 1\n", 2048, b"")?;
     let row = repeated(rt.alloc(), b"t 1", b" 0", 2048, b"\n")?;
-    let plan = Plan::new(1, 64, 64);
-    let (result, output) = run_lists(&rt, rt.alloc(), LINE, &list, &list, &plan)?;
-    assert_eq!(rt; result, Ok(()));
     let text = repeated(rt.alloc(), b"", &row, 2048, b"")?;
+    let plan = Plan::new(1, 64, 64);
+    let files = Files::table(LINE, &list, &list);
+    let devices = Devices {
+        room: text.len(),
+        ..WHOLE
+    };
+    let (result, output) = run_over(&rt, rt.alloc(), &files, &BY_HIERARCHY, &plan, devices)?;
+    assert_eq!(rt; result, Ok(()));
     assert!(rt; output.bytes() == text.as_slice());
 
     let longer = repeated(rt.alloc(), b"p aux sp ss 2049\n", b"s 1\n", 2049, b"")?;
-    let (result, output) = run_lists(&rt, rt.alloc(), LINE, &longer, &list, &plan)?;
-    assert_eq!(rt; result, Err(RunFault::Cells));
-    assert_eq!(rt; output.bytes(), b"".as_slice());
-    Ok(())
+    let files = Files::table(LINE, &longer, &list);
+    expect_fault(&rt, rt.alloc(), files, &BY_HIERARCHY, RunFault::Cells)
 }
 
 #[test]
@@ -45,11 +52,9 @@ fn a_row_stands_for_each_source(rt: HostRuntime) -> Result<(), Fail> {
         (RING, b"p aux sp ss 0\n", b"p aux sp ss 1\ns 1\n", b""),
         (b"p sp 0 0\n", b"p aux sp ss 0\n", b"p aux sp ss 0\n", b""),
     ];
-    let plan = Plan::new(1, 64, 64);
     for (graph, sources, targets, text) in cases {
-        let (result, output) = run_lists(&rt, rt.alloc(), graph, sources, targets, &plan)?;
-        assert_eq!(rt; result, Ok(()));
-        assert_eq!(rt; output.bytes(), text);
+        let files = Files::table(graph, sources, targets);
+        expect_text(&rt, rt.alloc(), files, &BY_HIERARCHY, text)?;
     }
     Ok(())
 }
@@ -76,15 +81,12 @@ fn tables_within_limits(rt: HostRuntime) -> Result<(), Fail> {
     for workers in [1, 2] {
         let plan = Plan::new(workers, 1, 1);
         for (graph, sources, targets, within, text) in cases {
-            let (result, output) = run_lists_within(
-                &rt,
-                rt.alloc(),
-                graph,
-                sources,
-                targets,
-                Some(within),
-                &plan,
-            )?;
+            let options = Options {
+                within: Some(within),
+                ..BY_HIERARCHY
+            };
+            let files = Files::table(graph, sources, targets);
+            let (result, output) = run(&rt, rt.alloc(), files, &options, &plan)?;
             assert_eq!(rt; result, Ok(()));
             assert_eq!(rt; output.bytes(), text);
         }

@@ -5,8 +5,8 @@ ghost use Rattle.ch_contract.specs.Legs.{IsHopBound};
 ghost use Rattle.ch_query.specs.Distance.{IsKeptForSome};
 
 use super::{
-    ANSWERS, BY_HIERARCHY, LINE, LINE_SAVED, PLAIN, SOURCES, STAR, STAR_SAVED, TABLE, TARGETS,
-    THERE_AND_BACK, WITH_ROUTES, run, run_lists, run_lists_saved, run_saved, saved_of,
+    ACROSS, ANSWERS, BY_HIERARCHY, EACH_RUN, Files, LINE, LINE_SAVED, PLAIN, STAR, THERE_AND_BACK,
+    WITH_ROUTES, run,
 };
 use crate::device::{MemoryInput, MemoryOutput};
 use crate::fault::RunFault;
@@ -19,60 +19,41 @@ use ch_query::answer_all;
 use ch_table::table;
 use ch_work::{CountingGate, Job, MeetingGate, run_pieces};
 use std::alloc::{AllocError, Global};
+use std::process::Abort;
 use std::test::Fail;
 use std::thread::Threads;
 
+/// Expects that a run is done by this plan, and that it wrote this text.
+fn expect_by_plan<R: Threads + Abort + Sync>(
+    rt: &R,
+    alloc: Global,
+    files: Files,
+    options: &Options,
+    plan: &Plan,
+    text: &[u8],
+) -> Result<(), Fail>
+    requires { IsHopBound options.now.hops }
+{
+    let (result, output) = run(rt, alloc, files, options, plan)?;
+    assert_eq!(rt; result, Ok(()));
+    assert_eq!(rt; output.bytes(), text);
+    Ok(())
+}
+
 #[test]
 fn no_plan_changes_a_byte(rt: HostRuntime) -> Result<(), Fail> {
+    let alloc = rt.alloc();
+    let built = Files::answers(LINE, THERE_AND_BACK);
     for workers in [1, 2, 64] {
         for piece in [1, 1000] {
             for wide in [1, 64] {
                 let plan = Plan::new(workers, piece, wide);
-                let (result, output) = run(
-                    &rt,
-                    rt.alloc(),
-                    LINE,
-                    THERE_AND_BACK,
-                    &BY_HIERARCHY,
-                    &plan,
-                )?;
-                assert_eq!(rt; result, Ok(()));
-                assert_eq!(rt; output.bytes(), ANSWERS);
-                let there: &[u8] = b"p aux sp p2p 1\nq 3 4\n";
-                let (result, output) = run(&rt, rt.alloc(), STAR, there, &WITH_ROUTES, &plan)?;
-                assert_eq!(rt; result, Ok(()));
-                assert_eq!(rt;
-                    output.bytes(),
-                    b"d 3 4 2\nr 2\na 3 1 1\na 1 4 1\n".as_slice()
-                );
-                let (result, output) = run_lists(&rt, rt.alloc(), LINE, SOURCES, TARGETS, &plan)?;
-                assert_eq!(rt; result, Ok(()));
-                assert_eq!(rt; output.bytes(), TABLE);
-                let (result, output) = saved_of(&rt, rt.alloc(), STAR, &BY_HIERARCHY, &plan)?;
-                assert_eq!(rt; result, Ok(()));
-                assert_eq!(rt; output.bytes(), STAR_SAVED);
-                let (result, output) = run_saved(
-                    &rt,
-                    rt.alloc(),
-                    LINE,
-                    LINE_SAVED,
-                    THERE_AND_BACK,
-                    &BY_HIERARCHY,
-                    &plan,
-                )?;
-                assert_eq!(rt; result, Ok(()));
-                assert_eq!(rt; output.bytes(), ANSWERS);
-                let (result, output) = run_lists_saved(
-                    &rt,
-                    rt.alloc(),
-                    LINE,
-                    LINE_SAVED,
-                    SOURCES,
-                    TARGETS,
-                    &plan,
-                )?;
-                assert_eq!(rt; result, Ok(()));
-                assert_eq!(rt; output.bytes(), TABLE);
+                for (files, text) in EACH_RUN {
+                    expect_by_plan(&rt, alloc, files, &WITH_ROUTES, &plan, text)?;
+                }
+                for files in [built, built.by(LINE_SAVED)] {
+                    expect_by_plan(&rt, alloc, files, &BY_HIERARCHY, &plan, ANSWERS)?;
+                }
             }
         }
     }
@@ -160,12 +141,11 @@ fn run_on_the_star<R: Threads + Sync>(
     requires { IsHopBound options.now.hops }
 {
     let mut output = MemoryOutput::new(alloc, 4096, 4096)?;
-    let query: &[u8] = b"p aux sp p2p 1\nq 3 4\n";
     Ok(run_dist(
         rt,
         alloc,
         &mut MemoryInput::new(STAR, 4096),
-        &mut MemoryInput::new(query, 4096),
+        &mut MemoryInput::new(ACROSS, 4096),
         &mut output,
         options,
         &Plan::new(2, 1, 64),

@@ -47,133 +47,137 @@ fn limits_outside_their_range_are_refused(rt: HostRuntime) {
     }
 }
 
+/// Words that are no line, and part of what is told of them.
+const OTHERS: [(&[&str], &str); 26] = [
+    (&[], "requires a subcommand"),
+    (&["help"], "unrecognized subcommand 'help'"),
+    (&["tables", "g", "s", "t"], "unrecognized subcommand"),
+    (&["--plain", "dist", "g", "q"], "unexpected argument"),
+    (&["dist"], "required arguments were not provided"),
+    (&["dist", "g"], "required arguments were not provided"),
+    (&["dist", "g", "q", "r"], "unexpected argument 'r'"),
+    (&["table", "g", "s"], "required arguments were not provided"),
+    (&["table", "g", "s", "t", "u"], "unexpected argument 'u'"),
+    (
+        &["table", "--plain", "g", "s", "t"],
+        "unexpected argument '--plain'",
+    ),
+    (
+        &["table", "--routes", "g", "s", "t"],
+        "unexpected argument '--routes'",
+    ),
+    (&["dist", "g", "q", "--hops"], "a value is required"),
+    (
+        &["dist", "--hops", "2", "--hops", "2", "g", "q"],
+        "cannot be used multiple times",
+    ),
+    (
+        &["dist", "--plain", "--plain", "g", "q"],
+        "cannot be used multiple times",
+    ),
+    (&["dist", "--version", "g", "q"], "unexpected argument"),
+    (
+        &["dist", "--within", "8", "g", "q"],
+        "unexpected argument '--within'",
+    ),
+    (
+        &["table", "--within", "-1", "g", "s", "t"],
+        "unexpected argument '-1'",
+    ),
+    (&["table", "g", "s", "t", "--within"], "a value is required"),
+    (
+        &["table", "--within", "1", "--within", "1", "g", "s", "t"],
+        "cannot be used multiple times",
+    ),
+    (&["dist", "g", "q", "--saved"], "a value is required"),
+    (
+        &["dist", "--saved", "h", "--saved", "h", "g", "q"],
+        "cannot be used multiple times",
+    ),
+    (
+        &["dist", "--saved", "g", "q"],
+        "required arguments were not provided",
+    ),
+    (&["save"], "required arguments were not provided"),
+    (&["save", "g", "h"], "unexpected argument 'h'"),
+    (
+        &["save", "--saved", "h", "g"],
+        "unexpected argument '--saved'",
+    ),
+    (&["save", "--plain", "g"], "unexpected argument '--plain'"),
+];
+
 #[test]
 fn other_words_are_refused(rt: HostRuntime) {
-    let rows: [(&[&str], &str); 26] = [
-        (&[], "requires a subcommand"),
-        (&["help"], "unrecognized subcommand 'help'"),
-        (&["tables", "g", "s", "t"], "unrecognized subcommand"),
-        (&["--plain", "dist", "g", "q"], "unexpected argument"),
-        (&["dist"], "required arguments were not provided"),
-        (&["dist", "g"], "required arguments were not provided"),
-        (&["dist", "g", "q", "r"], "unexpected argument 'r'"),
-        (&["table", "g", "s"], "required arguments were not provided"),
-        (&["table", "g", "s", "t", "u"], "unexpected argument 'u'"),
-        (
-            &["table", "--plain", "g", "s", "t"],
-            "unexpected argument '--plain'",
-        ),
-        (
-            &["table", "--routes", "g", "s", "t"],
-            "unexpected argument '--routes'",
-        ),
-        (&["dist", "g", "q", "--hops"], "a value is required"),
-        (
-            &["dist", "--hops", "2", "--hops", "2", "g", "q"],
-            "cannot be used multiple times",
-        ),
-        (
-            &["dist", "--plain", "--plain", "g", "q"],
-            "cannot be used multiple times",
-        ),
-        (&["dist", "--version", "g", "q"], "unexpected argument"),
-        (
-            &["dist", "--within", "8", "g", "q"],
-            "unexpected argument '--within'",
-        ),
-        (
-            &["table", "--within", "-1", "g", "s", "t"],
-            "unexpected argument '-1'",
-        ),
-        (&["table", "g", "s", "t", "--within"], "a value is required"),
-        (
-            &["table", "--within", "1", "--within", "1", "g", "s", "t"],
-            "cannot be used multiple times",
-        ),
-        (&["dist", "g", "q", "--saved"], "a value is required"),
-        (
-            &["dist", "--saved", "h", "--saved", "h", "g", "q"],
-            "cannot be used multiple times",
-        ),
-        (
-            &["dist", "--saved", "g", "q"],
-            "required arguments were not provided",
-        ),
-        (&["save"], "required arguments were not provided"),
-        (&["save", "g", "h"], "unexpected argument 'h'"),
-        (
-            &["save", "--saved", "h", "g"],
-            "unexpected argument '--saved'",
-        ),
-        (&["save", "--plain", "g"], "unexpected argument '--plain'"),
-    ];
-    for (words, part) in rows {
+    for (words, part) in OTHERS {
         assert!(rt; is_refused(&rt, words, part), "{part}");
     }
 }
 
+/// Words that ask for help, and parts of what it says.
+const HELPS: [(&[&str], &[&str]); 4] = [
+    (
+        &["--help"],
+        &[
+            "Usage: chtab <COMMAND>",
+            "dist",
+            "table",
+            "chtab dist --routes roads.gr pairs.p2p",
+            "save",
+            "chtab table roads.gr depots.ss shops.ss",
+            "chtab save roads.gr >roads.ch",
+        ],
+    ),
+    (
+        &["dist", "--help"],
+        &[
+            "Usage: chtab dist [OPTIONS] <GRAPH> <QUERIES>",
+            "--plain",
+            "ignore --routes, --saved, --workers, --piece and --hops [default: off]",
+            "--routes",
+            "in order [default: off]",
+            "--saved <FILE>",
+            "ignore --hops: `chtab save` or any other program wrote it",
+            "p ch N L",
+            "--workers <N>",
+            "same for each number [default: 1]",
+            "--piece <K>",
+            "from 1 to 1048576 [default: 64]",
+            "--hops <H>",
+            "from 1 to 16 [default: 5]",
+            "Example: chtab dist --routes roads.gr pairs.p2p",
+        ],
+    ),
+    (
+        &["table", "--help"],
+        &[
+            "Usage: chtab table [OPTIONS] <GRAPH> <SOURCES> <TARGETS>",
+            "--workers <N>",
+            "--piece <K>",
+            "--hops <H>",
+            "p aux sp ss K",
+            "--within <R>",
+            "from 0 to 1152921504606846976: cells above R are written as - [default: no limit]",
+            "--saved <FILE>",
+            "chtab table roads.gr depots.ss shops.ss",
+            "chtab table --within 900000 roads.gr homes.ss doctors.ss",
+        ],
+    ),
+    (
+        &["save", "--help"],
+        &[
+            "Usage: chtab save [OPTIONS] <GRAPH>",
+            "--workers <N>",
+            "--piece <K>",
+            "--hops <H>",
+            "Example: chtab save roads.gr >roads.ch",
+        ],
+    ),
+];
+
 #[test]
 fn help_says_what_each_word_means(rt: HostRuntime) {
-    let rows: [(&[&str], &[&str]); 4] = [
-        (
-            &["--help"],
-            &[
-                "Usage: chtab <COMMAND>",
-                "dist",
-                "table",
-                "chtab dist --routes roads.gr pairs.p2p",
-                "save",
-                "chtab table roads.gr depots.ss shops.ss",
-                "chtab save roads.gr >roads.ch",
-            ],
-        ),
-        (
-            &["dist", "--help"],
-            &[
-                "Usage: chtab dist [OPTIONS] <GRAPH> <QUERIES>",
-                "--plain",
-                "ignore --routes, --saved, --workers, --piece and --hops [default: off]",
-                "--routes",
-                "in order [default: off]",
-                "--saved <FILE>",
-                "ignore --hops: `chtab save` or any other program wrote it",
-                "p ch N L",
-                "--workers <N>",
-                "same for each number [default: 1]",
-                "--piece <K>",
-                "from 1 to 1048576 [default: 64]",
-                "--hops <H>",
-                "from 1 to 16 [default: 5]",
-                "Example: chtab dist --routes roads.gr pairs.p2p",
-            ],
-        ),
-        (
-            &["table", "--help"],
-            &[
-                "Usage: chtab table [OPTIONS] <GRAPH> <SOURCES> <TARGETS>",
-                "--workers <N>",
-                "--piece <K>",
-                "--hops <H>",
-                "p aux sp ss K",
-                "--within <R>",
-                "from 0 to 1152921504606846976: cells above R are written as - [default: no limit]",
-                "--saved <FILE>",
-                "chtab table roads.gr depots.ss shops.ss",
-                "chtab table --within 900000 roads.gr homes.ss doctors.ss",
-            ],
-        ),
-        (
-            &["save", "--help"],
-            &[
-                "Usage: chtab save [OPTIONS] <GRAPH>",
-                "--workers <N>",
-                "--piece <K>",
-                "--hops <H>",
-                "Example: chtab save roads.gr >roads.ch",
-            ],
-        ),
-    ];
-    for (words, parts) in rows {
+    for (words, parts) in HELPS {
         let answer = read_words(rt.alloc(), words);
         for part in parts {
             let is_told =
