@@ -1,3 +1,5 @@
+ghost use Rattle.chtab.specs.Line.{IsAllowed};
+
 use super::*;
 use std::process::Abort;
 
