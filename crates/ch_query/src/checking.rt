@@ -1,5 +1,5 @@
 //! Whether a saved hierarchy, of any origin, is right for a graph.
-ghost use Rattle.std.specs.Prelude.{◌≡◌, IfOk, MatchOption};
+ghost use Rattle.std.specs.Prelude.{IfOk, MatchOption};
 ghost use Rattle.ch_contract.specs.declared.fault.CheckFault.{CheckFault as AnyFault};
 ghost use Rattle.ch_contract.specs.declared.fault.CheckFault.TheVariants as CheckFault;
 ghost use Rattle.ch_contract.specs.declared.fault.CheckError.TheVariants as CheckError;

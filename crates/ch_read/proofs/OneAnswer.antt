@@ -11,12 +11,12 @@ use Rattle.ch_read.specs.declared.fault.FaultKind.TheVariants.{NoProblem}
 use Rattle.ch_read.specs.declared.fault.ReadFault.{ReadFault}
 use Rattle.ch_read.specs.declared.form.Form.{Form}
 use Rattle.ch_read.specs.declared.form.Form.TheVariants.{Graph, Queries, Nodes, Saved}
-use Rattle.ch_read.specs.declared.form.Part.TheVariants.{First, Second}
+use Rattle.ch_read.specs.declared.form.Part.TheVariants.{First}
 use Rattle.ch_read.specs.declared.form.Heading.{Heading}
 use Rattle.ch_read.specs.Words.{lines}
 use Rattle.ch_read.specs.Forms.{heading_in, items_in, counts_in}
 use Rattle.ch_read.specs.Checks.{fault_at, end_fault, first_failing, end_checks, IsAccepted, IsFault}
-use Rattle.ch_read.specs.Names.{arc_from, node_from, leg_from, NamesGraph, NamesQueries, NamesNodes, NamesSaved}
+use Rattle.ch_read.specs.Names.{arc_from, NamesGraph, NamesQueries, NamesNodes, NamesSaved}
 use Rattle.ch_read.specs.Answers.{HasOneAnswer}
 
 -- the fault of the end stands at the place after the last line

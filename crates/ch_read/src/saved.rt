@@ -1,5 +1,4 @@
 //! Saved hierarchies.
-ghost use Rattle.std.specs.Prelude.{ℕ};
 ghost use Rattle.ch_graph.specs.Saved.{OrderAndLegs};
 ghost use Rattle.ch_read.specs.declared.fault.ReadFault.{ReadFault as FaultAt};
 ghost use Rattle.ch_read.specs.Answers.{AnswersWhere};

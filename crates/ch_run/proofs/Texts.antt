@@ -10,7 +10,6 @@ use Rattle.ch_contract.specs.Kept.{IsKept}
 use Rattle.ch_query.specs.declared.answer.Answer.{Answer}
 use Rattle.ch_query.specs.Answers.{HasArcs, IsReply}
 use Rattle.std.proofs.lemmas.Option.{none-some, same_Some}
-use Rattle.ch_graph.specs.Walk.{IsAnswer}
 use Rattle.ch_query.specs.Routes.{IsLeastWalk}
 use Rattle.ch_query.proofs.RouteWalks.{route_least_walk}
 use Rattle.ch_query.specs.Limits.{IsDistanceWithin}

@@ -1,5 +1,5 @@
 //! Jobs that lower the cells of a board.
-ghost use Rattle.std.specs.Prelude.{ℕ, ◌≡◌, ◌<◌, ◌≤◌, ◌^◌, IfOk, OnOk, length, vec_len, slice_index_or, All};
+ghost use Rattle.std.specs.Prelude.{ℕ, ◌≡◌, ◌<◌, ◌≤◌, IfOk, OnOk, length, vec_len, slice_index_or, All};
 ghost use Rattle.ch_work.specs.declared.limits.TheConstants.{MOST_CELLS};
 ghost use Rattle.ch_work.specs.Owed.{OffersOwed, Covers, IsLeastOwed, HasPaidOff, HandsBack};
 ghost use Rattle.ch_work.specs.Passes.{view_of, size_of, IsPassOf};

@@ -1,5 +1,5 @@
 //! Jobs that make a value of each item of a list.
-ghost use Rattle.std.specs.Prelude.{◌≡◌, ◌^◌, ◌<◌, length, All, IfOk, OnOk, List};
+ghost use Rattle.std.specs.Prelude.{◌^◌, ◌<◌, length, All, IfOk, OnOk, List};
 ghost use Rattle.std.specs.List.{AllZip, slice_range};
 
 use crate::gate::Gate;

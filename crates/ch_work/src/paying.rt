@@ -1,7 +1,7 @@
 //! How what is owed to the cells of a board is paid.
-ghost use Rattle.std.specs.Prelude.{◌≡◌, ◌*◌, ◌<◌, ◌≤◌, ◌^◌, OnOk};
+ghost use Rattle.std.specs.Prelude.{◌≡◌, ◌*◌, ◌<◌, ◌≤◌, OnOk};
 ghost use Rattle.ch_work.specs.declared.limits.TheConstants.{MOST_OFFER};
-ghost use Rattle.ch_work.specs.Owed.{OffersOwed, Covers, HasPaid, owed_by, HasPaidOff, HandsBack};
+ghost use Rattle.ch_work.specs.Owed.{OffersOwed, Covers, HasPaid, owed_by, HandsBack};
 ghost use Rattle.ch_work.specs.Passes.{view_of, size_of, IsPassOf};
 ghost use Rattle.ch_work.specs.Pieces.{pieces_of};
 ghost use Rattle.ch_work.specs.Steps.{fresh};

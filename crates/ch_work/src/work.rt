@@ -1,6 +1,6 @@
 //! What one worker does.
 ghost use Rattle.std.specs.Prelude.{◌≡◌, ◌+◌, ◌*◌, ◌<◌, min, All, IfOk, OnOk};
-ghost use Rattle.ch_work.specs.Claims.{IsDone, HasWorked};
+ghost use Rattle.ch_work.specs.Claims.{HasWorked};
 ghost use Rattle.ch_work.specs.Passes.{view_of, IsPassOf};
 ghost use Rattle.ch_work.specs.Pieces.{pieces_of, AreValues};
 ghost use Rattle.ch_work.specs.Steps.{fresh};

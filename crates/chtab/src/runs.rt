@@ -1,6 +1,6 @@
 //! The runs that lines ask for, over files and standard output.
 
-ghost use Rattle.std.specs.Prelude.{◌≡◌, ◌≤◌, IfOk, false, is_some, true};
+ghost use Rattle.std.specs.Prelude.{◌≡◌, IfOk, false, is_some, true};
 ghost use Rattle.chtab.specs.Line.{IsAllowed, reads_saved};
 
 use crate::line::{Line, Tool};

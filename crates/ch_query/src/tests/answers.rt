@@ -1,5 +1,5 @@
 //! Answers to many queries on a ring, and plans that change none.
-ghost use Rattle.std.specs.Prelude.{◌≡◌, ◌≤◌, ◌^◌, length};
+ghost use Rattle.std.specs.Prelude.{◌≤◌, ◌^◌, length};
 ghost use Rattle.ch_contract.specs.Hierarchy.{nodes_of};
 ghost use Rattle.ch_query.specs.Answers.{AreQueries};
 ghost use Rattle.ch_query.specs.Distance.{IsKeptForSome};

@@ -1,6 +1,6 @@
 //! Devices over memory, which tell their bytes and fail where they are told to: for tests.
 
-ghost use Rattle.std.specs.Prelude.{◌≡◌, ◌<◌, ◌≤◌, [], Some, IfOk, vec_capacity, vec_len};
+ghost use Rattle.std.specs.Prelude.{◌≡◌, ◌<◌, [], Some, IfOk};
 
 use super::{DeviceFault, Input, Output};
 use std::alloc::{AllocError, Global};

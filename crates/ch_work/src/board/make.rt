@@ -1,5 +1,5 @@
 //! Making a board, and closing it.
-ghost use Rattle.std.specs.Prelude.{slice_index, slice_index_or, ℕ, ◌≡◌, ◌+◌, ◌-◌, ◌<◌, ◌≤◌, ◌^◌, ◌∷◌, [], IfOk, vec_len, replicate, length, map, All};
+ghost use Rattle.std.specs.Prelude.{slice_index, slice_index_or, ℕ, ◌≡◌, ◌+◌, ◌-◌, ◌<◌, ◌≤◌, ◌∷◌, [], IfOk, vec_len, replicate, length, map, All};
 ghost use Rattle.std.specs.Slots.{slots_items, slots_len, IsFull};
 ghost use Rattle.ch_work.specs.declared.limits.TheConstants.{MOST_WORKERS, MOST_CELLS};
 ghost use Rattle.ch_work.specs.Passes.{view_of, size_of, IsPassOf};

@@ -1,5 +1,5 @@
 //! The steps of a pass.
-ghost use Rattle.std.specs.Prelude.{None, ◌↔◌, ◌≡◌, ℕ, ◌<◌, ◌≤◌, ◌^◌, IfSome, IfNone};
+ghost use Rattle.std.specs.Prelude.{None, ◌↔◌, ◌≡◌, ℕ, ◌<◌, ◌≤◌, IfSome, IfNone};
 ghost use Rattle.ch_work.specs.declared.limits.TheConstants.{MOST_OFFER};
 ghost use Rattle.ch_work.specs.Counts.{times};
 ghost use Rattle.ch_work.specs.Passes.{view_of, size_of, IsPassOf, HasEnded};

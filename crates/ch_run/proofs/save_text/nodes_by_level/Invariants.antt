@@ -1,5 +1,3 @@
-use Rattle.std.proofs.Common.{◌≡◌, vec_len}
-use Rattle.ch_contract.specs.Hierarchy.{nodes_of, IsLevelled}
 use Rattle.ch_run.proofs.Saving.{HasPlaced}
 use Rattle.ch_run.proofs.save_text.nodes_by_level.Given as goal
 

@@ -1,4 +1,4 @@
-use Rattle.std.proofs.Common.{◌≡◌, ◌++◌, flat_map, ap, sym, ◌∙◌}
+use Rattle.std.proofs.Common.{◌++◌, flat_map, ap, sym, ◌∙◌}
 use Rattle.ch_run.specs.SaveText.{leg_text, legs_at}
 use Rattle.ch_run.proofs.Texts.{all_grown}
 use Rattle.ch_run.proofs.Saving.{text_of_each}

@@ -1,4 +1,4 @@
-use Rattle.std.proofs.Common.{◌≡◌, ◌++◌, ap, sym, ◌∙◌}
+use Rattle.std.proofs.Common.{◌++◌, ap, sym, ◌∙◌}
 use Rattle.ch_run.specs.SaveText.{leg_up, leg_text}
 use Rattle.ch_run.proofs.Texts.{all_grown}
 use Rattle.ch_run.proofs.Saving.{text_of_turned}
