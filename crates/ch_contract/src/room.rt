@@ -127,10 +127,5 @@ impl Room {
 fn place_in(nodes: &[u32], node: u32) -> Option<usize>
     ensures { IfSome result (λ k. (k < length nodes.now) × (slice_index nodes.now k ≡ node)) }
 {
-    for (place, other) in nodes.iter().enumerate() {
-        if *other == node {
-            return Some(place);
-        }
-    }
-    None
+    nodes.iter().position(|other| *other == node)
 }

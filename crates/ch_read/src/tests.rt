@@ -1,6 +1,8 @@
 //! Worked files: what the readers answer for them, and the texts of faults.
 use crate::{FaultKind, ReadError, ReadFault, read_graph, read_nodes, read_queries};
 use ch_graph::InArc;
+use std::alloc::Global;
+use std::process::Abort;
 use std::test::Fail;
 
 mod hostile;
@@ -157,22 +159,45 @@ macro_rules! again {
     };
 }
 
+/// Reads a graph of so many nodes and arcs, asked twice where it must be.
+fn expect_graph<R: Abort>(
+    rt: &R,
+    alloc: Global,
+    text: &str,
+    nodes: u32,
+    arcs: usize,
+) -> Result<(), Fail> {
+    let graph = again!(read_graph(alloc, text.as_bytes()));
+    assert_eq!(rt; (graph.nodes(), graph.arcs().len()), (nodes, arcs));
+    Ok(())
+}
+
+/// Reads these nodes of a graph of three, asked twice where it must be.
+fn expect_nodes<R: Abort>(rt: &R, alloc: Global, text: &str, expected: &[u32]) -> Result<(), Fail> {
+    let nodes = again!(read_nodes(alloc, text.as_bytes(), 3));
+    assert_eq!(rt; nodes.as_slice(), expected);
+    Ok(())
+}
+
 /// It holds when any one request for memory is refused: the reader that meets the refusal answers `NoMemory`,
 /// and no fault, and asked again it answers as with ample memory.
 #[test]
 fn refused_in_turn(rt: HostRuntime) -> Result<(), Fail> {
     let alloc = rt.alloc();
-    let line = again!(read_graph(alloc, SMALL_GRAPH.as_bytes()));
-    assert_eq!(rt; line.arcs().len(), 2);
-    let star = again!(read_graph(alloc, STAR.as_bytes()));
-    assert_eq!(rt; star.nodes(), 4);
-    assert_eq!(rt; star.arcs().len(), 6);
+    expect_graph(&rt, alloc, SMALL_GRAPH, 3, 2)?;
+    expect_graph(&rt, alloc, STAR, 4, 6)?;
+    expect_nodes(&rt, alloc, SMALL_NODES, &[0, 0, 2])?;
+    expect_nodes(&rt, alloc, TARGETS, &[2, 1])?;
     let queries = again!(read_queries(alloc, b"p aux sp p2p 1\nq 3 4\n", 4));
     assert_eq!(rt; queries.as_slice(), [(2, 3)].as_slice());
-    let sources = again!(read_nodes(alloc, SMALL_NODES.as_bytes(), 3));
-    assert_eq!(rt; sources.as_slice(), [0, 0, 2].as_slice());
-    let targets = again!(read_nodes(alloc, TARGETS.as_bytes(), 3));
-    assert_eq!(rt; targets.as_slice(), [2, 1].as_slice());
+    Ok(())
+}
+
+/// Expects this text of a fault and of the error that tells it.
+fn expect_said<R: Abort>(rt: &R, alloc: Global, fault: ReadFault, text: &str) -> Result<(), Fail> {
+    let error = ReadError::Fault(fault);
+    let (fault, error) = (format!(in alloc; "{fault}")?, format!(in alloc; "{error}")?);
+    assert_eq!(rt; (fault.as_str(), error.as_str()), (text, text));
     Ok(())
 }
 
@@ -190,10 +215,7 @@ fn says_what_is_wrong(rt: HostRuntime) -> Result<(), Fail> {
         (FaultKind::TooMany, "line 12: too many lines"),
         (FaultKind::TooFew, "line 12: too few lines"),
     ] {
-        let fault = ReadFault { line: 12, kind };
-        let error = ReadError::Fault(fault);
-        assert_eq!(rt; format!(in rt.alloc(); "{fault}")?.as_str(), text);
-        assert_eq!(rt; format!(in rt.alloc(); "{error}")?.as_str(), text);
+        expect_said(&rt, rt.alloc(), ReadFault { line: 12, kind }, text)?;
     }
     let refused = ReadError::NoMemory;
     assert_eq!(rt;

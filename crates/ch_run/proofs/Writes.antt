@@ -5,7 +5,7 @@ use Rattle.std.proofs.lemmas.Result.{IfErr-weaker}
 use Rattle.ch_run.specs.declared.fault.RunFault.{RunFault}
 use Rattle.ch_run.specs.declared.fault.Which.{Which}
 use Rattle.ch_run.specs.Lists.{IsOfLists}
-use Rattle.ch_run.specs.Run.{Delivers, GoesPast, IsWrite, StopsAt}
+use Rattle.ch_run.specs.Run.{Delivers, GoesPast, IsUnread, IsWrite, StopsAt}
 use Rattle.ch_run.proofs.Inputs.{of_one}
 
 -- a fault that is passed on is the one that was met
@@ -15,6 +15,19 @@ passed_on {S} (Err y) e fault is same =
     let one : y ≡ fault = cc in
     let told : RunFault → Result S RunFault = λ f. Err f in
     ap told (sym is ∙ one)
+
+-- a run that ends in no fault but those of which P holds ends in one of these
+pub ends_in : {T : Type 0} (r : Result T RunFault) (P : RunFault → Type 0) (fault : RunFault) → IfErr r P → r ≡ Err fault → P fault
+ends_in r P fault own same = subst (λ s. IfErr s P) same own
+
+-- a fault that is passed on is one of which P holds where P holds of the one that was met
+pub tells : {T : Type 0} (r : Result T RunFault) (e : RunFault) (P : RunFault → Type 0) (fault : RunFault) → IsErrAnd r (λ y. y ≡ e) → P e → r ≡ Err fault → P fault
+tells (Ok x) e P fault is met same = absurd is
+tells (Err y) e P fault is met same = ends_in (Err y) P fault (subst P (sym is) met) same
+
+-- a run that ends for want of memory ends as one that gave no bytes
+pub out_of_memory : {T : Type 0} (r : Result T RunFault) (fault : RunFault) → IsErrAnd r (λ y. y ≡ RunFault.Memory) → r ≡ Err fault → IsUnread Which.Graph fault
+out_of_memory r fault is same = tells r RunFault.Memory (IsUnread Which.Graph) fault is tt same
 
 -- a refused write is no input's fault
 past_inputs : (which : Which) (fault : RunFault) → IsWrite fault → StopsAt which fault → ⊥

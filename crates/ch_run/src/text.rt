@@ -53,13 +53,20 @@ fn push_row(text: &mut Vec<u8>, source: u32, cells: &[Option<u64>]) -> Result<()
     push_all(text, b"\n")
 }
 
+/// Adds a blank and the weight of a cell, or a dash where there is none.
+fn push_cell(text: &mut Vec<u8>, cell: Option<u64>) -> Result<(), AllocError>
+    ensures { OnOk result (text.new.items ≡ text.old.items ++ cell_text cell) }
+{
+    push_all(text, b" ")?;
+    push_weight(text, cell)
+}
+
 /// Adds the cells of a row.
 fn push_cells(text: &mut Vec<u8>, cells: &[Option<u64>]) -> Result<(), AllocError>
     ensures { OnOk result (text.new.items ≡ text.old.items ++ flat_map cell_text cells.now) }
 {
     for cell in cells {
-        push_all(text, b" ")?;
-        push_weight(text, *cell)?;
+        push_cell(text, *cell)?;
     }
     Ok(())
 }

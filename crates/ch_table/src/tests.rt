@@ -13,7 +13,7 @@ mod tables;
 use crate::{Table, table};
 use ch_contract::{Hierarchy, build};
 use ch_graph::{Graph, InArc};
-use ch_work::{Open, Plan};
+use ch_work::{Gate, Open, Plan};
 use std::alloc::{AllocError, Global};
 use std::process::Abort;
 use std::test::Fail;
@@ -34,14 +34,12 @@ const RING: &[(u32, u32, u64)] = &[(1, 2, 1), (2, 3, 1), (3, 4, 1), (4, 5, 1), (
 
 const LINE: &[(u32, u32, u64)] = &[(1, 2, 4), (2, 3, 5)];
 
-fn hierarchy<R: Threads + Abort + Sync>(
+/// The arcs, each from, to and weight.
+fn arcs<R: Abort>(
     rt: &R,
     alloc: Global,
-    nodes: u32,
     list: &[(u32, u32, u64)],
-) -> Result<Hierarchy, Fail>
-    ensures { IfOk result IsKeptForSome }
-{
+) -> Result<Vec<InArc>, AllocError> {
     let mut arcs = Vec::new(alloc);
     for (from, to, weight) in list {
         assert!(rt; *from > 0 && *to > 0);
@@ -51,7 +49,18 @@ fn hierarchy<R: Threads + Abort + Sync>(
             weight: *weight,
         })?;
     }
-    let graph = Graph::new(nodes, arcs)?;
+    Ok(arcs)
+}
+
+fn hierarchy<R: Threads + Abort + Sync>(
+    rt: &R,
+    alloc: Global,
+    nodes: u32,
+    list: &[(u32, u32, u64)],
+) -> Result<Hierarchy, Fail>
+    ensures { IfOk result IsKeptForSome }
+{
+    let graph = Graph::new(nodes, arcs(rt, alloc, list)?)?;
     Ok(built(rt, alloc, &graph)?)
 }
 
@@ -80,24 +89,35 @@ fn from_zero<R: Abort>(
     Ok(nodes)
 }
 
-/// Makes the table at several plans, and expects the same of each.
-fn expect<R: Threads + Abort + Sync>(rt: &R, alloc: Global, example: &Example) -> Result<(), Fail> {
+/// The table of an example by this plan.
+fn make<R: Threads + Abort + Sync, G: Gate>(
+    rt: &R,
+    alloc: Global,
+    example: &Example,
+    plan: &Plan,
+    gate: &G,
+) -> Result<Table, Fail> {
     let hierarchy = hierarchy(rt, alloc, example.nodes, example.arcs)?;
     let sources = from_zero(rt, alloc, &hierarchy, example.sources)?;
     let targets = from_zero(rt, alloc, &hierarchy, example.targets)?;
+    Ok(table(
+        rt,
+        alloc,
+        &hierarchy,
+        &sources,
+        &targets,
+        example.within,
+        plan,
+        gate,
+    )?)
+}
+
+/// Expects the same table at several plans.
+fn expect<R: Threads + Abort + Sync>(rt: &R, alloc: Global, example: &Example) -> Result<(), Fail> {
     for workers in [1, 2, 64] {
         for piece in [1, 1000] {
             let plan = Plan::new(workers, piece, 1);
-            let found = table(
-                rt,
-                alloc,
-                &hierarchy,
-                &sources,
-                &targets,
-                example.within,
-                &plan,
-                &Open,
-            )?;
+            let found = make(rt, alloc, example, &plan, &Open)?;
             expect_rows(rt, &found, example.rows);
         }
     }

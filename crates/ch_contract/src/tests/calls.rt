@@ -1,9 +1,11 @@
 //! What no clause says: that calls succeed where there is memory, and worked values.
-ghost use Rattle.std.specs.Prelude.{◌≡◌, IfOk};
+ghost use Rattle.std.specs.Prelude.{◌≡◌, ◌<◌, IfOk};
 
 use crate::{Leg, Remaining};
+use ch_graph::limits::{MOST_HOPS, MOST_WEIGHT};
 use ch_graph::{Cost, Graph, InArc};
-use std::alloc::Global;
+use std::alloc::{AllocError, Global};
+use std::process::Abort;
 use std::test::Fail;
 
 fn cost(weight: u64, arcs: u64) -> Cost
@@ -51,22 +53,41 @@ const STAR: [(u32, u32, u64); 6] = [
 
 const RING: [(u32, u32, u64); 5] = [(0, 1, 1), (1, 2, 1), (2, 3, 1), (3, 4, 1), (4, 0, 1)];
 
+/// Whether a chain of at most so many legs leads from node 0 past node 1 to this node, and costs at most so much.
+fn is_reached(
+    rt: &impl Abort,
+    legs: &Remaining,
+    node: u32,
+    most: (u64, u64),
+    hops: u32,
+) -> Result<bool, AllocError>
+    requires { (1 < node) × (node < legs.now.nodes) }
+{
+    let (weight, arcs) = most;
+    assert!(rt; weight <= MOST_WEIGHT && hops > 0 && hops <= MOST_HOPS);
+    legs.has_witness(1, 0, node, cost(weight, arcs), hops)
+}
+
 #[test]
 fn a_witness_is_bounded_in_legs_and_in_cost(rt: HostRuntime) -> Result<(), Fail> {
     let legs = open(rt.alloc(), 5, &DETOUR)?;
-    assert!(rt; !legs.has_witness(1, 0, 2, cost(2, 2), 2)?);
-    assert!(rt; legs.has_witness(1, 0, 2, cost(2, 2), 3)?);
-    assert!(rt; !legs.has_witness(1, 0, 2, cost(0, 2), 3)?);
-    assert!(rt; legs.has_witness(1, 0, 2, cost(0, 3), 3)?);
+    for (most, hops, expected) in [
+        ((2, 2), 2, false),
+        ((2, 2), 3, true),
+        ((0, 2), 3, false),
+        ((0, 3), 3, true),
+    ] {
+        assert_eq!(rt; is_reached(&rt, &legs, 2, most, hops)?, expected);
+    }
     Ok(())
 }
 
 #[test]
 fn a_witness_may_cost_as_much(rt: HostRuntime) -> Result<(), Fail> {
     let legs = open(rt.alloc(), 4, &DIAMOND)?;
-    assert!(rt; !legs.has_witness(1, 0, 3, cost(2, 2), 1)?);
-    assert!(rt; legs.has_witness(1, 0, 3, cost(2, 2), 2)?);
-    assert!(rt; !legs.has_witness(1, 0, 3, cost(2, 1), 2)?);
+    for (most, hops, expected) in [((2, 2), 1, false), ((2, 2), 2, true), ((2, 1), 2, false)] {
+        assert_eq!(rt; is_reached(&rt, &legs, 3, most, hops)?, expected);
+    }
     Ok(())
 }
 
@@ -74,15 +95,18 @@ fn a_witness_may_cost_as_much(rt: HostRuntime) -> Result<(), Fail> {
 fn the_middle_of_a_star_has_six_shortcuts(rt: HostRuntime) -> Result<(), Fail> {
     let legs = open(rt.alloc(), 4, &STAR)?;
     let list = legs.shortcuts(0, 5)?;
-    let mut ends = Vec::new(rt.alloc());
-    for shortcut in &list {
+    let ends = [(1, 2), (1, 3), (2, 1), (2, 3), (3, 1), (3, 2)];
+    assert_eq!(rt; list.len(), ends.len());
+    for (shortcut, ends) in list.iter().zip(ends) {
+        assert_eq!(rt; (shortcut.from, shortcut.to), ends);
         assert_eq!(rt; shortcut.cost, cost(2, 2));
-        ends.push((shortcut.from, shortcut.to))?;
     }
-    assert_eq!(rt;
-        ends.as_slice(),
-        [(1, 2), (1, 3), (2, 1), (2, 3), (3, 1), (3, 2)].as_slice()
-    );
+    Ok(())
+}
+
+#[test]
+fn the_middle_of_a_star_comes_last(rt: HostRuntime) -> Result<(), Fail> {
+    let legs = open(rt.alloc(), 4, &STAR)?;
     assert_eq!(rt; legs.priority(0, 5)?, 0);
     assert_eq!(rt; legs.priority(1, 5)?, -2);
     Ok(())
@@ -132,6 +156,11 @@ fn legs_are_lent_in_order(rt: HostRuntime) -> Result<(), Fail> {
     let others = [leg(1, 1, 1, None), leg(2, 1, 1, None), leg(3, 1, 1, None)];
     assert_eq!(rt; legs.out_legs(0), others.as_slice());
     assert_eq!(rt; legs.in_legs(0), others.as_slice());
+    Ok(())
+}
+
+#[test]
+fn legs_are_lent_after_a_contraction(rt: HostRuntime) -> Result<(), Fail> {
     let (legs, _) = open(rt.alloc(), 5, &RING)?.contract(0, 5)?;
     assert_eq!(rt; legs.out_legs(0).len() + legs.in_legs(0).len(), 0);
     assert_eq!(rt; legs.out_legs(4), [leg(1, 2, 2, Some(0))].as_slice());

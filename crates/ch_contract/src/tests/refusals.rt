@@ -77,6 +77,18 @@ struct Answers<'a> {
     down: &'a [Leg],
 }
 
+/// Makes each call that leaves the legs for node 0.
+fn expect_judged(rt: &impl Abort, legs: &Remaining, answers: &Answers) -> Result<(), AllocError>
+    requires { 2 < legs.now.nodes }
+{
+    let has_witness = again!(legs.has_witness(0, 1, 2, cost(2), 5));
+    assert_eq!(rt; has_witness, answers.has_witness);
+    let shortcuts = again!(legs.shortcuts(0, 5));
+    assert_eq!(rt; shortcuts.as_slice(), answers.shortcuts);
+    assert_eq!(rt; again!(legs.priority(0, 5)), answers.priority);
+    Ok(())
+}
+
 /// Makes each call on the legs of a graph for node 0. A refused contraction drops the legs, so they are opened
 /// again.
 fn expect_answers(
@@ -88,11 +100,7 @@ fn expect_answers(
     requires { 2 < graph.now.nodes }
 {
     let legs = again!(Remaining::open(alloc, graph));
-    let has_witness = again!(legs.has_witness(0, 1, 2, cost(2), 5));
-    assert_eq!(rt; has_witness, answers.has_witness);
-    let shortcuts = again!(legs.shortcuts(0, 5));
-    assert_eq!(rt; shortcuts.as_slice(), answers.shortcuts);
-    assert_eq!(rt; again!(legs.priority(0, 5)), answers.priority);
+    expect_judged(rt, &legs, answers)?;
     let (_, removed) = match legs.contract(0, 5) {
         Ok(both) => both,
         Err(AllocError) => Remaining::open(alloc, graph)?.contract(0, 5)?,

@@ -94,13 +94,12 @@ fn levels_and_rows_are_those_of_the_list(rt: HostRuntime) -> Result<(), Fail> {
         panic!(rt; "refused");
     };
     assert!(rt; hierarchy.nodes() == 3);
-    assert_eq!(rt; hierarchy.level(0), 2);
-    assert_eq!(rt; hierarchy.level(1), 1);
-    assert_eq!(rt; hierarchy.level(2), 3);
-    assert_eq!(rt; hierarchy.up(0).len(), 1);
-    assert_eq!(rt; hierarchy.up(1).len(), 1);
-    assert_eq!(rt; hierarchy.down(1).len(), 1);
-    assert_eq!(rt; hierarchy.down(2).len(), 0);
+    for (node, level, up, down) in [(0, 2, 1, 0), (1, 1, 1, 1), (2, 3, 0, 0)] {
+        assert!(rt; node < hierarchy.nodes());
+        assert_eq!(rt; hierarchy.level(node), level);
+        let rows = (hierarchy.up(node).len(), hierarchy.down(node).len());
+        assert_eq!(rt; rows, (up, down));
+    }
     Ok(())
 }
 

@@ -162,6 +162,26 @@ fn expect_witnesses(
     Ok(())
 }
 
+/// Judges a node and contracts it, as the plain search does, and gives the legs that are left.
+fn expect_contraction(
+    rt: &impl Abort,
+    alloc: Global,
+    remaining: Remaining,
+    v: u32,
+    hops: u32,
+    cost: Cost,
+) -> Result<Remaining, AllocError>
+    requires node { v < remaining.nodes }
+    requires hops { IsHopBound hops }
+    requires cost { cost.weight ≤ MOST_WEIGHT }
+{
+    expect_witnesses(rt, alloc, &remaining, v, hops, cost)?;
+    let list = remaining.shortcuts(v, hops)?;
+    let plain = plain_shortcuts(alloc, &remaining, v, hops)?;
+    assert_eq!(rt; list.as_slice(), plain.as_slice());
+    Ok(remaining.contract(v, hops)?.0)
+}
+
 #[test]
 fn searches_find_what_a_plain_search_finds(rt: HostRuntime) -> Result<(), Fail> {
     let alloc = rt.alloc();
@@ -183,11 +203,7 @@ fn searches_find_what_a_plain_search_finds(rt: HostRuntime) -> Result<(), Fail> 
                     weight: weight.min(MOST_WEIGHT),
                     arcs,
                 };
-                expect_witnesses(&rt, alloc, &remaining, v, hops, cost)?;
-                let list = remaining.shortcuts(v, hops)?;
-                let plain = plain_shortcuts(alloc, &remaining, v, hops)?;
-                assert_eq!(rt; list.as_slice(), plain.as_slice());
-                remaining = remaining.contract(v, hops)?.0;
+                remaining = expect_contraction(&rt, alloc, remaining, v, hops, cost)?;
             }
         }
     }

@@ -1,5 +1,8 @@
+ghost use Rattle.std.specs.Prelude.{◌≡◌};
+
 use super::*;
 use std::io::{self, ErrorKind, Read, Write};
+use std::process::Abort;
 use std::test::Fail;
 
 const TEXT: &[u8] = b"d 1 3 9\nd 3 1 -\n";
@@ -52,20 +55,26 @@ fn a_text_is_written_whole(rt: HostRuntime) -> Result<(), Fail> {
     Ok(())
 }
 
+/// Expects that the output takes so many bytes of the text, and what it counts then.
+fn expect_taken(rt: &impl Abort, output: MemoryOutput, count: usize, counted: (u64, u64))
+    requires failures { ⟦<MemoryOutput as Output>⟧.failed output ≡ 0 }
+    requires zeros { ⟦<MemoryOutput as Output>⟧.idle output ≡ 0 }
+{
+    let mut output = output;
+    assert_eq!(rt; write_all(&mut output, TEXT), Err(count as u64));
+    assert_eq!(rt; Some(output.bytes()), TEXT.get(..count));
+    assert_eq!(rt; (output.failures(), output.zeros()), counted);
+}
+
 #[test]
 fn a_write_that_fails_tells_what_was_taken(rt: HostRuntime) -> Result<(), Fail> {
     for most in PARTS {
         for before in 0..TEXT.len().div_ceil(most) {
             let count = before.saturating_mul(most);
-            let mut output = MemoryOutput::new(rt.alloc(), 100, most)?.failing_after(before as u64);
-            assert_eq!(rt; write_all(&mut output, TEXT), Err(count as u64));
-            assert_eq!(rt; Some(output.bytes()), TEXT.get(..count));
-            assert_eq!(rt; (output.failures(), output.zeros()), (1, 0));
-
-            let mut output = MemoryOutput::new(rt.alloc(), 100, most)?.idle_after(before as u64);
-            assert_eq!(rt; write_all(&mut output, TEXT), Err(count as u64));
-            assert_eq!(rt; Some(output.bytes()), TEXT.get(..count));
-            assert_eq!(rt; (output.failures(), output.zeros()), (0, 1));
+            let output = MemoryOutput::new(rt.alloc(), 100, most)?;
+            expect_taken(&rt, output.failing_after(before as u64), count, (1, 0));
+            let output = MemoryOutput::new(rt.alloc(), 100, most)?;
+            expect_taken(&rt, output.idle_after(before as u64), count, (0, 1));
         }
     }
     Ok(())

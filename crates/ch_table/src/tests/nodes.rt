@@ -1,7 +1,9 @@
 //! What each node owes to the cells of a worked table.
-ghost use Rattle.std.specs.Prelude.{◌<◌, ◌≤◌, length, All};
+ghost use Rattle.std.specs.Prelude.{◌≡◌, ◌*◌, ◌<◌, ◌≤◌, length, All};
+ghost use Rattle.ch_graph.specs.declared.limits.TheConstants.{MOST_NODES};
 ghost use Rattle.ch_contract.specs.Hierarchy.{nodes_of};
 ghost use Rattle.ch_query.specs.Distance.{IsKeptForSome};
+ghost use Rattle.ch_work.specs.declared.limits.TheConstants.{MOST_CELLS};
 
 use super::{LINE, from_zero, hierarchy};
 use crate::sums::Sums;
@@ -11,7 +13,27 @@ use std::alloc::{AllocError, Global};
 use std::test::Fail;
 use std::thread::Threads;
 
-/// The cells of a board to which only this node pays.
+/// The cells to which only this node pays what it owes by these sums.
+fn owed_by(
+    alloc: Global,
+    sums: &Sums,
+    cells: u32,
+    node: u32,
+) -> Result<Vec<Option<u64>>, AllocError>
+    requires cells { cells ≡ sums.now.rows * sums.now.columns }
+    requires most { cells ≤ MOST_CELLS }
+    requires node { (node < length sums.now.ups) × (node < MOST_NODES) }
+{
+    let (board, mut passes) = Board::new(alloc, 0, cells, 1)?;
+    let Some(mut pass) = passes.pop() else {
+        return Err(AllocError);
+    };
+    sums.piece(alloc, &board, &mut pass, node, node + 1)?;
+    passes.push(pass)?;
+    board.close(passes)
+}
+
+/// The cells of these lists to which only this node pays.
 fn owed_at<R: Threads + Sync>(
     rt: &R,
     alloc: Global,
@@ -30,13 +52,7 @@ fn owed_at<R: Threads + Sync>(
     let plan = Plan::new(1, 1, 64);
     let sums = Sums::search(rt, alloc, hierarchy, sources, targets, within, &plan, &Open)?;
     let cells = sources.len() as u32 * targets.len() as u32;
-    let (board, mut passes) = Board::new(alloc, 0, cells, 1)?;
-    let Some(mut pass) = passes.pop() else {
-        return Err(AllocError);
-    };
-    sums.piece(alloc, &board, &mut pass, node, node + 1)?;
-    passes.push(pass)?;
-    board.close(passes)
+    owed_by(alloc, &sums, cells, node)
 }
 
 #[test]

@@ -1,6 +1,5 @@
 //! Worked tables, and what passes the gate while one is made.
-use super::{Example, LINE, RING, expect, from_zero, hierarchy};
-use crate::table;
+use super::{Example, LINE, RING, expect, make};
 use ch_work::{CountingGate, Plan};
 use std::test::Fail;
 
@@ -17,17 +16,19 @@ fn a_ring(rt: HostRuntime) -> Result<(), Fail> {
     expect(&rt, rt.alloc(), &example)
 }
 
+/// The table of the line, with a source twice.
+const LINE_TWICE: Example = Example {
+    nodes: 3,
+    arcs: LINE,
+    sources: &[1, 1, 3],
+    targets: &[3, 2],
+    within: None,
+    rows: &[&[Some(9), Some(4)], &[Some(9), Some(4)], &[Some(0), None]],
+};
+
 #[test]
 fn a_line_with_a_source_twice(rt: HostRuntime) -> Result<(), Fail> {
-    let example = Example {
-        nodes: 3,
-        arcs: LINE,
-        sources: &[1, 1, 3],
-        targets: &[3, 2],
-        within: None,
-        rows: &[&[Some(9), Some(4)], &[Some(9), Some(4)], &[Some(0), None]],
-    };
-    expect(&rt, rt.alloc(), &example)
+    expect(&rt, rt.alloc(), &LINE_TWICE)
 }
 
 #[test]
@@ -59,20 +60,16 @@ fn no_targets(rt: HostRuntime) -> Result<(), Fail> {
 /// Each target, each source and each node is a piece: the table is made by the cells that workers share.
 #[test]
 fn gates_passed(rt: HostRuntime) -> Result<(), Fail> {
-    let alloc = rt.alloc();
-    let hierarchy = hierarchy(&rt, alloc, 3, LINE)?;
-    let sources = from_zero(&rt, alloc, &hierarchy, &[1, 1, 3])?;
-    let targets = from_zero(&rt, alloc, &hierarchy, &[3, 2])?;
-    let gate = CountingGate::new(alloc, 4)?;
-    let plan = Plan::new(2, 1, 64);
-    table(
-        &rt, alloc, &hierarchy, &sources, &targets, None, &plan, &gate,
-    )?;
-    for (piece, expected) in [Some(3), Some(3), Some(2), Some(0), None]
-        .iter()
-        .enumerate()
-    {
-        assert_eq!(rt; gate.passes(piece as u32), *expected, "piece {piece}");
+    let gate = CountingGate::new(rt.alloc(), 4)?;
+    make(&rt, rt.alloc(), &LINE_TWICE, &Plan::new(2, 1, 64), &gate)?;
+    for (piece, expected) in [
+        (0, Some(3)),
+        (1, Some(3)),
+        (2, Some(2)),
+        (3, Some(0)),
+        (4, None),
+    ] {
+        assert_eq!(rt; gate.passes(piece), expected, "piece {piece}");
     }
     Ok(())
 }

@@ -8,6 +8,7 @@ use crate::plan::{Open, Plan};
 use crate::run::{run_dist, run_table};
 use ch_read::FaultKind;
 use std::alloc::{AllocError, Global};
+use std::process::Abort;
 use std::test::Fail;
 use std::thread::Threads;
 
@@ -32,26 +33,37 @@ fn run_into<R: Threads + Sync>(
     )
 }
 
+/// Expects this answer of a run into this output, and that it took these bytes.
+fn expect_written<R: Threads + Abort + Sync>(
+    rt: &R,
+    alloc: Global,
+    output: MemoryOutput,
+    answer: Result<(), RunFault>,
+    bytes: Option<&[u8]>,
+)
+    requires failures { ⟦<MemoryOutput as Output>⟧.failed output ≡ 0 }
+    requires zeros { ⟦<MemoryOutput as Output>⟧.idle output ≡ 0 }
+{
+    let mut output = output;
+    assert_eq!(rt; run_into(rt, alloc, &mut output), answer);
+    assert_eq!(rt; Some(output.bytes()), bytes);
+}
+
 #[test]
 fn tells_how_many_bytes_were_written(rt: HostRuntime) -> Result<(), Fail> {
-    let mut output = MemoryOutput::new(rt.alloc(), 64, 5)?.failing_after(1);
-    assert_eq!(rt;
-        run_into(&rt, rt.alloc(), &mut output),
-        Err(RunFault::Write(5))
-    );
-    assert_eq!(rt; output.bytes(), b"d 1 3".as_slice());
-    let mut output = MemoryOutput::new(rt.alloc(), 64, 64)?.failing_after(0);
-    assert_eq!(rt;
-        run_into(&rt, rt.alloc(), &mut output),
-        Err(RunFault::Write(0))
-    );
-    assert_eq!(rt; output.bytes(), b"".as_slice());
-    let mut output = MemoryOutput::new(rt.alloc(), 64, 3)?.failing_after(2);
-    assert_eq!(rt;
-        run_into(&rt, rt.alloc(), &mut output),
-        Err(RunFault::Write(6))
-    );
-    assert_eq!(rt; output.bytes(), b"d 1 3 ".as_slice());
+    for (most, before, count) in [(5, 1, 5), (64, 0, 0), (3, 2, 6)] {
+        let output = MemoryOutput::new(rt.alloc(), 64, most)?.failing_after(before);
+        let answer = Err(RunFault::Write(count));
+        let taken = ANSWERS.get(..count as usize);
+        expect_written(&rt, rt.alloc(), output, answer, taken);
+    }
+    let output = MemoryOutput::new(rt.alloc(), 64, 1)?;
+    expect_written(&rt, rt.alloc(), output, Ok(()), Some(ANSWERS));
+    Ok(())
+}
+
+#[test]
+fn tells_how_many_bytes_an_idle_output_took(rt: HostRuntime) -> Result<(), Fail> {
     let mut output = MemoryOutput::new(rt.alloc(), 64, 3)?.idle_after(1);
     assert_eq!(rt;
         run_into(&rt, rt.alloc(), &mut output),
@@ -59,9 +71,6 @@ fn tells_how_many_bytes_were_written(rt: HostRuntime) -> Result<(), Fail> {
     );
     assert_eq!(rt; output.bytes(), b"d 1".as_slice());
     assert_eq!(rt; (output.failures(), output.zeros()), (0, 1));
-    let mut output = MemoryOutput::new(rt.alloc(), 64, 1)?;
-    assert_eq!(rt; run_into(&rt, rt.alloc(), &mut output), Ok(()));
-    assert_eq!(rt; output.bytes(), ANSWERS);
     Ok(())
 }
 

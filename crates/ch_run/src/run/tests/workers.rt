@@ -11,7 +11,7 @@ use super::{
 use crate::device::{MemoryInput, MemoryOutput};
 use crate::fault::RunFault;
 use crate::options::Options;
-use crate::plan::{Gate, Plan};
+use crate::plan::{Gate, Open, Plan};
 use crate::run::run_dist;
 use ch_contract::{Hierarchy, build};
 use ch_graph::{Graph, InArc};
@@ -102,32 +102,32 @@ fn two_pieces_at_once(rt: HostRuntime) -> Result<(), Fail> {
     run_pieces(&rt, rt.alloc(), 2, &plan, &working, &TwoItems)?;
     assert!(rt; working.has_met());
     let building = MeetingGate::new();
-    let hierarchy = two_nodes(&rt, rt.alloc(), &plan, &building)?;
+    two_nodes(&rt, rt.alloc(), &plan, &building)?;
     assert!(rt; building.has_met());
-    let answering = MeetingGate::new();
+    Ok(())
+}
+
+#[test]
+fn two_queries_at_once(rt: HostRuntime) -> Result<(), Fail> {
+    let (alloc, plan) = (rt.alloc(), Plan::new(2, 1, 64));
+    let hierarchy = two_nodes(&rt, alloc, &plan, &Open)?;
+    let gate = MeetingGate::new();
     let queries = [(0, 1), (1, 0)];
-    answer_all(
-        &rt,
-        rt.alloc(),
-        &hierarchy,
-        &queries,
-        true,
-        &plan,
-        &answering,
-    )?;
-    assert!(rt; answering.has_met());
-    let tabling = MeetingGate::new();
+    answer_all(&rt, alloc, &hierarchy, &queries, true, &plan, &gate)?;
+    assert!(rt; gate.has_met());
+    Ok(())
+}
+
+#[test]
+fn two_rows_at_once(rt: HostRuntime) -> Result<(), Fail> {
+    let (alloc, plan) = (rt.alloc(), Plan::new(2, 1, 64));
+    let hierarchy = two_nodes(&rt, alloc, &plan, &Open)?;
+    let gate = MeetingGate::new();
+    let (sources, targets) = ([0, 1], [1, 0]);
     table(
-        &rt,
-        rt.alloc(),
-        &hierarchy,
-        &[0, 1],
-        &[1, 0],
-        None,
-        &plan,
-        &tabling,
+        &rt, alloc, &hierarchy, &sources, &targets, None, &plan, &gate,
     )?;
-    assert!(rt; tabling.has_met());
+    assert!(rt; gate.has_met());
     Ok(())
 }
 

@@ -1,5 +1,6 @@
 use Rattle.std.proofs.Common.{inr}
-use Rattle.ch_run.proofs.Writes.{delivered, gone_past, passed_on}
+use Rattle.ch_run.proofs.Writes.{delivered, ends_in, gone_past, out_of_memory, passed_on}
+use Rattle.ch_run.specs.Run.{IsWrite}
 use Rattle.ch_run.specs.declared.fault.RunFault.TheVariants as RunFault
 use Rattle.ch_run.specs.declared.fault.Which.TheVariants as Which
 use Rattle.ch_run.proofs.run.dist_saved.run_dist_saved.Goals as goal
@@ -25,3 +26,27 @@ returns-clause-queries_unread g c =
     let value = c.in_ok-checked.ensures.value in
     let past = gone_past c.write_text.result c.write_text.ensures.own in
     inr (past Which.Graph, past Which.Saved, (_, value.0, _, value.1, tt))
+
+pub returns-clause-graph_refused : goal.returns-clause-graph_refused
+returns-clause-graph_refused g c fault same = absurd (ends_in c.write_text.result IsWrite (RunFault.Graph fault) c.write_text.ensures.own same)
+
+pub returns-clause-saved_refused : goal.returns-clause-saved_refused
+returns-clause-saved_refused g c fault same = absurd (ends_in c.write_text.result IsWrite (RunFault.Saved fault) c.write_text.ensures.own same)
+
+pub returns-clause-check_refused : goal.returns-clause-check_refused
+returns-clause-check_refused g c fault same = absurd (ends_in c.write_text.result IsWrite (RunFault.Check fault) c.write_text.ensures.own same)
+
+pub returns-clause-queries_refused : goal.returns-clause-queries_refused
+returns-clause-queries_refused g c fault same = absurd (ends_in c.write_text.result IsWrite (RunFault.Queries fault) c.write_text.ensures.own same)
+
+pub returns-in_err-text-clause-graph_refused : goal.returns-in_err-text-clause-graph_refused
+returns-in_err-text-clause-graph_refused g c fault same = absurd (out_of_memory c.from_residual-in_err-text.result (RunFault.Graph fault) c.from_residual-in_err-text.ensures.1 same)
+
+pub returns-in_err-text-clause-saved_refused : goal.returns-in_err-text-clause-saved_refused
+returns-in_err-text-clause-saved_refused g c fault same = absurd (out_of_memory c.from_residual-in_err-text.result (RunFault.Saved fault) c.from_residual-in_err-text.ensures.1 same)
+
+pub returns-in_err-text-clause-check_refused : goal.returns-in_err-text-clause-check_refused
+returns-in_err-text-clause-check_refused g c fault same = absurd (out_of_memory c.from_residual-in_err-text.result (RunFault.Check fault) c.from_residual-in_err-text.ensures.1 same)
+
+pub returns-in_err-text-clause-queries_refused : goal.returns-in_err-text-clause-queries_refused
+returns-in_err-text-clause-queries_refused g c fault same = absurd (out_of_memory c.from_residual-in_err-text.result (RunFault.Queries fault) c.from_residual-in_err-text.ensures.1 same)

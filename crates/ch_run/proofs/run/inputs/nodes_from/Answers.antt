@@ -3,7 +3,10 @@ use Rattle.ch_read.specs.declared.form.Form.TheVariants.{Nodes}
 use Rattle.ch_read.specs.declared.fault.ReadError.TheVariants.{Fault}
 use Rattle.ch_read.specs.Checks.{IsFault}
 use Rattle.ch_read.specs.Names.{NamesNodes}
-use Rattle.ch_run.proofs.Inputs.{refused_for}
+use Rattle.ch_run.specs.Fault.{refusal_of}
+use Rattle.ch_run.specs.Run.{IsUnread}
+use Rattle.ch_run.proofs.Inputs.{refused_for, unread_not}
+use Rattle.ch_run.proofs.Writes.{tells}
 use Rattle.ch_run.proofs.run.inputs.nodes_from.Goals as goal
 
 pub returns-in-Ok-clause-value : goal.returns-in-Ok-clause-value
@@ -16,3 +19,8 @@ returns-clause-refused g c fault same =
     let is : c.in-Err.error ≡ Fault fault = refused_for c.args.which _ fault (sym c.refusal.ensures ∙ cc) in
     let refused = rw c.nodes.ensures at (c.read_nodes.ensures.fault fault).0 (rw (c.in-Err.is, is) refl) in
     (c.in_ok-bytes.bytes.items, c.in_ok-bytes.ensures.bytes, subst (λ bytes. IsFault (Nodes c.args.graph.now.nodes) bytes fault.line fault.kind) c.deref.ensures.value refused)
+
+pub returns-in_err-bytes-clause-refused : goal.returns-in_err-bytes-clause-refused
+returns-in_err-bytes-clause-refused g c fault same =
+    let unread = tells c.from_residual.result c.in_err-bytes.field-0.0 (IsUnread c.args.which) (refusal_of c.args.which fault) c.from_residual.ensures.1 c.in_err-bytes.ensures.unread same in
+    absurd (unread_not c.args.which fault unread)

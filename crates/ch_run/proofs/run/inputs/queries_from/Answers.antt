@@ -4,7 +4,10 @@ use Rattle.ch_read.specs.declared.fault.ReadError.TheVariants.{Fault}
 use Rattle.ch_read.specs.Checks.{IsFault}
 use Rattle.ch_read.specs.Names.{NamesQueries}
 use Rattle.ch_run.specs.declared.fault.Which.TheVariants as Which
+use Rattle.ch_run.specs.declared.fault.RunFault.TheVariants as RunFault
+use Rattle.ch_run.specs.Run.{IsUnread}
 use Rattle.ch_run.proofs.Inputs.{refused_for}
+use Rattle.ch_run.proofs.Writes.{tells}
 use Rattle.ch_run.proofs.run.inputs.queries_from.Goals as goal
 
 pub returns-in-Ok-clause-value : goal.returns-in-Ok-clause-value
@@ -17,3 +20,7 @@ returns-clause-refused g c fault same =
     let is : c.in-Err.error ≡ Fault fault = refused_for Which.Queries _ fault (sym c.refusal.ensures ∙ cc) in
     let refused = rw c.nodes.ensures at (c.read_queries.ensures.fault fault).0 (rw (c.in-Err.is, is) refl) in
     (c.in_ok-bytes.bytes.items, c.in_ok-bytes.ensures.bytes, subst (λ bytes. IsFault (Queries c.args.graph.now.nodes) bytes fault.line fault.kind) c.deref.ensures.value refused)
+
+pub returns-in_err-bytes-clause-refused : goal.returns-in_err-bytes-clause-refused
+returns-in_err-bytes-clause-refused g c fault same =
+    absurd (tells c.from_residual.result c.in_err-bytes.field-0.0 (IsUnread Which.Queries) (RunFault.Queries fault) c.from_residual.ensures.1 c.in_err-bytes.ensures.unread same)

@@ -6,9 +6,3 @@ pub search-requires-clause-cells : goal.search-requires-clause-cells
 search-requires-clause-cells g c =
     let a = c.args in
     let most = mul-le (length a.sources.now) (length a.targets.now) 64 64 c.requires.lists.0 c.requires.lists.1 in omega arith
-
-pub overflow_add-node : goal.overflow_add-node
-overflow_add-node g c = let few = c.requires.kept.2.levelled.count in let lt = c.requires.node in omega arith
-
-pub piece-requires-clause-inside : goal.piece-requires-clause-inside
-piece-requires-clause-inside g c = let size = c.in_ok-sums.ensures.rise.held.count in let lt = c.requires.node in omega arith
