@@ -33,18 +33,17 @@ file_names Save = codes "GRAPH" ∷ []
 abbrev pub flag_rule : Text → Rule
 flag_rule name = record (new_rule name) { long = Some name; action = Some SetTrue }
 
+-- an option with a value, which may be left out
+abbrev pub option_rule : Text → Rule
+option_rule name = record (new_rule name) { long = Some name; action = Some Set; value_names = 1 }
+
 -- an option: a number from 1 to the most, and the default where the words give none
 abbrev pub number_rule : Text → ℕ → Text → Rule
-number_rule name most default =
-    record (new_rule name) { long = Some name; action = Some Set; value_names = 1; parser = Some (parser.Signed (pos 1) (pos most)); defaults = default ∷ [] }
+number_rule name most default = record (option_rule name) { parser = Some (parser.Signed (pos 1) (pos most)); defaults = default ∷ [] }
 
 -- an option: a number from 0 to the most, which may be left out
 abbrev pub limit_rule : Text → ℕ → Rule
-limit_rule name most = record (new_rule name) { long = Some name; action = Some Set; value_names = 1; parser = Some (parser.Unsigned 0 most) }
-
--- an option: a file, which may be left out
-abbrev pub file_option_rule : Text → Rule
-file_option_rule name = record (new_rule name) { long = Some name; action = Some Set; value_names = 1 }
+limit_rule name most = record (option_rule name) { parser = Some (parser.Unsigned 0 most) }
 
 -- a file that must be named
 abbrev pub file_rule : Text → Rule
@@ -52,7 +51,7 @@ file_rule name = record (new_rule name) { required = true; action = Some Set }
 
 -- `[--saved FILE]`
 abbrev pub saved_rule : Rule
-saved_rule = file_option_rule (codes "saved")
+saved_rule = option_rule (codes "saved")
 
 -- `[--plain] [--routes] [--saved FILE]` of `dist`, and `[--within R] [--saved FILE]` of `table`
 abbrev pub own_rules : Tool → List Rule

@@ -4,7 +4,7 @@ ghost use Rattle.std.specs.Prelude.{◌≡◌, IfOk, codes, false, fold};
 ghost use Rattle.clap.specs.Words.{app_of, rule_of, with_rule};
 ghost use Rattle.clap.specs.declared.builder.command.Command.TheViews.{out-Command as fields_of};
 ghost use Rattle.chtab.specs.declared.line.Tool.TheVariants.{Dist, Save, Table};
-ghost use Rattle.chtab.specs.Line.{chtab_form, file_option_rule, file_rule, flag_rule, form_of, limit_rule, number_rule, number_rules, saved_rule};
+ghost use Rattle.chtab.specs.Line.{chtab_form, file_rule, flag_rule, form_of, limit_rule, number_rule, number_rules, option_rule, saved_rule};
 
 use ch_run::{MOST_HOPS, MOST_WITHIN};
 use ch_work::limits::{MOST_PIECE, MOST_WORKERS};
@@ -34,15 +34,23 @@ fn file<'a>(alloc: Global, name: &'a str, help: &'a str) -> Arg<'a>
         .help(help)
 }
 
-/// An option: a number from 1 to `most`.
-fn number<'a>(alloc: Global, name: &'a str, value: &'a str, most: u32, default: &'a str) -> Arg<'a>
-    ensures rule { rule_of result ≡ number_rule name.entry.now most default.entry.now }
+/// An option with a value, which may be left out.
+fn option<'a>(alloc: Global, name: &'a str, value: &'a str) -> Arg<'a>
+    ensures rule { rule_of result ≡ option_rule name.entry.now }
     ensures local { result.global ≡ false }
 {
     Arg::new(alloc, name)
         .long(name)
         .action(ArgAction::Set)
         .value_name(value)
+}
+
+/// An option: a number from 1 to `most`.
+fn number<'a>(alloc: Global, name: &'a str, value: &'a str, most: u32, default: &'a str) -> Arg<'a>
+    ensures rule { rule_of result ≡ number_rule name.entry.now most default.entry.now }
+    ensures local { result.global ≡ false }
+{
+    option(alloc, name, value)
         .value_parser(ValueParser::signed(1, i64::from(most)))
         .default_value(default)
 }
@@ -52,23 +60,7 @@ fn limit<'a>(alloc: Global, name: &'a str, value: &'a str, most: u64) -> Arg<'a>
     ensures rule { rule_of result ≡ limit_rule name.entry.now most }
     ensures local { result.global ≡ false }
 {
-    Arg::new(alloc, name)
-        .long(name)
-        .action(ArgAction::Set)
-        .value_name(value)
-        .value_parser(ValueParser::unsigned(0, most))
-}
-
-/// An option that may be left out: a file.
-fn file_option<'a>(alloc: Global, name: &'a str, help: &'a str) -> Arg<'a>
-    ensures rule { rule_of result ≡ file_option_rule name.entry.now }
-    ensures local { result.global ≡ false }
-{
-    Arg::new(alloc, name)
-        .long(name)
-        .action(ArgAction::Set)
-        .value_name("FILE")
-        .help(help)
+    option(alloc, name, value).value_parser(ValueParser::unsigned(0, most))
 }
 
 /// Adds the numbers that each tool reads.
@@ -94,9 +86,7 @@ fn saved<'a>(alloc: Global) -> Arg<'a>
     ensures rule { rule_of result ≡ saved_rule }
     ensures local { result.global ≡ false }
 {
-    file_option(
-        alloc,
-        "saved",
+    option(alloc, "saved", "FILE").help(
         "Read the hierarchy from this file, and check it, in place of building one, and ignore --hops: \
         `chtab save` or any other program wrote it, as `p ch N L`, N lines `o V`, the nodes in order of \
         level, and L lines `l U V W A M`, a leg from U to V of weight W and A arcs with the middle M, \
