@@ -1,5 +1,5 @@
 -- How runs end: with a fault that was met, or with their writes.
-use Rattle.std.proofs.Common.{◌≡◌, ℕ, List, Option, sym, ap, ◌∙◌, subst, inl, inr}
+use Rattle.std.proofs.Common.{◌≡◌, ℕ, List, Option, refl, sym, subst, inl, inr}
 use Rattle.std.specs.Prelude.{Result, Ok, Err, IfErr, IsErrAnd}
 use Rattle.std.proofs.lemmas.Result.{IfErr-weaker}
 use Rattle.ch_run.specs.declared.fault.RunFault.{RunFault}
@@ -7,14 +7,6 @@ use Rattle.ch_run.specs.declared.fault.Which.{Which}
 use Rattle.ch_run.specs.Lists.{IsOfLists}
 use Rattle.ch_run.specs.Run.{Delivers, GoesPast, IsUnread, IsWrite, StopsAt}
 use Rattle.ch_run.proofs.Inputs.{of_one}
-
--- a fault that is passed on is the one that was met
-pub passed_on : {S T : Type 0} (r : Result T RunFault) (e fault : RunFault) → IsErrAnd r (λ y. y ≡ e) → r ≡ Err fault → ◌≡◌ {A = Result S RunFault} (Err e) (Err fault)
-passed_on (Ok x) e fault is same = absurd is
-passed_on {S} (Err y) e fault is same =
-    let one : y ≡ fault = cc in
-    let told : RunFault → Result S RunFault = λ f. Err f in
-    ap told (sym is ∙ one)
 
 -- a run that ends in no fault but those of which P holds ends in one of these
 pub ends_in : {T : Type 0} (r : Result T RunFault) (P : RunFault → Type 0) (fault : RunFault) → IfErr r P → r ≡ Err fault → P fault
@@ -24,6 +16,10 @@ ends_in r P fault own same = subst (λ s. IfErr s P) same own
 pub tells : {T : Type 0} (r : Result T RunFault) (e : RunFault) (P : RunFault → Type 0) (fault : RunFault) → IsErrAnd r (λ y. y ≡ e) → P e → r ≡ Err fault → P fault
 tells (Ok x) e P fault is met same = absurd is
 tells (Err y) e P fault is met same = ends_in (Err y) P fault (subst P (sym is) met) same
+
+-- a fault that is passed on is the one that was met
+pub passed_on : {S T : Type 0} (r : Result T RunFault) (e fault : RunFault) → IsErrAnd r (λ y. y ≡ e) → r ≡ Err fault → ◌≡◌ {A = Result S RunFault} (Err e) (Err fault)
+passed_on {S} r e fault is same = tells r e (λ f. ◌≡◌ {A = Result S RunFault} (Err e) (Err f)) fault is refl same
 
 -- a run that ends for want of memory ends as one that gave no bytes
 pub out_of_memory : {T : Type 0} (r : Result T RunFault) (fault : RunFault) → IsErrAnd r (λ y. y ≡ RunFault.Memory) → r ≡ Err fault → IsUnread Which.Graph fault
