@@ -89,7 +89,8 @@ impl Search {
         ensures most { self.new.most ≡ most }
         ensures fresh { IsFresh self.new }
     {
-        let _nodes = hierarchy.nodes();
+        // The getter tells the proof that the hierarchy has levels.
+        let _ = hierarchy.nodes();
         self.source = source;
         self.stalls = stalls;
         self.most = most;

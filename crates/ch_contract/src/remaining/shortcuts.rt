@@ -65,7 +65,8 @@ impl Remaining {
         ensures list { OnOk result (AreShortcuts self.now.nodes hops (legs_of self.now) v list.new.items) }
         ensures clean { OnOk result (IsClean self.now.nodes (known_of K.cost search.new.heads)) }
     {
-        let _nodes = self.nodes();
+        // The getter tells the proof that the legs keep the limits.
+        let _ = self.nodes();
         self.fill_shortcuts(search, list, v, hops)?;
         let touching = self.out_legs(v).len() + self.in_legs(v).len();
         Ok(list.len() as i64 - touching as i64)
