@@ -1,5 +1,6 @@
 //! Answers to many queries on a ring, and plans that change none.
-ghost use Rattle.std.specs.Prelude.{◌≤◌, ◌^◌, length};
+ghost use Rattle.std.specs.Prelude.{◌≤◌, length};
+ghost use Rattle.ch_graph.specs.declared.limits.TheConstants.{MOST_QUERIES};
 ghost use Rattle.ch_contract.specs.Hierarchy.{nodes_of};
 ghost use Rattle.ch_query.specs.Answers.{AreQueries};
 ghost use Rattle.ch_query.specs.Distance.{IsKeptForSome};
@@ -25,7 +26,7 @@ fn expect_weights<R: Threads + Abort + Sync>(
 ) -> Result<(), AllocError>
     requires kept { IsKeptForSome ring.now }
     requires queries { AreQueries (nodes_of ring.now) queries.now }
-    requires count { length queries.now ≤ 2 ^ 24 }
+    requires count { length queries.now ≤ MOST_QUERIES }
 {
     let answers = again!(answer_all(rt, alloc, ring, queries, false, plan, &Open));
     assert_eq!(rt; answers.len(), queries.len());
@@ -93,7 +94,7 @@ pub(super) fn expect_routes<R: Threads + Abort + Sync>(
 ) -> Result<(), AllocError>
     requires kept { IsKeptForSome ring.now }
     requires queries { AreQueries (nodes_of ring.now) queries.now }
-    requires count { length queries.now ≤ 2 ^ 24 }
+    requires count { length queries.now ≤ MOST_QUERIES }
 {
     let answers = again!(answer_all(rt, alloc, ring, queries, true, plan, &Open));
     assert_eq!(rt; answers.len(), queries.len());
