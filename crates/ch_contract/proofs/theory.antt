@@ -1,5 +1,4 @@
 -- Legs as functions: what contraction keeps, and what kept hierarchies give, whatever lists hold the legs.
-pub mod Ordered
 pub mod RowLegs
 pub mod RowLemmas
 pub mod Counts
@@ -13,18 +12,11 @@ pub mod KeptCosts
 pub mod BuiltLegs
 pub mod BuiltKept
 pub mod UpAndDown
-pub mod Turned
-pub mod LegPaths
-pub mod MeetingPaths
-pub mod LegWalks
-pub mod KeptWalks
 pub mod OneOrder
 pub mod Levelled
 pub mod ReferenceSearch
 pub mod OrderSteps
+pub mod Depths
 pub mod PrioritySteps
 pub mod RowSteps
-pub mod Underway
-pub mod SavedLevels
-pub mod OneSaved
-pub mod SavedFaults
+pub mod StepsMade

@@ -3,7 +3,7 @@ use Rattle.std.specs.Prelude.{ℕ, ◌-◌, [], ◌∷◌, Some, None}
 use Rattle.ch_graph.specs.declared.arc.InArc.{InArc}
 use Rattle.ch_graph.specs.declared.cost.Cost.{Cost}
 use Rattle.ch_graph.specs.Graph.{Network}
-use Rattle.ch_contract.specs.declared.leg.Leg.{Leg}
+use Rattle.ch_hierarchy.specs.declared.leg.Leg.{Leg}
 
 -- an arc, its nodes counted from 1 as in files
 abbrev pub arc : ℕ → ℕ → ℕ → InArc

@@ -2,7 +2,7 @@
 use Rattle.std.specs.Prelude.{◌≡◌, ℕ, ◌+◌, ◌*◌, ◌/◌, ◌%◌, ◌≤◌, ◌⊎◌}
 use Rattle.ch_graph.specs.declared.limits.TheConstants.{MOST_NODES, MOST_WEIGHT, MOST_SUM}
 use Rattle.ch_graph.specs.declared.cost.Cost.{Cost}
-use Rattle.ch_contract.specs.declared.head.TheConstants.{MOST_CHAIN_ARCS, NEVER_ARCS, WEIGHT_UNIT, NEVER_BIT}
+use Rattle.ch_contract.specs.declared.held_cost.TheConstants.{MOST_CHAIN_ARCS, NEVER_ARCS, WEIGHT_UNIT, NEVER_BIT}
 
 -- the cost at a node to which no chain is known, which is more than any that is wanted
 abbrev pub never : Cost
@@ -27,8 +27,8 @@ pub record IsAddend (limit : ℕ) (c : Cost) : Type 0 where
   pub arcs : c.arcs ≤ MOST_CHAIN_ARCS
 
 -- a known cost, or none
-abbrev pub IsHead : ℕ → Cost → Type 0
-IsHead limit c = (c ≡ never) ⊎ IsHeld limit c
+abbrev pub IsKnownCost : ℕ → Cost → Type 0
+IsKnownCost limit c = (c ≡ never) ⊎ IsHeld limit c
 
 -- the cost in a word, from its low end: 31 bits of arcs, 32 bits of weight, and a bit that adds `never`
 abbrev pub cost_in : ℕ → Cost

@@ -4,10 +4,12 @@ use Rattle.ch_graph.specs.declared.cost.Cost.{Cost}
 use Rattle.ch_graph.specs.Cost.{IsAtMost}
 use Rattle.ch_graph.specs.Graph.{Network, IsWithinLimits}
 use Rattle.ch_graph.specs.Walk.{IsLeast}
+use Rattle.ch_contract.specs.declared.measure.OrderBy.{OrderBy}
 use Rattle.ch_contract.specs.Legs.{Legs, IsChain, chain_cost, IsHopBound}
-use Rattle.ch_contract.specs.Order.{IsOrder}
-use Rattle.ch_contract.specs.Hierarchy.{LevelsAndLegs, IsHierarchy}
-use Rattle.ch_contract.specs.Kept.{IsKept}
+use Rattle.ch_contract.specs.Order.{AreContracted}
+use Rattle.ch_hierarchy.specs.Hierarchy.{LevelsAndLegs}
+use Rattle.ch_contract.specs.Built.{IsHierarchyBy}
+use Rattle.ch_hierarchy.specs.Kept.{IsKept}
 
 -- c is the least cost of a chain of legs from u to w
 pub record IsLeastChain (L : Legs) (u w : ℕ) (c : Cost) : Type 0 where
@@ -18,11 +20,11 @@ pub record IsLeastChain (L : Legs) (u w : ℕ) (c : Cost) : Type 0 where
 abbrev pub IsLeft : Network → List ℕ → ℕ → ℕ → Type 0
 IsLeft g order i x = (x < g.nodes) × (Contains (take i order) x → ⊥)
 
--- after any number of steps, what the cheapest walk between two nodes that are left costs, the cheapest chain of legs costs
+-- after any number of steps, in any order, what the cheapest walk between two nodes that are left costs, the cheapest chain of legs costs
 abbrev pub ContractionKeepsLeastCosts : Type 0
-ContractionKeepsLeastCosts = (g : Network) (h : ℕ) (order : List ℕ) (L : ℕ → Legs) → IsWithinLimits g → IsHopBound h → IsOrder g h order L →
+ContractionKeepsLeastCosts = (g : Network) (h : ℕ) (order : List ℕ) (L : ℕ → Legs) → IsWithinLimits g → IsHopBound h → AreContracted g h order L →
     (i u w : ℕ) (c : Cost) → i ≤ g.nodes → IsLeft g order i u → IsLeft g order i w → IsLeast g u w c → IsLeastChain (L i) u w c
 
--- the contraction hierarchy of a graph is right for the graph, whatever the bound on hops
+-- the contraction hierarchy of a graph, in whichever order, is right for the graph, whatever the bound on hops
 abbrev pub HierarchiesAreKept : Type 0
-HierarchiesAreKept = (g : Network) (h : ℕ) (H : LevelsAndLegs) → IsWithinLimits g → IsHopBound h → IsHierarchy g h H → IsKept g H
+HierarchiesAreKept = (by : OrderBy) (g : Network) (h : ℕ) (H : LevelsAndLegs) → IsWithinLimits g → IsHopBound h → IsHierarchyBy by g h H → IsKept g H

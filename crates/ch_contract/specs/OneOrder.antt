@@ -1,8 +1,10 @@
--- The rules name one hierarchy.
+-- The rules name one hierarchy for each order.
 use Rattle.std.specs.Prelude.{◌≡◌, ℕ}
 use Rattle.ch_graph.specs.Graph.{Network}
-use Rattle.ch_contract.specs.Hierarchy.{LevelsAndLegs, IsHierarchy}
+use Rattle.ch_contract.specs.declared.measure.OrderBy.{OrderBy}
+use Rattle.ch_hierarchy.specs.Hierarchy.{LevelsAndLegs}
+use Rattle.ch_contract.specs.Built.{IsHierarchyBy}
 
--- two hierarchies of a graph, by the same bound on the legs of a witness, are equal
+-- two hierarchies of a graph, in the same order and by the same bound on the legs of a witness, are equal
 abbrev pub RulesNameOneHierarchy : Type 0
-RulesNameOneHierarchy = (g : Network) (h : ℕ) (H K : LevelsAndLegs) → IsHierarchy g h H → IsHierarchy g h K → H ≡ K
+RulesNameOneHierarchy = (by : OrderBy) (g : Network) (h : ℕ) (H K : LevelsAndLegs) → IsHierarchyBy by g h H → IsHierarchyBy by g h K → H ≡ K

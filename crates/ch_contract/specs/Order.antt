@@ -1,12 +1,23 @@
 -- The order of contraction.
-use Rattle.std.specs.Prelude.{◌≡◌, ◌≢◌, ℕ, ◌+◌, ◌-◌, ◌<◌, ◌≤◌, ◌||◌, Bool, true, false, List, length, slice_index, AllPairs, All, Contains, is_some, ℤ, ◌≤ℤ◌, take}
+use Rattle.std.specs.Prelude.{◌≡◌, ◌≢◌, ℕ, zero, suc, ◌+◌, ◌-◌, ◌<◌, ◌≤◌, ◌||◌, Bool, true, false, if◌then◌else◌, max, List, length, slice_index, AllPairs, All, Contains, is_some, ℤ, ◌≤ℤ◌, take}
 use Rattle.ch_graph.specs.Graph.{Network}
+use Rattle.ch_contract.specs.declared.measure.OrderBy.{OrderBy}
+use Rattle.ch_contract.specs.declared.measure.OrderBy.TheVariants.{Difference}
 use Rattle.ch_contract.specs.Legs.{Legs, SameLegs, opening}
-use Rattle.ch_contract.specs.Contraction.{Contracts, IsPriority}
+use Rattle.ch_contract.specs.Contraction.{Contracts, IsPriorityBy}
 
 -- a leg leads from one of the two nodes to the other
 abbrev pub are_neighbours : Legs → ℕ → ℕ → Bool
 are_neighbours L v x = is_some (L v x) || is_some (L x v)
+
+-- the depths once v is contracted: each neighbour lies at least one deeper than v
+abbrev pub next_depth : Legs → ℕ → (ℕ → ℕ) → ℕ → ℕ
+next_depth L v depth x = if are_neighbours L v x then max (depth x) (depth v + 1) else depth x
+
+-- the depths after the first i steps: at first 0
+abbrev pub depth_after : List ℕ → (ℕ → Legs) → ℕ → ℕ → ℕ
+depth_after order L zero x = 0
+depth_after order L (suc i) x = next_depth (L i) (slice_index order i) (depth_after order L i) x
 
 -- of the first i steps the j-th is the last whose node was a neighbour of x just before it; j is 0 where there is none
 pub record IsLastTouch (order : List ℕ) (L : ℕ → Legs) (i x j : ℕ) : Type 0 where
@@ -15,17 +26,29 @@ pub record IsLastTouch (order : List ℕ) (L : ℕ → Legs) (i x j : ℕ) : Typ
   pub later : (k : ℕ) → j ≤ k → k < i → are_neighbours (L k) (slice_index order k) x ≡ false
 
 -- the priority of x after the first i steps: it is computed anew only when a neighbour is contracted
-abbrev pub IsPriorityAfter : ℕ → ℕ → List ℕ → (ℕ → Legs) → ℕ → ℕ → ℤ → Type 0
-IsPriorityAfter n h order L i x p = (j : ℕ) × IsLastTouch order L i x j × IsPriority n h (L j) x p
+abbrev pub IsPriorityAfter : OrderBy → ℕ → ℕ → List ℕ → (ℕ → Legs) → ℕ → ℕ → ℤ → Type 0
+IsPriorityAfter by n h order L i x p = (j : ℕ) × IsLastTouch order L i x j × IsPriorityBy by n h (L j) (depth_after order L j) x p
 
 -- the lesser priority comes first, and of equal ones the lesser number
 abbrev pub IsContractedBefore : ℤ → ℕ → ℤ → ℕ → Type 0
 IsContractedBefore p v q x = (p ≤ℤ q) × (q ≤ℤ p → v ≤ x)
 
--- the order in which the nodes of g are contracted, with the legs L i that are left after the first i steps
-pub record IsOrder (g : Network) (h : ℕ) (order : List ℕ) (L : ℕ → Legs) : Type 0 where
+-- all nodes of g are contracted, each once and in any order, with the legs L i that are left after the first i steps
+pub record AreContracted (g : Network) (h : ℕ) (order : List ℕ) (L : ℕ → Legs) : Type 0 where
   pub nodes : (length order ≡ g.nodes) × All (λ v. v < g.nodes) order × AllPairs ◌≢◌ order
   pub start : SameLegs (L 0) (opening g)
   pub step : (i : ℕ) → i < g.nodes → Contracts g.nodes h (L i) (slice_index order i) (L (i + 1))
-  pub least : (i x : ℕ) → i < g.nodes → x < g.nodes → (Contains (take i order) x → ⊥) →
-      (p q : ℤ) × IsPriorityAfter g.nodes h order L i (slice_index order i) p × IsPriorityAfter g.nodes h order L i x q × IsContractedBefore p (slice_index order i) q x
+
+-- at each step the node comes before all that are left
+abbrev pub TakesFirst : OrderBy → Network → ℕ → List ℕ → (ℕ → Legs) → Type 0
+TakesFirst by g h order L = (i x : ℕ) → i < g.nodes → x < g.nodes → (Contains (take i order) x → ⊥) →
+    (p q : ℤ) × IsPriorityAfter by g.nodes h order L i (slice_index order i) p × IsPriorityAfter by g.nodes h order L i x q × IsContractedBefore p (slice_index order i) q x
+
+-- the order in which the nodes of g are contracted
+pub record IsOrderBy (by : OrderBy) (g : Network) (h : ℕ) (order : List ℕ) (L : ℕ → Legs) : Type 0 where
+  pub contracted : AreContracted g h order L
+  pub least : TakesFirst by g h order L
+
+-- the order by the number of shortcuts less that of legs
+abbrev pub IsOrder : Network → ℕ → List ℕ → (ℕ → Legs) → Type 0
+IsOrder g h order L = IsOrderBy Difference g h order L

@@ -1,20 +1,19 @@
--- The priorities that a queue holds, and the neighbours of a node.
+-- The priorities that a queue holds, where a relation says which number is the priority of a node, and the neighbours of a node.
 use Rattle.std.specs.Prelude.{◌≡◌, ℕ, ◌<◌, ◌==◌, Bool, not, List, ◌++◌, length, map, filter, Contains, Option, ℤ}
 use Rattle.std.specs.List.{list_any}
 use Rattle.ch_queue.specs.Queue.{key_of}
-use Rattle.ch_contract.specs.declared.leg.Leg.{Leg}
-use Rattle.ch_contract.specs.Legs.{Legs}
+use Rattle.ch_hierarchy.specs.declared.leg.Leg.{Leg}
 use Rattle.ch_contract.specs.Progress.{HasPriority}
 
--- the key of each of the n nodes is its priority with these legs
-pub record ArePriorities (n h : ℕ) (L : Legs) (keys : List (Option ℤ)) : Type 0 where
+-- the key of each of the n nodes is its priority
+pub record ArePriorities (IsOf : ℕ → ℤ → Type 0) (n : ℕ) (keys : List (Option ℤ)) : Type 0 where
   pub size : length keys ≡ n
-  pub each : (x : ℕ) → x < n → HasPriority n h L keys x
+  pub each : (x : ℕ) → x < n → HasPriority IsOf keys x
 
--- the keys of these nodes are their priorities with these legs, and the others stay
-pub record AreRefreshed (n h : ℕ) (L : Legs) (nodes : List ℕ) (before after : List (Option ℤ)) : Type 0 where
+-- the keys of these nodes are their priorities, and the others stay
+pub record AreRefreshed (IsOf : ℕ → ℤ → Type 0) (nodes : List ℕ) (before after : List (Option ℤ)) : Type 0 where
   pub size : length after ≡ length before
-  pub anew : (x : ℕ) → Contains nodes x → HasPriority n h L after x
+  pub anew : (x : ℕ) → Contains nodes x → HasPriority IsOf after x
   pub kept : (x : ℕ) → (Contains nodes x → ⊥) → key_of after x ≡ key_of before x
 
 -- whether a leg of this list has this node

@@ -2,25 +2,28 @@
 use Rattle.std.specs.Prelude.{◌≡◌, ◌≢◌, ℕ, ◌+◌, ◌<◌, true, false, List, [], ◌++◌, length, slice_set, Option, Some, None, ℤ}
 use Rattle.ch_queue.specs.Queue.{key_of}
 use Rattle.ch_graph.specs.Graph.{Network}
-use Rattle.ch_contract.specs.declared.leg.Leg.{Leg}
+use Rattle.ch_hierarchy.specs.declared.leg.Leg.{Leg}
+use Rattle.ch_contract.specs.declared.measure.OrderBy.{OrderBy}
 use Rattle.ch_contract.specs.Legs.{Legs, SameLegs, AreLegsWithin, opening}
-use Rattle.ch_contract.specs.Contraction.{Contracts, IsPriority}
-use Rattle.ch_contract.specs.Order.{are_neighbours, IsContractedBefore}
-use Rattle.ch_contract.specs.Rows.{row, AreLegsFrom, AreLegsTo}
-use Rattle.ch_contract.specs.Hierarchy.{LevelsAndLegs}
+use Rattle.ch_contract.specs.Contraction.{Contracts, IsPriorityBy}
+use Rattle.ch_contract.specs.Order.{are_neighbours, next_depth, IsContractedBefore}
+use Rattle.ch_hierarchy.specs.Rows.{row}
+use Rattle.ch_contract.specs.LegRows.{AreLegsFrom, AreLegsTo}
+use Rattle.ch_hierarchy.specs.Hierarchy.{LevelsAndLegs}
 
--- the legs that are left, a queue of the nodes that are left by their priorities, and the level and the rows of each contracted node
+-- the legs that are left, a queue of the nodes that are left by their priorities, how deep each node lies, and the level and the rows of each contracted node
 pub record Progress : Type 0 where
   pub legs : Legs
   pub keys : List (Option ℤ)
+  pub depth : ℕ → ℕ
   pub levels : List ℕ
   pub up : ℕ → List Leg
   pub down : ℕ → List Leg
   pub contracted : ℕ
 
--- the key of x is its priority with these legs
-abbrev pub HasPriority : ℕ → ℕ → Legs → List (Option ℤ) → ℕ → Type 0
-HasPriority n h L keys x = (p : ℤ) × (key_of keys x ≡ Some p) × IsPriority n h L x p
+-- the key of x is its priority, where this says which that is
+abbrev pub HasPriority : (ℕ → ℤ → Type 0) → List (Option ℤ) → ℕ → Type 0
+HasPriority IsOf keys x = (p : ℤ) × (key_of keys x ≡ Some p) × IsOf x p
 
 -- v has a key, and comes before all others that have one
 pub record IsNext (keys : List (Option ℤ)) (v : ℕ) : Type 0 where
@@ -29,16 +32,17 @@ pub record IsNext (keys : List (Option ℤ)) (v : ℕ) : Type 0 where
   pub first : (x : ℕ) (q : ℤ) → key_of keys x ≡ Some q → IsContractedBefore priority v q x
 
 -- no node is contracted yet
-pub record IsOpen (g : Network) (h : ℕ) (p : Progress) : Type 0 where
+pub record IsOpen (by : OrderBy) (g : Network) (h : ℕ) (p : Progress) : Type 0 where
   pub legs : SameLegs p.legs (opening g)
   pub limits : AreLegsWithin g.nodes (opening g)
   pub size : length p.keys ≡ g.nodes
-  pub priorities : (x : ℕ) → x < g.nodes → HasPriority g.nodes h (opening g) p.keys x
+  pub priorities : (x : ℕ) → x < g.nodes → HasPriority (IsPriorityBy by g.nodes h (opening g) p.depth) p.keys x
+  pub depths : (x : ℕ) → p.depth x ≡ 0
   pub rows : (x : ℕ) → (p.up x ≡ []) × (p.down x ≡ [])
   pub contracted : p.contracted ≡ 0
 
--- v is contracted: its rows are put in, its level is the number of contracted nodes, it leaves the queue, and its neighbours alone have new priorities
-pub record IsStep (n h : ℕ) (before : Progress) (v : ℕ) (after : Progress) : Type 0 where
+-- v is contracted: its rows are put in, its level is the number of contracted nodes, it leaves the queue, and its neighbours alone have new depths and priorities
+pub record IsStep (by : OrderBy) (n h : ℕ) (before : Progress) (v : ℕ) (after : Progress) : Type 0 where
   pub legs : Contracts n h before.legs v after.legs
   pub contracted : after.contracted ≡ before.contracted + 1
   pub levels : after.levels ≡ slice_set before.levels v after.contracted
@@ -47,7 +51,8 @@ pub record IsStep (n h : ℕ) (before : Progress) (v : ℕ) (after : Progress) :
   pub rows : (x : ℕ) → x ≢ v → (after.up x ≡ before.up x) × (after.down x ≡ before.down x)
   pub size : length after.keys ≡ length before.keys
   pub taken : key_of after.keys v ≡ None
-  pub anew : (x : ℕ) → are_neighbours before.legs v x ≡ true → HasPriority n h after.legs after.keys x
+  pub depths : (x : ℕ) → after.depth x ≡ next_depth before.legs v before.depth x
+  pub anew : (x : ℕ) → are_neighbours before.legs v x ≡ true → HasPriority (IsPriorityBy by n h after.legs after.depth) after.keys x
   pub kept : (x : ℕ) → x ≢ v → are_neighbours before.legs v x ≡ false → key_of after.keys x ≡ key_of before.keys x
 
 -- these levels and rows are those of all n nodes

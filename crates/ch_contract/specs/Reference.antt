@@ -6,13 +6,15 @@ use Rattle.ch_graph.specs.declared.limits.TheConstants.{MOST_WEIGHT}
 use Rattle.ch_graph.specs.declared.cost.Cost.{Cost}
 use Rattle.ch_graph.specs.Cost.{cost_sum, no_cost}
 use Rattle.ch_graph.specs.Graph.{Network}
-use Rattle.ch_contract.specs.declared.leg.Leg.{Leg}
+use Rattle.ch_hierarchy.specs.declared.leg.Leg.{Leg}
+use Rattle.ch_contract.specs.declared.measure.OrderBy.{OrderBy}
+use Rattle.ch_contract.specs.declared.measure.OrderBy.TheVariants.{Difference}
 use Rattle.ch_contract.specs.declared.shortcut.Shortcut.{Shortcut}
 use Rattle.ch_contract.specs.Legs.{Label, Legs, opening}
-use Rattle.ch_contract.specs.Contraction.{contracted, touching}
-use Rattle.ch_contract.specs.Order.{are_neighbours}
-use Rattle.ch_contract.specs.Rows.{row}
-use Rattle.ch_contract.specs.Hierarchy.{LevelsAndLegs, nodes_of}
+use Rattle.ch_contract.specs.Contraction.{legs_after_contraction, count_touching, key_by}
+use Rattle.ch_contract.specs.Order.{are_neighbours, next_depth}
+use Rattle.ch_hierarchy.specs.Rows.{row}
+use Rattle.ch_hierarchy.specs.Hierarchy.{LevelsAndLegs, nodes_of}
 
 abbrev pub is_at_most : Cost → Cost → Bool
 is_at_most a b = nat_lt a.weight b.weight || (a.weight == b.weight && nat_le a.arcs b.arcs)
@@ -55,7 +57,11 @@ abbrev pub shortcuts_of : ℕ → ℕ → Legs → ℕ → List Shortcut
 shortcuts_of n h L v = flat_map (λ u. flat_map (λ w. shortcut_between n h L v u w (L u v) (L v w)) (range_with_len 0 n)) (range_with_len 0 n)
 
 abbrev pub priority_of : ℕ → ℕ → Legs → ℕ → ℤ
-priority_of n h L v = pos (length (shortcuts_of n h L v)) -ℤ pos (touching n L v)
+priority_of n h L v = pos (length (shortcuts_of n h L v)) -ℤ pos (count_touching n L v)
+
+-- the priority in an order, where nodes lie so deep
+abbrev pub priority_by : OrderBy → ℕ → ℕ → Legs → (ℕ → ℕ) → ℕ → ℤ
+priority_by by n h L depth v = key_by by (length (shortcuts_of n h L v)) (count_touching n L v) (depth v)
 
 -- the nodes that are left, each after its priority
 abbrev pub Waiting : Type 0
@@ -69,8 +75,8 @@ first_of a [] = a
 first_of a (b ∷ list) = first_of (if comes_first b a then b else a) list
 
 -- the others, the priorities of v's neighbours computed anew
-abbrev pub refreshed : ℕ → ℕ → Legs → Legs → ℕ → Waiting → Waiting
-refreshed n h before after v list = map (λ e. if are_neighbours before v e.1 then (priority_of n h after e.1, e.1) else e) (filter (λ e. not (e.1 == v)) list)
+abbrev pub waiting_after : OrderBy → ℕ → ℕ → Legs → Legs → (ℕ → ℕ) → ℕ → Waiting → Waiting
+waiting_after by n h before after depth v list = map (λ e. if are_neighbours before v e.1 then (priority_by by n h after depth e.1, e.1) else e) (filter (λ e. not (e.1 == v)) list)
 
 abbrev pub legs_in_order : ℕ → (ℕ → Option Label) → List Leg
 legs_in_order n f = filter_map (λ x. option_map (λ l. record { node = x; cost = l.cost; middle = l.middle }) (f x)) (range_with_len 0 n)
@@ -82,20 +88,24 @@ pub record ContractedNode : Type 0 where
   pub up : List Leg
   pub down : List Leg
 
-abbrev pub steps_from : ℕ → ℕ → ℕ → Legs → Waiting → List ContractedNode
-steps_from zero n h L list = []
-steps_from (suc k) n h L [] = []
-steps_from (suc k) n h L (e ∷ list) =
+abbrev pub steps_from : OrderBy → ℕ → ℕ → ℕ → Legs → (ℕ → ℕ) → Waiting → List ContractedNode
+steps_from by zero n h L depth list = []
+steps_from by (suc k) n h L depth [] = []
+steps_from by (suc k) n h L depth (e ∷ list) =
     let first : ℤ × ℕ = first_of e list in
-    let M : Legs = contracted L first.1 (shortcuts_of n h L first.1) in
-    record { node = first.1; priority = first.0; up = legs_in_order n (λ x. L first.1 x); down = legs_in_order n (λ x. L x first.1) } ∷ steps_from k n h M (refreshed n h L M first.1 (e ∷ list))
+    let M : Legs = legs_after_contraction L first.1 (shortcuts_of n h L first.1) in
+    let deeper : ℕ → ℕ = next_depth L first.1 depth in
+    record { node = first.1; priority = first.0; up = legs_in_order n (λ x. L first.1 x); down = legs_in_order n (λ x. L x first.1) } ∷ steps_from by k n h M deeper (waiting_after by n h L M deeper first.1 (e ∷ list))
 
 -- the steps of contracting all nodes in order
-abbrev pub steps_of : Network → ℕ → List ContractedNode
-steps_of g h = steps_from g.nodes g.nodes h (opening g) (map (λ v. (priority_of g.nodes h (opening g) v, v)) (range_with_len 0 g.nodes))
+abbrev pub steps_by : OrderBy → Network → ℕ → List ContractedNode
+steps_by by g h = steps_from by g.nodes g.nodes h (opening g) (λ v. 0) (map (λ v. (priority_by by g.nodes h (opening g) (λ x. 0) v, v)) (range_with_len 0 g.nodes))
+
+abbrev pub order_by : OrderBy → Network → ℕ → List (ℤ × ℕ)
+order_by by g h = map (λ s. (s.priority, s.node)) (steps_by by g h)
 
 abbrev pub order_of : Network → ℕ → List (ℤ × ℕ)
-order_of g h = map (λ s. (s.priority, s.node)) (steps_of g h)
+order_of g h = order_by Difference g h
 
 abbrev pub step_at : List ContractedNode → ℕ → ContractedNode
 step_at steps v = unwrap_or (find (λ s. s.node == v) steps) (record { node = v; priority = pos 0; up = []; down = [] })
@@ -104,14 +114,17 @@ abbrev pub level_at : List ContractedNode → ℕ → ℕ
 level_at [] v = 0
 level_at (s ∷ steps) v = if s.node == v then 1 else 1 + level_at steps v
 
-abbrev pub hierarchy_of : Network → ℕ → LevelsAndLegs
-hierarchy_of g h =
-    let steps : List ContractedNode = steps_of g h in
+abbrev pub hierarchy_by : OrderBy → Network → ℕ → LevelsAndLegs
+hierarchy_by by g h =
+    let steps : List ContractedNode = steps_by by g h in
     record {
       level = map (level_at steps) (range_with_len 0 g.nodes);
       up = map (λ v. (step_at steps v).up) (range_with_len 0 g.nodes);
       down = map (λ v. (step_at steps v).down) (range_with_len 0 g.nodes);
     }
+
+abbrev pub hierarchy_of : Network → ℕ → LevelsAndLegs
+hierarchy_of g h = hierarchy_by Difference g h
 
 abbrev pub cheapest_of : List (Option Cost) → Option Cost
 cheapest_of [] = None

@@ -1,8 +1,9 @@
 -- What contracts see of the legs among the nodes that are left.
 use Rattle.std.specs.Prelude.{ℕ, List}
-use Rattle.ch_contract.specs.declared.leg.Leg.{Leg}
+use Rattle.ch_hierarchy.specs.declared.leg.Leg.{Leg}
 use Rattle.ch_contract.specs.Legs.{Legs}
-use Rattle.ch_contract.specs.Rows.{row, row_leg}
+use Rattle.ch_hierarchy.specs.Rows.{row}
+use Rattle.ch_contract.specs.LegRows.{row_leg}
 
 -- the number of nodes of the input graph, and for each of them the legs from it that are left
 pub record RemainingLegs : Type 0 where

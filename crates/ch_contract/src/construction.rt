@@ -1,25 +1,25 @@
 //! The hierarchy of a graph, made by contracting one node after the other.
-ghost use Rattle.std.specs.Prelude.{◌≡◌, ◌<◌, ◌++◌, IfOk, OnOk, map};
+ghost use Rattle.std.specs.Prelude.{◌≡◌, ◌<◌, ◌≤◌, ◌++◌, IfOk, OnOk, map};
 ghost use Rattle.ch_graph.specs.Graph.{IsWithinLimits};
 ghost use Rattle.ch_contract.specs.Legs.{IsHopBound};
-ghost use Rattle.ch_contract.specs.Hierarchy.{IsHierarchy};
-ghost use Rattle.ch_contract.specs.Kept.{IsKept};
+ghost use Rattle.ch_contract.specs.Built.{IsHierarchy, IsHierarchyBy};
+ghost use Rattle.ch_hierarchy.specs.Kept.{IsKept};
 
-use crate::hierarchy::Hierarchy;
-use crate::leg::Leg;
-use crate::order::neighbours;
+use crate::measure::OrderBy;
+use crate::order::{deepen, neighbours};
 use crate::priority::{PriorityJob, opening_queue};
 use crate::remaining::Remaining;
 use crate::room::Room;
 use ch_graph::{Graph, Rows};
+use ch_hierarchy::{Hierarchy, Leg};
 use ch_queue::KeyQueue;
 use ch_work::{Gate, Plan};
 use std::alloc::{AllocError, Global};
 use std::thread::Threads;
 
-/// The contraction hierarchy of a graph, where a witness has at most `hops` legs. The next node to be
-/// contracted is always the one of least priority, and of these the least numbered; only the neighbours
-/// of a contracted node get their priorities computed anew.
+/// The contraction hierarchy of a graph by the difference, where a witness has at most `hops` legs. The next
+/// node to be contracted is always the one of least priority, and of these the least numbered; only the
+/// neighbours of a contracted node get their priorities computed anew.
 ///
 /// Workers share the opening priorities, and those of a step's neighbours where there are at least
 /// `plan.wide()` of them, each batch a job of its own (see [`run_pieces`](ch_work::run_pieces)): they
@@ -41,11 +41,30 @@ pub fn build<R: Threads + Sync, G: Gate>(
     ensures kept { IfOk result (IsKept graph.now) }
     ensures limits { IsWithinLimits graph.now }
 {
+    build_by(rt, alloc, graph, hops, OrderBy::Difference, plan, gate)
+}
+
+/// The contraction hierarchy of a graph in this order, where a witness has at most `hops` legs. In each order it
+/// is kept for the graph, so distances are the same. For workers and errors see [`build`].
+pub fn build_by<R: Threads + Sync, G: Gate>(
+    rt: &R,
+    alloc: Global,
+    graph: &Graph,
+    hops: u32,
+    by: OrderBy,
+    plan: &Plan,
+    gate: &G,
+) -> Result<Hierarchy, AllocError>
+    requires hops { IsHopBound hops }
+    ensures hierarchy { IfOk result (IsHierarchyBy by graph.now hops) }
+    ensures kept { IfOk result (IsKept graph.now) }
+    ensures limits { IsWithinLimits graph.now }
+{
     // The getter tells the proof that the graph keeps the limits.
     let _ = graph.arcs();
-    let mut construction = Construction::open(rt, alloc, graph, hops, plan, gate)?;
+    let mut construction = Construction::open(rt, alloc, graph, hops, by, plan, gate)?;
     while let Some(node) = construction.next() {
-        construction = construction.contract(rt, alloc, node, hops, plan, gate)?;
+        construction = construction.contract(rt, alloc, node, hops, by, plan, gate)?;
     }
     construction.finish(alloc)
 }
@@ -59,6 +78,8 @@ struct Construction {
     room: Room,
     /// The nodes that are left, by their priorities.
     waiting: KeyQueue<i64>,
+    /// How deep each node lies.
+    depths: Vec<u32>,
     /// The level of each contracted node.
     levels: Vec<u32>,
     /// Each contracted node with each leg from it.
@@ -70,11 +91,11 @@ struct Construction {
 }
 
 impl Construction {
-    ghost use Rattle.std.specs.Prelude.{MatchOption};
+    ghost use Rattle.std.specs.Prelude.{MatchOption, slice_index};
     ghost use Rattle.ch_queue.specs.Queue.{HasNone};
     ghost use Rattle.ch_contract.specs.Legs.{AreLegsWithin};
     ghost use Rattle.ch_contract.specs.Remaining.{legs_of};
-    ghost use Rattle.ch_contract.specs.Hierarchy.{LevelsAndLegs, IsLevelled};
+    ghost use Rattle.ch_hierarchy.specs.Hierarchy.{LevelsAndLegs, IsLevelled};
     ghost use Rattle.ch_contract.specs.Progress.{AreAll, IsNext, IsOpen, IsStep};
     ghost use Rattle.ch_contract.specs.Construction.{IsSized, IsJudging, progress_of};
 
@@ -84,24 +105,36 @@ impl Construction {
         alloc: Global,
         graph: &Graph,
         hops: u32,
+        by: OrderBy,
         plan: &Plan,
         gate: &G,
     ) -> Result<Construction, AllocError>
         requires { IsHopBound hops }
         ensures sizes { IfOk result IsSized }
         ensures nodes { IfOk result (λ c. c.remaining.nodes ≡ graph.now.nodes) }
-        ensures begun { IfOk result (λ c. IsOpen graph.now hops (progress_of c)) }
+        ensures begun { IfOk result (λ c. IsOpen by graph.now hops (progress_of c)) }
         ensures ready { IfOk result (IsJudging hops) }
     {
         let remaining = Remaining::open(alloc, graph)?;
         let nodes = remaining.nodes();
-        let waiting = opening_queue(rt, alloc, &remaining, hops, plan, gate)?;
+        let depths = vec![in alloc; 0; nodes as usize]?;
+        let waiting = opening_queue(
+            rt,
+            alloc,
+            &remaining,
+            depths.as_slice(),
+            hops,
+            by,
+            plan,
+            gate,
+        )?;
         let room = Room::new(alloc);
         let levels = vec![in alloc; 0; nodes as usize]?;
         Ok(Construction {
             remaining,
             room,
             waiting,
+            depths,
             levels,
             ups: Vec::new(alloc),
             downs: Vec::new(alloc),
@@ -124,6 +157,7 @@ impl Construction {
         alloc: Global,
         node: u32,
         hops: u32,
+        by: OrderBy,
         plan: &Plan,
         gate: &G,
     ) -> Result<Construction, AllocError>
@@ -131,11 +165,12 @@ impl Construction {
         requires limits { AreLegsWithin self.remaining.nodes (legs_of self.remaining) }
         requires node { node < self.remaining.nodes }
         requires count { self.contracted < self.remaining.nodes }
+        requires depth { slice_index self.depths.items node ≤ self.contracted }
         requires ready { IsJudging hops self }
         requires hops { IsHopBound hops }
         ensures sizes { IfOk result IsSized }
         ensures nodes { IfOk result (λ c. c.remaining.nodes ≡ self.remaining.nodes) }
-        ensures step { IfOk result (λ c. IsStep self.remaining.nodes hops (progress_of self) node (progress_of c)) }
+        ensures step { IfOk result (λ c. IsStep by self.remaining.nodes hops (progress_of self) node (progress_of c)) }
         ensures ready { IfOk result (IsJudging hops) }
     {
         let remaining = self.remaining;
@@ -143,9 +178,12 @@ impl Construction {
         self.remaining = remaining;
         let _ = self.waiting.remove(node);
         let neighbours = neighbours(alloc, removed.up.as_slice(), removed.down.as_slice())?;
+        deepen(&mut self.depths, neighbours.as_slice(), node);
         let job = PriorityJob {
             remaining: &self.remaining,
+            depths: self.depths.as_slice(),
             hops,
+            by,
         };
         job.refresh(
             rt,
@@ -173,6 +211,7 @@ impl Construction {
             remaining,
             room,
             waiting,
+            depths,
             levels,
             ups,
             downs,
@@ -182,6 +221,7 @@ impl Construction {
         drop(remaining);
         drop(room);
         drop(waiting);
+        drop(depths);
         let up_rows = Rows::build(alloc, nodes, ups.as_slice())?;
         drop(ups);
         let down_rows = Rows::build(alloc, nodes, downs.as_slice())?;

@@ -1,8 +1,6 @@
 //! Laws, each the contract of a function that does nothing, and worked examples of the definitions.
 
 pub mod keeping;
-pub mod kept;
 pub mod one_order;
 pub mod reference;
-pub mod saved;
 pub mod worked;

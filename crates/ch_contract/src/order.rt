@@ -1,8 +1,9 @@
-//! The neighbours of a contracted node.
-ghost use Rattle.std.specs.Prelude.{◌≡◌, IfOk};
+//! The neighbours of a contracted node, and their depths.
+ghost use Rattle.std.specs.Prelude.{◌≡◌, ◌+◌, ◌<◌, ◌^◌, All, IfOk, length, slice_index};
 ghost use Rattle.ch_contract.specs.Priorities.{has_node, neighbours_in};
+ghost use Rattle.ch_contract.specs.Measures.{AreDeepened};
 
-use crate::leg::Leg;
+use ch_hierarchy::Leg;
 use std::alloc::{AllocError, Global};
 
 /// The nodes of the legs from a node and of those to it, each once.
@@ -24,4 +25,18 @@ fn has_node(legs: &[Leg], node: u32) -> bool
     ensures { result ≡ has_node legs.now node }
 {
     legs.iter().any(|leg| leg.node == node)
+}
+
+/// Lays these nodes deeper than the one that was contracted, unless they lie so already.
+pub(crate) fn deepen(depths: &mut [u32], nodes: &[u32], contracted: u32)
+    requires nodes { All (λ x. x < length depths.old) nodes.now }
+    requires contracted { contracted < length depths.old }
+    requires room { slice_index depths.old contracted + 1 < 2 ^ 32 }
+    ensures { AreDeepened nodes.now (slice_index depths.old contracted + 1) depths.old depths.new }
+{
+    let deep = depths[contracted as usize] + 1;
+    for node in nodes {
+        let place = *node as usize;
+        depths[place] = depths[place].max(deep);
+    }
 }

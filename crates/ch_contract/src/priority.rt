@@ -2,11 +2,12 @@
 ghost use Rattle.std.specs.Prelude.{◌≡◌, ◌^◌, ◌<◌, length, All, IfOk, OnOk};
 ghost use Rattle.std.specs.List.{AllZip, range_with_len};
 ghost use Rattle.ch_contract.specs.Legs.{IsHopBound};
-ghost use Rattle.ch_contract.specs.Contraction.{IsPriority};
+ghost use Rattle.ch_contract.specs.Measures.{IsPriorityIn};
 ghost use Rattle.ch_contract.specs.Rooms.{IsReady};
 ghost use Rattle.ch_contract.specs.Remaining.{legs_of};
 ghost use Rattle.ch_contract.specs.Priorities.{ArePriorities, AreRefreshed};
 
+use crate::measure::OrderBy;
 use crate::remaining::Remaining;
 use crate::room::Room;
 use ch_queue::KeyQueue;
@@ -19,15 +20,23 @@ pub(crate) fn opening_queue<R: Threads + Sync, G: Gate>(
     rt: &R,
     alloc: Global,
     remaining: &Remaining,
+    depths: &[u32],
     hops: u32,
+    by: OrderBy,
     plan: &Plan,
     gate: &G,
 ) -> Result<KeyQueue<i64>, AllocError>
-    requires { IsHopBound hops }
-    ensures { IfOk result (ArePriorities remaining.now.nodes hops (legs_of remaining.now)) }
+    requires hops { IsHopBound hops }
+    requires depths { length depths.now ≡ remaining.now.nodes }
+    ensures { IfOk result (ArePriorities (IsPriorityIn by remaining.now hops depths.now) remaining.now.nodes) }
 {
     let nodes = all_nodes(alloc, remaining.nodes())?;
-    let job = PriorityJob { remaining, hops };
+    let job = PriorityJob {
+        remaining,
+        depths,
+        hops,
+        by,
+    };
     let priorities = run_list(rt, alloc, nodes.as_slice(), plan, gate, &job)?;
     let mut waiting = KeyQueue::new(alloc, remaining.nodes())?;
     job.set_all(nodes.as_slice(), priorities.as_slice(), &mut waiting);
@@ -41,12 +50,15 @@ fn all_nodes(alloc: Global, nodes: u32) -> Result<Vec<u32>, AllocError>
     (0..nodes).collect(alloc)
 }
 
-/// The priorities of nodes, with the legs that are left.
+/// The priorities of nodes, with the legs that are left, where nodes lie so deep.
 #[derive(Drop)]
 pub(crate) struct PriorityJob<'a> {
     pub(crate) remaining: &'a Remaining,
+    pub(crate) depths: &'a [u32],
     pub(crate) hops: u32,
+    pub(crate) by: OrderBy,
     ghost bound: { IsHopBound hops },
+    ghost size: { length depths.now ≡ remaining.now.nodes },
 }
 
 impl ListJob for PriorityJob<'_> {
@@ -58,7 +70,7 @@ impl ListJob for PriorityJob<'_> {
 
     ghost takes = { λ job x. x < job.remaining.now.nodes };
 
-    ghost meaning = { λ job x p. IsPriority job.remaining.now.nodes job.hops (legs_of job.remaining.now) x p };
+    ghost meaning = { λ job x p. IsPriorityIn job.by job.remaining.now job.hops job.depths.now x p };
 
     ghost clean = { λ job room. IsReady job.remaining.now.nodes job.hops (legs_of job.remaining.now) room };
 
@@ -68,11 +80,24 @@ impl ListJob for PriorityJob<'_> {
 
     fn value(&self, alloc: Global, room: &mut Room, item: &u32) -> Result<i64, AllocError> {
         room.forget();
-        room.judge(alloc, self.remaining, *item, self.hops)
+        self.priority(alloc, room, *item)
     }
 }
 
 impl PriorityJob<'_> {
+    /// The priority of a node, judged in this room.
+    fn priority(&self, alloc: Global, room: &mut Room, node: u32) -> Result<i64, AllocError>
+        requires node { node < self.now.remaining.now.nodes }
+        requires ready { IsReady self.now.remaining.now.nodes self.now.hops (legs_of self.now.remaining.now) room.old }
+        ensures priority { IfOk result
+            (IsPriorityIn self.now.by self.now.remaining.now self.now.hops self.now.depths.now node) }
+        ensures ready { OnOk result (IsReady self.now.remaining.now.nodes self.now.hops
+            (legs_of self.now.remaining.now) room.new) }
+    {
+        let measure = room.judge(alloc, self.remaining, node, self.hops)?;
+        Ok(self.by.key(measure, self.depths[node as usize]))
+    }
+
     /// Gives these nodes the priorities that they have now. Where there are at least `plan.wide()` of them,
     /// they are cut into pieces, which workers share and which pass the gate. A lone worker, and one that
     /// does the only piece, stays in the caller's room.
@@ -90,8 +115,9 @@ impl PriorityJob<'_> {
         requires count { length nodes.now < 2 ^ 32 }
         requires size { length waiting.old ≡ self.now.remaining.now.nodes }
         requires ready { IsReady self.now.remaining.now.nodes self.now.hops (legs_of self.now.remaining.now) room.old }
-        ensures anew { OnOk result (AreRefreshed self.now.remaining.now.nodes self.now.hops
-            (legs_of self.now.remaining.now) nodes.now waiting.old waiting.new) }
+        ensures anew { OnOk result (AreRefreshed
+            (IsPriorityIn self.now.by self.now.remaining.now self.now.hops self.now.depths.now)
+            nodes.now waiting.old waiting.new) }
         ensures ready { OnOk result (IsReady self.now.remaining.now.nodes self.now.hops
             (legs_of self.now.remaining.now) room.new) }
     {
@@ -127,13 +153,14 @@ impl PriorityJob<'_> {
         requires nodes { All (λ x. x < self.now.remaining.now.nodes) nodes.now }
         requires size { length waiting.old ≡ self.now.remaining.now.nodes }
         requires ready { IsReady self.now.remaining.now.nodes self.now.hops (legs_of self.now.remaining.now) room.old }
-        ensures anew { OnOk result (AreRefreshed self.now.remaining.now.nodes self.now.hops
-            (legs_of self.now.remaining.now) nodes.now waiting.old waiting.new) }
+        ensures anew { OnOk result (AreRefreshed
+            (IsPriorityIn self.now.by self.now.remaining.now self.now.hops self.now.depths.now)
+            nodes.now waiting.old waiting.new) }
         ensures ready { OnOk result (IsReady self.now.remaining.now.nodes self.now.hops
             (legs_of self.now.remaining.now) room.new) }
     {
         for node in nodes {
-            let priority = room.judge(alloc, self.remaining, *node, self.hops)?;
+            let priority = self.priority(alloc, room, *node)?;
             waiting.set(*node, priority);
         }
         Ok(())
@@ -142,11 +169,11 @@ impl PriorityJob<'_> {
     /// Gives each of these nodes its priority, which stands at the same place.
     fn set_all(&self, nodes: &[u32], priorities: &[i64], waiting: &mut KeyQueue<i64>)
         requires nodes { All (λ x. x < self.now.remaining.now.nodes) nodes.now }
-        requires priorities { AllZip (IsPriority self.now.remaining.now.nodes self.now.hops
-            (legs_of self.now.remaining.now)) nodes.now priorities.now }
+        requires priorities { AllZip (IsPriorityIn self.now.by self.now.remaining.now self.now.hops self.now.depths.now)
+            nodes.now priorities.now }
         requires size { length waiting.old ≡ self.now.remaining.now.nodes }
-        ensures { AreRefreshed self.now.remaining.now.nodes self.now.hops
-            (legs_of self.now.remaining.now) nodes.now waiting.old waiting.new }
+        ensures { AreRefreshed (IsPriorityIn self.now.by self.now.remaining.now self.now.hops self.now.depths.now)
+            nodes.now waiting.old waiting.new }
     {
         for (node, priority) in nodes.iter().zip(priorities) {
             waiting.set(*node, *priority);

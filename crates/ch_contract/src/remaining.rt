@@ -1,7 +1,7 @@
 //! The legs among the nodes that are left.
 
+mod candidates;
 mod contraction;
-mod joining;
 mod light;
 mod opening;
 mod shortcuts;
@@ -9,14 +9,14 @@ mod witnesses;
 
 ghost use Rattle.std.specs.Prelude.{◌≡◌, ◌<◌, ◌≤◌, IsTrue};
 ghost use Rattle.ch_graph.specs.declared.limits.TheConstants.{MOST_NODES};
-ghost use Rattle.ch_contract.specs.declared.head.TheConstants.{MOST_LIGHT};
+ghost use Rattle.ch_contract.specs.declared.held_cost.TheConstants.{MOST_LIGHT};
 ghost use Rattle.ch_contract.specs.Legs.{AreLegsWithin};
-ghost use Rattle.ch_contract.specs.Rows.{AreLegsFrom, AreLegsTo};
-ghost use Rattle.ch_contract.specs.Heads.{AreLegsUpTo};
+ghost use Rattle.ch_contract.specs.LegRows.{AreLegsFrom, AreLegsTo};
+ghost use Rattle.ch_contract.specs.KnownCosts.{AreLegsUpTo};
 ghost use Rattle.ch_contract.specs.Remaining.{legs_of};
 
-use crate::leg::Leg;
-use crate::lists::LegLists;
+use crate::leg_lists::LegLists;
+use ch_hierarchy::Leg;
 pub use contraction::Removed;
 use std::alloc::Global;
 use std::marker::Model;
@@ -39,9 +39,9 @@ pub struct Remaining {
 
 impl Model for Remaining {
     ghost use Rattle.std.specs.Prelude.{IsTrue};
-    ghost use Rattle.ch_contract.specs.declared.head.TheConstants.{MOST_LIGHT};
+    ghost use Rattle.ch_contract.specs.declared.held_cost.TheConstants.{MOST_LIGHT};
     ghost use Rattle.ch_contract.specs.Remaining.{RemainingLegs};
-    ghost use Rattle.ch_contract.specs.Heads.{AreLegsUpTo};
+    ghost use Rattle.ch_contract.specs.KnownCosts.{AreLegsUpTo};
     ghost use Rattle.ch_contract.specs.LegLists.{IsWithinLimits, legs_from};
 
     ghost Value = { RemainingLegs };

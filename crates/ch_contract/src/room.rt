@@ -1,21 +1,23 @@
 //! The room in which nodes are judged.
 ghost use Rattle.std.specs.Prelude.{◌≡◌, ℕ, ◌<◌, ◌++◌, ◌∷◌, [], length, IfOk, IfSome, OnOk, slice_index};
 ghost use Rattle.ch_contract.specs.Legs.{Legs, IsHopBound};
-ghost use Rattle.ch_contract.specs.Contraction.{Contracts, IsPriority};
-ghost use Rattle.ch_contract.specs.Rows.{AreLegsFrom, AreLegsTo};
+ghost use Rattle.ch_contract.specs.Contraction.{Contracts};
+ghost use Rattle.ch_contract.specs.LegRows.{AreLegsFrom, AreLegsTo};
+ghost use Rattle.ch_contract.specs.Measures.{IsMeasure};
 ghost use Rattle.ch_contract.specs.Remaining.{legs_of};
 ghost use Rattle.ch_contract.specs.Rooms.{AreIdle};
 
+use crate::measure::Measure;
 use crate::remaining::{Remaining, Removed};
-use crate::searches::Searches;
 use crate::shortcut::Shortcut;
+use crate::witness_searches::WitnessSearches;
 use std::alloc::{AllocError, Global};
 
 /// The room in which one worker judges nodes. It keeps the shortcuts of those that it has judged with the
 /// legs that are left now.
 #[derive(Drop)]
 pub(crate) struct Room {
-    pub(crate) searches: Searches,
+    pub(crate) searches: WitnessSearches,
     /// The nodes that are judged.
     pub(crate) judged: Vec<u32>,
     /// Their shortcuts, at the same places. The lists after these are spare.
@@ -30,7 +32,7 @@ impl Room {
         ensures { (n h : ℕ) (L : Legs) → IsReady n h L result }
     {
         Room {
-            searches: Searches::new(alloc),
+            searches: WitnessSearches::new(alloc),
             judged: Vec::new(alloc),
             lists: Vec::new(alloc),
         }
@@ -43,18 +45,18 @@ impl Room {
         self.judged.clear();
     }
 
-    /// Judges a node, and keeps its shortcuts. The answer is its priority.
+    /// Judges a node, and keeps its shortcuts. The answer is how many these are, and how many legs touch it.
     pub(crate) fn judge(
         &mut self,
         alloc: Global,
         remaining: &Remaining,
         node: u32,
         hops: u32,
-    ) -> Result<i64, AllocError>
+    ) -> Result<Measure, AllocError>
         requires node { node < remaining.now.nodes }
         requires hops { IsHopBound hops }
         requires ready { IsReady remaining.now.nodes hops (legs_of remaining.now) self.old }
-        ensures priority { IfOk result (IsPriority remaining.now.nodes hops (legs_of remaining.now) node) }
+        ensures measure { IfOk result (IsMeasure remaining.now.nodes hops (legs_of remaining.now) node) }
         ensures ready { OnOk result (IsReady remaining.now.nodes hops (legs_of remaining.now) self.new) }
         ensures judged { OnOk result (self.new.judged.items ≡ self.old.judged.items ++ node ∷ []) }
     {
@@ -63,9 +65,9 @@ impl Room {
             self.lists.push(Vec::new(alloc))?;
         }
         let list = &mut self.lists[place];
-        let priority = self.searches.priority(alloc, remaining, list, node, hops)?;
+        let measure = self.searches.measure(alloc, remaining, list, node, hops)?;
         self.judged.push(node)?;
-        Ok(priority)
+        Ok(measure)
     }
 
     /// Contracts a node with the shortcuts that it has. Those of all nodes are forgotten, since the legs are others

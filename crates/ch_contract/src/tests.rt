@@ -2,10 +2,10 @@
 //! refusal of memory leaves.
 
 mod calls;
+mod depth;
 mod examples;
 mod hierarchies;
 mod long_shortcut;
 mod refusals;
-mod saved;
 mod searches;
 mod workers;

@@ -11,3 +11,5 @@ pub mod Ranges
 pub mod KeyCounts
 pub mod Placing
 pub mod RowsBetween
+pub mod StableRows
+pub mod SortedValues

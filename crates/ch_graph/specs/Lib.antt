@@ -5,4 +5,5 @@ pub mod Walk
 pub mod WalkLaws
 pub mod Relaxing
 pub mod Rows
+pub mod Sorting
 pub mod Saved

@@ -1,7 +1,7 @@
 -- What is answered to queries.
 use Rattle.std.specs.Prelude.{◌≡◌, ℕ, ◌<◌, Bool, true, false, List, All, Option, Some, None}
 use Rattle.ch_graph.specs.declared.arc.InArc.{InArc}
-use Rattle.ch_contract.specs.Hierarchy.{LevelsAndLegs}
+use Rattle.ch_hierarchy.specs.Hierarchy.{LevelsAndLegs}
 use Rattle.ch_query.specs.declared.answer.Answer.{Answer}
 use Rattle.ch_query.specs.Distance.{IsDistanceBy, IsLeastWeight}
 use Rattle.ch_query.specs.Routes.{IsRoute}

@@ -6,14 +6,14 @@ use Rattle.ch_graph.specs.declared.saved.SavedLeg.{SavedLeg}
 use Rattle.ch_graph.specs.Graph.{Network}
 use Rattle.ch_graph.specs.Saved.{OrderAndLegs}
 use Rattle.ch_graph.specs.Cost.{IsAtMost, cost_sum}
-use Rattle.ch_contract.specs.declared.leg.Leg.{Leg}
-use Rattle.ch_contract.specs.declared.fault.CheckFault.{CheckFault}
-use Rattle.ch_contract.specs.declared.fault.CheckError.{CheckError}
-use Rattle.ch_contract.specs.declared.fault.CheckError.TheVariants.{NoMemory}
-use Rattle.ch_contract.specs.Rows.{row}
-use Rattle.ch_contract.specs.Hierarchy.{LevelsAndLegs}
-use Rattle.ch_contract.specs.Kept.{IsLeg, HasLegWithin}
-use Rattle.ch_contract.specs.Saved.{HasFault}
+use Rattle.ch_hierarchy.specs.declared.leg.Leg.{Leg}
+use Rattle.ch_hierarchy.specs.declared.fault.CheckFault.{CheckFault}
+use Rattle.ch_hierarchy.specs.declared.fault.CheckError.{CheckError}
+use Rattle.ch_hierarchy.specs.declared.fault.CheckError.TheVariants.{NoMemory}
+use Rattle.ch_hierarchy.specs.Rows.{row}
+use Rattle.ch_hierarchy.specs.Hierarchy.{LevelsAndLegs}
+use Rattle.ch_hierarchy.specs.Kept.{IsLeg, HasLegWithin}
+use Rattle.ch_hierarchy.specs.Saved.{HasFault}
 
 -- none of the seven faults is there
 abbrev pub IsFaultless : Network → OrderAndLegs → Type 0

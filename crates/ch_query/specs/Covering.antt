@@ -3,26 +3,26 @@ use Rattle.std.specs.Prelude.{◌≡◌, ◌≢◌, ℕ, ◌<◌, Contains, Bool
 use Rattle.ch_graph.specs.declared.limits.TheConstants.{MOST_WEIGHT}
 use Rattle.ch_graph.specs.declared.cost.Cost.{Cost}
 use Rattle.ch_graph.specs.Cost.{IsAtMost, IsBelow, cost_sum, cost_at}
-use Rattle.ch_contract.specs.Hierarchy.{LevelsAndLegs, nodes_of}
-use Rattle.ch_contract.specs.Kept.{MeetsWithin, IsCovered}
-use Rattle.ch_contract.specs.declared.leg.Leg.{Leg}
-use Rattle.ch_contract.specs.Rows.{row}
+use Rattle.ch_hierarchy.specs.Hierarchy.{LevelsAndLegs, nodes_of}
+use Rattle.ch_hierarchy.specs.Kept.{MeetsWithin, IsCovered}
+use Rattle.ch_hierarchy.specs.declared.leg.Leg.{Leg}
+use Rattle.ch_hierarchy.specs.Rows.{row}
 use Rattle.ch_query.specs.declared.search.Search.{Search}
 use Rattle.ch_query.specs.declared.covering.Shown.{Shown}
-use Rattle.ch_query.specs.declared.covering.Shown.TheVariants.{Joined, Settled, Past}
+use Rattle.ch_query.specs.declared.covering.Shown.TheVariants.{Connected, Settled, Past}
 use Rattle.ch_query.specs.Search.{IsSettled, IsUpwardCost}
 use Rattle.ch_query.specs.Side.{rows_of}
 use Rattle.ch_query.specs.Underway.{IsUnderway}
 
-abbrev pub joined : Shown → Bool
-joined Joined = true
-joined Settled = false
-joined Past = false
+abbrev pub is_connected : Shown → Bool
+is_connected Connected = true
+is_connected Settled = false
+is_connected Past = false
 
-abbrev pub settled : Shown → Bool
-settled Joined = false
-settled Settled = true
-settled Past = false
+abbrev pub is_settled : Shown → Bool
+is_settled Connected = false
+is_settled Settled = true
+is_settled Past = false
 
 -- where the leg a and one up from v lead between nodes that differ, going up and down costs no more
 abbrev pub IsCoveredFrom : LevelsAndLegs → ℕ → Leg → Type 0
@@ -39,8 +39,8 @@ abbrev pub IsPastCost : List (Option Cost) → Cost → Type 0
 IsPastCost queue most = (v : ℕ) (d : Cost) → cost_at queue v ≡ Some d → IsBelow most d
 
 -- two searches reach some node, at no more than this together
-abbrev pub AreJoined : LevelsAndLegs → Search → Search → Cost → Type 0
-AreJoined H x y most =
+abbrev pub AreConnected : LevelsAndLegs → Search → Search → Cost → Type 0
+AreConnected H x y most =
     (v : ℕ) × (a b : Cost) × IsUpwardCost (rows_of H x.side) x.source v a × IsUpwardCost (rows_of H y.side) y.source v b × IsAtMost (cost_sum a b) most
 
 -- two searches underway within the limits alone that stall nowhere, and each node that both settled costs more than this together

@@ -3,10 +3,10 @@ use Rattle.std.specs.Prelude.{◌≡◌, ℕ, Option, MatchOption}
 use Rattle.ch_graph.specs.declared.cost.Cost.{Cost}
 use Rattle.ch_graph.specs.Graph.{Network, IsWithinLimits}
 use Rattle.ch_graph.specs.Walk.{IsAnswer}
-use Rattle.ch_contract.specs.Hierarchy.{LevelsAndLegs}
-use Rattle.ch_contract.specs.Paths.{NeverMeets}
-use Rattle.ch_contract.specs.Kept.{IsKept}
-use Rattle.ch_contract.specs.KeptLaws.{IsLeastMeeting}
+use Rattle.ch_hierarchy.specs.Hierarchy.{LevelsAndLegs}
+use Rattle.ch_hierarchy.specs.Paths.{NeverMeets}
+use Rattle.ch_hierarchy.specs.Kept.{IsKept}
+use Rattle.ch_hierarchy.specs.KeptLaws.{IsLeastMeeting}
 
 -- the hierarchy is right for some graph
 abbrev pub IsKeptForSome : LevelsAndLegs → Type 0

@@ -1,7 +1,7 @@
 -- Answers within a limit: a greatest weight that is asked for, or none.
 use Rattle.std.specs.Prelude.{◌≡◌, ℕ, ◌≤◌, Option, Some, None, ⊤}
 use Rattle.ch_graph.specs.declared.limits.TheConstants.{MOST_WEIGHT}
-use Rattle.ch_contract.specs.Hierarchy.{LevelsAndLegs}
+use Rattle.ch_hierarchy.specs.Hierarchy.{LevelsAndLegs}
 use Rattle.ch_query.specs.Distance.{IsDistanceBy, IsLeastWeight}
 
 -- there is no limit, or the weight is at most the limit

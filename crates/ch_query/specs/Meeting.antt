@@ -3,7 +3,7 @@ use Rattle.std.specs.Prelude.{◌≡◌, ℕ, ◌⊎◌, true, Option, Some, Non
 use Rattle.ch_graph.specs.declared.limits.TheConstants.{MOST_WEIGHT}
 use Rattle.ch_graph.specs.declared.cost.Cost.{Cost}
 use Rattle.ch_graph.specs.Cost.{cost_sum}
-use Rattle.ch_contract.specs.Hierarchy.{LevelsAndLegs}
+use Rattle.ch_hierarchy.specs.Hierarchy.{LevelsAndLegs}
 use Rattle.ch_query.specs.declared.search.Search.{Search}
 use Rattle.ch_query.specs.Search.{IsSettled, IsUpwardCost}
 use Rattle.ch_query.specs.TwoSided.{MeetsFirst, IsSeen}
@@ -17,9 +17,9 @@ pub record IsFirst (least : Option (Cost × ℕ)) (new : Cost × ℕ) (result : 
   pub covers_old : (d : Cost × ℕ) → least ≡ Some d → (e : Cost × ℕ) × (result ≡ Some e) × MeetsFirst e d
 
 -- what becomes of the least sum at v, reached at c here, and there perhaps
-abbrev pub IsMet : Option Cost → ℕ → Cost → Option (Cost × ℕ) → Option (Cost × ℕ) → Type 0
-IsMet None v c least result = result ≡ least
-IsMet (Some d) v c least result = IsFirst least (cost_sum c d, v) result
+abbrev pub IsLeastAfter : Option Cost → ℕ → Cost → Option (Cost × ℕ) → Option (Cost × ℕ) → Type 0
+IsLeastAfter None v c least result = result ≡ least
+IsLeastAfter (Some d) v c least result = IsFirst least (cost_sum c d, v) result
 
 -- what is known is the sum of two paths
 abbrev pub IsFoundBy : LevelsAndLegs → Search → Search → Option (Cost × ℕ) → Type 0

@@ -2,9 +2,9 @@
 use Rattle.std.specs.Prelude.{◌≡◌, ◌≢◌, ℕ, ◌+◌, ◌≤◌, ◌⊎◌, List, length, slice_index, Contains, Option, Some}
 use Rattle.ch_graph.specs.declared.cost.Cost.{Cost}
 use Rattle.ch_graph.specs.Cost.{cost_sum, cost_at}
-use Rattle.ch_contract.specs.declared.leg.Leg.{Leg}
-use Rattle.ch_contract.specs.Rows.{row}
-use Rattle.ch_contract.specs.Paths.{IsLeastUpwardPath}
+use Rattle.ch_hierarchy.specs.declared.leg.Leg.{Leg}
+use Rattle.ch_hierarchy.specs.Rows.{row}
+use Rattle.ch_hierarchy.specs.Paths.{IsLeastUpwardPath}
 use Rattle.ch_query.specs.Search.{IsSettled}
 
 -- a leg from p, settled at cost c, gives x its cost

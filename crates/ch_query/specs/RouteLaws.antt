@@ -2,8 +2,8 @@
 use Rattle.std.specs.Prelude.{◌≡◌, ℕ}
 use Rattle.ch_graph.specs.Graph.{Network, IsWithinLimits}
 use Rattle.ch_graph.specs.Walk.{weight_of}
-use Rattle.ch_contract.specs.Hierarchy.{LevelsAndLegs, IsLevelled}
-use Rattle.ch_contract.specs.Kept.{IsKept}
+use Rattle.ch_hierarchy.specs.Hierarchy.{LevelsAndLegs, IsLevelled}
+use Rattle.ch_hierarchy.specs.Kept.{IsKept}
 use Rattle.ch_query.specs.declared.routes.Route.{Route}
 use Rattle.ch_query.specs.Routes.{IsRoute, IsLeastWalk}
 

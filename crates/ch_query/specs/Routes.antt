@@ -4,11 +4,11 @@ use Rattle.ch_graph.specs.declared.arc.InArc.{InArc}
 use Rattle.ch_graph.specs.declared.cost.Cost.{Cost}
 use Rattle.ch_graph.specs.Graph.{Network, IsWithinLimits}
 use Rattle.ch_graph.specs.Walk.{IsWalk, IsLeast, IsUnreachable, cost_of, weight_of}
-use Rattle.ch_contract.specs.declared.leg.Leg.{Leg}
-use Rattle.ch_contract.specs.Rows.{row}
-use Rattle.ch_contract.specs.Hierarchy.{LevelsAndLegs}
-use Rattle.ch_contract.specs.Paths.{IsMeet}
-use Rattle.ch_contract.specs.Kept.{IsKept}
+use Rattle.ch_hierarchy.specs.declared.leg.Leg.{Leg}
+use Rattle.ch_hierarchy.specs.Rows.{row}
+use Rattle.ch_hierarchy.specs.Hierarchy.{LevelsAndLegs}
+use Rattle.ch_hierarchy.specs.Paths.{IsMeet}
+use Rattle.ch_hierarchy.specs.Kept.{IsKept}
 use Rattle.ch_query.specs.declared.routes.Route.{Route}
 use Rattle.ch_query.specs.Parents.{IsChosen}
 

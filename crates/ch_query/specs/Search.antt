@@ -4,9 +4,9 @@ use Rattle.std.specs.List.{count_by}
 use Rattle.ch_graph.specs.declared.limits.TheConstants.{MOST_WEIGHT}
 use Rattle.ch_graph.specs.declared.cost.Cost.{Cost}
 use Rattle.ch_graph.specs.Cost.{IsAtMost, IsBelow, cost_sum, no_cost, cost_at}
-use Rattle.ch_contract.specs.declared.leg.Leg.{Leg}
-use Rattle.ch_contract.specs.Rows.{row}
-use Rattle.ch_contract.specs.Paths.{IsUpwardPath, path_cost}
+use Rattle.ch_hierarchy.specs.declared.leg.Leg.{Leg}
+use Rattle.ch_hierarchy.specs.Rows.{row}
+use Rattle.ch_hierarchy.specs.Paths.{IsUpwardPath, path_cost}
 
 -- v was taken out of the queue at cost c
 abbrev pub IsSettled : List (Option Cost) → List (Option Cost) → ℕ → Cost → Type 0
@@ -70,8 +70,8 @@ abbrev pub IsEmpty : List (Option Cost) → Type 0
 IsEmpty queue = (v : ℕ) (c : Cost) → cost_at queue v ≡ Some c → ⊥
 
 -- how many nodes are not reached or in the queue
-abbrev pub unsettled : List (Option Cost) → List (Option Cost) → ℕ
-unsettled best queue = count_by is_none best + count_by is_some queue
+abbrev pub count_unsettled : List (Option Cost) → List (Option Cost) → ℕ
+count_unsettled best queue = count_by is_none best + count_by is_some queue
 
 -- the cost of w is unknown or more than d
 pub record WouldLower (best : List (Option Cost)) (w : ℕ) (d : Cost) : Type 0 where

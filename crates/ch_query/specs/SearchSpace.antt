@@ -1,10 +1,10 @@
 -- What a search to higher nodes answers that stalls: weights of paths, and among them those of all least walks.
 use Rattle.std.specs.Prelude.{◌≡◌, ℕ, ◌<◌, List, AllPairs, Contains, Option}
 use Rattle.ch_graph.specs.declared.cost.Cost.{Cost}
-use Rattle.ch_contract.specs.declared.leg.Leg.{Leg}
-use Rattle.ch_contract.specs.Hierarchy.{LevelsAndLegs}
-use Rattle.ch_contract.specs.Paths.{IsUp, IsDown}
-use Rattle.ch_contract.specs.KeptLaws.{IsLeastMeeting}
+use Rattle.ch_hierarchy.specs.declared.leg.Leg.{Leg}
+use Rattle.ch_hierarchy.specs.Hierarchy.{LevelsAndLegs}
+use Rattle.ch_hierarchy.specs.Paths.{IsUp, IsDown}
+use Rattle.ch_hierarchy.specs.KeptLaws.{IsLeastMeeting}
 use Rattle.ch_query.specs.declared.side.Side.{Side}
 use Rattle.ch_query.specs.declared.side.Side.TheVariants.{Up, Down}
 use Rattle.ch_query.specs.Limits.{IsWithin}

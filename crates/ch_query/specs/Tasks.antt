@@ -1,6 +1,6 @@
 -- What workers share when they answer queries.
 use Rattle.std.specs.Prelude.{Bool}
-use Rattle.ch_contract.specs.Hierarchy.{LevelsAndLegs}
+use Rattle.ch_hierarchy.specs.Hierarchy.{LevelsAndLegs}
 
 -- a hierarchy in which queries are answered, and whether routes are wanted
 pub record Task : Type 0 where

@@ -4,14 +4,14 @@ use Rattle.std.specs.List.{count_by}
 use Rattle.std.specs.declared.alloc.Global.{Global}
 use Rattle.ch_graph.specs.declared.limits.TheConstants.{MOST_WEIGHT}
 use Rattle.ch_graph.specs.declared.cost.Cost.{Cost}
-use Rattle.ch_contract.specs.declared.leg.Leg.{Leg}
-use Rattle.ch_contract.specs.Hierarchy.{LevelsAndLegs, nodes_of, IsLevelled}
+use Rattle.ch_hierarchy.specs.declared.leg.Leg.{Leg}
+use Rattle.ch_hierarchy.specs.Hierarchy.{LevelsAndLegs, nodes_of, IsLevelled}
 use Rattle.ch_query.specs.declared.side.Side.{Side}
 use Rattle.ch_query.specs.declared.search.Search.{Search}
 use Rattle.ch_query.specs.Side.{rows_of, other}
 use Rattle.ch_query.specs.Parents.{AreParents, IsNoEarlier}
 use Rattle.ch_graph.specs.Cost.{cost_at}
-use Rattle.ch_query.specs.Search.{IsSettled, IsSearch, IsExpanding, OrNode, IsStalled, IsEmpty, IsRelaxedFrom, Relaxes, unsettled}
+use Rattle.ch_query.specs.Search.{IsSettled, IsSearch, IsExpanding, OrNode, IsStalled, IsEmpty, IsRelaxedFrom, Relaxes, count_unsettled}
 
 -- the legs by which a search that stalls sees a cheaper way: those from higher nodes back to a node
 abbrev pub back_of : LevelsAndLegs → Side → Bool → List (List Leg)
@@ -34,8 +34,8 @@ pub record IsRoom (x : Search) : Type 0 where
   pub most : x.most ≤ MOST_WEIGHT
 
 -- how many nodes are not settled
-abbrev pub unsettled_in : Search → ℕ
-unsettled_in x = unsettled x.costs.items x.queue
+abbrev pub count_unsettled_in : Search → ℕ
+count_unsettled_in x = count_unsettled x.costs.items x.queue
 
 -- of the same direction and source and for paths of as much weight, and both stall or neither does
 pub record IsSameSearch (x y : Search) : Type 0 where
@@ -90,7 +90,7 @@ pub record IsPartlyExpanded (H : LevelsAndLegs) (x y : Search) (v : ℕ) (c : Co
   pub relaxed : (l : Leg) → Contains legs l → IsRelaxedFrom y.most y.costs.items c l × IsNoEarlier y.most y.costs.items y.parents.items v c l
   pub settled : KeepsSettled x y
   pub stays : KeepsSettled y x
-  pub measure : unsettled_in y ≡ unsettled_in x
+  pub measure : count_unsettled_in y ≡ count_unsettled_in x
 
 -- a search for n nodes in which nothing is left of an earlier one
 pub record IsClean (n : ℕ) (x : Search) : Type 0 where

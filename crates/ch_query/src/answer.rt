@@ -2,14 +2,14 @@
 ghost use Rattle.std.specs.Prelude.{◌≡◌, ◌≤◌, ◌<◌, length, All, true, IfOk};
 ghost use Rattle.std.specs.List.{AllZip};
 ghost use Rattle.ch_graph.specs.declared.limits.TheConstants.{MOST_QUERIES};
-ghost use Rattle.ch_contract.specs.Hierarchy.{nodes_of};
+ghost use Rattle.ch_hierarchy.specs.Hierarchy.{nodes_of};
 ghost use Rattle.ch_query.specs.Distance.{IsKeptForSome};
 ghost use Rattle.ch_query.specs.Answers.{AreQueries, IsReply};
 
 use crate::query::{distance, route};
 use crate::scratch::Scratch;
-use ch_contract::Hierarchy;
 use ch_graph::InArc;
+use ch_hierarchy::Hierarchy;
 use ch_work::{Gate, ListJob, Plan, run_list};
 use std::alloc::{AllocError, Global};
 use std::marker::Model;

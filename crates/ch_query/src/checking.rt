@@ -1,17 +1,17 @@
 //! Whether a saved hierarchy, of any origin, is right for a graph.
 ghost use Rattle.std.specs.Prelude.{IfOk, MatchOption};
-ghost use Rattle.ch_contract.specs.declared.fault.CheckFault.{CheckFault as AnyFault};
-ghost use Rattle.ch_contract.specs.declared.fault.CheckFault.TheVariants as CheckFault;
-ghost use Rattle.ch_contract.specs.declared.fault.CheckError.TheVariants as CheckError;
-ghost use Rattle.ch_contract.specs.Kept.{IsKept};
-ghost use Rattle.ch_contract.specs.Saved.{IsFirstFault, NamesFor, NamesKept, AnswersWhere};
+ghost use Rattle.ch_hierarchy.specs.declared.fault.CheckFault.{CheckFault as AnyFault};
+ghost use Rattle.ch_hierarchy.specs.declared.fault.CheckFault.TheVariants as CheckFault;
+ghost use Rattle.ch_hierarchy.specs.declared.fault.CheckError.TheVariants as CheckError;
+ghost use Rattle.ch_hierarchy.specs.Kept.{IsKept};
+ghost use Rattle.ch_hierarchy.specs.Saved.{IsFirstFault, NamesFor, NamesKept, AnswersWhere};
 ghost use Rattle.ch_query.specs.Checking.{IsOkWhere, IsFaultless};
 
 use crate::founding::{first_false_shortcut, first_unserved, first_without_arc};
 use crate::lower::first_uncovered;
 use crate::scratch::Scratch;
-use ch_contract::{CheckError, CheckFault, Hierarchy, assemble};
 use ch_graph::{Graph, Saved};
+use ch_hierarchy::{CheckError, CheckFault, Hierarchy, assemble};
 use std::alloc::{AllocError, Global};
 
 /// The hierarchy that a saved one names, where it is right for the graph: its distances and routes are

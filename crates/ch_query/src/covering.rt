@@ -3,23 +3,23 @@ ghost use Rattle.std.specs.Prelude.{◌≡◌, ◌+◌, ◌<◌, ◌≤◌, ◌�
 ghost use Rattle.ch_graph.specs.declared.limits.TheConstants.{MOST_WEIGHT, MOST_PATH_ARCS};
 ghost use Rattle.ch_graph.specs.declared.cost.Cost.{Cost as CostOf};
 ghost use Rattle.ch_graph.specs.Cost.{IsAtMost, IsBelow, cost_at, cost_sum};
-ghost use Rattle.ch_contract.specs.Hierarchy.{nodes_of};
-ghost use Rattle.ch_contract.specs.Kept.{MeetsWithin};
+ghost use Rattle.ch_hierarchy.specs.Hierarchy.{nodes_of};
+ghost use Rattle.ch_hierarchy.specs.Kept.{MeetsWithin};
 ghost use Rattle.ch_query.specs.declared.side.Side.TheVariants.{Up, Down};
 ghost use Rattle.ch_query.specs.declared.covering.Shown.TheVariants as Shown;
-ghost use Rattle.ch_query.specs.Underway.{unsettled_in, IsSameSearch, IsUnderway, IsClean};
-ghost use Rattle.ch_query.specs.Covering.{joined, settled, IsPastCost, AreJoined, AreApart};
+ghost use Rattle.ch_query.specs.Underway.{count_unsettled_in, IsSameSearch, IsUnderway, IsClean};
+ghost use Rattle.ch_query.specs.Covering.{is_connected, is_settled, IsPastCost, AreConnected, AreApart};
 
 use crate::search::{Search, is_below};
-use ch_contract::Hierarchy;
 use ch_graph::Cost;
+use ch_hierarchy::Hierarchy;
 use ch_queue::KeyQueue;
 
 /// What a step of two searches shows.
 #[derive(Clone, Copy)]
 enum Shown {
     /// Both reach some node within the bound.
-    Joined,
+    Connected,
     /// One more node is settled.
     Settled,
     /// No node is left within the bound.
@@ -27,21 +27,21 @@ enum Shown {
 }
 
 impl Shown {
-    fn is_joined(self) -> bool
-        ensures { result ≡ joined self }
+    fn is_connected(self) -> bool
+        ensures { result ≡ is_connected self }
     {
         match self {
-            Shown::Joined => true,
+            Shown::Connected => true,
             Shown::Settled | Shown::Past => false,
         }
     }
 
     fn is_settled(self) -> bool
-        ensures { result ≡ settled self }
+        ensures { result ≡ is_settled self }
     {
         match self {
             Shown::Settled => true,
-            Shown::Joined | Shown::Past => false,
+            Shown::Connected | Shown::Past => false,
         }
     }
 }
@@ -57,11 +57,11 @@ fn is_past(queue: &KeyQueue<Cost>, most: Cost) -> bool
 }
 
 /// Whether `cost` at `node` here and what is known there are within the bound.
-fn joins(hierarchy: &Hierarchy, there: &Search, node: u32, cost: Cost, most: Cost) -> bool
+fn connects(hierarchy: &Hierarchy, there: &Search, node: u32, cost: Cost, most: Cost) -> bool
     requires there { IsUnderway hierarchy.now there.now }
     requires node { node < nodes_of hierarchy.now }
     requires cost { (cost.weight ≤ MOST_WEIGHT) × (cost.arcs ≤ MOST_PATH_ARCS) }
-    ensures joined { result ≡ true → (d : CostOf) × (cost_at there.now.costs.items node ≡ Some d) × IsAtMost (cost_sum cost d) most }
+    ensures connected { result ≡ true → (d : CostOf) × (cost_at there.now.costs.items node ≡ Some d) × IsAtMost (cost_sum cost d) most }
     ensures apart { result ≡ false → (d : CostOf) → cost_at there.now.costs.items node ≡ Some d → IsBelow most (cost_sum cost d) }
 {
     match there.costs[node as usize] {
@@ -71,15 +71,21 @@ fn joins(hierarchy: &Hierarchy, there: &Search, node: u32, cost: Cost, most: Cos
 }
 
 /// Whether a leg of `node`, whose legs were taken, leads to a node that both reach within the bound.
-fn joins_by_leg(hierarchy: &Hierarchy, here: &Search, there: &Search, node: u32, most: Cost) -> bool
+fn connects_by_leg(
+    hierarchy: &Hierarchy,
+    here: &Search,
+    there: &Search,
+    node: u32,
+    most: Cost,
+) -> bool
     requires here { IsUnderway hierarchy.now here.now }
     requires there { IsUnderway hierarchy.now there.now }
     requires node { node < nodes_of hierarchy.now }
-    ensures { result ≡ true → AreJoined hierarchy.now here.now there.now most }
+    ensures { result ≡ true → AreConnected hierarchy.now here.now there.now most }
 {
     for leg in here.side.legs(hierarchy, node) {
         if let Some(cost) = here.costs[leg.node as usize] {
-            if joins(hierarchy, there, leg.node, cost, most) {
+            if connects(hierarchy, there, leg.node, cost, most) {
                 return true;
             }
         }
@@ -92,10 +98,10 @@ fn advance(hierarchy: &Hierarchy, here: &mut Search, there: &Search, most: Cost)
     requires apart { AreApart hierarchy.now here.old there.now most }
     ensures same { IsSameSearch here.old here.new }
     ensures underway { IsUnderway hierarchy.now here.new }
-    ensures joined { joined result ≡ true → AreJoined hierarchy.now here.new there.now most }
-    ensures apart { joined result ≡ false → AreApart hierarchy.now here.new there.now most }
-    ensures fewer { unsettled_in here.new ≤ unsettled_in here.old }
-    ensures settled { settled result ≡ true → unsettled_in here.new < unsettled_in here.old }
+    ensures connected { is_connected result ≡ true → AreConnected hierarchy.now here.new there.now most }
+    ensures apart { is_connected result ≡ false → AreApart hierarchy.now here.new there.now most }
+    ensures fewer { count_unsettled_in here.new ≤ count_unsettled_in here.old }
+    ensures settled { is_settled result ≡ true → count_unsettled_in here.new < count_unsettled_in here.old }
     ensures past { result ≡ Shown.Past → (here.new ≡ here.old) × IsPastCost here.old.queue most }
 {
     if is_past(&here.queue, most) {
@@ -105,11 +111,11 @@ fn advance(hierarchy: &Hierarchy, here: &mut Search, there: &Search, most: Cost)
         return Shown::Past;
     };
     here.settle(hierarchy, node, cost);
-    if joins(hierarchy, there, node, cost, most) {
-        return Shown::Joined;
+    if connects(hierarchy, there, node, cost, most) {
+        return Shown::Connected;
     }
-    if joins_by_leg(hierarchy, here, there, node, most) {
-        return Shown::Joined;
+    if connects_by_leg(hierarchy, here, there, node, most) {
+        return Shown::Connected;
     }
     Shown::Settled
 }
@@ -119,15 +125,15 @@ fn step(hierarchy: &Hierarchy, up: &mut Search, down: &mut Search, most: Cost) -
     requires apart { AreApart hierarchy.now up.old down.old most }
     ensures up { IsSameSearch up.old up.new × IsUnderway hierarchy.now up.new }
     ensures down { IsSameSearch down.old down.new × IsUnderway hierarchy.now down.new }
-    ensures joined { joined result ≡ true → AreJoined hierarchy.now up.new down.new most }
-    ensures settled { settled result ≡ true → AreApart hierarchy.now up.new down.new most × (unsettled_in up.new + unsettled_in down.new < unsettled_in up.old + unsettled_in down.old) }
+    ensures connected { is_connected result ≡ true → AreConnected hierarchy.now up.new down.new most }
+    ensures settled { is_settled result ≡ true → AreApart hierarchy.now up.new down.new most × (count_unsettled_in up.new + count_unsettled_in down.new < count_unsettled_in up.old + count_unsettled_in down.old) }
     ensures past { result ≡ Shown.Past → AreApart hierarchy.now up.new down.new most × IsPastCost up.new.queue most × IsPastCost down.new.queue most }
 {
     match advance(hierarchy, up, down, most) {
-        Shown::Joined => Shown::Joined,
+        Shown::Connected => Shown::Connected,
         Shown::Settled => {
-            if advance(hierarchy, down, up, most).is_joined() {
-                return Shown::Joined;
+            if advance(hierarchy, down, up, most).is_connected() {
+                return Shown::Connected;
             }
             Shown::Settled
         }
@@ -161,5 +167,5 @@ pub(crate) fn meets_within(
     }
     up.clean();
     down.clean();
-    shown.is_joined()
+    shown.is_connected()
 }

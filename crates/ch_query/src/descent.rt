@@ -7,7 +7,7 @@ use crate::legs::leg_at;
 use crate::search::Search;
 use crate::side::Side;
 use crate::unpacking::PendingLeg;
-use ch_contract::{Hierarchy, Leg};
+use ch_hierarchy::{Hierarchy, Leg};
 
 /// The leg of a step up from `low` on this side, as a walk takes it.
 fn directed(side: Side, low: u32, leg: Leg) -> PendingLeg

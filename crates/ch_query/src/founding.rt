@@ -3,14 +3,14 @@ ghost use Rattle.std.specs.Prelude.{◌<◌, ◌↔◌, All, Contains, IfOk, IsT
 ghost use Rattle.ch_graph.specs.declared.arc.InArc.{InArc as AnyArc};
 ghost use Rattle.ch_graph.specs.declared.saved.SavedLeg.{SavedLeg as LegOfFile};
 ghost use Rattle.ch_graph.specs.Graph.{Network};
-ghost use Rattle.ch_contract.specs.Hierarchy.{nodes_of};
-ghost use Rattle.ch_contract.specs.Assembling.{IsFirstFailing};
+ghost use Rattle.ch_hierarchy.specs.Hierarchy.{nodes_of};
+ghost use Rattle.ch_hierarchy.specs.Assembling.{IsFirstFailing};
 ghost use Rattle.ch_query.specs.Checking.{AreArcRows, IsArcIfBase, IsSumOver, IsSumIfShortcut, IsServed};
 
 use crate::arcs::{arc_rows, has_arc};
 use crate::legs::{cost_in_row, is_leg_within};
-use ch_contract::Hierarchy;
 use ch_graph::{Cost, Graph, InArc, Rows, SavedLeg};
+use ch_hierarchy::Hierarchy;
 use std::alloc::{AllocError, Global};
 
 /// The place of the first leg without a middle that is no arc of the graph.

@@ -1,13 +1,13 @@
 //! Legs of a row.
 ghost use Rattle.std.specs.Prelude.{◌≡◌, ◌<◌, ◌↔◌, Contains, IsTrue};
-ghost use Rattle.ch_contract.specs.Hierarchy.{nodes_of};
-ghost use Rattle.ch_contract.specs.Rows.{IsRow};
-ghost use Rattle.ch_contract.specs.declared.leg.Leg.{Leg as RowLeg};
+ghost use Rattle.ch_hierarchy.specs.Hierarchy.{nodes_of};
+ghost use Rattle.ch_hierarchy.specs.Rows.{IsRow};
+ghost use Rattle.ch_hierarchy.specs.declared.leg.Leg.{Leg as RowLeg};
 ghost use Rattle.ch_query.specs.Checking.{HasLeg, IsRowCost, IsLegCost};
 
 use crate::search::is_below;
-use ch_contract::{Hierarchy, Leg};
 use ch_graph::Cost;
+use ch_hierarchy::{Hierarchy, Leg};
 
 /// The leg of the row at `node`, which it has, by binary search.
 pub(crate) fn leg_at(row: &[Leg], node: u32) -> Leg

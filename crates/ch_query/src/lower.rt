@@ -1,15 +1,15 @@
 //! Pairs of legs through a lower node.
 ghost use Rattle.std.specs.Prelude.{◌≡◌, ◌<◌, ◌↔◌, ℕ, Contains, IsTrue, MatchOption};
-ghost use Rattle.ch_contract.specs.Hierarchy.{nodes_of};
-ghost use Rattle.ch_contract.specs.Kept.{MeetsWithin, IsCovered};
-ghost use Rattle.ch_contract.specs.Rows.{row};
+ghost use Rattle.ch_hierarchy.specs.Hierarchy.{nodes_of};
+ghost use Rattle.ch_hierarchy.specs.Kept.{MeetsWithin, IsCovered};
+ghost use Rattle.ch_hierarchy.specs.Rows.{row};
 ghost use Rattle.ch_query.specs.Covering.{IsCoveredFrom, IsFirstUncovered};
 
 use crate::covering::meets_within;
 use crate::legs::is_leg_within;
 use crate::scratch::Scratch;
-use ch_contract::{Hierarchy, Leg};
 use ch_graph::Cost;
+use ch_hierarchy::{Hierarchy, Leg};
 
 /// Whether going from `start` up and down to `end` costs at most `most`. Mostly a leg shows it.
 fn is_pair_covered(

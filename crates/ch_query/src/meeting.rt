@@ -1,18 +1,18 @@
 //! Two searches that meet.
 ghost use Rattle.std.specs.Prelude.{◌≡◌, ◌+◌, ◌<◌, ◌≤◌, true, false, MatchOption};
 ghost use Rattle.ch_graph.specs.declared.limits.TheConstants.{MOST_WEIGHT, MOST_PATH_ARCS};
-ghost use Rattle.ch_contract.specs.Hierarchy.{nodes_of};
-ghost use Rattle.ch_contract.specs.Paths.{IsMeet, NeverMeets};
+ghost use Rattle.ch_hierarchy.specs.Hierarchy.{nodes_of};
+ghost use Rattle.ch_hierarchy.specs.Paths.{IsMeet, NeverMeets};
 ghost use Rattle.ch_query.specs.declared.side.Side.TheVariants.{Up, Down};
 ghost use Rattle.ch_query.specs.Distance.{IsKeptForSome};
 ghost use Rattle.ch_graph.specs.Cost.{cost_at};
-ghost use Rattle.ch_query.specs.Underway.{unsettled_in, IsSameSearch, IsUnderway, IsClean};
+ghost use Rattle.ch_query.specs.Underway.{count_unsettled_in, IsSameSearch, IsUnderway, IsClean};
 ghost use Rattle.ch_query.specs.TwoSided.{IsPast};
-ghost use Rattle.ch_query.specs.Meeting.{IsMet, IsFirst, AreMeeting};
+ghost use Rattle.ch_query.specs.Meeting.{IsLeastAfter, IsFirst, AreMeeting};
 
 use crate::search::{Search, is_below};
-use ch_contract::Hierarchy;
 use ch_graph::Cost;
+use ch_hierarchy::Hierarchy;
 use ch_queue::KeyQueue;
 
 /// The first of the two, by cost and then by node.
@@ -38,7 +38,7 @@ fn met(
     requires there { IsUnderway hierarchy.now there.now }
     requires node { node < nodes_of hierarchy.now }
     requires cost { (cost.weight ≤ MOST_WEIGHT) × (cost.arcs ≤ MOST_PATH_ARCS) }
-    ensures { IsMet (cost_at there.now.costs.items node) node cost least result }
+    ensures { IsLeastAfter (cost_at there.now.costs.items node) node cost least result }
 {
     match there.costs[node as usize] {
         Some(known) => first(least, cost.plus(known), node),
@@ -67,7 +67,7 @@ fn advance(
     requires meeting { AreMeeting hierarchy.now here.old there.now least.old }
     ensures meeting { AreMeeting hierarchy.now here.new there.now least.new }
     ensures same { IsSameSearch here.old here.new }
-    ensures less { result ≡ true → unsettled_in here.new < unsettled_in here.old }
+    ensures less { result ≡ true → count_unsettled_in here.new < count_unsettled_in here.old }
     ensures stopped { result ≡ false → (here.new ≡ here.old) × (least.new ≡ least.old) × IsPast here.old.queue least.old }
 {
     if is_past(&here.queue, *least) {
@@ -92,7 +92,7 @@ fn step(
     ensures meeting { AreMeeting hierarchy.now up.new down.new least.new }
     ensures up { IsSameSearch up.old up.new }
     ensures down { IsSameSearch down.old down.new }
-    ensures less { result ≡ true → unsettled_in up.new + unsettled_in down.new < unsettled_in up.old + unsettled_in down.old }
+    ensures less { result ≡ true → count_unsettled_in up.new + count_unsettled_in down.new < count_unsettled_in up.old + count_unsettled_in down.old }
     ensures stopped { result ≡ false → IsPast up.new.queue least.new × IsPast down.new.queue least.new }
 {
     let rising = advance(hierarchy, up, down, least);

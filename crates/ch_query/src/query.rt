@@ -1,7 +1,7 @@
 //! Distances and routes between two nodes.
 ghost use Rattle.std.specs.Prelude.{◌≡◌, ◌<◌, length, IfOk, MatchOption, Some, ⊤};
-ghost use Rattle.ch_contract.specs.Hierarchy.{nodes_of};
-ghost use Rattle.ch_contract.specs.Paths.{IsMeet, NeverMeets};
+ghost use Rattle.ch_hierarchy.specs.Hierarchy.{nodes_of};
+ghost use Rattle.ch_hierarchy.specs.Paths.{IsMeet, NeverMeets};
 ghost use Rattle.ch_query.specs.declared.side.Side.TheVariants.{Up, Down};
 ghost use Rattle.ch_query.specs.declared.routes.Route.{Route as FoundRoute};
 ghost use Rattle.ch_query.specs.TwoSided.{IsPast};
@@ -16,8 +16,8 @@ use crate::routes::Route;
 use crate::scratch::Scratch;
 use crate::search::Search;
 use crate::unpacking::unpack;
-use ch_contract::Hierarchy;
 use ch_graph::Cost;
+use ch_hierarchy::Hierarchy;
 use std::alloc::{AllocError, Global};
 
 /// The least weight of a walk from `start` to `end`, or `None` where there is no walk. The hierarchy is

@@ -2,15 +2,15 @@
 ghost use Rattle.std.specs.Prelude.{◌≡◌, ◌+◌, ◌^◌, ◌<◌, ◌≤◌, ◌↔◌, length, slice_set, Some, true, false, IsTrue, IfOk};
 ghost use Rattle.ch_graph.specs.declared.limits.TheConstants.{MOST_WEIGHT};
 ghost use Rattle.ch_graph.specs.Cost.{IsBelow};
-ghost use Rattle.ch_contract.specs.Hierarchy.{nodes_of};
+ghost use Rattle.ch_hierarchy.specs.Hierarchy.{nodes_of};
 ghost use Rattle.ch_query.specs.Limits.{IsMost};
-ghost use Rattle.ch_query.specs.Underway.{idle_of, unsettled_in, IsTouched, IsRoom, RelaxesIn, IsSameSearch, IsUnderway, IsExpandingAt, KeepsSettled, IsClean};
+ghost use Rattle.ch_query.specs.Underway.{idle_of, count_unsettled_in, IsTouched, IsRoom, RelaxesIn, IsSameSearch, IsUnderway, IsExpandingAt, KeepsSettled, IsClean};
 ghost use Rattle.ch_query.specs.Meeting.{IsFresh};
 
 use crate::side::Side;
-use ch_contract::{Hierarchy, Leg};
 use ch_graph::Cost;
 use ch_graph::limits::MOST_WEIGHT;
+use ch_hierarchy::{Hierarchy, Leg};
 use ch_queue::KeyQueue;
 use std::alloc::{AllocError, Global};
 
@@ -151,7 +151,7 @@ impl Search {
         ensures same { IsSameSearch self.old self.new }
         ensures settled { KeepsSettled self.old self.new }
         ensures stays { KeepsSettled self.new self.old }
-        ensures measure { unsettled_in self.new ≡ unsettled_in self.old }
+        ensures measure { count_unsettled_in self.new ≡ count_unsettled_in self.old }
     {
         for leg in self.side.legs(hierarchy, node) {
             self.relax(node, cost, *leg);
@@ -182,7 +182,7 @@ impl Search {
         ensures same { IsSameSearch self.old self.new }
         ensures settled { KeepsSettled self.old self.new }
         ensures stays { KeepsSettled self.new self.old }
-        ensures measure { unsettled_in self.new ≡ unsettled_in self.old }
+        ensures measure { count_unsettled_in self.new ≡ count_unsettled_in self.old }
         ensures stalled { result ≡ false → idle_of hierarchy.now self.new node cost }
     {
         if self.stalls && self.is_stalled(hierarchy, node, cost) {

@@ -1,10 +1,10 @@
 //! The two directions of a search.
 ghost use Rattle.std.specs.Prelude.{◌≡◌, ◌<◌};
-ghost use Rattle.ch_contract.specs.Rows.{row};
-ghost use Rattle.ch_contract.specs.Hierarchy.{nodes_of, IsLevelled};
+ghost use Rattle.ch_hierarchy.specs.Rows.{row};
+ghost use Rattle.ch_hierarchy.specs.Hierarchy.{nodes_of, IsLevelled};
 ghost use Rattle.ch_query.specs.Side.{rows_of, other};
 
-use ch_contract::{Hierarchy, Leg};
+use ch_hierarchy::{Hierarchy, Leg};
 
 /// A direction of search along legs to higher nodes.
 #[derive(Clone, Copy, Debug, PartialEq, Eq)]

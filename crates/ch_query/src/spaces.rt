@@ -1,7 +1,7 @@
 //! Search spaces: searches to their end that stall.
 ghost use Rattle.std.specs.Prelude.{◌≡◌, ℕ, ◌<◌, true, is_some, IfOk, OnOk, AllPairs, Contains};
 ghost use Rattle.ch_graph.specs.Cost.{cost_at};
-ghost use Rattle.ch_contract.specs.Hierarchy.{nodes_of};
+ghost use Rattle.ch_hierarchy.specs.Hierarchy.{nodes_of};
 ghost use Rattle.ch_query.specs.Distance.{IsKeptForSome};
 ghost use Rattle.ch_query.specs.Limits.{IsMost};
 ghost use Rattle.ch_query.specs.Meeting.{IsFresh};
@@ -12,7 +12,7 @@ ghost use Rattle.ch_query.specs.Underway.{AreUnstalled, AreWeights, IsSameSearch
 use crate::scratch::Scratch;
 use crate::search::{Search, most_within};
 use crate::side::Side;
-use ch_contract::Hierarchy;
+use ch_hierarchy::Hierarchy;
 use std::alloc::{AllocError, Global};
 
 impl Search {

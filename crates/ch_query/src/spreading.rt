@@ -1,6 +1,6 @@
 //! Searches without an end.
 ghost use Rattle.std.specs.Prelude.{◌≡◌, ◌<◌, IfOk, map};
-ghost use Rattle.ch_contract.specs.Hierarchy.{nodes_of};
+ghost use Rattle.ch_hierarchy.specs.Hierarchy.{nodes_of};
 ghost use Rattle.ch_query.specs.Search.{IsEmpty};
 ghost use Rattle.ch_query.specs.Underway.{IsTouched, IsSameSearch, IsUnderway, IsClean};
 ghost use Rattle.ch_query.specs.Side.{rows_of};
@@ -9,8 +9,8 @@ ghost use Rattle.ch_query.specs.Spread.{IsSpread, entry};
 use crate::scratch::Scratch;
 use crate::search::{Search, most_within};
 use crate::side::Side;
-use ch_contract::Hierarchy;
 use ch_graph::Cost;
+use ch_hierarchy::Hierarchy;
 use std::alloc::{AllocError, Global};
 
 impl Search {

@@ -4,8 +4,8 @@ ghost use Rattle.ch_query.specs.Distance.{IsKeptForSome};
 ghost use Rattle.ch_query.specs.Unpacking.{IsPending, ArePending, HasRoomToUnpack, ArePendingArcs, IsSplit};
 
 use crate::legs::leg_at;
-use ch_contract::{Hierarchy, Leg};
 use ch_graph::{Cost, InArc};
+use ch_hierarchy::{Hierarchy, Leg};
 
 /// A leg that is to be unpacked, with both of its nodes.
 #[derive(Clone, Copy)]

@@ -18,7 +18,7 @@ use Rattle.ch_read.specs.declared.fault.FaultKind.TheVariants.{NodeRange, Sum}
 use Rattle.ch_read.specs.Words.{words}
 use Rattle.ch_read.specs.Forms.{numbers, numbers_after, item_size, node_count, count_of}
 use Rattle.ch_read.specs.Checks.{is_node, is_middle, are_nodes, is_weight, first_failing, item_checks}
-use Rattle.ch_read.specs.Reading.{IsOther, IsAfter, AreCapped, greatest, capped, item_from, IsItemWithin, IsItem}
+use Rattle.ch_read.specs.Reading.{IsOther, IsAfter, AreCapped, greatest, capped_number, item_from, IsItemWithin, IsItem}
 use Rattle.ch_read.proofs.Numbers.{both, length-numbers}
 
 -- words before the numbers, some and then more
@@ -58,27 +58,27 @@ zero_at zero k = refl
 zero_at (suc m) zero = refl
 zero_at (suc m) (suc k) = zero_at m k
 
-pub capped_at : (ns : List ℕ) (m k : ℕ) → get_or (map capped ns ++ replicate m 0) k 0 ≡ capped (get_or ns k 0)
+pub capped_at : (ns : List ℕ) (m k : ℕ) → get_or (map capped_number ns ++ replicate m 0) k 0 ≡ capped_number (get_or ns k 0)
 capped_at [] m k = zero_at m k
 capped_at (n ∷ ns) m zero = refl
 capped_at (n ∷ ns) m (suc k) = capped_at ns m k
 
-capped_same : (n : ℕ) → n ≤ greatest → capped n ≡ n
+capped_same : (n : ℕ) → n ≤ greatest → capped_number n ≡ n
 capped_same n le = omega arith
 
-capped_le : (n m : ℕ) → m < greatest → leb (capped n) m ≡ leb n m
+capped_le : (n m : ℕ) → m < greatest → leb (capped_number n) m ≡ leb n m
 capped_le n m lt = grind (arith, nat_tests)
 
-one_le_capped : (n : ℕ) → leb 1 (capped n) ≡ leb 1 n
+one_le_capped : (n : ℕ) → leb 1 (capped_number n) ≡ leb 1 n
 one_le_capped n = grind (arith, nat_tests)
 
-is_node-capped : (nodes v : ℕ) → nodes < 2 ^ 32 → is_node nodes (capped v) ≡ is_node nodes v
+is_node-capped : (nodes v : ℕ) → nodes < 2 ^ 32 → is_node nodes (capped_number v) ≡ is_node nodes v
 is_node-capped nodes v small =
     let fits : nodes < greatest = omega arith in
     rw (one_le_capped v, capped_le v nodes fits) refl
 
 nodes-capped : (nodes : ℕ) → nodes < 2 ^ 32 → (k : ℕ) (ns : List ℕ) (m : ℕ) → k ≤ length ns →
-    list_all (is_node nodes) (take k (map capped ns ++ replicate m 0)) ≡ list_all (is_node nodes) (take k ns)
+    list_all (is_node nodes) (take k (map capped_number ns ++ replicate m 0)) ≡ list_all (is_node nodes) (take k ns)
 nodes-capped nodes small zero ns m le = refl
 nodes-capped nodes small (suc k) [] m le = absurd (omega arith)
 nodes-capped nodes small (suc k) (n ∷ ns) m le = rw (is_node-capped nodes n small, nodes-capped nodes small k ns m (omega arith)) refl
@@ -90,20 +90,20 @@ past_limit n m lt = grind (arith, nat_tests)
 no_less : (nodes w : ℕ) → 0 < nodes → w ≤ nodes * w
 no_less nodes w some = grind arith
 
-weight-capped : (nodes w : ℕ) → leb (nodes * capped w) MOST_WEIGHT ≡ leb (nodes * w) MOST_WEIGHT
+weight-capped : (nodes w : ℕ) → leb (nodes * capped_number w) MOST_WEIGHT ≡ leb (nodes * w) MOST_WEIGHT
 weight-capped nodes w = at (cases_lt greatest w) (eq-zero-or-pos nodes)
   where
-    at : (greatest < w) ⊎ (w ≤ greatest) → (nodes ≡ 0) ⊎ (0 < nodes) → leb (nodes * capped w) MOST_WEIGHT ≡ leb (nodes * w) MOST_WEIGHT
+    at : (greatest < w) ⊎ (w ≤ greatest) → (nodes ≡ 0) ⊎ (0 < nodes) → leb (nodes * capped_number w) MOST_WEIGHT ≡ leb (nodes * w) MOST_WEIGHT
     at (inr le) z = rw (capped_same w le) refl
     at (inl lt) (inl none) =
-        let capped_none : nodes * capped w ≡ 0 = ap (λ n. n * capped w) none ∙ zero-mul (capped w) in
+        let capped_none : nodes * capped_number w ≡ 0 = ap (λ n. n * capped_number w) none ∙ zero-mul (capped_number w) in
         let real_none : nodes * w ≡ 0 = ap (λ n. n * w) none ∙ zero-mul w in
         rw (capped_none, real_none) refl
     at (inl lt) (inr some) =
-        let greatest : capped w ≡ greatest = omega arith in
-        let capped_past : MOST_WEIGHT < nodes * capped w = omega (arith, no_less nodes (capped w) some) in
+        let greatest : capped_number w ≡ greatest = omega arith in
+        let capped_past : MOST_WEIGHT < nodes * capped_number w = omega (arith, no_less nodes (capped_number w) some) in
         let real_past : MOST_WEIGHT < nodes * w = omega (arith, no_less nodes w some) in
-        past_limit (nodes * capped w) MOST_WEIGHT capped_past ∙ sym (past_limit (nodes * w) MOST_WEIGHT real_past)
+        past_limit (nodes * capped_number w) MOST_WEIGHT capped_past ∙ sym (past_limit (nodes * w) MOST_WEIGHT real_past)
 
 all_at : (p : ℕ → Bool) (k : ℕ) (ns : List ℕ) (i : ℕ) → i < k → i < length ns → list_all p (take k ns) ≡ true → p (get_or ns i 0) ≡ true
 all_at p zero ns i lt within h = absurd (omega arith)
@@ -194,7 +194,7 @@ bounds (Saved n) Second nodes ns within =
 -- numbers, capped, and zeros
 module _ (ns : List ℕ) (m : ℕ) where
   abbrev values : List ℕ
-  values = map capped ns ++ replicate m 0
+  values = map capped_number ns ++ replicate m 0
 
   exact : (k : ℕ) → get_or ns k 0 ≤ greatest → get_or values k 0 ≡ get_or ns k 0
   exact k le = capped_at ns m k ∙ capped_same (get_or ns k 0) le
@@ -285,7 +285,7 @@ module _ (form : Form) (part : Part) (seen : Option Heading) (h : Heading) (coun
   values_small within weight =
       let b = bounds form part h.nodes ns (item_within within weight) in
       let small = read.small in
-      let first : get_or values 0 0 ≡ capped (get_or ns 0 0) = ap (λ (v : List ℕ). get_or v 0 0) read.read.2 ∙ capped_at ns (5 - length ns) 0 in
-      let second : get_or values 1 0 ≡ capped (get_or ns 1 0) = ap (λ (v : List ℕ). get_or v 1 0) read.read.2 ∙ capped_at ns (5 - length ns) 1 in
-      let middle : get_or values 4 0 ≡ capped (get_or ns 4 0) = ap (λ (v : List ℕ). get_or v 4 0) read.read.2 ∙ capped_at ns (5 - length ns) 4 in
+      let first : get_or values 0 0 ≡ capped_number (get_or ns 0 0) = ap (λ (v : List ℕ). get_or v 0 0) read.read.2 ∙ capped_at ns (5 - length ns) 0 in
+      let second : get_or values 1 0 ≡ capped_number (get_or ns 1 0) = ap (λ (v : List ℕ). get_or v 1 0) read.read.2 ∙ capped_at ns (5 - length ns) 1 in
+      let middle : get_or values 4 0 ≡ capped_number (get_or ns 4 0) = ap (λ (v : List ℕ). get_or v 4 0) read.read.2 ∙ capped_at ns (5 - length ns) 4 in
       (omega arith, omega arith, omega arith)

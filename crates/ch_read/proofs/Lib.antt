@@ -4,3 +4,6 @@ pub mod Numbers
 pub mod Judging
 pub mod Reading
 pub mod Limits
+pub mod WrittenLines
+pub mod WrittenSaved
+pub mod SavedReadBack

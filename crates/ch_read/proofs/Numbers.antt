@@ -13,7 +13,7 @@ use Rattle.std.proofs.lemmas.Bool.Decides.{nat_tests}
 use Rattle.std.proofs.lemmas.Int.Digits.{digits_value_more}
 use Rattle.ch_read.specs.Words.{number, is_word}
 use Rattle.ch_read.specs.Forms.{numbers, numbers_after}
-use Rattle.ch_read.specs.Reading.{greatest, capped, AreCapped}
+use Rattle.ch_read.specs.Reading.{greatest, capped_number, AreCapped}
 
 -- words of digits
 
@@ -53,7 +53,7 @@ capped_more m n d = omega arith
 
 -- the invariant of the loop over the digits of a word
 pub record HasDigits (word : List ℕ) (i value : ℕ) : Type 0 where
-  pub value_is : value ≡ capped (digits_value 10 (take i word))
+  pub value_is : value ≡ capped_number (digits_value 10 (take i word))
   pub digits : all_ascii_digits (take i word) ≡ true
 
 pub more_digits : (word : List ℕ) (i value next digit : ℕ) → i < length word → HasDigits word i value → IsInRange 48 57 (get_or word i 0) →
@@ -64,16 +64,16 @@ more_digits word i value next digit within so_far range here digit_is next_is =
     record {
       value_is = next_is ∙ ap (λ v. min (min (v * 10) greatest + digit) greatest) so_far.value_is
           ∙ capped_more greatest (digits_value 10 (take i word)) digit
-          ∙ ap (λ d. capped (digits_value 10 (take i word) * 10 + d)) digit_value_is
-          ∙ ap capped (sym (digits_value_more 10 word i within));
+          ∙ ap (λ d. capped_number (digits_value 10 (take i word) * 10 + d)) digit_value_is
+          ∙ ap capped_number (sym (digits_value_more 10 word i within));
       digits = rw (add-one i) (digits_suc word i within so_far.digits here);
     }
 
-pub all_digits : (word : List ℕ) (i value : ℕ) → 0 < length word → length word ≤ i → HasDigits word i value → Some value ≡ option_map capped (number word)
+pub all_digits : (word : List ℕ) (i value : ℕ) → 0 < length word → length word ≤ i → HasDigits word i value → Some value ≡ option_map capped_number (number word)
 all_digits word i value some past read =
     let all : take i word ≡ word = take_all i word past in
     let digits : all_ascii_digits word ≡ true = ap all_ascii_digits (sym all) ∙ read.digits in
-    ap Some (read.value_is ∙ ap (λ w. capped (digits_value 10 w)) all) ∙ ap (option_map capped) (sym (is_number word some digits))
+    ap Some (read.value_is ∙ ap (λ w. capped_number (digits_value 10 w)) all) ∙ ap (option_map capped_number) (sym (is_number word some digits))
 
 -- the numbers of words
 
@@ -115,51 +115,51 @@ pub record HasTaken (ws left : List (List ℕ)) (i : ℕ) (values : List ℕ) : 
   pub split : ws ≡ taken ++ left
   pub long : length taken ≡ i
   pub read : numbers taken ≡ Some ns
-  pub values_are : values ≡ map capped ns ++ replicate (5 - i) 0
+  pub values_are : values ≡ map capped_number ns ++ replicate (5 - i) 0
 
 pub none_taken : (ws : List (List ℕ)) → HasTaken ws ws 0 (0 ∷ 0 ∷ 0 ∷ 0 ∷ 0 ∷ [])
 none_taken ws = record { taken = []; ns = []; split = refl; long = refl; read = refl; values_are = refl }
 
-read_value : (w : List ℕ) (value : ℕ) → Some value ≡ option_map capped (number w) → (n : ℕ) × (number w ≡ Some n) × (value ≡ capped n)
+read_value : (w : List ℕ) (value : ℕ) → Some value ≡ option_map capped_number (number w) → (n : ℕ) × (number w ≡ Some n) × (value ≡ capped_number n)
 read_value w value e = at (number w) refl e
   where
-    at : (o : Option ℕ) → number w ≡ o → Some value ≡ option_map capped o → (n : ℕ) × (number w ≡ Some n) × (value ≡ capped n)
+    at : (o : Option ℕ) → number w ≡ o → Some value ≡ option_map capped_number o → (n : ℕ) × (number w ≡ Some n) × (value ≡ capped_number n)
     at None h e = absurd (none-some value (sym e))
-    at (Some n) h e = (n, h, same_Some value (capped n) e)
+    at (Some n) h e = (n, h, same_Some value (capped_number n) e)
 
-no_value : (w : List ℕ) → None ≡ option_map capped (number w) → number w ≡ None
+no_value : (w : List ℕ) → None ≡ option_map capped_number (number w) → number w ≡ None
 no_value w e = at (number w) e
   where
-    at : (o : Option ℕ) → None ≡ option_map capped o → o ≡ None
+    at : (o : Option ℕ) → None ≡ option_map capped_number o → o ≡ None
     at None e = refl
-    at (Some n) e = absurd (none-some (capped n) e)
+    at (Some n) e = absurd (none-some (capped_number n) e)
 
 zeros_less : (i : ℕ) → i < 5 → replicate {A = ℕ} (5 - i) 0 ≡ 0 ∷ replicate (5 - (i + 1)) 0
 zeros_less i lt = let less : 5 - i ≡ suc (5 - (i + 1)) = omega arith in ap (λ k. replicate {A = ℕ} k 0) less
 
 pub take_one : (ws left more : List (List ℕ)) (w : List ℕ) (i value : ℕ) (values : List ℕ) → i < 5 → HasTaken ws left i values → left ≡ w ∷ more →
-    Some value ≡ option_map capped (number w) → HasTaken ws more (i + 1) (set values i value)
+    Some value ≡ option_map capped_number (number w) → HasTaken ws more (i + 1) (set values i value)
 take_one ws left more w i value values lt h next e =
     let n = read_value w value e in
     let as_long : length h.ns ≡ length h.taken = length-numbers h.taken h.ns h.read in
-    let long : length (map capped h.ns) ≡ i = length-map h.ns capped ∙ as_long ∙ h.long in
+    let long : length (map capped_number h.ns) ≡ i = length-map h.ns capped_number ∙ as_long ∙ h.long in
     record {
       taken = h.taken ++ w ∷ [];
       ns = h.ns ++ n.0 ∷ [];
       split = h.split ∙ ap (λ r. h.taken ++ r) next ∙ sym (append_assoc h.taken (w ∷ []) more);
       long = length_push h.taken w ∙ ap (λ k. k + 1) h.long;
       read = numbers_push h.taken w h.ns n.0 h.read n.1;
-      values_are = ap (λ v. set v i value) (h.values_are ∙ ap (λ r. map capped h.ns ++ r) (zeros_less i lt))
-          ∙ set_at (map capped h.ns) 0 (replicate (5 - (i + 1)) 0) value i long
-          ∙ ap (λ v. map capped h.ns ++ v ∷ replicate (5 - (i + 1)) 0) n.2
-          ∙ sym (append_assoc (map capped h.ns) (capped n.0 ∷ []) (replicate (5 - (i + 1)) 0))
-          ∙ ap (λ r. r ++ replicate (5 - (i + 1)) 0) (sym (map-append capped h.ns (n.0 ∷ [])));
+      values_are = ap (λ v. set v i value) (h.values_are ∙ ap (λ r. map capped_number h.ns ++ r) (zeros_less i lt))
+          ∙ set_at (map capped_number h.ns) 0 (replicate (5 - (i + 1)) 0) value i long
+          ∙ ap (λ v. map capped_number h.ns ++ v ∷ replicate (5 - (i + 1)) 0) n.2
+          ∙ sym (append_assoc (map capped_number h.ns) (capped_number n.0 ∷ []) (replicate (5 - (i + 1)) 0))
+          ∙ ap (λ r. r ++ replicate (5 - (i + 1)) 0) (sym (map-append capped_number h.ns (n.0 ∷ [])));
     }
 
 -- the ends of the loop
 
 pub no_number_next : (ws left more : List (List ℕ)) (w : List ℕ) (i count : ℕ) (values : List ℕ) → HasTaken ws left i values → left ≡ w ∷ more →
-    None ≡ option_map capped (number w) → numbers_after [] count ws ≡ None
+    None ≡ option_map capped_number (number w) → numbers_after [] count ws ≡ None
 no_number_next ws left more w i count values h next e =
     let none : numbers ws ≡ None = ap numbers (h.split ∙ ap (λ r. h.taken ++ r) next) ∙ numbers_stop h.taken more w (no_value w e) in
     rw none (at (eqb (length ws) count))
@@ -175,4 +175,4 @@ all_taken ws left count values h e =
     let counted : eqb (length ws) count ≡ true = grind (arith, nat_tests) in
     let as_long : length h.ns ≡ count = length-numbers h.taken h.ns h.read ∙ h.long in
     let read : numbers ws ≡ Some h.ns = ap numbers whole ∙ h.read in
-    (h.ns, rw counted read, h.values_are ∙ ap (λ k. map capped h.ns ++ replicate (5 - k) 0) (sym as_long))
+    (h.ns, rw counted read, h.values_are ∙ ap (λ k. map capped_number h.ns ++ replicate (5 - k) 0) (sym as_long))

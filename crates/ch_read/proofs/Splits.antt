@@ -33,7 +33,7 @@ module _ (p : ℕ → Bool) where
 
 -- lines
 
-line_before : (front : List ℕ) (parts : List (List ℕ)) → 0 < length parts → without_empty_last (front ∷ parts) ≡ front ∷ without_empty_last parts
+pub line_before : (front : List ℕ) (parts : List (List ℕ)) → 0 < length parts → without_empty_last (front ∷ parts) ≡ front ∷ without_empty_last parts
 line_before front [] some = absurd (omega arith)
 line_before front (part ∷ parts) some = refl
 
@@ -97,7 +97,7 @@ word_found text start e =
 pub no_word : (text : List ℕ) → position (λ b. not (is_blank b)) text ≡ None → words text ≡ []
 no_word text e = words_after_blanks text ∙ ap words (drop_all (word_begins text) text (none_passes (λ b. not (is_blank b)) text e))
 
-one_word : (word : List ℕ) (parts : List (List ℕ)) → 0 < length word → filter is_word (word ∷ parts) ≡ word ∷ filter is_word parts
+pub one_word : (word : List ℕ) (parts : List (List ℕ)) → 0 < length word → filter is_word (word ∷ parts) ≡ word ∷ filter is_word parts
 one_word [] parts some = absurd (omega arith)
 one_word (x ∷ xs) parts some = let long : eqb (suc (length xs)) 0 ≡ false = grind (arith, nat_tests) in rw long refl
 

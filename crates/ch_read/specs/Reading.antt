@@ -21,8 +21,8 @@ abbrev pub greatest : ℕ
 greatest = 2 ^ 64 - 1
 
 -- a number as a word of 64 bits: past the limits every value is as good as the greatest
-abbrev pub capped : ℕ → ℕ
-capped n = min n greatest
+abbrev pub capped_number : ℕ → ℕ
+capped_number n = min n greatest
 
 -- the first of the checks to fail answers this kind
 abbrev pub Fails : List Check → FaultKind → Type 0
@@ -30,7 +30,7 @@ Fails checks kind = first_failing checks ≡ Some kind
 
 -- there are numbers, and the five values are these, capped, and then zeros
 abbrev pub AreCapped : Option (List ℕ) → List ℕ → Type 0
-AreCapped numbers values = (ns : List ℕ) × (numbers ≡ Some ns) × (values ≡ map capped ns ++ replicate (5 - length ns) 0)
+AreCapped numbers values = (ns : List ℕ) × (numbers ≡ Some ns) × (values ≡ map capped_number ns ++ replicate (5 - length ns) 0)
 
 -- the words do not begin with these
 abbrev pub IsOther : List (List ℕ) → List (List ℕ) → Type 0

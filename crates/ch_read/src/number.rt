@@ -1,7 +1,7 @@
 //! The numbers of a line.
 ghost use Rattle.std.specs.Prelude.{◌≡◌, ◌<◌, ◌≤◌, [], Some, None, length, option_map, MatchOption};
 ghost use Rattle.ch_read.specs.Forms.{numbers_after};
-ghost use Rattle.ch_read.specs.Reading.{capped, AreCapped};
+ghost use Rattle.ch_read.specs.Reading.{capped_number, AreCapped};
 ghost use Rattle.ch_read.specs.Words.{number, words};
 
 use crate::lines::split_word;
@@ -13,7 +13,7 @@ pub const MOST_NUMBERS: usize = 5;
 /// the greatest `u64`.
 pub fn number_of(word: &[u8]) -> Option<u64>
     requires { 0 < length word.now }
-    ensures { result ≡ option_map capped (number word.now) }
+    ensures { result ≡ option_map capped_number (number word.now) }
 {
     let mut value = 0u64;
     for b in word {

@@ -4,14 +4,14 @@ use Rattle.ch_read.specs.declared.fault.ReadFault.{ReadFault}
 use Rattle.ch_read.specs.declared.fault.ReadError.{ReadError}
 use Rattle.ch_read.specs.declared.fault.ReadError.TheVariants.{Fault, NoMemory}
 use Rattle.std.specs.Prelude.{Result, Err}
-use Rattle.ch_contract.specs.declared.fault.CheckFault.{CheckFault}
+use Rattle.ch_hierarchy.specs.declared.fault.CheckFault.{CheckFault}
 use Rattle.ch_run.specs.declared.fault.Which.{Which}
 use Rattle.ch_run.specs.declared.fault.RunFault.{RunFault}
-use Rattle.ch_run.specs.Fault.{refusal_of, refused_by}
+use Rattle.ch_run.specs.Fault.{refusal_of, input_fault}
 use Rattle.ch_run.specs.Run.{IsOf, IsUnread, StopsAt}
 
 -- a run that is refused for a fault of a file was refused by the reader for it
-pub refused_for : (which : Which) (error : ReadError) (fault : ReadFault) → refused_by which error ≡ refusal_of which fault → error ≡ Fault fault
+pub refused_for : (which : Which) (error : ReadError) (fault : ReadFault) → input_fault which error ≡ refusal_of which fault → error ≡ Fault fault
 refused_for Which.Graph (Fault f) fault same = cc
 refused_for Which.Graph NoMemory fault same = cc
 refused_for Which.Saved (Fault f) fault same = cc
@@ -32,7 +32,7 @@ unread_not Which.Sources fault h = h
 unread_not Which.Targets fault h = h
 
 -- what a reader refused is of its input
-pub refused_is_of : (which : Which) (error : ReadError) → IsOf which (refused_by which error)
+pub refused_is_of : (which : Which) (error : ReadError) → IsOf which (input_fault which error)
 refused_is_of Which.Graph (Fault f) = refl
 refused_is_of Which.Graph NoMemory = tt
 refused_is_of Which.Saved (Fault f) = refl

@@ -6,3 +6,4 @@ pub mod Tables
 pub mod Saving
 pub mod OneSavedText
 pub mod Writes
+pub mod ReadBack

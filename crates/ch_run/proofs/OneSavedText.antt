@@ -1,22 +1,22 @@
 -- The definitions name one text where a hierarchy is saved, and where one was.
-use Rattle.std.proofs.Common.{◌≡◌, ℕ, List, Some, sym, ap, ◌∙◌, subst, arith}
-use Rattle.std.specs.Prelude.{not, ◌&&◌, slice_index}
-use Rattle.std.specs.List.{flat_map}
-use Rattle.std.proofs.lemmas.List.{ext_get_or}
+use Rattle.std.proofs.Common.{◌≡◌, ℕ, List, Some, sym, ap, ◌∙◌, subst}
+use Rattle.std.specs.Prelude.{not, ◌&&◌}
 use Rattle.ch_graph.specs.Graph.{Network}
 use Rattle.ch_graph.specs.Saved.{OrderAndLegs}
 use Rattle.ch_read.specs.Names.{NamesSaved}
 use Rattle.ch_read.proofs.OneAnswer.{saved_answer}
-use Rattle.ch_contract.specs.Hierarchy.{LevelsAndLegs, nodes_of, IsHierarchy}
-use Rattle.ch_contract.specs.Kept.{IsKept}
-use Rattle.ch_contract.specs.Saved.{NamesHierarchy}
+use Rattle.ch_hierarchy.specs.Hierarchy.{LevelsAndLegs}
+use Rattle.ch_contract.specs.Built.{IsHierarchyBy}
+use Rattle.ch_hierarchy.specs.Kept.{IsKept}
+use Rattle.ch_hierarchy.specs.Saved.{NamesHierarchy}
 use Rattle.ch_contract.proofs.theory.OneOrder.{one_hierarchy}
-use Rattle.ch_contract.proofs.theory.OneSaved.{one_saved}
-use Rattle.ch_contract.proofs.theory.SavedLevels.{level_of}
+use Rattle.ch_hierarchy.proofs.theory.OneSaved.{one_saved}
+use Rattle.ch_hierarchy.proofs.theory.LevelOrder.{one_level_order}
 use Rattle.ch_run.specs.Run.{Reading, ReadsNodes, ReadsQueries}
 use Rattle.ch_run.specs.SavedRun.{AreChecked, ReadsSaved}
 use Rattle.ch_run.specs.SavedTextLaws.{SavedAnswersHaveOneText, SavedTablesHaveOneText, HierarchiesHaveOneText}
-use Rattle.ch_run.specs.SaveText.{IsByLevel, IsHierarchyText, legs_at, saved_text}
+use Rattle.ch_hierarchy.specs.Written.{written}
+use Rattle.ch_run.specs.SaveText.{IsHierarchyText, saved_text}
 use Rattle.ch_run.specs.TableText.{IsTableText}
 use Rattle.ch_run.specs.Text.{IsTextBy}
 use Rattle.ch_run.proofs.OneText.{given_bytes, one_table_text, one_text_by, same_graph, same_nodes, same_queries}
@@ -61,25 +61,15 @@ one_saved_table options graph saved sources targets graph_bytes saved_bytes sour
     let second : IsTableText h.0 options.within h.4.0 k.4.1 other = subst (λ xs. IsTableText h.0 options.within xs k.4.1 other) (sym from) first in
     one_table_text h.0 options.within h.4.0 h.4.1 text other h.4.3 (subst (λ xs. IsTableText h.0 options.within h.4.0 xs other) (sym to) second)
 
--- nodes stand in one order of level
-one_by_level : (H : LevelsAndLegs) (order other : List ℕ) → IsByLevel H order → IsByLevel H other → order ≡ other
-one_by_level H order other a b = ext_get_or 0 order other (a.nodes.count ∙ sym b.nodes.count) (λ i lt.
-    let same = b.nodes.count in
-    let size = a.nodes.count in
-    let at = level_of (nodes_of H) order H.level a.nodes a.levels (slice_index other i) (b.nodes.within i (omega arith)) in
-    let level = b.levels.each i (omega arith) in
-    let place : at.0 ≡ i = (let e = at.3 in omega arith) in
-    ap (slice_index order) (sym place) ∙ at.2)
-
 -- a hierarchy has one text
 one_hierarchy_text : (H : LevelsAndLegs) (text other : List ℕ) → IsHierarchyText H text → IsHierarchyText H other → text ≡ other
 one_hierarchy_text H text other h k =
-    h.2 ∙ ap (λ order. saved_text (record { order = order; legs = flat_map (legs_at H) order })) (one_by_level H h.0 k.0 h.1 k.1) ∙ sym k.2
+    h.2 ∙ ap (λ order. saved_text (written H order)) (one_level_order H h.0 k.0 h.1 k.1) ∙ sym k.2
 
 -- an input that tells its bytes is saved as one text
 pub one_save_text : HierarchiesHaveOneText
 one_save_text options graph graph_bytes text other told_graph h k =
     let same : h.0 ≡ k.0 = same_graph graph graph_bytes h.0 k.0 told_graph h.2 k.2 in
-    let on_graph = subst (λ (g : Network). IsHierarchy g options.hops k.3.0) (sym same) k.3.1 in
-    let hierarchy : h.3.0 ≡ k.3.0 = one_hierarchy h.0 options.hops h.3.0 k.3.0 h.3.1 on_graph in
+    let on_graph = subst (λ (g : Network). IsHierarchyBy options.order g options.hops k.3.0) (sym same) k.3.1 in
+    let hierarchy : h.3.0 ≡ k.3.0 = one_hierarchy options.order h.0 options.hops h.3.0 k.3.0 h.3.1 on_graph in
     one_hierarchy_text h.3.0 text other h.3.2 (subst (λ (H : LevelsAndLegs). IsHierarchyText H other) (sym hierarchy) k.3.2)

@@ -7,14 +7,15 @@ use Rattle.std.proofs.lemmas.Option.{none-some, same_Some}
 use Rattle.ch_graph.specs.declared.arc.InArc.{InArc}
 use Rattle.ch_graph.specs.Graph.{Network}
 use Rattle.ch_graph.specs.Walk.{IsAnswer, IsDistance}
-use Rattle.ch_contract.specs.Hierarchy.{LevelsAndLegs, IsHierarchy}
-use Rattle.ch_contract.specs.Kept.{IsKept}
+use Rattle.ch_hierarchy.specs.Hierarchy.{LevelsAndLegs}
+use Rattle.ch_contract.specs.Built.{IsHierarchyBy}
+use Rattle.ch_hierarchy.specs.Kept.{IsKept}
 use Rattle.ch_contract.proofs.theory.BuiltKept.{hierarchies_kept}
 use Rattle.ch_contract.proofs.theory.OneOrder.{one_hierarchy}
 use Rattle.ch_query.specs.declared.answer.Answer.{Answer}
 use Rattle.ch_query.specs.declared.routes.Route.{Route}
 use Rattle.ch_query.specs.Answers.{HasArcs}
-use Rattle.ch_query.proofs.RouteWalks.{route_one}
+use Rattle.ch_query.proofs.routing.RouteWalks.{route_one}
 use Rattle.ch_run.specs.Text.{AnswersShortly, AnswersWithRoute, HasText, IsText, IsTextBy, answer_text}
 use Rattle.ch_query.specs.Limits.{IsCut}
 use Rattle.ch_run.specs.TableText.{IsCell, IsTableRow, IsTableText, row_text}
@@ -135,8 +136,8 @@ one_text options graph queries graph_bytes query_bytes text other hops told_grap
     let same : h.0 ≡ k.0 = same_graph graph graph_bytes h.0 k.0 told_graph h.3 k.3 in
     let pairs : h.1 ≡ k.1 = same_queries queries query_bytes h.0.nodes h.1 k.1 told_queries h.4 (subst (λ (g : Network). ReadsQueries queries g.nodes k.1) (sym same) k.4) in
     let here : IsText options h.0 h.1 other = subst (λ p. IsText options h.0 p other) (sym pairs) (subst (λ (g : Network). IsText options g k.1 other) (sym same) k.5) in
-    let kept : (H : LevelsAndLegs) → IsHierarchy h.0 options.hops H → IsKept h.0 H = λ H is. hierarchies_kept h.0 options.hops H h.2 hops is in
-    one_text_by (not options.plain && options.routes) h.0 (IsHierarchy h.0 options.hops) (one_hierarchy h.0 options.hops) kept h.1 text other h.5 here
+    let kept : (H : LevelsAndLegs) → IsHierarchyBy options.order h.0 options.hops H → IsKept h.0 H = λ H is. hierarchies_kept options.order h.0 options.hops H h.2 hops is in
+    one_text_by (not options.plain && options.routes) h.0 (IsHierarchyBy options.order h.0 options.hops) (one_hierarchy options.order h.0 options.hops) kept h.1 text other h.5 here
 
 -- inputs that tell their bytes have one table
 pub one_table : TablesHaveOneText

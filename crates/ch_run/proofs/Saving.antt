@@ -1,21 +1,20 @@
 -- The nodes of a hierarchy in order of level, and the legs of each.
-use Rattle.std.proofs.Common.{◌≡◌, ℕ, zero, suc, ◌+◌, ◌-◌, ◌<◌, ◌≤◌, List, [], ◌∷◌, ◌++◌, length, take, get_or, set, length-set, get_or-set_same, get_or-set_other, Contains, refl, sym, ◌∙◌, ap, subst, arith, inl, inr, length-append}
+use Rattle.std.proofs.Common.{◌≡◌, ℕ, zero, suc, ◌+◌, ◌-◌, ◌<◌, ◌≤◌, List, [], ◌∷◌, ◌++◌, length, take, get_or, set, length-set, get_or-set_same, get_or-set_other, refl, sym, ◌∙◌, ap, subst, arith, inl, inr, length-append}
 use Rattle.std.specs.Prelude.{◌≢◌, All, slice_index, map, codes, decimal}
 use Rattle.std.specs.List.{flat_map}
 use Rattle.std.proofs.lemmas.List.{get_or_default, take_more, flat_map_more, length-map}
-use Rattle.std.proofs.lemmas.List.Elements.{All-cons, All-contains}
 use Rattle.std.proofs.lemmas.List.Concat.{flat_map-append}
 use Rattle.std.proofs.lemmas.Bool.{cases_eq}
 use Rattle.ch_graph.specs.declared.limits.TheConstants.{MOST_NODES}
-use Rattle.ch_graph.proofs.Lists.{contains_cons, pairs_cons}
 use Rattle.ch_graph.specs.declared.saved.SavedLeg.{SavedLeg}
-use Rattle.ch_contract.specs.declared.leg.Leg.{Leg}
-use Rattle.ch_contract.specs.Rows.{row, IsRow}
-use Rattle.ch_contract.specs.Hierarchy.{LevelsAndLegs, nodes_of, IsLegUp, AreLegsUp, IsLevelled}
-use Rattle.ch_contract.specs.Saved.{AreLevelsOf}
-use Rattle.ch_contract.proofs.theory.Ordered.{every_number}
-use Rattle.ch_contract.proofs.theory.SavedLevels.{order_of}
-use Rattle.ch_run.specs.SaveText.{IsByLevel, legs_at, leg_text, order_text, saved_text}
+use Rattle.ch_hierarchy.specs.declared.leg.Leg.{Leg}
+use Rattle.ch_hierarchy.specs.Rows.{row, IsRow}
+use Rattle.ch_hierarchy.specs.Hierarchy.{LevelsAndLegs, nodes_of, IsLegUp, AreLegsUp, IsLevelled}
+use Rattle.ch_hierarchy.specs.Saved.{AreLevelsOf}
+use Rattle.ch_hierarchy.proofs.theory.LevelOrder.{node_at}
+use Rattle.ch_hierarchy.proofs.theory.SavedLevels.{order_of}
+use Rattle.ch_hierarchy.specs.Written.{IsByLevel, legs_at}
+use Rattle.ch_run.specs.SaveText.{leg_text, order_text, saved_text}
 
 -- the nodes below v stand at the places of their levels
 pub record HasPlaced (H : LevelsAndLegs) (order : List ℕ) (v : ℕ) : Type 0 where
@@ -30,17 +29,6 @@ module _ (H : LevelsAndLegs) (is : IsLevelled H) where
   -- nodes that differ have levels that differ
   levels_apart : (u v : ℕ) → u < v → v < nodes_of H → slice_index H.level u ≢ slice_index H.level v
   levels_apart u v less lt = is.levels.1 u v 0 less lt
-
-  -- each level is a node's
-  node_at : (i : ℕ) → i < nodes_of H → (v : ℕ) × (v < nodes_of H) × (slice_index H.level v ≡ i + 1)
-  node_at i lt =
-      let n : ℕ = nodes_of H in
-      let apart : (y : ℕ) → Contains H.level y → 0 ≢ y = λ y c e. (let l = (All-contains (λ l. (1 ≤ l) × (l ≤ n)) H.level y is.levels.0 c).0 in omega arith) in
-      let below : All (λ l. l < n + 1) (0 ∷ H.level) = All-cons (λ l. l < n + 1) 0 H.level (omega arith) (λ k d within. let l = (is.levels.0 k d within).1 in omega arith) in
-      elim (contains_cons 0 (i + 1) H.level (every_number (0 ∷ H.level) (n + 1) (i + 1) (omega arith) below (pairs_cons ◌≢◌ 0 H.level apart is.levels.1) (omega arith))) [
-        | inl e ↦ absurd (omega arith)
-        | inr there ↦ (there.0, there.1, sym (get_or_default H.level there.0 (i + 1) 0 there.1) ∙ there.2)
-      ]
 
   -- one node more is placed
   pub one_placed : (order : List ℕ) (v place : ℕ) → HasPlaced H order v → v < nodes_of H → place ≡ slice_index H.level v - 1 → HasPlaced H (set order place v) (v + 1)
@@ -70,7 +58,7 @@ module _ (H : LevelsAndLegs) (is : IsLevelled H) where
       let levels : AreLevelsOf order H.level = record {
         count = sym h.size;
         each = λ i lt. (
-            let at = node_at i (let s = h.size in omega arith) in
+            let at = node_at H is i (let s = h.size in omega arith) in
             let placed : slice_index order i ≡ at.0 = subst (λ k. slice_index order k ≡ at.0) (let e = at.2 in omega arith) (h.each at.0 (let l = at.1 in omega arith)) in
             ap (slice_index H.level) placed ∙ at.2
             );

@@ -5,13 +5,15 @@ use Rattle.std.proofs.lemmas.Slice.Zip.{all_zipped_more, length-zip, get_or-zip}
 use Rattle.std.specs.List.{AllZip, zip, flat_map}
 use Rattle.ch_graph.specs.declared.arc.InArc.{InArc}
 use Rattle.ch_graph.specs.Graph.{Network, IsWithinLimits}
-use Rattle.ch_contract.specs.Hierarchy.{LevelsAndLegs}
-use Rattle.ch_contract.specs.Kept.{IsKept}
+use Rattle.ch_hierarchy.specs.Hierarchy.{LevelsAndLegs}
+use Rattle.ch_contract.specs.Built.{IsHierarchyBy}
+use Rattle.ch_contract.specs.declared.measure.OrderBy.{OrderBy}
+use Rattle.ch_hierarchy.specs.Kept.{IsKept}
 use Rattle.ch_query.specs.declared.answer.Answer.{Answer}
 use Rattle.ch_query.specs.Answers.{HasArcs, IsReply}
 use Rattle.std.proofs.lemmas.Option.{none-some, same_Some}
 use Rattle.ch_query.specs.Routes.{IsLeastWalk}
-use Rattle.ch_query.proofs.RouteWalks.{route_least_walk}
+use Rattle.ch_query.proofs.routing.RouteWalks.{route_least_walk}
 use Rattle.ch_query.specs.Limits.{IsDistanceWithin}
 use Rattle.ch_table.specs.Table.{IsRowBy}
 use Rattle.ch_run.specs.Text.{Answers, AnswersShortly, AnswersWithRoute, IsTextBy, answer_text}
@@ -77,10 +79,10 @@ replies_text g H limits kept true queries answers text replies is =
     } in
     (H, refl, (answers, each_weaker (IsReply H true) (AnswersWithRoute g H) routed queries answers replies, is))
 
--- a text by a hierarchy is one by each set of hierarchies that it is in
-pub text_from : (routes : Bool) (g : Network) (H : LevelsAndLegs) (From : LevelsAndLegs → Type 0) → From H → (queries : List (ℕ × ℕ)) (text : List ℕ) → IsTextBy routes g (λ K. K ≡ H) queries text → IsTextBy routes g From queries text
-text_from false g H From is queries text t = t
-text_from true g H From is queries text t = (t.0, subst From (sym t.1) is, t.2)
+-- routes are those of the hierarchy in the order that is wanted, and distances those of any
+pub text_in : (routes : Bool) (wanted by : OrderBy) (g : Network) (h : ℕ) (H : LevelsAndLegs) → (routes ≡ true → by ≡ wanted) → IsHierarchyBy by g h H → (queries : List (ℕ × ℕ)) (text : List ℕ) → IsTextBy routes g (λ K. K ≡ H) queries text → IsTextBy routes g (IsHierarchyBy wanted g h) queries text
+text_in false wanted by g h H same is queries text t = t
+text_in true wanted by g h H same is queries text t = (t.0, subst (IsHierarchyBy wanted g h) (sym t.1) (subst (λ o. IsHierarchyBy o g h H) (same refl) is), t.2)
 
 -- a table of a hierarchy that is right for a graph, written out, is the table of the graph
 pub cells_text : (g : Network) (H : LevelsAndLegs) → IsWithinLimits g → IsKept g H → (limit : Option ℕ) (sources targets : List ℕ) (rows : List (List (Option ℕ))) (text : List ℕ) →

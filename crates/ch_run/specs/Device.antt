@@ -1,5 +1,5 @@
 -- What devices give, take and count.
-use Rattle.std.specs.Prelude.{◌≡◌, ℕ, ◌+◌, ◌-◌, ◌^◌, ◌<◌, ◌++◌, ◌==◌, ◌&&◌, ◌⊎◌, if◌then◌else◌, nat_lt, List, [], Option, Some, None, IsNone, Result, Ok, Err, length, take, MatchResult}
+use Rattle.std.specs.Prelude.{◌≡◌, ℕ, zero, suc, ◌+◌, ◌-◌, ◌^◌, ◌<◌, ◌++◌, ◌==◌, ◌&&◌, ◌⊎◌, if◌then◌else◌, nat_lt, List, [], Option, Some, None, IsNone, Result, Ok, Err, length, take, MatchResult}
 use Rattle.ch_run.specs.declared.device.ReadAllFault.{ReadAllFault}
 use Rattle.ch_run.specs.declared.device.ReadAllFault.TheVariants.{Device, Memory}
 
@@ -8,14 +8,22 @@ abbrev pub CanCountOneMore : ℕ → Type 0
 CanCountOneMore count = count < 2 ^ 64 - 1
 
 -- how much an answer raises the count of failures: an error raises it by one
-abbrev pub raised : {T E : Type 0} → Result T E → ℕ
-raised (Ok _) = 0
-raised (Err _) = 1
+abbrev pub failures_in : {T E : Type 0} → Result T E → ℕ
+failures_in (Ok _) = 0
+failures_in (Err _) = 1
 
 -- how much a write of these bytes raises the count of writes that took none of some bytes
 abbrev pub idle_writes : {E : Type 0} → Result ℕ E → List ℕ → ℕ
 idle_writes (Ok n) bytes = if (n == 0) && nat_lt 0 (length bytes) then 1 else 0
 idle_writes (Err _) bytes = 0
+
+-- at most one more was counted
+abbrev pub CountsAtMostOne : ℕ → ℕ → Type 0
+CountsAtMostOne count count' = (count' ≡ count) ⊎ (count' ≡ count + 1)
+
+-- at most one more was counted, of two counts together
+abbrev pub CountsAtMostOneOf : (failed failed' idle idle' : ℕ) → Type 0
+CountsAtMostOneOf failed failed' idle idle' = (CountsAtMostOne failed failed' × (idle' ≡ idle)) ⊎ ((failed' ≡ failed) × CountsAtMostOne idle idle')
 
 -- how many failed reads the answer of reading a whole input tells of
 abbrev pub failed_reads : {T : Type 0} → Result T ReadAllFault → ℕ
@@ -51,3 +59,9 @@ HasTaken (Some old) new bytes = new ≡ Some (old ++ bytes)
 abbrev pub CountsFault : {T E : Type 0} → (failed failed' idle idle' : ℕ) → Result T E → Type 0
 CountsFault failed failed' idle idle' (Ok _) = (failed' ≡ failed) × (idle' ≡ idle)
 CountsFault failed failed' idle idle' (Err _) = ((failed' ≡ failed + 1) × (idle' ≡ idle)) ⊎ ((failed' ≡ failed) × (idle' ≡ idle + 1))
+
+-- the turns that are left after one: none where it was the last
+abbrev pub turns_after : Option ℕ → Option ℕ
+turns_after None = None
+turns_after (Some zero) = None
+turns_after (Some (suc turns)) = Some turns

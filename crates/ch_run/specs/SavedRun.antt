@@ -6,9 +6,9 @@ use Rattle.ch_read.specs.declared.fault.ReadFault.{ReadFault}
 use Rattle.ch_read.specs.declared.form.Form.TheVariants as Form
 use Rattle.ch_read.specs.Checks.{IsFault}
 use Rattle.ch_read.specs.Names.{NamesSaved}
-use Rattle.ch_contract.specs.declared.fault.CheckFault.{CheckFault}
-use Rattle.ch_contract.specs.Hierarchy.{LevelsAndLegs}
-use Rattle.ch_contract.specs.Saved.{NamesKept, IsFirstFault}
+use Rattle.ch_hierarchy.specs.declared.fault.CheckFault.{CheckFault}
+use Rattle.ch_hierarchy.specs.Hierarchy.{LevelsAndLegs}
+use Rattle.ch_hierarchy.specs.Saved.{NamesKept, IsFirstFault}
 use Rattle.ch_run.specs.declared.fault.Which.{Which}
 use Rattle.ch_run.specs.declared.fault.RunFault.{RunFault}
 use Rattle.ch_run.specs.declared.options.Options.{Options}
@@ -89,7 +89,7 @@ HasCellsRefusedFrom graph saved sources targets = WithChecked graph saved (λ g 
 
 -- the input names a graph within the limits, and the text is that of its hierarchy
 abbrev pub IsSavedBy : Options → Reading → List ℕ → Type 0
-IsSavedBy options graph text = (g : Network) × IsWithinLimits g × ReadsGraph graph g × IsSaveText g options.hops text
+IsSavedBy options graph text = (g : Network) × IsWithinLimits g × ReadsGraph graph g × IsSaveText options.order g options.hops text
 
 -- what reading the graph and the saved hierarchy may end in: one of them is refused or can't be read, or there is no memory
 abbrev pub IsOfChecked : RunFault → Type 0

@@ -1,8 +1,18 @@
 -- The definitions name one text, where a hierarchy is saved and where one was.
 use Rattle.std.specs.Prelude.{◌≡◌, ℕ, List, Some}
+use Rattle.ch_graph.specs.Graph.{Network, IsWithinLimits}
+use Rattle.ch_graph.specs.Saved.{OrderAndLegs}
+use Rattle.ch_read.specs.Names.{NamesSaved}
+use Rattle.ch_hierarchy.specs.Hierarchy.{LevelsAndLegs}
+use Rattle.ch_hierarchy.specs.Kept.{IsKept}
+use Rattle.ch_hierarchy.specs.Saved.{NamesKept}
+use Rattle.ch_contract.specs.declared.measure.OrderBy.{OrderBy}
+use Rattle.ch_contract.specs.Legs.{IsHopBound}
+use Rattle.ch_contract.specs.Built.{IsHierarchyBy}
 use Rattle.ch_run.specs.declared.options.Options.{Options}
 use Rattle.ch_run.specs.Run.{Reading}
 use Rattle.ch_run.specs.SavedRun.{IsAnsweredFrom, IsSavedBy, IsTabledFrom}
+use Rattle.ch_run.specs.SaveText.{IsHierarchyText, IsSaveText}
 
 -- two texts that answer the same bytes, as the same options ask, are equal
 abbrev pub SavedAnswersHaveOneText : Type 0
@@ -19,3 +29,16 @@ SavedTablesHaveOneText = (options : Options) (graph saved sources targets : Read
 -- two texts of the hierarchy of the same bytes are equal
 abbrev pub HierarchiesHaveOneText : Type 0
 HierarchiesHaveOneText = (options : Options) (graph : Reading) (graph_bytes text other : List ℕ) → graph.before ≡ Some graph_bytes → IsSavedBy options graph text → IsSavedBy options graph other → text ≡ other
+
+-- the bytes name an order and legs on the graph, and these name the hierarchy, which is right for it
+abbrev pub IsReadAs : List ℕ → Network → LevelsAndLegs → Type 0
+IsReadAs bytes g H = (s : OrderAndLegs) × NamesSaved bytes g.nodes s × NamesKept g s H
+
+-- so does the text of a hierarchy, of any origin, that is right for a graph
+abbrev pub HierarchyTextsReadBack : Type 0
+HierarchyTextsReadBack = (g : Network) (H : LevelsAndLegs) (text : List ℕ) → IsKept g H → IsHierarchyText H text → IsReadAs text g H
+
+-- and what is saved of a graph within the limits
+abbrev pub SavedTextsReadBack : Type 0
+SavedTextsReadBack = (by : OrderBy) (g : Network) (h : ℕ) (text : List ℕ) → IsWithinLimits g → IsHopBound h → IsSaveText by g h text →
+    (H : LevelsAndLegs) × IsHierarchyBy by g h H × IsReadAs text g H

@@ -4,7 +4,8 @@ use Rattle.std.specs.List.{AllZip}
 use Rattle.ch_graph.specs.declared.arc.InArc.{InArc}
 use Rattle.ch_graph.specs.Graph.{Network}
 use Rattle.ch_graph.specs.Walk.{IsAnswer}
-use Rattle.ch_contract.specs.Hierarchy.{LevelsAndLegs, IsHierarchy}
+use Rattle.ch_hierarchy.specs.Hierarchy.{LevelsAndLegs}
+use Rattle.ch_contract.specs.Built.{IsHierarchyBy}
 use Rattle.ch_query.specs.declared.answer.Answer.{Answer}
 use Rattle.ch_query.specs.Routes.{IsLeastWalk}
 use Rattle.ch_query.specs.Answers.{HasArcs}
@@ -69,6 +70,6 @@ abbrev pub IsTextBy : Bool → Network → (LevelsAndLegs → Type 0) → List (
 IsTextBy false g From queries text = IsDistanceText g queries text
 IsTextBy true g From queries text = IsRouteText g From queries text
 
--- the text that answers the queries as the options ask, with routes by the contraction hierarchy of the graph
+-- the text that answers the queries as the options ask, with routes by the contraction hierarchy of the graph in their order
 abbrev pub IsText : Options → Network → List (ℕ × ℕ) → List ℕ → Type 0
-IsText options g queries text = IsTextBy (writes_routes options) g (IsHierarchy g options.hops) queries text
+IsText options g queries text = IsTextBy (writes_routes options) g (IsHierarchyBy options.order g options.hops) queries text

@@ -1,7 +1,7 @@
 //! What a run reads its files from and writes its text to.
 
 ghost use Rattle.std.specs.Prelude.{◌≡◌, ◌+◌, ◌<◌, ◌≤◌, ℕ, List, Option, Some, codes, length, take, vec_len, IfOk, IfErr, OnOk};
-ghost use Rattle.ch_run.specs.Device.{CanCountOneMore, GivesBytes, HasGiven, HasTaken, CountsFault, TakesBytes, idle_writes, raised, failed_reads};
+ghost use Rattle.ch_run.specs.Device.{CanCountOneMore, GivesBytes, HasGiven, HasTaken, CountsFault, TakesBytes, idle_writes, failures_in, failed_reads};
 
 mod file;
 mod memory;
@@ -46,7 +46,7 @@ pub trait Input {
     fn read(&mut self, buffer: &mut [u8]) -> Result<usize, DeviceFault>
         requires { CanCountOneMore (failed self.old) }
         ensures fits { IfOk result (λ n. n ≤ length buffer.new) }
-        ensures failures { failed self.new ≡ failed self.old + raised result }
+        ensures failures { failed self.new ≡ failed self.old + failures_in result }
         ensures bytes { GivesBytes (left self.old) (left self.new) result buffer.new };
 
     /// How many reads have failed.
@@ -73,7 +73,7 @@ pub trait Output {
         requires failures { CanCountOneMore (failed self.old) }
         requires zeros { CanCountOneMore (idle self.old) }
         ensures fits { IfOk result (λ n. n ≤ length bytes.now) }
-        ensures failures { failed self.new ≡ failed self.old + raised result }
+        ensures failures { failed self.new ≡ failed self.old + failures_in result }
         ensures zeros { idle self.new ≡ idle self.old + idle_writes result bytes.now }
         ensures bytes { TakesBytes (taken self.old) (taken self.new) result bytes.now };
 

@@ -1,13 +1,13 @@
 //! Why a run gave no answer.
 
 ghost use Rattle.std.specs.Prelude.{◌≡◌, Some};
-ghost use Rattle.ch_run.specs.Fault.{input_name, refused_by, status_of};
+ghost use Rattle.ch_run.specs.Fault.{fault_text, input_name, input_fault, status_of};
 
 use ch_contract::CheckFault;
 use ch_read::{ReadError, ReadFault};
 use std::alloc::{AllocError, AllocFailed};
+use std::error::Error;
 use std::fmt;
-use thiserror::Error;
 
 /// One of a run's inputs.
 #[derive(Clone, Copy, Debug, PartialEq, Eq)]
@@ -22,7 +22,7 @@ pub enum Which {
 impl Which {
     /// The fault of a run, where a reader refused what this input gave.
     pub(crate) fn refusal(self, error: ReadError) -> RunFault
-        ensures { result ≡ refused_by self error }
+        ensures { result ≡ input_fault self error }
     {
         match error {
             ReadError::Fault(fault) => match self {
@@ -54,39 +54,50 @@ impl fmt::Display for Which {
 /// Why a run gave no answer. Its `Display` is the line that the program writes to standard error.
 ///
 /// After all but `Write` nothing was written.
-#[derive(Clone, Copy, Debug, PartialEq, Eq, Error)]
+#[derive(Clone, Copy, Debug, PartialEq, Eq)]
 pub enum RunFault {
     /// The graph's file has this fault.
-    #[error("chtab: graph {0}")]
     Graph(ReadFault),
     /// The queries' file has this fault.
-    #[error("chtab: queries {0}")]
     Queries(ReadFault),
     /// The sources' file has this fault.
-    #[error("chtab: sources {0}")]
     Sources(ReadFault),
     /// The targets' file has this fault.
-    #[error("chtab: targets {0}")]
     Targets(ReadFault),
     /// The sources times the targets are more than 2^22.
-    #[error("chtab: too many cells")]
     Cells,
     /// There was no memory.
-    #[error("chtab: out of memory")]
     Memory,
     /// This input couldn't be opened or read.
-    #[error("chtab: cannot read {0}")]
     Device(Which),
     /// A write failed, or took no byte, after so many bytes had been written and flushed.
-    #[error("chtab: cannot write after {0} bytes")]
     Write(u64),
     /// The saved hierarchy's file has this fault.
-    #[error("chtab: saved {0}")]
     Saved(ReadFault),
     /// The saved hierarchy isn't right for the graph, for this fault.
-    #[error("chtab: saved hierarchy refused: {0}")]
     Check(CheckFault),
 }
+
+impl fmt::Display for RunFault {
+    ghost output = { λ fault. Some (fault_text fault) };
+
+    fn fmt<W: fmt::Write>(&self, f: &mut fmt::Formatter<W>) -> fmt::Result {
+        match self {
+            RunFault::Graph(fault) => write!(f, "chtab: graph {fault}"),
+            RunFault::Queries(fault) => write!(f, "chtab: queries {fault}"),
+            RunFault::Sources(fault) => write!(f, "chtab: sources {fault}"),
+            RunFault::Targets(fault) => write!(f, "chtab: targets {fault}"),
+            RunFault::Cells => f.write_str("chtab: too many cells"),
+            RunFault::Memory => f.write_str("chtab: out of memory"),
+            RunFault::Device(which) => write!(f, "chtab: cannot read {which}"),
+            RunFault::Write(count) => write!(f, "chtab: cannot write after {count} bytes"),
+            RunFault::Saved(fault) => write!(f, "chtab: saved {fault}"),
+            RunFault::Check(fault) => write!(f, "chtab: saved hierarchy refused: {fault}"),
+        }
+    }
+}
+
+impl Error for RunFault {}
 
 impl From<AllocError> for RunFault {
     ghost use Rattle.ch_run.specs.declared.fault.RunFault.TheVariants.{Memory};

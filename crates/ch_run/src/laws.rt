@@ -1,5 +1,5 @@
 //! Laws of texts, each the contract of a function that does nothing.
-ghost use Rattle.ch_run.specs.SavedTextLaws.{HierarchiesHaveOneText, SavedAnswersHaveOneText, SavedTablesHaveOneText};
+ghost use Rattle.ch_run.specs.SavedTextLaws.{HierarchiesHaveOneText, HierarchyTextsReadBack, SavedAnswersHaveOneText, SavedTablesHaveOneText, SavedTextsReadBack};
 ghost use Rattle.ch_run.specs.TextLaws.{AnswersHaveOneText, TablesHaveOneText};
 
 /// The definitions name one text: the order of contraction, the meet, each choice and the arcs of each leg
@@ -15,4 +15,11 @@ pub fn one_saved_text()
     ensures answers { SavedAnswersHaveOneText }
     ensures tables { SavedTablesHaveOneText }
     ensures hierarchies { HierarchiesHaveOneText }
+{}
+
+/// The text of a hierarchy, of any origin, that is right for a graph names that hierarchy again, so it is accepted;
+/// and so does what is saved of a graph.
+pub fn saved_text_reads_back()
+    ensures kept { HierarchyTextsReadBack }
+    ensures saved { SavedTextsReadBack }
 {}

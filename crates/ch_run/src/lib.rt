@@ -24,6 +24,6 @@ pub use device::{
     read_all, write_all,
 };
 pub use fault::{RunFault, Which, status};
-pub use options::{MOST_HOPS, MOST_WITHIN, Options};
+pub use options::{MOST_HOPS, MOST_WITHIN, Options, OrderBy};
 pub use plan::{Gate, Open, Plan};
 pub use run::{run_dist, run_dist_saved, run_save, run_table, run_table_saved};

@@ -1,5 +1,6 @@
 //! How queries are answered and tables made, and the limits of this.
 
+pub use ch_contract::OrderBy;
 use ch_graph::limits;
 
 /// The most legs of a witness.
@@ -17,6 +18,9 @@ pub struct Options {
     pub routes: bool,
     /// The most legs of a witness, from 1 to [`MOST_HOPS`].
     pub hops: u32,
+    /// The order of the hierarchy that is saved, or by which routes are told. Distances and tables are the same in
+    /// each order.
+    pub order: OrderBy,
     /// The greatest distance that a table tells, if there is one: a cell that is more has none. Answers to queries
     /// have no limit.
     pub within: Option<u64>,

@@ -2,8 +2,9 @@
 //! order of level, and in that order a line `l U V W A M` for each leg of a node, first those to higher nodes.
 ghost use Rattle.std.specs.Prelude.{◌≡◌, ◌≤◌, ◌<◌, ◌++◌, length, flat_map, map, All, IfOk, OnOk, codes, decimal};
 ghost use Rattle.ch_graph.specs.declared.limits.TheConstants.{MOST_NODES};
-ghost use Rattle.ch_contract.specs.Hierarchy.{nodes_of, IsLevelled};
-ghost use Rattle.ch_run.specs.SaveText.{IsByLevel, IsHierarchyText, leg_down, leg_text, leg_up, legs_at, middle_text, order_text};
+ghost use Rattle.ch_hierarchy.specs.Hierarchy.{nodes_of, IsLevelled};
+ghost use Rattle.ch_hierarchy.specs.Written.{IsByLevel, leg_down, leg_up, legs_at};
+ghost use Rattle.ch_run.specs.SaveText.{IsHierarchyText, leg_text, middle_text, order_text};
 
 use crate::text::{push_all, push_ends, push_node, push_number};
 use ch_contract::{Hierarchy, Leg};

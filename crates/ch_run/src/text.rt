@@ -157,13 +157,9 @@ pub(crate) fn push_number(text: &mut Vec<u8>, number: u64) -> Result<(), AllocEr
     push_all(text, buffer.format(number).as_bytes())
 }
 
-/// Adds bytes, for all of which room is reserved first.
+/// Adds bytes.
 pub(crate) fn push_all(text: &mut Vec<u8>, bytes: &[u8]) -> Result<(), AllocError>
     ensures { OnOk result (text.new.items ≡ text.old.items ++ bytes.now) }
 {
-    text.reserve(bytes.len())?;
-    for byte in bytes {
-        text.push(*byte)?;
-    }
-    Ok(())
+    text.extend_from_slice(bytes)
 }

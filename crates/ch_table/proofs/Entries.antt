@@ -9,9 +9,9 @@ use Rattle.std.proofs.lemmas.List.Elements.{All-contains, All-get_or, Contains-a
 use Rattle.std.proofs.lemmas.List.Kept.{AllPairs-filter}
 use Rattle.ch_graph.specs.declared.cost.Cost.{Cost}
 use Rattle.ch_graph.specs.Rows.{AreRowsOf, values_of}
-use Rattle.ch_contract.specs.declared.leg.Leg.{Leg}
-use Rattle.ch_contract.specs.Hierarchy.{LevelsAndLegs, nodes_of, AreLegsUp, IsLegUp, IsLevelled}
-use Rattle.ch_contract.specs.Paths.{IsUpwardPath, IsLeastUpwardPath}
+use Rattle.ch_hierarchy.specs.declared.leg.Leg.{Leg}
+use Rattle.ch_hierarchy.specs.Hierarchy.{LevelsAndLegs, nodes_of, AreLegsUp, IsLegUp, IsLevelled}
+use Rattle.ch_hierarchy.specs.Paths.{IsUpwardPath, IsLeastUpwardPath}
 use Rattle.ch_graph.proofs.Lists.{contains_none}
 use Rattle.ch_query.specs.declared.side.Side.{Side}
 use Rattle.ch_query.specs.declared.side.Side.TheVariants.{Up, Down}

@@ -8,7 +8,7 @@ use Rattle.std.proofs.lemmas.List.Elements.{All-get_or, Contains-get_or}
 use Rattle.std.proofs.lemmas.List.FromFn.{length-map-range_with_len, get_or-map-range_with_len}
 use Rattle.std.proofs.lemmas.Nat.{same_from_place, mul-le}
 use Rattle.ch_graph.proofs.Lists.{zipped_length}
-use Rattle.ch_contract.specs.Hierarchy.{LevelsAndLegs, nodes_of, IsLevelled}
+use Rattle.ch_hierarchy.specs.Hierarchy.{LevelsAndLegs, nodes_of, IsLevelled}
 use Rattle.ch_query.specs.declared.side.Side.{Side}
 use Rattle.ch_query.specs.declared.side.Side.TheVariants.{Up, Down}
 use Rattle.ch_query.specs.Distance.{IsKeptForSome}
@@ -16,7 +16,7 @@ use Rattle.ch_query.specs.Limits.{IsWithin, IsDistanceWithin}
 use Rattle.ch_query.specs.SearchSpace.{IsSearchSpace}
 use Rattle.ch_query.specs.Side.{rows_of}
 use Rattle.ch_query.specs.SearchSpaceLaws.{IsSharedSum, IsLeastSharedSum}
-use Rattle.ch_query.proofs.SharedSums.{spaces_give_distance}
+use Rattle.ch_query.proofs.two_sides.SharedSums.{spaces_give_distance}
 use Rattle.ch_work.specs.declared.limits.TheConstants.{MOST_CELLS}
 use Rattle.ch_work.specs.Owed.{owed_by, IsLeastOwed}
 use Rattle.ch_work.specs.Pieces.{pieces_of}

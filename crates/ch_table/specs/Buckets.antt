@@ -2,9 +2,9 @@
 use Rattle.std.specs.Prelude.{◌≡◌, ℕ, ◌<◌, List, [], length, slice_index, slice_index_or, AllPairs, Contains, Option}
 use Rattle.std.specs.List.{AllZip}
 use Rattle.ch_graph.specs.declared.cost.Cost.{Cost}
-use Rattle.ch_contract.specs.declared.leg.Leg.{Leg}
-use Rattle.ch_contract.specs.Hierarchy.{LevelsAndLegs, nodes_of}
-use Rattle.ch_contract.specs.Paths.{IsLeastUpwardPath}
+use Rattle.ch_hierarchy.specs.declared.leg.Leg.{Leg}
+use Rattle.ch_hierarchy.specs.Hierarchy.{LevelsAndLegs, nodes_of}
+use Rattle.ch_hierarchy.specs.Paths.{IsLeastUpwardPath}
 use Rattle.ch_query.specs.declared.side.Side.{Side}
 use Rattle.ch_query.specs.Limits.{IsWithin}
 use Rattle.ch_query.specs.SearchSpace.{IsSearchSpace}

@@ -1,8 +1,8 @@
 -- The entries of buckets, each after the node whose bucket it is in.
 use Rattle.std.specs.Prelude.{◌≡◌, ℕ, ◌<◌, List, [], slice_index, slice_index_or, AllPairs, Contains, Option}
 use Rattle.ch_graph.specs.declared.cost.Cost.{Cost}
-use Rattle.ch_contract.specs.declared.leg.Leg.{Leg}
-use Rattle.ch_contract.specs.Paths.{IsLeastUpwardPath}
+use Rattle.ch_hierarchy.specs.declared.leg.Leg.{Leg}
+use Rattle.ch_hierarchy.specs.Paths.{IsLeastUpwardPath}
 use Rattle.ch_query.specs.Limits.{IsWithin}
 
 -- the entry for place j at a node that is reached

@@ -1,7 +1,7 @@
 -- What the nodes owe to the cells of a table: the sums within a limit of what their two buckets hold.
 use Rattle.std.specs.Prelude.{◌≡◌, ℕ, ◌+◌, ◌*◌, ◌<◌, ◌≤◌, List, [], length, slice_index_or, Contains, All, Option}
 use Rattle.ch_graph.specs.declared.limits.TheConstants.{MOST_WEIGHT}
-use Rattle.ch_contract.specs.Hierarchy.{LevelsAndLegs}
+use Rattle.ch_hierarchy.specs.Hierarchy.{LevelsAndLegs}
 use Rattle.ch_query.specs.declared.side.Side.TheVariants.{Up, Down}
 use Rattle.ch_query.specs.Limits.{IsWithin}
 use Rattle.ch_work.specs.declared.limits.TheConstants.{MOST_CELLS}

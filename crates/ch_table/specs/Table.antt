@@ -1,7 +1,7 @@
 -- Tables of distances.
 use Rattle.std.specs.Prelude.{ℕ, ◌+◌, ◌*◌, List, Option, map, slice_range}
 use Rattle.std.specs.List.{AllZip, range_with_len}
-use Rattle.ch_contract.specs.Hierarchy.{LevelsAndLegs}
+use Rattle.ch_hierarchy.specs.Hierarchy.{LevelsAndLegs}
 use Rattle.ch_query.specs.Limits.{IsDistanceWithin}
 
 -- a cell for each target, in order: the distance where it is within the limit, and else none

@@ -1,14 +1,15 @@
 //! Buckets: at each node the targets that it reaches, or the sources that reach it.
 ghost use Rattle.std.specs.Prelude.{◌≡◌, ◌++◌, ◌<◌, ◌≤◌, [], length, map, slice_index_or, All, IfOk, OnOk};
 ghost use Rattle.ch_graph.specs.declared.limits.TheConstants.{MOST_LISTED};
-ghost use Rattle.ch_contract.specs.Hierarchy.{nodes_of};
+ghost use Rattle.ch_hierarchy.specs.Hierarchy.{nodes_of};
 ghost use Rattle.ch_query.specs.Side.{rows_of};
 ghost use Rattle.ch_table.specs.Buckets.{AreBuckets, HoldLists};
 ghost use Rattle.ch_table.specs.Entries.{AreEntries, entry_at, AreEntriesOf, entry_of};
 
-use ch_contract::Hierarchy;
 use ch_graph::{Cost, Rows};
+use ch_hierarchy::Hierarchy;
 use ch_query::{Scratch, Side, spread};
+use ch_work::length_of;
 use std::alloc::{AllocError, Global};
 use std::marker::Model;
 
@@ -154,15 +155,6 @@ fn entries_of(alloc: Global, lists: &[Vec<(u32, u64)>]) -> Result<Vec<Entry>, Al
         push_list(&mut entries, place as u32, list)?;
     }
     Ok(entries)
-}
-
-/// How many pairs the lists have, or the most that fits where they have more.
-fn length_of(lists: &[Vec<(u32, u64)>]) -> usize {
-    let mut length = 0usize;
-    for list in lists {
-        length = length.saturating_add(list.len());
-    }
-    length
 }
 
 /// Adds an entry for this place to the bucket of each node of the list.

@@ -2,14 +2,14 @@
 ghost use Rattle.std.specs.Prelude.{◌*◌, ◌<◌, ◌≤◌, length, All, IfOk};
 ghost use Rattle.std.specs.List.{AllZip};
 ghost use Rattle.ch_graph.specs.declared.limits.TheConstants.{MOST_LISTED};
-ghost use Rattle.ch_contract.specs.Hierarchy.{nodes_of};
+ghost use Rattle.ch_hierarchy.specs.Hierarchy.{nodes_of};
 ghost use Rattle.ch_query.specs.Distance.{IsKeptForSome};
 ghost use Rattle.ch_table.specs.Table.{IsRowBy};
 ghost use Rattle.ch_work.specs.declared.limits.TheConstants.{MOST_CELLS};
 
 use crate::cells::Table;
 use crate::sums::Sums;
-use ch_contract::Hierarchy;
+use ch_hierarchy::Hierarchy;
 use ch_work::{Gate, Plan, run_cells};
 use std::alloc::{AllocError, Global};
 use std::thread::Threads;

@@ -1,12 +1,12 @@
 //! The searches of a table, and the buckets that hold what they found.
 ghost use Rattle.std.specs.Prelude.{◌<◌, ◌≤◌, length, All, IfOk};
 ghost use Rattle.ch_graph.specs.declared.limits.TheConstants.{MOST_LISTED};
-ghost use Rattle.ch_contract.specs.Hierarchy.{nodes_of};
+ghost use Rattle.ch_hierarchy.specs.Hierarchy.{nodes_of};
 ghost use Rattle.ch_query.specs.Distance.{IsKeptForSome};
 ghost use Rattle.ch_table.specs.Buckets.{HoldSearchSpaces};
 
 use crate::buckets::Buckets;
-use ch_contract::Hierarchy;
+use ch_hierarchy::Hierarchy;
 use ch_query::{Scratch, Side, search_space};
 use ch_work::{Gate, ListJob, Plan, run_list};
 use std::alloc::{AllocError, Global};
@@ -49,7 +49,7 @@ struct Searches<'a> {
 
 impl<'a> Model for Searches<'a> {
     ghost use Rattle.std.specs.Prelude.{ℕ, Option};
-    ghost use Rattle.ch_contract.specs.Hierarchy.{LevelsAndLegs};
+    ghost use Rattle.ch_hierarchy.specs.Hierarchy.{LevelsAndLegs};
     ghost use Rattle.ch_query.specs.declared.side.Side.{Side};
     ghost use Rattle.ch_query.specs.Distance.{IsKeptForSome};
 
@@ -62,7 +62,7 @@ impl<'a> Model for Searches<'a> {
 
 impl<'a> ListJob for Searches<'a> {
     ghost use Rattle.std.specs.Prelude.{◌≡◌, ◌<◌};
-    ghost use Rattle.ch_contract.specs.Hierarchy.{nodes_of};
+    ghost use Rattle.ch_hierarchy.specs.Hierarchy.{nodes_of};
     ghost use Rattle.ch_query.specs.SearchSpace.{IsSearchSpace};
 
     type Item = u32;

@@ -1,7 +1,7 @@
 //! What the nodes owe to the cells of a table.
 ghost use Rattle.std.specs.Prelude.{◌≡◌, ◌+◌, ◌*◌, ◌<◌, ◌≤◌, ◌↔◌, IsTrue, length, All, IfOk};
 ghost use Rattle.ch_graph.specs.declared.limits.TheConstants.{MOST_LISTED, MOST_WEIGHT};
-ghost use Rattle.ch_contract.specs.Hierarchy.{nodes_of};
+ghost use Rattle.ch_hierarchy.specs.Hierarchy.{nodes_of};
 ghost use Rattle.ch_query.specs.Distance.{IsKeptForSome};
 ghost use Rattle.ch_query.specs.Limits.{IsWithin};
 ghost use Rattle.ch_table.specs.Sums.{AreSidesOf, IsOwedInRow, IsOwedAt};
@@ -11,7 +11,7 @@ ghost use Rattle.ch_work.specs.Passes.{view_of, size_of, IsPassOf};
 
 use crate::buckets::Buckets;
 use crate::spaces::search_spaces;
-use ch_contract::Hierarchy;
+use ch_hierarchy::Hierarchy;
 use ch_query::Side;
 use ch_work::{Board, CellJob, Gate, Pass, Plan, pay};
 use std::alloc::{AllocError, Global};

@@ -13,7 +13,7 @@ use Rattle.ch_work.specs.Counts.{bit, total, times}
 use Rattle.ch_work.specs.Passes.{view_of, IsPassOf, HasEnded}
 use Rattle.ch_work.specs.Pieces.{pieces_of}
 use Rattle.ch_work.specs.Rule.{Settled}
-use Rattle.ch_work.specs.Steps.{fresh, claimed}
+use Rattle.ch_work.specs.Steps.{nothing_known, with_claim}
 use Rattle.ch_work.proofs.Items.{all_at, map_push, next_split, next_done}
 use Rattle.ch_work.proofs.Totals.{total_push, one_same, one_other}
 
@@ -36,7 +36,7 @@ full Q (Some x) t positive h = h
 
 module _ {X : Type 0} (m : ℕ → ℕ → X → Type 0) (n p : ℕ) where
   -- before its first claim a worker has done nothing
-  pub starts : (v : Known) → v ≡ fresh (pieces_of n p) 1 → Working m n p v 0 []
+  pub starts : (v : Known) → v ≡ nothing_known (pieces_of n p) 1 → Working m n p v 0 []
   starts v e = record {
     pieces = ap (λ (u : Known). u.pieces) e;
     next_in = omega arith;
@@ -46,7 +46,7 @@ module _ {X : Type 0} (m : ℕ → ℕ → X → Type 0) (n p : ℕ) where
   }
 
   -- a claim more, and its piece done
-  pub goes_on : (v w : Known) (next k : ℕ) (ds : List (Done X)) (x : X) → Working m n p v next ds → k < pieces_of n p → w ≡ claimed v k → m (k * p) (min (k * p + p) n) x →
+  pub goes_on : (v w : Known) (next k : ℕ) (ds : List (Done X)) (x : X) → Working m n p v next ds → k < pieces_of n p → w ≡ with_claim v k → m (k * p) (min (k * p + p) n) x →
       Working m n p w (k + 1) (ds ++ record { number = k; value = x } ∷ [])
   goes_on v w next k ds x h lt e means =
       let d : Done X = record { number = k; value = x } in record {

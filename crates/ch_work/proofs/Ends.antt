@@ -12,16 +12,16 @@ use Rattle.ch_work.specs.declared.board.known.Known.{Known}
 use Rattle.ch_work.specs.declared.board.known.Size.{Size}
 use Rattle.ch_work.specs.Counts.{bit, total, times, times_at}
 use Rattle.ch_work.specs.Rule.{none_yet, Fits, AllFit, Holds, Kept, IsWhole}
-use Rattle.ch_work.specs.Steps.{fresh, looked, Looks, less_one, one_part, both}
+use Rattle.ch_work.specs.Steps.{nothing_known, with_look, Looks, less_one, one_part, both}
 use Rattle.ch_work.proofs.Totals.{total_grow, total_append, total_push, total_split, total_join, total_whole, pair_cases, bit_one, none_below}
 use Rattle.ch_work.proofs.Moves.{fits_set, numbers_same, cells_same, knows_below}
 
 module _ (k : Size) (c : ℕ) (ws : List ℕ) (views : List Known) (h : Holds k c ws views) (id : ℕ) (v : Known) (at : get_elem? views id ≡ some v) (cell : ℕ) where
   -- a look keeps the rule
-  pub looks_holds : cell < k.cells → slice_index ws cell < none_yet → 0 < v.parts → Holds k c ws (set views id (looked v cell (slice_index ws cell)))
+  pub looks_holds : cell < k.cells → slice_index ws cell < none_yet → 0 < v.parts → Holds k c ws (set views id (with_look v cell (slice_index ws cell)))
   looks_holds inside less part =
       let x = slice_index ws cell in
-      let w = looked v cell x in
+      let w = with_look v cell x in
       let o : (i y : ℕ) → total (λ (u : Known). times_at i y u.offers) (set views id w) ≡ total (λ (u : Known). times_at i y u.offers) views
       = λ i y. let e = total_grow (λ (u : Known). times_at i y u.offers) views id v w 0 at (omega arith) in omega arith in
       let s : (i y : ℕ) → total (λ (u : Known). times_at i y u.shown) (set views id w) ≡ total (λ (u : Known). times_at i y u.shown) views + bit ((cell == i) && (x == y))
@@ -68,11 +68,11 @@ looks k slots id v c cell part inside s kept homes at fits =
     let here : LooksAt k slots id v c (suc cell) s.homes s.views (x ∷ ws) =
     dite (dec_lt n none_yet)
     (λ less. (
-      looked v cell n,
+      with_look v cell n,
       keeps,
       tt,
-      record { counter = x; values = set ws cell n; words = refl; holds = subst (λ (l : List ℕ). Holds k x l (set s.views id (looked v cell n))) (sym again) (looks_holds k x ws s.views h id v at cell inside less part) },
-      (refl, inl ((h.values.small cell n (h.values.hit cell inside less)).1, ap (λ (i : ℕ). looked v i n) (sym e), λ y p. (knows_below k x ws s.views h id v at cell y (rw e at p)).0)),
+      record { counter = x; values = set ws cell n; words = refl; holds = subst (λ (l : List ℕ). Holds k x l (set s.views id (with_look v cell n))) (sym again) (looks_holds k x ws s.views h id v at cell inside less part) },
+      (refl, inl ((h.values.small cell n (h.values.hit cell inside less)).1, ap (λ (i : ℕ). with_look v i n) (sym e), λ y p. (knows_below k x ws s.views h id v at cell y (rw e at p)).0)),
     ))
     (λ more. (
       v,
@@ -100,10 +100,10 @@ same_totals k c ws old now h ended claims parts offers shown fits = record {
 }
 
 -- a pass that has done nothing is cut off
-pub splits : (k : Size) (id p n : ℕ) → 0 < n → Splits (Kept k) id (fresh p n) (less_one (fresh p n)) (one_part (fresh p n))
+pub splits : (k : Size) (id p n : ℕ) → 0 < n → Splits (Kept k) id (nothing_known p n) (less_one (nothing_known p n)) (one_part (nothing_known p n))
 splits k id p n some_part s kept at =
     let h = kept.holds in
-    let v = fresh p n in
+    let v = nothing_known p n in
     let l = less_one v in
     let r = one_part v in
     let f = h.fits id v at in
@@ -124,11 +124,11 @@ splits k id p n some_part s kept at =
     }
 
 -- a pass is joined to others
-pub joins : (k : Size) (id : ℕ) (v : Known) (other : ℕ) (w : Known) → 0 < w.parts → Joins (Kept k) id v other w (both v w) (fresh 0 0)
+pub joins : (k : Size) (id : ℕ) (v : Known) (other : ℕ) (w : Known) → 0 < w.parts → Joins (Kept k) id v other w (both v w) (nothing_known 0 0)
 joins k id v other w some_w s kept at apart there =
     let h = kept.holds in
     let b = both v w in
-    let z = fresh 0 0 in
+    let z = nothing_known 0 0 in
     let theirs : Fits k w = ⊎_elim (λ (t : (other ≡ id) × (b ≡ w)). absurd (apart t.0)) (λ (t : (other ≢ id) × (get_elem? s.views other ≡ some w)). h.fits other w t.1) (at_set s.views id other b w there) in
     let mine : Fits k v = h.fits id v at in
     record {
@@ -146,10 +146,10 @@ joins k id v other w some_w s kept at apart there =
     }
 
 -- a new pass with no part
-pub enters : (k : Size) (slots : ℕ) → Enters (Kept k) slots 0 (λ n w. w ≡ fresh 0 0)
+pub enters : (k : Size) (slots : ℕ) → Enters (Kept k) slots 0 (λ n w. w ≡ nothing_known 0 0)
 enters k slots s kept homes fits =
     let h = kept.holds in
-    let z = fresh 0 0 in (
+    let z = nothing_known 0 0 in (
       z,
       record {
         counter = kept.counter;
@@ -169,10 +169,10 @@ enters k slots s kept homes fits =
     )
 
 -- a board at its start
-pub opens : (pieces cells passes : ℕ) → pieces + passes + 1 < 2 ^ 64 → Kept record { pieces = pieces; cells = cells; passes = passes } (opening (0 ∷ replicate cells none_yet) [] (fresh pieces passes))
+pub opens : (pieces cells passes : ℕ) → pieces + passes + 1 < 2 ^ 64 → Kept record { pieces = pieces; cells = cells; passes = passes } (opening (0 ∷ replicate cells none_yet) [] (nothing_known pieces passes))
 opens pieces cells passes room =
     let k : Size = record { pieces = pieces; cells = cells; passes = passes } in
-    let v = fresh pieces passes in record {
+    let v = nothing_known pieces passes in record {
       counter = 0;
       values = replicate cells none_yet;
       words = refl;
@@ -190,7 +190,7 @@ opens pieces cells passes room =
       };
     }
   where
-    one : (j : ℕ) (u : Known) → get_elem? (fresh pieces passes ∷ []) j ≡ some u → Fits record { pieces = pieces; cells = cells; passes = passes } u
+    one : (j : ℕ) (u : Known) → get_elem? (nothing_known pieces passes ∷ []) j ≡ some u → Fits record { pieces = pieces; cells = cells; passes = passes } u
     one zero u e = let k : Size = record { pieces = pieces; cells = cells; passes = passes } in subst (λ (y : Known). Fits k y) (some-injective _ _ e) record { pieces = λ q. refl; ended = omega arith; idle = λ z. (refl, refl, refl) }
     one (suc j) u e = absurd (some-ne-none u (sym e))
 

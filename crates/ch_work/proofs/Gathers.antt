@@ -13,11 +13,11 @@ use Rattle.ch_work.specs.Passes.{view_of}
 use Rattle.ch_work.proofs.Ends.{settles}
 use Rattle.ch_work.specs.Counts.{bit, total, times, times_at}
 use Rattle.ch_work.specs.Rule.{none_yet, Kept, Sums, Settled, IsWhole, IsLeast, IsRead, read_cell}
-use Rattle.ch_work.specs.Steps.{fresh, both}
+use Rattle.ch_work.specs.Steps.{nothing_known, both}
 use Rattle.ch_work.proofs.Totals.{total_append, total_push}
 
 -- nothing is what no view has
-pub sums_none : Sums (fresh 0 0) []
+pub sums_none : Sums (nothing_known 0 0) []
 sums_none = record { parts = refl; ended = refl; claims = λ x. refl; offers = λ i x. refl; shown = λ i x. refl }
 
 -- a view more is taken in

@@ -12,7 +12,7 @@ use Rattle.ch_work.specs.declared.board.known.Known.{Known}
 use Rattle.ch_work.specs.declared.board.known.Size.{Size}
 use Rattle.ch_work.specs.Counts.{bit, total, times, times_at}
 use Rattle.ch_work.specs.Rule.{none_yet, Fits, Numbers, Cells, AllFit, Holds, Kept}
-use Rattle.ch_work.specs.Steps.{claimed, finished, offered, Knows, Claims, Offers}
+use Rattle.ch_work.specs.Steps.{with_claim, with_end, with_offer, Knows, Claims, Offers}
 use Rattle.ch_work.proofs.Totals.{total_grow, total_push, total_at, total_le, below_next, below_is, pair_same, pair_cases}
 
 -- all views fit after one is put for another that fits
@@ -45,9 +45,9 @@ module _ (k : Size) (c : ℕ) (ws : List ℕ) (views : List Known) (h : Holds k 
   claims_below x p = let t = total_at (λ (u : Known). times x u.claims) views id v at in let e = h.numbers.claimed x in below_is x (min c k.pieces) (omega arith)
 
   -- a claim of a number below the pieces keeps the rule
-  pub claims_holds : c < k.pieces → 0 < v.parts → Holds k (c + 1) ws (set views id (claimed v c))
+  pub claims_holds : c < k.pieces → 0 < v.parts → Holds k (c + 1) ws (set views id (with_claim v c))
   claims_holds lt part =
-      let w = claimed v c in
+      let w = with_claim v c in
       let m : min c k.pieces ≡ c = omega arith in
       let m' : min (c + 1) k.pieces ≡ c + 1 = omega arith in record {
         room = h.room;
@@ -65,9 +65,9 @@ module _ (k : Size) (c : ℕ) (ws : List ℕ) (views : List Known) (h : Holds k 
       }
 
   -- a claim of a number past the pieces, which ends the pass, keeps the rule
-  pub ends_holds : k.pieces ≤ c → v.ended < v.parts → Holds k (c + 1) ws (set views id (finished v))
+  pub ends_holds : k.pieces ≤ c → v.ended < v.parts → Holds k (c + 1) ws (set views id (with_end v))
   ends_holds le part =
-      let w = finished v in record {
+      let w = with_end v in record {
         room = h.room;
         cells = h.cells;
         numbers = record {
@@ -123,17 +123,17 @@ claims k slots id v c part opn s kept homes at fits =
     let here : ClaimsAt k slots id v c s.homes s.views (x ∷ ws) =
     dite (dec_lt x k.pieces)
     (λ lt. (
-      claimed v x,
+      with_claim v x,
       keeps,
       tt,
-      record { counter = (x + 1) % 2 ^ 64; values = ws; words = refl; holds = subst (λ (n : ℕ). Holds k n ws (set s.views id (claimed v x))) (sym m) (claims_holds k x ws s.views h id v at lt part) },
+      record { counter = (x + 1) % 2 ^ 64; values = ws; words = refl; holds = subst (λ (n : ℕ). Holds k n ws (set s.views id (with_claim v x))) (sym m) (claims_holds k x ws s.views h id v at lt part) },
       (refl, inl (omega arith, refl, λ y p. let b = claims_below k x ws s.views h id v at y p in omega arith)),
     ))
     (λ ge. (
-      finished v,
+      with_end v,
       keeps,
       tt,
-      record { counter = (x + 1) % 2 ^ 64; values = ws; words = refl; holds = subst (λ (n : ℕ). Holds k n ws (set s.views id (finished v))) (sym m) (ends_holds k x ws s.views h id v at (omega arith) opn) },
+      record { counter = (x + 1) % 2 ^ 64; values = ws; words = refl; holds = subst (λ (n : ℕ). Holds k n ws (set s.views id (with_end v))) (sym m) (ends_holds k x ws s.views h id v at (omega arith) opn) },
       (refl, inr (omega arith, refl)),
     )) in
     subst (λ (l : List ℕ). ClaimsAt k slots id v c s.homes s.views l) (sym kept.words) here
@@ -151,35 +151,35 @@ module _ (ws : List ℕ) (cell : ℕ) (y : ℕ) (inside : cell < length ws) wher
 
 module _ (k : Size) (c : ℕ) (ws : List ℕ) (views : List Known) (h : Holds k c ws views) (id : ℕ) (v : Known) (at : get_elem? views id ≡ some v) (cell weight : ℕ) (inside : cell < k.cells) where
   -- the offers of all passes after one more
-  more_offers : (i x : ℕ) → total (λ (u : Known). times_at i x u.offers) (set views id (offered v cell weight)) ≡ total (λ (u : Known). times_at i x u.offers) views + bit ((cell == i) && (weight == x))
-  more_offers i x = total_grow (λ (u : Known). times_at i x u.offers) views id v (offered v cell weight) (bit ((cell == i) && (weight == x))) at (total_push (λ (p : ℕ × ℕ). bit ((p.0 == i) && (p.1 == x))) v.offers (cell, weight))
+  more_offers : (i x : ℕ) → total (λ (u : Known). times_at i x u.offers) (set views id (with_offer v cell weight)) ≡ total (λ (u : Known). times_at i x u.offers) views + bit ((cell == i) && (weight == x))
+  more_offers i x = total_grow (λ (u : Known). times_at i x u.offers) views id v (with_offer v cell weight) (bit ((cell == i) && (weight == x))) at (total_push (λ (p : ℕ × ℕ). bit ((p.0 == i) && (p.1 == x))) v.offers (cell, weight))
 
   -- an offer shows nothing
-  same_shown : (i x : ℕ) → total (λ (u : Known). times_at i x u.shown) (set views id (offered v cell weight)) ≡ total (λ (u : Known). times_at i x u.shown) views
-  same_shown i x = let e = total_grow (λ (u : Known). times_at i x u.shown) views id v (offered v cell weight) 0 at (omega arith) in omega arith
+  same_shown : (i x : ℕ) → total (λ (u : Known). times_at i x u.shown) (set views id (with_offer v cell weight)) ≡ total (λ (u : Known). times_at i x u.shown) views
+  same_shown i x = let e = total_grow (λ (u : Known). times_at i x u.shown) views id v (with_offer v cell weight) 0 at (omega arith) in omega arith
 
   module _ (new : ℕ) (is_new : new ≡ min (slice_index ws cell) weight) (bound : weight ≤ MOST_OFFER) where
     -- after an offer each cell has a word that was offered there
-    hit_after : (i : ℕ) → i < k.cells → slice_index (set ws cell new) i < none_yet → 0 < total (λ (u : Known). times_at i (slice_index (set ws cell new) i) u.offers) (set views id (offered v cell weight))
+    hit_after : (i : ℕ) → i < k.cells → slice_index (set ws cell new) i < none_yet → 0 < total (λ (u : Known). times_at i (slice_index (set ws cell new) i) u.offers) (set views id (with_offer v cell weight))
     hit_after i lt less = dite (ℕ_discrete i cell)
-        (λ e. let P : ℕ → Type 0 = λ j. 0 < total (λ (u : Known). times_at j (slice_index (set ws cell new) j) u.offers) (set views id (offered v cell weight)) in
-        subst P (sym e) (let Q : ℕ → Type 0 = λ z. 0 < total (λ (u : Known). times_at cell z u.offers) (set views id (offered v cell weight)) in
+        (λ e. let P : ℕ → Type 0 = λ j. 0 < total (λ (u : Known). times_at j (slice_index (set ws cell new) j) u.offers) (set views id (with_offer v cell weight)) in
+        subst P (sym e) (let Q : ℕ → Type 0 = λ z. 0 < total (λ (u : Known). times_at cell z u.offers) (set views id (with_offer v cell weight)) in
         subst Q (sym (put_here ws cell new (rw h.cells inside))) (here (rw (e, put_here ws cell new (rw h.cells inside)) at less))))
         (λ n. let e : slice_index (set ws cell new) i ≡ slice_index ws i = get_or-set_other ws cell i new 0 n in
-        let Q : ℕ → Type 0 = λ z. 0 < total (λ (u : Known). times_at i z u.offers) (set views id (offered v cell weight)) in
+        let Q : ℕ → Type 0 = λ z. 0 < total (λ (u : Known). times_at i z u.offers) (set views id (with_offer v cell weight)) in
         subst Q (sym e) (let m = more_offers i (slice_index ws i) in let was = h.values.hit i lt (omega arith) in omega arith))
       where
-        here : new < none_yet → 0 < total (λ (u : Known). times_at cell new u.offers) (set views id (offered v cell weight))
+        here : new < none_yet → 0 < total (λ (u : Known). times_at cell new u.offers) (set views id (with_offer v cell weight))
         here less' = dite (dec_lt (slice_index ws cell) weight)
             (λ lt'. let e : new ≡ slice_index ws cell = omega arith in
-            let Q : ℕ → Type 0 = λ z. 0 < total (λ (u : Known). times_at cell z u.offers) (set views id (offered v cell weight)) in
+            let Q : ℕ → Type 0 = λ z. 0 < total (λ (u : Known). times_at cell z u.offers) (set views id (with_offer v cell weight)) in
             subst Q (sym e) (let m = more_offers cell (slice_index ws cell) in let was = h.values.hit cell inside (omega arith) in omega arith))
             (λ ge. let e : new ≡ weight = omega arith in
-            let Q : ℕ → Type 0 = λ z. 0 < total (λ (u : Known). times_at cell z u.offers) (set views id (offered v cell weight)) in
+            let Q : ℕ → Type 0 = λ z. 0 < total (λ (u : Known). times_at cell z u.offers) (set views id (with_offer v cell weight)) in
             subst Q (sym e) (let m = more_offers cell weight in let o = pair_same cell weight in omega arith))
 
     -- after an offer no lesser word was offered than stands there
-    low_after : (i x : ℕ) → 0 < total (λ (u : Known). times_at i x u.offers) (set views id (offered v cell weight)) → (slice_index (set ws cell new) i ≤ x) × (i < k.cells) × (x ≤ MOST_OFFER)
+    low_after : (i x : ℕ) → 0 < total (λ (u : Known). times_at i x u.offers) (set views id (with_offer v cell weight)) → (slice_index (set ws cell new) i ≤ x) × (i < k.cells) × (x ≤ MOST_OFFER)
     low_after i x some_now =
         let in_ws : cell < length ws = rw h.cells inside in
         let less = put_less ws cell new in_ws (omega arith) i in
@@ -192,8 +192,8 @@ module _ (k : Size) (c : ℕ) (ws : List ℕ) (views : List Known) (h : Holds k 
         (pair_cases cell weight i x)
 
     -- an offer keeps the rule
-    pub offers_holds : 0 < v.parts → Holds k c (set ws cell new) (set views id (offered v cell weight))
-    offers_holds part = let w = offered v cell weight in record {
+    pub offers_holds : 0 < v.parts → Holds k c (set ws cell new) (set views id (with_offer v cell weight))
+    offers_holds part = let w = with_offer v cell weight in record {
       room = h.room;
       cells = length-set ws cell new ∙ h.cells;
       numbers = numbers_same k c views (set views id w) h.numbers
@@ -225,10 +225,10 @@ offers k slots id v c cell weight part inside bound s kept homes at fits =
     let ws = kept.values in
     let h = kept.holds in
     let here : OffersAt k slots id v c (suc cell) weight s.homes s.views (x ∷ ws) = (
-      offered v cell weight,
+      with_offer v cell weight,
       keeps,
       tt,
       record { counter = x; values = set ws cell (min (slice_index ws cell) weight); words = refl; holds = offers_holds k x ws s.views h id v at cell weight inside (min (slice_index ws cell) weight) refl bound part },
-      (refl, let e : suc cell - 1 ≡ cell = omega arith in ap (λ (n : ℕ). offered v n weight) (sym e)),
+      (refl, let e : suc cell - 1 ≡ cell = omega arith in ap (λ (n : ℕ). with_offer v n weight) (sym e)),
     ) in
     subst (λ (l : ℕ × List ℕ). OffersAt k slots id v c l.0 weight s.homes s.views l.1) (λ i. (sym (add-one cell) i, sym kept.words i)) here

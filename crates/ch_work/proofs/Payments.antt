@@ -4,7 +4,7 @@ use Rattle.ch_work.specs.declared.limits.TheConstants.{MOST_OFFER}
 use Rattle.ch_work.specs.declared.board.known.Known.{Known}
 use Rattle.ch_work.specs.Counts.{bit, times_at}
 use Rattle.ch_work.specs.Owed.{HasOffered, Covers, HasPaid}
-use Rattle.ch_work.specs.Steps.{offered, looked, Knows}
+use Rattle.ch_work.specs.Steps.{with_offer, with_look, Knows}
 use Rattle.ch_work.proofs.Totals.{total_push, pair_same, pair_cases}
 
 -- a pair more in a list
@@ -22,7 +22,7 @@ covers_one w cell weight y k le i x owed =
     subst P (λ j. (sym owed.0 j, sym owed.1 j)) (y, k, le)
 
 -- it is paid where a look shows no more
-pub seen_less : (v : Known) (cell weight x : ℕ) → x ≤ weight → HasPaid (One cell weight) v (looked v cell x)
+pub seen_less : (v : Known) (cell weight x : ℕ) → x ≤ weight → HasPaid (One cell weight) v (with_look v cell x)
 seen_less v cell weight x le = (
   record {
     pieces = refl;
@@ -31,7 +31,7 @@ seen_less v cell weight x le = (
     knows = λ i y k. let m = more v.shown cell x i y in omega arith;
     offers = λ i y p. inl p;
   },
-  covers_one (looked v cell x) cell weight x (let m = more v.shown cell x cell x in let o = pair_same cell x in omega arith) le,
+  covers_one (with_look v cell x) cell weight x (let m = more v.shown cell x cell x in let o = pair_same cell x in omega arith) le,
 )
 
 -- nothing but what a look shows is new after it
@@ -39,12 +39,12 @@ abbrev Shows : Known → Known → Type 0
 Shows v u = (u.pieces ≡ v.pieces) × (u.ended ≡ v.ended) × (u.claims ≡ v.claims) × (u.offers ≡ v.offers) × ((i x : ℕ) → Knows v i x → Knows u i x)
 
 -- whatever a look shows
-pub after_look : (v u : Known) (cell : ℕ) (P : ℕ → Type 0) (Q : Type 0) (o : Option ℕ) → IfSome o (λ x. (x ≤ MOST_OFFER) × (u ≡ looked v cell x) × P x) → IfNone o ((u ≡ v) × Q) → Shows v u
+pub after_look : (v u : Known) (cell : ℕ) (P : ℕ → Type 0) (Q : Type 0) (o : Option ℕ) → IfSome o (λ x. (x ≤ MOST_OFFER) × (u ≡ with_look v cell x) × P x) → IfNone o ((u ≡ v) × Q) → Shows v u
 after_look v u cell P Q None some none = subst (Shows v) (sym none.0) (refl, refl, refl, refl, λ i x k. k)
 after_look v u cell P Q (Some x) some none = subst (Shows v) (sym some.1) (refl, refl, refl, refl, λ i y k. let m = more v.shown cell x i y in omega arith)
 
 -- it is paid where it is offered
-pub offers_it : (v u : Known) (cell weight : ℕ) → Shows v u → HasPaid (One cell weight) v (offered u cell weight)
+pub offers_it : (v u : Known) (cell weight : ℕ) → Shows v u → HasPaid (One cell weight) v (with_offer u cell weight)
 offers_it v u cell weight shows = (
   record {
     pieces = shows.0;
@@ -59,7 +59,7 @@ offers_it v u cell weight shows = (
         (λ (z : bit ((cell == i) && (weight == y)) ≡ 0). inl (omega arith))
         (pair_cases cell weight i y);
   },
-  covers_one (offered u cell weight) cell weight weight (let m = more u.offers cell weight cell weight in let o = pair_same cell weight in omega arith) (omega arith),
+  covers_one (with_offer u cell weight) cell weight weight (let m = more u.offers cell weight cell weight in let o = pair_same cell weight in omega arith) (omega arith),
 )
 
 -- where nothing is owed, nothing has to be done

@@ -12,7 +12,7 @@ use Rattle.ch_work.specs.Owed.{HasOffered, OffersOwed, Covers, owed_by, Pays, Pa
 use Rattle.ch_work.specs.Passes.{view_of}
 use Rattle.ch_work.specs.Pieces.{pieces_of}
 use Rattle.ch_work.specs.Rule.{Settled, IsLeast}
-use Rattle.ch_work.specs.Steps.{fresh, claimed}
+use Rattle.ch_work.specs.Steps.{nothing_known, with_claim}
 use Rattle.ch_work.proofs.Claims.{some_ended}
 use Rattle.ch_work.proofs.Totals.{total_push, one_same}
 
@@ -22,7 +22,7 @@ same_of_bit a b h = grind (arith, nat_tests)
 
 module _ (owes : ℕ → ℕ → ℕ → ℕ → Type 0) (n p : ℕ) where
   -- before its first claim a worker owes nothing
-  pub begins : (v : Known) → v ≡ fresh (pieces_of n p) 1 → Paying owes n p v 0
+  pub begins : (v : Known) → v ≡ nothing_known (pieces_of n p) 1 → Paying owes n p v 0
   begins v e = subst (λ (u : Known). Paying owes n p u 0) (sym e) record {
     pieces = refl;
     next_in = omega arith;
@@ -31,9 +31,9 @@ module _ (owes : ℕ → ℕ → ℕ → ℕ → Type 0) (n p : ℕ) where
   }
 
   -- a claim more, and what its piece owes paid
-  pub pays_on : (v u w : Known) (next k : ℕ) → Paying owes n p v next → k < pieces_of n p → u ≡ claimed v k → OffersOwed (owed_by owes n p k) u w → Covers (owed_by owes n p k) w → Paying owes n p w (k + 1)
+  pub pays_on : (v u w : Known) (next k : ℕ) → Paying owes n p v next → k < pieces_of n p → u ≡ with_claim v k → OffersOwed (owed_by owes n p k) u w → Covers (owed_by owes n p k) w → Paying owes n p w (k + 1)
   pays_on v u w next k h lt e offers covers =
-      let o : OffersOwed (owed_by owes n p k) (claimed v k) w = subst (λ (z : Known). OffersOwed (owed_by owes n p k) z w) e offers in
+      let o : OffersOwed (owed_by owes n p k) (with_claim v k) w = subst (λ (z : Known). OffersOwed (owed_by owes n p k) z w) e offers in
       let t : (j : ℕ) → times j w.claims ≡ times j v.claims + bit (k == j) = λ j. ap (λ (l : List ℕ). times j l) o.claims ∙ total_push (λ (y : ℕ). bit (y == j)) v.claims k in record {
         pieces = o.pieces ∙ h.pieces;
         next_in = omega arith;

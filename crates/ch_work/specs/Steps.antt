@@ -7,24 +7,24 @@ use Rattle.ch_work.specs.Counts.{times, times_at}
 use Rattle.ch_work.specs.Rule.{none_yet}
 
 -- what so many passes know that have done nothing
-abbrev pub fresh : ℕ → ℕ → Known
-fresh pieces parts = record { pieces = pieces; parts = parts; ended = 0; claims = []; offers = []; shown = [] }
+abbrev pub nothing_known : ℕ → ℕ → Known
+nothing_known pieces parts = record { pieces = pieces; parts = parts; ended = 0; claims = []; offers = []; shown = [] }
 
 -- a number more is claimed
-abbrev pub claimed : Known → ℕ → Known
-claimed v x = record v { claims = v.claims ++ x ∷ [] }
+abbrev pub with_claim : Known → ℕ → Known
+with_claim v x = record v { claims = v.claims ++ x ∷ [] }
 
 -- a pass more has ended
-abbrev pub finished : Known → Known
-finished v = record v { ended = v.ended + 1 }
+abbrev pub with_end : Known → Known
+with_end v = record v { ended = v.ended + 1 }
 
 -- a weight more is offered
-abbrev pub offered : Known → ℕ → ℕ → Known
-offered v cell x = record v { offers = v.offers ++ (cell, x) ∷ [] }
+abbrev pub with_offer : Known → ℕ → ℕ → Known
+with_offer v cell x = record v { offers = v.offers ++ (cell, x) ∷ [] }
 
 -- a weight more is shown
-abbrev pub looked : Known → ℕ → ℕ → Known
-looked v cell x = record v { shown = v.shown ++ (cell, x) ∷ [] }
+abbrev pub with_look : Known → ℕ → ℕ → Known
+with_look v cell x = record v { shown = v.shown ++ (cell, x) ∷ [] }
 
 -- the pass offered or was shown the weight x at the cell
 abbrev pub Knows : Known → ℕ → ℕ → Type 0
@@ -34,18 +34,18 @@ Knows v cell x = 0 < times_at cell x v.offers + times_at cell x v.shown
 abbrev pub Claims : Step (Unit {0}) → Me (Unit {0}) Known → ℕ → Me (Unit {0}) Known → Type 0
 Claims s me n me' =
     (me'.1 ≡ me.1)
-    × (((n < me.0.pieces) × (me'.0 ≡ claimed me.0 n) × ((y : ℕ) → 0 < times y me.0.claims → y < n))
-    ⊎ ((me.0.pieces ≤ n) × (me'.0 ≡ finished me.0)))
+    × (((n < me.0.pieces) × (me'.0 ≡ with_claim me.0 n) × ((y : ℕ) → 0 < times y me.0.claims → y < n))
+    ⊎ ((me.0.pieces ≤ n) × (me'.0 ≡ with_end me.0)))
 
 -- the offer of the weight to the cell of that word
 abbrev pub Offers : Step (Unit {0}) → Me (Unit {0}) Known → ℕ → Me (Unit {0}) Known → Type 0
-Offers s me n me' = (me'.1 ≡ me.1) × (me'.0 ≡ offered me.0 (s.word - 1) s.first)
+Offers s me n me' = (me'.1 ≡ me.1) × (me'.0 ≡ with_offer me.0 (s.word - 1) s.first)
 
 -- the look at the cell of that word: a weight that is no greater than any that the pass knows, or nothing where it knows nothing
 abbrev pub Looks : Step (Unit {0}) → Me (Unit {0}) Known → ℕ → Me (Unit {0}) Known → Type 0
 Looks s me n me' =
     (me'.1 ≡ me.1)
-    × (((n ≤ MOST_OFFER) × (me'.0 ≡ looked me.0 (s.word - 1) n) × ((x : ℕ) → Knows me.0 (s.word - 1) x → n ≤ x))
+    × (((n ≤ MOST_OFFER) × (me'.0 ≡ with_look me.0 (s.word - 1) n) × ((x : ℕ) → Knows me.0 (s.word - 1) x → n ≤ x))
     ⊎ ((n ≡ none_yet) × (me'.0 ≡ me.0) × ((x : ℕ) → Knows me.0 (s.word - 1) x → ⊥)))
 
 -- how a pass is cut off, and taken in
@@ -54,7 +54,7 @@ less_one v = record v { parts = v.parts - 1 }
 
 -- the pass that is cut off
 abbrev pub one_part : Known → Known
-one_part v = fresh v.pieces 1
+one_part v = nothing_known v.pieces 1
 
 -- the views of two passes together
 abbrev pub both : Known → Known → Known
@@ -62,4 +62,4 @@ both v w = record { pieces = w.pieces; parts = v.parts + w.parts; ended = v.ende
 
 -- a new pass with no part
 abbrev pub Enters : Step (Unit {0}) → Me (Unit {0}) Known → ℕ → Me (Unit {0}) Known → Type 0
-Enters s me n me' = me'.0 ≡ fresh 0 0
+Enters s me n me' = me'.0 ≡ nothing_known 0 0

@@ -4,7 +4,7 @@ ghost use Rattle.ch_work.specs.declared.limits.TheConstants.{MOST_CELLS};
 ghost use Rattle.ch_work.specs.Owed.{OffersOwed, Covers, IsLeastOwed, HasPaidOff, HandsBack};
 ghost use Rattle.ch_work.specs.Passes.{view_of, size_of, IsPassOf};
 ghost use Rattle.ch_work.specs.Pieces.{pieces_of};
-ghost use Rattle.ch_work.specs.Steps.{fresh};
+ghost use Rattle.ch_work.specs.Steps.{nothing_known};
 
 use crate::board::{Board, Pass};
 use crate::gate::Gate;
@@ -91,13 +91,13 @@ fn paid_by_all<R: Threads + Sync, G: Gate, J: CellJob>(
     alloc: Global,
     passes: Vec<Pass>,
 ) -> Result<Vec<(Pass, Result<(), AllocError>)>, AllocError>
-    requires { All (λ pass. IsPassOf payments.now.board.now pass × (view_of pass ≡ fresh (pieces_of payments.now.items payments.now.piece) 1)) passes.items }
+    requires { All (λ pass. IsPassOf payments.now.board.now pass × (view_of pass ≡ nothing_known (pieces_of payments.now.items payments.now.piece) 1)) passes.items }
     ensures len { IfOk result (λ all. vec_len all ≡ vec_len passes) }
     ensures each { IfOk result (λ all. (i : ℕ) (d : _) → i < vec_len passes →
         HandsBack (J.owes payments.now.job.now) payments.now.items payments.now.piece payments.now.board.now (slice_index_or all.items i d).0 (slice_index_or all.items i d).1) }
 {
     let by_pass = |pass: Pass| -> (Pass, Result<(), AllocError>)
-        requires { IsPassOf payments.now.board.now pass × (view_of pass ≡ fresh (pieces_of payments.now.items payments.now.piece) 1) }
+        requires { IsPassOf payments.now.board.now pass × (view_of pass ≡ nothing_known (pieces_of payments.now.items payments.now.piece) 1) }
         ensures { HandsBack (J.owes payments.entry.now.job.now) payments.entry.now.items payments.entry.now.piece payments.entry.now.board.now result.0 result.1 }
     { payments.paid_off(alloc, pass) };
     thread::map_vec(rt, passes, &by_pass)

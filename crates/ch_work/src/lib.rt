@@ -19,27 +19,27 @@ mod board;
 mod cells;
 mod done;
 mod gate;
-mod gates;
 mod job;
 pub mod limits;
-mod list;
+mod list_job;
 mod lists;
 mod paying;
 mod pieces;
 mod plan;
 mod shared;
+mod test_gates;
 mod work;
 
 pub use board::{Board, Known, Pass, Size};
 pub use cells::{CellJob, run_cells};
 pub use gate::{Gate, Open};
-pub use gates::{CountingGate, MeetingGate};
 pub use job::{Job, RoomJob};
-pub use list::{ListJob, run_list, values_in_room};
-pub use lists::joined;
+pub use list_job::{ListJob, run_list, run_list_in_room};
+pub use lists::{joined, length_of};
 pub use paying::pay;
 pub use pieces::{run_pieces, run_pieces_with_rooms};
 pub use plan::Plan;
+pub use test_gates::{CountingGate, MeetingGate};
 
 #[cfg(test)]
 mod tests;

@@ -1,11 +1,13 @@
 //! What pieces made, in one list.
-ghost use Rattle.std.specs.Prelude.{◌≡◌, IfOk};
-ghost use Rattle.std.specs.List.{flat_map};
+ghost use Rattle.std.specs.Prelude.{◌≡◌, ◌^◌, ◌-◌, min, vec_len, IfOk};
+ghost use Rattle.std.specs.List.{flat_map, sum_by};
 
 use std::alloc::{AllocError, Global};
 
-/// How many items the lists have, or the most that fits where they have more.
-fn length_of<T: Drop>(lists: &[Vec<T>]) -> usize {
+/// How many items the lists have, or the greatest number where they have more.
+pub fn length_of<T: Drop>(lists: &[Vec<T>]) -> usize
+    ensures { result ≡ min (sum_by vec_len lists.now) (2 ^ 64 - 1) }
+{
     let mut length = 0usize;
     for list in lists {
         length = length.saturating_add(list.len());

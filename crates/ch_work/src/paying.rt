@@ -4,7 +4,7 @@ ghost use Rattle.ch_work.specs.declared.limits.TheConstants.{MOST_OFFER};
 ghost use Rattle.ch_work.specs.Owed.{OffersOwed, Covers, HasPaid, owed_by, HandsBack};
 ghost use Rattle.ch_work.specs.Passes.{view_of, size_of, IsPassOf};
 ghost use Rattle.ch_work.specs.Pieces.{pieces_of};
-ghost use Rattle.ch_work.specs.Steps.{fresh};
+ghost use Rattle.ch_work.specs.Steps.{nothing_known};
 
 use crate::board::{Board, Pass};
 use crate::cells::CellJob;
@@ -45,7 +45,7 @@ impl<'a, G: Gate, J: CellJob> Payments<'a, G, J> {
     /// What a worker does with its pass, and the pass.
     pub(crate) fn paid_off(&self, alloc: Global, pass: Pass) -> (Pass, Result<(), AllocError>)
         requires board { IsPassOf self.now.board.now pass }
-        requires fresh { view_of pass ≡ fresh (pieces_of self.now.items self.now.piece) 1 }
+        requires fresh { view_of pass ≡ nothing_known (pieces_of self.now.items self.now.piece) 1 }
         ensures { HandsBack (J.owes self.now.job.now) self.now.items self.now.piece self.now.board.now result.0 result.1 }
     {
         let mut pass = pass;
@@ -56,7 +56,7 @@ impl<'a, G: Gate, J: CellJob> Payments<'a, G, J> {
     /// Pays what the pieces owe that a pass claims, until none is left.
     fn pay_off(&self, alloc: Global, pass: &mut Pass) -> Result<(), AllocError>
         requires board { IsPassOf self.now.board.now pass.old }
-        requires fresh { view_of pass.old ≡ fresh (pieces_of self.now.items self.now.piece) 1 }
+        requires fresh { view_of pass.old ≡ nothing_known (pieces_of self.now.items self.now.piece) 1 }
         ensures { HandsBack (J.owes self.now.job.now) self.now.items self.now.piece self.now.board.now pass.new result }
     {
         // The number after the last claim: it rises, so that the claims end.

@@ -5,7 +5,7 @@ ghost use Rattle.ch_work.specs.Claims.{numbers, IsDone, HasWorked, AreGathered};
 ghost use Rattle.ch_work.specs.Counts.{times};
 ghost use Rattle.ch_work.specs.Passes.{view_of, IsPassOf};
 ghost use Rattle.ch_work.specs.Pieces.{pieces_of, AreValues};
-ghost use Rattle.ch_work.specs.Steps.{fresh};
+ghost use Rattle.ch_work.specs.Steps.{nothing_known};
 
 use crate::board::{Board, Pass};
 use crate::done::Done;
@@ -41,13 +41,13 @@ fn worked_off_by_all<R: Threads + Sync, G: Gate, J: RoomJob>(
     board: &Board,
     passes: Vec<Pass>,
 ) -> Result<Vec<(Pass, Result<Vec<Done<J::Out>>, AllocError>)>, AllocError>
-    requires { All (λ pass. IsPassOf board.now pass × (view_of pass ≡ fresh (pieces_of work.now.items work.now.piece) 1)) passes.items }
+    requires { All (λ pass. IsPassOf board.now pass × (view_of pass ≡ nothing_known (pieces_of work.now.items work.now.piece) 1)) passes.items }
     ensures len { IfOk result (λ all. vec_len all ≡ vec_len passes) }
     ensures each { IfOk result (λ all. (i : ℕ) (d : _) → i < vec_len passes →
         HasWorked (J.meaning work.now.job.now) work.now.items work.now.piece board.now (slice_index_or all.items i d).0 (slice_index_or all.items i d).1) }
 {
     let by_pass = |pass: Pass| -> (Pass, Result<Vec<Done<J::Out>>, AllocError>)
-        requires { IsPassOf board.now pass × (view_of pass ≡ fresh (pieces_of work.now.items work.now.piece) 1) }
+        requires { IsPassOf board.now pass × (view_of pass ≡ nothing_known (pieces_of work.now.items work.now.piece) 1) }
         ensures { HasWorked (J.meaning work.entry.now.job.now) work.entry.now.items work.entry.now.piece board.entry.now result.0 result.1 }
     { work.worked_off(alloc, board, pass) };
     thread::map_vec(rt, passes, &by_pass)

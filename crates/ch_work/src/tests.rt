@@ -121,6 +121,15 @@ fn two_pieces_at_once(rt: HostRuntime) -> Result<(), Fail> {
 }
 
 #[test]
+fn one_worker_alone_meets_nobody(rt: HostRuntime) -> Result<(), Fail> {
+    let gate = MeetingGate::waiting(1000);
+    let plan = Plan::new(1, 1, 64);
+    run_pieces(&rt, rt.alloc(), 2, &plan, &gate, &Numbers { items: 2 })?;
+    assert!(rt; !gate.has_met());
+    Ok(())
+}
+
+#[test]
 fn a_refused_piece_ends_its_worker_alone(rt: HostRuntime) -> Result<(), Fail> {
     let gate = CountingGate::new(rt.alloc(), 4)?;
     let job = Refused { items: 4, item: 0 };

@@ -3,7 +3,7 @@ ghost use Rattle.std.specs.Prelude.{◌≡◌, ◌+◌, ◌*◌, ◌<◌, min, A
 ghost use Rattle.ch_work.specs.Claims.{HasWorked};
 ghost use Rattle.ch_work.specs.Passes.{view_of, IsPassOf};
 ghost use Rattle.ch_work.specs.Pieces.{pieces_of, AreValues};
-ghost use Rattle.ch_work.specs.Steps.{fresh};
+ghost use Rattle.ch_work.specs.Steps.{nothing_known};
 
 use crate::board::{Board, Pass};
 use crate::done::Done;
@@ -34,11 +34,24 @@ impl<'a, G: Gate, J: RoomJob> Work<'a, G, J> {
     pub(crate) fn values(&self, alloc: Global) -> Result<Vec<J::Out>, AllocError>
         ensures { IfOk result (λ v. AreValues (J.meaning self.now.job.now) self.now.items self.now.piece 0 (pieces_of self.now.items self.now.piece) v.items) }
     {
-        let count = self.count();
         let mut room = self.job.room(alloc)?;
+        self.values_in(alloc, &mut room)
+    }
+
+    /// The values of all pieces, by one worker in this room.
+    pub(crate) fn values_in(
+        &self,
+        alloc: Global,
+        room: &mut J::Room,
+    ) -> Result<Vec<J::Out>, AllocError>
+        requires { J.clean self.now.job.now room.old }
+        ensures values { IfOk result (λ v. AreValues (J.meaning self.now.job.now) self.now.items self.now.piece 0 (pieces_of self.now.items self.now.piece) v.items) }
+        ensures clean { OnOk result (J.clean self.now.job.now room.new) }
+    {
+        let count = self.count();
         let mut values = Vec::with_capacity(alloc, count as usize)?;
         for number in 0..count {
-            values.push(self.value(alloc, &mut room, number)?)?;
+            values.push(self.value(alloc, room, number)?)?;
         }
         Ok(values)
     }
@@ -51,7 +64,7 @@ impl<'a, G: Gate, J: RoomJob> Work<'a, G, J> {
         pass: Pass,
     ) -> (Pass, Result<Vec<Done<J::Out>>, AllocError>)
         requires board { IsPassOf board.now pass }
-        requires fresh { view_of pass ≡ fresh (pieces_of self.now.items self.now.piece) 1 }
+        requires fresh { view_of pass ≡ nothing_known (pieces_of self.now.items self.now.piece) 1 }
         ensures { HasWorked (J.meaning self.now.job.now) self.now.items self.now.piece board.now result.0 result.1 }
     {
         let mut pass = pass;
@@ -67,7 +80,7 @@ impl<'a, G: Gate, J: RoomJob> Work<'a, G, J> {
         pass: &mut Pass,
     ) -> Result<Vec<Done<J::Out>>, AllocError>
         requires board { IsPassOf board.now pass.old }
-        requires fresh { view_of pass.old ≡ fresh (pieces_of self.now.items self.now.piece) 1 }
+        requires fresh { view_of pass.old ≡ nothing_known (pieces_of self.now.items self.now.piece) 1 }
         ensures { HasWorked (J.meaning self.now.job.now) self.now.items self.now.piece board.now pass.new result }
     {
         let mut room = self.job.room(alloc)?;

@@ -1,10 +1,13 @@
 -- From what clap says of its matches to what the words say.
-use Rattle.std.proofs.Common.{◌≡◌, ◌⊎◌, ℕ, List, [], Option, Some, None, Result, Ok, refl, ap, ap₂, sym, ◌∙◌, subst, inl, inr, codes, true, false, Bool}
+use Rattle.std.proofs.Common.{◌≡◌, ◌⊎◌, ◌||◌, ℕ, List, [], Option, Some, None, Result, Ok, refl, ap, ap₂, sym, ◌∙◌, subst, inl, inr, codes, true, false, Bool}
 use Rattle.std.specs.Box.{box_value}
 use Rattle.std.specs.Prelude.{Box, option_map}
 use Rattle.std.specs.Str.Parse.{ParsesUnsigned}
 use Rattle.clap.specs.Matches.{subcommand_name_of}
-use Rattle.clap.specs.Words.{App, HasMatchesOf, IsAmong, Kinds, ReadsOne, Row, Text, TriesOne, fault_of, is_simple_and_free, one_text, rows_of, subcommand_rows, subcommand_rows_of}
+use Rattle.clap.specs.Words.{AddsArg, App, HasMatchesOf, IsAmong, Kinds, ReadsOne, Row, Text, TriesOne, fault_of, is_simple_and_free, one_text, rows_of, subcommand_rows, subcommand_rows_of}
+use Rattle.clap.specs.declared.builder.arg.Arg.{Arg}
+use Rattle.clap.specs.declared.builder.command.Command.{Command}
+use Rattle.clap.specs.declared.builder.command.Command.TheViews.{out-Command}
 use Rattle.clap.specs.declared.error.kind.ErrorKind.{ErrorKind}
 use Rattle.clap.specs.declared.error.kind.ErrorKind.TheVariants.{OutOfMemory}
 use Rattle.clap.specs.declared.parser.matches.ArgMatches.{ArgMatches}
@@ -13,9 +16,13 @@ use Rattle.clap.specs.declared.parser.matches.Found.{Found}
 use Rattle.clap.specs.declared.parser.matches.SubCommand.{SubCommand}
 use Rattle.clap.proofs.WalkLemmas.{one_text-rows}
 use Rattle.chtab.specs.Line.{IsFaultOf, IsFlag, IsFlagIn, IsGivenBy, IsReadFrom, IsToldOf, chtab_form, faults_of, given_by, name_of, number_in, number_of}
-use Rattle.chtab.specs.declared.line.Line.{Line}
+use Rattle.ch_line.specs.declared.line.Line.{Line}
 use Rattle.chtab.specs.declared.line.LineFault.{LineFault}
-use Rattle.chtab.specs.declared.line.Tool.{Tool}
+use Rattle.ch_line.specs.declared.line.Tool.{Tool}
+
+-- a command with no global argument has none once one that is not global is added
+pub stays_local : (old : Command) (arg : Arg) (new : Command) → AddsArg old arg new → (out-Command old).has_globals ≡ false → arg.global ≡ false → (out-Command new).has_globals ≡ false
+stays_local old arg new added here there = added.globals ∙ ap₂ ◌||◌ here there
 
 -- a flag is read by its text
 flag_is : (text : Option Text) (flag : Bool) → (text ≡ None → flag ≡ false) → (text ≡ Some (codes "true") → flag ≡ true) → (text ≡ Some (codes "false") → flag ≡ false) → IsFlag text flag

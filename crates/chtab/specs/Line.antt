@@ -8,26 +8,23 @@ use Rattle.clap.specs.declared.builder.ArgAction.TheVariants.{Set, SetTrue}
 use Rattle.clap.specs.declared.builder.value_parser.ValueParser.TheVariants as parser
 use Rattle.clap.specs.declared.error.kind.ErrorKind.{ErrorKind}
 use Rattle.clap.specs.declared.error.kind.ErrorKind.TheVariants.{DisplayHelp, OutOfMemory}
+use Rattle.ch_contract.specs.declared.measure.OrderBy.{OrderBy}
+use Rattle.ch_contract.specs.declared.measure.OrderBy.TheVariants.{Difference, Depth}
 use Rattle.ch_run.specs.declared.options.TheConstants.{MOST_HOPS, MOST_WITHIN}
 use Rattle.ch_run.specs.declared.options.Options.{Options}
 use Rattle.ch_work.specs.declared.limits.TheConstants.{MOST_WORKERS, MOST_PIECE}
-use Rattle.ch_work.specs.Plan.{Division, IsWithinLimits}
-use Rattle.chtab.specs.declared.line.Line.{Line}
+use Rattle.ch_work.specs.Plan.{Division}
+use Rattle.ch_line.specs.Line.{file_names}
+use Rattle.ch_line.specs.declared.line.Line.{Line}
 use Rattle.chtab.specs.declared.line.LineFault.{LineFault}
-use Rattle.chtab.specs.declared.line.Tool.{Tool}
-use Rattle.chtab.specs.declared.line.Tool.TheVariants.{Dist, Table, Save}
+use Rattle.ch_line.specs.declared.line.Tool.{Tool}
+use Rattle.ch_line.specs.declared.line.Tool.TheVariants.{Dist, Table, Save}
 
 -- the word that names a tool
 abbrev pub name_of : Tool → Text
 name_of Dist = codes "dist"
 name_of Table = codes "table"
 name_of Save = codes "save"
-
--- the files of a tool, in their order
-abbrev pub file_names : Tool → List Text
-file_names Dist = codes "GRAPH" ∷ codes "QUERIES" ∷ []
-file_names Table = codes "GRAPH" ∷ codes "SOURCES" ∷ codes "TARGETS" ∷ []
-file_names Save = codes "GRAPH" ∷ []
 
 -- a flag
 abbrev pub flag_rule : Text → Rule
@@ -53,11 +50,11 @@ file_rule name = record (new_rule name) { required = true; action = Some Set }
 abbrev pub saved_rule : Rule
 saved_rule = option_rule (codes "saved")
 
--- `[--plain] [--routes] [--saved FILE]` of `dist`, and `[--within R] [--saved FILE]` of `table`
+-- `[--plain] [--routes] [--deep] [--saved FILE]` of `dist`, `[--within R] [--saved FILE]` of `table`, and `[--deep]` of `save`
 abbrev pub own_rules : Tool → List Rule
-own_rules Dist = flag_rule (codes "plain") ∷ flag_rule (codes "routes") ∷ saved_rule ∷ []
+own_rules Dist = flag_rule (codes "plain") ∷ flag_rule (codes "routes") ∷ flag_rule (codes "deep") ∷ saved_rule ∷ []
 own_rules Table = limit_rule (codes "within") MOST_WITHIN ∷ saved_rule ∷ []
-own_rules Save = []
+own_rules Save = flag_rule (codes "deep") ∷ []
 
 -- `[--workers N] [--piece K] [--hops H]`, which each tool reads
 abbrev pub number_rules : List Rule
@@ -104,11 +101,16 @@ number_in given name = option_map number_of (one_of name given)
 abbrev pub files_in : List Row → List Text → List (Option Text)
 files_in given = map (λ name. first_of name given)
 
--- the flags of `dist` are as given, and the other tools have none
+-- the order is that of depth
+abbrev pub is_deep : OrderBy → Bool
+is_deep Difference = false
+is_deep Depth = true
+
+-- the flags of `dist` and `save` are as given, and `table` has none
 abbrev pub AreFlagsIn : List Row → Tool → Options → Type 0
-AreFlagsIn given Dist options = IsFlagIn given (codes "plain") options.plain × IsFlagIn given (codes "routes") options.routes
-AreFlagsIn given Table options = (options.plain ≡ false) × (options.routes ≡ false)
-AreFlagsIn given Save options = (options.plain ≡ false) × (options.routes ≡ false)
+AreFlagsIn given Dist options = IsFlagIn given (codes "plain") options.plain × IsFlagIn given (codes "routes") options.routes × IsFlagIn given (codes "deep") (is_deep options.order)
+AreFlagsIn given Table options = (options.plain ≡ false) × (options.routes ≡ false) × (options.order ≡ Difference)
+AreFlagsIn given Save options = (options.plain ≡ false) × (options.routes ≡ false) × IsFlagIn given (codes "deep") (is_deep options.order)
 
 -- workers and pieces are as given, and a step's work is shared from 64 items on
 pub record IsPlanIn (given : List Row) (plan : Division) : Type 0 where
@@ -132,18 +134,6 @@ pub record IsReadFrom (words : List Text) (line : Line) : Type 0 where
   pub matched : given_by words ≡ Some (name_of line.tool, given)
   pub read : IsGivenBy given line
 
--- the run reads a saved hierarchy: one is named, and plain distances take none
-abbrev pub reads_saved : Line → Bool
-reads_saved line = is_some line.saved && not line.options.plain
-
--- the numbers of a line are within the program's limits, and it names each file of its tool
-pub record IsAllowed (line : Line) : Type 0 where
-  pub files : vec_len line.files ≡ length (file_names line.tool)
-  pub some_hops : 1 ≤ line.options.hops
-  pub few_hops : line.options.hops ≤ MOST_HOPS
-  pub limit : IfSome line.options.within (λ most. most ≤ MOST_WITHIN)
-  pub plan : IsWithinLimits line.plan
-
 -- the fault is told for an error of this kind
 abbrev pub IsToldOf : ErrorKind → LineFault → Type 0
 IsToldOf kind (LineFault.Help _) = kind ≡ DisplayHelp
@@ -161,3 +151,9 @@ abbrev pub line_status_of : LineFault → ℕ
 line_status_of (LineFault.Help _) = 0
 line_status_of (LineFault.Refused _) = 2
 line_status_of LineFault.NoMemory = 3
+
+-- words are refused for the reason that this text gives, or there is no memory for it
+abbrev pub IsRefusedFor : Text → LineFault → Type 0
+IsRefusedFor text (LineFault.Help _) = ⊥
+IsRefusedFor text (LineFault.Refused told) = string_bytes told ≡ text
+IsRefusedFor text LineFault.NoMemory = ⊤

@@ -1,11 +1,74 @@
--- How the program ends.
-use Rattle.std.specs.Prelude.{ℕ}
-use Rattle.ch_run.specs.Fault.{status_of}
-use Rattle.chtab.specs.Line.{line_status_of}
+-- How the program answers its words, and how it ends.
+use Rattle.std.specs.Prelude.{◌≡◌, ◌⊎◌, ℕ, ◌++◌, ◌<◌, List, Option, Result, Ok, Err, IfErr, OnOk, codes, length, take}
+use Rattle.std.specs.String.{string_bytes}
+use Rattle.clap.specs.Words.{Text}
+use Rattle.ch_run.specs.declared.fault.RunFault.{RunFault}
+use Rattle.ch_run.specs.Device.{CountsFault, HasTaken}
+use Rattle.ch_run.specs.Fault.{status_of, fault_text as run_fault_text}
+use Rattle.ch_line.specs.declared.line.Line.{Line}
+use Rattle.ch_line.specs.Files.{FileState}
+use Rattle.ch_line.specs.Line.{IsRunOf}
+use Rattle.chtab.specs.declared.line.LineFault.{LineFault}
 use Rattle.chtab.specs.declared.program.ProgramFault.{ProgramFault}
-use Rattle.chtab.specs.declared.program.ProgramFault.TheVariants.{Line, Run}
+use Rattle.chtab.specs.Line.{IsFaultOf, IsReadFrom, faults_of, line_status_of}
 
 -- the exit status of a fault, of the words or of the run
 abbrev pub exit_status_of : ProgramFault → ℕ
-exit_status_of (Line fault) = line_status_of fault
-exit_status_of (Run fault) = status_of fault
+exit_status_of (ProgramFault.Line fault) = line_status_of fault
+exit_status_of (ProgramFault.Run fault) = status_of fault
+
+-- what is told where no line is run; the texts of help and of refused words end with their own line feed
+abbrev pub line_fault_text : LineFault → List ℕ
+line_fault_text (LineFault.Help text) = string_bytes text
+line_fault_text (LineFault.Refused text) = string_bytes text
+line_fault_text LineFault.NoMemory = codes "chtab: out of memory\n"
+
+-- what is told of a fault
+abbrev pub fault_text : ProgramFault → List ℕ
+fault_text (ProgramFault.Line fault) = line_fault_text fault
+fault_text (ProgramFault.Run fault) = run_fault_text fault ++ codes "\n"
+
+-- an output took a text: all of it, or its first bytes where a write was refused, after which none was tried
+pub record IsWritten {O : Type 0} (taken : O → Option (List ℕ)) (failed idle : O → ℕ) (text : List ℕ) (old new : O) (result : Result Unit ℕ) : Type 0 where
+  pub whole : OnOk result (HasTaken (taken old) (taken new) text)
+  pub part : IfErr result (λ count. (count < length text) × HasTaken (taken old) (taken new) (take count text))
+  pub counts : CountsFault (failed old) (failed new) (idle old) (idle new) result
+
+-- the answer of the program, where this is how the run ended
+abbrev pub answer_of : Result Unit RunFault → Result Unit ProgramFault
+answer_of (Ok done) = Ok done
+answer_of (Err fault) = Err (ProgramFault.Run fault)
+
+-- the answer of the program, where this is how its text was written
+abbrev pub written_answer : Result Unit ℕ → Result Unit ProgramFault
+written_answer (Ok done) = Ok done
+written_answer (Err count) = Err (ProgramFault.Run (RunFault.Write count))
+
+-- where the words ask for help its text is written; else their fault is the answer, and the output is as it was
+abbrev pub AnswersFault : {O : Type 0} → (O → Option (List ℕ)) → (O → ℕ) → (O → ℕ) → LineFault → O → O → Result Unit ProgramFault → Type 0
+AnswersFault taken failed idle (LineFault.Help text) old new answer = (written : Result Unit ℕ) × (answer ≡ written_answer written) × IsWritten taken failed idle (string_bytes text) old new written
+AnswersFault taken failed idle (LineFault.Refused text) old new answer = (answer ≡ Err (ProgramFault.Line (LineFault.Refused text))) × (new ≡ old)
+AnswersFault taken failed idle LineFault.NoMemory old new answer = (answer ≡ Err (ProgramFault.Line LineFault.NoMemory)) × (new ≡ old)
+
+-- the words say a line, and the answer is how its run ended; or they have a fault, which is answered
+abbrev pub IsAnswer : {I O : Type 0} → (I → Option (List ℕ)) → (I → ℕ) → (List ℕ → FileState) → (O → Option (List ℕ)) → (O → ℕ) → (O → ℕ) → List Text → O → O → Result Unit ProgramFault → Type 0
+IsAnswer left failures known taken failed idle words old new answer =
+    ((line : Line) × (result : Result Unit RunFault) × IsReadFrom words line × IsRunOf left failures known taken failed idle line old new result × (answer ≡ answer_of result))
+    ⊎ ((fault : LineFault) × IsFaultOf (faults_of words) fault × AnswersFault taken failed idle fault old new answer)
+
+-- the errors took this text, as far as they take any
+abbrev pub IsTold : {E : Type 0} → (E → Option (List ℕ)) → (E → ℕ) → (E → ℕ) → List ℕ → E → E → Type 0
+IsTold taken failed idle text old new = (written : Result Unit ℕ) × IsWritten taken failed idle text old new written
+
+-- the fault was told, and the exit status is its own
+abbrev pub EndsIn : {E : Type 0} → (E → Option (List ℕ)) → (E → ℕ) → (E → ℕ) → ProgramFault → E → E → ℕ → Type 0
+EndsIn taken failed idle fault old new status = IsTold taken failed idle (fault_text fault) old new × (status ≡ exit_status_of fault)
+
+-- it ends in this fault, or in want of memory where there is none for the line of the fault
+abbrev pub IsFaultEnd : {E : Type 0} → (E → Option (List ℕ)) → (E → ℕ) → (E → ℕ) → ProgramFault → E → E → ℕ → Type 0
+IsFaultEnd taken failed idle fault old new status = EndsIn taken failed idle fault old new status ⊎ EndsIn taken failed idle (ProgramFault.Line LineFault.NoMemory) old new status
+
+-- how the program ends with this answer: in status 0, with nothing told, or in its fault
+abbrev pub IsEnd : {E : Type 0} → (E → Option (List ℕ)) → (E → ℕ) → (E → ℕ) → Result Unit ProgramFault → E → E → ℕ → Type 0
+IsEnd taken failed idle (Ok done) old new status = (status ≡ 0) × (new ≡ old)
+IsEnd taken failed idle (Err fault) old new status = IsFaultEnd taken failed idle fault old new status

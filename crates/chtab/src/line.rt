@@ -2,41 +2,19 @@
 
 ghost use Rattle.std.specs.Prelude.{◌≡◌, IfErr, IfOk, IfSome, map};
 ghost use Rattle.clap.specs.Words.{kind_of};
-ghost use Rattle.chtab.specs.Line.{IsAllowed, IsFaultOf, IsReadFrom, IsToldOf, faults_of, line_status_of, name_of};
+ghost use Rattle.ch_line.specs.Line.{IsAllowed};
+ghost use Rattle.chtab.specs.Line.{IsFaultOf, IsReadFrom, IsRefusedFor, IsToldOf, faults_of, line_status_of, name_of};
 
 mod form;
 mod given;
 
-use ch_run::{Options, Plan};
+pub use ch_line::{Line, Tool};
 use clap::error::ErrorKind;
 use form::command;
 use given::line_of;
 use std::alloc::{AllocError, Global};
 use std::error::Error;
 use std::fmt;
-
-/// What the program does.
-#[derive(Clone, Copy, Debug, PartialEq, Eq)]
-pub enum Tool {
-    /// Answers queries by distances, and by routes where they are asked for.
-    Dist,
-    /// Writes the distances from each source to each target.
-    Table,
-    /// Writes the hierarchy of a graph.
-    Save,
-}
-
-/// What the words say.
-#[derive(Debug, Drop)]
-pub struct Line {
-    pub tool: Tool,
-    /// The files, in the order of the arguments.
-    pub files: Vec<String>,
-    /// The file of a saved hierarchy, which is read in place of building one. `save` has none.
-    pub saved: Option<String>,
-    pub options: Options,
-    pub plan: Plan,
-}
 
 /// Why the words say nothing to be done.
 #[derive(Debug, Drop)]
@@ -83,7 +61,9 @@ pub fn line_status(fault: &LineFault) -> u8
 }
 
 /// Words that are refused for the reason that the text gives.
-pub fn refused(alloc: Global, text: &str) -> LineFault {
+pub fn refused(alloc: Global, text: &str) -> LineFault
+    ensures { IsRefusedFor text.now result }
+{
     match String::from_str(alloc, text) {
         Ok(text) => LineFault::Refused(text),
         Err(_) => LineFault::NoMemory,
@@ -118,9 +98,9 @@ fn tool_of(name: &str) -> Option<Tool>
 }
 
 /// Reads the words after the program's name:
-/// `dist [--plain] [--routes] [--saved FILE] [--workers N] [--piece K] [--hops H] GRAPH QUERIES`,
+/// `dist [--plain] [--routes] [--deep] [--saved FILE] [--workers N] [--piece K] [--hops H] GRAPH QUERIES`,
 /// `table [--within R] [--saved FILE] [--workers N] [--piece K] [--hops H] GRAPH SOURCES TARGETS` or
-/// `save [--workers N] [--piece K] [--hops H] GRAPH`.
+/// `save [--deep] [--workers N] [--piece K] [--hops H] GRAPH`.
 ///
 /// # Errors
 /// `Help` where the words ask for it; `Refused` where they aren't of this form; `NoMemory`.

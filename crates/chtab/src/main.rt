@@ -3,7 +3,7 @@
 
 mod line;
 mod program;
-mod runs;
+mod system;
 
 pub use ch_run::{
     DeviceFault, Gate, Input, MemoryInput, MemoryOutput, Open, Options, Output, Plan, ReadAllFault,
@@ -14,5 +14,5 @@ pub use line::{Line, LineFault, Tool, line_status, read_words};
 use std::process::ExitCode;
 
 fn main(rt: HostRuntime) -> ExitCode {
-    ExitCode::from(program::run(&rt))
+    ExitCode::from(system::run(&rt, rt.stdout(), rt.stderr()))
 }

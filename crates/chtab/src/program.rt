@@ -1,16 +1,21 @@
-//! The program: words in, text, fault line and exit status out.
+//! The program, over whatever opens its files and takes its texts: words in, text, fault line and exit status out.
 
-ghost use Rattle.std.specs.Prelude.{◌≡◌};
-ghost use Rattle.chtab.specs.Program.{exit_status_of};
+ghost use Rattle.std.specs.Prelude.{◌≡◌, [], IfErr, IfOk, MatchResult, Result, map};
+ghost use Rattle.std.specs.String.{string_bytes};
+ghost use Rattle.ch_run.specs.Device.{CanCountOneMore};
+ghost use Rattle.ch_line.specs.Line.{IsAllowed};
+ghost use Rattle.chtab.specs.Line.{IsFaultOf, IsReadFrom, faults_of, line_status_of};
+ghost use Rattle.chtab.specs.Program.{AnswersFault, IsAnswer, IsEnd, IsFaultEnd, IsTold, answer_of, line_fault_text};
+ghost use Rattle.chtab.specs.declared.program.ProgramFault.{ProgramFault as FaultOf};
 
-use crate::line::{LineFault, line_status, read_words, refused};
-use crate::runs::run_line;
-use ch_run::{RunFault, WriterOutput, status, write_all};
+use crate::line::{Line, LineFault, line_status, read_words};
+use ch_line::{Files, run_line};
+use ch_run::{Gate, Output, RunFault, status, write_all};
 use std::alloc::{AllocError, Global};
-use std::io::ErrorKind;
-use std::rt::{Env, Files};
 use std::thread::Threads;
-use std::{env, io};
+
+/// Room in bytes for the line of a run's fault. It is taken before all else, so that a fault can be told where memory has run out.
+const ROOM: usize = 128;
 
 /// Why the program ends with no answer.
 #[derive(Debug, Drop)]
@@ -19,35 +24,98 @@ pub enum ProgramFault {
     Run(RunFault),
 }
 
-impl From<LineFault> for ProgramFault {
-    fn from(fault: LineFault) -> ProgramFault {
-        ProgramFault::Line(fault)
+/// Runs the program on the words after its name, or on why there are none, and gives its exit status: 0 where it is done, 1
+/// where a file was refused, 2 where the words were, 3 where the system refused memory, a file or a write.
+///
+/// The text of an answer or of help goes to `output`, and the line of a fault to `errors`.
+pub fn run<R: Threads + Sync, F: Files, O: Output, E: Output, G: Gate>(
+    rt: &R,
+    alloc: Global,
+    files: &F,
+    output: &mut O,
+    errors: &mut E,
+    words: Result<Vec<String>, LineFault>,
+    gate: &G,
+) -> u8
+    requires output_failures { CanCountOneMore (O.failed output.old) }
+    requires output_zeros { CanCountOneMore (O.idle output.old) }
+    requires error_failures { CanCountOneMore (E.failed errors.old) }
+    requires error_zeros { CanCountOneMore (E.idle errors.old) }
+    ensures { (answer : Result Unit FaultOf)
+        × MatchResult words
+        (λ list. IsAnswer F.Input.left F.Input.failed (F.known files.now) O.taken O.failed O.idle (map string_bytes list.items) output.old output.new answer)
+        (λ fault. AnswersFault O.taken O.failed O.idle fault output.old output.new answer)
+        × IsEnd E.taken E.failed E.idle answer errors.old errors.new result }
+{
+    let room = room_of(alloc);
+    let answer = answer_to(rt, alloc, files, output, words, gate);
+    end(errors, room, &answer)
+}
+
+/// Room for the line of a fault, where there is memory for it.
+fn room_of(alloc: Global) -> String
+    ensures { string_bytes result ≡ [] }
+{
+    match String::with_capacity(alloc, ROOM) {
+        Ok(room) => room,
+        Err(_) => String::new(alloc),
     }
 }
 
-impl From<RunFault> for ProgramFault {
-    fn from(fault: RunFault) -> ProgramFault {
-        ProgramFault::Run(fault)
+/// Does what the words say, or answers why there are none.
+fn answer_to<R: Threads + Sync, F: Files, O: Output, G: Gate>(
+    rt: &R,
+    alloc: Global,
+    files: &F,
+    output: &mut O,
+    words: Result<Vec<String>, LineFault>,
+    gate: &G,
+) -> Result<(), ProgramFault>
+    requires failures { CanCountOneMore (O.failed output.old) }
+    requires zeros { CanCountOneMore (O.idle output.old) }
+    ensures { MatchResult words
+        (λ list. IsAnswer F.Input.left F.Input.failed (F.known files.now) O.taken O.failed O.idle (map string_bytes list.items) output.old output.new result)
+        (λ fault. AnswersFault O.taken O.failed O.idle fault output.old output.new result) }
+{
+    match words {
+        Ok(words) => answer_words(rt, alloc, files, output, &words, gate),
+        Err(fault) => answer_fault(output, fault),
     }
 }
 
-impl From<AllocError> for ProgramFault {
-    fn from(_error: AllocError) -> ProgramFault {
-        ProgramFault::Run(RunFault::Memory)
+/// Does what the words say.
+fn answer_words<R: Threads + Sync, F: Files, O: Output, G: Gate>(
+    rt: &R,
+    alloc: Global,
+    files: &F,
+    output: &mut O,
+    words: &[String],
+    gate: &G,
+) -> Result<(), ProgramFault>
+    requires failures { CanCountOneMore (O.failed output.old) }
+    requires zeros { CanCountOneMore (O.idle output.old) }
+    ensures { IsAnswer F.Input.left F.Input.failed (F.known files.now) O.taken O.failed O.idle (map string_bytes words.now) output.old output.new result }
+{
+    match line_of(alloc, words) {
+        Ok(line) => program_answer(run_line(rt, alloc, files, output, &line, gate)),
+        Err(fault) => answer_fault(output, fault),
     }
 }
 
-/// The words after the program's name.
-fn words_of<R: Env + AllocGlobal>(rt: &R) -> Result<Vec<String>, LineFault> {
-    match env::args(rt) {
-        Ok(words) => Ok(words.skip(1).collect(rt.alloc())?),
-        Err(error) if error.kind() == ErrorKind::OutOfMemory => Err(LineFault::NoMemory),
-        Err(_) => Err(refused(rt.alloc(), "chtab: a word is not UTF-8\n")),
-    }
+/// The line that the words say.
+fn line_of(alloc: Global, words: &[String]) -> Result<Line, LineFault>
+    ensures limits { IfOk result IsAllowed }
+    ensures read { IfOk result (IsReadFrom (map string_bytes words.now)) }
+    ensures fault { IfErr result (IsFaultOf (faults_of (map string_bytes words.now))) }
+{
+    let texts = texts_of(alloc, words)?;
+    read_words(alloc, &texts)
 }
 
 /// The words as texts, which clap reads.
-fn texts_of<'a>(alloc: Global, words: &'a [String]) -> Result<Vec<&'a str>, AllocError> {
+fn texts_of<'a>(alloc: Global, words: &'a [String]) -> Result<Vec<&'a str>, AllocError>
+    ensures { IfOk result (λ texts. map (λ text. text.now) texts.items ≡ map string_bytes words.entry.now) }
+{
     let mut texts = Vec::new(alloc);
     for word in words {
         texts.push(word.as_str())?;
@@ -55,55 +123,96 @@ fn texts_of<'a>(alloc: Global, words: &'a [String]) -> Result<Vec<&'a str>, Allo
     Ok(texts)
 }
 
-/// Reads the words, and does what they name.
-fn answered<R: Env + Files + Print + Threads + Sync + AllocGlobal>(
-    rt: &R,
-) -> Result<(), ProgramFault> {
-    let words = words_of(rt)?;
-    let texts = texts_of(rt.alloc(), &words)?;
-    let line = read_words(rt.alloc(), &texts)?;
-    Ok(run_line(rt, &line)?)
-}
-
-/// Writes the text of help to standard output.
-fn help_written<R: Print>(rt: &R, text: &str) -> Result<(), RunFault> {
-    write_all(&mut WriterOutput::new(io::writer(rt)), text.as_bytes()).map_err(RunFault::Write)
-}
-
-/// Does what the words ask for: an answer, or help.
-fn done<R: Env + Files + Print + Threads + Sync + AllocGlobal>(rt: &R) -> Result<(), ProgramFault> {
-    match answered(rt) {
-        Err(ProgramFault::Line(LineFault::Help(text))) => Ok(help_written(rt, text.as_str())?),
-        answer => answer,
+/// The answer of the program, where this is how the run of its line ended.
+fn program_answer(run: Result<(), RunFault>) -> Result<(), ProgramFault>
+    ensures { result ≡ answer_of run }
+{
+    match run {
+        Ok(()) => Ok(()),
+        Err(fault) => Err(ProgramFault::Run(fault)),
     }
 }
 
-/// Tells a fault on standard error, and gives the exit status.
-fn told<R: Eprint>(rt: &R, fault: &ProgramFault) -> u8
-    ensures { result ≡ exit_status_of fault.now }
+/// Writes the text of help, where that is asked for: it is no fault. Else the fault is the answer.
+fn answer_fault<O: Output>(output: &mut O, fault: LineFault) -> Result<(), ProgramFault>
+    requires failures { CanCountOneMore (O.failed output.old) }
+    requires zeros { CanCountOneMore (O.idle output.old) }
+    ensures { AnswersFault O.taken O.failed O.idle fault output.old output.new result }
 {
     match fault {
-        ProgramFault::Line(LineFault::NoMemory) => {
-            let _ = rt.eprintln(LineFault::NoMemory);
-            line_status(&LineFault::NoMemory)
-        }
-        // The text ends with its own line feed.
-        ProgramFault::Line(fault) => {
-            let _ = rt.eprint(fault);
-            line_status(fault)
-        }
-        ProgramFault::Run(fault) => {
-            let _ = rt.eprintln(fault);
-            status(fault)
-        }
+        LineFault::Help(text) => match write_all(output, text.as_bytes()) {
+            Ok(()) => Ok(()),
+            Err(count) => Err(ProgramFault::Run(RunFault::Write(count))),
+        },
+        fault => Err(ProgramFault::Line(fault)),
     }
 }
 
-/// Runs the program, and gives its exit status: 0 where it is done, 1 where a file was refused, 2
-/// where the words were, 3 where the system refused memory, a file or a write.
-pub fn run<R: Env + Files + Print + Eprint + Threads + Sync + AllocGlobal>(rt: &R) -> u8 {
-    match done(rt) {
+/// Tells the fault of an answer, if it has one, and gives the exit status.
+fn end<E: Output>(errors: &mut E, room: String, answer: &Result<(), ProgramFault>) -> u8
+    requires failures { CanCountOneMore (E.failed errors.old) }
+    requires zeros { CanCountOneMore (E.idle errors.old) }
+    requires room { string_bytes room ≡ [] }
+    ensures { IsEnd E.taken E.failed E.idle answer.now errors.old errors.new result }
+{
+    match answer {
         Ok(()) => 0,
-        Err(fault) => told(rt, &fault),
+        Err(fault) => tell_fault(errors, room, fault),
     }
 }
+
+/// Tells a fault, in this room, and gives the exit status. Where there is no memory for its line, that is the fault told.
+fn tell_fault<E: Output>(errors: &mut E, room: String, fault: &ProgramFault) -> u8
+    requires failures { CanCountOneMore (E.failed errors.old) }
+    requires zeros { CanCountOneMore (E.idle errors.old) }
+    requires room { string_bytes room ≡ [] }
+    ensures { IsFaultEnd E.taken E.failed E.idle fault.now errors.old errors.new result }
+{
+    match fault {
+        ProgramFault::Line(fault) => tell_line_fault(errors, fault),
+        ProgramFault::Run(fault) => tell_run_fault(errors, room, fault),
+    }
+}
+
+/// Tells why no line is run, and gives the exit status.
+fn tell_line_fault<E: Output>(errors: &mut E, fault: &LineFault) -> u8
+    requires failures { CanCountOneMore (E.failed errors.old) }
+    requires zeros { CanCountOneMore (E.idle errors.old) }
+    ensures told { IsTold E.taken E.failed E.idle (line_fault_text fault.now) errors.old errors.new }
+    ensures status { result ≡ line_status_of fault.now }
+{
+    match fault {
+        LineFault::Help(text) | LineFault::Refused(text) => tell(errors, text.as_bytes()),
+        LineFault::NoMemory => tell(errors, b"chtab: out of memory\n"),
+    }
+    line_status(fault)
+}
+
+/// Tells the fault of a run, in this room, and gives the exit status.
+fn tell_run_fault<E: Output>(errors: &mut E, room: String, fault: &RunFault) -> u8
+    requires failures { CanCountOneMore (E.failed errors.old) }
+    requires zeros { CanCountOneMore (E.idle errors.old) }
+    requires room { string_bytes room ≡ [] }
+    ensures { IsFaultEnd E.taken E.failed E.idle (FaultOf.Run fault.now) errors.old errors.new result }
+{
+    let mut line = room;
+    match writeln!(line, "{fault}") {
+        Ok(()) => {
+            tell(errors, line.as_bytes());
+            status(fault)
+        }
+        Err(AllocError) => tell_line_fault(errors, &LineFault::NoMemory),
+    }
+}
+
+/// Writes a text to the errors. Where that fails, nobody can be told.
+fn tell<E: Output>(errors: &mut E, text: &[u8])
+    requires failures { CanCountOneMore (E.failed errors.old) }
+    requires zeros { CanCountOneMore (E.idle errors.old) }
+    ensures { IsTold E.taken E.failed E.idle text.now errors.old errors.new }
+{
+    let _ = write_all(errors, text);
+}
+
+#[cfg(test)]
+mod tests;

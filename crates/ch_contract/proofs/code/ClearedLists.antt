@@ -5,16 +5,17 @@ use Rattle.std.proofs.lemmas.Bool.{cases_eq, eqb-true, eqb-false}
 use Rattle.std.proofs.lemmas.Bool.Decides.{nat_tests}
 use Rattle.std.proofs.lemmas.List.{length-set, get_or-set_same, get_or-set_other}
 use Rattle.std.proofs.lemmas.List.Elements.{All-from_get_or, Contains-get_or}
-use Rattle.ch_contract.specs.declared.leg.Leg.{Leg}
+use Rattle.ch_hierarchy.specs.declared.leg.Leg.{Leg}
 use Rattle.ch_contract.specs.declared.shortcut.Shortcut.{Shortcut}
 use Rattle.ch_contract.specs.Legs.{SameLegs}
-use Rattle.ch_contract.specs.Contraction.{AreShortcuts, contracted}
-use Rattle.ch_contract.specs.Rows.{row, row_leg, label_of, IsRow}
+use Rattle.ch_contract.specs.Contraction.{AreShortcuts, legs_after_contraction}
+use Rattle.ch_hierarchy.specs.Rows.{row, IsRow}
+use Rattle.ch_contract.specs.LegRows.{row_leg, label_of}
 use Rattle.ch_contract.specs.LegLists.{AreRows, HaveAll, AreOverridden, IsWithinLimits, legs_from, legs_into}
 use Rattle.ch_contract.proofs.theory.Contracting.{after, contracted_within}
 use Rattle.ch_contract.proofs.theory.Opening.{same_within}
 use Rattle.ch_contract.proofs.theory.RowLegs.{row_has, row_member, leg_at}
-use Rattle.ch_contract.proofs.theory.RowLemmas.{no_leg}
+use Rattle.ch_hierarchy.proofs.theory.NoLeg.{no_leg}
 use Rattle.ch_contract.proofs.code.ListEdits.{no_shortcut}
 
 -- the legs at v are taken out of all lists
@@ -90,10 +91,10 @@ module _ (n : ℕ) (outs ins : List (List Leg)) (within : IsWithinLimits n outs 
     module _ (mid_outs mid_ins new_outs new_ins : List (List Leg)) (from : AreCleared v outs mid_outs) (into : AreCleared v ins mid_ins)
         (put : AreOverridden legs_from v list mid_outs new_outs) (put_turned : AreOverridden legs_into v list mid_ins new_ins) where
       -- both sides have the legs after the contraction
-      pub outs_after : SameLegs (legs_from new_outs) (contracted (legs_from outs) v list)
+      pub outs_after : SameLegs (legs_from new_outs) (legs_after_contraction (legs_from outs) v list)
       outs_after = after n h v (legs_from outs) (legs_from mid_outs) (legs_from new_outs) list within.legs are from.legs put.legs
 
-      ins_after : SameLegs (legs_into new_ins) (contracted (legs_from outs) v list)
+      ins_after : SameLegs (legs_into new_ins) (legs_after_contraction (legs_from outs) v list)
       ins_after = after n h v (legs_from outs) (legs_into mid_ins) (legs_into new_ins) list within.legs are gone put_turned.legs
         where
           at : (p q : Bool) (u w : ℕ) → (if p || q then None else legs_into ins u w) ≡ (if q || p then None else legs_from outs u w)
@@ -102,7 +103,7 @@ module _ (n : ℕ) (outs ins : List (List Leg)) (within : IsWithinLimits n outs 
           at false true u w = refl
           at false false u w = sym (within.agree u w)
 
-          gone : SameLegs (legs_into mid_ins) (contracted (legs_from outs) v [])
+          gone : SameLegs (legs_into mid_ins) (legs_after_contraction (legs_from outs) v [])
           gone u w = into.legs w u ∙ at (w == v) (u == v) u w
 
       pub within_after : IsWithinLimits n new_outs new_ins
@@ -111,7 +112,7 @@ module _ (n : ℕ) (outs ins : List (List Leg)) (within : IsWithinLimits n outs 
         sizes = (put.size ∙ from.size ∙ within.sizes.0, put_turned.size ∙ into.size ∙ within.sizes.1);
         rows = (put.rows, put_turned.rows);
         agree = λ u w. outs_after u w ∙ sym (ins_after u w);
-        legs = same_within n (legs_from new_outs) (contracted (legs_from outs) v list) outs_after (contracted_within n h (legs_from outs) v list within.legs are);
+        legs = same_within n (legs_from new_outs) (legs_after_contraction (legs_from outs) v list) outs_after (contracted_within n h (legs_from outs) v list within.legs are);
       }
 
 -- what a contraction does to both sides, call after call
@@ -119,7 +120,7 @@ pub contraction_leaves : (n : ℕ) (outs ins : List (List Leg)) → IsWithinLimi
     AreShortcuts n h (legs_from outs) v list → (taken_outs taken_ins mid_outs mid_ins new_outs new_ins : List (List Leg)) →
     AreWithout v outs taken_outs → AreWithout v ins taken_ins → mid_outs ≡ set taken_outs v [] → mid_ins ≡ set taken_ins v [] →
     AreOverridden legs_from v list mid_outs new_outs → AreOverridden legs_into v list mid_ins new_ins →
-    IsWithinLimits n new_outs new_ins × SameLegs (legs_from new_outs) (contracted (legs_from outs) v list)
+    IsWithinLimits n new_outs new_ins × SameLegs (legs_from new_outs) (legs_after_contraction (legs_from outs) v list)
 contraction_leaves n outs ins within v inside h list are taken_outs taken_ins mid_outs mid_ins new_outs new_ins a b e f put put_turned =
     let from = cleared v outs taken_outs mid_outs (omega (arith, within.sizes.0)) a.size a.rows a.legs e in
     let into = cleared v ins taken_ins mid_ins (omega (arith, within.sizes.1)) b.size b.rows b.legs f in (

@@ -1,32 +1,34 @@
 -- What opening a construction, one step of it and its end give, from what their calls give.
-use Rattle.std.proofs.Common.{◌≡◌, ℕ, zero, suc, Bool, true, false, cond, not, map, refl, ◌+◌, ◌*◌, ◌<◌, ◌≤◌, List, [], ◌∷◌, ◌++◌, length, get_or, Option, Some, None, sym, ◌∙◌, ap, subst, arith, Contains, length-append, length-set, get_or-set_same, get_or-set_other}
-use Rattle.std.specs.Prelude.{◌≢◌, ◌==◌, slice_set, All, filter, is_some, ◌||◌, if◌then◌else◌, ℤ, ◌<ℤ◌}
+use Rattle.std.proofs.Common.{◌≡◌, ℕ, Bool, true, false, cond, not, map, refl, ◌+◌, ◌*◌, ◌<◌, ◌≤◌, List, [], ◌∷◌, ◌++◌, length, get_or, Option, Some, None, sym, ◌∙◌, ap, subst, arith, inl, inr, replicate, Contains, length-append, length-set, get_or-set_same, get_or-set_other}
+use Rattle.std.specs.Prelude.{◌≢◌, ◌==◌, slice_set, All, filter, is_some, ◌||◌, if◌then◌else◌, slice_index, max, ℤ, ◌<ℤ◌}
 use Rattle.std.specs.Ordering.{is_gt, int_cmp, MatchOrdering}
 use Rattle.std.specs.declared.cmp.Ordering.{Ordering}
 use Rattle.std.specs.declared.cmp.Ordering.TheVariants.{Less, Equal, Greater}
 use Rattle.std.specs.Cmp.{int_ranks}
 use Rattle.std.proofs.lemmas.Int.{ints}
-use Rattle.std.proofs.lemmas.Bool.{true≢false}
+use Rattle.std.proofs.lemmas.Bool.{true≢false, cases_lt}
 use Rattle.std.proofs.lemmas.Bool.Decides.{nat_tests}
-use Rattle.std.proofs.lemmas.List.{length-map, append-nil, map-append}
+use Rattle.std.proofs.lemmas.List.{length-map, append-nil, map-append, get_or-replicate, get_or_past, length-replicate}
 use Rattle.std.proofs.lemmas.List.Filters.{length-filter_both}
 use Rattle.std.proofs.lemmas.List.Elements.{Contains-get_or, filter-append, All-append, All-cons, All-nil}
 use Rattle.ch_queue.specs.Queue.{IsLeastEntry, ComesFirst}
 use Rattle.ch_graph.specs.Graph.{Network}
 use Rattle.ch_graph.specs.Rows.{values_of, AreRowsOf}
-use Rattle.ch_contract.specs.declared.leg.Leg.{Leg}
+use Rattle.ch_hierarchy.specs.declared.leg.Leg.{Leg}
+use Rattle.ch_contract.specs.declared.measure.OrderBy.{OrderBy}
 use Rattle.ch_contract.specs.declared.construction.Construction.{Construction}
 use Rattle.ch_contract.specs.Legs.{Label, Legs, SameLegs, AreLegsWithin, opening}
-use Rattle.ch_contract.specs.Contraction.{Contracts, count_below}
-use Rattle.ch_contract.specs.Order.{are_neighbours, IsContractedBefore}
-use Rattle.ch_contract.specs.Rows.{AreLegsFrom, AreLegsTo}
-use Rattle.ch_contract.specs.Hierarchy.{LevelsAndLegs}
+use Rattle.ch_contract.specs.Contraction.{Contracts, IsPriorityBy}
+use Rattle.ch_contract.specs.Order.{are_neighbours, next_depth, IsContractedBefore}
+use Rattle.ch_contract.specs.LegRows.{AreLegsFrom, AreLegsTo}
+use Rattle.ch_hierarchy.specs.Hierarchy.{LevelsAndLegs}
 use Rattle.ch_contract.specs.Remaining.{legs_of}
 use Rattle.ch_contract.specs.Progress.{IsNext, IsOpen, IsStep, AreAll}
 use Rattle.ch_contract.specs.Priorities.{ArePriorities, AreRefreshed, has_node, neighbours_in}
+use Rattle.ch_contract.specs.Measures.{IsPriorityIn, AreDeepened}
 use Rattle.ch_contract.specs.Construction.{progress_of, IsSized}
 use Rattle.ch_contract.proofs.theory.OneOrder.{one_map}
-use Rattle.ch_contract.proofs.theory.Counts.{rows_touching}
+use Rattle.ch_contract.proofs.theory.Counts.{rows_touching, count_most}
 use Rattle.ch_contract.proofs.code.Neighbours.{neighbour_listed, not_listed, neighbour_within}
 
 -- the values of a list of pairs of one key
@@ -94,28 +96,38 @@ first_of p v q x f = at (int_cmp p q) (int_ranks p q) f.0 f.1
 pub is_next : (keys : List (Option ℤ)) (e : ℤ × ℕ) → IsLeastEntry int_cmp keys e → IsNext keys e.1
 is_next keys e l = record { priority = e.0; has = l.has; first = λ x q has. first_of e.0 e.1 q x (l.least x q has) }
 
+-- a list of zeros has 0 at each place, and past its end
+pub zeros : (n x : ℕ) → slice_index (replicate n 0) x ≡ 0
+zeros n x = elim (cases_lt x n) [
+  | inl lt ↦ get_or-replicate n x 0 0 lt
+  | inr past ↦ get_or_past (replicate n 0) x 0 (omega (arith, length-replicate {A = ℕ} n 0))
+]
+
 -- a construction of which no node is contracted
-pub opened : (g : Network) (h : ℕ) (c : Construction) → SameLegs (legs_of c.remaining) (opening g) → c.remaining.nodes ≡ g.nodes → AreLegsWithin c.remaining.nodes (legs_of c.remaining) → ArePriorities c.remaining.nodes h (legs_of c.remaining) c.waiting →
-    c.ups.items ≡ [] → c.downs.items ≡ [] → c.contracted ≡ 0 → IsOpen g h (progress_of c)
-opened g h c same nodes limits priorities ups downs contracted =
+pub opened : (by : OrderBy) (g : Network) (h : ℕ) (c : Construction) → SameLegs (legs_of c.remaining) (opening g) → c.remaining.nodes ≡ g.nodes → AreLegsWithin c.remaining.nodes (legs_of c.remaining) → ArePriorities (IsPriorityIn by c.remaining h c.depths.items) c.remaining.nodes c.waiting → ((x : ℕ) → slice_index c.depths.items x ≡ 0) →
+    c.ups.items ≡ [] → c.downs.items ≡ [] → c.contracted ≡ 0 → IsOpen by g h (progress_of c)
+opened by g h c same nodes limits priorities depths ups downs contracted =
     let legs = one_map (legs_of c.remaining) (opening g) same in
-    let all = subst (λ n. ArePriorities n h (opening g) c.waiting) nodes (subst (λ (M : Legs). ArePriorities c.remaining.nodes h M c.waiting) legs priorities) in
+    let deep : ℕ → ℕ = λ x. slice_index c.depths.items x in
+    let all = subst (λ n. ArePriorities (IsPriorityBy by n h (opening g) deep) n c.waiting) nodes (subst (λ (M : Legs). ArePriorities (IsPriorityBy by c.remaining.nodes h M deep) c.remaining.nodes c.waiting) legs priorities) in
     record {
       legs = same;
       limits = subst (λ n. AreLegsWithin n (opening g)) nodes (subst (λ (M : Legs). AreLegsWithin c.remaining.nodes M) legs limits);
       size = all.size;
       priorities = all.each;
+      depths = depths;
       rows = λ x. (ap (values_of x) ups, ap (values_of x) downs);
       contracted = contracted;
     }
 
 -- the parts of a construction after v is contracted
-pub record IsStepped (h : ℕ) (before : Construction) (v : ℕ) (up down : List Leg) (after : Construction) : Type 0 where
+pub record IsStepped (by : OrderBy) (h : ℕ) (before : Construction) (v : ℕ) (up down : List Leg) (after : Construction) : Type 0 where
   pub nodes : after.remaining.nodes ≡ before.remaining.nodes
   pub legs : Contracts before.remaining.nodes h (legs_of before.remaining) v (legs_of after.remaining)
   pub from : AreLegsFrom (legs_of before.remaining) v up
   pub to : AreLegsTo (legs_of before.remaining) v down
-  pub refreshed : AreRefreshed after.remaining.nodes h (legs_of after.remaining) (neighbours_in up down) (slice_set before.waiting v None) after.waiting
+  pub deeper : AreDeepened (neighbours_in up down) (slice_index before.depths.items v + 1) before.depths.items after.depths.items
+  pub refreshed : AreRefreshed (IsPriorityIn by after.remaining h after.depths.items) (neighbours_in up down) (slice_set before.waiting v None) after.waiting
   pub contracted : after.contracted ≡ before.contracted + 1
   pub levels : after.levels.items ≡ slice_set before.levels.items v after.contracted
   pub ups : after.ups.items ≡ before.ups.items ++ map (λ l. (v, l)) up
@@ -129,15 +141,26 @@ not_own n L v within = at (L v v) refl
     at None e = rw e refl
     at (Some l) e = absurd ((within v v l e).ends.2 refl)
 
+-- the depths of the neighbours alone grow
+deeper_by : (L : Legs) (v : ℕ) (up down : List Leg) (before after : List ℕ) → AreLegsFrom L v up → AreLegsTo L v down → AreDeepened (neighbours_in up down) (slice_index before v + 1) before after →
+    (x : ℕ) → slice_index after x ≡ next_depth L v (λ y. slice_index before y) x
+deeper_by L v up down before after from to d x = at (are_neighbours L v x) refl
+  where
+    at : (b : Bool) → are_neighbours L v x ≡ b → slice_index after x ≡ (if are_neighbours L v x then max (slice_index before x) (slice_index before v + 1) else slice_index before x)
+    at true e = rw e (d.anew x (neighbour_listed L v up down from to x e))
+    at false e = rw e (d.kept x (not_listed L v up down from to x e))
+
 -- so it is one step on
-pub stepped : (h : ℕ) (before : Construction) (v : ℕ) (up down : List Leg) (after : Construction) → v < before.remaining.nodes → AreLegsWithin before.remaining.nodes (legs_of before.remaining) → IsSized before → IsStepped h before v up down after →
-    IsStep before.remaining.nodes h (progress_of before) v (progress_of after)
-stepped h before v up down after node within sizes s =
+pub stepped : (by : OrderBy) (h : ℕ) (before : Construction) (v : ℕ) (up down : List Leg) (after : Construction) → v < before.remaining.nodes → AreLegsWithin before.remaining.nodes (legs_of before.remaining) → IsSized before → IsStepped by h before v up down after →
+    IsStep by before.remaining.nodes h (progress_of before) v (progress_of after)
+stepped by h before v up down after node within sizes s =
     let L = legs_of before.remaining in
-    let anew = subst (λ n. AreRefreshed n h (legs_of after.remaining) (neighbours_in up down) (slice_set before.waiting v None) after.waiting) s.nodes s.refreshed in
+    let deep : ℕ → ℕ = λ x. slice_index after.depths.items x in
+    let anew = subst (λ n. AreRefreshed (IsPriorityBy by n h (legs_of after.remaining) deep) (neighbours_in up down) (slice_set before.waiting v None) after.waiting) s.nodes s.refreshed in
     record {
       legs = s.legs;
       contracted = s.contracted;
+      depths = deeper_by L v up down before.depths.items after.depths.items s.from s.to s.deeper;
       levels = s.levels;
       up = (up, s.from, row_grows v before.ups.items after.ups.items up s.ups);
       down = (down, s.to, row_grows v before.downs.items after.downs.items down s.downs);
@@ -149,13 +172,14 @@ stepped h before v up down after node within sizes s =
     }
 
 -- and keeps its sizes
-pub sized_still : (h : ℕ) (before : Construction) (v : ℕ) (up down : List Leg) (after : Construction) → v < before.remaining.nodes → IsSized before → IsStepped h before v up down after → IsSized after
-sized_still h before v up down after node sizes s =
+pub sized_still : (by : OrderBy) (h : ℕ) (before : Construction) (v : ℕ) (up down : List Leg) (after : Construction) → v < before.remaining.nodes → IsSized before → IsStepped by h before v up down after → IsSized after
+sized_still by h before v up down after node sizes s =
     let nodes = s.nodes in
     let here : v < after.remaining.nodes = omega arith in
     record {
       nodes = let count = sizes.nodes in omega arith;
       keys = s.refreshed.size ∙ length-set before.waiting v None ∙ sizes.keys ∙ sym nodes;
+      depths = s.deeper.size ∙ sizes.depths ∙ sym nodes;
       levels = ap length s.levels ∙ length-set before.levels.items v after.contracted ∙ sizes.levels ∙ sym nodes;
       ups = rows_below after.remaining.nodes v before.ups.items after.ups.items up s.ups here (subst (λ n. All (λ p. p.0 < n) before.ups.items) (sym nodes) sizes.ups);
       downs = rows_below after.remaining.nodes v before.downs.items after.downs.items down s.downs here (subst (λ n. All (λ p. p.0 < n) before.downs.items) (sym nodes) sizes.downs);
@@ -173,15 +197,6 @@ all_rows c H sizes level ups downs = record {
 pub neighbours_within : (n : ℕ) (L : Legs) (v : ℕ) (up down : List Leg) (list : List ℕ) → AreLegsFrom L v up → AreLegsTo L v down → AreLegsWithin n L → list ≡ neighbours_in up down → All (λ x. x < n) list
 neighbours_within n L v up down list from to within e k d lt =
     neighbour_within L v up down from to n (get_or list k d) within (subst (λ l. Contains l (get_or list k d)) e (Contains-get_or list k d lt))
-
--- no more numbers below n pass than there are
-count_most : (n : ℕ) (p : ℕ → Bool) → count_below n p ≤ n
-count_most zero p = omega arith
-count_most (suc n) p = omega (arith, count_most n p, one (p n))
-  where
-    one : (b : Bool) → (if b then 1 else 0) ≤ 1
-    one true = omega arith
-    one false = omega arith
 
 -- there are at most two neighbours for each node
 pub neighbours_count : (n v : ℕ) (L : Legs) (up down : List Leg) (list : List ℕ) →

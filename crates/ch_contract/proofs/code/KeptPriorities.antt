@@ -6,11 +6,9 @@ use Rattle.std.proofs.lemmas.List.{take_more}
 use Rattle.std.proofs.lemmas.List.Elements.{Contains-append_left, Contains-append_right, Contains-append_cases, Contains-push, Contains-push_cases, Contains-get_or}
 use Rattle.std.specs.List.{AllZip, range_with_len, slice_range}
 use Rattle.std.proofs.Math.Seq.{take-add}
-use Rattle.ch_contract.proofs.theory.Ordered.{contains_or_not}
+use Rattle.ch_hierarchy.proofs.theory.Ordered.{contains_or_not}
 use Rattle.std.proofs.lemmas.List.FromFn.{length-range_with_len, get_or-range_with_len}
 use Rattle.ch_queue.specs.Queue.{key_of}
-use Rattle.ch_contract.specs.Legs.{Legs}
-use Rattle.ch_contract.specs.Contraction.{IsPriority}
 use Rattle.ch_contract.specs.Progress.{HasPriority}
 use Rattle.ch_contract.specs.Priorities.{ArePriorities, AreRefreshed}
 
@@ -33,9 +31,9 @@ number_among n x lt =
     let at : get_or (range_with_len 0 n) x 0 ≡ x = omega (arith, get_or-range_with_len 0 n x 0 lt) in
     subst (Contains (range_with_len 0 n)) at (Contains-get_or (range_with_len 0 n) x 0 (omega (arith, length-range_with_len 0 n)))
 
-module _ (n h : ℕ) (L : Legs) where
+module _ (IsOf : ℕ → ℤ → Type 0) where
   -- the priority of one more node is computed anew
-  pub refreshed_more : (nodes : List ℕ) (i : ℕ) (before middle : List (Option ℤ)) (p : ℤ) → i < length nodes → get_or nodes i 0 < length middle → IsPriority n h L (get_or nodes i 0) p → AreRefreshed n h L (take i nodes) before middle → AreRefreshed n h L (take (i + 1) nodes) before (set middle (get_or nodes i 0) (Some p))
+  pub refreshed_more : (nodes : List ℕ) (i : ℕ) (before middle : List (Option ℤ)) (p : ℤ) → i < length nodes → get_or nodes i 0 < length middle → IsOf (get_or nodes i 0) p → AreRefreshed IsOf (take i nodes) before middle → AreRefreshed IsOf (take (i + 1) nodes) before (set middle (get_or nodes i 0) (Some p))
   refreshed_more nodes i before middle p lt within is known =
       let more = take_more nodes i 0 lt in
       let v : ℕ = get_or nodes i 0 in
@@ -43,7 +41,7 @@ module _ (n h : ℕ) (L : Legs) where
       record {
         size = length-set middle v (Some p) ∙ known.size;
         anew = λ x c. elim (cases_eq x v) [
-          | inl e ↦ subst (HasPriority n h L (set middle v (Some p))) (sym e) (p, here, is)
+          | inl e ↦ subst (HasPriority IsOf (set middle v (Some p))) (sym e) (p, here, is)
           | inr ne ↦ elim (Contains-push_cases (take i nodes) v x (subst (λ l. Contains l x) more c)) [
             | inl earlier ↦ let r = known.anew x earlier in (r.0, get_or-set_other middle v x (Some p) None ne ∙ r.1, r.2)
             | inr e ↦ absurd (ne (sym e))
@@ -55,7 +53,7 @@ module _ (n h : ℕ) (L : Legs) where
       }
 
   -- one list of nodes after the other
-  pub refreshed_then : (xs ys : List ℕ) (before middle after : List (Option ℤ)) → AreRefreshed n h L xs before middle → AreRefreshed n h L ys middle after → AreRefreshed n h L (xs ++ ys) before after
+  pub refreshed_then : (xs ys : List ℕ) (before middle after : List (Option ℤ)) → AreRefreshed IsOf xs before middle → AreRefreshed IsOf ys middle after → AreRefreshed IsOf (xs ++ ys) before after
   refreshed_then xs ys before middle after r s = record {
     size = s.size ∙ r.size;
     anew = λ x c. elim (contains_or_not ys x) [
@@ -69,12 +67,12 @@ module _ (n h : ℕ) (L : Legs) where
   }
 
   -- one range of nodes after the nodes before it
-  pub refreshed_range : (nodes : List ℕ) (from to : ℕ) (before middle after : List (Option ℤ)) → from ≤ to → AreRefreshed n h L (take from nodes) before middle → AreRefreshed n h L (slice_range nodes from to) middle after → AreRefreshed n h L (take to nodes) before after
+  pub refreshed_range : (nodes : List ℕ) (from to : ℕ) (before middle after : List (Option ℤ)) → from ≤ to → AreRefreshed IsOf (take from nodes) before middle → AreRefreshed IsOf (slice_range nodes from to) middle after → AreRefreshed IsOf (take to nodes) before after
   refreshed_range nodes from to before middle after le r s =
       let size : from + (to - from) ≡ to = omega arith in
       let all : take from nodes ++ slice_range nodes from to ≡ take to nodes = sym (take-add from (to - from) nodes) ∙ ap (λ z. take z nodes) size in
-      subst (λ l. AreRefreshed n h L l before after) all (refreshed_then (take from nodes) (slice_range nodes from to) before middle after r s)
+      subst (λ l. AreRefreshed IsOf l before after) all (refreshed_then (take from nodes) (slice_range nodes from to) before middle after r s)
 
   -- where all nodes are refreshed, all have their priorities
-  pub all_refreshed : (before after : List (Option ℤ)) → length before ≡ n → AreRefreshed n h L (range_with_len 0 n) before after → ArePriorities n h L after
-  all_refreshed before after size r = record { size = r.size ∙ size; each = λ x lt. r.anew x (number_among n x lt) }
+  pub all_refreshed : (n : ℕ) (before after : List (Option ℤ)) → length before ≡ n → AreRefreshed IsOf (range_with_len 0 n) before after → ArePriorities IsOf n after
+  all_refreshed n before after size r = record { size = r.size ∙ size; each = λ x lt. r.anew x (number_among n x lt) }

@@ -5,12 +5,12 @@ use Rattle.std.proofs.lemmas.List.Elements.{All-contains}
 use Rattle.ch_graph.specs.declared.limits.TheConstants.{MOST_WEIGHT}
 use Rattle.ch_graph.specs.declared.arc.InArc.{InArc}
 use Rattle.ch_graph.specs.Graph.{Network}
-use Rattle.ch_contract.specs.declared.leg.Leg.{Leg}
+use Rattle.ch_hierarchy.specs.declared.leg.Leg.{Leg}
 use Rattle.ch_contract.specs.declared.shortcut.Shortcut.{Shortcut}
 use Rattle.ch_contract.specs.Legs.{Label, Legs, SameLegs, AreLegsWithin, opening}
-use Rattle.ch_contract.specs.Contraction.{contracted}
+use Rattle.ch_contract.specs.Contraction.{legs_after_contraction}
 use Rattle.ch_contract.specs.LegLists.{legs_from, legs_into}
-use Rattle.ch_contract.specs.Heads.{AreLegsUpTo}
+use Rattle.ch_contract.specs.KnownCosts.{AreLegsUpTo}
 use Rattle.ch_contract.proofs.theory.OpeningLegs.{arc, opening_leg}
 use Rattle.ch_contract.proofs.theory.Levelled.{contracted_cases}
 
@@ -29,7 +29,7 @@ opened_light limit g L light same u w l e =
     subst (λ (z : Label). z.cost.weight ≤ limit) (sym is.label) (All-contains (λ (a : InArc). a.weight ≤ limit) g.arcs (arc u w is.weight) light is.arc_is)
 
 -- light legs after light shortcuts are put in
-pub contracted_light : (limit : ℕ) (L : Legs) (v : ℕ) (list : List Shortcut) (M : Legs) → AreLegsUpTo limit L → All (λ s. s.cost.weight ≤ limit) list → SameLegs M (contracted L v list) → AreLegsUpTo limit M
+pub contracted_light : (limit : ℕ) (L : Legs) (v : ℕ) (list : List Shortcut) (M : Legs) → AreLegsUpTo limit L → All (λ s. s.cost.weight ≤ limit) list → SameLegs M (legs_after_contraction L v list) → AreLegsUpTo limit M
 contracted_light limit L v list M before light same u w l e = elim (contracted_cases L v list u w l (sym (same u w) ∙ e)) [
   | inl old ↦ before u w l old
   | inr made ↦ subst (λ (z : Label). z.cost.weight ≤ limit) made.4 (All-contains (λ (s : Shortcut). s.cost.weight ≤ limit) list made.0 light made.1)

@@ -11,8 +11,9 @@ use Rattle.ch_contract.proofs.code.Puts.{next_shortcut}
 use Rattle.ch_contract.specs.LegLists.{AreRows, IsAmong, HaveAll, IsSet, AreTaken, AreOverridden, legs_from, legs_into}
 use Rattle.std.proofs.lemmas.List.{get_or-set_same, get_or-set_other, get_or-map, map-set, length-map, length-set}
 use Rattle.smallvec.specs.SmallVec.{SmallVec}
-use Rattle.ch_contract.specs.declared.leg.Leg.{Leg}
-use Rattle.ch_contract.specs.Rows.{row, row_leg, IsRow}
+use Rattle.ch_hierarchy.specs.declared.leg.Leg.{Leg}
+use Rattle.ch_hierarchy.specs.Rows.{row, IsRow}
+use Rattle.ch_contract.specs.LegRows.{row_leg}
 
 abbrev pub rows_of : List (SmallVec Leg) → List (List Leg)
 rows_of lists = map (λ v. v.items) lists

@@ -1,14 +1,17 @@
--- The neighbours of a node, listed from its rows.
-use Rattle.std.proofs.Common.{◌≡◌, ℕ, ◌<◌, Bool, true, false, not, List, [], ◌∷◌, map, Option, Some, None, refl, sym, ◌∙◌, ap, subst, inl, inr, Contains}
-use Rattle.std.specs.Prelude.{◌==◌, ◌||◌, filter, is_some}
-use Rattle.std.proofs.lemmas.Bool.{eqb-true, false≢true}
-use Rattle.std.proofs.lemmas.List.Elements.{Contains-append_left, Contains-append_right, Contains-append_cases}
-use Rattle.ch_contract.specs.declared.leg.Leg.{Leg}
+-- The neighbours of a node, listed from its rows, and their depths.
+use Rattle.std.proofs.Common.{◌≡◌, ℕ, ◌+◌, ◌<◌, Bool, true, false, not, List, [], ◌∷◌, ◌++◌, length, get_or, set, take, max, map, Option, Some, None, refl, sym, ◌∙◌, ap, subst, arith, inl, inr, Contains, length-set, get_or-set_same, get_or-set_other}
+use Rattle.std.specs.Prelude.{◌≢◌, ◌==◌, ◌||◌, filter, is_some, slice_index}
+use Rattle.std.proofs.lemmas.Bool.{cases_eq, eqb-true, false≢true}
+use Rattle.std.proofs.lemmas.List.{take_more}
+use Rattle.std.proofs.lemmas.List.Elements.{Contains-append_left, Contains-append_right, Contains-append_cases, Contains-push, Contains-push_cases}
+use Rattle.ch_hierarchy.specs.declared.leg.Leg.{Leg}
 use Rattle.ch_contract.specs.Legs.{Label, Legs, AreLegsWithin}
 use Rattle.ch_contract.specs.Order.{are_neighbours}
-use Rattle.ch_contract.specs.Rows.{AreLegsFrom, AreLegsTo, label_of, row_leg}
+use Rattle.ch_contract.specs.LegRows.{AreLegsFrom, AreLegsTo, label_of, row_leg}
 use Rattle.ch_contract.specs.Priorities.{has_node, neighbours_in}
+use Rattle.ch_contract.specs.Measures.{AreDeepened}
 use Rattle.ch_graph.proofs.Lists.{contains_head, contains_tail, contains_map, contains_map_of, contains_filter, contains_filter_of}
+use Rattle.ch_hierarchy.proofs.theory.Ordered.{contains_or_not}
 use Rattle.ch_contract.proofs.theory.RowLegs.{leg_at, row_has, row_member}
 
 -- where the test finds a node, a leg has it
@@ -75,3 +78,27 @@ module _ (L : Legs) (v : ℕ) (up down : List Leg) (from : AreLegsFrom L v up) (
       at (Some l) b p q t = (within v x l p).ends.1
       at None (Some l) p q t = (within x v l q).ends.0
       at None None p q t = cc
+
+-- one more node lies at least so deep
+pub deepened_more : (nodes : List ℕ) (i deep : ℕ) (before middle : List ℕ) → i < length nodes → get_or nodes i 0 < length middle → AreDeepened (take i nodes) deep before middle → AreDeepened (take (i + 1) nodes) deep before (set middle (get_or nodes i 0) (max (slice_index middle (get_or nodes i 0)) deep))
+deepened_more nodes i deep before middle lt within known =
+    let more = take_more nodes i 0 lt in
+    let v : ℕ = get_or nodes i 0 in
+    let value : ℕ = max (slice_index middle v) deep in
+    let here : slice_index (set middle v value) v ≡ value = get_or-set_same middle v value 0 within in
+    record {
+      size = length-set middle v value ∙ known.size;
+      anew = λ x c. elim (cases_eq x v) [
+        | inl e ↦ subst (λ z. slice_index (set middle v value) z ≡ max (slice_index before z) deep) (sym e) (here ∙ elim (contains_or_not (take i nodes) v) [
+          | inl earlier ↦ let r = known.anew v earlier in omega arith
+          | inr away ↦ ap (λ z. max z deep) (known.kept v away)
+        ])
+        | inr ne ↦ elim (Contains-push_cases (take i nodes) v x (subst (λ l. Contains l x) more c)) [
+          | inl earlier ↦ get_or-set_other middle v x value 0 ne ∙ known.anew x earlier
+          | inr e ↦ absurd (ne (sym e))
+        ]
+      ];
+      kept = λ x away.
+          let ne : x ≢ v = λ e. away (subst (λ l. Contains l x) (sym more) (subst (Contains (take i nodes ++ v ∷ [])) (sym e) (Contains-push (take i nodes) v))) in
+          get_or-set_other middle v x value 0 ne ∙ known.kept x (λ c. away (subst (λ l. Contains l x) (sym more) (Contains-append_left (take i nodes) (v ∷ []) x c)));
+    }

@@ -6,12 +6,13 @@ use Rattle.std.proofs.lemmas.List.Elements.{filter-append}
 use Rattle.std.proofs.lemmas.Bool.Decides.{nat_tests}
 use Rattle.ch_graph.specs.declared.limits.TheConstants.{MOST_NODES}
 use Rattle.ch_graph.specs.declared.arc.InArc.{InArc}
-use Rattle.ch_contract.specs.declared.leg.Leg.{Leg}
+use Rattle.ch_hierarchy.specs.declared.leg.Leg.{Leg}
 use Rattle.ch_contract.specs.Legs.{Label, Legs, SameLegs, AreLegsWithin, ArcsOpen, opening, arc_label, arc_label_of, least_weight, lesser_weight}
-use Rattle.ch_contract.specs.Rows.{row, row_leg, IsRow}
+use Rattle.ch_hierarchy.specs.Rows.{row, IsRow}
+use Rattle.ch_contract.specs.LegRows.{row_leg}
 use Rattle.ch_contract.specs.LegLists.{AreRows, IsSet, IsWithinLimits, legs_from, legs_into, lighter_arc}
 use Rattle.std.proofs.lemmas.Bool.{cases_lt}
-use Rattle.ch_contract.proofs.theory.Ordered.{same_ends}
+use Rattle.ch_hierarchy.proofs.theory.Ordered.{same_ends}
 use Rattle.ch_graph.specs.Graph.{Network, IsWithinLimits as IsWithinGraphLimits}
 use Rattle.ch_contract.proofs.theory.Opening.{joins, opens, same_within}
 use Rattle.ch_contract.proofs.theory.OpeningLegs.{opening_within}

@@ -1,18 +1,18 @@
 -- Costs in words: they add without a carry, and compare as costs do.
 use Rattle.std.proofs.Common.{◌≡◌, ℕ, ◌+◌, ◌*◌, ◌^◌, ◌<◌, ◌≤◌, ap, arith, inl, inr}
 use Rattle.std.proofs.lemmas.Bool.{cases_lt}
-use Rattle.ch_contract.specs.declared.head.TheConstants.{MOST_LIGHT, WEIGHT_UNIT}
+use Rattle.ch_contract.specs.declared.held_cost.TheConstants.{MOST_LIGHT, WEIGHT_UNIT}
 use Rattle.ch_graph.specs.declared.cost.Cost.{Cost}
 use Rattle.ch_graph.specs.Cost.{IsAtMost, cost_sum}
 use Rattle.ch_graph.proofs.CostOrder.{same_costs}
-use Rattle.ch_contract.specs.HeldCosts.{IsAddend, IsHead, cost_in}
+use Rattle.ch_contract.specs.HeldCosts.{IsAddend, IsKnownCost, cost_in}
 
 -- the word of a cost
 pub cost_in_word : (c : Cost) → c.weight < 2 ^ 32 → c.arcs < WEIGHT_UNIT → cost_in (c.weight * WEIGHT_UNIT + c.arcs) ≡ c
 cost_in_word c weight arcs = same_costs _ c (omega arith) (omega arith)
 
 -- a sum of words
-pub cost_in_sum : (a b : ℕ) → a < 2 ^ 64 → b < 2 ^ 64 → IsHead MOST_LIGHT (cost_in a) → IsAddend MOST_LIGHT (cost_in b) → (a + b < 2 ^ 64) × (cost_in (a + b) ≡ cost_sum (cost_in a) (cost_in b))
+pub cost_in_sum : (a b : ℕ) → a < 2 ^ 64 → b < 2 ^ 64 → IsKnownCost MOST_LIGHT (cost_in a) → IsAddend MOST_LIGHT (cost_in b) → (a + b < 2 ^ 64) × (cost_in (a + b) ≡ cost_sum (cost_in a) (cost_in b))
 cost_in_sum a b fits_a fits_b (inl none) held =
     let limited = held.limited in
     let arcs = held.arcs in

@@ -10,12 +10,12 @@ use Rattle.ch_graph.specs.WalkLaws.{IsWalkCost}
 use Rattle.ch_graph.proofs.CostOrder.{IsAtMost_trans}
 use Rattle.ch_graph.proofs.WalkCosts.{IsWalkCost-cost_sum, IsLeast-IsAtMost}
 use Rattle.ch_graph.proofs.LeastSearch.{IsLeast-of_walk}
-use Rattle.ch_contract.specs.declared.leg.Leg.{Leg}
+use Rattle.ch_hierarchy.specs.declared.leg.Leg.{Leg}
 use Rattle.ch_contract.specs.Legs.{Legs, arc_label}
-use Rattle.ch_contract.specs.Rows.{row}
-use Rattle.ch_contract.specs.Hierarchy.{LevelsAndLegs}
-use Rattle.ch_contract.specs.Paths.{IsMeeting}
-use Rattle.ch_contract.specs.Kept.{IsLeg, IsFounded, IsKept}
+use Rattle.ch_hierarchy.specs.Rows.{row}
+use Rattle.ch_hierarchy.specs.Hierarchy.{LevelsAndLegs}
+use Rattle.ch_hierarchy.specs.Paths.{IsMeeting}
+use Rattle.ch_hierarchy.specs.Kept.{IsLeg, IsFounded, IsKept}
 use Rattle.ch_contract.specs.Keeping.{IsLeft, ContractionKeepsLeastCosts, HierarchiesAreKept}
 use Rattle.ch_contract.proofs.theory.RowLegs.{leg_at}
 use Rattle.ch_contract.proofs.theory.Chains.{HasLeg}
@@ -101,7 +101,7 @@ module _ {g : Network} {h : ℕ} {H : LevelsAndLegs} {order : List ℕ} {L : ℕ
   pub built_arcs : (a : InArc) → Contains g.arcs a → a.from ≢ a.to → HasLegWithin a.from a.to (arc_label a.weight).cost
   built_arcs a has ne =
       let leg = opening_covers g a has ne in
-      let first : L zero a.from a.to ≡ Some leg.0 = built.hierarchy.order_is.start a.from a.to ∙ leg.1 in
+      let first : L zero a.from a.to ≡ Some leg.0 = built.hierarchy.contracted.start a.from a.to ∙ leg.1 in
       let ends = (step_leg (contraction built) zero (omega arith) a.from a.to leg.0 first).within.ends in
       let s = step_of built a.from ends.0 in
       let t = step_of built a.to ends.1 in
@@ -155,6 +155,6 @@ least_costs_kept g h order L limits hops is i u w c le p q least =
 
 -- built hierarchies are kept
 pub hierarchies_kept : HierarchiesAreKept
-hierarchies_kept g h H limits hops is =
+hierarchies_kept by g h H limits hops is =
     let built : IsBuilt g h H is.0 is.1 = record { limits = limits; hops = hops; hierarchy = is.2 } in
     built_kept built

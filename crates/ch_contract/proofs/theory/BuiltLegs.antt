@@ -3,12 +3,14 @@ use Rattle.std.proofs.Common.{◌≡◌, ℕ, ◌<◌, ◌≤◌, List, Some, Co
 use Rattle.std.proofs.lemmas.Bool.{cases_lt}
 use Rattle.ch_graph.specs.Graph.{Network, IsWithinLimits}
 use Rattle.ch_graph.specs.WalkLaws.{IsWalkCost}
-use Rattle.ch_contract.specs.declared.leg.Leg.{Leg}
+use Rattle.ch_hierarchy.specs.declared.leg.Leg.{Leg}
 use Rattle.ch_contract.specs.Legs.{Label, Legs, IsHopBound}
-use Rattle.ch_contract.specs.Rows.{row, label_of}
-use Rattle.ch_contract.specs.Hierarchy.{LevelsAndLegs, IsHierarchyOf}
+use Rattle.ch_hierarchy.specs.Rows.{row}
+use Rattle.ch_contract.specs.LegRows.{label_of}
+use Rattle.ch_hierarchy.specs.Hierarchy.{LevelsAndLegs}
+use Rattle.ch_contract.specs.Built.{IsHierarchyOf}
 use Rattle.ch_contract.proofs.theory.OneOrder.{taken_at}
-use Rattle.ch_contract.proofs.theory.SavedLevels.{in_row_below}
+use Rattle.ch_hierarchy.proofs.theory.SavedLevels.{in_row_below}
 use Rattle.ch_contract.proofs.theory.RowLegs.{leg_at, row_has, row_member}
 use Rattle.ch_contract.proofs.theory.StepLegs.{IsContraction, IsStepLeg, step_leg}
 use Rattle.ch_contract.proofs.theory.KeptCosts.{IsAfter}
@@ -22,16 +24,16 @@ pub record IsBuilt (g : Network) (h : ℕ) (H : LevelsAndLegs) (order : List ℕ
 module _ {g : Network} {h : ℕ} {H : LevelsAndLegs} {order : List ℕ} {L : ℕ → Legs} (built : IsBuilt g h H order L) where
   -- all nodes are contracted
   pub contraction : IsContraction g h order L g.nodes
-  contraction = record { limits = built.limits; hops = built.hops; start = built.hierarchy.order_is.start; step = built.hierarchy.order_is.step }
+  contraction = record { limits = built.limits; hops = built.hops; start = built.hierarchy.contracted.start; step = built.hierarchy.contracted.step }
 
   -- each node is contracted in some step
   pub step_of : (x : ℕ) → x < g.nodes → (i : ℕ) × (i < g.nodes) × (slice_index order i ≡ x)
-  step_of x lt = taken_at g h order L x built.hierarchy.order_is lt
+  step_of x lt = taken_at g h order L x built.hierarchy.contracted lt
 
   -- and in one step alone
   step_once : (i j : ℕ) → i < g.nodes → j < g.nodes → slice_index order i ≡ slice_index order j → i ≡ j
   step_once i j li lj e =
-      let nodes = built.hierarchy.order_is.nodes in
+      let nodes = built.hierarchy.contracted.nodes in
       let size = nodes.0 in
       elim (cases_lt i j) [
         | inl before ↦ absurd (nodes.2 i j 0 before (omega arith) e)

@@ -5,22 +5,22 @@ use Rattle.std.proofs.lemmas.Bool.{eqb-true}
 use Rattle.std.proofs.lemmas.Option.{same_Some, none-some}
 use Rattle.ch_contract.specs.declared.shortcut.Shortcut.{Shortcut}
 use Rattle.ch_contract.specs.Legs.{Label, Legs, SameLegs, AreLegsWithin, IsLegWithin}
-use Rattle.ch_contract.specs.Contraction.{IsShortcut, AreShortcuts, shortcut_label, overridden, contracted}
-use Rattle.ch_contract.proofs.theory.Ordered.{same_ends}
+use Rattle.ch_contract.specs.Contraction.{IsShortcut, AreShortcuts, shortcut_label, leg_after_shortcuts, legs_after_contraction}
+use Rattle.ch_hierarchy.proofs.theory.Ordered.{same_ends}
 
 -- one of the shortcuts stands between the two nodes
 abbrev pub IsOverridden : ℕ → List Shortcut → ℕ → ℕ → Option Label → Type 0
-IsOverridden v list u w before = (s : Shortcut) × Contains list s × (s.from ≡ u) × (s.to ≡ w) × (overridden v list u w before ≡ Some (shortcut_label v s))
+IsOverridden v list u w before = (s : Shortcut) × Contains list s × (s.from ≡ u) × (s.to ≡ w) × (leg_after_shortcuts v list u w before ≡ Some (shortcut_label v s))
 
 -- what was before stays, or a shortcut stands in its place
 pub override_cases : (v : ℕ) (list : List Shortcut) (u w : ℕ) (before : Option Label) →
-    (overridden v list u w before ≡ before) ⊎ IsOverridden v list u w before
+    (leg_after_shortcuts v list u w before ≡ before) ⊎ IsOverridden v list u w before
 override_cases v [] u w before = inl refl
 override_cases v (s ∷ list) u w before = at (s.from == u && s.to == w) refl (override_cases v list u w before)
   where
-    at : (b : Bool) → (s.from == u && s.to == w) ≡ b → (overridden v list u w before ≡ before) ⊎ IsOverridden v list u w before →
-        (cond b (Some (shortcut_label v s)) (overridden v list u w before) ≡ before)
-        ⊎ ((t : Shortcut) × Contains (s ∷ list) t × (t.from ≡ u) × (t.to ≡ w) × (cond b (Some (shortcut_label v s)) (overridden v list u w before) ≡ Some (shortcut_label v t)))
+    at : (b : Bool) → (s.from == u && s.to == w) ≡ b → (leg_after_shortcuts v list u w before ≡ before) ⊎ IsOverridden v list u w before →
+        (cond b (Some (shortcut_label v s)) (leg_after_shortcuts v list u w before) ≡ before)
+        ⊎ ((t : Shortcut) × Contains (s ∷ list) t × (t.from ≡ u) × (t.to ≡ w) × (cond b (Some (shortcut_label v s)) (leg_after_shortcuts v list u w before) ≡ Some (shortcut_label v t)))
     at true e more = let is = same_ends u w s.from s.to e in inr (s, (zero, omega arith, refl), is.0, is.1, refl)
     at false e more = elim more [ inl h ↦ inl h | inr h ↦ inr (h.0, (suc h.1.0, omega (arith, h.1.1), h.1.2), h.2, h.3, h.4) ]
 
@@ -32,11 +32,11 @@ module _ (n h : ℕ) (L : Legs) (v : ℕ) (list : List Shortcut) (limits : AreLe
       ((λ e. (limits s.from v legs.0 legs.2).ends.2 e), (λ e. (limits v s.to legs.1 legs.3).ends.2 (sym e)))
 
   -- the shortcuts put over the legs that don't touch v
-  pub put_over : (u w : ℕ) → overridden v list u w (contracted L v [] u w) ≡ contracted L v list u w
+  pub put_over : (u w : ℕ) → leg_after_shortcuts v list u w (legs_after_contraction L v [] u w) ≡ legs_after_contraction L v list u w
   put_over u w = at (u == v) (w == v) refl refl
     where
       at : (a b : Bool) → (u == v) ≡ a → (w == v) ≡ b →
-          overridden v list u w (cond (a || b) None (L u w)) ≡ cond (a || b) None (overridden v list u w (L u w))
+          leg_after_shortcuts v list u w (cond (a || b) None (L u w)) ≡ cond (a || b) None (leg_after_shortcuts v list u w (L u w))
       at true b e f = elim (override_cases v list u w None) [ inl stays ↦ stays | inr s ↦ absurd ((off s.0 s.1).0 (s.2 ∙ eqb-true u v e)) ]
       at false true e f = elim (override_cases v list u w None) [ inl stays ↦ stays | inr s ↦ absurd ((off s.0 s.1).1 (s.3 ∙ eqb-true w v f)) ]
       at false false e f = refl
@@ -49,10 +49,10 @@ module _ (n h : ℕ) (L : Legs) (v : ℕ) (list : List Shortcut) (limits : AreLe
       record { ends = (first.ends.0, second.ends.1, is.apart); weight = is.weight; arcs = is.arcs; middle = λ x e. subst (λ z. z < n) (same_Some v x e) second.ends.0 }
 
   -- and so do the legs after the contraction
-  pub contracted_within : AreLegsWithin n (contracted L v list)
+  pub contracted_within : AreLegsWithin n (legs_after_contraction L v list)
   contracted_within u w l e = at (u == v || w == v) e
     where
-      at : (b : Bool) → cond b None (overridden v list u w (L u w)) ≡ Some l → IsLegWithin n u w l
+      at : (b : Bool) → cond b None (leg_after_shortcuts v list u w (L u w)) ≡ Some l → IsLegWithin n u w l
       at true f = absurd (none-some _ f)
       at false f = elim (override_cases v list u w (L u w)) [
         | inl stays ↦ limits u w l (sym stays ∙ f)
@@ -61,5 +61,5 @@ module _ (n h : ℕ) (L : Legs) (v : ℕ) (list : List Shortcut) (limits : AreLe
 
 -- what removal and the shortcuts put in leave
 pub after : (n h v : ℕ) (L removed M : Legs) (list : List Shortcut) → AreLegsWithin n L → AreShortcuts n h L v list →
-    SameLegs removed (contracted L v []) → ((u w : ℕ) → M u w ≡ overridden v list u w (removed u w)) → SameLegs M (contracted L v list)
-after n h v L removed M list limits are gone put u w = put u w ∙ ap (overridden v list u w) (gone u w) ∙ put_over n h L v list limits are u w
+    SameLegs removed (legs_after_contraction L v []) → ((u w : ℕ) → M u w ≡ leg_after_shortcuts v list u w (removed u w)) → SameLegs M (legs_after_contraction L v list)
+after n h v L removed M list limits are gone put u w = put u w ∙ ap (leg_after_shortcuts v list u w) (gone u w) ∙ put_over n h L v list limits are u w

@@ -1,11 +1,14 @@
--- A row has as many legs as nodes to which it leads.
-use Rattle.std.proofs.Common.{◌≡◌, ℕ, suc, zero, ◌+◌, ◌<◌, Bool, true, false, List, [], ◌∷◌, length, get_or, Option, Some, None, Contains, refl, sym, ◌∙◌, ap, subst, arith, inl, inr}
-use Rattle.std.specs.Prelude.{◌≢◌, is_some, if◌then◌else◌}
-use Rattle.std.proofs.lemmas.Bool.{cases_eq}
-use Rattle.ch_contract.specs.declared.leg.Leg.{Leg}
+-- How many legs a row has, and at most how many legs and shortcuts a node has.
+use Rattle.std.proofs.Common.{◌≡◌, ℕ, suc, zero, ◌+◌, ◌*◌, ◌<◌, ◌≤◌, Bool, true, false, List, [], ◌∷◌, length, get_or, Option, Some, None, Contains, refl, sym, ◌∙◌, ap, subst, arith, inl, inr}
+use Rattle.std.specs.Prelude.{◌≢◌, AllPairs, is_some, if◌then◌else◌}
+use Rattle.std.proofs.lemmas.Bool.{cases_eq, cases_lt}
+use Rattle.std.proofs.Math.Nat.{mul-le-mul_right}
+use Rattle.ch_hierarchy.specs.declared.leg.Leg.{Leg}
+use Rattle.ch_contract.specs.declared.shortcut.Shortcut.{Shortcut}
 use Rattle.ch_contract.specs.Legs.{Label, Legs, AreLegsWithin}
-use Rattle.ch_contract.specs.Contraction.{count_below, touching}
-use Rattle.ch_contract.specs.Rows.{IsRow, row_leg, AreLegsFrom, AreLegsTo}
+use Rattle.ch_contract.specs.Contraction.{IsPairBefore, AreShortcuts, count_below, count_touching}
+use Rattle.ch_hierarchy.specs.Rows.{IsRow}
+use Rattle.ch_contract.specs.LegRows.{row_leg, AreLegsFrom, AreLegsTo}
 use Rattle.ch_graph.proofs.Numbers.{not_eqb, eqb-refl}
 use Rattle.ch_graph.proofs.Lists.{pairs_tail, pairs_head}
 use Rattle.ch_contract.proofs.theory.RowLegs.{row_leg_cons, row_member, leg_at}
@@ -67,10 +70,62 @@ row_count n (l ∷ legs) row within =
 
 -- the rows of a node have as many legs as touch it
 pub rows_touching : (n v : ℕ) (L : Legs) (up down : List Leg) → AreLegsWithin n L → AreLegsFrom L v up → AreLegsTo L v down →
-    length up + length down ≡ touching n L v
+    length up + length down ≡ count_touching n L v
 rows_touching n v L up down limits from to =
     let out = row_count n up from.0 (λ l c. subst (λ (z : Leg). z.node < n) c.2 (limits v (get_or up c.0 l).node _ (leg_from_at L v up c.0 l from c.1)).ends.1) in
     let into = row_count n down to.0 (λ l c. subst (λ (z : Leg). z.node < n) c.2 (limits (get_or down c.0 l).node v _ (leg_to_at L v down c.0 l to c.1)).ends.0) in
     let outs = count_same n (λ x. is_some (row_leg up x)) (λ x. is_some (L v x)) (λ x lt. ap is_some (from.1 x)) in
     let ins = count_same n (λ x. is_some (row_leg down x)) (λ x. is_some (L x v)) (λ x lt. ap is_some (to.1 x)) in
     omega arith
+
+-- no more numbers below n pass than there are
+pub count_most : (n : ℕ) (p : ℕ → Bool) → count_below n p ≤ n
+count_most zero p = omega arith
+count_most (suc n) p = omega (arith, count_most n p, one (p n))
+  where
+    one : (b : Bool) → (if b then 1 else 0) ≤ 1
+    one true = omega arith
+    one false = omega arith
+
+-- at most two legs for each node touch a node
+pub touching_most : (n : ℕ) (L : Legs) (v : ℕ) → count_touching n L v ≤ 2 * n
+touching_most n L v = omega (arith, count_most n (λ x. is_some (L v x)), count_most n (λ x. is_some (L x v)))
+
+-- the place of a pair of numbers below n among all pairs
+abbrev place : ℕ → Shortcut → ℕ
+place n s = s.from * n + s.to
+
+-- it is below n * n
+place_small : (n : ℕ) (s : Shortcut) → s.from < n → s.to < n → place n s < n * n
+place_small n s from to =
+    let most = mul-le-mul_right {m = s.from + 1} {n = n} n (omega arith) in
+    omega (arith, most)
+
+-- and a later pair has a greater place
+place_next : (n : ℕ) (s t : Shortcut) → s.to < n → IsPairBefore s t → place n s < place n t
+place_next n s t to before = elim (cases_lt s.from t.from) [
+  | inl lt ↦ let most = mul-le-mul_right {m = s.from + 1} {n = t.from} n (omega arith) in omega (arith, most)
+  | inr le ↦
+      let same : s.from ≡ t.from = omega (arith, before.0) in
+      let later = before.1 le in
+      let rows : s.from * n ≡ t.from * n = ap (λ z. z * n) same in
+      omega (arith, later, rows)
+]
+
+-- so there are at most n * n of them in order
+pairs_most : (n m : ℕ) (list : List Shortcut) → m ≤ n * n → AllPairs IsPairBefore list → ((s : Shortcut) → Contains list s → (m ≤ place n s) × (s.from < n) × (s.to < n)) → m + length list ≤ n * n
+pairs_most n m [] le ordered each = omega arith
+pairs_most n m (s ∷ list) le ordered each =
+    let here = each s (zero, omega arith, refl) in
+    let small = place_small n s here.1 here.2 in
+    let rest = pairs_most n (suc m) list (omega (arith, here.0, small)) (pairs_tail IsPairBefore s list ordered) (λ t c. after t c (each t (suc c.0, omega (arith, c.1), c.2)) here) in
+    omega (arith, rest)
+  where
+    after : (t : Shortcut) → Contains list t → (m ≤ place n t) × (t.from < n) × (t.to < n) → (m ≤ place n s) × (s.from < n) × (s.to < n) → (suc m ≤ place n t) × (t.from < n) × (t.to < n)
+    after t c later here = let next = place_next n s t here.2 (pairs_head IsPairBefore s t list ordered c) in (omega (arith, here.0, next), later.1, later.2)
+
+-- a node has at most a shortcut for each two nodes
+pub shortcuts_most : (n h : ℕ) (L : Legs) (v : ℕ) (list : List Shortcut) → AreLegsWithin n L → AreShortcuts n h L v list → length list ≤ n * n
+shortcuts_most n h L v list limits are =
+    let each : (s : Shortcut) → Contains list s → (0 ≤ place n s) × (s.from < n) × (s.to < n) = λ s c. let r = (are.sound s c).legs in (omega arith, (limits s.from v r.0 r.2).ends.0, (limits v s.to r.1 r.3).ends.1) in
+    omega (arith, pairs_most n 0 list (omega arith) are.ordered each)

@@ -8,29 +8,30 @@ use Rattle.std.proofs.lemmas.List.{get_or_past}
 use Rattle.std.proofs.lemmas.List.Elements.{All-nil}
 use Rattle.ch_graph.specs.declared.limits.TheConstants.{MOST_NODES, MOST_WEIGHT}
 use Rattle.ch_graph.specs.Graph.{Network}
-use Rattle.ch_contract.specs.declared.leg.Leg.{Leg}
+use Rattle.ch_hierarchy.specs.declared.leg.Leg.{Leg}
 use Rattle.ch_contract.specs.declared.shortcut.Shortcut.{Shortcut}
-use Rattle.ch_contract.specs.Legs.{Label, Legs, AreLegsWithin, opening}
-use Rattle.ch_contract.specs.Contraction.{shortcut_label, overridden, contracted, Contracts}
-use Rattle.ch_contract.specs.Rows.{row, IsRow, label_of, AreLegsFrom}
-use Rattle.ch_contract.specs.Hierarchy.{LevelsAndLegs, IsLegUp, AreLegsUp, IsLevelled, IsHierarchyOf}
+use Rattle.ch_contract.specs.Legs.{Label, Legs, AreLegsWithin, opening, turned_legs}
+use Rattle.ch_contract.specs.Contraction.{shortcut_label, leg_after_shortcuts, legs_after_contraction, Contracts}
+use Rattle.ch_hierarchy.specs.Rows.{row, IsRow}
+use Rattle.ch_contract.specs.LegRows.{label_of, AreLegsFrom}
+use Rattle.ch_hierarchy.specs.Hierarchy.{LevelsAndLegs, IsLegUp, AreLegsUp, IsLevelled}
+use Rattle.ch_contract.specs.Built.{IsHierarchyOf}
 use Rattle.ch_contract.proofs.theory.Contracting.{override_cases, contracted_within}
 use Rattle.ch_contract.proofs.theory.OneOrder.{taken_at, one_map}
-use Rattle.ch_contract.specs.Saved.{IsOrderOf, AreLevelsOf}
-use Rattle.ch_contract.specs.Turned.{turned}
+use Rattle.ch_hierarchy.specs.Saved.{IsOrderOf, AreLevelsOf}
 use Rattle.ch_contract.proofs.theory.RowLegs.{none_unless}
 use Rattle.ch_contract.proofs.theory.RowLemmas.{leg_from_at}
-use Rattle.ch_contract.proofs.theory.SavedLevels.{levels_are}
+use Rattle.ch_hierarchy.proofs.theory.SavedLevels.{levels_are}
 
 -- a leg after shortcuts are put in was there before, or is the leg of a shortcut
 abbrev pub IsMade : ℕ → List Shortcut → ℕ → ℕ → Label → Type 0
 IsMade v list u w l = (s : Shortcut) × Contains list s × (s.from ≡ u) × (s.to ≡ w) × (shortcut_label v s ≡ l)
 
 -- so it is after a contraction
-pub contracted_cases : (L : Legs) (v : ℕ) (list : List Shortcut) (u w : ℕ) (l : Label) → contracted L v list u w ≡ Some l → (L u w ≡ Some l) ⊎ IsMade v list u w l
+pub contracted_cases : (L : Legs) (v : ℕ) (list : List Shortcut) (u w : ℕ) (l : Label) → legs_after_contraction L v list u w ≡ Some l → (L u w ≡ Some l) ⊎ IsMade v list u w l
 contracted_cases L v list u w l e = at (u == v || w == v) e
   where
-    at : (b : Bool) → cond b None (overridden v list u w (L u w)) ≡ Some l → (L u w ≡ Some l) ⊎ IsMade v list u w l
+    at : (b : Bool) → cond b None (leg_after_shortcuts v list u w (L u w)) ≡ Some l → (L u w ≡ Some l) ⊎ IsMade v list u w l
     at true f = absurd (none-some _ f)
     at false f = elim (override_cases v list u w (L u w)) [
       | inl stays ↦ inl (sym stays ∙ f)
@@ -89,7 +90,7 @@ gone_steps n h m order L step j (suc k) lt le =
     ]
 
 -- legs turned round keep the limits
-turned_within : (n : ℕ) (L : Legs) → AreLegsWithin n L → AreLegsWithin n (turned L)
+turned_within : (n : ℕ) (L : Legs) → AreLegsWithin n L → AreLegsWithin n (turned_legs L)
 turned_within n L within u w l e =
     let is = within w u l e in
     record { ends = (is.ends.1, is.ends.0, λ same. is.ends.2 (sym same)); weight = is.weight; arcs = is.arcs; middle = is.middle }
@@ -97,15 +98,15 @@ turned_within n L within u w l e =
 module _ (g : Network) (h : ℕ) (H : LevelsAndLegs) (order : List ℕ) (L : ℕ → Legs) (p : IsHierarchyOf g h H order L) (small : g.nodes ≤ MOST_NODES) (start : AreLegsWithin g.nodes (opening g)) where
   -- the legs before each step are within the limits
   within : (k : ℕ) → k ≤ g.nodes → AreLegsWithin g.nodes (L k)
-  within = within_steps g.nodes h g.nodes order L (subst (AreLegsWithin g.nodes) (sym (one_map (L 0) (opening g) p.order_is.start)) start) p.order_is.step
+  within = within_steps g.nodes h g.nodes order L (subst (AreLegsWithin g.nodes) (sym (one_map (L 0) (opening g) p.contracted.start)) start) p.contracted.step
 
   -- no leg touches the nodes of earlier steps
   gone : (j k : ℕ) → j < k → k ≤ g.nodes → IsGone (L k) (slice_index order j)
-  gone = gone_steps g.nodes h g.nodes order L p.order_is.step
+  gone = gone_steps g.nodes h g.nodes order L p.contracted.step
 
   -- each node has the level of its step
   level_of : (x : ℕ) → x < g.nodes → (i : ℕ) × (i < g.nodes) × (slice_index order i ≡ x) × (slice_index H.level x ≡ i + 1)
-  level_of x lt = let at = taken_at g h order L x p.order_is lt in (at.0, at.1, at.2, ap (slice_index H.level) (sym at.2) ∙ p.level at.0 at.1)
+  level_of x lt = let at = taken_at g h order L x p.contracted lt in (at.0, at.1, at.2, ap (slice_index H.level) (sym at.2) ∙ p.level at.0 at.1)
 
   -- a leg of the node of step i leads to a node that is contracted later
   leg_up : (i : ℕ) (l : Leg) → i < g.nodes → l.node < g.nodes → l.node ≢ slice_index order i → ((j : ℕ) → j < i → slice_index order j ≡ l.node → ⊥) → l.cost.weight ≤ MOST_WEIGHT → l.cost.arcs < g.nodes → IsLegUp H (slice_index order i) l
@@ -142,14 +143,14 @@ module _ (g : Network) (h : ℕ) (H : LevelsAndLegs) (order : List ℕ) (L : ℕ
 
   -- and the legs to it come from above
   down_row : (i : ℕ) → i < g.nodes → IsRow (row H.down (slice_index order i)) × All (IsLegUp H (slice_index order i)) (row H.down (slice_index order i))
-  down_row i lt = row_up (turned (L i)) i _ lt (turned_within g.nodes (L i) (within i (omega arith))) (λ j before x. let none = gone j i before (omega arith) x in (none.1, none.0)) (p.down i lt)
+  down_row i lt = row_up (turned_legs (L i)) i _ lt (turned_within g.nodes (L i) (within i (omega arith))) (λ j before x. let none = gone j i before (omega arith) x in (none.1, none.0)) (p.down i lt)
 
   -- rows of which each leads up, for each node
   legs_up : (rows : List (List Leg)) → length rows ≡ g.nodes → ((i : ℕ) → i < g.nodes → IsRow (row rows (slice_index order i)) × All (IsLegUp H (slice_index order i)) (row rows (slice_index order i))) → AreLegsUp H rows
   legs_up rows size each = (
     size ∙ sym p.sizes.0,
     λ v. elim (cases_lt v g.nodes) [
-      | inl lt ↦ let at = taken_at g h order L v p.order_is lt in subst (λ z. IsRow (row rows z) × All (IsLegUp H z) (row rows z)) at.2 (each at.0 at.1)
+      | inl lt ↦ let at = taken_at g h order L v p.contracted lt in subst (λ z. IsRow (row rows z) × All (IsLegUp H z) (row rows z)) at.2 (each at.0 at.1)
       | inr past ↦
           let none : row rows v ≡ [] = get_or_past rows v [] (omega arith) in
           subst (λ z. IsRow z × All (IsLegUp H v) z) (sym none) ((λ i j d lt inside. absurd (omega arith)), All-nil (IsLegUp H v))
@@ -158,11 +159,11 @@ module _ (g : Network) (h : ℕ) (H : LevelsAndLegs) (order : List ℕ) (L : ℕ
 
   -- the order has each node once
   is_order : IsOrderOf g.nodes order
-  is_order = let nodes = p.order_is.nodes in record { count = nodes.0; within = λ i lt. nodes.1 i 0 lt; distinct = λ i j before lt. nodes.2 i j 0 before lt }
+  is_order = let nodes = p.contracted.nodes in record { count = nodes.0; within = λ i lt. nodes.1 i 0 lt; distinct = λ i j before lt. nodes.2 i j 0 before lt }
 
   -- and the levels are those of the order
   are_levels : AreLevelsOf order H.level
-  are_levels = let size = p.order_is.nodes.0 in record { count = p.sizes.0 ∙ sym size; each = λ i lt. p.level i (omega arith) }
+  are_levels = let size = p.contracted.nodes.0 in record { count = p.sizes.0 ∙ sym size; each = λ i lt. p.level i (omega arith) }
 
   -- so the hierarchy is levelled
   pub levelled : IsLevelled H

@@ -11,7 +11,7 @@ use Rattle.ch_graph.proofs.CostOrder.{IsAtMost_refl, IsAtMost_or_IsBelow, IsBelo
 use Rattle.ch_graph.proofs.CostSums.{cost_sum_assoc, cost_sum_comm, IsAtMost-cost_sum_self}
 use Rattle.ch_contract.specs.declared.shortcut.Shortcut.{Shortcut}
 use Rattle.ch_contract.specs.Legs.{Label, Legs, IsChain, chain_cost, HasWitness, AreLegsWithin}
-use Rattle.ch_contract.specs.Contraction.{IsShortcut, shortcut_label, overridden, Contracts}
+use Rattle.ch_contract.specs.Contraction.{IsShortcut, shortcut_label, leg_after_shortcuts, Contracts}
 use Rattle.ch_contract.specs.Laws.{LeadsWithin}
 use Rattle.ch_contract.proofs.theory.ReferenceSearch.{witness_or_none, some_of}
 use Rattle.ch_graph.proofs.Numbers.{not_eqb, eqb-refl}
@@ -46,14 +46,14 @@ pub record IsOneContraction (n h : ℕ) (L : Legs) (v : ℕ) (M : Legs) : Type 0
 
 module _ {n h : ℕ} {L M : Legs} {v : ℕ} (step : IsOneContraction n h L v M) where
   -- away from v, the shortcuts stand in the place of older legs
-  outside : (x y : ℕ) → x ≢ v → y ≢ v → M x y ≡ overridden v step.contracts.0 x y (L x y)
+  outside : (x y : ℕ) → x ≢ v → y ≢ v → M x y ≡ leg_after_shortcuts v step.contracts.0 x y (L x y)
   outside x y p q = step.contracts.2 x y ∙ rw (not_eqb x v p, not_eqb y v q) refl
 
   -- no leg touches v
   pub untouched : (x y : ℕ) (m : Label) → M x y ≡ Some m → (x ≢ v) × (y ≢ v)
   untouched x y m e = ((λ here. none-some m (sym (step.contracts.2 x y ∙ rw (here, eqb-refl v) refl) ∙ e)), (λ here. none-some m (sym (step.contracts.2 x y ∙ at (x == v) y here) ∙ e)))
     where
-      at : (b : Bool) (z : ℕ) → z ≡ v → cond (b || z == v) None (overridden v step.contracts.0 x z (L x z)) ≡ None
+      at : (b : Bool) (z : ℕ) → z ≡ v → cond (b || z == v) None (leg_after_shortcuts v step.contracts.0 x z (L x z)) ≡ None
       at true z is = refl
       at false z is = rw (is, eqb-refl v) refl
 

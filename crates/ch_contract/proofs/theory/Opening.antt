@@ -6,7 +6,7 @@ use Rattle.std.proofs.lemmas.List.{take_all}
 use Rattle.ch_graph.specs.declared.arc.InArc.{InArc}
 use Rattle.ch_graph.specs.Graph.{Network}
 use Rattle.ch_contract.specs.Legs.{Legs, AreLegsWithin, SameLegs, ArcsOpen, opening, arc_label_of, least_weight, lesser_weight}
-use Rattle.ch_contract.proofs.theory.Ordered.{same_ends}
+use Rattle.ch_hierarchy.proofs.theory.Ordered.{same_ends}
 
 -- the arc leads to another node
 abbrev pub joins : InArc → Bool

@@ -6,22 +6,23 @@ use Rattle.std.proofs.lemmas.Bool.Decides.{nat_tests}
 use Rattle.std.proofs.lemmas.List.{take_all, take-append-le, get_or_append_left, get_or_push, length_push}
 use Rattle.std.proofs.lemmas.List.Elements.{All-push}
 use Rattle.ch_graph.specs.Graph.{Network}
+use Rattle.ch_contract.specs.declared.measure.OrderBy.{OrderBy}
 use Rattle.ch_contract.specs.Legs.{Legs, SameLegs, opening}
 use Rattle.ch_contract.specs.Contraction.{Contracts}
-use Rattle.ch_contract.specs.Order.{are_neighbours, IsLastTouch, IsPriorityAfter, IsContractedBefore, IsOrder}
-use Rattle.ch_contract.proofs.theory.Ordered.{distinct_most, whole_least, pairs_push}
+use Rattle.ch_contract.specs.Order.{are_neighbours, IsLastTouch, IsPriorityAfter, IsContractedBefore, IsOrderBy}
+use Rattle.ch_hierarchy.proofs.theory.Ordered.{distinct_most, whole_least, pairs_push}
 use Rattle.ch_contract.proofs.theory.OneOrder.{Agree, priority_along}
 
 -- after the first i steps v comes before x
-abbrev pub ComesBefore : ℕ → ℕ → List ℕ → (ℕ → Legs) → ℕ → ℕ → ℕ → Type 0
-ComesBefore n h order L i v x = (p q : ℤ) × IsPriorityAfter n h order L i v p × IsPriorityAfter n h order L i x q × IsContractedBefore p v q x
+abbrev pub ComesBefore : OrderBy → ℕ → ℕ → List ℕ → (ℕ → Legs) → ℕ → ℕ → ℕ → Type 0
+ComesBefore by n h order L i v x = (p q : ℤ) × IsPriorityAfter by n h order L i v p × IsPriorityAfter by n h order L i x q × IsContractedBefore p v q x
 
 -- the nodes of this list were contracted in order, with the legs L i left after the first i steps
-pub record IsBegun (g : Network) (h : ℕ) (order : List ℕ) (L : ℕ → Legs) : Type 0 where
+pub record IsBegun (by : OrderBy) (g : Network) (h : ℕ) (order : List ℕ) (L : ℕ → Legs) : Type 0 where
   pub nodes : All (λ v. v < g.nodes) order × AllPairs ◌≢◌ order
   pub start : SameLegs (L 0) (opening g)
   pub step : (i : ℕ) → i < length order → Contracts g.nodes h (L i) (slice_index order i) (L (i + 1))
-  pub least : (i x : ℕ) → i < length order → x < g.nodes → (Contains (take i order) x → ⊥) → ComesBefore g.nodes h order L i (slice_index order i) x
+  pub least : (i x : ℕ) → i < length order → x < g.nodes → (Contains (take i order) x → ⊥) → ComesBefore by g.nodes h order L i (slice_index order i) x
 
 -- legs that go on with M after the first i steps
 abbrev pub then_legs : ℕ → (ℕ → Legs) → Legs → ℕ → Legs
@@ -90,7 +91,7 @@ module _ (order : List ℕ) (L : ℕ → Legs) (v : ℕ) (M : Legs) where
   pub next : legs_more (length order + 1) ≡ M
   next = then_next (length order) L M (length order + 1) (omega arith)
 
-module _ (g : Network) (h : ℕ) (order : List ℕ) (L : ℕ → Legs) (b : IsBegun g h order L) (v : ℕ) (within : v < g.nodes) (left : Contains order v → ⊥) where
+module _ (by : OrderBy) (g : Network) (h : ℕ) (order : List ℕ) (L : ℕ → Legs) (b : IsBegun by g h order L) (v : ℕ) (within : v < g.nodes) (left : Contains order v → ⊥) where
   -- with one more node that is left the contracted nodes are different nodes
   pub nodes_more : All (λ x. x < g.nodes) (more order L v (L 0)) × AllPairs ◌≢◌ (more order L v (L 0))
   nodes_more = (All-push (λ x. x < g.nodes) order v b.nodes.0 within, pairs_push order v b.nodes.1 left)
@@ -99,7 +100,7 @@ module _ (g : Network) (h : ℕ) (order : List ℕ) (L : ℕ → Legs) (b : IsBe
   pub begun_fewer : length order < g.nodes
   begun_fewer = omega (arith, begun_most g (order ++ v ∷ []) nodes_more.0 nodes_more.1, length_push order v)
 
-module _ (g : Network) (h : ℕ) (order : List ℕ) (L : ℕ → Legs) (v : ℕ) (M : Legs) (b : IsBegun g h order L) (within : v < g.nodes) (left : Contains order v → ⊥) (step : Contracts g.nodes h (L (length order)) v M) (first : (x : ℕ) → x < g.nodes → (Contains order x → ⊥) → ComesBefore g.nodes h order L (length order) v x) where
+module _ (by : OrderBy) (g : Network) (h : ℕ) (order : List ℕ) (L : ℕ → Legs) (v : ℕ) (M : Legs) (b : IsBegun by g h order L) (within : v < g.nodes) (left : Contains order v → ⊥) (step : Contracts g.nodes h (L (length order)) v M) (first : (x : ℕ) → x < g.nodes → (Contains order x → ⊥) → ComesBefore by g.nodes h order L (length order) v x) where
   -- the step is a contraction
   step_here : Contracts g.nodes h (legs_more order L v M (length order)) (slice_index (more order L v M) (length order)) (legs_more order L v M (length order + 1))
   step_here =
@@ -122,27 +123,27 @@ module _ (g : Network) (h : ℕ) (order : List ℕ) (L : ℕ → Legs) (v : ℕ)
   ]
 
   -- at earlier steps the node came before all that were left
-  least_before : (k x : ℕ) → k < length order → x < g.nodes → (Contains (take k order) x → ⊥) → ComesBefore g.nodes h (more order L v M) (legs_more order L v M) k (slice_index (more order L v M) k) x
+  least_before : (k x : ℕ) → k < length order → x < g.nodes → (Contains (take k order) x → ⊥) → ComesBefore by g.nodes h (more order L v M) (legs_more order L v M) k (slice_index (more order L v M) k) x
   least_before k x lt inside away =
       let r = b.least k x lt inside away in
       let a = agree_less (length order) k order L (more order L v M) (legs_more order L v M) (omega arith) (agree order L v M) in
-      let one = priority_along g.nodes h k order L (more order L v M) (legs_more order L v M) (slice_index order k) r.0 a r.2 in
-      (r.0, r.1, subst (λ z. IsPriorityAfter g.nodes h (more order L v M) (legs_more order L v M) k z r.0) (before order L v M k lt) one, priority_along g.nodes h k order L (more order L v M) (legs_more order L v M) x r.1 a r.3, subst (λ z. IsContractedBefore r.0 z r.1 x) (before order L v M k lt) r.4)
+      let one = priority_along by g.nodes h k order L (more order L v M) (legs_more order L v M) (slice_index order k) r.0 a r.2 in
+      (r.0, r.1, subst (λ z. IsPriorityAfter by g.nodes h (more order L v M) (legs_more order L v M) k z r.0) (before order L v M k lt) one, priority_along by g.nodes h k order L (more order L v M) (legs_more order L v M) x r.1 a r.3, subst (λ z. IsContractedBefore r.0 z r.1 x) (before order L v M k lt) r.4)
 
   -- and at this step
-  least_here : (x : ℕ) → x < g.nodes → (Contains order x → ⊥) → ComesBefore g.nodes h (more order L v M) (legs_more order L v M) (length order) (slice_index (more order L v M) (length order)) x
+  least_here : (x : ℕ) → x < g.nodes → (Contains order x → ⊥) → ComesBefore by g.nodes h (more order L v M) (legs_more order L v M) (length order) (slice_index (more order L v M) (length order)) x
   least_here x inside away =
       let r = first x inside away in
       let n : ℕ = length order in
-      let one = priority_along g.nodes h n order L (more order L v M) (legs_more order L v M) v r.0 (agree order L v M) r.2 in
-      (r.0, r.1, subst (λ z. IsPriorityAfter g.nodes h (more order L v M) (legs_more order L v M) n z r.0) (sym (here order L v M)) one, priority_along g.nodes h n order L (more order L v M) (legs_more order L v M) x r.1 (agree order L v M) r.3, subst (λ z. IsContractedBefore r.0 z r.1 x) (sym (here order L v M)) r.4)
+      let one = priority_along by g.nodes h n order L (more order L v M) (legs_more order L v M) v r.0 (agree order L v M) r.2 in
+      (r.0, r.1, subst (λ z. IsPriorityAfter by g.nodes h (more order L v M) (legs_more order L v M) n z r.0) (sym (here order L v M)) one, priority_along by g.nodes h n order L (more order L v M) (legs_more order L v M) x r.1 (agree order L v M) r.3, subst (λ z. IsContractedBefore r.0 z r.1 x) (sym (here order L v M)) r.4)
 
   -- so at all steps
-  least_more : (k x : ℕ) → k < length (more order L v M) → x < g.nodes → (Contains (take k (more order L v M)) x → ⊥) → ComesBefore g.nodes h (more order L v M) (legs_more order L v M) k (slice_index (more order L v M) k) x
+  least_more : (k x : ℕ) → k < length (more order L v M) → x < g.nodes → (Contains (take k (more order L v M)) x → ⊥) → ComesBefore by g.nodes h (more order L v M) (legs_more order L v M) k (slice_index (more order L v M) k) x
   least_more k x lt inside away = elim (cases_eq k (length order)) [
     | inl e ↦
         let whole : take k (more order L v M) ≡ order = take-append-le k order (v ∷ []) (omega arith) ∙ take_all k order (omega arith) in
-        subst (λ z. ComesBefore g.nodes h (more order L v M) (legs_more order L v M) z (slice_index (more order L v M) z) x) (sym e) (least_here x inside (λ has. away (subst (λ l. Contains l x) (sym whole) has)))
+        subst (λ z. ComesBefore by g.nodes h (more order L v M) (legs_more order L v M) z (slice_index (more order L v M) z) x) (sym e) (least_here x inside (λ has. away (subst (λ l. Contains l x) (sym whole) has)))
     | inr ne ↦
         let size = length_push order v in
         let below : k < length order = omega arith in
@@ -151,17 +152,17 @@ module _ (g : Network) (h : ℕ) (order : List ℕ) (L : ℕ → Legs) (v : ℕ)
   ]
 
   -- so the longer order follows the rules
-  pub begun_more : IsBegun g h (order ++ v ∷ []) (then_legs (length order) L M)
+  pub begun_more : IsBegun by g h (order ++ v ∷ []) (then_legs (length order) L M)
   begun_more = record {
-    nodes = nodes_more g h order L b v within left;
+    nodes = nodes_more by g h order L b v within left;
     start = λ x y. ap (λ (N : Legs). N x y) (then_before (length order) L M 0 (omega arith)) ∙ b.start x y;
     step = step_more;
     least = least_more;
   }
 
 -- an order that takes no node follows the rules
-pub begun_none : (g : Network) (h : ℕ) → IsBegun g h [] (λ i. opening g)
-begun_none g h = record {
+pub begun_none : (by : OrderBy) (g : Network) (h : ℕ) → IsBegun by g h [] (λ i. opening g)
+begun_none by g h = record {
   nodes = (λ k d lt. absurd (omega arith), λ i j d lt inside. absurd (omega arith));
   start = λ x y. refl;
   step = λ i lt. absurd (omega arith);
@@ -169,12 +170,14 @@ begun_none g h = record {
 }
 
 -- one that takes all is the order
-pub begun_all : (g : Network) (h : ℕ) (order : List ℕ) (L : ℕ → Legs) → IsBegun g h order L → ((x : ℕ) → x < g.nodes → Contains order x) → IsOrder g h order L
-begun_all g h order L b each =
+pub begun_all : (by : OrderBy) (g : Network) (h : ℕ) (order : List ℕ) (L : ℕ → Legs) → IsBegun by g h order L → ((x : ℕ) → x < g.nodes → Contains order x) → IsOrderBy by g h order L
+begun_all by g h order L b each =
     let size : length order ≡ g.nodes = omega (arith, whole_least order g.nodes each, begun_most g order b.nodes.0 b.nodes.1) in
     record {
-      nodes = (size, b.nodes.0, b.nodes.1);
-      start = b.start;
-      step = λ i lt. b.step i (omega arith);
+      contracted = record {
+        nodes = (size, b.nodes.0, b.nodes.1);
+        start = b.start;
+        step = λ i lt. b.step i (omega arith);
+      };
       least = λ i x lt inside away. b.least i x (omega arith) inside away;
     }

@@ -9,14 +9,14 @@ use Rattle.ch_graph.specs.WalkLaws.{IsWalkCost}
 use Rattle.ch_graph.proofs.CostSums.{cost_sum_assoc, cost_sum_comm, cost_sum-no_cost}
 use Rattle.ch_graph.proofs.WalkCosts.{IsWalkCost-cost_sum, IsLeast-IsAtMost, IsLeast-again, IsLeast-front, IsLeast-back}
 use Rattle.ch_graph.proofs.SimpleWalks.{IsLeast-weight}
-use Rattle.ch_contract.specs.declared.leg.Leg.{Leg}
+use Rattle.ch_hierarchy.specs.declared.leg.Leg.{Leg}
 use Rattle.ch_contract.specs.Legs.{Label, Legs, IsChain, chain_cost}
-use Rattle.ch_contract.specs.Hierarchy.{LevelsAndLegs}
-use Rattle.ch_contract.specs.Paths.{IsUpwardPath, path_cost, IsUp, IsDown, IsMeeting}
+use Rattle.ch_hierarchy.specs.Hierarchy.{LevelsAndLegs}
+use Rattle.ch_hierarchy.specs.Paths.{IsUpwardPath, path_cost, IsUp, IsDown, IsMeeting}
 use Rattle.ch_contract.proofs.theory.ReferenceSearch.{some_of}
 use Rattle.ch_contract.proofs.theory.RowLegs.{leg_at}
-use Rattle.ch_contract.proofs.theory.LegPaths.{rises_along, falls_along}
-use Rattle.ch_contract.proofs.theory.MeetingPaths.{HasMeetingPaths, paths_of_none, up_first, down_last}
+use Rattle.ch_hierarchy.proofs.theory.LegPaths.{rises_along, falls_along}
+use Rattle.ch_hierarchy.proofs.theory.MeetingPaths.{HasMeetingPaths, paths_of_none, up_first, down_last}
 use Rattle.ch_contract.proofs.theory.Chains.{chain_cost-cons, chain_cost-one}
 use Rattle.ch_contract.proofs.theory.StepLegs.{step_leg}
 use Rattle.ch_contract.proofs.theory.KeptCosts.{IsAfter, IsChainCost, chain_walk, least_chain}

@@ -1,7 +1,8 @@
 //! The definitions computed on small graphs by the reference program.
 ghost use Rattle.std.specs.Prelude.{◌≡◌, [], ◌∷◌, pos, negsuc, map, length, Some, None, true, false};
 ghost use Rattle.ch_contract.specs.Legs.{opening};
-ghost use Rattle.ch_contract.specs.Reference.{has_witness, shortcuts_of, priority_of, order_of, hierarchy_of, meet_of};
+ghost use Rattle.ch_contract.specs.Reference.{has_witness, shortcuts_of, priority_of, order_of, order_by, hierarchy_of, hierarchy_by, meet_of};
+ghost use Rattle.ch_contract.specs.declared.measure.OrderBy.TheVariants.{Depth};
 ghost use Rattle.ch_contract.specs.Examples as examples;
 ghost use Rattle.ch_contract.specs.Examples.{cost, leg, leg_through};
 
@@ -31,6 +32,52 @@ pub fn orders()
     ensures detour_of_three { map (λ e. e.1) (order_of examples.detour 3) ≡ 0 ∷ 2 ∷ 3 ∷ 1 ∷ 4 ∷ [] }
     ensures ring { map (λ e. e.1) (order_of examples.ring 5) ≡ 0 ∷ 1 ∷ 2 ∷ 3 ∷ 4 ∷ [] }
     ensures fewer_arcs { map (λ e. e.1) (order_of examples.fewer_arcs 5) ≡ 0 ∷ 2 ∷ 1 ∷ 3 ∷ 4 ∷ [] }
+{}
+
+/// Orders by depth, each node after the priority at which it is taken.
+pub fn orders_by_depth()
+    ensures line { order_by Depth examples.line 5 ≡ (negsuc 0, 0) ∷ (negsuc 0, 2) ∷ (pos 1, 1) ∷ [] }
+    ensures star { order_by Depth examples.star 5 ≡ (negsuc 1, 1) ∷ (negsuc 1, 2) ∷ (negsuc 1, 3) ∷ (pos 1, 0) ∷ [] }
+    ensures diamond { order_by Depth examples.diamond 5 ≡ (negsuc 1, 0) ∷ (negsuc 1, 3) ∷ (pos 1, 1) ∷ (pos 1, 2) ∷ [] }
+    ensures triangle { order_by Depth examples.triangle 5 ≡ (negsuc 1, 0) ∷ (pos 0, 1) ∷ (pos 2, 2) ∷ [] }
+    ensures loop_and_tail { order_by Depth examples.loop_and_tail 5 ≡ (negsuc 0, 3) ∷ (pos 0, 0) ∷ (negsuc 0, 1) ∷ (pos 2, 2) ∷ [] }
+    ensures detour { order_by Depth examples.detour 5 ≡ (negsuc 1, 0) ∷ (negsuc 1, 2) ∷ (pos 0, 3) ∷ (pos 1, 1) ∷ (pos 2, 4) ∷ [] }
+    ensures ring { order_by Depth examples.ring 5 ≡ (pos 0, 0) ∷ (pos 0, 2) ∷ (pos 1, 1) ∷ (pos 0, 3) ∷ (pos 3, 4) ∷ [] }
+    ensures fewer_arcs { order_by Depth examples.fewer_arcs 5 ≡ (negsuc 1, 0) ∷ (negsuc 1, 2) ∷ (pos 0, 1) ∷ (pos 1, 4) ∷ (pos 2, 3) ∷ [] }
+{}
+
+/// Hierarchies in the order of depth.
+pub fn hierarchies_by_depth()
+    ensures line { hierarchy_by Depth examples.line 5 ≡ record {
+      level = 1 ∷ 3 ∷ 2 ∷ [];
+      up = (leg 2 4 1 ∷ []) ∷ [] ∷ [] ∷ [];
+      down = [] ∷ [] ∷ (leg 2 5 1 ∷ []) ∷ [];
+    } }
+    ensures star { hierarchy_by Depth examples.star 5 ≡ record {
+      level = 4 ∷ 1 ∷ 2 ∷ 3 ∷ [];
+      up = [] ∷ (leg 1 1 1 ∷ []) ∷ (leg 1 1 1 ∷ []) ∷ (leg 1 1 1 ∷ []) ∷ [];
+      down = [] ∷ (leg 1 1 1 ∷ []) ∷ (leg 1 1 1 ∷ []) ∷ (leg 1 1 1 ∷ []) ∷ [];
+    } }
+    ensures diamond { hierarchy_by Depth examples.diamond 5 ≡ record {
+      level = 1 ∷ 3 ∷ 4 ∷ 2 ∷ [];
+      up = (leg 2 1 1 ∷ leg 3 1 1 ∷ []) ∷ [] ∷ [] ∷ [] ∷ [];
+      down = [] ∷ [] ∷ [] ∷ (leg 2 1 1 ∷ leg 3 1 1 ∷ []) ∷ [];
+    } }
+    ensures triangle { hierarchy_by Depth examples.triangle 5 ≡ record {
+      level = 1 ∷ 2 ∷ 3 ∷ [];
+      up = (leg 2 0 1 ∷ leg 3 0 1 ∷ []) ∷ (leg 3 0 1 ∷ []) ∷ [] ∷ [];
+      down = [] ∷ [] ∷ [] ∷ [];
+    } }
+    ensures loop_and_tail { hierarchy_by Depth examples.loop_and_tail 5 ≡ record {
+      level = 2 ∷ 3 ∷ 4 ∷ 1 ∷ [];
+      up = (leg 2 0 1 ∷ []) ∷ (leg 3 0 1 ∷ []) ∷ [] ∷ [] ∷ [];
+      down = (leg 3 0 1 ∷ []) ∷ (leg_through 1 3 0 2 ∷ []) ∷ [] ∷ (leg 3 2 1 ∷ []) ∷ [];
+    } }
+    ensures ring { hierarchy_by Depth examples.ring 5 ≡ record {
+      level = 1 ∷ 3 ∷ 2 ∷ 4 ∷ 5 ∷ [];
+      up = (leg 2 1 1 ∷ []) ∷ (leg_through 3 4 2 2 ∷ []) ∷ (leg 4 1 1 ∷ []) ∷ (leg 5 1 1 ∷ []) ∷ [] ∷ [];
+      down = (leg 5 1 1 ∷ []) ∷ (leg_through 1 5 2 2 ∷ []) ∷ (leg 2 1 1 ∷ []) ∷ (leg_through 2 5 4 4 ∷ []) ∷ [] ∷ [];
+    } }
 {}
 
 /// Hierarchies.
@@ -67,7 +114,7 @@ pub fn hierarchies()
     } }
 {}
 
-/// The hierarchy of the detour, the same at two hops and at three.
+/// The hierarchy of the detour, the same at two hops and at three, and in both orders.
 pub fn detours()
     ensures of_two { hierarchy_of examples.detour 2 ≡ record {
       level = 1 ∷ 4 ∷ 2 ∷ 3 ∷ 5 ∷ [];
@@ -75,6 +122,8 @@ pub fn detours()
       down = [] ∷ [] ∷ (leg 2 1 1 ∷ leg 5 0 1 ∷ []) ∷ [] ∷ [] ∷ [];
     } }
     ensures of_three { hierarchy_of examples.detour 3 ≡ hierarchy_of examples.detour 2 }
+    ensures by_depth_of_two { hierarchy_by Depth examples.detour 2 ≡ hierarchy_of examples.detour 2 }
+    ensures by_depth_of_three { hierarchy_by Depth examples.detour 3 ≡ hierarchy_of examples.detour 2 }
 {}
 
 /// Where the paths of both ends meet, and what they cost together.

@@ -1,15 +1,15 @@
 //! The contraction of one node.
 ghost use Rattle.std.specs.Prelude.{◌≡◌, ℕ, ◌<◌, IfOk};
 ghost use Rattle.ch_contract.specs.Legs.{SameLegs, IsHopBound};
-ghost use Rattle.ch_contract.specs.Contraction.{AreShortcuts, Contracts, contracted};
-ghost use Rattle.ch_contract.specs.Rows.{AreLegsFrom, AreLegsTo};
+ghost use Rattle.ch_contract.specs.Contraction.{AreShortcuts, Contracts, legs_after_contraction};
+ghost use Rattle.ch_contract.specs.LegRows.{AreLegsFrom, AreLegsTo};
 ghost use Rattle.ch_contract.specs.Remaining.{legs_of};
 
-use crate::leg::Leg;
-use crate::lists::put_shortcuts;
+use crate::leg_lists::put_shortcuts;
 use crate::remaining::Remaining;
 use crate::remaining::light::are_light;
 use crate::shortcut::Shortcut;
+use ch_hierarchy::Leg;
 use std::alloc::AllocError;
 
 /// The legs of a contracted node, each list in order of the other node.
@@ -49,7 +49,7 @@ impl Remaining {
         requires node { v < self.nodes }
         requires shortcuts { (h : ℕ) × AreShortcuts self.nodes h (legs_of self) v shortcuts.now }
         ensures nodes { IfOk result (λ r. r.0.nodes ≡ self.nodes) }
-        ensures legs { IfOk result (λ r. SameLegs (legs_of r.0) (contracted (legs_of self) v shortcuts.now)) }
+        ensures legs { IfOk result (λ r. SameLegs (legs_of r.0) (legs_after_contraction (legs_of self) v shortcuts.now)) }
         ensures up { IfOk result (λ r. AreLegsFrom (legs_of self) v r.1.up.items) }
         ensures down { IfOk result (λ r. AreLegsTo (legs_of self) v r.1.down.items) }
     {

@@ -1,8 +1,8 @@
 //! Legs that are light enough for searches over words.
 ghost use Rattle.std.specs.Prelude.{◌≤◌, All, IsTrue};
-ghost use Rattle.ch_contract.specs.declared.head.TheConstants.{MOST_LIGHT};
+ghost use Rattle.ch_contract.specs.declared.held_cost.TheConstants.{MOST_LIGHT};
 
-use crate::head::MOST_LIGHT;
+use crate::held_cost::MOST_LIGHT;
 use crate::shortcut::Shortcut;
 use ch_graph::InArc;
 

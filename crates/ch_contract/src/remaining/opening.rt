@@ -3,7 +3,7 @@ ghost use Rattle.std.specs.Prelude.{◌≡◌, IfOk};
 ghost use Rattle.ch_contract.specs.Legs.{SameLegs, opening};
 ghost use Rattle.ch_contract.specs.Remaining.{legs_of};
 
-use crate::lists::LegLists;
+use crate::leg_lists::LegLists;
 use crate::remaining::Remaining;
 use crate::remaining::light::are_light_arcs;
 use ch_graph::Graph;

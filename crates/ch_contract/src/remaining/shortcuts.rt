@@ -2,20 +2,22 @@
 ghost use Rattle.std.specs.Prelude.{◌≡◌, ◌+◌, ◌<◌, IfOk, OnOk, Some};
 ghost use Rattle.ch_contract.specs.Legs.{IsHopBound};
 ghost use Rattle.ch_contract.specs.Contraction.{AreShortcuts, IsPriority};
-ghost use Rattle.ch_contract.specs.Rows.{AreLegsFrom, label_of};
+ghost use Rattle.ch_contract.specs.LegRows.{AreLegsFrom, label_of};
+ghost use Rattle.ch_contract.specs.Measures.{IsMeasure};
 ghost use Rattle.ch_contract.specs.ShortcutLists.{AreShortcutsBefore, IsShortcutBetween};
 ghost use Rattle.ch_contract.specs.HeldCosts.{IsHeld};
-ghost use Rattle.ch_contract.specs.Heads.{known_of, IsClean, AreLegsUpTo};
-ghost use Rattle.ch_contract.specs.Lines.{IsKnown, IsMostFor};
+ghost use Rattle.ch_contract.specs.KnownCosts.{known_of, IsClean, AreLegsUpTo};
+ghost use Rattle.ch_contract.specs.Candidates.{IsKnown, IsMostFor};
 ghost use Rattle.ch_contract.specs.Remaining.{legs_of};
 
-use crate::head::Head;
-use crate::leg::Leg;
+use crate::held_cost::HeldCost;
+use crate::measure::{Measure, OrderBy};
 use crate::remaining::Remaining;
-use crate::remaining::joining::{joined, most_cost};
-use crate::search::{Search, Wanted};
+use crate::remaining::candidates::{candidate_cost, most_cost};
 use crate::shortcut::Shortcut;
+use crate::witness_search::{Wanted, WitnessSearch};
 use ch_graph::Cost;
+use ch_hierarchy::Leg;
 use std::alloc::AllocError;
 
 impl Remaining {
@@ -29,7 +31,7 @@ impl Remaining {
         requires hops { IsHopBound hops }
         ensures { IfOk result (λ list. AreShortcuts self.now.nodes hops (legs_of self.now) v list.items) }
     {
-        let mut search: Search<Cost> = Search::new(self.alloc, self.nodes())?;
+        let mut search: WitnessSearch<Cost> = WitnessSearch::new(self.alloc, self.nodes())?;
         let mut list = Vec::new(self.alloc);
         self.fill_shortcuts(&mut search, &mut list, v, hops)?;
         Ok(list)
@@ -44,39 +46,44 @@ impl Remaining {
         requires hops { IsHopBound hops }
         ensures { IfOk result (λ p. IsPriority self.now.nodes hops (legs_of self.now) v p) }
     {
-        let mut search: Search<Cost> = Search::new(self.alloc, self.nodes())?;
+        let mut search: WitnessSearch<Cost> = WitnessSearch::new(self.alloc, self.nodes())?;
         let mut list = Vec::new(self.alloc);
-        self.priority_in(&mut search, &mut list, v, hops)
+        let measure = self.measure_in(&mut search, &mut list, v, hops)?;
+        Ok(OrderBy::Difference.key(measure, 0))
     }
 
-    /// The priority of `v`, judged in this room for searches. The list becomes that of its shortcuts.
-    pub(crate) fn priority_in<K: Head>(
+    /// How many shortcuts `v` has and how many legs touch it, judged in this room for searches. The list
+    /// becomes that of its shortcuts.
+    pub(crate) fn measure_in<K: HeldCost>(
         &self,
-        search: &mut Search<K>,
+        search: &mut WitnessSearch<K>,
         list: &mut Vec<Shortcut>,
         v: u32,
         hops: u32,
-    ) -> Result<i64, AllocError>
+    ) -> Result<Measure, AllocError>
         requires node { v < self.now.nodes }
         requires hops { IsHopBound hops }
         requires light { AreLegsUpTo K.limit (legs_of self.now) }
-        requires clean { IsClean self.now.nodes (known_of K.cost search.old.heads) }
-        ensures priority { IfOk result (λ p. IsPriority self.now.nodes hops (legs_of self.now) v p) }
+        requires clean { IsClean self.now.nodes (known_of K.cost search.old.known) }
+        ensures measure { IfOk result (IsMeasure self.now.nodes hops (legs_of self.now) v) }
         ensures list { OnOk result (AreShortcuts self.now.nodes hops (legs_of self.now) v list.new.items) }
-        ensures clean { OnOk result (IsClean self.now.nodes (known_of K.cost search.new.heads)) }
+        ensures clean { OnOk result (IsClean self.now.nodes (known_of K.cost search.new.known)) }
     {
         // The getter tells the proof that the legs keep the limits.
         let _ = self.nodes();
         self.fill_shortcuts(search, list, v, hops)?;
-        let touching = self.out_legs(v).len() + self.in_legs(v).len();
-        Ok(list.len() as i64 - touching as i64)
+        let legs = self.out_legs(v).len() + self.in_legs(v).len();
+        Ok(Measure {
+            shortcuts: list.len() as u64,
+            legs: legs as u64,
+        })
     }
 
     /// Makes the list that of the shortcuts of `v`, judged in this room for searches. It takes memory only
     /// where the room or the list has to grow.
-    fn fill_shortcuts<K: Head>(
+    fn fill_shortcuts<K: HeldCost>(
         &self,
-        search: &mut Search<K>,
+        search: &mut WitnessSearch<K>,
         list: &mut Vec<Shortcut>,
         v: u32,
         hops: u32,
@@ -84,9 +91,9 @@ impl Remaining {
         requires node { v < self.now.nodes }
         requires hops { IsHopBound hops }
         requires light { AreLegsUpTo K.limit (legs_of self.now) }
-        requires clean { IsClean self.now.nodes (known_of K.cost search.old.heads) }
+        requires clean { IsClean self.now.nodes (known_of K.cost search.old.known) }
         ensures list { OnOk result (AreShortcuts self.now.nodes hops (legs_of self.now) v list.new.items) }
-        ensures clean { OnOk result (IsClean self.now.nodes (known_of K.cost search.new.heads)) }
+        ensures clean { OnOk result (IsClean self.now.nodes (known_of K.cost search.new.known)) }
     {
         list.clear();
         let up = self.out_legs(v);
@@ -98,9 +105,9 @@ impl Remaining {
 
     /// Puts the shortcuts of `v` at the end of the list that begin with this leg to `v`: one search for all
     /// of them.
-    fn push_shortcuts<K: Head>(
+    fn push_shortcuts<K: HeldCost>(
         &self,
-        search: &mut Search<K>,
+        search: &mut WitnessSearch<K>,
         list: &mut Vec<Shortcut>,
         v: u32,
         first: Leg,
@@ -112,11 +119,11 @@ impl Remaining {
         requires light { AreLegsUpTo K.limit (legs_of self.now) }
         requires first { legs_of self.now first.node v ≡ Some (label_of first) }
         requires up { AreLegsFrom (legs_of self.now) v up.now }
-        requires clean { IsClean self.now.nodes (known_of K.cost search.old.heads) }
+        requires clean { IsClean self.now.nodes (known_of K.cost search.old.known) }
         requires list { AreShortcutsBefore self.now.nodes hops (legs_of self.now) v first.node 0 list.old.items }
         ensures list { OnOk result
             (AreShortcutsBefore self.now.nodes hops (legs_of self.now) v (first.node + 1) 0 list.new.items) }
-        ensures clean { OnOk result (IsClean self.now.nodes (known_of K.cost search.new.heads)) }
+        ensures clean { OnOk result (IsClean self.now.nodes (known_of K.cost search.new.known)) }
     {
         let nodes = self.nodes();
         let Some(most) = most_cost(nodes, first, up) else {
@@ -139,9 +146,9 @@ impl Remaining {
 
     /// The shortcut of the avoided node for two legs, the first to it and the second from it, where the
     /// chains from the first node are known.
-    fn shortcut<K: Head>(
+    fn shortcut<K: HeldCost>(
         &self,
-        search: &Search<K>,
+        search: &WitnessSearch<K>,
         wanted: Wanted,
         first: Leg,
         second: Leg,
@@ -152,13 +159,13 @@ impl Remaining {
         requires end { wanted.end ≡ first.node }
         requires first { legs_of self.now first.node wanted.avoided ≡ Some (label_of first) }
         requires second { legs_of self.now wanted.avoided second.node ≡ Some (label_of second) }
-        requires known { IsKnown self.now wanted hops (known_of K.cost search.now.heads) }
+        requires known { IsKnown self.now wanted hops (known_of K.cost search.now.known) }
         requires held { IsHeld K.limit wanted.most }
         requires most { IsMostFor self.now.nodes first wanted.most second }
         ensures { IsShortcutBetween self.now.nodes hops (legs_of self.now) wanted.avoided first.node second.node result }
     {
         let nodes = self.nodes();
-        let cost = joined(nodes, first, second)?;
+        let cost = candidate_cost(nodes, first, second)?;
         if self.is_witnessed(search, wanted, second.node, cost, hops) {
             return None;
         }

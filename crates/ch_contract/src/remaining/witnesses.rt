@@ -4,13 +4,13 @@ ghost use Rattle.ch_graph.specs.declared.limits.TheConstants.{MOST_WEIGHT};
 ghost use Rattle.ch_graph.specs.Cost.{IsAtMost};
 ghost use Rattle.ch_contract.specs.Legs.{HasWitness, IsHopBound};
 ghost use Rattle.ch_contract.specs.HeldCosts.{IsHeld};
-ghost use Rattle.ch_contract.specs.Heads.{known_of, IsClean, AreTouched, AreLegsUpTo};
-ghost use Rattle.ch_contract.specs.Lines.{IsKnown};
+ghost use Rattle.ch_contract.specs.KnownCosts.{known_of, IsClean, AreTouched, AreLegsUpTo};
+ghost use Rattle.ch_contract.specs.Candidates.{IsKnown};
 ghost use Rattle.ch_contract.specs.Remaining.{legs_of};
 
-use crate::head::{Head, MOST_CHAIN_ARCS};
+use crate::held_cost::{HeldCost, MOST_CHAIN_ARCS};
 use crate::remaining::Remaining;
-use crate::search::{Search, Wanted};
+use crate::witness_search::{Wanted, WitnessSearch};
 use ch_graph::Cost;
 use std::alloc::AllocError;
 
@@ -44,35 +44,38 @@ impl Remaining {
             avoided: v,
             most,
         };
-        let mut search: Search<Cost> = Search::new(self.alloc, nodes)?;
+        let mut search: WitnessSearch<Cost> = WitnessSearch::new(self.alloc, nodes)?;
         self.reach(&mut search, wanted, hops)?;
         Ok(self.is_witnessed(&search, wanted, w, most, hops))
     }
 
     /// Learns the costs of the chains from the wanted end that leave two legs to go of the `hops` that a
     /// witness may have.
-    pub(super) fn reach<K: Head>(
+    ///
+    /// The search speaks of chains to the end, over the legs to each node. It is given the legs from each node in
+    /// their place, so that it sees every leg turned round: what it takes for chains to the end begins there.
+    pub(super) fn reach<K: HeldCost>(
         &self,
-        search: &mut Search<K>,
+        search: &mut WitnessSearch<K>,
         wanted: Wanted,
         hops: u32,
     ) -> Result<(), AllocError>
         requires hops { IsHopBound hops }
         requires light { AreLegsUpTo K.limit (legs_of self.now) }
-        requires clean { IsClean self.now.nodes (known_of K.cost search.old.heads) }
+        requires clean { IsClean self.now.nodes (known_of K.cost search.old.known) }
         requires end { (wanted.end < self.now.nodes) × (wanted.end ≢ wanted.avoided) }
         requires most { IsHeld K.limit wanted.most }
-        ensures known { OnOk result (IsKnown self.now wanted hops (known_of K.cost search.new.heads)) }
-        ensures touched { OnOk result (AreTouched (known_of K.cost search.new.heads)) }
+        ensures known { OnOk result (IsKnown self.now wanted hops (known_of K.cost search.new.known)) }
+        ensures touched { OnOk result (AreTouched (known_of K.cost search.new.known)) }
     {
         search.reach(&self.outs, wanted, hops.saturating_sub(2))
     }
 
     /// Whether the chains that are known show a witness from the wanted end to `w`, of at most `hops` legs
-    /// and this cost.
-    pub(super) fn is_witnessed<K: Head>(
+    /// and this cost. The search is given the legs to each node as those from it, turned round as in `reach`.
+    pub(super) fn is_witnessed<K: HeldCost>(
         &self,
-        search: &Search<K>,
+        search: &WitnessSearch<K>,
         wanted: Wanted,
         w: u32,
         cost: Cost,
@@ -80,7 +83,7 @@ impl Remaining {
     ) -> bool
         requires hops { IsHopBound hops }
         requires light { AreLegsUpTo K.limit (legs_of self.now) }
-        requires known { IsKnown self.now wanted hops (known_of K.cost search.now.heads) }
+        requires known { IsKnown self.now wanted hops (known_of K.cost search.now.known) }
         requires node { w < self.now.nodes }
         requires end { wanted.end < self.now.nodes }
         requires apart { (w ≢ wanted.avoided) × (w ≢ wanted.end) }

@@ -1,7 +1,7 @@
 //! Graphs with their hierarchies, and that `build` makes these at several plans.
 ghost use Rattle.std.specs.Prelude.{◌<◌};
 ghost use Rattle.ch_contract.specs.Legs.{IsHopBound};
-ghost use Rattle.ch_contract.specs.Hierarchy.{nodes_of};
+ghost use Rattle.ch_hierarchy.specs.Hierarchy.{nodes_of};
 
 use crate::{Hierarchy, Leg, build};
 use ch_graph::{Cost, Graph, InArc};
@@ -44,7 +44,7 @@ pub(super) fn expect<R: Threads + Abort + Sync>(
     Ok(())
 }
 
-fn graph(rt: &impl Abort, alloc: Global, example: &Example) -> Result<Graph, Fail> {
+pub(super) fn graph(rt: &impl Abort, alloc: Global, example: &Example) -> Result<Graph, Fail> {
     let mut arcs = Vec::new(alloc);
     for (from, to, weight) in example.arcs {
         assert!(rt; *from > 0 && *to > 0);
@@ -58,7 +58,7 @@ fn graph(rt: &impl Abort, alloc: Global, example: &Example) -> Result<Graph, Fai
 }
 
 /// The nodes of the order have the levels from 1 on.
-fn expect_levels(rt: &impl Abort, hierarchy: &Hierarchy, order: &[u32]) {
+pub(super) fn expect_levels(rt: &impl Abort, hierarchy: &Hierarchy, order: &[u32]) {
     assert_eq!(rt; order.len(), hierarchy.nodes() as usize);
     for (place, node) in order.iter().enumerate() {
         assert!(rt; *node > 0 && *node <= hierarchy.nodes());

@@ -1,10 +1,10 @@
 //! What a refusal of memory leaves: the test holds when any one request is refused. The call that meets the
 //! refusal answers want of memory, and the same, made again with what it was lent, answers as with ample memory.
 ghost use Rattle.std.specs.Prelude.{◌≡◌, ◌<◌, IfOk};
-ghost use Rattle.ch_contract.specs.Hierarchy.{nodes_of};
+ghost use Rattle.ch_hierarchy.specs.Hierarchy.{nodes_of};
 
-use crate::{CheckError, Hierarchy, Leg, Remaining, Shortcut, assemble, build};
-use ch_graph::{Cost, Graph, InArc, Saved, SavedLeg};
+use crate::{Hierarchy, Leg, Remaining, Shortcut, build};
+use ch_graph::{Cost, Graph, InArc};
 use ch_work::{Open, Plan};
 use std::alloc::{AllocError, Global};
 use std::process::Abort;
@@ -147,27 +147,6 @@ fn expect_ring(rt: &impl Abort, hierarchy: &Hierarchy) {
     expect_node(rt, hierarchy, 4, 5, &[], &[]);
 }
 
-/// The hierarchy of the ring as a file holds it.
-fn saved_ring(alloc: Global) -> Result<Saved, Fail> {
-    let mut legs = again!(Vec::with_capacity(alloc, 8));
-    for node in 0..4u32 {
-        legs.push(SavedLeg {
-            from: node,
-            to: node + 1,
-            cost: cost(1),
-            middle: None,
-        })?;
-        legs.push(SavedLeg {
-            from: 4,
-            to: node,
-            cost: cost(u64::from(node) + 1),
-            middle: node.checked_sub(1),
-        })?;
-    }
-    let order = again!(Vec::from_slice(alloc, &[0, 1, 2, 3, 4]));
-    Ok(Saved { order, legs })
-}
-
 fn expect_built<R: Threads + Abort + Sync>(
     rt: &R,
     alloc: Global,
@@ -178,19 +157,6 @@ fn expect_built<R: Threads + Abort + Sync>(
         let plan = Plan::new(workers, 1, 1);
         expect_star(rt, &again!(build(rt, alloc, star, 5, &plan, &Open)));
         expect_ring(rt, &again!(build(rt, alloc, ring, 5, &plan, &Open)));
-    }
-    Ok(())
-}
-
-fn expect_assembled(rt: &impl Abort, alloc: Global, ring: &Graph) -> Result<(), Fail> {
-    let saved = saved_ring(alloc)?;
-    let answer = match assemble(alloc, ring, &saved) {
-        Err(CheckError::NoMemory) => assemble(alloc, ring, &saved),
-        answer => answer,
-    };
-    match answer {
-        Ok(hierarchy) => expect_ring(rt, &hierarchy),
-        Err(error) => panic!(rt; "{error}"),
     }
     Ok(())
 }
@@ -224,6 +190,5 @@ fn refused_in_turn(rt: HostRuntime) -> Result<(), Fail> {
         down: &[leg(4, 1, None)],
     };
     expect_answers(&rt, alloc, &ring, &of_ring)?;
-    expect_built(&rt, alloc, &star, &ring)?;
-    expect_assembled(&rt, alloc, &ring)
+    expect_built(&rt, alloc, &star, &ring)
 }

@@ -1,19 +1,29 @@
 //! Answers to many queries on a ring, and plans that change none.
-ghost use Rattle.std.specs.Prelude.{◌≤◌, length};
+ghost use Rattle.std.specs.Prelude.{◌≡◌, ◌≤◌, length, IfOk};
 ghost use Rattle.ch_graph.specs.declared.limits.TheConstants.{MOST_QUERIES};
-ghost use Rattle.ch_contract.specs.Hierarchy.{nodes_of};
+ghost use Rattle.ch_hierarchy.specs.Hierarchy.{nodes_of};
 ghost use Rattle.ch_query.specs.Answers.{AreQueries};
 ghost use Rattle.ch_query.specs.Distance.{IsKeptForSome};
 
 use super::prepared::{RING, hierarchy};
 use crate::{Answer, answer_all};
-use ch_contract::Hierarchy;
 use ch_graph::InArc;
+use ch_hierarchy::Hierarchy;
 use ch_work::{Open, Plan};
 use std::alloc::{AllocError, Global};
 use std::process::Abort;
 use std::test::Fail;
 use std::thread::Threads;
+
+/// The hierarchy of the ring.
+pub(super) fn ring(rt: &impl Abort, alloc: Global) -> Result<Hierarchy, Fail>
+    ensures kept { IfOk result IsKeptForSome }
+    ensures nodes { IfOk result (λ h. nodes_of h ≡ 5) }
+{
+    let ring = hierarchy(rt, alloc, &RING)?;
+    assert!(rt; ring.nodes() == 5);
+    Ok(ring)
+}
 
 /// Expects these weights and no arcs.
 fn expect_weights<R: Threads + Abort + Sync>(
@@ -41,7 +51,7 @@ fn expect_weights<R: Threads + Abort + Sync>(
 #[test]
 fn no_plan_changes_an_answer(rt: HostRuntime) -> Result<(), Fail> {
     let alloc = rt.alloc();
-    let ring = hierarchy(&rt, alloc, 5, &RING)?;
+    let ring = ring(&rt, alloc)?;
     let queries = [(4, 3), (0, 4), (2, 1), (1, 1), (4, 3), (4, 3)];
     let plans = [(1, 1), (1, 1000), (2, 1), (2, 1000), (64, 1), (64, 1000)];
     for (workers, piece) in plans {
@@ -54,7 +64,7 @@ fn no_plan_changes_an_answer(rt: HostRuntime) -> Result<(), Fail> {
 #[test]
 fn no_queries_have_no_answers(rt: HostRuntime) -> Result<(), Fail> {
     let alloc = rt.alloc();
-    let ring = hierarchy(&rt, alloc, 5, &RING)?;
+    let ring = ring(&rt, alloc)?;
     for workers in [1, 2, 64] {
         let plan = Plan::new(workers, 1, 64);
         expect_weights(&rt, alloc, &ring, &[], &plan, &[])?;
@@ -107,7 +117,7 @@ pub(super) fn expect_routes<R: Threads + Abort + Sync>(
 
 #[test]
 fn answers_with_routes_on_the_ring(rt: HostRuntime) -> Result<(), Fail> {
-    let ring = hierarchy(&rt, rt.alloc(), 5, &RING)?;
+    let ring = ring(&rt, rt.alloc())?;
     let queries = [(4, 3), (0, 4), (2, 1), (1, 1), (4, 3)];
     for (workers, piece) in [(1, 1000), (2, 1), (64, 1)] {
         let plan = Plan::new(workers, piece, 64);

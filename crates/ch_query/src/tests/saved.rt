@@ -1,19 +1,12 @@
 //! Saved hierarchies checked: worked faults of those kinds for which the graph is looked at, and what is
 //! accepted.
-ghost use Rattle.std.specs.Prelude.{IfOk};
-ghost use Rattle.ch_query.specs.Distance.{IsKeptForSome};
 
-use super::prepared::{Prepared, graph};
+use super::prepared::{Leg, Prepared, checked};
 use super::routes::{Route, expect_all};
-use crate::check;
-use ch_contract::{CheckError, CheckFault, Hierarchy};
-use ch_graph::{Cost, Graph, Saved, SavedLeg};
+use ch_hierarchy::{CheckError, CheckFault};
 use std::alloc::{AllocError, Global};
 use std::process::Abort;
 use std::test::Fail;
-
-/// A leg: from, to, weight, number of arcs, and middle.
-pub(super) type Leg = (u32, u32, u64, u64, Option<u32>);
 
 /// Two arcs in line, from node 0 over node 1 to node 2.
 const LINE: [(u32, u32, u64); 2] = [(0, 1, 4), (1, 2, 5)];
@@ -46,52 +39,8 @@ const STAR_LEGS: [Leg; 8] = [
     (3, 2, 2, 2, Some(0)),
 ];
 
-fn saved_hierarchy(alloc: Global, order: &[u32], list: &[Leg]) -> Result<Saved, AllocError> {
-    let mut legs = again!(Vec::with_capacity(alloc, list.len()));
-    for (from, to, weight, arcs, middle) in list {
-        let cost = Cost {
-            weight: *weight,
-            arcs: *arcs,
-        };
-        legs.push(SavedLeg {
-            from: *from,
-            to: *to,
-            cost,
-            middle: *middle,
-        })?;
-    }
-    let order = again!(Vec::from_slice(alloc, order));
-    Ok(Saved { order, legs })
-}
-
-fn check_once(alloc: Global, graph: &Graph, saved: &Saved) -> Result<Hierarchy, CheckError>
-    ensures { IfOk result IsKeptForSome }
-{
-    // The getter tells the proof that the graph keeps the limits.
-    let _ = graph.arcs();
-    check(alloc, graph, saved)
-}
-
-/// What `check` answers for a graph of as many nodes as the order has, made a second time where the first was
-/// refused memory.
-fn checked(
-    alloc: Global,
-    arcs: &[(u32, u32, u64)],
-    order: &[u32],
-    legs: &[Leg],
-) -> Result<Result<Hierarchy, CheckError>, Fail>
-    ensures { IfOk result (λ answer. IfOk answer IsKeptForSome) }
-{
-    let graph = graph(alloc, u32::try_from(order.len())?, arcs)?;
-    let saved = saved_hierarchy(alloc, order, legs)?;
-    match check_once(alloc, &graph, &saved) {
-        Err(CheckError::NoMemory) => Ok(check_once(alloc, &graph, &saved)),
-        answer => Ok(answer),
-    }
-}
-
 /// Expects that a saved hierarchy is right for a graph, and these routes by it.
-pub(super) fn expect_accepted(
+fn expect_accepted(
     rt: &impl Abort,
     alloc: Global,
     arcs: &[(u32, u32, u64)],

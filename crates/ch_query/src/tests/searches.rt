@@ -5,18 +5,13 @@ use crate::Side;
 use std::alloc::Global;
 use std::process::Abort;
 use std::test::Fail;
-use std::thread::Threads;
 
 /// A spread: source, side, limit, and its entries, each (node, weight, arcs).
 type Spread<'a> = (u32, Side, Option<u64>, &'a [(u32, u64, u64)]);
 
 /// Expects these spreads on the ring, with a distance before them and one after them in the same room.
-fn expect<R: Threads + Abort + Sync>(
-    rt: &R,
-    alloc: Global,
-    spreads: &[Spread],
-) -> Result<(), Fail> {
-    let mut ring = Prepared::new(rt, alloc, 5, &RING)?;
+fn expect(rt: &impl Abort, alloc: Global, spreads: &[Spread]) -> Result<(), Fail> {
+    let mut ring = Prepared::new(rt, alloc, &RING)?;
     ring.expect_distance(rt, 0, 4, Some(4));
     for (source, side, within, entries) in spreads {
         ring.expect_spread(rt, *source, *side, *within, entries)?;
@@ -82,12 +77,12 @@ fn spreads_down_within_limits(rt: HostRuntime) -> Result<(), Fail> {
 }
 
 /// Expects the distances between these nodes of the ring.
-fn expect_distances<R: Threads + Abort + Sync>(
-    rt: &R,
+fn expect_distances(
+    rt: &impl Abort,
     alloc: Global,
     distances: &[(u32, u32, u64)],
 ) -> Result<(), Fail> {
-    let mut ring = Prepared::new(rt, alloc, 5, &RING)?;
+    let mut ring = Prepared::new(rt, alloc, &RING)?;
     for (from, to, weight) in distances {
         ring.expect_distance(rt, *from, *to, Some(*weight));
     }

@@ -3,7 +3,7 @@
 
 ghost use Rattle.std.specs.Prelude.{◌≡◌, ◌+◌, ◌≤◌, None, IfOk, length, take};
 ghost use Rattle.std.specs.Io.KnownBytes.{Appends, Keeps, ReadConsumes, WriteAppends};
-ghost use Rattle.ch_run.specs.Device.{CanCountOneMore, idle_writes, raised};
+ghost use Rattle.ch_run.specs.Device.{CanCountOneMore, idle_writes, failures_in};
 
 use super::{DeviceFault, Input, Output};
 use std::io::{ErrorKind, Read, Write};
@@ -16,9 +16,10 @@ pub struct ReaderInput<D: Read + Drop> {
 }
 
 impl<D: Read + Drop> ReaderInput<D> {
-    /// An input of what the reader reads.
+    /// An input of what the reader reads, of which nothing is read yet.
     pub fn new(reader: D) -> Self
-        ensures { ⟦<ReaderInput<D> as Input>⟧.failed result ≡ 0 }
+        ensures reader { result.reader ≡ reader }
+        ensures failed { ⟦<ReaderInput<D> as Input>⟧.failed result ≡ 0 }
     {
         ReaderInput {
             reader,
@@ -51,7 +52,7 @@ impl<D: Read + Drop> Input for ReaderInput<D> {
     fn read(&mut self, buffer: &mut [u8]) -> Result<usize, DeviceFault>
         requires { CanCountOneMore self.old.failures }
         ensures fits { IfOk result (λ count. count ≤ length buffer.new) }
-        ensures failures { self.new.failures ≡ self.old.failures + raised result }
+        ensures failures { self.new.failures ≡ self.old.failures + failures_in result }
         ensures given { ReadConsumes (D.remaining self.old.reader) (D.remaining self.new.reader) result buffer.new }
     {
         let answer = read_uninterrupted(&mut self.reader, buffer);
@@ -79,8 +80,9 @@ pub struct WriterOutput<D: Write + Drop> {
 }
 
 impl<D: Write + Drop> WriterOutput<D> {
-    /// An output to the writer.
+    /// An output to the writer, to which nothing is written yet.
     pub fn new(writer: D) -> Self
+        ensures writer { result.writer ≡ writer }
         ensures failed { ⟦<WriterOutput<D> as Output>⟧.failed result ≡ 0 }
         ensures idle { ⟦<WriterOutput<D> as Output>⟧.idle result ≡ 0 }
     {
@@ -143,7 +145,7 @@ impl<D: Write + Drop> Output for WriterOutput<D> {
         requires failures { CanCountOneMore self.old.failures }
         requires zeros { CanCountOneMore self.old.zeros }
         ensures fits { IfOk result (λ count. count ≤ length bytes.now) }
-        ensures failures { self.new.failures ≡ self.old.failures + raised result }
+        ensures failures { self.new.failures ≡ self.old.failures + failures_in result }
         ensures zeros { self.new.zeros ≡ self.old.zeros + idle_writes result bytes.now }
         ensures taken { IfOk result (λ count. Appends (D.contents self.old.writer) (D.contents self.new.writer) (take count bytes.now)) }
     {

@@ -1,6 +1,7 @@
 //! Devices over memory, which tell their bytes and fail where they are told to: for tests.
 
-ghost use Rattle.std.specs.Prelude.{◌≡◌, ◌<◌, [], Some, IfOk};
+ghost use Rattle.std.specs.Prelude.{◌≡◌, ◌+◌, ◌<◌, ◌≤◌, ◌↔◌, [], Some, IfOk, IsErr, IsTrue, OnErr, OnOk, length};
+ghost use Rattle.ch_run.specs.Device.{CanCountOneMore, GivesBytes, TakesBytes, idle_writes, failures_in, turns_after};
 
 use super::{DeviceFault, Input, Output};
 use std::alloc::{AllocError, Global};
@@ -15,7 +16,10 @@ impl Turn {
     const NEVER: Turn = Turn { before: None };
 
     /// Whether the call being made is the one.
-    fn has_come(&mut self) -> bool {
+    fn has_come(&mut self) -> bool
+        ensures come { IsTrue result ↔ (self.old.before ≡ Some 0) }
+        ensures turns { self.new.before ≡ turns_after self.old.before }
+    {
         match self.before {
             None => false,
             Some(0) => {
@@ -57,6 +61,7 @@ impl<'a> MemoryInput<'a> {
 
     /// The same input, whose read after `reads` others fails.
     pub fn failing_after(self, reads: u64) -> Self
+        ensures turn { result.fault.before ≡ Some reads }
         ensures left { ⟦<MemoryInput<'a> as Input>⟧.left result ≡ ⟦<MemoryInput<'a> as Input>⟧.left self.entry }
         ensures failed { ⟦<MemoryInput<'a> as Input>⟧.failed result ≡ ⟦<MemoryInput<'a> as Input>⟧.failed self.entry }
     {
@@ -76,7 +81,15 @@ impl Input for MemoryInput<'_> {
 
     ghost left = { λ d. Some d.left.now };
 
-    fn read(&mut self, buffer: &mut [u8]) -> Result<usize, DeviceFault> {
+    // It fails at its turn, and at no other read.
+    fn read(&mut self, buffer: &mut [u8]) -> Result<usize, DeviceFault>
+        requires { CanCountOneMore self.old.failures }
+        ensures fits { IfOk result (λ count. count ≤ length buffer.new) }
+        ensures failures { self.new.failures ≡ self.old.failures + failures_in result }
+        ensures bytes { GivesBytes (Some self.old.left.now) (Some self.new.left.now) result buffer.new }
+        ensures turn { IsErr result ↔ (self.old.fault.before ≡ Some 0) }
+        ensures turns { self.new.fault.before ≡ turns_after self.old.fault.before }
+    {
         if self.fault.has_come() {
             self.failures += 1;
             return Err(DeviceFault);
@@ -124,6 +137,7 @@ impl MemoryOutput {
 
     /// The same output, whose write after `writes` others fails.
     pub fn failing_after(mut self, writes: u64) -> Self
+        ensures turn { result.fault.before ≡ Some writes }
         ensures taken { ⟦<MemoryOutput as Output>⟧.taken result ≡ ⟦<MemoryOutput as Output>⟧.taken self }
         ensures failed { ⟦<MemoryOutput as Output>⟧.failed result ≡ ⟦<MemoryOutput as Output>⟧.failed self }
         ensures idle { ⟦<MemoryOutput as Output>⟧.idle result ≡ ⟦<MemoryOutput as Output>⟧.idle self }
@@ -136,6 +150,7 @@ impl MemoryOutput {
 
     /// The same output, whose write after `writes` others takes no byte.
     pub fn idle_after(mut self, writes: u64) -> Self
+        ensures turn { result.pause.before ≡ Some writes }
         ensures taken { ⟦<MemoryOutput as Output>⟧.taken result ≡ ⟦<MemoryOutput as Output>⟧.taken self }
         ensures failed { ⟦<MemoryOutput as Output>⟧.failed result ≡ ⟦<MemoryOutput as Output>⟧.failed self }
         ensures idle { ⟦<MemoryOutput as Output>⟧.idle result ≡ ⟦<MemoryOutput as Output>⟧.idle self }
@@ -161,7 +176,20 @@ impl Output for MemoryOutput {
 
     ghost taken = { λ d. Some d.taken.items };
 
-    fn write(&mut self, bytes: &[u8]) -> Result<usize, DeviceFault> {
+    // It fails at its turn, and at no other write; and at the turn of its pause it takes no byte.
+    fn write(&mut self, bytes: &[u8]) -> Result<usize, DeviceFault>
+        requires failures { CanCountOneMore self.old.failures }
+        requires zeros { CanCountOneMore self.old.zeros }
+        ensures fits { IfOk result (λ count. count ≤ length bytes.now) }
+        ensures failures { self.new.failures ≡ self.old.failures + failures_in result }
+        ensures zeros { self.new.zeros ≡ self.old.zeros + idle_writes result bytes.now }
+        ensures bytes { TakesBytes (Some self.old.taken.items) (Some self.new.taken.items) result bytes.now }
+        ensures turn { IsErr result ↔ (self.old.fault.before ≡ Some 0) }
+        ensures turns { self.new.fault.before ≡ turns_after self.old.fault.before }
+        ensures pause { self.old.pause.before ≡ Some 0 → IfOk result (λ count. count ≡ 0) }
+        ensures pauses { OnOk result (self.new.pause.before ≡ turns_after self.old.pause.before) }
+        ensures no_pause { OnErr result (self.new.pause.before ≡ self.old.pause.before) }
+    {
         if self.fault.has_come() {
             self.failures += 1;
             return Err(DeviceFault);

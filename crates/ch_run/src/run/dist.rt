@@ -1,10 +1,10 @@
 //! Runs that answer queries.
-ghost use Rattle.std.specs.Prelude.{◌≡◌, ◌<◌, ◌≤◌, ◌↔◌, ◌⊎◌, length, IfOk, IfErr, IsErrAnd};
+ghost use Rattle.std.specs.Prelude.{true, ◌≡◌, ◌<◌, ◌≤◌, ◌↔◌, ◌⊎◌, length, IfOk, IfErr, IsErrAnd};
 ghost use Rattle.ch_graph.specs.declared.limits.TheConstants.{MOST_QUERIES};
 ghost use Rattle.ch_read.specs.declared.fault.ReadFault.{ReadFault as FaultAt};
 ghost use Rattle.ch_contract.specs.Legs.{IsHopBound};
 ghost use Rattle.ch_query.specs.Answers.{AreQueries};
-ghost use Rattle.ch_run.specs.Device.{CanCountOneMore};
+ghost use Rattle.ch_run.specs.Device.{CanCountOneMore, CountsAtMostOne, CountsAtMostOneOf};
 ghost use Rattle.ch_run.specs.Text.{IsText};
 ghost use Rattle.ch_run.specs.Run.{AcceptsGraph, AcceptsQueries, Delivers, GoesPast, HasQueriesRefused, IsAnsweredBy, IsGraphRefused, IsOfDist, IsWrite, reading};
 
@@ -13,9 +13,9 @@ use super::output::write_text;
 use super::texts::{answers_by, plain_text};
 use crate::device::{Input, Output};
 use crate::fault::{RunFault, Which};
-use crate::options::Options;
+use crate::options::{Options, OrderBy};
 use crate::plan::{Gate, Plan};
-use ch_contract::build;
+use ch_contract::build_by;
 use ch_graph::Graph;
 use std::alloc::{AllocError, Global};
 use std::thread::Threads;
@@ -60,6 +60,11 @@ pub fn run_dist<R: Threads + Sync, I: Input, J: Input, O: Output, G: Gate>(
     ensures queries_device { (result ≡ Err (RunFault.Device Which.Queries)) ↔ (J.failed queries.old < J.failed queries.new) }
     ensures output_device { IsErrAnd result IsWrite ↔ ((O.failed output.old < O.failed output.new) ⊎ (O.idle output.old < O.idle output.new)) }
 
+    // A read or a write that failed isn't tried again.
+    ensures graph_once { CountsAtMostOne (I.failed graph.old) (I.failed graph.new) }
+    ensures queries_once { CountsAtMostOne (J.failed queries.old) (J.failed queries.new) }
+    ensures output_once { CountsAtMostOneOf (O.failed output.old) (O.failed output.new) (O.idle output.old) (O.idle output.new) }
+
     // Nothing is touched before all that comes earlier was accepted.
     ensures queries_unread { (queries.new ≡ queries.old)
         ⊎ (GoesPast Which.Graph result × AcceptsGraph (reading I.left graph.old graph.new)) }
@@ -90,7 +95,27 @@ fn text_of<R: Threads + Sync, G: Gate>(
     if options.plain {
         return plain_text(alloc, graph, queries);
     }
-    let hierarchy = build(rt, alloc, graph, options.hops, plan, gate)?;
     let routes = options.routes;
+    let hierarchy = build_by(
+        rt,
+        alloc,
+        graph,
+        options.hops,
+        order_for(options),
+        plan,
+        gate,
+    )?;
     answers_by(rt, alloc, &hierarchy, queries, routes, plan, gate)
+}
+
+/// The order of the hierarchy by which queries are answered: for routes the one that is wanted, and for distances, which
+/// are the same in each order, the one that is quick.
+fn order_for(options: &Options) -> OrderBy
+    ensures { options.now.routes ≡ true → result ≡ options.now.order }
+{
+    if options.routes {
+        options.order
+    } else {
+        OrderBy::Depth
+    }
 }

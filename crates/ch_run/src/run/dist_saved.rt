@@ -3,10 +3,10 @@ ghost use Rattle.std.specs.Prelude.{◌≡◌, ◌<◌, ◌≤◌, ◌↔◌, �
 ghost use Rattle.ch_graph.specs.declared.limits.TheConstants.{MOST_QUERIES};
 ghost use Rattle.ch_graph.specs.Graph.{IsWithinLimits};
 ghost use Rattle.ch_read.specs.declared.fault.ReadFault.{ReadFault as FaultAt};
-ghost use Rattle.ch_contract.specs.declared.fault.CheckFault.{CheckFault as FaultOf};
-ghost use Rattle.ch_contract.specs.Kept.{IsKept};
+ghost use Rattle.ch_hierarchy.specs.declared.fault.CheckFault.{CheckFault as FaultOf};
+ghost use Rattle.ch_hierarchy.specs.Kept.{IsKept};
 ghost use Rattle.ch_query.specs.Answers.{AreQueries};
-ghost use Rattle.ch_run.specs.Device.{CanCountOneMore};
+ghost use Rattle.ch_run.specs.Device.{CanCountOneMore, CountsAtMostOne, CountsAtMostOneOf};
 ghost use Rattle.ch_run.specs.Text.{IsTextBy, writes_routes};
 ghost use Rattle.ch_run.specs.Run.{AcceptsGraph, Delivers, GoesPast, IsGraphRefused, IsWrite, reading};
 ghost use Rattle.ch_run.specs.SavedRun.{AcceptsSaved, AcceptsQueriesFrom, HasCheckRefused, HasSavedRefused, HasQueriesRefusedFrom, IsAnsweredFrom, IsOfDistSaved};
@@ -71,6 +71,12 @@ pub fn run_dist_saved<R: Threads + Sync, I: Input, S: Input, J: Input, O: Output
     ensures saved_device { (result ≡ Err (RunFault.Device Which.Saved)) ↔ (S.failed saved.old < S.failed saved.new) }
     ensures queries_device { (result ≡ Err (RunFault.Device Which.Queries)) ↔ (J.failed queries.old < J.failed queries.new) }
     ensures output_device { IsErrAnd result IsWrite ↔ ((O.failed output.old < O.failed output.new) ⊎ (O.idle output.old < O.idle output.new)) }
+
+    // A read or a write that failed isn't tried again.
+    ensures graph_once { CountsAtMostOne (I.failed graph.old) (I.failed graph.new) }
+    ensures saved_once { CountsAtMostOne (S.failed saved.old) (S.failed saved.new) }
+    ensures queries_once { CountsAtMostOne (J.failed queries.old) (J.failed queries.new) }
+    ensures output_once { CountsAtMostOneOf (O.failed output.old) (O.failed output.new) (O.idle output.old) (O.idle output.new) }
 
     // Nothing is touched before all that comes earlier was accepted.
     ensures saved_unread { (saved.new ≡ saved.old)

@@ -2,7 +2,7 @@
 ghost use Rattle.std.specs.Prelude.{◌≡◌, ◌<◌, ◌≤◌, ◌↔◌, All, IfOk, IfErr, vec_len};
 ghost use Rattle.ch_graph.specs.declared.limits.TheConstants.{MOST_LISTED, MOST_QUERIES};
 ghost use Rattle.ch_read.specs.declared.fault.ReadFault.{ReadFault as FaultAt};
-ghost use Rattle.ch_run.specs.Device.{CanCountOneMore, HasGiven};
+ghost use Rattle.ch_run.specs.Device.{CanCountOneMore, CountsAtMostOne, HasGiven};
 ghost use Rattle.ch_run.specs.Fault.{refusal_of};
 ghost use Rattle.ch_run.specs.Run.{IsGraphRefused, IsListRefused, IsOf, IsQueriesRefused, IsUnread, ReadsGraph, ReadsNodes, ReadsQueries, reading};
 ghost use Rattle.ch_query.specs.Answers.{AreQueries};
@@ -19,6 +19,7 @@ pub(crate) fn graph_from<I: Input>(alloc: Global, input: &mut I) -> Result<Graph
     ensures value { IfOk result (ReadsGraph (reading I.left input.old input.new)) }
     ensures refused { (fault : FaultAt) → result ≡ Err (RunFault.Graph fault) → IsGraphRefused (reading I.left input.old input.new) fault }
     ensures device { (result ≡ Err (RunFault.Device Which.Graph)) ↔ (I.failed input.old < I.failed input.new) }
+    ensures once { CountsAtMostOne (I.failed input.old) (I.failed input.new) }
     ensures of_input { IfErr result (IsOf Which.Graph) }
 {
     let bytes = bytes_from(alloc, input, Which::Graph)?;
@@ -40,6 +41,7 @@ pub(crate) fn queries_from<I: Input>(
     ensures size { IfOk result (λ queries. vec_len queries ≤ MOST_QUERIES) }
     ensures refused { (fault : FaultAt) → result ≡ Err (RunFault.Queries fault) → IsQueriesRefused (reading I.left input.old input.new) graph.now.nodes fault }
     ensures device { (result ≡ Err (RunFault.Device Which.Queries)) ↔ (I.failed input.old < I.failed input.new) }
+    ensures once { CountsAtMostOne (I.failed input.old) (I.failed input.new) }
     ensures of_input { IfErr result (IsOf Which.Queries) }
 {
     let bytes = bytes_from(alloc, input, Which::Queries)?;
@@ -62,6 +64,7 @@ pub(crate) fn nodes_from<I: Input>(
     ensures size { IfOk result (λ list. vec_len list ≤ MOST_LISTED) }
     ensures refused { (fault : FaultAt) → result ≡ Err (refusal_of which fault) → IsListRefused (reading I.left input.old input.new) graph.now.nodes fault }
     ensures device { (result ≡ Err (RunFault.Device which)) ↔ (I.failed input.old < I.failed input.new) }
+    ensures once { CountsAtMostOne (I.failed input.old) (I.failed input.new) }
     ensures of_input { IfErr result (IsOf which) }
 {
     let bytes = bytes_from(alloc, input, which)?;
@@ -81,6 +84,7 @@ pub(crate) fn bytes_from<I: Input>(
     ensures bytes { IfOk result (λ bytes. HasGiven (I.left input.old) (I.left input.new) bytes.items) }
     ensures unread { IfErr result (IsUnread which) }
     ensures device { (result ≡ Err (RunFault.Device which)) ↔ (I.failed input.old < I.failed input.new) }
+    ensures once { CountsAtMostOne (I.failed input.old) (I.failed input.new) }
 {
     match read_all(alloc, input) {
         Ok(bytes) => Ok(bytes),

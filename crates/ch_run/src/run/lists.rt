@@ -1,7 +1,7 @@
 //! The two lists of a table.
 ghost use Rattle.std.specs.Prelude.{◌≡◌, ◌<◌, ◌↔◌, ◌⊎◌, List, IfOk, IfErr};
 ghost use Rattle.ch_read.specs.declared.fault.ReadFault.{ReadFault as FaultAt};
-ghost use Rattle.ch_run.specs.Device.{CanCountOneMore};
+ghost use Rattle.ch_run.specs.Device.{CanCountOneMore, CountsAtMostOne};
 ghost use Rattle.ch_run.specs.Lists.{AreLists, ReadsLists, AcceptsList, HaveTargetsRefused, HaveCellsRefused, IsOfLists};
 ghost use Rattle.ch_run.specs.Run.{GoesPast, IsListRefused, reading};
 
@@ -44,6 +44,8 @@ pub(crate) fn lists_from<J: Input, L: Input>(
 
     ensures sources_device { (result ≡ Err (RunFault.Device Which.Sources)) ↔ (J.failed sources.old < J.failed sources.new) }
     ensures targets_device { (result ≡ Err (RunFault.Device Which.Targets)) ↔ (L.failed targets.old < L.failed targets.new) }
+    ensures sources_once { CountsAtMostOne (J.failed sources.old) (J.failed sources.new) }
+    ensures targets_once { CountsAtMostOne (L.failed targets.old) (L.failed targets.new) }
     ensures targets_unread { (targets.new ≡ targets.old)
         ⊎ (GoesPast Which.Sources result × AcceptsList (reading J.left sources.old sources.new) graph.now.nodes) }
 {

@@ -1,6 +1,6 @@
 //! The output, to which a run's text goes last.
 ghost use Rattle.std.specs.Prelude.{◌≡◌, ◌<◌, ◌↔◌, ◌⊎◌, IfErr, IsErrAnd};
-ghost use Rattle.ch_run.specs.Device.{CanCountOneMore};
+ghost use Rattle.ch_run.specs.Device.{CanCountOneMore, CountsAtMostOneOf};
 ghost use Rattle.ch_run.specs.Run.{Delivers, IsWrite};
 
 use crate::device::{Output, write_all};
@@ -13,6 +13,7 @@ pub(crate) fn write_text<O: Output>(output: &mut O, text: &[u8]) -> Result<(), R
     ensures written { Delivers result (O.taken output.old) (O.taken output.new) (λ bytes. bytes ≡ text.now) }
     ensures own { IfErr result IsWrite }
     ensures device { IsErrAnd result IsWrite ↔ ((O.failed output.old < O.failed output.new) ⊎ (O.idle output.old < O.idle output.new)) }
+    ensures once { CountsAtMostOneOf (O.failed output.old) (O.failed output.new) (O.idle output.old) (O.idle output.new) }
 {
     match write_all(output, text) {
         Ok(()) => Ok(()),

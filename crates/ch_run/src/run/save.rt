@@ -2,7 +2,7 @@
 ghost use Rattle.std.specs.Prelude.{◌≡◌, ◌<◌, ◌↔◌, ◌⊎◌, IfErr, IsErrAnd};
 ghost use Rattle.ch_read.specs.declared.fault.ReadFault.{ReadFault as FaultAt};
 ghost use Rattle.ch_contract.specs.Legs.{IsHopBound};
-ghost use Rattle.ch_run.specs.Device.{CanCountOneMore};
+ghost use Rattle.ch_run.specs.Device.{CanCountOneMore, CountsAtMostOne, CountsAtMostOneOf};
 ghost use Rattle.ch_run.specs.Run.{AcceptsGraph, Delivers, IsGraphRefused, IsWrite, reading};
 ghost use Rattle.ch_run.specs.SavedRun.{IsOfSave, IsSavedBy};
 
@@ -13,14 +13,14 @@ use crate::fault::{RunFault, Which};
 use crate::options::Options;
 use crate::plan::{Gate, Plan};
 use crate::save_text::save_text;
-use ch_contract::build;
+use ch_contract::build_by;
 use std::alloc::Global;
 use std::thread::Threads;
 
 /// Reads a graph, builds its contraction hierarchy, and writes it as a saved hierarchy.
 ///
 /// The graph is read to its end and judged, and the whole text is made before the first write. The text is the
-/// same for every plan and gate. Of the options only `hops` is used.
+/// same for every plan and gate. Of the options `hops` and `order` are used.
 ///
 /// # Errors
 /// The first fault of the graph, a device that refused a read, or want of memory: nothing was written then.
@@ -52,12 +52,16 @@ pub fn run_save<R: Threads + Sync, I: Input, O: Output, G: Gate>(
     ensures graph_device { (result ≡ Err (RunFault.Device Which.Graph)) ↔ (I.failed graph.old < I.failed graph.new) }
     ensures output_device { IsErrAnd result IsWrite ↔ ((O.failed output.old < O.failed output.new) ⊎ (O.idle output.old < O.idle output.new)) }
 
+    // A read or a write that failed isn't tried again.
+    ensures graph_once { CountsAtMostOne (I.failed graph.old) (I.failed graph.new) }
+    ensures output_once { CountsAtMostOneOf (O.failed output.old) (O.failed output.new) (O.idle output.old) (O.idle output.new) }
+
     // Nothing is written before the graph was accepted.
     ensures unwritten { (output.new ≡ output.old)
         ⊎ (IfErr result IsWrite × AcceptsGraph (reading I.left graph.old graph.new)) }
 {
     let graph = graph_from(alloc, graph)?;
-    let hierarchy = build(rt, alloc, &graph, options.hops, plan, gate)?;
+    let hierarchy = build_by(rt, alloc, &graph, options.hops, options.order, plan, gate)?;
     let text = save_text(alloc, &hierarchy)?;
     write_text(output, &text)
 }

@@ -2,8 +2,8 @@
 ghost use Rattle.std.specs.Prelude.{◌≡◌, ◌<◌, ◌↔◌, ◌⊎◌, IfOk, IfErr};
 ghost use Rattle.ch_graph.specs.Saved.{OrderAndLegs};
 ghost use Rattle.ch_read.specs.declared.fault.ReadFault.{ReadFault as FaultAt};
-ghost use Rattle.ch_contract.specs.declared.fault.CheckFault.{CheckFault as FaultOf};
-ghost use Rattle.ch_run.specs.Device.{CanCountOneMore};
+ghost use Rattle.ch_hierarchy.specs.declared.fault.CheckFault.{CheckFault as FaultOf};
+ghost use Rattle.ch_run.specs.Device.{CanCountOneMore, CountsAtMostOne};
 ghost use Rattle.ch_run.specs.Run.{AcceptsGraph, GoesPast, IsGraphRefused, IsOf, reading};
 ghost use Rattle.ch_run.specs.SavedRun.{AreChecked, HasCheckRefused, HasSavedRefused, IsOfChecked, IsSavedRefused, ReadsSaved};
 
@@ -45,6 +45,8 @@ pub(crate) fn checked_from<I: Input, S: Input>(
 
     ensures graph_device { (result ≡ Err (RunFault.Device Which.Graph)) ↔ (I.failed graph.old < I.failed graph.new) }
     ensures saved_device { (result ≡ Err (RunFault.Device Which.Saved)) ↔ (S.failed saved.old < S.failed saved.new) }
+    ensures graph_once { CountsAtMostOne (I.failed graph.old) (I.failed graph.new) }
+    ensures saved_once { CountsAtMostOne (S.failed saved.old) (S.failed saved.new) }
     ensures saved_unread { (saved.new ≡ saved.old)
         ⊎ (GoesPast Which.Graph result × AcceptsGraph (reading I.left graph.old graph.new)) }
 {
@@ -65,6 +67,7 @@ fn saved_from<S: Input>(alloc: Global, input: &mut S, graph: &Graph) -> Result<S
     ensures value { IfOk result (ReadsSaved (reading S.left input.old input.new) graph.now.nodes) }
     ensures refused { (fault : FaultAt) → result ≡ Err (RunFault.Saved fault) → IsSavedRefused (reading S.left input.old input.new) graph.now.nodes fault }
     ensures device { (result ≡ Err (RunFault.Device Which.Saved)) ↔ (S.failed input.old < S.failed input.new) }
+    ensures once { CountsAtMostOne (S.failed input.old) (S.failed input.new) }
     ensures of_input { IfErr result (IsOf Which.Saved) }
     ensures unchecked { (fault : FaultOf) → result ≡ Err (RunFault.Check fault) → ⊥ }
 {

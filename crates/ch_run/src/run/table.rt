@@ -2,7 +2,7 @@
 ghost use Rattle.std.specs.Prelude.{◌≡◌, ◌<◌, ◌↔◌, ◌⊎◌, IfOk, IfErr, IsErrAnd};
 ghost use Rattle.ch_read.specs.declared.fault.ReadFault.{ReadFault as FaultAt};
 ghost use Rattle.ch_contract.specs.Legs.{IsHopBound};
-ghost use Rattle.ch_run.specs.Device.{CanCountOneMore};
+ghost use Rattle.ch_run.specs.Device.{CanCountOneMore, CountsAtMostOne, CountsAtMostOneOf};
 ghost use Rattle.ch_run.specs.TableText.{IsTableText};
 ghost use Rattle.ch_run.specs.Lists.{AreLists};
 ghost use Rattle.ch_run.specs.Run.{AcceptsGraph, AcceptsLists, AcceptsSources, Delivers, GoesPast, HasCellsRefused, HasSourcesRefused, HasTargetsRefused, IsGraphRefused, IsOfTable, IsTabledBy, IsWrite, reading};
@@ -15,7 +15,7 @@ use crate::device::{Input, Output};
 use crate::fault::{RunFault, Which};
 use crate::options::Options;
 use crate::plan::{Gate, Plan};
-use ch_contract::build;
+use ch_contract::{OrderBy, build_by};
 use ch_graph::Graph;
 use std::alloc::{AllocError, Global};
 use std::thread::Threads;
@@ -70,6 +70,12 @@ pub fn run_table<R: Threads + Sync, I: Input, J: Input, L: Input, O: Output, G: 
     ensures targets_device { (result ≡ Err (RunFault.Device Which.Targets)) ↔ (L.failed targets.old < L.failed targets.new) }
     ensures output_device { IsErrAnd result IsWrite ↔ ((O.failed output.old < O.failed output.new) ⊎ (O.idle output.old < O.idle output.new)) }
 
+    // A read or a write that failed isn't tried again.
+    ensures graph_once { CountsAtMostOne (I.failed graph.old) (I.failed graph.new) }
+    ensures sources_once { CountsAtMostOne (J.failed sources.old) (J.failed sources.new) }
+    ensures targets_once { CountsAtMostOne (L.failed targets.old) (L.failed targets.new) }
+    ensures output_once { CountsAtMostOneOf (O.failed output.old) (O.failed output.new) (O.idle output.old) (O.idle output.new) }
+
     // Nothing is touched before all that comes earlier was accepted.
     ensures sources_unread { (sources.new ≡ sources.old)
         ⊎ (GoesPast Which.Graph result × AcceptsGraph (reading I.left graph.old graph.new)) }
@@ -100,6 +106,6 @@ fn table_of<R: Threads + Sync, G: Gate>(
     requires lists { AreLists graph.now.nodes lists.now.sources.items lists.now.targets.items }
     ensures { IfOk result (λ text. IsTableText graph.now options.now.within lists.now.sources.items lists.now.targets.items text.items) }
 {
-    let hierarchy = build(rt, alloc, graph, options.hops, plan, gate)?;
+    let hierarchy = build_by(rt, alloc, graph, options.hops, OrderBy::Depth, plan, gate)?;
     table_by(rt, alloc, &hierarchy, lists, options.within, plan, gate)
 }

@@ -1,8 +1,8 @@
 //! Runs that make tables by a saved hierarchy.
 ghost use Rattle.std.specs.Prelude.{◌≡◌, ◌<◌, ◌↔◌, ◌⊎◌, IfErr, IsErrAnd};
 ghost use Rattle.ch_read.specs.declared.fault.ReadFault.{ReadFault as FaultAt};
-ghost use Rattle.ch_contract.specs.declared.fault.CheckFault.{CheckFault as FaultOf};
-ghost use Rattle.ch_run.specs.Device.{CanCountOneMore};
+ghost use Rattle.ch_hierarchy.specs.declared.fault.CheckFault.{CheckFault as FaultOf};
+ghost use Rattle.ch_run.specs.Device.{CanCountOneMore, CountsAtMostOne, CountsAtMostOneOf};
 ghost use Rattle.ch_run.specs.Run.{AcceptsGraph, Delivers, GoesPast, IsGraphRefused, IsWrite, reading};
 ghost use Rattle.ch_run.specs.SavedRun.{AcceptsListsFrom, AcceptsSaved, AcceptsSourcesFrom, HasCellsRefusedFrom, HasCheckRefused, HasSavedRefused, HasSourcesRefusedFrom, HasTargetsRefusedFrom, IsOfTableSaved, IsTabledFrom};
 
@@ -80,6 +80,13 @@ pub fn run_table_saved<
     ensures sources_device { (result ≡ Err (RunFault.Device Which.Sources)) ↔ (J.failed sources.old < J.failed sources.new) }
     ensures targets_device { (result ≡ Err (RunFault.Device Which.Targets)) ↔ (L.failed targets.old < L.failed targets.new) }
     ensures output_device { IsErrAnd result IsWrite ↔ ((O.failed output.old < O.failed output.new) ⊎ (O.idle output.old < O.idle output.new)) }
+
+    // A read or a write that failed isn't tried again.
+    ensures graph_once { CountsAtMostOne (I.failed graph.old) (I.failed graph.new) }
+    ensures saved_once { CountsAtMostOne (S.failed saved.old) (S.failed saved.new) }
+    ensures sources_once { CountsAtMostOne (J.failed sources.old) (J.failed sources.new) }
+    ensures targets_once { CountsAtMostOne (L.failed targets.old) (L.failed targets.new) }
+    ensures output_once { CountsAtMostOneOf (O.failed output.old) (O.failed output.new) (O.idle output.old) (O.idle output.new) }
 
     // Nothing is touched before all that comes earlier was accepted.
     ensures saved_unread { (saved.new ≡ saved.old)

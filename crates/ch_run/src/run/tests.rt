@@ -2,7 +2,7 @@
 ghost use Rattle.ch_contract.specs.Legs.{IsHopBound};
 
 use crate::fault::RunFault;
-use crate::options::Options;
+use crate::options::{Options, OrderBy};
 use crate::plan::Plan;
 use ch_read::{FaultKind, ReadFault};
 use files::{Asked, Devices, Ended, Failing, Files, run_over};
@@ -27,6 +27,7 @@ const PLAIN: Options = Options {
     plain: true,
     routes: false,
     hops: 5,
+    order: OrderBy::Difference,
     within: None,
 };
 
@@ -34,6 +35,7 @@ const BY_HIERARCHY: Options = Options {
     plain: false,
     routes: false,
     hops: 5,
+    order: OrderBy::Difference,
     within: None,
 };
 
@@ -41,7 +43,13 @@ const WITH_ROUTES: Options = Options {
     plain: false,
     routes: true,
     hops: 5,
+    order: OrderBy::Difference,
     within: None,
+};
+
+const WITH_ROUTES_BY_DEPTH: Options = Options {
+    order: OrderBy::Depth,
+    ..WITH_ROUTES
 };
 
 /// The three-node graph, the queries there and back, and their answers, without routes and with them.

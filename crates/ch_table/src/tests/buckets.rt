@@ -3,7 +3,7 @@ ghost use Rattle.std.specs.Prelude.{◌≡◌, length};
 
 use super::{LINE, RING, from_zero, hierarchy};
 use crate::Buckets;
-use ch_contract::Hierarchy;
+use ch_hierarchy::Hierarchy;
 use std::alloc::Global;
 use std::process::Abort;
 use std::test::Fail;
@@ -51,7 +51,7 @@ fn expect_entries<R: Abort>(rt: &R, nodes: u32, buckets: &Buckets, rows: &[&[(u3
 #[test]
 fn buckets_of_a_ring(rt: HostRuntime) -> Result<(), Fail> {
     let alloc = rt.alloc();
-    let hierarchy = hierarchy(&rt, alloc, 5, RING)?;
+    let hierarchy = hierarchy(&rt, alloc, &RING)?;
     let first: &[(u32, u64)] = &[(0, 0), (1, 0)];
     let last: &[(u32, u64)] = &[(0, 4), (1, 4), (2, 0)];
     expect_buckets(
@@ -67,7 +67,7 @@ fn buckets_of_a_ring(rt: HostRuntime) -> Result<(), Fail> {
 #[test]
 fn buckets_of_a_line(rt: HostRuntime) -> Result<(), Fail> {
     let alloc = rt.alloc();
-    let hierarchy = hierarchy(&rt, alloc, 3, LINE)?;
+    let hierarchy = hierarchy(&rt, alloc, &LINE)?;
     let middle: &[(u32, u64)] = &[(1, 0)];
     let end: &[(u32, u64)] = &[(0, 0)];
     expect_buckets(&rt, alloc, &hierarchy, &[3, 2], None, &[&[], middle, end])
@@ -76,7 +76,7 @@ fn buckets_of_a_line(rt: HostRuntime) -> Result<(), Fail> {
 #[test]
 fn buckets_of_sources_on_a_line(rt: HostRuntime) -> Result<(), Fail> {
     let alloc = rt.alloc();
-    let hierarchy = hierarchy(&rt, alloc, 3, LINE)?;
+    let hierarchy = hierarchy(&rt, alloc, &LINE)?;
     let first: &[(u32, u64)] = &[(0, 0), (1, 0)];
     let middle: &[(u32, u64)] = &[(0, 4), (1, 4)];
     let end: &[(u32, u64)] = &[(0, 9), (1, 9), (2, 0)];
@@ -93,7 +93,7 @@ fn buckets_of_sources_on_a_line(rt: HostRuntime) -> Result<(), Fail> {
 #[test]
 fn buckets_of_a_ring_within_limits(rt: HostRuntime) -> Result<(), Fail> {
     let alloc = rt.alloc();
-    let hierarchy = hierarchy(&rt, alloc, 5, RING)?;
+    let hierarchy = hierarchy(&rt, alloc, &RING)?;
     let first: &[(u32, u64)] = &[(0, 0)];
     let far: &[(u32, u64)] = &[(0, 4), (1, 0)];
     let near: &[(u32, u64)] = &[(1, 0)];

@@ -1,5 +1,5 @@
 //! Worked tables within limits.
-use super::{Example, LINE, RING, expect};
+use super::{Example, LINE, RING, Roads, expect};
 use ch_graph::limits::MOST_WEIGHT;
 use std::test::Fail;
 
@@ -20,8 +20,7 @@ fn a_line_within_limits(rt: HostRuntime) -> Result<(), Fail> {
         (u64::MAX, far),
     ] {
         let example = Example {
-            nodes: 3,
-            arcs: LINE,
+            roads: LINE,
             sources: &[1, 1, 3],
             targets: &[3, 2],
             within: Some(within),
@@ -36,8 +35,11 @@ fn a_line_within_limits(rt: HostRuntime) -> Result<(), Fail> {
 #[test]
 fn no_weight_within_a_limit_of_none(rt: HostRuntime) -> Result<(), Fail> {
     let example = Example {
-        nodes: 3,
-        arcs: &[(1, 2, 0), (2, 3, 0), (1, 3, 0)],
+        roads: Roads {
+            arcs: &[(1, 2, 0), (2, 3, 0), (1, 3, 0)],
+            order: &[1, 2, 3],
+            legs: &[(1, 2, 0, 1, 0), (1, 3, 0, 1, 0), (2, 3, 0, 1, 0)],
+        },
         sources: &[1],
         targets: &[3],
         within: Some(0),
@@ -49,8 +51,7 @@ fn no_weight_within_a_limit_of_none(rt: HostRuntime) -> Result<(), Fail> {
 #[test]
 fn a_ring_within_a_limit(rt: HostRuntime) -> Result<(), Fail> {
     let example = Example {
-        nodes: 5,
-        arcs: RING,
+        roads: RING,
         sources: &[5],
         targets: &[4, 3],
         within: Some(3),

@@ -1,13 +1,13 @@
 //! What each node owes to the cells of a worked table.
 ghost use Rattle.std.specs.Prelude.{◌≡◌, ◌*◌, ◌<◌, ◌≤◌, length, All};
 ghost use Rattle.ch_graph.specs.declared.limits.TheConstants.{MOST_NODES};
-ghost use Rattle.ch_contract.specs.Hierarchy.{nodes_of};
+ghost use Rattle.ch_hierarchy.specs.Hierarchy.{nodes_of};
 ghost use Rattle.ch_query.specs.Distance.{IsKeptForSome};
 ghost use Rattle.ch_work.specs.declared.limits.TheConstants.{MOST_CELLS};
 
 use super::{LINE, from_zero, hierarchy};
 use crate::sums::Sums;
-use ch_contract::Hierarchy;
+use ch_hierarchy::Hierarchy;
 use ch_work::{Board, CellJob, Open, Plan};
 use std::alloc::{AllocError, Global};
 use std::test::Fail;
@@ -58,7 +58,7 @@ fn owed_at<R: Threads + Sync>(
 #[test]
 fn a_node_owes_the_sums_of_its_buckets(rt: HostRuntime) -> Result<(), Fail> {
     let alloc = rt.alloc();
-    let hierarchy = hierarchy(&rt, alloc, 3, LINE)?;
+    let hierarchy = hierarchy(&rt, alloc, &LINE)?;
     let sources = from_zero(&rt, alloc, &hierarchy, &[1, 1, 3])?;
     let targets = from_zero(&rt, alloc, &hierarchy, &[3, 2])?;
     let first = [None, None, None, None, None, None];

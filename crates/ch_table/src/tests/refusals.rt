@@ -1,55 +1,16 @@
 //! What calls answer where one request for memory is refused.
 ghost use Rattle.std.specs.Prelude.{◌<◌, ◌≤◌, length, All, IfOk};
-ghost use Rattle.ch_contract.specs.Hierarchy.{nodes_of};
+ghost use Rattle.ch_hierarchy.specs.Hierarchy.{nodes_of};
 ghost use Rattle.ch_query.specs.Distance.{IsKeptForSome};
 
-use super::{built, expect_rows, from_zero};
+use super::{LINE, expect_rows, from_zero, hierarchy};
 use crate::{Buckets, table};
-use ch_contract::Hierarchy;
-use ch_graph::{Graph, InArc};
+use ch_hierarchy::Hierarchy;
 use ch_work::{Open, Plan};
 use std::alloc::{AllocError, Global};
 use std::process::Abort;
 use std::test::Fail;
 use std::thread::Threads;
-
-/// What a call answers, or where it is refused the same call made again.
-macro_rules! again {
-    ($call:expr) => {
-        match $call {
-            Ok(value) => value,
-            Err(AllocError) => $call?,
-        }
-    };
-}
-
-/// A line of three nodes.
-fn line(alloc: Global) -> Result<Graph, Fail> {
-    let arcs = [
-        InArc {
-            from: 0,
-            to: 1,
-            weight: 4,
-        },
-        InArc {
-            from: 1,
-            to: 2,
-            weight: 5,
-        },
-    ];
-    Ok(Graph::new(3, again!(Vec::from_slice(alloc, &arcs)))?)
-}
-
-/// The hierarchy of the graph.
-fn contracted<R: Threads + Sync>(
-    rt: &R,
-    alloc: Global,
-    graph: &Graph,
-) -> Result<Hierarchy, AllocError>
-    ensures { IfOk result IsKeptForSome }
-{
-    Ok(again!(built(rt, alloc, graph)))
-}
 
 /// The nodes, counted from 0.
 fn listed<R: Abort>(
@@ -104,7 +65,7 @@ fn expect_table<R: Threads + Abort + Sync>(
 #[test]
 fn refused_in_turn(rt: HostRuntime) -> Result<(), Fail> {
     let alloc = rt.alloc();
-    let hierarchy = contracted(&rt, alloc, &line(alloc)?)?;
+    let hierarchy = hierarchy(&rt, alloc, &LINE)?;
     let sources = listed(&rt, alloc, &hierarchy, &[1, 3])?;
     let targets = listed(&rt, alloc, &hierarchy, &[3, 2])?;
     expect_bucket(&rt, alloc, &hierarchy, &sources)?;

@@ -6,8 +6,7 @@ use std::test::Fail;
 #[test]
 fn a_ring(rt: HostRuntime) -> Result<(), Fail> {
     let example = Example {
-        nodes: 5,
-        arcs: RING,
+        roads: RING,
         sources: &[5, 1],
         targets: &[4, 4, 5],
         within: None,
@@ -18,8 +17,7 @@ fn a_ring(rt: HostRuntime) -> Result<(), Fail> {
 
 /// The table of the line, with a source twice.
 const LINE_TWICE: Example = Example {
-    nodes: 3,
-    arcs: LINE,
+    roads: LINE,
     sources: &[1, 1, 3],
     targets: &[3, 2],
     within: None,
@@ -34,8 +32,7 @@ fn a_line_with_a_source_twice(rt: HostRuntime) -> Result<(), Fail> {
 #[test]
 fn no_sources(rt: HostRuntime) -> Result<(), Fail> {
     let example = Example {
-        nodes: 5,
-        arcs: RING,
+        roads: RING,
         sources: &[],
         targets: &[4, 5],
         within: None,
@@ -47,8 +44,7 @@ fn no_sources(rt: HostRuntime) -> Result<(), Fail> {
 #[test]
 fn no_targets(rt: HostRuntime) -> Result<(), Fail> {
     let example = Example {
-        nodes: 5,
-        arcs: RING,
+        roads: RING,
         sources: &[5, 1, 5],
         targets: &[],
         within: None,

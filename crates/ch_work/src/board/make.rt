@@ -4,7 +4,7 @@ ghost use Rattle.std.specs.Slots.{slots_items, slots_len, IsFull};
 ghost use Rattle.ch_work.specs.declared.limits.TheConstants.{MOST_WORKERS, MOST_CELLS};
 ghost use Rattle.ch_work.specs.Passes.{view_of, size_of, IsPassOf};
 ghost use Rattle.ch_work.specs.Rule.{none_yet, Settled, Sums, IsRead};
-ghost use Rattle.ch_work.specs.Steps.{fresh, both};
+ghost use Rattle.ch_work.specs.Steps.{nothing_known, both};
 
 use crate::board::known::{Known, Size};
 use crate::board::rule::{Enter, Rule, SplitOff, TakeIn};
@@ -28,7 +28,7 @@ impl Board {
         requires passes { (0 < passes) × (passes ≤ MOST_WORKERS) }
         ensures size { IfOk result (λ made. size_of made.0 ≡ record { pieces = pieces; cells = cells; passes = passes }) }
         ensures count { IfOk result (λ made. vec_len made.1 ≡ passes) }
-        ensures passes { IfOk result (λ made. All (λ pass. IsPassOf made.0 pass × (view_of pass ≡ fresh pieces 1)) made.1.items) }
+        ensures passes { IfOk result (λ made. All (λ pass. IsPassOf made.0 pass × (view_of pass ≡ nothing_known pieces 1)) made.1.items) }
     {
         let words = words_of(alloc, cells)?;
         let size = Size {
@@ -115,9 +115,9 @@ fn passes_of(
     passes: u32,
 ) -> Result<Vec<Pass>, AllocError>
     requires table { (root.table_id ≡ table.now.shared.table_id) × (0 < table.now.shared.table_id.words) }
-    requires root { root.me ≡ (fresh pieces passes, []) }
+    requires root { root.me ≡ (nothing_known pieces passes, []) }
     ensures count { IfOk result (λ all. vec_len all ≡ passes) }
-    ensures each { IfOk result (λ all. All (λ pass. (pass.seat.table_id ≡ table.now.shared.table_id) × (view_of pass ≡ fresh pieces 1)) all.items) }
+    ensures each { IfOk result (λ all. All (λ pass. (pass.seat.table_id ≡ table.now.shared.table_id) × (view_of pass ≡ nothing_known pieces 1)) all.items) }
 {
     let mut root = root;
     let mut all = Vec::with_capacity(alloc, passes as usize)?;
@@ -135,10 +135,10 @@ fn split_off(
     left: u32,
 ) -> Pass
     requires table { (root.old.table_id ≡ table.now.shared.table_id) × (0 < table.now.shared.table_id.words) }
-    requires root { (0 < left) × (root.old.me ≡ (fresh pieces left, [])) }
+    requires root { (0 < left) × (root.old.me ≡ (nothing_known pieces left, [])) }
     ensures table { root.new.table_id ≡ root.old.table_id }
-    ensures root { root.new.me ≡ (fresh pieces (left - 1), []) }
-    ensures pass { (result.seat.table_id ≡ root.old.table_id) × (view_of result ≡ fresh pieces 1) }
+    ensures root { root.new.me ≡ (nothing_known pieces (left - 1), []) }
+    ensures pass { (result.seat.table_id ≡ root.old.table_id) × (view_of result ≡ nothing_known pieces 1) }
 {
     let seat = table.shared.split_seat::<SplitOff>(root);
     Pass {

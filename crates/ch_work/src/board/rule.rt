@@ -1,6 +1,6 @@
 //! The rule of a board, and its steps. None of these types has a value.
 ghost use Rattle.ch_work.specs.Rule.{Kept};
-ghost use Rattle.ch_work.specs.Steps.{fresh, Claims, Offers, Looks, less_one, one_part, both, Enters};
+ghost use Rattle.ch_work.specs.Steps.{nothing_known, Claims, Offers, Looks, less_one, one_part, both, Enters};
 
 use crate::board::known::{Known, Size};
 use atomic_table::{Join, Play, Split, TableRule};
@@ -11,7 +11,7 @@ pub struct Rule;
 impl TableRule<(), Known, Size> for Rule {
     ghost holds = { Kept };
 
-    ghost first = { λ k. fresh k.pieces k.passes };
+    ghost first = { λ k. nothing_known k.pieces k.passes };
 }
 
 /// A pass claims the next number, or ends.
@@ -50,7 +50,7 @@ pub struct TakeIn;
 impl Join<Known> for TakeIn {
     ghost both = { both };
 
-    ghost spent = { fresh 0 0 };
+    ghost spent = { nothing_known 0 0 };
 }
 
 /// A pass that stands for none is made.

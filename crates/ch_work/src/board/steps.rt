@@ -3,7 +3,7 @@ ghost use Rattle.std.specs.Prelude.{None, ◌↔◌, ◌≡◌, ℕ, ◌<◌, �
 ghost use Rattle.ch_work.specs.declared.limits.TheConstants.{MOST_OFFER};
 ghost use Rattle.ch_work.specs.Counts.{times};
 ghost use Rattle.ch_work.specs.Passes.{view_of, size_of, IsPassOf, HasEnded};
-ghost use Rattle.ch_work.specs.Steps.{claimed, offered, looked, Knows};
+ghost use Rattle.ch_work.specs.Steps.{with_claim, with_offer, with_look, Knows};
 
 use crate::board::rule::{Claim, Look, Offer};
 use crate::board::{Board, Pass};
@@ -16,7 +16,7 @@ impl Board {
         ensures board { IsPassOf self.now pass.new }
         ensures ended { HasEnded pass.old → result ≡ None }
         ensures some { IfSome result (λ number. (number < (view_of pass.old).pieces)
-            × (view_of pass.new ≡ claimed (view_of pass.old) number)
+            × (view_of pass.new ≡ with_claim (view_of pass.old) number)
             × ((earlier : ℕ) → 0 < times earlier (view_of pass.old).claims → earlier < number)) }
         ensures none { IfNone result (HasEnded pass.new
             × ((view_of pass.new).claims ≡ (view_of pass.old).claims)
@@ -42,7 +42,7 @@ impl Board {
         requires weight { weight ≤ MOST_OFFER }
         ensures board { IsPassOf self.now pass.new }
         ensures ended { HasEnded pass.new ↔ HasEnded pass.old }
-        ensures view { view_of pass.new ≡ offered (view_of pass.old) cell weight }
+        ensures view { view_of pass.new ≡ with_offer (view_of pass.old) cell weight }
     {
         self.table
             .shared
@@ -56,7 +56,7 @@ impl Board {
         ensures board { IsPassOf self.now pass.new }
         ensures ended { HasEnded pass.new ↔ HasEnded pass.old }
         ensures some { IfSome result (λ weight. (weight ≤ MOST_OFFER)
-            × (view_of pass.new ≡ looked (view_of pass.old) cell weight)
+            × (view_of pass.new ≡ with_look (view_of pass.old) cell weight)
             × ((known : ℕ) → Knows (view_of pass.old) cell known → weight ≤ known)) }
         ensures none { IfNone result ((view_of pass.new ≡ view_of pass.old)
             × ((known : ℕ) → ¬ Knows (view_of pass.old) cell known)) }

@@ -2,7 +2,7 @@
 ghost use Rattle.std.specs.Prelude.{◌≡◌, ◌+◌, ◌<◌, ◌^◌, [], ◌∷◌, length, All, IfOk};
 ghost use Rattle.std.specs.List.{AllZip};
 
-use crate::{ListJob, Open, Plan, RoomJob, run_list, run_pieces_with_rooms, values_in_room};
+use crate::{ListJob, Open, Plan, RoomJob, run_list, run_list_in_room, run_pieces_with_rooms};
 use std::alloc::{AllocError, Global};
 use std::sync::atomic::{AtomicU64, Ordering};
 use std::test::Fail;
@@ -158,9 +158,10 @@ fn a_room_serves_several_lists(rt: HostRuntime) -> Result<(), Fail> {
     let alloc = rt.alloc();
     let job = Successors { step: 1 };
     let mut room = job.room(alloc)?;
-    let first = values_in_room(alloc, &[3, 0], &mut room, &job)?;
-    let second = values_in_room(alloc, &[9], &mut room, &job)?;
-    assert_eq!(rt; first.as_slice(), [4, 1].as_slice());
+    let plan = Plan::new(1, 2, 64);
+    let first = run_list_in_room(alloc, &[3, 0, 7], &plan, &Open, &mut room, &job)?;
+    let second = run_list_in_room(alloc, &[9], &plan, &Open, &mut room, &job)?;
+    assert_eq!(rt; first.as_slice(), [4, 1, 8].as_slice());
     assert_eq!(rt; second.as_slice(), [10].as_slice());
     Ok(())
 }

@@ -3,7 +3,7 @@
 ghost use Rattle.std.specs.Prelude.{◌≡◌, IfOk, codes, false, fold};
 ghost use Rattle.clap.specs.Words.{app_of, rule_of, with_rule};
 ghost use Rattle.clap.specs.declared.builder.command.Command.TheViews.{out-Command as fields_of};
-ghost use Rattle.chtab.specs.declared.line.Tool.TheVariants.{Dist, Save, Table};
+ghost use Rattle.ch_line.specs.declared.line.Tool.TheVariants.{Dist, Save, Table};
 ghost use Rattle.chtab.specs.Line.{chtab_form, file_rule, flag_rule, form_of, limit_rule, number_rule, number_rules, option_rule, saved_rule};
 
 use ch_run::{MOST_HOPS, MOST_WITHIN};
@@ -115,8 +115,8 @@ fn dist_command<'a>(alloc: Global) -> Result<Command<'a>, AllocError>
     let plain = flag(
         alloc,
         "plain",
-        "Answer by rounds of relaxation over all arcs, without a hierarchy, and ignore --routes, --saved, \
-        --workers, --piece and --hops [default: off]",
+        "Answer by rounds of relaxation over all arcs, without a hierarchy, and ignore --routes, --deep, \
+        --saved, --workers, --piece and --hops [default: off]",
     );
     let routes = flag(
         alloc,
@@ -124,11 +124,18 @@ fn dist_command<'a>(alloc: Global) -> Result<Command<'a>, AllocError>
         "After each distance, write `r K` and K lines `a U V W`, the arcs of a shortest path in order \
         [default: off]",
     );
+    let deep = flag(
+        alloc,
+        "deep",
+        "With --routes, build the hierarchy in the order of depth, which is quicker: of equally good routes \
+        another may be written. It changes nothing else [default: off]",
+    );
     let command = Command::new(alloc, "dist")
         .about("For each query, writes `d S T X`: X is the distance from S to T, or - for no path")
         .after_help("Example: chtab dist --routes roads.gr pairs.p2p")
         .arg(plain)?
         .arg(routes)?
+        .arg(deep)?
         .arg(saved(alloc))?;
     with_numbers(alloc, command)?.arg(graph(alloc))?.arg(file(
         alloc,
@@ -173,9 +180,16 @@ fn save_command<'a>(alloc: Global) -> Result<Command<'a>, AllocError>
     ensures form { IfOk result (λ c. app_of c ≡ form_of Save) }
     ensures local { IfOk result (λ c. (fields_of c).has_globals ≡ false) }
 {
+    let deep = flag(
+        alloc,
+        "deep",
+        "Build the hierarchy in the order of depth: that is quicker, and so are queries and tables by it; \
+        of equally good routes another may be told [default: off]",
+    );
     let command = Command::new(alloc, "save")
         .about("Writes the hierarchy of the graph, which `dist` and `table` read by --saved")
-        .after_help("Example: chtab save roads.gr >roads.ch");
+        .after_help("Example: chtab save --deep roads.gr >roads.ch")
+        .arg(deep)?;
     with_numbers(alloc, command)?.arg(graph(alloc))
 }
 
@@ -190,7 +204,7 @@ pub fn command<'a>(alloc: Global) -> Result<Command<'a>, AllocError>
             "See `chtab dist --help`, `chtab table --help` and `chtab save --help`. Examples:\n  \
             chtab dist --routes roads.gr pairs.p2p\n  \
             chtab table roads.gr depots.ss shops.ss\n  \
-            chtab save roads.gr >roads.ch",
+            chtab save --deep roads.gr >roads.ch",
         )
         .no_binary_name(true)
         .subcommand_required(true)

@@ -5,10 +5,11 @@ ghost use Rattle.std.specs.String.{string_bytes};
 ghost use Rattle.clap.specs.Words.{first_of, found_of, rows_of};
 ghost use Rattle.ch_run.specs.declared.options.TheConstants.{MOST_HOPS, MOST_WITHIN};
 ghost use Rattle.ch_work.specs.Plan.{IsWithinLimits};
-ghost use Rattle.chtab.specs.Line.{AreFlagsIn, IsAllowed, IsFlagIn, IsGivenBy, IsPlanIn, file_names, files_in, number_in};
+ghost use Rattle.ch_line.specs.Line.{IsAllowed, file_names};
+ghost use Rattle.chtab.specs.Line.{AreFlagsIn, IsFlagIn, IsGivenBy, IsPlanIn, files_in, is_deep, number_in};
 
 use super::{Line, Tool};
-use ch_run::{MOST_HOPS, MOST_WITHIN, Options, Plan};
+use ch_run::{MOST_HOPS, MOST_WITHIN, Options, OrderBy, Plan};
 use ch_work::limits::{MOST_PIECE, MOST_WORKERS};
 use clap::ArgMatches;
 use std::alloc::{AllocError, Global};
@@ -97,7 +98,18 @@ fn plan_of(matches: &ArgMatches<'_>) -> Result<Plan, AllocError>
     Ok(Plan::new(workers, piece, WIDE))
 }
 
-/// The options of a tool. `dist` alone has flags.
+/// The order of contraction that is asked for.
+fn order_of(deep: bool) -> OrderBy
+    ensures { is_deep result ≡ deep }
+{
+    if deep {
+        OrderBy::Depth
+    } else {
+        OrderBy::Difference
+    }
+}
+
+/// The options of a tool. `dist` and `save` alone have flags.
 fn options_of(tool: Tool, matches: &ArgMatches<'_>) -> Result<Options, AllocError>
     ensures range { IfOk result (λ options. (1 ≤ options.hops) × (options.hops ≤ MOST_HOPS)) }
     ensures hops { IfOk result (λ options. Some options.hops ≡ number_in (rows_of (found_of matches.now)) (codes "hops")) }
@@ -109,10 +121,15 @@ fn options_of(tool: Tool, matches: &ArgMatches<'_>) -> Result<Options, AllocErro
         Tool::Dist => (flag_of(matches, "plain"), flag_of(matches, "routes")),
         Tool::Table | Tool::Save => (false, false),
     };
+    let order = match tool {
+        Tool::Dist | Tool::Save => order_of(flag_of(matches, "deep")),
+        Tool::Table => OrderBy::Difference,
+    };
     Ok(Options {
         plain,
         routes,
         hops: number_of(matches, "hops", MOST_HOPS)?,
+        order,
         within: limit_given(matches, "within", MOST_WITHIN)?,
     })
 }

@@ -1,6 +1,7 @@
-ghost use Rattle.chtab.specs.Line.{IsAllowed};
+ghost use Rattle.ch_line.specs.Line.{IsAllowed};
 
 use super::*;
+use ch_run::{Options, OrderBy, Plan};
 use std::process::Abort;
 
 mod refusals;
@@ -10,6 +11,7 @@ const NONE_GIVEN: Options = Options {
     plain: false,
     routes: false,
     hops: 5,
+    order: OrderBy::Difference,
     within: None,
 };
 
@@ -61,6 +63,7 @@ fn flags_and_files_stand_in_any_order(rt: HostRuntime) {
 const EVERY_OPTION: &[&str] = &[
     "dist",
     "--routes",
+    "--deep",
     "--saved",
     "h",
     "--workers",
@@ -84,6 +87,7 @@ fn expect_every_option<R: Abort>(rt: &R, line: &Line)
     let options = Options {
         routes: true,
         hops: 16,
+        order: OrderBy::Depth,
         ..NONE_GIVEN
     };
     assert_eq!(rt; line.options, options);
@@ -186,9 +190,15 @@ fn a_saved_hierarchy_is_named(rt: HostRuntime) {
 }
 
 #[test]
-fn save_reads_a_graph_and_the_numbers(rt: HostRuntime) {
-    let rows: [(&[&str], u32, Plan); 2] = [
-        (&["save", "g"], 5, Plan::new(1, 64, 64)),
+fn save_reads_a_graph_the_order_and_the_numbers(rt: HostRuntime) {
+    let rows: [(&[&str], OrderBy, u32, Plan); 3] = [
+        (&["save", "g"], OrderBy::Difference, 5, Plan::new(1, 64, 64)),
+        (
+            &["save", "g", "--deep"],
+            OrderBy::Depth,
+            5,
+            Plan::new(1, 64, 64),
+        ),
         (
             &[
                 "save",
@@ -200,16 +210,21 @@ fn save_reads_a_graph_and_the_numbers(rt: HostRuntime) {
                 "--hops",
                 "16",
             ],
+            OrderBy::Difference,
             16,
             Plan::new(64, 1, 64),
         ),
     ];
-    for (words, hops, plan) in rows {
+    for (words, order, hops, plan) in rows {
         let line = read_words(rt.alloc(), words).expect(&rt, "a line");
         assert_eq!(rt; line.tool, Tool::Save);
         assert_eq!(rt; line.files.len(), 1);
         assert_eq!(rt; line.files[0].as_str(), "g");
-        let options = Options { hops, ..NONE_GIVEN };
+        let options = Options {
+            hops,
+            order,
+            ..NONE_GIVEN
+        };
         assert_eq!(rt; line.options, options);
         assert_eq!(rt; line.plan, plan);
         assert!(rt; line.saved.is_none());

@@ -5,7 +5,7 @@ use Rattle.std.proofs.lemmas.List.{length-replicate}
 use Rattle.std.proofs.lemmas.List.FromFn.{length-range_with_len}
 use Rattle.ch_graph.specs.declared.limits.TheConstants.{MOST_NODES}
 use Rattle.ch_contract.specs.Priorities.{AreRefreshed}
-use Rattle.ch_contract.specs.Remaining.{legs_of}
+use Rattle.ch_contract.specs.Measures.{IsPriorityIn}
 use Rattle.ch_contract.proofs.code.KeptPriorities.{numbers_below, all_refreshed}
 use Rattle.ch_contract.proofs.priority.opening_queue.Goals as goal
 
@@ -28,8 +28,8 @@ set_all-requires-clause-nodes g c = within _ _ _ _ c.as_slice-2.ensures.value c.
 pub returns : goal.returns
 returns g c =
     let n = c.args.remaining.now.nodes in
-    let L = legs_of c.args.remaining.now in
+    let P = IsPriorityIn c.args.by c.args.remaining.now c.args.hops c.args.depths.now in
     let numbers = c.as_slice-2.ensures.value ∙ (c.in_ok-nodes.ensures ∙ ap (range_with_len 0) c.nodes.ensures.nodes) in
     let size : length c.in_ok-waiting.waiting ≡ n = ap length c.in_ok-waiting.ensures ∙ length-replicate _ None ∙ c.nodes-2.ensures.nodes in
-    all_refreshed n c.args.hops L c.in_ok-waiting.waiting c.set_all.new.waiting size
-    (subst (λ (l : List ℕ). AreRefreshed n c.args.hops L l c.in_ok-waiting.waiting c.set_all.new.waiting) numbers c.set_all.ensures)
+    all_refreshed P n c.in_ok-waiting.waiting c.set_all.new.waiting size
+    (subst (λ (l : List ℕ). AreRefreshed P l c.in_ok-waiting.waiting c.set_all.new.waiting) numbers c.set_all.ensures)

@@ -1,7 +1,7 @@
 use Rattle.std.proofs.Common.{refl}
 use Rattle.std.specs.Prelude.{Ok}
-use Rattle.ch_contract.proofs.theory.SavedFaults.{checks_value, checks_refused}
-use Rattle.ch_query.proofs.Checked.{accepted_by}
+use Rattle.ch_hierarchy.proofs.theory.SavedFaults.{checks_value, checks_refused}
+use Rattle.ch_query.proofs.faults.Checked.{accepted_by}
 use Rattle.ch_query.proofs.checking.check.Goals as goal
 
 pub returns-in_err-hierarchy-clause-accepted : goal.returns-in_err-hierarchy-clause-accepted

@@ -1,8 +1,8 @@
 use Rattle.std.proofs.Common.{Contains, All, ◌∙◌, ap, subst}
 use Rattle.ch_graph.specs.Saved.{OrderAndLegs}
-use Rattle.ch_contract.specs.Assembling.{IsFirstFailing}
+use Rattle.ch_hierarchy.specs.Assembling.{IsFirstFailing}
 use Rattle.ch_query.specs.Checking.{IsArcIfBase, IsSumIfShortcut, IsServed}
-use Rattle.ch_query.proofs.Checked.{starts_within, base_first, middle_first, arc_first, lower_first, all_kept}
+use Rattle.ch_query.proofs.faults.Checked.{starts_within, base_first, middle_first, arc_first, lower_first, all_kept}
 use Rattle.ch_query.proofs.checking.first_late_fault.Goals as goal
 
 pub first_without_arc-requires : goal.first_without_arc-requires

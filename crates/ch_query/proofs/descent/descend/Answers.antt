@@ -1,5 +1,5 @@
 use Rattle.std.proofs.Common.{◌∙◌, refl, ap, ◌++◌, ◌∷◌, []}
-use Rattle.ch_query.proofs.DescentSteps.{tracing_starts, tracing_ends, parent_within, parent_has, parent_lower, room_for_leg, tracing_step}
+use Rattle.ch_query.proofs.routing.DescentSteps.{tracing_starts, tracing_ends, parent_within, parent_has, parent_lower, room_for_leg, tracing_step}
 use Rattle.ch_query.proofs.descent.descend.Goals as goal
 
 pub loop-node-init : goal.loop-node-init

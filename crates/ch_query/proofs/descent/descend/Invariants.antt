@@ -1,7 +1,7 @@
 use Rattle.std.specs.Prelude.{◌≡◌, slice_index, vec_capacity}
 use Rattle.ch_graph.specs.declared.cost.Cost.{Cost}
 use Rattle.ch_query.specs.Descents.{HasReached}
-use Rattle.ch_query.proofs.DescentSteps.{IsPartlyTraced}
+use Rattle.ch_query.proofs.routing.DescentSteps.{IsPartlyTraced}
 use Rattle.ch_query.proofs.descent.descend.Given as goal
 
 abbrev pub invariant-loop-node : goal.invariant-loop-node

@@ -1,6 +1,6 @@
 use Rattle.std.proofs.Common.{refl}
 use Rattle.ch_query.specs.Checking.{IsSumIfShortcut}
-use Rattle.ch_query.proofs.FirstFailing.{read_more, first_failing}
+use Rattle.ch_query.proofs.faults.FirstFailing.{read_more, first_failing}
 use Rattle.ch_query.proofs.founding.first_false_shortcut.Goals as goal
 
 pub returns-then-not-is_sum_if_shortcut : goal.returns-then-not-is_sum_if_shortcut

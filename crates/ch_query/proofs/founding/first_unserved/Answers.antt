@@ -1,7 +1,7 @@
 use Rattle.std.proofs.Common.{refl}
 use Rattle.std.proofs.lemmas.List.Elements.{Contains-get_or}
 use Rattle.ch_query.specs.Checking.{IsServed}
-use Rattle.ch_query.proofs.FirstFailing.{read_more, first_failing}
+use Rattle.ch_query.proofs.faults.FirstFailing.{read_more, first_failing}
 use Rattle.ch_query.proofs.founding.first_unserved.Goals as goal
 
 pub is_served-requires-clause-from : goal.is_served-requires-clause-from

@@ -1,7 +1,7 @@
 use Rattle.std.proofs.Common.{refl}
 use Rattle.std.proofs.lemmas.List.Elements.{Contains-get_or}
 use Rattle.ch_query.specs.Checking.{IsArcIfBase}
-use Rattle.ch_query.proofs.FirstFailing.{read_more, first_failing}
+use Rattle.ch_query.proofs.faults.FirstFailing.{read_more, first_failing}
 use Rattle.ch_query.proofs.founding.first_without_arc.Goals as goal
 
 pub is_arc_if_base-requires : goal.is_arc_if_base-requires

@@ -1,4 +1,4 @@
-use Rattle.ch_query.proofs.ArcRows.{base_arc}
+use Rattle.ch_query.proofs.faults.ArcRows.{base_arc}
 use Rattle.ch_query.proofs.founding.is_arc_if_base.Goals as goal
 
 pub returns-then-leg-eq1 : goal.returns-then-leg-eq1

@@ -1,4 +1,4 @@
-use Rattle.ch_query.proofs.RouteWalks.{route_one}
+use Rattle.ch_query.proofs.routing.RouteWalks.{route_one}
 use Rattle.ch_query.proofs.laws.one_route.Goals as goal
 
 pub returns : goal.returns

@@ -1,4 +1,4 @@
-use Rattle.ch_query.proofs.RouteWalks.{route_least_walk}
+use Rattle.ch_query.proofs.routing.RouteWalks.{route_least_walk}
 use Rattle.ch_query.proofs.laws.routes_are_least_walks.Goals as goal
 
 pub returns : goal.returns

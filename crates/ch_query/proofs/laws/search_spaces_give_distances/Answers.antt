@@ -1,4 +1,4 @@
-use Rattle.ch_query.proofs.SharedSums.{spaces_give_distance}
+use Rattle.ch_query.proofs.two_sides.SharedSums.{spaces_give_distance}
 use Rattle.ch_query.proofs.laws.search_spaces_give_distances.Goals as goal
 
 pub returns : goal.returns

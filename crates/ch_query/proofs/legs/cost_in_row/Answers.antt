@@ -1,7 +1,7 @@
 use Rattle.std.proofs.Common.{rules, refl}
 use Rattle.std.proofs.lemmas.List.Sorted.{answers_always}
-use Rattle.ch_contract.proofs.theory.RowLemmas.{no_leg}
-use Rattle.ch_query.proofs.RowSearch.{found_leg, not_missed}
+use Rattle.ch_hierarchy.proofs.theory.NoLeg.{no_leg}
+use Rattle.ch_query.proofs.routing.RowSearch.{found_leg, not_missed}
 use Rattle.ch_query.proofs.legs.cost_in_row.Goals as goal
 
 pub returns-in-Ok : goal.returns-in-Ok

@@ -1,7 +1,7 @@
 use Rattle.std.proofs.Common.{subst}
 use Rattle.std.proofs.lemmas.Bool.{false≢true}
 use Rattle.ch_query.specs.Checking.{IsLegCost}
-use Rattle.ch_query.proofs.LegCosts.{within_some, within_none}
+use Rattle.ch_query.proofs.faults.LegCosts.{within_some, within_none}
 use Rattle.ch_query.proofs.legs.is_leg_within.Goals as goal
 
 pub returns-in-Some : goal.returns-in-Some

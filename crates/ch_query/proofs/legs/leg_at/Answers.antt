@@ -1,6 +1,6 @@
 use Rattle.std.proofs.Common.{rules}
 use Rattle.std.proofs.lemmas.List.Sorted.{answers_always}
-use Rattle.ch_query.proofs.RowSearch.{found_leg, not_missed}
+use Rattle.ch_query.proofs.routing.RowSearch.{found_leg, not_missed}
 use Rattle.ch_query.proofs.legs.leg_at.Goals as goal
 
 pub unreachable-requires : goal.unreachable-requires

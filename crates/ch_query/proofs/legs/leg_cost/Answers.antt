@@ -1,8 +1,8 @@
 use Rattle.std.proofs.Common.{arith, subst}
-use Rattle.ch_contract.specs.Rows.{IsRow}
+use Rattle.ch_hierarchy.specs.Rows.{IsRow}
 use Rattle.ch_query.specs.declared.side.Side.TheVariants.{Up, Down}
-use Rattle.ch_query.proofs.LegCosts.{cost_up, cost_down}
-use Rattle.ch_query.proofs.Rows.{rows_ordered}
+use Rattle.ch_query.proofs.faults.LegCosts.{cost_up, cost_down}
+use Rattle.ch_query.proofs.routing.Rows.{rows_ordered}
 use Rattle.std.proofs.Common.{sym}
 use Rattle.ch_query.proofs.legs.leg_cost.Goals as goal
 

@@ -1,5 +1,5 @@
 use Rattle.std.proofs.Common.{◌≡◌, ℕ, ◌<◌}
-use Rattle.ch_contract.specs.Kept.{IsCovered}
+use Rattle.ch_hierarchy.specs.Kept.{IsCovered}
 use Rattle.ch_query.proofs.lower.first_uncovered.Given as goal
 
 abbrev pub invariant-loop-node : goal.invariant-loop-node

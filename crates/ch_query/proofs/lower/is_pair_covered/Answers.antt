@@ -1,5 +1,5 @@
 use Rattle.std.proofs.Common.{refl}
-use Rattle.ch_query.proofs.Pairs.{leg_covers}
+use Rattle.ch_query.proofs.faults.Pairs.{leg_covers}
 use Rattle.ch_query.proofs.lower.is_pair_covered.Goals as goal
 
 pub returns-then-is_leg_within-clause-covered : goal.returns-then-is_leg_within-clause-covered

@@ -1,6 +1,6 @@
 use Rattle.std.proofs.Common.{arith}
-use Rattle.ch_query.proofs.Popping.{least_key, pop_expands, pop_falls}
-use Rattle.ch_query.proofs.MeetingSteps.{known_arcs, met_then}
+use Rattle.ch_query.proofs.one_side.Popping.{least_key, pop_expands, pop_falls}
+use Rattle.ch_query.proofs.two_sides.MeetingSteps.{known_arcs, met_then}
 use Rattle.ch_query.proofs.meeting.advance.Goals as goal
 
 pub met-requires-clause-cost : goal.met-requires-clause-cost

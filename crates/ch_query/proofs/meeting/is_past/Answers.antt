@@ -1,5 +1,5 @@
-use Rattle.ch_query.proofs.PathLaws.{below_then}
-use Rattle.ch_query.proofs.Popping.{least_key}
+use Rattle.ch_query.proofs.one_side.PathLaws.{below_then}
+use Rattle.ch_query.proofs.one_side.Popping.{least_key}
 use Rattle.ch_query.proofs.meeting.is_past.Goals as goal
 
 pub returns-in-Some-Some : goal.returns-in-Some-Some

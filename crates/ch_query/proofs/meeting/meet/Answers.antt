@@ -1,5 +1,5 @@
 use Rattle.std.proofs.Common.{◌∙◌}
-use Rattle.ch_query.proofs.LeastMeeting.{meeting_between}
+use Rattle.ch_query.proofs.two_sides.LeastMeeting.{meeting_between}
 use Rattle.ch_query.proofs.meeting.meet.Goals as goal
 
 pub returns-clause-least : goal.returns-clause-least

@@ -1,6 +1,6 @@
 use Rattle.std.proofs.Common.{◌≡◌, ◌+◌}
 use Rattle.ch_query.specs.declared.side.Side.TheVariants.{Up, Down}
-use Rattle.ch_query.specs.Underway.{unsettled_in}
+use Rattle.ch_query.specs.Underway.{count_unsettled_in}
 use Rattle.ch_query.specs.Meeting.{AreMeeting}
 use Rattle.ch_query.proofs.meeting.meet.Given as goal
 
@@ -12,4 +12,4 @@ invariant-loop l = record {
 }
 
 abbrev pub decreases-loop : goal.decreases-loop
-decreases-loop l = unsettled_in l.up + unsettled_in l.down
+decreases-loop l = count_unsettled_in l.up + count_unsettled_in l.down

@@ -1,4 +1,4 @@
-use Rattle.ch_query.proofs.MeetingSteps.{both_arcs}
+use Rattle.ch_query.proofs.two_sides.MeetingSteps.{both_arcs}
 use Rattle.ch_query.proofs.meeting.met.Goals as goal
 
 pub plus-requires-clause-arcs : goal.plus-requires-clause-arcs

@@ -1,4 +1,4 @@
-use Rattle.ch_query.proofs.MeetingSteps.{swapped}
+use Rattle.ch_query.proofs.two_sides.MeetingSteps.{swapped}
 use Rattle.ch_query.proofs.meeting.step.Goals as goal
 
 pub advance-falling-requires : goal.advance-falling-requires

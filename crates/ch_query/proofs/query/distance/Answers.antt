@@ -1,6 +1,6 @@
 use Rattle.std.proofs.Common.{Some, None, sym, subst}
 use Rattle.ch_query.specs.Distance.{IsDistanceBy}
-use Rattle.ch_query.proofs.Distances.{least_weight, weight_is_distance}
+use Rattle.ch_query.proofs.two_sides.Distances.{least_weight, weight_is_distance}
 use Rattle.ch_query.proofs.query.distance.Goals as goal
 
 pub returns-clause-distance : goal.returns-clause-distance

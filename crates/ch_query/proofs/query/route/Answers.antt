@@ -1,8 +1,8 @@
 use Rattle.std.proofs.Common.{◌<◌, length, sym, subst}
 use Rattle.std.specs.Prelude.{IfOk, MatchOption, ⊤}
-use Rattle.ch_contract.specs.Hierarchy.{nodes_of}
+use Rattle.ch_hierarchy.specs.Hierarchy.{nodes_of}
 use Rattle.ch_query.specs.Routes.{IsRouteBy}
-use Rattle.ch_query.proofs.RouteAnswers.{never_walks, found_walks, found_few}
+use Rattle.ch_query.proofs.routing.RouteAnswers.{never_walks, found_walks, found_few}
 use Rattle.ch_query.proofs.query.route.Goals.{in-Some, in-None}
 use Rattle.ch_query.proofs.query.route.Goals as goal
 

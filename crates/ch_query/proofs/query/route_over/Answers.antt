@@ -1,7 +1,7 @@
 use Rattle.std.proofs.Common.{refl, subst}
 use Rattle.ch_query.specs.Descents.{IsTraced}
-use Rattle.ch_query.proofs.RouteArcs.{route_found}
-use Rattle.ch_query.proofs.RouteAnswers.{room_down, room_up, all_pending, room_for_all}
+use Rattle.ch_query.proofs.routing.RouteArcs.{route_found}
+use Rattle.ch_query.proofs.routing.RouteAnswers.{room_down, room_up, all_pending, room_for_all}
 use Rattle.ch_query.proofs.query.route_over.Goals as goal
 
 pub descend-requires-clause-reached : goal.descend-requires-clause-reached

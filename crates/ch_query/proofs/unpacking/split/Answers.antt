@@ -1,4 +1,4 @@
-use Rattle.ch_query.proofs.PendingLegs.{middle_within, first_has, second_has}
+use Rattle.ch_query.proofs.routing.PendingLegs.{middle_within, first_has, second_has}
 use Rattle.ch_query.proofs.unpacking.split.Goals as goal
 
 pub down-requires : goal.down-requires

@@ -1,4 +1,4 @@
-use Rattle.ch_query.proofs.UnpackingSteps.{unpacking_ends, room_for_two, room_for_arc, arc_step, arc_less, split_step, split_less}
+use Rattle.ch_query.proofs.routing.UnpackingSteps.{unpacking_ends, room_for_two, room_for_arc, arc_step, arc_less, split_step, split_less}
 use Rattle.ch_query.proofs.unpacking.unpack.Goals as goal
 
 pub split-requires-clause-room : goal.split-requires-clause-room

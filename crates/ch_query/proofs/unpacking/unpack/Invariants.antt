@@ -1,5 +1,5 @@
-use Rattle.ch_query.proofs.PendingLegs.{unpackings}
-use Rattle.ch_query.proofs.UnpackingSteps.{IsPartlyUnpacked}
+use Rattle.ch_query.proofs.routing.PendingLegs.{unpackings}
+use Rattle.ch_query.proofs.routing.UnpackingSteps.{IsPartlyUnpacked}
 use Rattle.ch_query.proofs.unpacking.unpack.Given as goal
 
 abbrev pub invariant-loop-leg : goal.invariant-loop-leg

@@ -1,6 +1,6 @@
 use Rattle.std.proofs.Common.{◌≡◌, ◌≤◌, ap, arith, length, get_or, refl}
 use Rattle.ch_graph.specs.declared.limits.TheConstants.{MOST_NODES}
-use Rattle.ch_contract.specs.Rows.{row}
+use Rattle.ch_hierarchy.specs.Rows.{row}
 use Rattle.ch_run.proofs.Saving.{counted, row_short}
 use Rattle.ch_run.proofs.save_text.count_legs.Goals as goal
 

@@ -1,6 +1,6 @@
 use Rattle.std.proofs.Common.{◌≡◌, ◌≤◌, ◌*◌, take, length, flat_map}
 use Rattle.ch_graph.specs.declared.limits.TheConstants.{MOST_NODES}
-use Rattle.ch_run.specs.SaveText.{legs_at}
+use Rattle.ch_hierarchy.specs.Written.{legs_at}
 use Rattle.ch_run.proofs.save_text.count_legs.Given as goal
 
 abbrev pub invariant-loop-node : goal.invariant-loop-node

@@ -1,5 +1,6 @@
 use Rattle.std.proofs.Common.{◌++◌, ap, sym, ◌∙◌}
-use Rattle.ch_run.specs.SaveText.{leg_down, leg_text}
+use Rattle.ch_hierarchy.specs.Written.{leg_down}
+use Rattle.ch_run.specs.SaveText.{leg_text}
 use Rattle.ch_run.proofs.Texts.{all_grown}
 use Rattle.ch_run.proofs.Saving.{text_of_turned}
 use Rattle.ch_run.proofs.save_text.push_downs.Goals as goal

@@ -1,5 +1,6 @@
 use Rattle.std.proofs.Common.{◌≡◌, ◌++◌, take, flat_map}
-use Rattle.ch_run.specs.SaveText.{leg_down, leg_text}
+use Rattle.ch_hierarchy.specs.Written.{leg_down}
+use Rattle.ch_run.specs.SaveText.{leg_text}
 use Rattle.ch_run.proofs.save_text.push_downs.Given as goal
 
 abbrev pub invariant-loop-leg : goal.invariant-loop-leg

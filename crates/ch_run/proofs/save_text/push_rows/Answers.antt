@@ -1,5 +1,6 @@
 use Rattle.std.proofs.Common.{◌++◌, flat_map, ap, sym, ◌∙◌}
-use Rattle.ch_run.specs.SaveText.{leg_text, legs_at}
+use Rattle.ch_hierarchy.specs.Written.{legs_at}
+use Rattle.ch_run.specs.SaveText.{leg_text}
 use Rattle.ch_run.proofs.Texts.{all_grown}
 use Rattle.ch_run.proofs.Saving.{text_of_each}
 use Rattle.ch_run.proofs.save_text.push_rows.Goals as goal

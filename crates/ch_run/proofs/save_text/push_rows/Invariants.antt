@@ -1,5 +1,6 @@
 use Rattle.std.proofs.Common.{◌≡◌, ◌++◌, take, flat_map}
-use Rattle.ch_run.specs.SaveText.{leg_text, legs_at}
+use Rattle.ch_hierarchy.specs.Written.{legs_at}
+use Rattle.ch_run.specs.SaveText.{leg_text}
 use Rattle.ch_run.proofs.save_text.push_rows.Given as goal
 
 abbrev pub invariant-loop-node : goal.invariant-loop-node

@@ -1,5 +1,6 @@
 use Rattle.std.proofs.Common.{◌≡◌, ◌++◌, take, flat_map}
-use Rattle.ch_run.specs.SaveText.{leg_up, leg_text}
+use Rattle.ch_hierarchy.specs.Written.{leg_up}
+use Rattle.ch_run.specs.SaveText.{leg_text}
 use Rattle.ch_run.proofs.save_text.push_ups.Given as goal
 
 abbrev pub invariant-loop-leg : goal.invariant-loop-leg

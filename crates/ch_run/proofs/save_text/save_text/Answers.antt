@@ -1,6 +1,6 @@
 use Rattle.std.proofs.Common.{◌≡◌, ◌∙◌, arith, length, flat_map}
 use Rattle.std.specs.Prelude.{vec_len}
-use Rattle.ch_run.specs.SaveText.{legs_at}
+use Rattle.ch_hierarchy.specs.Written.{legs_at}
 use Rattle.ch_run.proofs.Saving.{all_nodes, whole_text}
 use Rattle.ch_run.proofs.save_text.save_text.Goals as goal
 

@@ -2,9 +2,9 @@
 
 use super::{
     ACROSS, ANSWERS, Files, LINE, PLAIN, RING, ROUTES, STAR, STAR_ROUTE, THERE_AND_BACK,
-    WITH_ROUTES, expect_text,
+    WITH_ROUTES, WITH_ROUTES_BY_DEPTH, expect_text,
 };
-use crate::options::Options;
+use crate::options::{Options, OrderBy};
 use std::test::Fail;
 
 /// Graphs, queries, and the texts of their answers with routes.
@@ -63,6 +63,23 @@ fn a_route_follows_each_distance(rt: HostRuntime) -> Result<(), Fail> {
     Ok(())
 }
 
+/// Two routes from 2 to 4 are equally good, and each order takes another.
+#[test]
+fn the_order_decides_among_equally_good_routes(rt: HostRuntime) -> Result<(), Fail> {
+    let files = Files::answers(
+        b"p sp 4 6\na 1 4 1\na 2 1 1\na 2 3 1\na 3 2 1\na 3 4 1\na 4 3 1\n",
+        b"p aux sp p2p 1\nq 2 4\n",
+    );
+    let texts: [(&Options, &[u8]); 2] = [
+        (&WITH_ROUTES, b"d 2 4 2\nr 2\na 2 1 1\na 1 4 1\n"),
+        (&WITH_ROUTES_BY_DEPTH, b"d 2 4 2\nr 2\na 2 3 1\na 3 4 1\n"),
+    ];
+    for (options, text) in texts {
+        expect_text(&rt, rt.alloc(), files, options, text)?;
+    }
+    Ok(())
+}
+
 #[test]
 fn no_bound_on_hops_changes_an_answer(rt: HostRuntime) -> Result<(), Fail> {
     let cases: [(bool, &[u8]); 2] = [
@@ -79,6 +96,7 @@ fn no_bound_on_hops_changes_an_answer(rt: HostRuntime) -> Result<(), Fail> {
                 plain: false,
                 routes,
                 hops,
+                order: OrderBy::Difference,
                 within: None,
             };
             expect_text(&rt, rt.alloc(), files, &options, text)?;

@@ -2,8 +2,8 @@
 
 use super::{
     ACROSS, ANSWERS, BY_HIERARCHY, Files, LINE, LINE_SAVED, PLAIN, RING, ROUTES, SOURCES, STAR,
-    STAR_SAVED, TABLE, TARGETS, THERE_AND_BACK, WITH_ROUTES, expect_fault, expect_text, refused,
-    run,
+    STAR_SAVED, TABLE, TARGETS, THERE_AND_BACK, WITH_ROUTES, WITH_ROUTES_BY_DEPTH, expect_fault,
+    expect_text, refused, run,
 };
 use crate::fault::RunFault;
 use crate::plan::Plan;
@@ -58,6 +58,45 @@ fn a_hierarchy_is_saved_and_gives_the_same_texts(rt: HostRuntime) -> Result<(), 
             assert_eq!(rt; result, Ok(()));
             expect_text(&rt, alloc, built.by(saved), options, output.bytes())?;
         }
+    }
+    Ok(())
+}
+
+/// The same for hierarchies in the order of depth.
+const SAVED_BY_DEPTH: [(&[u8], &[u8], &[u8]); 3] = [
+    (
+        LINE,
+        THERE_AND_BACK,
+        b"p ch 3 2\no 1\no 3\no 2\nl 1 2 4 1 0\nl 2 3 5 1 0\n",
+    ),
+    (
+        STAR,
+        ACROSS,
+        b"p ch 4 6\no 2\no 3\no 4\no 1\nl 2 1 1 1 0\nl 1 2 1 1 0\nl 3 1 1 1 0\nl 1 3 1 1 0\nl 4 1 1 1 0\nl 1 4 1 1 0\n",
+    ),
+    (
+        RING,
+        b"p aux sp p2p 4\nq 5 4\nq 1 5\nq 3 2\nq 2 2\n",
+        b"p ch 5 8\no 1\no 3\no 2\no 4\no 5\nl 1 2 1 1 0\nl 5 1 1 1 0\nl 3 4 1 1 0\nl 2 3 1 1 0\nl 2 4 2 2 3\nl 5 2 2 2 1\nl 4 5 1 1 0\nl 5 4 4 4 2\n",
+    ),
+];
+
+#[test]
+fn a_hierarchy_by_depth_is_saved_and_gives_the_same_texts(rt: HostRuntime) -> Result<(), Fail> {
+    let alloc = rt.alloc();
+    let plan = Plan::new(1, 64, 64);
+    for (graph, queries, saved) in SAVED_BY_DEPTH {
+        expect_text(
+            &rt,
+            alloc,
+            Files::hierarchy(graph),
+            &WITH_ROUTES_BY_DEPTH,
+            saved,
+        )?;
+        let built = Files::answers(graph, queries);
+        let (result, output) = run(&rt, alloc, built, &WITH_ROUTES_BY_DEPTH, &plan)?;
+        assert_eq!(rt; result, Ok(()));
+        expect_text(&rt, alloc, built.by(saved), &WITH_ROUTES, output.bytes())?;
     }
     Ok(())
 }

@@ -1,6 +1,6 @@
 //! Workers: no plan changes a byte, two pieces are under way at once, and runs go by the pieces of their layers.
 ghost use Rattle.std.specs.Prelude.{◌≡◌, IfOk};
-ghost use Rattle.ch_contract.specs.Hierarchy.{nodes_of};
+ghost use Rattle.ch_hierarchy.specs.Hierarchy.{nodes_of};
 ghost use Rattle.ch_contract.specs.Legs.{IsHopBound};
 ghost use Rattle.ch_query.specs.Distance.{IsKeptForSome};
 

@@ -1,5 +1,5 @@
 use Rattle.std.proofs.Common.{◌≡◌}
-use Rattle.ch_contract.specs.Hierarchy.{nodes_of}
+use Rattle.ch_hierarchy.specs.Hierarchy.{nodes_of}
 use Rattle.ch_query.specs.Side.{rows_of}
 use Rattle.ch_table.specs.Entries.{AreEntries}
 use Rattle.ch_table.proofs.buckets.entries.Given as goal

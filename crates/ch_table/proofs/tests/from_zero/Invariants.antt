@@ -1,6 +1,6 @@
 use Rattle.std.proofs.Common.{◌≡◌, ◌<◌, length}
 use Rattle.std.specs.Prelude.{All}
-use Rattle.ch_contract.specs.Hierarchy.{nodes_of}
+use Rattle.ch_hierarchy.specs.Hierarchy.{nodes_of}
 use Rattle.ch_table.proofs.tests.from_zero.Given as goal
 
 abbrev pub invariant-loop-node : goal.invariant-loop-node

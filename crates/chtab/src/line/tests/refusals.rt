@@ -1,5 +1,7 @@
 //! Words that are no line: help, and refusals.
 use super::*;
+use std::alloc::Global;
+use std::process::Abort;
 use std::test::Fail;
 
 fn is_refused(rt: &HostRuntime, words: &[&str], part: &str) -> bool {
@@ -48,7 +50,7 @@ fn limits_outside_their_range_are_refused(rt: HostRuntime) {
 }
 
 /// Words that are no line, and part of what is told of them.
-const OTHERS: [(&[&str], &str); 26] = [
+const OTHERS: [(&[&str], &str); 27] = [
     (&[], "requires a subcommand"),
     (&["help"], "unrecognized subcommand 'help'"),
     (&["tables", "g", "s", "t"], "unrecognized subcommand"),
@@ -65,6 +67,10 @@ const OTHERS: [(&[&str], &str); 26] = [
     (
         &["table", "--routes", "g", "s", "t"],
         "unexpected argument '--routes'",
+    ),
+    (
+        &["table", "--deep", "g", "s", "t"],
+        "unexpected argument '--deep'",
     ),
     (&["dist", "g", "q", "--hops"], "a value is required"),
     (
@@ -125,7 +131,7 @@ const HELPS: [(&[&str], &[&str]); 4] = [
             "chtab dist --routes roads.gr pairs.p2p",
             "save",
             "chtab table roads.gr depots.ss shops.ss",
-            "chtab save roads.gr >roads.ch",
+            "chtab save --deep roads.gr >roads.ch",
         ],
     ),
     (
@@ -133,9 +139,11 @@ const HELPS: [(&[&str], &[&str]); 4] = [
         &[
             "Usage: chtab dist [OPTIONS] <GRAPH> <QUERIES>",
             "--plain",
-            "ignore --routes, --saved, --workers, --piece and --hops [default: off]",
+            "ignore --routes, --deep, --saved, --workers, --piece and --hops [default: off]",
             "--routes",
             "in order [default: off]",
+            "--deep",
+            "It changes nothing else [default: off]",
             "--saved <FILE>",
             "ignore --hops: `chtab save` or any other program wrote it",
             "p ch N L",
@@ -167,10 +175,12 @@ const HELPS: [(&[&str], &[&str]); 4] = [
         &["save", "--help"],
         &[
             "Usage: chtab save [OPTIONS] <GRAPH>",
+            "--deep",
+            "another may be told [default: off]",
             "--workers <N>",
             "--piece <K>",
             "--hops <H>",
-            "Example: chtab save roads.gr >roads.ch",
+            "Example: chtab save --deep roads.gr >roads.ch",
         ],
     ),
 ];
@@ -178,12 +188,16 @@ const HELPS: [(&[&str], &[&str]); 4] = [
 #[test]
 fn help_says_what_each_word_means(rt: HostRuntime) {
     for (words, parts) in HELPS {
-        let answer = read_words(rt.alloc(), words);
-        for part in parts {
-            let is_told =
-                matches!(&answer, Err(LineFault::Help(text)) if text.as_str().contains(part));
-            assert!(rt; is_told, "{part}");
-        }
+        expect_help(&rt, rt.alloc(), words, parts);
+    }
+}
+
+/// Expects that these words ask for help, and that each of the parts stands in it.
+fn expect_help<R: Abort>(rt: &R, alloc: Global, words: &[&str], parts: &[&str]) {
+    let answer = read_words(alloc, words);
+    for part in parts {
+        let is_told = matches!(&answer, Err(LineFault::Help(text)) if text.as_str().contains(part));
+        assert!(rt; is_told, "{part}");
     }
 }
 

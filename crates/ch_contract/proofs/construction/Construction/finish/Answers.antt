@@ -1,6 +1,6 @@
 use Rattle.std.proofs.Common.{◌≡◌, ◌<◌, ℕ, List, All, refl, sym, subst}
 use Rattle.ch_graph.specs.Rows.{AreRowsOf}
-use Rattle.ch_contract.specs.declared.leg.Leg.{Leg}
+use Rattle.ch_hierarchy.specs.declared.leg.Leg.{Leg}
 use Rattle.ch_contract.proofs.code.ConstructionCalls.{all_rows}
 use Rattle.ch_contract.proofs.construction.Construction.finish.Goals as goal
 

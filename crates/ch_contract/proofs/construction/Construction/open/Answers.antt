@@ -1,7 +1,10 @@
-use Rattle.std.proofs.Common.{rules, ◌≡◌, [], refl}
+use Rattle.std.proofs.Common.{rules, ◌≡◌, ◌∙◌, ℕ, List, [], refl, ap, subst}
+use Rattle.std.specs.Prelude.{slice_index}
+use Rattle.ch_contract.specs.Measures.{IsPriorityIn}
+use Rattle.ch_contract.specs.Priorities.{ArePriorities}
 use Rattle.ch_contract.specs.Remaining.{legs_of}
 use Rattle.ch_contract.specs.declared.construction.Construction.{Construction}
-use Rattle.ch_contract.proofs.code.ConstructionCalls.{opened}
+use Rattle.ch_contract.proofs.code.ConstructionCalls.{opened, zeros}
 use Rattle.ch_contract.proofs.construction.Construction.open.Goals as goal
 
 pub returns-clause-begun : goal.returns-clause-begun
@@ -12,12 +15,14 @@ returns-clause-begun g c =
       remaining = c.in_ok-remaining.remaining;
       room = c.new-room.result;
       waiting = c.in_ok-waiting.waiting;
+      depths = c.in_ok-depths.depths;
       levels = c.in_ok-levels.levels;
       ups = c.new.result;
       downs = c.new-2.result;
       contracted = 0;
     } in
-    opened _ _ first c.in_ok-remaining.ensures.legs c.in_ok-remaining.ensures.nodes c.nodes-nodes.ensures.limits c.in_ok-waiting.ensures ups downs refl
+    let priorities = subst (λ (d : List ℕ). ArePriorities (IsPriorityIn c.args.by c.in_ok-remaining.remaining c.args.hops d) c.in_ok-remaining.remaining.nodes c.in_ok-waiting.waiting) c.as_slice.ensures.value c.in_ok-waiting.ensures in
+    opened c.args.by c.args.graph.now c.args.hops first c.in_ok-remaining.ensures.legs c.in_ok-remaining.ensures.nodes c.nodes-nodes.ensures.limits priorities (λ x. ap (λ (l : List ℕ). slice_index l x) (c.in_ok-depths.ensures.items_if_clones_equal (λ y p. p)) ∙ zeros c.nodes-nodes.result x) ups downs refl
 
 pub returns-clause-ready : goal.returns-clause-ready
 returns-clause-ready g c = c.new-room.ensures c.in_ok-remaining.remaining.nodes c.args.hops (legs_of c.in_ok-remaining.remaining)

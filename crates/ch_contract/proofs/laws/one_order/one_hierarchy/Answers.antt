@@ -2,4 +2,4 @@ use Rattle.ch_contract.proofs.theory.OneOrder.{one_hierarchy}
 use Rattle.ch_contract.proofs.laws.one_order.one_hierarchy.Goals as goal
 
 pub returns : goal.returns
-returns c g h H K p q = one_hierarchy g h H K p q
+returns c by g h H K p q = one_hierarchy by g h H K p q

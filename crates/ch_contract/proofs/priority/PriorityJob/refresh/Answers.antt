@@ -1,5 +1,5 @@
 use Rattle.std.proofs.Common.{◌<◌, ◌≤◌, length, arith}
-use Rattle.ch_contract.specs.Remaining.{legs_of}
+use Rattle.ch_contract.specs.Measures.{IsPriorityIn}
 use Rattle.ch_contract.proofs.code.KeptPriorities.{refreshed_range}
 use Rattle.ch_contract.proofs.priority.PriorityJob.refresh.Goals as goal
 
@@ -16,6 +16,6 @@ loop-from-preserved g c =
     let le : c.loop-from.from ≤ c.min-to.result = omega arith in (
       omega (arith, i.0, past),
       inside,
-      refreshed_range job.remaining.now.nodes job.hops (legs_of job.remaining.now) c.args.nodes.now c.loop-from.from c.min-to.result _ _ _ le i.2 c.in_ok-refresh_here.ensures.anew,
+      refreshed_range (IsPriorityIn job.by job.remaining.now job.hops job.depths.now) c.args.nodes.now c.loop-from.from c.min-to.result _ _ _ le i.2 c.in_ok-refresh_here.ensures.anew,
       c.in_ok-refresh_here.ensures.ready,
     )

@@ -2,13 +2,14 @@ use Rattle.std.proofs.Common.{◌≤◌, ◌-◌, length, take}
 use Rattle.ch_contract.specs.Rooms.{IsReady}
 use Rattle.ch_contract.specs.Remaining.{legs_of}
 use Rattle.ch_contract.specs.Priorities.{AreRefreshed}
+use Rattle.ch_contract.specs.Measures.{IsPriorityIn}
 use Rattle.ch_contract.proofs.priority.PriorityJob.refresh.Given as goal
 
 abbrev pub invariant-loop-from : goal.invariant-loop-from
 invariant-loop-from g l =
     (l.number ≤ l.from)
     × (l.from ≤ length l.nodes)
-    × AreRefreshed l.self.remaining.now.nodes l.self.hops (legs_of l.self.remaining.now) (take l.from l.nodes) l.fn.waiting l.waiting
+    × AreRefreshed (IsPriorityIn l.self.by l.self.remaining.now l.self.hops l.self.depths.now) (take l.from l.nodes) l.fn.waiting l.waiting
     × IsReady l.self.remaining.now.nodes l.self.hops (legs_of l.self.remaining.now) l.room
 
 abbrev pub decreases-loop-from : goal.decreases-loop-from

@@ -1,15 +1,15 @@
 use Rattle.std.proofs.Common.{◌<◌, length, List, All, sym, ◌∙◌, ap, subst}
 use Rattle.std.proofs.lemmas.List.{length-set}
-use Rattle.ch_contract.specs.declared.head.TheConstants.{MOST_LIGHT}
-use Rattle.ch_contract.specs.declared.leg.Leg.{Leg}
+use Rattle.ch_contract.specs.declared.held_cost.TheConstants.{MOST_LIGHT}
+use Rattle.ch_hierarchy.specs.declared.leg.Leg.{Leg}
 use Rattle.ch_contract.specs.declared.shortcut.Shortcut.{Shortcut}
 use Rattle.ch_contract.specs.Legs.{SameLegs}
-use Rattle.ch_contract.specs.Contraction.{AreShortcuts, contracted}
-use Rattle.ch_contract.specs.Rows.{AreLegsFrom, AreLegsTo}
+use Rattle.ch_contract.specs.Contraction.{AreShortcuts, legs_after_contraction}
+use Rattle.ch_contract.specs.LegRows.{AreLegsFrom, AreLegsTo}
 use Rattle.ch_contract.specs.LegLists.{HaveAll, IsWithinLimits, legs_from}
 use Rattle.ch_contract.specs.Remaining.{RemainingLegs, legs_of}
 use Rattle.ch_contract.proofs.code.ClearedLists.{outs_at, ins_at, outs_within, ins_within, from_within, to_within, contraction_leaves}
-use Rattle.ch_contract.proofs.code.Lines.{from_rows, to_rows}
+use Rattle.ch_contract.proofs.code.Candidates.{from_rows, to_rows}
 use Rattle.ch_contract.proofs.code.LightLegs.{contracted_light}
 use Rattle.ch_contract.proofs.remaining.Remaining.contract_with.Goals.{In_ok-down, In_ok-put_shortcuts, then-light, else-light}
 use Rattle.ch_contract.proofs.remaining.Remaining.contract_with.Goals as goal
@@ -52,7 +52,7 @@ put_shortcuts-requires-clause-to c =
     subst (λ n. All (λ (s : Shortcut). s.to < n) c.args.shortcuts.now) (sym size) (to_within c.self.inside.nodes c.self.inside.outs c.self.inside.ins c.self.invariant.0 c.args.v _ c.args.shortcuts.now are)
 
 -- both sides keep the limits, and have the legs after the contraction
-left : (c : In_ok-put_shortcuts) → IsWithinLimits c.self.inside.nodes c.put_shortcuts.new.outs c.put_shortcuts.new.ins × SameLegs (legs_from c.put_shortcuts.new.outs) (contracted (legs_from c.self.inside.outs) c.args.v c.args.shortcuts.now)
+left : (c : In_ok-put_shortcuts) → IsWithinLimits c.self.inside.nodes c.put_shortcuts.new.outs c.put_shortcuts.new.ins × SameLegs (legs_from c.put_shortcuts.new.outs) (legs_after_contraction (legs_from c.self.inside.outs) c.args.v c.args.shortcuts.now)
 unfolding legs_of
 left c =
     let are = subst (λ (m : RemainingLegs). AreShortcuts m.nodes c.requires.shortcuts.0 (legs_of m) c.args.v c.args.shortcuts.now) (sym c.self.view_is) c.requires.shortcuts.1 in
@@ -73,7 +73,7 @@ invariant_of-remaining c =
 
 pub returns-clause-legs : goal.returns-clause-legs
 unfolding legs_of
-returns-clause-legs c = subst (λ (m : RemainingLegs). SameLegs (legs_from c.put_shortcuts.new.outs) (contracted (legs_of m) c.args.v c.args.shortcuts.now)) c.self.view_is (left (goal.at.returns-clause-legs c).In_ok-put_shortcuts).1
+returns-clause-legs c = subst (λ (m : RemainingLegs). SameLegs (legs_from c.put_shortcuts.new.outs) (legs_after_contraction (legs_of m) c.args.v c.args.shortcuts.now)) c.self.view_is (left (goal.at.returns-clause-legs c).In_ok-put_shortcuts).1
 
 pub returns-clause-up : goal.returns-clause-up
 unfolding legs_of

@@ -1,6 +1,7 @@
 use Rattle.std.proofs.Common.{◌+◌, get_or}
 use Rattle.ch_contract.specs.Remaining.{legs_of}
-use Rattle.ch_contract.proofs.theory.RowLemmas.{leg_to_at, no_leg}
+use Rattle.ch_contract.proofs.theory.RowLemmas.{leg_to_at}
+use Rattle.ch_hierarchy.proofs.theory.NoLeg.{no_leg}
 use Rattle.ch_contract.proofs.code.ShortcutLemmas.{boundary_next, before_next_down, before_end_down}
 use Rattle.ch_contract.proofs.remaining.Remaining.fill_shortcuts.Goals as goal
 

@@ -1,5 +1,5 @@
 use Rattle.std.proofs.Common.{ℕ}
-use Rattle.ch_contract.specs.Heads.{IsClean, known_of}
+use Rattle.ch_contract.specs.KnownCosts.{IsClean, known_of}
 use Rattle.ch_contract.specs.Remaining.{legs_of}
 use Rattle.ch_contract.specs.ShortcutLists.{AreShortcutsBefore}
 use Rattle.ch_contract.proofs.code.ShortcutLemmas.{IsBoundary}
@@ -7,4 +7,4 @@ use Rattle.ch_contract.proofs.remaining.Remaining.fill_shortcuts.Given as goal
 
 -- the list has the shortcuts before some boundary between the legs that were taken and the others, and the room is clean
 abbrev pub invariant-loop-first : goal.invariant-loop-first
-invariant-loop-first g l = ((a : ℕ) × IsBoundary l.first-items l.first-index a × AreShortcutsBefore l.self.nodes l.hops (legs_of l.self) l.v a 0 l.list.items) × IsClean l.self.nodes (known_of g.K.Head.cost l.search.heads)
+invariant-loop-first g l = ((a : ℕ) × IsBoundary l.first-items l.first-index a × AreShortcutsBefore l.self.nodes l.hops (legs_of l.self) l.v a 0 l.list.items) × IsClean l.self.nodes (known_of g.K.HeldCost.cost l.search.known)

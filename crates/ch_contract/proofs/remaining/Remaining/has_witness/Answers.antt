@@ -1,5 +1,5 @@
 use Rattle.ch_contract.specs.Remaining.{legs_of}
-use Rattle.ch_contract.proofs.code.Lines.{capped_witness}
+use Rattle.ch_contract.proofs.code.Candidates.{capped_witness}
 use Rattle.ch_contract.proofs.remaining.Remaining.has_witness.Goals as goal
 
 pub returns : goal.returns

@@ -1,6 +1,6 @@
 use Rattle.std.proofs.Common.{subst}
-use Rattle.ch_contract.specs.declared.head.TheConstants.{MOST_LIGHT}
-use Rattle.ch_contract.specs.Heads.{AreLegsUpTo}
+use Rattle.ch_contract.specs.declared.held_cost.TheConstants.{MOST_LIGHT}
+use Rattle.ch_contract.specs.KnownCosts.{AreLegsUpTo}
 use Rattle.ch_contract.specs.Remaining.{RemainingLegs, legs_of}
 use Rattle.ch_contract.proofs.remaining.Remaining.is_light.Goals as goal
 

@@ -3,12 +3,12 @@ use Rattle.std.specs.Prelude.{IsTrue, ◌↔◌}
 use Rattle.std.proofs.lemmas.List.{length-map}
 use Rattle.ch_graph.specs.declared.limits.TheConstants.{MOST_HOPS}
 use Rattle.ch_contract.specs.Legs.{HasWitness}
-use Rattle.ch_contract.specs.Heads.{AreLegsUpTo, known_of}
+use Rattle.ch_contract.specs.KnownCosts.{AreLegsUpTo, known_of}
 use Rattle.ch_contract.specs.Meeting.{AreListsWithin}
-use Rattle.ch_contract.specs.Lines.{IsKnown}
+use Rattle.ch_contract.specs.Candidates.{IsKnown}
 use Rattle.ch_contract.specs.Remaining.{RemainingLegs, legs_of}
 use Rattle.ch_contract.specs.LegLists.{legs_from}
-use Rattle.ch_contract.proofs.code.Lines.{ins_light, heads_small, met_witness}
+use Rattle.ch_contract.proofs.code.Candidates.{ins_light, known_small, met_witness}
 use Rattle.ch_contract.proofs.remaining.Remaining.is_witnessed.Goals as goal
 
 pub meets-requires : goal.meets-requires
@@ -18,15 +18,15 @@ meets-requires g c =
     let outs = c.self.inside.outs in
     let ins = c.self.inside.ins in
     let nodes = ap (λ (m : RemainingLegs). m.nodes) c.self.view_is in
-    let known = subst (λ (m : RemainingLegs). IsKnown m c.args.wanted c.args.hops (known_of g.K.Head.cost c.args.search.now.heads)) (sym c.self.view_is) c.requires.known in
+    let known = subst (λ (m : RemainingLegs). IsKnown m c.args.wanted c.args.hops (known_of g.K.HeldCost.cost c.args.search.now.known)) (sym c.self.view_is) c.requires.known in
     let count = c.self.invariant.0.sizes.1 in
     let few : c.args.hops - 2 ≤ MOST_HOPS = omega (arith, c.requires.hops) in
-    let light = subst (λ (m : RemainingLegs). AreLegsUpTo g.K.Head.limit (legs_of m)) (sym c.self.view_is) c.requires.light in
+    let light = subst (λ (m : RemainingLegs). AreLegsUpTo g.K.HeldCost.limit (legs_of m)) (sym c.self.view_is) c.requires.light in
     record {
       start = omega (arith, c.requires.node);
-      size = sym (length-map c.args.search.now.heads.costs.items g.K.Head.cost) ∙ known.size ∙ sym count;
-      limits = subst (λ n. AreListsWithin g.K.Head.limit n ins) (sym count) (ins_light n outs ins c.self.invariant.0 g.K.Head.limit light);
-      small = heads_small n outs ins c.self.invariant.0 g.K.Head.limit c.args.wanted (c.args.hops - 2) (known_of g.K.Head.cost c.args.search.now.heads) few (omega (arith, c.requires.end)) c.requires.most known.heads;
+      size = sym (length-map c.args.search.now.known.costs.items g.K.HeldCost.cost) ∙ known.size ∙ sym count;
+      limits = subst (λ n. AreListsWithin g.K.HeldCost.limit n ins) (sym count) (ins_light n outs ins c.self.invariant.0 g.K.HeldCost.limit light);
+      small = known_small n outs ins c.self.invariant.0 g.K.HeldCost.limit c.args.wanted (c.args.hops - 2) (known_of g.K.HeldCost.cost c.args.search.now.known) few (omega (arith, c.requires.end)) c.requires.most known.least;
       most = c.requires.cost.0;
     }
 
@@ -36,8 +36,8 @@ returns g c =
     let n = c.self.inside.nodes in
     let outs = c.self.inside.outs in
     let ins = c.self.inside.ins in
-    let known = subst (λ (m : RemainingLegs). IsKnown m c.args.wanted c.args.hops (known_of g.K.Head.cost c.args.search.now.heads)) (sym c.self.view_is) c.requires.known in
+    let known = subst (λ (m : RemainingLegs). IsKnown m c.args.wanted c.args.hops (known_of g.K.HeldCost.cost c.args.search.now.known)) (sym c.self.view_is) c.requires.known in
     let held = c.requires.cost.0 in
-    let met = met_witness n outs ins c.self.invariant.0 c.args.wanted c.args.hops (known_of g.K.Head.cost c.args.search.now.heads) c.args.w c.args.cost known.heads (held.weight, omega (arith, held.arcs)) c.requires.cost.1 c.requires.hops.0 c.requires.apart.0 c.requires.apart.1 in
+    let met = met_witness n outs ins c.self.invariant.0 c.args.wanted c.args.hops (known_of g.K.HeldCost.cost c.args.search.now.known) c.args.w c.args.cost known.least (held.weight, omega (arith, held.arcs)) c.requires.cost.1 c.requires.hops.0 c.requires.apart.0 c.requires.apart.1 in
     subst (λ (m : RemainingLegs). IsTrue c.meets.result ↔ HasWitness (legs_from m.rows) c.args.wanted.avoided c.args.wanted.end c.args.w c.args.cost c.args.hops) c.self.view_is
     ((λ t. met.0 (c.meets.ensures.0 t)), λ w. c.meets.ensures.1 (met.1 w))

@@ -1,7 +1,7 @@
 use Rattle.std.proofs.Common.{◌≤◌, sym, subst}
 use Rattle.std.specs.Prelude.{filter, All}
 use Rattle.std.proofs.Common.{◌+◌, take}
-use Rattle.ch_contract.specs.declared.head.TheConstants.{MOST_LIGHT}
+use Rattle.ch_contract.specs.declared.held_cost.TheConstants.{MOST_LIGHT}
 use Rattle.ch_contract.specs.Remaining.{legs_of}
 use Rattle.ch_contract.specs.LegLists.{legs_from}
 use Rattle.ch_contract.proofs.theory.Opening.{joins}

@@ -1,8 +1,8 @@
 use Rattle.std.proofs.Common.{sym, subst}
-use Rattle.ch_contract.specs.Rows.{AreLegsFrom}
+use Rattle.ch_contract.specs.LegRows.{AreLegsFrom}
 use Rattle.ch_contract.specs.Remaining.{legs_of}
 use Rattle.ch_contract.specs.LegLists.{legs_from}
-use Rattle.ch_contract.proofs.code.Lines.{from_rows}
+use Rattle.ch_contract.proofs.code.Candidates.{from_rows}
 use Rattle.ch_contract.proofs.remaining.Remaining.out_legs.Goals as goal
 
 pub returns : goal.returns

@@ -1,11 +1,12 @@
-use Rattle.ch_contract.specs.Lines.{IsCandidate}
+use Rattle.ch_contract.specs.Candidates.{IsCandidate}
 use Rattle.std.proofs.Common.{◌≤◌, arith, All, ◌+◌, get_or, sym, ◌∙◌, ap, subst}
 use Rattle.ch_graph.specs.declared.limits.TheConstants.{MOST_NODES}
 use Rattle.ch_contract.specs.Remaining.{legs_of}
 use Rattle.ch_contract.specs.ShortcutLists.{AreShortcutsBefore}
-use Rattle.ch_contract.proofs.theory.RowLemmas.{leg_from_at, no_leg}
+use Rattle.ch_contract.proofs.theory.RowLemmas.{leg_from_at}
+use Rattle.ch_hierarchy.proofs.theory.NoLeg.{no_leg}
 use Rattle.ch_contract.proofs.code.ShortcutLemmas.{boundary_next, before_next_up, before_end_up, before_push, before_skip}
-use Rattle.ch_contract.proofs.code.Lines.{up_light, bound_held, before_no_candidate}
+use Rattle.ch_contract.proofs.code.Candidates.{up_light, bound_held, before_no_candidate}
 use Rattle.ch_contract.proofs.remaining.Remaining.push_shortcuts.Goals.{in-Some-shortcut+in_ok-push, in_default-shortcut}
 use Rattle.ch_contract.proofs.remaining.Remaining.push_shortcuts.Goals as goal
 
@@ -51,9 +52,9 @@ returns-in_default-clause-list g c =
 pub reach-requires-clause-most : goal.reach-requires-clause-most
 reach-requires-clause-most g c =
     let small : c.nodes-nodes.result ≤ MOST_NODES = omega (arith, c.nodes-nodes.ensures.nodes, c.nodes-nodes.ensures.count) in
-    bound_held g.K.Head.limit c.nodes-nodes.result c.args.v (legs_of c.args.self.now) c.args.first c.args.up.now c.in-Some.most small c.requires.light c.requires.first c.requires.up c.in-Some.ensures
+    bound_held g.K.HeldCost.limit c.nodes-nodes.result c.args.v (legs_of c.args.self.now) c.args.first c.args.up.now c.in-Some.most small c.requires.light c.requires.first c.requires.up c.in-Some.ensures
 
 pub shortcut-requires-clause-held : goal.shortcut-requires-clause-held
 shortcut-requires-clause-held g c =
     let small : c.nodes-nodes.result ≤ MOST_NODES = omega (arith, c.nodes-nodes.ensures.nodes, c.nodes-nodes.ensures.count) in
-    bound_held g.K.Head.limit c.nodes-nodes.result c.args.v (legs_of c.args.self.now) c.args.first c.args.up.now c.in-Some.most small c.requires.light c.requires.first c.requires.up c.in-Some.ensures
+    bound_held g.K.HeldCost.limit c.nodes-nodes.result c.args.v (legs_of c.args.self.now) c.args.first c.args.up.now c.in-Some.most small c.requires.light c.requires.first c.requires.up c.in-Some.ensures

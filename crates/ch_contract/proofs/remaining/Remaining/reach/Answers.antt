@@ -2,11 +2,11 @@ use Rattle.std.proofs.Common.{◌≤◌, ◌<◌, sym, subst, arith, ap, ◌∙�
 use Rattle.std.specs.Prelude.{OnOk}
 use Rattle.ch_graph.specs.declared.limits.TheConstants.{MOST_NODES}
 use Rattle.ch_contract.specs.Legs.{AreLegsWithin}
-use Rattle.ch_contract.specs.Heads.{IsClean, AreLegsUpTo, known_of}
+use Rattle.ch_contract.specs.KnownCosts.{IsClean, AreLegsUpTo, known_of}
 use Rattle.ch_contract.specs.LegLists.{legs_into}
-use Rattle.ch_contract.specs.Lines.{IsKnown}
+use Rattle.ch_contract.specs.Candidates.{IsKnown}
 use Rattle.ch_contract.specs.Remaining.{RemainingLegs, legs_of}
-use Rattle.ch_contract.proofs.code.Lines.{into_within, known_after}
+use Rattle.ch_contract.proofs.code.Candidates.{into_within, known_after}
 use Rattle.ch_contract.proofs.code.LightLegs.{turned_light}
 use Rattle.ch_contract.proofs.remaining.Remaining.reach.Goals as goal
 
@@ -19,10 +19,10 @@ reach-requires g c =
     let count = c.self.invariant.0.sizes.0 in
     let nodes = ap (λ (m : RemainingLegs). m.nodes) c.self.view_is in
     record {
-      clean = subst (λ n. IsClean n (known_of g.K.Head.cost c.args.search.now.heads)) (sym (count ∙ nodes)) c.requires.clean;
+      clean = subst (λ n. IsClean n (known_of g.K.HeldCost.cost c.args.search.now.known)) (sym (count ∙ nodes)) c.requires.clean;
       rows = c.self.invariant.0.rows.0;
       limits = subst (λ n. AreLegsWithin n (legs_into outs)) (sym count) (into_within n outs ins c.self.invariant.0);
-      light = turned_light g.K.Head.limit outs (subst (λ (m : RemainingLegs). AreLegsUpTo g.K.Head.limit (legs_of m)) (sym c.self.view_is) c.requires.light);
+      light = turned_light g.K.HeldCost.limit outs (subst (λ (m : RemainingLegs). AreLegsUpTo g.K.HeldCost.limit (legs_of m)) (sym c.self.view_is) c.requires.light);
       nodes = subst (λ n. n ≤ MOST_NODES) (sym count) c.self.invariant.0.nodes;
       end = (subst (λ n. c.args.wanted.end < n) (sym (count ∙ nodes)) c.requires.end.0, c.requires.end.1);
       most = c.requires.most;
@@ -35,7 +35,7 @@ returns g c =
     let outs = c.self.inside.outs in
     let ins = c.self.inside.ins in
     record {
-      known = subst (λ (m : RemainingLegs). OnOk c.reach.result (IsKnown m c.args.wanted c.args.hops (known_of g.K.Head.cost c.reach.new.self.heads))) c.self.view_is
-          (known_after n outs ins c.self.invariant.0 c.args.wanted c.args.hops c.saturating_sub.result (known_of g.K.Head.cost c.reach.new.self.heads) c.reach.result c.saturating_sub.ensures c.reach.ensures.size c.reach.ensures.heads);
+      known = subst (λ (m : RemainingLegs). OnOk c.reach.result (IsKnown m c.args.wanted c.args.hops (known_of g.K.HeldCost.cost c.reach.new.self.known))) c.self.view_is
+          (known_after n outs ins c.self.invariant.0 c.args.wanted c.args.hops c.saturating_sub.result (known_of g.K.HeldCost.cost c.reach.new.self.known) c.reach.result c.saturating_sub.ensures c.reach.ensures.size c.reach.ensures.least);
       touched = c.reach.ensures.touched;
     }

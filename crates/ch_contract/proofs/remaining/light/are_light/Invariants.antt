@@ -1,5 +1,5 @@
 use Rattle.std.proofs.Common.{◌≤◌, All, take}
-use Rattle.ch_contract.specs.declared.head.TheConstants.{MOST_LIGHT}
+use Rattle.ch_contract.specs.declared.held_cost.TheConstants.{MOST_LIGHT}
 use Rattle.ch_contract.proofs.remaining.light.are_light.Given as goal
 
 abbrev pub invariant-loop-shortcut : goal.invariant-loop-shortcut

@@ -1,7 +1,7 @@
 use Rattle.std.proofs.Common.{◌≤◌, take, get_or, subst, All}
 use Rattle.std.proofs.lemmas.List.{take_more, take_all}
 use Rattle.std.proofs.lemmas.List.Elements.{All-push}
-use Rattle.ch_contract.specs.declared.head.TheConstants.{MOST_LIGHT}
+use Rattle.ch_contract.specs.declared.held_cost.TheConstants.{MOST_LIGHT}
 use Rattle.ch_graph.specs.declared.arc.InArc.{InArc}
 use Rattle.ch_contract.proofs.code.OpenLists.{no_arc}
 use Rattle.ch_contract.proofs.remaining.light.are_light_arcs.Goals as goal

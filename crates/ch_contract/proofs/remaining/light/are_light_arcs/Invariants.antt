@@ -1,5 +1,5 @@
 use Rattle.std.proofs.Common.{◌≤◌, All, take}
-use Rattle.ch_contract.specs.declared.head.TheConstants.{MOST_LIGHT}
+use Rattle.ch_contract.specs.declared.held_cost.TheConstants.{MOST_LIGHT}
 use Rattle.ch_contract.proofs.remaining.light.are_light_arcs.Given as goal
 
 abbrev pub invariant-loop-arc : goal.invariant-loop-arc

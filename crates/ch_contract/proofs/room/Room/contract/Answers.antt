@@ -5,11 +5,11 @@ use Rattle.ch_contract.specs.declared.room.Room.{Room}
 use Rattle.ch_contract.specs.Rooms.{IsReady, list_at}
 use Rattle.ch_contract.specs.declared.shortcut.Shortcut.{Shortcut}
 use Rattle.ch_contract.specs.Legs.{Legs, SameLegs}
-use Rattle.ch_contract.specs.Contraction.{AreShortcuts, Contracts, contracted}
+use Rattle.ch_contract.specs.Contraction.{AreShortcuts, Contracts, legs_after_contraction}
 use Rattle.ch_contract.proofs.room.Room.contract.Goals as goal
 
 -- the shortcuts, as they are lent, make the contraction
-contracts : (n h v : ℕ) (L M : Legs) (list lent : List Shortcut) → lent ≡ list → AreShortcuts n h L v list → SameLegs M (contracted L v lent) → Contracts n h L v M
+contracts : (n h v : ℕ) (L M : Legs) (list lent : List Shortcut) → lent ≡ list → AreShortcuts n h L v list → SameLegs M (legs_after_contraction L v lent) → Contracts n h L v M
 contracts n h v L M list lent e are same = (lent, subst (AreShortcuts n h L v) (sym e) are, same)
 
 -- the kept shortcuts at the place of v are those of v

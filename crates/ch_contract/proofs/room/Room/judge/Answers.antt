@@ -24,5 +24,5 @@ returns-clause-ready c =
       | then-place-len+in_ok-push w ↦ ap (λ (r : Room). r.judged.items) w.self-is
       | else-place-len w ↦ ap (λ (r : Room). r.judged.items) w.self-is
     ] in
-    ready_more c.args.remaining.now.nodes c.args.hops (legs_of c.args.remaining.now) old _ c.if-place-len.self.lists.items c.args.node c.priority.new.list c.requires.ready c.in_ok-priority.ensures.idle
-    (c.in_ok-push-2.ensures.items ∙ ap (λ z. z ++ c.args.node ∷ []) judged) (ap (λ k. set c.if-place-len.self.lists.items k c.priority.new.list) place) inside same c.in_ok-priority.ensures.list
+    ready_more c.args.remaining.now.nodes c.args.hops (legs_of c.args.remaining.now) old _ c.if-place-len.self.lists.items c.args.node c.measure.new.list c.requires.ready c.in_ok-measure.ensures.idle
+    (c.in_ok-push-2.ensures.items ∙ ap (λ z. z ++ c.args.node ∷ []) judged) (ap (λ k. set c.if-place-len.self.lists.items k c.measure.new.list) place) inside same c.in_ok-measure.ensures.list

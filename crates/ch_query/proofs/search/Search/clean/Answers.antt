@@ -1,5 +1,5 @@
 use Rattle.std.proofs.Common.{arith, length-set, ◌∙◌, sym}
-use Rattle.ch_query.proofs.Touched.{last_within, touched_less}
+use Rattle.ch_query.proofs.one_side.Touched.{last_within, touched_less}
 use Rattle.ch_query.proofs.search.Search.clean.Goals as goal
 
 pub index_mut-requires : goal.index_mut-requires

@@ -1,5 +1,5 @@
 use Rattle.std.proofs.Common.{◌∙◌, take_all}
-use Rattle.ch_query.proofs.Expanding.{leg_read, leg_bounds, partly_step, partly_whole}
+use Rattle.ch_query.proofs.one_side.Expanding.{leg_read, leg_bounds, partly_step, partly_whole}
 use Rattle.ch_query.proofs.search.Search.expand.Goals as goal
 
 pub relax-requires-clause-node : goal.relax-requires-clause-node

@@ -1,4 +1,4 @@
-use Rattle.ch_query.proofs.Popping.{least_key, pop_expands}
+use Rattle.ch_query.proofs.one_side.Popping.{least_key, pop_expands}
 use Rattle.ch_query.proofs.search.Search.explore.Goals as goal
 
 pub settle-requires : goal.settle-requires

@@ -1,5 +1,5 @@
-use Rattle.ch_query.proofs.Popping.{least_key, same_on, pop_expands}
-use Rattle.ch_query.proofs.SearchSpaces.{unstalled_skips, unstalled_grows}
+use Rattle.ch_query.proofs.one_side.Popping.{least_key, same_on, pop_expands}
+use Rattle.ch_query.proofs.one_side.SearchSpaces.{unstalled_skips, unstalled_grows}
 use Rattle.ch_query.proofs.search.Search.explore_unstalled.Goals as goal
 
 pub settle-requires : goal.settle-requires

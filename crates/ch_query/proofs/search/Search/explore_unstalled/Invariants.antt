@@ -1,4 +1,4 @@
-use Rattle.ch_query.specs.Underway.{IsUnderway, IsSameSearch, AreUnstalled, unsettled_in}
+use Rattle.ch_query.specs.Underway.{IsUnderway, IsSameSearch, AreUnstalled, count_unsettled_in}
 use Rattle.ch_query.proofs.search.Search.explore_unstalled.Given as goal
 
 abbrev pub invariant-loop-cost : goal.invariant-loop-cost
@@ -9,4 +9,4 @@ invariant-loop-cost l = record {
 }
 
 abbrev pub decreases-loop-cost : goal.decreases-loop-cost
-decreases-loop-cost l = unsettled_in l.self
+decreases-loop-cost l = count_unsettled_in l.self

@@ -1,8 +1,8 @@
 use Rattle.std.proofs.Common.{arith, subst, ◌∙◌, sym}
 use Rattle.ch_graph.specs.Cost.{IsBelow}
-use Rattle.ch_contract.proofs.theory.RowLemmas.{no_leg}
-use Rattle.ch_query.proofs.Stalling.{back_leg, back_sum, stalls_idle}
-use Rattle.ch_query.proofs.Touched.{read}
+use Rattle.ch_hierarchy.proofs.theory.NoLeg.{no_leg}
+use Rattle.ch_query.proofs.one_side.Stalling.{back_leg, back_sum, stalls_idle}
+use Rattle.ch_query.proofs.one_side.Touched.{read}
 use Rattle.ch_query.proofs.search.Search.is_stalled.Goals as goal
 
 pub index-requires : goal.index-requires

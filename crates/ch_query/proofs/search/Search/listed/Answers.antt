@@ -1,7 +1,7 @@
 use Rattle.std.proofs.Common.{get_or, ◌∙◌, ap, arith}
 use Rattle.std.specs.Prelude.{vec_capacity}
-use Rattle.ch_query.proofs.Touched.{some_within, read}
-use Rattle.ch_query.proofs.Spreads.{item_known, listed_step, unknown}
+use Rattle.ch_query.proofs.one_side.Touched.{some_within, read}
+use Rattle.ch_query.proofs.one_side.Spreads.{item_known, listed_step, unknown}
 use Rattle.ch_query.proofs.search.Search.listed.Goals as goal
 use Rattle.ch_query.proofs.search.Search.listed.Goals.{in-Some, in_default}
 

@@ -1,7 +1,7 @@
 use Rattle.std.proofs.Common.{rules, arith, ◌≡◌, replicate, None, ap, sym, ◌∙◌}
 use Rattle.std.proofs.lemmas.Option.{none-some}
 use Rattle.ch_graph.specs.Cost.{cost_at}
-use Rattle.ch_query.proofs.Touched.{none_known, untouched}
+use Rattle.ch_query.proofs.one_side.Touched.{none_known, untouched}
 use Rattle.ch_query.proofs.search.Search.new.Goals as goal
 
 pub returns-clause-clean : goal.returns-clause-clean

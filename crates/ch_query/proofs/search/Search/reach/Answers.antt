@@ -2,7 +2,7 @@ use Rattle.std.proofs.Common.{Some, sym, ◌∙◌, ap, subst, set}
 use Rattle.std.specs.Prelude.{is_some}
 use Rattle.ch_query.specs.declared.search.Search.{Search}
 use Rattle.ch_query.specs.Underway.{IsTouched}
-use Rattle.ch_query.proofs.Touched.{room_left, touched_more, touched_same, read}
+use Rattle.ch_query.proofs.one_side.Touched.{room_left, touched_more, touched_same, read}
 use Rattle.ch_query.proofs.search.Search.reach.Goals as goal
 use Rattle.ch_query.proofs.search.Search.reach.Goals.{then-is_none, else-is_none}
 

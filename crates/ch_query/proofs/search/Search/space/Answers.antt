@@ -1,4 +1,4 @@
-use Rattle.ch_query.proofs.Spreads.{underway_room}
+use Rattle.ch_query.proofs.one_side.Spreads.{underway_room}
 use Rattle.ch_query.proofs.search.Search.space.Goals as goal
 
 pub clean-requires : goal.clean-requires

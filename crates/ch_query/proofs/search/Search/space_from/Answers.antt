@@ -4,8 +4,8 @@ use Rattle.std.specs.declared.alloc.Global.{Global}
 use Rattle.std.proofs.lemmas.Result.{IfOk-weaker}
 use Rattle.ch_query.specs.Limits.{IsMost}
 use Rattle.ch_query.specs.Underway.{AreWeights}
-use Rattle.ch_query.proofs.Spreads.{sorted_rises}
-use Rattle.ch_query.proofs.SearchSpaces.{unstalled_known, space_of}
+use Rattle.ch_query.proofs.one_side.Spreads.{sorted_rises}
+use Rattle.ch_query.proofs.one_side.SearchSpaces.{unstalled_known, space_of}
 use Rattle.ch_query.proofs.search.Search.space_from.Goals as goal
 
 pub weights-requires : goal.weights-requires

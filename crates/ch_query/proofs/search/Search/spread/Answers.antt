@@ -3,7 +3,7 @@ use Rattle.std.proofs.lemmas.Result.{IfOk-weaker}
 use Rattle.ch_query.specs.Limits.{IsMost}
 use Rattle.ch_query.specs.Side.{rows_of}
 use Rattle.ch_query.specs.Spread.{IsSpread}
-use Rattle.ch_query.proofs.Spreads.{touched_sorted, sorted_underway, underway_room, spread_of}
+use Rattle.ch_query.proofs.one_side.Spreads.{touched_sorted, sorted_underway, underway_room, spread_of}
 use Rattle.ch_query.proofs.search.Search.spread.Goals as goal
 
 pub listed-list-requires : goal.listed-list-requires

@@ -1,9 +1,9 @@
 use Rattle.std.proofs.Common.{◌∙◌, get_or, refl, sym, ap, arith, vec_len}
 use Rattle.std.specs.Prelude.{vec_capacity}
 use Rattle.std.proofs.lemmas.List.Elements.{Contains-get_or}
-use Rattle.ch_query.proofs.Touched.{some_within, read}
-use Rattle.ch_query.proofs.Spreads.{unknown}
-use Rattle.ch_query.proofs.SearchSpaces.{weights_more}
+use Rattle.ch_query.proofs.one_side.Touched.{some_within, read}
+use Rattle.ch_query.proofs.one_side.Spreads.{unknown}
+use Rattle.ch_query.proofs.one_side.SearchSpaces.{weights_more}
 use Rattle.ch_query.proofs.search.Search.weights.Goals as goal
 use Rattle.ch_query.proofs.search.Search.weights.Goals.{in-Some, in_default}
 

@@ -1,5 +1,5 @@
 use Rattle.std.proofs.Common.{◌≡◌, subst}
-use Rattle.ch_contract.specs.Saved.{IsFirstFault}
+use Rattle.ch_hierarchy.specs.Saved.{IsFirstFault}
 use Rattle.ch_run.proofs.Inputs.{one_refusal}
 use Rattle.ch_run.proofs.run.saved.checked_from.Goals as goal
 

@@ -2,7 +2,7 @@ use Rattle.std.proofs.Common.{◌≡◌, ◌∙◌, ap, ap₂, rules}
 use Rattle.std.proofs.lemmas.Result.{IfOk-weaker}
 use Rattle.clap.specs.Words.{App, app_of, with_subcommand}
 use Rattle.chtab.specs.Line.{form_of, program_form}
-use Rattle.chtab.specs.declared.line.Tool.TheVariants.{Dist}
+use Rattle.ch_line.specs.declared.line.Tool.TheVariants.{Dist}
 use Rattle.chtab.proofs.line.form.command.Goals as goal
 
 pub returns : goal.returns

@@ -1,5 +1,0 @@
-use Rattle.ch_contract.proofs.theory.KeptWalks.{tight_paths_are_least}
-use Rattle.ch_contract.proofs.laws.kept.kept_hierarchies_are_tight.Goals as goal
-
-pub returns : goal.returns
-returns c = tight_paths_are_least

@@ -1,5 +1,0 @@
-use Rattle.ch_contract.proofs.theory.KeptWalks.{meetings_are_distances}
-use Rattle.ch_contract.proofs.laws.kept.kept_hierarchies_give_distances.Goals as goal
-
-pub returns : goal.returns
-returns c = meetings_are_distances

@@ -1,5 +1,0 @@
-use Rattle.ch_contract.proofs.theory.KeptWalks.{kept_has_walks}
-use Rattle.ch_contract.proofs.laws.kept.kept_hierarchies_have_walks.Goals as goal
-
-pub returns : goal.returns
-returns c = kept_has_walks

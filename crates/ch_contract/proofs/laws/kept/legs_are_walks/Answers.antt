@@ -1,5 +1,0 @@
-use Rattle.ch_contract.proofs.theory.LegWalks.{leg_walk}
-use Rattle.ch_contract.proofs.laws.kept.legs_are_walks.Goals as goal
-
-pub returns : goal.returns
-returns c = leg_walk

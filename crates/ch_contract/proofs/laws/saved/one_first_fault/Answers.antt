@@ -1,5 +1,0 @@
-use Rattle.ch_contract.proofs.theory.SavedFaults.{one_first}
-use Rattle.ch_contract.proofs.laws.saved.one_first_fault.Goals as goal
-
-pub returns : goal.returns
-returns c = one_first

@@ -1,5 +1,0 @@
-use Rattle.ch_contract.proofs.theory.OneSaved.{one_saved}
-use Rattle.ch_contract.proofs.laws.saved.one_saved_hierarchy.Goals as goal
-
-pub returns : goal.returns
-returns c = one_saved

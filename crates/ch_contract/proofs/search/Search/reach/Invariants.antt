@@ -1,7 +1,0 @@
-use Rattle.ch_contract.specs.Heads.{IsUnderway, known_of}
-use Rattle.ch_contract.specs.LegLists.{legs_into}
-use Rattle.std.proofs.Common.{length}
-use Rattle.ch_contract.proofs.search.Search.reach.Given as goal
-
-abbrev pub invariant-loop-round : goal.invariant-loop-round
-invariant-loop-round g l = IsUnderway (length l.lists) (legs_into l.lists) l.wanted l._round (known_of g.K.Head.cost l.self.heads)

@@ -1,0 +1,26 @@
+-- The hierarchy that the order of contraction leaves.
+use Rattle.std.specs.Prelude.{◌≡◌, ℕ, ◌+◌, ◌<◌, List, length, slice_index}
+use Rattle.ch_graph.specs.Graph.{Network}
+use Rattle.ch_hierarchy.specs.Hierarchy.{LevelsAndLegs}
+use Rattle.ch_hierarchy.specs.Rows.{row}
+use Rattle.ch_contract.specs.declared.measure.OrderBy.{OrderBy}
+use Rattle.ch_contract.specs.declared.measure.OrderBy.TheVariants.{Difference}
+use Rattle.ch_contract.specs.Legs.{Legs}
+use Rattle.ch_contract.specs.Order.{AreContracted, TakesFirst}
+use Rattle.ch_contract.specs.LegRows.{AreLegsFrom, AreLegsTo}
+
+-- nodes are contracted in any order: order[i] has level i + 1; its up legs are those from it just before it was contracted, its down legs those to it
+pub record IsHierarchyOf (g : Network) (h : ℕ) (H : LevelsAndLegs) (order : List ℕ) (L : ℕ → Legs) : Type 0 where
+  pub contracted : AreContracted g h order L
+  pub sizes : (length H.level ≡ g.nodes) × (length H.up ≡ g.nodes) × (length H.down ≡ g.nodes)
+  pub level : (i : ℕ) → i < g.nodes → slice_index H.level (slice_index order i) ≡ i + 1
+  pub up : (i : ℕ) → i < g.nodes → AreLegsFrom (L i) (slice_index order i) (row H.up (slice_index order i))
+  pub down : (i : ℕ) → i < g.nodes → AreLegsTo (L i) (slice_index order i) (row H.down (slice_index order i))
+
+-- the contraction hierarchy of a graph in this order, where a witness has at most h legs
+abbrev pub IsHierarchyBy : OrderBy → Network → ℕ → LevelsAndLegs → Type 0
+IsHierarchyBy by g h H = (order : List ℕ) × (L : ℕ → Legs) × IsHierarchyOf g h H order L × TakesFirst by g h order L
+
+-- the one in the order by the number of shortcuts less that of legs
+abbrev pub IsHierarchy : Network → ℕ → LevelsAndLegs → Type 0
+IsHierarchy g h H = IsHierarchyBy Difference g h H

@@ -1,0 +1,132 @@
+//! The costs that a search holds: as they are, or in one word each.
+ghost use Rattle.std.specs.Prelude.{◌≡◌, ℕ, ◌↔◌, IsTrue};
+ghost use Rattle.ch_graph.specs.declared.limits.TheConstants.{MOST_WEIGHT};
+ghost use Rattle.ch_graph.specs.declared.cost.Cost.{Cost};
+ghost use Rattle.ch_graph.specs.Cost.{IsAtMost, cost_sum};
+ghost use Rattle.ch_contract.specs.HeldCosts.{never, IsHeld, IsAddend, IsKnownCost, cost_in};
+
+use ch_graph::Cost;
+use ch_graph::limits::{MOST_HOPS, MOST_NODES, MOST_WEIGHT};
+
+/// The most arcs of a chain of as many legs as a witness may have. Each stands for fewer than there are nodes.
+pub(crate) const MOST_CHAIN_ARCS: u64 = MOST_HOPS as u64 * MOST_NODES as u64;
+
+/// The most that a leg may weigh for searches over words.
+pub(crate) const MOST_LIGHT: u64 = (1 << 30) - 1;
+
+/// The arcs of a node to which no chain is known: more than any chain has.
+pub(crate) const NEVER_ARCS: u64 = 1 << 62;
+
+/// What a weight of 1 is in a word. The arcs stand below it.
+pub(crate) const WEIGHT_UNIT: u64 = 1 << 31;
+
+/// The bit of a word that stands for no known chain. The weight stands below it.
+pub(crate) const NEVER_BIT: u64 = 1 << 63;
+
+/// What stands for a cost in a search.
+pub(crate) trait HeldCost: Copy {
+    /// The cost.
+    ghost cost: { Self → Cost };
+
+    /// The most that a leg may weigh.
+    ghost limit: { ℕ };
+
+    /// What a node costs to which no chain is known.
+    fn never() -> Self
+        ensures { cost result ≡ never };
+
+    /// What stands for this cost.
+    fn of(held: Cost) -> Self
+        requires { IsHeld limit held }
+        ensures { cost result ≡ held };
+
+    /// What stands for the sum.
+    fn plus(self, more: Self) -> Self
+        requires known { IsKnownCost limit (cost self) }
+        requires more { IsAddend limit (cost more) }
+        ensures { cost result ≡ cost_sum (cost self) (cost more) };
+
+    /// Whether the cost is at most the other.
+    fn is_at_most(self, other: Self) -> bool
+        ensures { IsTrue result ↔ IsAtMost (cost self) (cost other) };
+}
+
+/// More than any cost that is wanted.
+const NEVER: Cost = Cost {
+    weight: MOST_WEIGHT,
+    arcs: NEVER_ARCS,
+};
+
+impl HeldCost for Cost {
+    ghost cost = { λ c. c };
+
+    ghost limit = { MOST_WEIGHT };
+
+    #[inline]
+    fn never() -> Cost {
+        NEVER
+    }
+
+    #[inline]
+    fn of(held: Cost) -> Cost {
+        held
+    }
+
+    #[inline]
+    fn plus(self, more: Cost) -> Cost {
+        Cost {
+            weight: self.weight + more.weight,
+            arcs: self.arcs + more.arcs,
+        }
+    }
+
+    #[inline]
+    fn is_at_most(self, other: Cost) -> bool {
+        is_at_most(self, other)
+    }
+}
+
+/// Whether the first cost is at most the second.
+#[inline]
+pub(crate) fn is_at_most(a: Cost, b: Cost) -> bool
+    ensures { IsTrue result ↔ IsAtMost a b }
+{
+    a.weight < b.weight || (a.weight == b.weight && a.arcs <= b.arcs)
+}
+
+/// A cost in one word, where no leg weighs more than [`MOST_LIGHT`]: 31 bits of arcs, 32 bits of weight above
+/// them, and the highest bit for nodes to which no chain is known.
+///
+/// No sum of a search carries from one part into the next. What is known of a node is at most the search's
+/// bound, which is the cost of two legs and so weighs less than 2^31, and a search adds no more than that to
+/// it. No chain of a search stands for more than [`MOST_CHAIN_ARCS`] arcs, which are 2^29.
+#[derive(Clone, Copy, Debug)]
+pub(crate) struct Word(u64);
+
+impl HeldCost for Word {
+    ghost use Rattle.ch_contract.specs.declared.held_cost.TheConstants.{MOST_LIGHT};
+
+    ghost cost = { λ w. cost_in w.0 };
+
+    ghost limit = { MOST_LIGHT };
+
+    #[inline]
+    fn never() -> Word {
+        Word(NEVER_BIT)
+    }
+
+    #[inline]
+    fn of(held: Cost) -> Word {
+        Word(held.weight * WEIGHT_UNIT + held.arcs)
+    }
+
+    #[inline]
+    fn plus(self, more: Word) -> Word {
+        Word(self.0 + more.0)
+    }
+
+    #[inline]
+    fn is_at_most(self, other: Word) -> bool {
+        self.0 <= other.0
+    }
+}

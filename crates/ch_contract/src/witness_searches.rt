@@ -1,0 +1,61 @@
+//! The searches of one worker, over words or over pairs.
+ghost use Rattle.std.specs.Prelude.{◌<◌, IfOk, OnOk};
+ghost use Rattle.ch_contract.specs.Legs.{IsHopBound};
+ghost use Rattle.ch_contract.specs.Contraction.{AreShortcuts};
+ghost use Rattle.ch_contract.specs.Measures.{IsMeasure};
+ghost use Rattle.ch_contract.specs.Remaining.{legs_of};
+
+use crate::held_cost::Word;
+use crate::measure::Measure;
+use crate::remaining::Remaining;
+use crate::shortcut::Shortcut;
+use crate::witness_search::WitnessSearch;
+use ch_graph::Cost;
+use std::alloc::{AllocError, Global};
+
+/// The searches of one worker. Each has no room before it is used.
+#[derive(Drop)]
+pub(crate) struct WitnessSearches {
+    /// For legs that are light enough for words.
+    pub(crate) words: WitnessSearch<Word>,
+    /// For any others.
+    pub(crate) pairs: WitnessSearch<Cost>,
+}
+
+impl WitnessSearches {
+    ghost use Rattle.ch_contract.specs.Rooms.{AreIdle};
+
+    /// Searches without room.
+    pub(crate) fn new(alloc: Global) -> WitnessSearches
+        ensures { AreIdle result }
+    {
+        WitnessSearches {
+            words: WitnessSearch::idle(alloc),
+            pairs: WitnessSearch::idle(alloc),
+        }
+    }
+
+    /// How many shortcuts `v` has and how many legs touch it. The list becomes that of its shortcuts.
+    pub(crate) fn measure(
+        &mut self,
+        alloc: Global,
+        remaining: &Remaining,
+        list: &mut Vec<Shortcut>,
+        v: u32,
+        hops: u32,
+    ) -> Result<Measure, AllocError>
+        requires node { v < remaining.now.nodes }
+        requires hops { IsHopBound hops }
+        requires idle { AreIdle self.old }
+        ensures measure { IfOk result (IsMeasure remaining.now.nodes hops (legs_of remaining.now) v) }
+        ensures list { OnOk result (AreShortcuts remaining.now.nodes hops (legs_of remaining.now) v list.new.items) }
+        ensures idle { OnOk result (AreIdle self.new) }
+    {
+        if remaining.is_light() {
+            self.words.fit(alloc, remaining.nodes())?;
+            return remaining.measure_in(&mut self.words, list, v, hops);
+        }
+        self.pairs.fit(alloc, remaining.nodes())?;
+        remaining.measure_in(&mut self.pairs, list, v, hops)
+    }
+}

@@ -1,0 +1,6 @@
+-- What the calls of the code do.
+pub mod SortedPlaces
+pub mod Doubled
+pub mod OrderLevels
+pub mod PairFaults
+pub mod PlacedRows

@@ -1,0 +1,14 @@
+pub mod Rows
+pub mod Hierarchy
+pub mod Paths
+pub mod Kept
+pub mod Saved
+pub mod FaultText
+pub mod Placing
+pub mod Sorting
+pub mod Doubles
+pub mod Assembling
+pub mod Written
+pub mod SavedLaws
+pub mod KeptLaws
+pub mod Turned

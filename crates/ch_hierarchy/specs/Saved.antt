@@ -1,0 +1,109 @@
+-- What a saved hierarchy names, and its faults.
+use Rattle.std.specs.Prelude.{◌≡◌, ◌≢◌, ℕ, ◌+◌, ◌<◌, ◌≤◌, ◌↔◌, ◌⊎◌, List, length, slice_index, slice_get, AllPairs, Contains, Option, Some, None, Result, Err}
+use Rattle.ch_graph.specs.declared.limits.TheConstants.{MOST_WEIGHT}
+use Rattle.ch_graph.specs.declared.arc.InArc.{InArc}
+use Rattle.ch_graph.specs.declared.cost.Cost.{Cost}
+use Rattle.ch_graph.specs.declared.saved.SavedLeg.{SavedLeg}
+use Rattle.ch_graph.specs.Graph.{Network}
+use Rattle.ch_graph.specs.Saved.{OrderAndLegs}
+use Rattle.ch_hierarchy.specs.declared.fault.CheckFault.{CheckFault}
+use Rattle.ch_hierarchy.specs.declared.fault.CheckFault.TheVariants.{Order, Pair, Bound, Base, Middle, Arc, Lower}
+use Rattle.ch_hierarchy.specs.declared.fault.CheckError.{CheckError}
+use Rattle.ch_hierarchy.specs.declared.fault.CheckError.TheVariants.{NoMemory}
+use Rattle.ch_hierarchy.specs.Hierarchy.{LevelsAndLegs, nodes_of, IsLevelled}
+use Rattle.ch_hierarchy.specs.Kept.{IsLeg, IsFounded, HasLegWithin, IsCovered, IsKept}
+
+-- each node below n once
+pub record IsOrderOf (n : ℕ) (order : List ℕ) : Type 0 where
+  pub count : length order ≡ n
+  pub within : (i : ℕ) → i < length order → slice_index order i < n
+  pub distinct : (i j : ℕ) → i < j → j < length order → slice_index order i ≢ slice_index order j
+
+-- the node at place i of the order has level i + 1
+pub record AreLevelsOf (order levels : List ℕ) : Type 0 where
+  pub count : length levels ≡ length order
+  pub each : (i : ℕ) → i < length order → slice_index levels (slice_index order i) ≡ i + 1
+
+abbrev pub IsSamePair : SavedLeg → SavedLeg → Type 0
+IsSamePair k l = (k.from ≡ l.from) × (k.to ≡ l.to)
+
+-- H has the levels that the order gives, and exactly these legs, one for a pair of nodes
+pub record NamesHierarchy (s : OrderAndLegs) (H : LevelsAndLegs) : Type 0 where
+  pub levelled : IsLevelled H
+  pub levels : AreLevelsOf s.order H.level
+  pub legs : (u w : ℕ) (c : Cost) (m : Option ℕ) → IsLeg H u w c m ↔ Contains s.legs (record { from = u; to = w; cost = c; middle = m })
+  pub once : AllPairs (λ k l. IsSamePair k l → ⊥) s.legs
+
+-- the ends are two nodes below n
+abbrev pub JoinsNodes : ℕ → SavedLeg → Type 0
+JoinsNodes n l = (l.from < n) × (l.to < n) × (l.from ≢ l.to)
+
+-- the weight and the number of arcs are within the limits
+abbrev pub IsWithinBounds : ℕ → SavedLeg → Type 0
+IsWithinBounds n l = (l.cost.weight ≤ MOST_WEIGHT) × (l.cost.arcs < n)
+
+-- a leg before place i leads between the same nodes
+abbrev pub StoodBefore : List SavedLeg → ℕ → SavedLeg → Type 0
+StoodBefore legs i l = (j : ℕ) × (k : SavedLeg) × (j < i) × (slice_get legs j ≡ Some k) × IsSamePair k l
+
+-- its ends are equal or no nodes, or a leg before it leads between the same nodes
+abbrev pub HasPairFault : ℕ → List SavedLeg → ℕ → Type 0
+HasPairFault n legs i = (l : SavedLeg) × (slice_get legs i ≡ Some l) × ((JoinsNodes n l → ⊥) ⊎ StoodBefore legs i l)
+
+-- in the hierarchy that is named, the leg at place i isn't what it stands for
+abbrev pub IsUnfounded : Network → OrderAndLegs → ℕ → SavedLeg → Type 0
+IsUnfounded g s i l = (slice_get s.legs i ≡ Some l) × ((H : LevelsAndLegs) × NamesHierarchy s H × (IsFounded g H l.from l.to l.cost l.middle → ⊥))
+
+-- the fault is there
+abbrev pub HasFault : Network → OrderAndLegs → CheckFault → Type 0
+HasFault g s Order = IsOrderOf g.nodes s.order → ⊥
+HasFault g s (Pair i) = HasPairFault g.nodes s.legs i
+HasFault g s (Bound i) = (l : SavedLeg) × (slice_get s.legs i ≡ Some l) × (IsWithinBounds g.nodes l → ⊥)
+HasFault g s (Base i) = (l : SavedLeg) × (l.middle ≡ None) × IsUnfounded g s i l
+HasFault g s (Middle i) = (l : SavedLeg) × (v : ℕ) × (l.middle ≡ Some v) × IsUnfounded g s i l
+HasFault g s (Arc i) = (a : InArc) × (slice_get g.arcs i ≡ Some a) × (a.from ≢ a.to) × ((H : LevelsAndLegs) × NamesHierarchy s H × (HasLegWithin H a → ⊥))
+HasFault g s (Lower v) = (v < g.nodes) × ((H : LevelsAndLegs) × NamesHierarchy s H × (IsCovered H v → ⊥))
+
+-- the kinds, in the order in which they are judged
+abbrev pub kind : CheckFault → ℕ
+kind Order = 0
+kind (Pair i) = 1
+kind (Bound i) = 2
+kind (Base i) = 3
+kind (Middle i) = 4
+kind (Arc i) = 5
+kind (Lower v) = 6
+
+abbrev pub place : CheckFault → ℕ
+place Order = 0
+place (Pair i) = i
+place (Bound i) = i
+place (Base i) = i
+place (Middle i) = i
+place (Arc i) = i
+place (Lower v) = v
+
+-- by kind, and of one kind by place
+abbrev pub ComesBefore : CheckFault → CheckFault → Type 0
+ComesBefore e f = (kind e < kind f) ⊎ ((kind e ≡ kind f) × (place e < place f))
+
+-- the fault is there, and none that comes before it
+pub record IsFirstFault (g : Network) (s : OrderAndLegs) (f : CheckFault) : Type 0 where
+  pub has : HasFault g s f
+  pub first : (e : CheckFault) → ComesBefore e f → HasFault g s e → ⊥
+
+-- a fault of the order, or of a leg by itself or beside those before it
+abbrev pub IsEarly : CheckFault → Type 0
+IsEarly f = kind f < 3
+
+-- the order and the legs name this hierarchy of as many nodes as the graph has
+abbrev pub NamesFor : Network → OrderAndLegs → LevelsAndLegs → Type 0
+NamesFor g s H = NamesHierarchy s H × (nodes_of H ≡ g.nodes)
+
+-- they name this hierarchy, which is right for the graph
+abbrev pub NamesKept : Network → OrderAndLegs → LevelsAndLegs → Type 0
+NamesKept g s H = NamesHierarchy s H × IsKept g H
+
+-- the result is this answer exactly where P holds, memory aside
+abbrev pub AnswersWhere : {A : Type 0} → Result A CheckError → Result A CheckError → Type 0 → Type 0
+AnswersWhere result answer P = (result ≡ answer → P) × (P → (result ≡ answer) ⊎ (result ≡ Err NoMemory))

@@ -1,0 +1,106 @@
+//! The levels and rows of a saved hierarchy, or its first fault.
+ghost use Rattle.std.specs.Prelude.{◌≡◌, ℕ, List, Contains, IfOk, MatchOption};
+ghost use Rattle.ch_graph.specs.declared.saved.SavedLeg.{SavedLeg as LegOfFile};
+ghost use Rattle.ch_hierarchy.specs.declared.fault.CheckFault.{CheckFault as AnyFault};
+ghost use Rattle.ch_hierarchy.specs.declared.fault.CheckFault.TheVariants as CheckFault;
+ghost use Rattle.ch_hierarchy.specs.declared.fault.CheckError.TheVariants as CheckError;
+ghost use Rattle.ch_hierarchy.specs.Hierarchy.{LevelsAndLegs};
+ghost use Rattle.ch_hierarchy.specs.Saved.{IsOrderOf, AreLevelsOf, JoinsNodes, IsWithinBounds, IsFirstFault, IsEarly, NamesFor, AnswersWhere};
+ghost use Rattle.ch_hierarchy.specs.Assembling.{IsFirstFailing, IsFirstPairFault, ArePairs};
+
+use crate::doubles::first_twin;
+use crate::fault::{CheckError, CheckFault};
+use crate::hierarchy::Hierarchy;
+use crate::placing::{PlacedLegs, place_legs};
+use crate::sorting::leg_rows;
+use ch_graph::limits::MOST_WEIGHT;
+use ch_graph::{Graph, Saved, SavedLeg};
+use std::alloc::{AllocError, Global};
+
+/// The hierarchy that a saved one names, among the nodes of the graph. Its order, the pairs of its legs and
+/// their bounds are judged; whether its legs are right for the graph is not. The work is linear in the
+/// number of nodes and legs.
+///
+/// # Errors
+/// The first fault of the kinds `Order`, `Pair` and `Bound`, or `NoMemory`, where there was no memory before a
+/// fault was met. The graph and the saved hierarchy are as they were.
+pub fn assemble(alloc: Global, graph: &Graph, saved: &Saved) -> Result<Hierarchy, CheckError>
+    ensures value { (H : LevelsAndLegs) → AnswersWhere result (Ok H) (NamesFor graph.now saved.now H) }
+    ensures fault { (f : AnyFault) →
+        AnswersWhere result (Err (CheckError.Fault f))
+        (IsEarly f × IsFirstFault graph.now saved.now f) }
+{
+    // The getter tells the proof that the graph keeps the limits.
+    let _ = graph.arcs();
+    let nodes = graph.nodes();
+    let Some(levels) = levels_of(alloc, nodes, saved.order.as_slice())? else {
+        return Err(CheckError::Fault(CheckFault::Order));
+    };
+    let legs = saved.legs.as_slice();
+    let pairs = pairs_of(alloc, nodes, levels.as_slice(), legs)?;
+    if let Some(place) = first_past_bounds(nodes, legs) {
+        return Err(CheckError::Fault(CheckFault::Bound(place)));
+    }
+    let ups = leg_rows(alloc, nodes, legs, pairs.ups.as_slice())?;
+    let downs = leg_rows(alloc, nodes, legs, pairs.downs.as_slice())?;
+    Ok(Hierarchy::from_rows(levels, ups, downs))
+}
+
+/// The level of each node, where the order has each node below `n` once.
+fn levels_of(alloc: Global, n: u32, order: &[u32]) -> Result<Option<Vec<u32>>, AllocError>
+    ensures { IfOk result (λ found. MatchOption found (IsOrderOf n order.now → ⊥) (λ levels. IsOrderOf n order.now × AreLevelsOf order.now levels.items)) }
+{
+    if order.len() != n as usize {
+        return Ok(None);
+    }
+    let mut levels = vec![in alloc; 0; n as usize]?;
+    let mut level = 0;
+    for node in order {
+        if *node >= n || levels[*node as usize] != 0 {
+            return Ok(None);
+        }
+        level += 1;
+        levels[*node as usize] = level;
+    }
+    Ok(Some(levels))
+}
+
+/// The legs of both directions in order, or the first leg whose pair of nodes is faulty. The legs before
+/// the first one that joins no two nodes are sorted; of these the ones whose pair stood before are
+/// neighbours.
+fn pairs_of(
+    alloc: Global,
+    n: u32,
+    levels: &[u32],
+    legs: &[SavedLeg],
+) -> Result<PlacedLegs, CheckError>
+    requires { (order : List ℕ) × IsOrderOf n order × AreLevelsOf order levels.now }
+    ensures pairs { IfOk result (λ p. ArePairs n levels.now legs.now p.ups.items p.downs.items) }
+    ensures fault { (f : AnyFault) → result ≡ Err (CheckError.Fault f) →
+        (i : ℕ) × (f ≡ CheckFault.Pair i) × IsFirstPairFault n legs.now i }
+{
+    let faulty = first_not_joining(n, legs);
+    let end = faulty.unwrap_or(legs.len());
+    let placed = place_legs(alloc, levels, &legs[..end])?;
+    let pairs = placed.sorted(alloc, n)?;
+    let least = first_twin(alloc, n, pairs.ups.as_slice(), faulty)?;
+    match first_twin(alloc, n, pairs.downs.as_slice(), least)? {
+        Some(place) => Err(CheckError::Fault(CheckFault::Pair(place))),
+        None => Ok(pairs),
+    }
+}
+
+/// The place of the first leg whose ends are not two nodes below `n`.
+fn first_not_joining(n: u32, legs: &[SavedLeg]) -> Option<usize>
+    ensures { MatchOption result ((l : LegOfFile) → Contains legs.now l → JoinsNodes n l) (IsFirstFailing (JoinsNodes n) legs.now) }
+{
+    legs.iter()
+        .position(|leg| leg.from >= n || leg.to >= n || leg.from == leg.to)
+}
+
+/// The place of the first leg that is past a limit.
+fn first_past_bounds(n: u32, legs: &[SavedLeg]) -> Option<usize>
+    ensures { MatchOption result ((l : LegOfFile) → Contains legs.now l → IsWithinBounds n l) (IsFirstFailing (IsWithinBounds n) legs.now) }
+{
+    legs.iter().position(|leg| leg.cost.weight > MOST_WEIGHT || leg.cost.arcs >= u64::from(n))
+}

@@ -1,0 +1,4 @@
+//! Laws, each the contract of a function that does nothing.
+
+pub mod kept;
+pub mod saved;

@@ -1,0 +1,111 @@
+-- What is asked of inputs, and how a run over them ends.
+use Rattle.std.specs.Prelude.{◌≡◌, ◌⊎◌, ◌<◌, ℕ, [], List, Option, Result, Err, IfErr, option_map}
+use Rattle.ch_read.specs.declared.fault.ReadFault.{ReadFault}
+use Rattle.ch_hierarchy.specs.declared.fault.CheckFault.{CheckFault}
+use Rattle.ch_run.specs.declared.fault.Which.{Which}
+use Rattle.ch_run.specs.declared.fault.RunFault.{RunFault}
+use Rattle.ch_run.specs.declared.options.Options.{Options}
+use Rattle.ch_run.specs.Run.{HasCellsRefused, HasQueriesRefused, HasSourcesRefused, HasTargetsRefused, IsAnsweredBy, IsGraphRefused, IsOfDist, IsOfTable, IsTabledBy, Reading}
+use Rattle.ch_run.specs.SavedRun.{HasCellsRefusedFrom, HasCheckRefused, HasQueriesRefusedFrom, HasSavedRefused, HasSourcesRefusedFrom, HasTargetsRefusedFrom, IsAnsweredFrom, IsOfDistSaved, IsOfSave, IsOfTableSaved, IsSavedBy, IsTabledFrom}
+use Rattle.ch_line.specs.declared.inputs.Inputs.{Inputs}
+
+-- these bytes, where they are told, read to their end
+abbrev pub whole_of : Option (List ℕ) → Reading
+whole_of bytes = record { before = bytes; after = option_map (λ _. []) bytes }
+
+-- what is asked of which bytes
+pub data Task : Type 0 where
+  Answers : (graph queries : Reading) → Task
+  AnswersBy : (graph saved queries : Reading) → Task
+  Table : (graph sources targets : Reading) → Task
+  TableBy : (graph saved sources targets : Reading) → Task
+  Hierarchy : (graph : Reading) → Task
+
+-- what is asked of the bytes that the inputs tell
+abbrev pub task_of : {I : Type 0} → (I → Option (List ℕ)) → Inputs I → Task
+task_of left (Inputs.Queries graph queries) = Answers (whole_of (left graph)) (whole_of (left queries))
+task_of left (Inputs.QueriesBy graph saved queries) = AnswersBy (whole_of (left graph)) (whole_of (left saved)) (whole_of (left queries))
+task_of left (Inputs.Lists graph sources targets) = Table (whole_of (left graph)) (whole_of (left sources)) (whole_of (left targets))
+task_of left (Inputs.ListsBy graph saved sources targets) = TableBy (whole_of (left graph)) (whole_of (left saved)) (whole_of (left sources)) (whole_of (left targets))
+task_of left (Inputs.Hierarchy graph) = Hierarchy (whole_of (left graph))
+
+-- the text is what is asked for, as the options say
+abbrev pub IsTextFor : Options → Task → List ℕ → Type 0
+IsTextFor options (Answers graph queries) = IsAnsweredBy options graph queries
+IsTextFor options (AnswersBy graph saved queries) = IsAnsweredFrom options graph saved queries
+IsTextFor options (Table graph sources targets) = IsTabledBy options graph sources targets
+IsTextFor options (TableBy graph saved sources targets) = IsTabledFrom options graph saved sources targets
+IsTextFor options (Hierarchy graph) = IsSavedBy options graph
+
+-- a run that answers queries ends in a fault of its own, and refuses a file for what it holds
+pub record EndsAnswers (graph queries : Reading) (result : Result Unit RunFault) : Type 0 where
+  pub own : IfErr result IsOfDist
+  pub graph_refused : (fault : ReadFault) → result ≡ Err (RunFault.Graph fault) → IsGraphRefused graph fault
+  pub queries_refused : (fault : ReadFault) → result ≡ Err (RunFault.Queries fault) → HasQueriesRefused graph queries fault
+
+-- so does one that answers queries by a saved hierarchy
+pub record EndsAnswersBy (graph saved queries : Reading) (result : Result Unit RunFault) : Type 0 where
+  pub own : IfErr result IsOfDistSaved
+  pub graph_refused : (fault : ReadFault) → result ≡ Err (RunFault.Graph fault) → IsGraphRefused graph fault
+  pub saved_refused : (fault : ReadFault) → result ≡ Err (RunFault.Saved fault) → HasSavedRefused graph saved fault
+  pub check_refused : (fault : CheckFault) → result ≡ Err (RunFault.Check fault) → HasCheckRefused graph saved fault
+  pub queries_refused : (fault : ReadFault) → result ≡ Err (RunFault.Queries fault) → HasQueriesRefusedFrom graph saved queries fault
+
+-- and one that makes a table
+pub record EndsTable (graph sources targets : Reading) (result : Result Unit RunFault) : Type 0 where
+  pub own : IfErr result IsOfTable
+  pub graph_refused : (fault : ReadFault) → result ≡ Err (RunFault.Graph fault) → IsGraphRefused graph fault
+  pub sources_refused : (fault : ReadFault) → result ≡ Err (RunFault.Sources fault) → HasSourcesRefused graph sources fault
+  pub targets_refused : (fault : ReadFault) → result ≡ Err (RunFault.Targets fault) → HasTargetsRefused graph sources targets fault
+  pub cells_refused : result ≡ Err RunFault.Cells → HasCellsRefused graph sources targets
+
+-- and one that makes a table by a saved hierarchy
+pub record EndsTableBy (graph saved sources targets : Reading) (result : Result Unit RunFault) : Type 0 where
+  pub own : IfErr result IsOfTableSaved
+  pub graph_refused : (fault : ReadFault) → result ≡ Err (RunFault.Graph fault) → IsGraphRefused graph fault
+  pub saved_refused : (fault : ReadFault) → result ≡ Err (RunFault.Saved fault) → HasSavedRefused graph saved fault
+  pub check_refused : (fault : CheckFault) → result ≡ Err (RunFault.Check fault) → HasCheckRefused graph saved fault
+  pub sources_refused : (fault : ReadFault) → result ≡ Err (RunFault.Sources fault) → HasSourcesRefusedFrom graph saved sources fault
+  pub targets_refused : (fault : ReadFault) → result ≡ Err (RunFault.Targets fault) → HasTargetsRefusedFrom graph saved sources targets fault
+  pub cells_refused : result ≡ Err RunFault.Cells → HasCellsRefusedFrom graph saved sources targets
+
+-- and one that saves a hierarchy
+pub record EndsHierarchy (graph : Reading) (result : Result Unit RunFault) : Type 0 where
+  pub own : IfErr result IsOfSave
+  pub graph_refused : (fault : ReadFault) → result ≡ Err (RunFault.Graph fault) → IsGraphRefused graph fault
+
+-- the run for what is asked ends in a fault of its own, and refuses a file for what it holds
+abbrev pub EndsFor : Task → Result Unit RunFault → Type 0
+EndsFor (Answers graph queries) = EndsAnswers graph queries
+EndsFor (AnswersBy graph saved queries) = EndsAnswersBy graph saved queries
+EndsFor (Table graph sources targets) = EndsTable graph sources targets
+EndsFor (TableBy graph saved sources targets) = EndsTableBy graph saved sources targets
+EndsFor (Hierarchy graph) = EndsHierarchy graph
+
+-- P holds of each input
+abbrev pub AllInputs : {I : Type 0} → (Which → I → Type 0) → Inputs I → Type 0
+AllInputs P (Inputs.Queries graph queries) = P Which.Graph graph × P Which.Queries queries
+AllInputs P (Inputs.QueriesBy graph saved queries) = P Which.Graph graph × P Which.Saved saved × P Which.Queries queries
+AllInputs P (Inputs.Lists graph sources targets) = P Which.Graph graph × P Which.Sources sources × P Which.Targets targets
+AllInputs P (Inputs.ListsBy graph saved sources targets) = P Which.Graph graph × P Which.Saved saved × P Which.Sources sources × P Which.Targets targets
+AllInputs P (Inputs.Hierarchy graph) = P Which.Graph graph
+
+-- no read of an input has failed
+abbrev pub AreFresh : {I : Type 0} → (I → ℕ) → Inputs I → Type 0
+AreFresh failed = AllInputs (λ _ input. failed input ≡ 0)
+
+-- a read of this input failed since
+abbrev pub HasFailed : {I : Type 0} → (I → ℕ) → I → Type 0
+HasFailed {I} failed old = (new : I) × (failed old < failed new)
+
+-- P holds of one of the inputs
+abbrev pub SomeInput : {I : Type 0} → (Which → I → Type 0) → Inputs I → Type 0
+SomeInput P (Inputs.Queries graph queries) = P Which.Graph graph ⊎ P Which.Queries queries
+SomeInput P (Inputs.QueriesBy graph saved queries) = P Which.Graph graph ⊎ P Which.Saved saved ⊎ P Which.Queries queries
+SomeInput P (Inputs.Lists graph sources targets) = P Which.Graph graph ⊎ P Which.Sources sources ⊎ P Which.Targets targets
+SomeInput P (Inputs.ListsBy graph saved sources targets) = P Which.Graph graph ⊎ P Which.Saved saved ⊎ P Which.Sources sources ⊎ P Which.Targets targets
+SomeInput P (Inputs.Hierarchy graph) = P Which.Graph graph
+
+-- a read of this one of the inputs failed since
+abbrev pub HasFailedRead : {I : Type 0} → (I → ℕ) → Inputs I → Which → Type 0
+HasFailedRead failed inputs which = SomeInput (λ other input. (other ≡ which) × HasFailed failed input) inputs

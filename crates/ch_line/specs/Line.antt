@@ -1,0 +1,136 @@
+-- What a line asks for, of which files, and how its run ends.
+use Rattle.std.specs.Prelude.{◌≡◌, ◌⊎◌, ◌↔◌, ◌<◌, ◌≤◌, ℕ, [], ◌∷◌, List, Option, Some, None, Result, Err, IfErr, IfSome, IsErrAnd, ⊤, vec_len, codes, length, get_or, map, option_map, if◌then◌else◌}
+use Rattle.std.specs.String.{string_bytes}
+use Rattle.ch_run.specs.declared.options.TheConstants.{MOST_HOPS, MOST_WITHIN}
+use Rattle.ch_run.specs.declared.fault.Which.{Which}
+use Rattle.ch_run.specs.declared.fault.RunFault.{RunFault}
+use Rattle.ch_run.specs.Device.{CountsAtMostOneOf}
+use Rattle.ch_run.specs.Run.{Delivers, IsWrite, Reading}
+use Rattle.ch_work.specs.Plan.{IsWithinLimits}
+use Rattle.ch_line.specs.declared.line.Line.{Line}
+use Rattle.ch_line.specs.declared.line.Tool.{Tool}
+use Rattle.ch_line.specs.declared.inputs.Inputs.{Inputs}
+use Rattle.ch_line.specs.Files.{FileState, bytes_of}
+use Rattle.ch_line.specs.Inputs.{Task, EndsFor, HasFailedRead, IsTextFor, task_of, whole_of}
+
+-- the files of a tool, in their order
+abbrev pub file_names : Tool → List (List ℕ)
+file_names Tool.Dist = codes "GRAPH" ∷ codes "QUERIES" ∷ []
+file_names Tool.Table = codes "GRAPH" ∷ codes "SOURCES" ∷ codes "TARGETS" ∷ []
+file_names Tool.Save = codes "GRAPH" ∷ []
+
+-- the numbers of a line are within the program's limits, and it names each file of its tool
+pub record IsAllowed (line : Line) : Type 0 where
+  pub files : vec_len line.files ≡ length (file_names line.tool)
+  pub some_hops : 1 ≤ line.options.hops
+  pub few_hops : line.options.hops ≤ MOST_HOPS
+  pub limit : IfSome line.options.within (λ most. most ≤ MOST_WITHIN)
+  pub plan : IsWithinLimits line.plan
+
+-- the name of a line's file at this place
+abbrev pub name_at : Line → ℕ → List ℕ
+name_at line place = get_or (map string_bytes line.files.items) place []
+
+-- the saved hierarchy that is read, if one is: plain distances take none
+abbrev pub saved_name : Line → Option (List ℕ)
+saved_name line = if line.options.plain then None else option_map string_bytes line.saved
+
+-- what is known of the bytes of a name's file, read to its end
+abbrev pub file_reading : (List ℕ → FileState) → List ℕ → Reading
+file_reading known name = whole_of (bytes_of (known name))
+
+-- what is asked of a graph, a saved hierarchy, if there is one, and queries
+abbrev pub queries_task : Reading → Option Reading → Reading → Task
+queries_task graph None queries = Task.Answers graph queries
+queries_task graph (Some saved) queries = Task.AnswersBy graph saved queries
+
+-- what is asked of a graph, a saved hierarchy, if there is one, sources and targets
+abbrev pub lists_task : Reading → Option Reading → Reading → Reading → Task
+lists_task graph None sources targets = Task.Table graph sources targets
+lists_task graph (Some saved) sources targets = Task.TableBy graph saved sources targets
+
+-- what a tool asks of its files and of a saved hierarchy, or none
+abbrev pub tool_task : Tool → (ℕ → Reading) → Option Reading → Task
+tool_task Tool.Dist file saved = queries_task (file 0) saved (file 1)
+tool_task Tool.Table file saved = lists_task (file 0) saved (file 1) (file 2)
+tool_task Tool.Save file saved = Task.Hierarchy (file 0)
+
+-- what a line asks for of the bytes that are known of its files
+abbrev pub line_task : (List ℕ → FileState) → Line → Task
+line_task known line = tool_task line.tool (λ n. file_reading known (name_at line n)) (option_map (file_reading known) (saved_name line))
+
+-- an input and the name of its file
+abbrev pub File : Type 0
+File = Which × List ℕ
+
+-- the files of a run that answers queries, in the order in which they are opened
+abbrev pub queries_files : List ℕ → Option (List ℕ) → List ℕ → List File
+queries_files graph None queries = (Which.Graph, graph) ∷ (Which.Queries, queries) ∷ []
+queries_files graph (Some saved) queries = (Which.Graph, graph) ∷ (Which.Saved, saved) ∷ (Which.Queries, queries) ∷ []
+
+-- the files of a run that makes a table
+abbrev pub lists_files : List ℕ → Option (List ℕ) → List ℕ → List ℕ → List File
+lists_files graph None sources targets = (Which.Graph, graph) ∷ (Which.Sources, sources) ∷ (Which.Targets, targets) ∷ []
+lists_files graph (Some saved) sources targets = (Which.Graph, graph) ∷ (Which.Saved, saved) ∷ (Which.Sources, sources) ∷ (Which.Targets, targets) ∷ []
+
+-- the files that a tool opens, in order
+abbrev pub tool_files : Tool → (ℕ → List ℕ) → Option (List ℕ) → List File
+tool_files Tool.Dist file saved = queries_files (file 0) saved (file 1)
+tool_files Tool.Table file saved = lists_files (file 0) saved (file 1) (file 2)
+tool_files Tool.Save file saved = (Which.Graph, file 0) ∷ []
+
+-- the files that the run of a line opens, in order
+abbrev pub line_files : Line → List File
+line_files line = tool_files line.tool (name_at line) (saved_name line)
+
+-- there may be such a file
+abbrev pub MayBeThere : FileState → Type 0
+MayBeThere FileState.Untold = ⊤
+MayBeThere FileState.Missing = ⊥
+MayBeThere (FileState.Holds bytes) = ⊤
+
+-- there may be each of these files
+abbrev pub MayAllBeThere : (List ℕ → FileState) → List File → Type 0
+MayAllBeThere known [] = ⊤
+MayAllBeThere known (file ∷ files) = MayBeThere (known file.1) × MayAllBeThere known files
+
+-- the system may refuse to open it
+abbrev pub MayBeRefused : FileState → Type 0
+MayBeRefused FileState.Untold = ⊤
+MayBeRefused FileState.Missing = ⊤
+MayBeRefused (FileState.Holds bytes) = ⊥
+
+-- why an input isn't opened: there is no memory, or the system refuses its file
+abbrev pub IsNotOpened : FileState → Which → RunFault → Type 0
+IsNotOpened known which fault = (fault ≡ RunFault.Memory) ⊎ ((fault ≡ RunFault.Device which) × MayBeRefused known)
+
+-- the fault is why one of these files isn't opened
+abbrev pub IsUnopened : (List ℕ → FileState) → List File → RunFault → Type 0
+IsUnopened known [] fault = ⊥
+IsUnopened known (file ∷ files) fault = IsNotOpened (known file.1) file.0 fault ⊎ IsUnopened known files fault
+
+-- where this file is missing, the run ends at it, or before, for want of memory; and where nothing is known of it,
+-- it may end at it, or goes on
+abbrev pub AtMissing : {T : Type 0} → FileState → Which → Type 0 → Result T RunFault → Type 0
+AtMissing FileState.Untold which rest result = IsErrAnd result (λ fault. fault ≡ RunFault.Device which) ⊎ rest
+AtMissing FileState.Missing which rest result = IsErrAnd result (λ fault. (fault ≡ RunFault.Device which) ⊎ (fault ≡ RunFault.Memory))
+AtMissing (FileState.Holds bytes) which rest result = rest
+
+-- the run ends at the first of these files that is missing
+abbrev pub EndsAtMissing : {T : Type 0} → (List ℕ → FileState) → List File → Result T RunFault → Type 0
+EndsAtMissing known [] result = ⊤
+EndsAtMissing known (file ∷ files) result = AtMissing (known file.1) file.0 (EndsAtMissing known files result) result
+
+-- a read failed of an input that was opened for the line
+abbrev pub HasReadFailed : {I : Type 0} → (I → Option (List ℕ)) → (I → ℕ) → (List ℕ → FileState) → Line → Which → Type 0
+HasReadFailed {I} left failed known line which = (inputs : Inputs I) × (task_of left inputs ≡ line_task known line) × HasFailedRead failed inputs which
+
+-- the run of a line, as `run_line` owes it: what the output took, where it ends, and which faults were counted
+pub record IsRunOf {I O : Type 0} (left : I → Option (List ℕ)) (failures : I → ℕ) (known : List ℕ → FileState) (taken : O → Option (List ℕ)) (failed idle : O → ℕ) (line : Line) (old new : O) (result : Result Unit RunFault) : Type 0 where
+  pub written : Delivers result (taken old) (taken new) (IsTextFor line.options (line_task known line))
+  pub missing : EndsAtMissing known (line_files line) result
+  pub ends : EndsFor (line_task known line) result ⊎ IsErrAnd result (IsUnopened known (line_files line))
+  pub unread : (which : Which) → result ≡ Err (RunFault.Device which) → IsUnopened known (line_files line) (RunFault.Device which) ⊎ HasReadFailed left failures known line which
+  pub unwritten : (new ≡ old) ⊎ IfErr result IsWrite
+  pub output_device : IsErrAnd result IsWrite ↔ ((failed old < failed new) ⊎ (idle old < idle new))
+  pub output_once : CountsAtMostOneOf (failed old) (failed new) (idle old) (idle new)

@@ -1,0 +1,47 @@
+//! Files in memory, which tell their bytes: for tests.
+
+ghost use Rattle.std.specs.Prelude.{◌≡◌, ◌<◌, ℕ, List};
+ghost use Rattle.ch_line.specs.Files.{state_among};
+
+use super::{Files, OpenFault};
+use ch_run::MemoryInput;
+
+/// A file in memory.
+#[derive(Clone, Copy, Debug)]
+pub struct MemoryFile<'a> {
+    pub name: &'a str,
+    pub bytes: &'a [u8],
+}
+
+/// Files in memory, the first of each name, which are read at most `most` bytes at a time.
+#[derive(Clone, Copy, Debug)]
+pub struct MemoryFiles<'a> {
+    files: &'a [MemoryFile<'a>],
+    most: usize,
+    ghost gives_some: { 0 < most },
+}
+
+impl<'a> MemoryFiles<'a> {
+    /// These files, whose inputs give at most `most` bytes at a read.
+    pub fn new(files: &'a [MemoryFile<'a>], most: usize) -> Self
+        requires { 0 < most }
+        ensures { (name : List ℕ) → ⟦<MemoryFiles<'a> as Files>⟧.known result name ≡ state_among files.now name }
+    {
+        MemoryFiles { files, most }
+    }
+}
+
+impl<'a> Files for MemoryFiles<'a> {
+    type Input = MemoryInput<'a>;
+
+    ghost known = { λ files name. state_among files.files.now name };
+
+    fn open(&self, name: &str) -> Result<MemoryInput<'a>, OpenFault> {
+        for file in self.files {
+            if file.name == name {
+                return Ok(MemoryInput::new(file.bytes, self.most));
+            }
+        }
+        Err(OpenFault::Refused)
+    }
+}

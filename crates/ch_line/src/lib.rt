@@ -1,0 +1,15 @@
+//! Lines: what the program is asked for, and the run that does it over files that are opened by name.
+//!
+//! Proved of [`run_line`]: where the files tell their bytes, what the output took is the text that the line's tool
+//! makes of the bytes of its files, in the order of its arguments and with its options; and the fault is that of these bytes.
+#![tactic(auto)]
+
+mod files;
+mod inputs;
+mod line;
+mod run;
+
+pub use files::{Files, MemoryFile, MemoryFiles, OpenFault};
+pub use inputs::{Inputs, run_inputs};
+pub use line::{Line, Tool};
+pub use run::{open_inputs, run_line};

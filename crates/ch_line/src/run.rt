@@ -1,0 +1,176 @@
+//! The run that a line asks for, over files that are opened by their names.
+
+ghost use Rattle.std.specs.Prelude.{◌≡◌, ◌<◌, ◌↔◌, ◌⊎◌, Err, IfErr, IfOk, IsErrAnd, option_map, vec_len};
+ghost use Rattle.ch_run.specs.Device.{CanCountOneMore, CountsAtMostOneOf};
+ghost use Rattle.ch_run.specs.Run.{Delivers, IsWrite};
+ghost use Rattle.ch_run.specs.declared.fault.Which.{Which as WhichInput};
+ghost use Rattle.ch_line.specs.Files.{bytes_of};
+ghost use Rattle.ch_line.specs.Inputs.{AreFresh, EndsFor, IsTextFor, task_of};
+ghost use Rattle.ch_line.specs.Line.{EndsAtMissing, HasReadFailed, IsAllowed, IsNotOpened, IsUnopened, MayAllBeThere, MayBeThere, file_reading, line_files, line_task, lists_files, lists_task, name_at, queries_files, queries_task, saved_name};
+
+use crate::files::{Files, OpenFault};
+use crate::inputs::{Inputs, run_inputs};
+use crate::line::{Line, Tool};
+use ch_run::{Gate, Output, RunFault, Which};
+use std::alloc::Global;
+use std::thread::Threads;
+
+/// Does what a line asks for. All of its files are opened, in the order of the arguments, before one is read.
+///
+/// # Errors
+/// The fault of the first file that can't be opened, or of the run.
+pub fn run_line<R: Threads + Sync, F: Files, O: Output, G: Gate>(
+    rt: &R,
+    alloc: Global,
+    files: &F,
+    output: &mut O,
+    line: &Line,
+    gate: &G,
+) -> Result<(), RunFault>
+    requires allowed { IsAllowed line.now }
+    requires failures { CanCountOneMore (O.failed output.old) }
+    requires zeros { CanCountOneMore (O.idle output.old) }
+
+    // What is written is the text that the line asks for, of the files that it names: all of it, or its first bytes.
+    ensures written { Delivers result (O.taken output.old) (O.taken output.new) (IsTextFor line.now.options (line_task (F.known files.now) line.now)) }
+
+    // A missing file ends it before anything is read, and otherwise a fault is of what the files hold.
+    ensures missing { EndsAtMissing (F.known files.now) (line_files line.now) result }
+    ensures ends { EndsFor (line_task (F.known files.now) line.now) result ⊎ IsErrAnd result (IsUnopened (F.known files.now) (line_files line.now)) }
+    ensures unread { (which : WhichInput) → result ≡ Err (RunFault.Device which) →
+        IsUnopened (F.known files.now) (line_files line.now) (RunFault.Device which) ⊎ HasReadFailed F.Input.left F.Input.failed (F.known files.now) line.now which }
+
+    // Nothing is written but by a run that is done or was refused a write; a refused write is told, and not tried again.
+    ensures unwritten { (output.new ≡ output.old) ⊎ IfErr result IsWrite }
+    ensures output_device { IsErrAnd result IsWrite ↔ ((O.failed output.old < O.failed output.new) ⊎ (O.idle output.old < O.idle output.new)) }
+    ensures output_once { CountsAtMostOneOf (O.failed output.old) (O.failed output.new) (O.idle output.old) (O.idle output.new) }
+{
+    let inputs = open_inputs(files, line)?;
+    run_inputs(rt, alloc, inputs, output, &line.options, &line.plan, gate)
+}
+
+/// Opens the files of a line, in the order of its arguments.
+///
+/// # Errors
+/// `Device` of the first that can't be opened, or `Memory`.
+pub fn open_inputs<F: Files>(files: &F, line: &Line) -> Result<Inputs<F::Input>, RunFault>
+    requires { IsAllowed line.now }
+    ensures fresh { IfOk result (AreFresh F.Input.failed) }
+    ensures asked { IfOk result (λ inputs. task_of F.Input.left inputs ≡ line_task (F.known files.now) line.now) }
+    ensures there { IfOk result (λ _. MayAllBeThere (F.known files.now) (line_files line.now)) }
+    ensures missing { EndsAtMissing (F.known files.now) (line_files line.now) result }
+    ensures unopened { IfErr result (IsUnopened (F.known files.now) (line_files line.now)) }
+{
+    match line.tool {
+        Tool::Dist => open_queries(files, name_of(line, 0), saved_of(line), name_of(line, 1)),
+        Tool::Table => open_lists(
+            files,
+            name_of(line, 0),
+            saved_of(line),
+            name_of(line, 1),
+            name_of(line, 2),
+        ),
+        Tool::Save => Ok(Inputs::Hierarchy {
+            graph: open_input(files, name_of(line, 0), Which::Graph)?,
+        }),
+    }
+}
+
+/// Opens a graph, a saved hierarchy, if one is named, and queries.
+fn open_queries<F: Files>(
+    files: &F,
+    graph: &str,
+    saved: Option<&str>,
+    queries: &str,
+) -> Result<Inputs<F::Input>, RunFault>
+    ensures fresh { IfOk result (AreFresh F.Input.failed) }
+    ensures asked { IfOk result (λ inputs. task_of F.Input.left inputs
+        ≡ queries_task (file_reading (F.known files.now) graph.now) (option_map (file_reading (F.known files.now)) (option_map (λ name. name.now) saved.entry)) (file_reading (F.known files.now) queries.now)) }
+    ensures there { IfOk result (λ _. MayAllBeThere (F.known files.now) (queries_files graph.now (option_map (λ name. name.now) saved.entry) queries.now)) }
+    ensures missing { EndsAtMissing (F.known files.now) (queries_files graph.now (option_map (λ name. name.now) saved.entry) queries.now) result }
+    ensures unopened { IfErr result (IsUnopened (F.known files.now) (queries_files graph.now (option_map (λ name. name.now) saved.entry) queries.now)) }
+{
+    let graph = open_input(files, graph, Which::Graph)?;
+    let Some(saved) = saved else {
+        let queries = open_input(files, queries, Which::Queries)?;
+        return Ok(Inputs::Queries { graph, queries });
+    };
+    let saved = open_input(files, saved, Which::Saved)?;
+    let queries = open_input(files, queries, Which::Queries)?;
+    Ok(Inputs::QueriesBy {
+        graph,
+        saved,
+        queries,
+    })
+}
+
+/// Opens a graph, a saved hierarchy, if one is named, sources and targets.
+fn open_lists<F: Files>(
+    files: &F,
+    graph: &str,
+    saved: Option<&str>,
+    sources: &str,
+    targets: &str,
+) -> Result<Inputs<F::Input>, RunFault>
+    ensures fresh { IfOk result (AreFresh F.Input.failed) }
+    ensures asked { IfOk result (λ inputs. task_of F.Input.left inputs
+        ≡ lists_task (file_reading (F.known files.now) graph.now) (option_map (file_reading (F.known files.now)) (option_map (λ name. name.now) saved.entry)) (file_reading (F.known files.now) sources.now) (file_reading (F.known files.now) targets.now)) }
+    ensures there { IfOk result (λ _. MayAllBeThere (F.known files.now) (lists_files graph.now (option_map (λ name. name.now) saved.entry) sources.now targets.now)) }
+    ensures missing { EndsAtMissing (F.known files.now) (lists_files graph.now (option_map (λ name. name.now) saved.entry) sources.now targets.now) result }
+    ensures unopened { IfErr result (IsUnopened (F.known files.now) (lists_files graph.now (option_map (λ name. name.now) saved.entry) sources.now targets.now)) }
+{
+    let graph = open_input(files, graph, Which::Graph)?;
+    let Some(saved) = saved else {
+        let sources = open_input(files, sources, Which::Sources)?;
+        let targets = open_input(files, targets, Which::Targets)?;
+        return Ok(Inputs::Lists {
+            graph,
+            sources,
+            targets,
+        });
+    };
+    let saved = open_input(files, saved, Which::Saved)?;
+    let sources = open_input(files, sources, Which::Sources)?;
+    let targets = open_input(files, targets, Which::Targets)?;
+    Ok(Inputs::ListsBy {
+        graph,
+        saved,
+        sources,
+        targets,
+    })
+}
+
+/// The name of a line's file at this place.
+fn name_of(line: &Line, place: usize) -> &str
+    requires { place < vec_len line.now.files }
+    ensures { result.now ≡ name_at line.now place }
+{
+    line.files[place].as_str()
+}
+
+/// The name of the saved hierarchy that the run of a line reads.
+fn saved_of(line: &Line) -> Option<&str>
+    ensures { option_map (λ name. name.now) result ≡ saved_name line.now }
+{
+    match &line.saved {
+        Some(name) if !line.options.plain => Some(name.as_str()),
+        _ => None,
+    }
+}
+
+/// Opens the file of an input.
+fn open_input<F: Files>(files: &F, name: &str, which: Which) -> Result<F::Input, RunFault>
+    ensures fresh { IfOk result (λ input. F.Input.failed input ≡ 0) }
+    ensures bytes { IfOk result (λ input. F.Input.left input ≡ bytes_of (F.known files.now name.now)) }
+    ensures there { IfOk result (λ _. MayBeThere (F.known files.now name.now)) }
+    ensures unopened { IfErr result (IsNotOpened (F.known files.now name.now) which) }
+{
+    match files.open(name) {
+        Ok(input) => Ok(input),
+        Err(OpenFault::Refused) => Err(RunFault::Device(which)),
+        Err(OpenFault::Memory) => Err(RunFault::Memory),
+    }
+}
+
+#[cfg(test)]
+mod tests;

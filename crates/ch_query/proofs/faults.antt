@@ -1,0 +1,6 @@
+-- What faults a saved hierarchy has.
+pub mod FirstFailing
+pub mod LegCosts
+pub mod ArcRows
+pub mod Pairs
+pub mod Checked

@@ -1,0 +1,142 @@
+-- What `check` answers.
+use Rattle.std.proofs.Common.{get_or, ◌≡◌, ℕ, ◌<◌, All, Contains, Option, Some, None, refl, sym, subst, inl, inr}
+use Rattle.std.specs.Prelude.{slice_get, Result, Ok, Err}
+use Rattle.std.proofs.lemmas.Bool.{false≢true}
+use Rattle.std.proofs.lemmas.Option.{slice_get_within, slice_get-get_or}
+use Rattle.std.proofs.lemmas.List.Elements.{All-contains}
+use Rattle.ch_graph.specs.declared.arc.InArc.{InArc}
+use Rattle.ch_graph.specs.declared.cost.Cost.{Cost}
+use Rattle.ch_graph.specs.declared.saved.SavedLeg.{SavedLeg}
+use Rattle.ch_graph.specs.Graph.{Network, IsWithinLimits, IsArcWithin}
+use Rattle.ch_graph.specs.Saved.{OrderAndLegs}
+use Rattle.ch_hierarchy.specs.declared.fault.CheckFault.TheVariants.{Base, Middle, Arc, Lower}
+use Rattle.ch_hierarchy.specs.declared.fault.CheckError.{CheckError}
+use Rattle.ch_hierarchy.specs.declared.fault.CheckError.TheVariants.{Fault, NoMemory}
+use Rattle.ch_hierarchy.specs.Hierarchy.{LevelsAndLegs, nodes_of}
+use Rattle.ch_hierarchy.specs.Kept.{IsLeg, IsFounded, HasLegWithin, IsCovered, IsKept}
+use Rattle.ch_hierarchy.specs.Assembling.{IsFirstFailing}
+use Rattle.ch_hierarchy.specs.Saved.{NamesFor, HasFault, IsFirstFault}
+use Rattle.ch_hierarchy.proofs.theory.OneSaved.{one_saved}
+use Rattle.ch_hierarchy.proofs.theory.SavedFaults.{HasNoneBelow, none_more, first_at, none_early, no_fault, Checks}
+use Rattle.ch_query.specs.declared.side.Side.TheVariants.{Up, Down}
+use Rattle.ch_query.specs.Checking.{IsFaultless, IsOkWhere, IsArcIfBase, IsSumIfShortcut, IsServed}
+use Rattle.ch_query.specs.Covering.{IsFirstUncovered}
+use Rattle.ch_query.proofs.one_side.Expanding.{leg_up}
+use Rattle.ch_query.proofs.faults.FirstFailing.{held_at}
+use Rattle.ch_query.proofs.routing.Rows.{has_row}
+
+some_or_none : (v : ℕ) (m : Option ℕ) → m ≡ Some v → m ≡ None → ⊥
+some_or_none v m e f = cc
+
+-- what is read past the end
+no_leg : SavedLeg
+no_leg = record { from = 0; to = 0; cost = record { weight = 0; arcs = 0 }; middle = None }
+
+no_arc : InArc
+no_arc = record { from = 0; to = 0; weight = 0 }
+
+module _ (g : Network) (s : OrderAndLegs) (H : LevelsAndLegs) (named : NamesFor g s H) where
+  -- where the leg at a place is right it has no fault
+  base_gone : (p : ℕ) → ((l : SavedLeg) → slice_get s.legs p ≡ Some l → IsArcIfBase g l) → HasFault g s (Base p) → ⊥
+  base_gone p right (l, none, (at, (K, names, bad))) = bad (subst (IsFounded g K l.from l.to l.cost) (sym none) (right l at none))
+
+  middle_gone : (p : ℕ) → ((l : SavedLeg) → slice_get s.legs p ≡ Some l → IsSumIfShortcut H l) → HasFault g s (Middle p) → ⊥
+  middle_gone p right (l, v, some, (at, (K, names, bad))) =
+      bad (subst (λ q. IsFounded g q l.from l.to l.cost l.middle) (one_saved s H K named.0 names) (subst (IsFounded g H l.from l.to l.cost) (sym some) (right l at v some)))
+
+  arc_gone : (p : ℕ) → ((a : InArc) → slice_get g.arcs p ≡ Some a → IsServed H a) → HasFault g s (Arc p) → ⊥
+  arc_gone p right (a, at, apart, (K, names, bad)) = bad (subst (λ q. HasLegWithin q a) (one_saved s H K named.0 names) (right a at apart))
+
+  lower_gone : (v : ℕ) → IsCovered H v → HasFault g s (Lower v) → ⊥
+  lower_gone v right (lt, (K, names, bad)) = bad (subst (λ q. IsCovered q v) (one_saved s H K named.0 names) right)
+
+  -- where it is wrong the fault is there
+  base_there : (i : ℕ) → IsFirstFailing (IsArcIfBase g) s.legs i → HasFault g s (Base i)
+  base_there i f = at l.middle refl
+    where
+      l : SavedLeg
+      l = get_or s.legs i no_leg
+
+      at : (m : Option ℕ) → l.middle ≡ m → HasFault g s (Base i)
+      at None none =
+          (l, none, (slice_get-get_or s.legs i no_leg f.within, (H, named.0, λ founded. f.fails no_leg (λ _. subst (IsFounded g H l.from l.to l.cost) none founded))))
+      at (Some v) some = absurd (f.fails no_leg (λ none. absurd (some_or_none v l.middle some none)))
+
+  middle_there : (i : ℕ) → IsFirstFailing (IsSumIfShortcut H) s.legs i → HasFault g s (Middle i)
+  middle_there i f = at l.middle refl
+    where
+      l : SavedLeg
+      l = get_or s.legs i no_leg
+
+      at : (m : Option ℕ) → l.middle ≡ m → HasFault g s (Middle i)
+      at None none = absurd (f.fails no_leg (λ v some. absurd (some_or_none v l.middle some none)))
+      at (Some v) some =
+          (l, v, some, (slice_get-get_or s.legs i no_leg f.within, (H, named.0, λ founded. f.fails no_leg (λ u is. subst (IsFounded g H l.from l.to l.cost) is founded))))
+
+  arc_there : (i : ℕ) → IsFirstFailing (IsServed H) g.arcs i → HasFault g s (Arc i)
+  arc_there i f = (
+    get_or g.arcs i no_arc,
+    slice_get-get_or g.arcs i no_arc f.within,
+    λ same. f.fails no_arc (λ apart. absurd (apart same)),
+    (H, named.0, λ served. f.fails no_arc (λ apart. served)),
+  )
+
+  -- the first of each kind, where the kinds before are not there
+  pub base_first : (i : ℕ) → IsFirstFailing (IsArcIfBase g) s.legs i → IsFirstFault g s (Base i)
+  base_first i f = first_at g s (Base i) (none_early g s H named) (base_there i f) (λ p lt h. base_gone p (λ l at. held_at (IsArcIfBase g) s.legs p l (λ d. f.before p d lt) at) h)
+
+  module _ (bases : All (IsArcIfBase g) s.legs) where
+    no_base : HasNoneBelow g s 4
+    no_base = none_more g s 3 (none_early g s H named) (λ p h. base_gone p (λ l at. held_at (IsArcIfBase g) s.legs p l (λ d. bases p d (slice_get_within s.legs p l at)) at) h)
+
+    pub middle_first : (i : ℕ) → IsFirstFailing (IsSumIfShortcut H) s.legs i → IsFirstFault g s (Middle i)
+    middle_first i f = first_at g s (Middle i) no_base (middle_there i f) (λ p lt h. middle_gone p (λ l at. held_at (IsSumIfShortcut H) s.legs p l (λ d. f.before p d lt) at) h)
+
+    module _ (sums : All (IsSumIfShortcut H) s.legs) where
+      no_middle : HasNoneBelow g s 5
+      no_middle = none_more g s 4 no_base (λ p h. middle_gone p (λ l at. held_at (IsSumIfShortcut H) s.legs p l (λ d. sums p d (slice_get_within s.legs p l at)) at) h)
+
+      pub arc_first : (i : ℕ) → IsFirstFailing (IsServed H) g.arcs i → IsFirstFault g s (Arc i)
+      arc_first i f = first_at g s (Arc i) no_middle (arc_there i f) (λ p lt h. arc_gone p (λ a at. held_at (IsServed H) g.arcs p a (λ d. f.before p d lt) at) h)
+
+      module _ (served : All (IsServed H) g.arcs) where
+        no_arc_fault : HasNoneBelow g s 6
+        no_arc_fault = none_more g s 5 no_middle (λ p h. arc_gone p (λ a at. held_at (IsServed H) g.arcs p a (λ d. served p d (slice_get_within g.arcs p a at)) at) h)
+
+        pub lower_first : (v : ℕ) → IsFirstUncovered H v → IsFirstFault g s (Lower v)
+        lower_first v f =
+            first_at g s (Lower v) no_arc_fault (subst (λ n. v < n) named.1 f.within, (H, named.0, f.fails)) (λ p lt h. lower_gone p (f.first p lt) h)
+
+        founded : (u w : ℕ) (c : Cost) (m : Option ℕ) → Contains s.legs (record { from = u; to = w; cost = c; middle = m }) → IsFounded g H u w c m
+        founded u w c None has = All-contains (IsArcIfBase g) s.legs (record { from = u; to = w; cost = c; middle = None }) bases has refl
+        founded u w c (Some v) has = All-contains (IsSumIfShortcut H) s.legs (record { from = u; to = w; cost = c; middle = Some v }) sums has v refl
+
+        -- the hierarchy is right where none is there
+        pub all_kept : ((v : ℕ) → v < nodes_of H → IsCovered H v) → IsKept g H
+        all_kept covered = record {
+          nodes = named.1;
+          levelled = named.0.levelled;
+          founded = λ u w c m leg. founded u w c m ((named.0.legs u w c m).0 leg);
+          arcs = λ a has apart. All-contains (IsServed H) g.arcs a served has apart;
+          covered = λ v a b ha hb apart. covered v (has_row H named.0.levelled Down v a ha) a b ha hb apart;
+        }
+
+-- the legs of a file lead between nodes
+pub starts_within : (g : Network) (s : OrderAndLegs) (H : LevelsAndLegs) → NamesFor g s H → (l : SavedLeg) → Contains s.legs l → l.from < g.nodes
+starts_within g s H named l has = at ((named.0.legs l.from l.to l.cost l.middle).1 has)
+  where
+    at : IsLeg H l.from l.to l.cost l.middle → l.from < g.nodes
+    at (x, cost, middle, inl (here, node)) = subst (λ n. l.from < n) named.1 (has_row H named.0.levelled Up l.from x here)
+    at (x, cost, middle, inr (here, node)) = subst (λ n. l.from < n) named.1 (subst (λ q. q < nodes_of H) node (leg_up H named.0.levelled Down l.to x here).node)
+
+-- the ends of an arc are nodes
+pub arc_ends_within : (g : Network) (H : LevelsAndLegs) → IsWithinLimits g → nodes_of H ≡ g.nodes → (a : InArc) → Contains g.arcs a → (a.from < nodes_of H) × (a.to < nodes_of H)
+arc_ends_within g H limits same a has =
+    let ends = (All-contains (IsArcWithin g.nodes) g.arcs a limits.each has).ends in
+    (subst (λ n. a.from < n) (sym same) ends.0, subst (λ n. a.to < n) (sym same) ends.1)
+
+-- what answers as `check` does is Ok exactly where there is no fault
+pub accepted_by : (g : Network) (s : OrderAndLegs) (r : Result LevelsAndLegs CheckError) → Checks g s r → IsOkWhere r (IsFaultless g s)
+accepted_by g s (Ok H) checks = (λ _. no_fault g s H ((checks.0 H).0 refl), λ _. inl refl)
+accepted_by g s (Err (Fault f)) checks = (λ ok. absurd (false≢true ok), λ none. absurd (none f ((checks.1 f).0 refl).has))
+accepted_by g s (Err NoMemory) checks = (λ ok. absurd (false≢true ok), λ _. inr refl)

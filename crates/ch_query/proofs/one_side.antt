@@ -1,0 +1,13 @@
+-- What one side of a query knows, step by step and at its end.
+pub mod PathLaws
+pub mod LeastPaths
+pub mod Steps
+pub mod Parents
+pub mod Touched
+pub mod Expanding
+pub mod Popping
+pub mod Stalling
+pub mod End
+pub mod Spreads
+pub mod TightNodes
+pub mod SearchSpaces

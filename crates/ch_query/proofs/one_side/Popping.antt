@@ -1,0 +1,65 @@
+-- The least node leaves the queue.
+use Rattle.std.proofs.Common.{◌≡◌, ℕ, ◌+◌, ◌<◌, false, List, length, Option, Some, None, sym, ◌∙◌, ap, subst, arith, set, inl, inr}
+use Rattle.std.specs.Ordering.{is_gt, MatchOrdering}
+use Rattle.std.specs.declared.cmp.Ordering.{Ordering}
+use Rattle.std.specs.declared.cmp.Ordering.TheVariants.{Less, Equal, Greater}
+use Rattle.std.proofs.lemmas.Bool.{cases_lt, false≢true}
+use Rattle.std.proofs.lemmas.List.{get_or_past}
+use Rattle.std.proofs.lemmas.Option.{none-some}
+use Rattle.ch_graph.specs.declared.cost.Cost.{Cost}
+use Rattle.ch_graph.specs.Cost.{IsAtMost, IsBelow, cost_cmp, cost_at}
+use Rattle.ch_graph.proofs.CostOrder.{IsAtMost_refl, IsBelow-IsAtMost, cost_cmp_tells}
+use Rattle.ch_hierarchy.specs.Hierarchy.{LevelsAndLegs}
+use Rattle.ch_queue.specs.Queue.{IsLeastEntry}
+use Rattle.ch_query.specs.declared.search.Search.{Search}
+use Rattle.ch_query.specs.Search.{IsLeastKey, IsExpanding, OrNode, count_unsettled}
+use Rattle.ch_query.specs.Parents.{AreParents}
+use Rattle.ch_query.specs.Underway.{idle_of, count_unsettled_in, IsSameSearch, IsUnderway, IsExpandingAt}
+use Rattle.ch_query.specs.Side.{rows_of}
+use Rattle.ch_query.proofs.one_side.Steps.{popped, popped_falls}
+use Rattle.ch_query.proofs.one_side.Parents.{popped_parents}
+use Rattle.ch_query.proofs.one_side.Expanding.{rows_size, same_then}
+
+-- what comparing two costs tells, where the first is not greater
+at_most_by : (a b : Cost) (o : Ordering) → MatchOrdering o (IsBelow a b) (a ≡ b) (IsBelow b a) → is_gt o ≡ false → IsAtMost a b
+at_most_by a b Less h e = IsBelow-IsAtMost a b h
+at_most_by a b Equal h e = subst (IsAtMost a) h (IsAtMost_refl a)
+at_most_by a b Greater h e = absurd (false≢true (sym e))
+
+-- the least entry of a queue has the least cost
+pub least_key : (queue : List (Option Cost)) (e : Cost × ℕ) → IsLeastEntry cost_cmp queue e → IsLeastKey queue e.1 e.0
+least_key queue e l = record { has = l.has; least = λ x d k. at_most_by e.0 d (cost_cmp e.0 d) (cost_cmp_tells e.0 d) (l.least x d k).0 }
+
+-- a node with a key is one of the nodes
+pub key_within : (queue : List (Option Cost)) (v : ℕ) (c : Cost) → cost_at queue v ≡ Some c → v < length queue
+key_within queue v c e = elim (cases_lt v (length queue)) [ inl lt ↦ lt | inr ge ↦ absurd (none-some _ (sym (get_or_past queue v None ge) ∙ e)) ]
+
+-- the search with another queue
+abbrev pub with_queue : Search → List (Option Cost) → Search
+with_queue x q = record x { queue = q }
+
+-- a search that goes on with another queue stays the same search
+pub same_on : (x y z : Search) (q : List (Option Cost)) → IsSameSearch x y → IsSameSearch (with_queue y q) z → IsSameSearch x z
+same_on x y z q a b = same_then x (with_queue y q) z (record { side = a.side; source = a.source; stalls = a.stalls; most = a.most }) b
+
+-- a search underway whose least node leaves the queue
+module _ (H : LevelsAndLegs) (x : Search) (q : List (Option Cost)) (v : ℕ) (c : Cost) (u : IsUnderway H x) (l : IsLeastKey x.queue v c) (e : q ≡ set x.queue v None) where
+  -- the node is there
+  within : v < length x.queue
+  within = key_within x.queue v c l.has
+
+  -- the legs of the node are to be taken next
+  pub pop_expands : IsExpandingAt H (with_queue x q) v c
+  pop_expands = record {
+    levelled = u.levelled;
+    within = (let a = within in let b = u.search.sizes.1 in let d = rows_size H u.levelled x.side in omega arith);
+    search = subst (λ r. IsExpanding x.most (rows_of H x.side) x.source (OrNode (idle_of H x) v) x.costs.items r v c) (sym e)
+        (popped _ _ _ _ _ u.search v c l.has l.least within);
+    parents = subst (λ r. AreParents x.most (rows_of H x.side) x.source (OrNode (idle_of H x) v) x.costs.items r x.parents.items) (sym e)
+        (popped_parents _ _ _ _ _ _ u.search u.parents v c l.has l.least within);
+    touched = u.touched;
+  }
+
+  -- one node fewer is not settled
+  pub pop_falls : count_unsettled_in (with_queue x q) + 1 ≡ count_unsettled_in x
+  pop_falls = ap (λ r. count_unsettled x.costs.items r + 1) e ∙ popped_falls _ _ _ _ _ u.search v c l.has l.least within

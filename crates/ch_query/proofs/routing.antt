@@ -1,0 +1,12 @@
+-- The way back, and the arcs for which legs stand.
+pub mod Rows
+pub mod RowSearch
+pub mod PendingLegs
+pub mod Unpacked
+pub mod UnpackingSteps
+pub mod DescentLaws
+pub mod DescentSteps
+pub mod RouteArcs
+pub mod RouteWalks
+pub mod RouteAnswers
+pub mod Replies

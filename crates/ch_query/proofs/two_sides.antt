@@ -1,0 +1,6 @@
+-- What two sides of a query show together.
+pub mod MeetingSteps
+pub mod LeastMeeting
+pub mod Distances
+pub mod SharedSums
+pub mod ConnectedSearches

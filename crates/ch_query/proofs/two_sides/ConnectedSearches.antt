@@ -1,0 +1,172 @@
+-- Two searches that look for a way up and down within a bound.
+use Rattle.std.proofs.Common.{get_or, ◌≡◌, ℕ, ◌+◌, ◌<◌, ◌≤◌, false, List, [], ◌∷◌, length, Contains, Option, Some, None, refl, sym, ◌∙◌, ap, subst, arith, set, inl, inr}
+use Rattle.std.specs.Prelude.{slice_index, true}
+use Rattle.std.proofs.lemmas.Bool.{false≢true}
+use Rattle.std.proofs.lemmas.List.Elements.{Contains-get_or}
+use Rattle.ch_graph.specs.declared.limits.TheConstants.{MOST_WEIGHT}
+use Rattle.ch_graph.specs.declared.cost.Cost.{Cost}
+use Rattle.ch_graph.specs.Cost.{IsAtMost, IsBelow, cost_sum, cost_at}
+use Rattle.ch_graph.proofs.CostOrder.{IsAtMost_trans, IsBelow_not}
+use Rattle.ch_graph.proofs.CostSums.{cost_sum_comm, IsAtMost-cost_sum, IsAtMost-cost_sum_self}
+use Rattle.ch_hierarchy.specs.declared.leg.Leg.{Leg}
+use Rattle.ch_hierarchy.specs.Hierarchy.{LevelsAndLegs, nodes_of, IsLevelled}
+use Rattle.ch_hierarchy.specs.Rows.{row}
+use Rattle.ch_hierarchy.specs.Paths.{IsUpwardPath, path_cost, IsLeastUpwardPath}
+use Rattle.ch_query.specs.declared.side.Side.{Side}
+use Rattle.ch_query.specs.declared.side.Side.TheVariants.{Up, Down}
+use Rattle.ch_query.specs.declared.search.Search.{Search}
+use Rattle.ch_query.specs.declared.covering.Shown.{Shown}
+use Rattle.ch_query.specs.declared.covering.Shown.TheVariants.{Connected, Settled, Past}
+use Rattle.ch_query.specs.Search.{IsSettled, IsUpwardCost, IsLeastKey}
+use Rattle.ch_query.specs.Side.{rows_of}
+use Rattle.ch_query.specs.Underway.{IsUnderway, IsSameSearch, KeepsSettled}
+use Rattle.ch_hierarchy.specs.Kept.{MeetsWithin}
+use Rattle.ch_query.specs.Covering.{is_connected, is_settled, IsPastCost, AreConnected, AreApart}
+use Rattle.ch_query.proofs.one_side.End.{settled_least}
+use Rattle.ch_query.proofs.one_side.Expanding.{leg_up, level_small, rows_size}
+use Rattle.ch_query.proofs.one_side.LeastPaths.{decided}
+use Rattle.ch_query.proofs.one_side.PathLaws.{then_below}
+use Rattle.ch_query.proofs.one_side.Popping.{with_queue, key_within}
+use Rattle.ch_query.proofs.one_side.Spreads.{never_idle}
+use Rattle.ch_query.proofs.one_side.Steps.{popped_settled}
+
+-- what the loop knows after a step
+abbrev pub IsShown : LevelsAndLegs → Search → Search → Cost → Shown → Type 0
+IsShown H x y most Connected = AreConnected H x y most
+IsShown H x y most Settled = AreApart H x y most
+IsShown H x y most Past = AreApart H x y most × IsPastCost x.queue most × IsPastCost y.queue most
+
+-- how many steps are left
+abbrev pub nodes_left : Shown → ℕ → ℕ
+nodes_left Connected n = 0
+nodes_left Settled n = n + 1
+nodes_left Past n = 0
+
+-- each side is the other's other side
+pub apart_swapped : (H : LevelsAndLegs) (x y : Search) (most : Cost) → AreApart H x y most → AreApart H y x most
+apart_swapped H x y most m = record {
+  here = m.there;
+  there = m.here;
+  stalls = (m.stalls.1, m.stalls.0);
+  limits = (m.limits.1, m.limits.0);
+  apart = λ v a b h k. subst (IsBelow most) (cost_sum_comm b a) (m.apart v b a k h);
+}
+
+-- connected one way they are connected the other way
+pub connected_swapped : (H : LevelsAndLegs) (x y : Search) (most : Cost) → AreConnected H x y most → AreConnected H y x most
+connected_swapped H x y most j = (j.0, j.2, j.1, j.4, j.3, subst (λ q. IsAtMost q most) (cost_sum_comm j.1 j.2) j.5)
+
+-- one side settles v at cost c, and takes its legs
+module _ (H : LevelsAndLegs) (x y : Search) (most : Cost) (m : AreApart H x y most) (q : List (Option Cost)) (v : ℕ) (c : Cost)
+    (l : IsLeastKey x.queue v c) (e : q ≡ set x.queue v None) (z : Search) (u : IsUnderway H z) (same : IsSameSearch (with_queue x q) z) (settled : KeepsSettled (with_queue x q) z) where
+  -- v is known at c here
+  known : cost_at x.costs.items v ≡ Some c
+  known = m.here.search.queued v c l.has
+
+  -- a path to v costs c
+  here_at : IsUpwardCost (rows_of H z.side) z.source v c
+  here_at = subst (λ s. IsUpwardCost (rows_of H z.side) s v c) (sym same.source) (subst (λ s. IsUpwardCost (rows_of H s) x.source v c) (sym same.side) (m.here.search.sound v c known))
+
+  -- where the other side knows v within the bound, they are connected
+  pub connected_at : (d : Cost) → cost_at y.costs.items v ≡ Some d → IsAtMost (cost_sum c d) most → AreConnected H z y most
+  connected_at d at le = (v, c, d, here_at, m.there.search.sound v d at, le)
+
+  -- where it doesn't, they stay apart
+  pub still_apart : ((d : Cost) → cost_at y.costs.items v ≡ Some d → IsBelow most (cost_sum c d)) → AreApart H z y most
+  still_apart above = record {
+    here = u;
+    there = m.there;
+    stalls = (same.stalls ∙ m.stalls.0, m.stalls.1);
+    limits = (same.most ∙ m.limits.0, m.limits.1);
+    apart = λ w a b h k. elim (popped_settled _ _ _ _ _ m.here.search v c l.has l.least (key_within x.queue v c l.has) w a
+        (subst (λ r. IsSettled x.costs.items r w a) e (settled w a h))) [
+          | inl was ↦ m.apart w a b was k
+          | inr is ↦ subst (λ r. IsBelow most (cost_sum r b)) (sym is.1) (above b (ap (cost_at y.costs.items) (sym is.0) ∙ k.0))
+        ];
+  }
+
+-- each leg of a path rises a level
+path_rises : (H : LevelsAndLegs) → IsLevelled H → (side : Side) (a b : ℕ) (legs : List Leg) → IsUpwardPath (rows_of H side) a b legs →
+    length legs + slice_index H.level a ≤ slice_index H.level b
+path_rises H k side a b [] p = let e : slice_index H.level a ≡ slice_index H.level b = ap (slice_index H.level) p in omega arith
+path_rises H k side a b (l ∷ legs) p =
+    let more = path_rises H k side l.node b legs p.1 in
+    let up = (leg_up H k side a l p.0).higher in
+    omega arith
+
+-- so no path has more legs than there are nodes
+path_short : (H : LevelsAndLegs) → IsLevelled H → (side : Side) (a b : ℕ) (legs : List Leg) → IsUpwardPath (rows_of H side) a b legs → length legs ≤ nodes_of H
+path_short H k side a b legs p = let rise = path_rises H k side a b legs p in let small = level_small H k b in omega arith
+
+-- where a node is reached, a least path to it costs no more
+least_within : (H : LevelsAndLegs) → IsLevelled H → (side : Side) (s v : ℕ) (a : Cost) → IsUpwardCost (rows_of H side) s v a →
+    (c : Cost) × IsLeastUpwardPath (rows_of H side) s v c × IsAtMost c a
+least_within H k side s v a r = elim (decided (rows_of H side) v (nodes_of H) s (λ b legs p. path_short H k side s b legs p)) [
+  | inl least ↦
+      let le : IsAtMost (path_cost least.0) a = subst (IsAtMost (path_cost least.0)) r.path.2 (least.2 r.path.0 r.path.1) in
+      let light : (path_cost least.0).weight ≤ MOST_WEIGHT = (let w = r.weight in let l = le.0 in omega arith) in
+      (path_cost least.0, record { path = (least.0, least.1, refl); weight = light; least = λ ks p w. least.2 ks p }, le)
+  | inr never ↦ absurd (never r.path.0 r.path.1)
+]
+
+-- where a node is reached from both ends within the bound, there is a meeting within it
+pub meeting_within : (H : LevelsAndLegs) → IsLevelled H → (s t m : ℕ) (a b most : Cost) → IsUpwardCost H.up s m a → IsUpwardCost H.down t m b → IsAtMost (cost_sum a b) most → MeetsWithin H s t most
+meeting_within H k s t m a b most up down le =
+    let rise = least_within H k Up s m a up in
+    let fall = least_within H k Down t m b down in
+    (m, cost_sum rise.0 fall.0, (rise.0, fall.0, rise.1, fall.1, refl), IsAtMost_trans _ (cost_sum a b) _ (IsAtMost-cost_sum rise.0 a fall.0 b rise.2 fall.2) le)
+
+-- so searches that are connected show a way within it
+pub connected_covers : (H : LevelsAndLegs) → IsLevelled H → (x y : Search) (s t : ℕ) (most : Cost) → x.side ≡ Up → y.side ≡ Down → x.source ≡ s → y.source ≡ t → AreConnected H x y most → MeetsWithin H s t most
+connected_covers H k x y s t most up down xs yt j =
+    let a = subst (λ q. IsUpwardCost H.up q j.0 j.1) xs (subst (λ q. IsUpwardCost (rows_of H q) x.source j.0 j.1) up j.3) in
+    let b = subst (λ q. IsUpwardCost H.down q j.0 j.2) yt (subst (λ q. IsUpwardCost (rows_of H q) y.source j.0 j.2) down j.4) in
+    meeting_within H k s t j.0 j.1 j.2 most a b j.5
+
+-- a node that a search would reach within the bound is settled, where all that is left is above it
+settled_within : (H : LevelsAndLegs) (x : Search) (most : Cost) (side : Side) (s m : ℕ) (a : Cost) → IsUnderway H x → x.stalls ≡ false → x.most ≡ MOST_WEIGHT → IsPastCost x.queue most → x.side ≡ side → x.source ≡ s →
+    IsLeastUpwardPath (rows_of H side) s m a → IsAtMost a most → IsSettled x.costs.items x.queue m a
+settled_within H x most side s m a u off all past is from least le =
+    let is_there = subst (λ q. IsLeastUpwardPath (rows_of H q) s m a) (sym is) least in
+    let there = subst (λ q. IsLeastUpwardPath (rows_of H x.side) q m a) (sym from) is_there in
+    settled_least (rows_of H x.side) x.source _ x.costs.items x.queue u.search m a (let light = there.weight in omega arith) (λ w d k. then_below a most d le (past w d k))
+    (λ w e legs idle p q. never_idle H x off w e idle) there
+
+-- where all that is left on both sides is above the bound, and they are apart, there is no way within it
+pub apart_covers : (H : LevelsAndLegs) (x y : Search) (s t : ℕ) (most : Cost) → x.side ≡ Up → y.side ≡ Down → x.source ≡ s → y.source ≡ t →
+    AreApart H x y most → IsPastCost x.queue most → IsPastCost y.queue most → MeetsWithin H s t most → ⊥
+apart_covers H x y s t most up down xs yt m px py w =
+    let a = w.2.0 in
+    let b = w.2.1 in
+    let sum : IsAtMost (cost_sum a b) most = subst (λ q. IsAtMost q most) (sym w.2.4) w.3 in
+    let low : IsAtMost a most = IsAtMost_trans a (cost_sum a b) most (IsAtMost-cost_sum_self a b) sum in
+    let right : IsAtMost b (cost_sum a b) = subst (IsAtMost b) (cost_sum_comm b a) (IsAtMost-cost_sum_self b a) in
+    let here = settled_within H x most Up s w.0 a m.here m.stalls.0 m.limits.0 px up xs w.2.2 low in
+    let there = settled_within H y most Down t w.0 b m.there m.stalls.1 m.limits.1 py down yt w.2.3 (IsAtMost_trans b (cost_sum a b) most right sum) in
+    IsBelow_not most (cost_sum a b) (m.apart w.0 a b here there) sum
+
+-- a leg of v that is read leads to one of the nodes
+pub own_leg : (H : LevelsAndLegs) (x : Search) (v : ℕ) (legs : List Leg) (i : ℕ) (d : Leg) → IsUnderway H x → legs ≡ row (rows_of H x.side) v → i < length legs →
+    ((get_or legs i d).node < nodes_of H) × ((get_or legs i d).node < length x.costs.items)
+own_leg H x v legs i d u e lt =
+    let has = subst (λ xs. Contains xs (get_or legs i d)) e (Contains-get_or legs i d lt) in
+    let node = (leg_up H u.levelled x.side v (get_or legs i d) has).node in
+    let size = u.search.sizes.0 in
+    let rows = rows_size H u.levelled x.side in
+    (node, omega arith)
+
+-- what the loop shows at its end
+pub shown_covers : (H : LevelsAndLegs) → IsLevelled H → (x y : Search) (s t : ℕ) (most : Cost) (shown : Shown) → x.side ≡ Up → y.side ≡ Down → x.source ≡ s → y.source ≡ t →
+    IsShown H x y most shown → is_settled shown ≡ false → (is_connected shown ≡ true → MeetsWithin H s t most) × (MeetsWithin H s t most → is_connected shown ≡ true)
+shown_covers H k x y s t most Connected up down xs yt is end = (λ _. connected_covers H k x y s t most up down xs yt is, λ _. refl)
+shown_covers H k x y s t most Settled up down xs yt is end = absurd (false≢true (sym end))
+shown_covers H k x y s t most Past up down xs yt is end =
+    let never = apart_covers H x y s t most up down xs yt is.0 is.1 is.2 in
+    (λ e. absurd (false≢true e), λ w. absurd (never w))
+
+-- a step's answers, in one
+pub shown_by : (H : LevelsAndLegs) (x y : Search) (most : Cost) (shown : Shown) → (is_connected shown ≡ true → AreConnected H x y most) → (is_settled shown ≡ true → AreApart H x y most) →
+    (shown ≡ Past → AreApart H x y most × IsPastCost x.queue most × IsPastCost y.queue most) → IsShown H x y most shown
+shown_by H x y most Connected j s p = j refl
+shown_by H x y most Settled j s p = s refl
+shown_by H x y most Past j s p = p refl

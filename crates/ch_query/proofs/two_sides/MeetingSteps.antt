@@ -1,0 +1,110 @@
+-- One side of two searches settles a node.
+use Rattle.std.proofs.Common.{get_or, ◌≡◌, ℕ, ◌+◌, ◌^◌, ◌<◌, ◌≤◌, List, length, Option, Some, None, refl, sym, ◌∙◌, ap, subst, arith, set, inl, inr}
+use Rattle.std.proofs.lemmas.Option.{same_Some, none-some}
+use Rattle.ch_graph.specs.declared.limits.TheConstants.{MOST_WEIGHT, MOST_PATH_ARCS}
+use Rattle.ch_graph.specs.declared.cost.Cost.{Cost}
+use Rattle.ch_graph.specs.Cost.{IsAtMost, cost_sum, cost_at}
+use Rattle.ch_hierarchy.specs.Hierarchy.{LevelsAndLegs, nodes_of}
+use Rattle.ch_graph.proofs.CostOrder.{IsAtMost_refl, IsAtMost_trans, IsAtMost_antisymm}
+use Rattle.ch_query.specs.declared.search.Search.{Search}
+use Rattle.ch_query.specs.Search.{IsSettled, IsLeastKey, IsUpwardCost}
+use Rattle.ch_query.specs.TwoSided.{MeetsFirst, IsSeen}
+use Rattle.ch_query.specs.Underway.{IsSameSearch, IsUnderway, KeepsSettled}
+use Rattle.ch_query.specs.Side.{rows_of}
+use Rattle.ch_query.specs.Meeting.{IsLeastAfter, IsFoundBy, AreMeeting}
+use Rattle.ch_graph.proofs.CostSums.{cost_sum_comm}
+use Rattle.ch_query.proofs.one_side.Steps.{popped_settled}
+use Rattle.ch_query.proofs.one_side.Expanding.{reached_arcs, rows_size}
+use Rattle.ch_query.proofs.one_side.Popping.{with_queue, key_within}
+use Rattle.ch_query.proofs.one_side.Touched.{read}
+
+-- what comes before what comes before a third comes before it
+pub first_trans : (a b c : Cost × ℕ) → MeetsFirst a b → MeetsFirst b c → MeetsFirst a c
+first_trans a b c h k = (
+  IsAtMost_trans a.0 b.0 c.0 h.0 k.0,
+  λ same.
+      let back : IsAtMost b.0 a.0 = subst (IsAtMost b.0) (sym same) k.0 in
+      let ab = IsAtMost_antisymm a.0 b.0 h.0 back in
+      let i = h.1 ab in
+      let j = k.1 (sym ab ∙ same) in
+      omega arith,
+)
+
+-- each side is the other's other side
+pub swapped : (H : LevelsAndLegs) (x y : Search) (least : Option (Cost × ℕ)) → AreMeeting H x y least → AreMeeting H y x least
+swapped H x y least m = record {
+  here = m.there;
+  there = m.here;
+  stalls = (m.stalls.1, m.stalls.0);
+  most = (m.most.1, m.most.0);
+  seen = λ v a b h k. let r = m.seen v b a k h in (r.0, r.1, subst (λ q. MeetsFirst r.0 (q, v)) (cost_sum_comm b a) r.2);
+  found = λ e is. let f = m.found e is in (f.1, f.0, f.3, f.2, cost_sum_comm f.1 f.0 ∙ f.4);
+}
+
+-- one side settles v at cost c
+module _ (H : LevelsAndLegs) (x y : Search) (least : Option (Cost × ℕ)) (m : AreMeeting H x y least) (q : List (Option Cost)) (v : ℕ) (c : Cost)
+    (l : IsLeastKey x.queue v c) (e : q ≡ set x.queue v None)
+    (least' : Option (Cost × ℕ)) (met : IsLeastAfter (cost_at y.costs.items v) v c least least') where
+  -- v is known at c here
+  known : cost_at x.costs.items v ≡ Some c
+  known = m.here.search.queued v c l.has
+
+  -- what was known is covered
+  keeps : (o : Option Cost) → IsLeastAfter o v c least least' → (d : Cost × ℕ) → least ≡ Some d → (f : Cost × ℕ) × (least' ≡ Some f) × MeetsFirst f d
+  keeps None is d e' = (d, is ∙ e', (IsAtMost_refl d.0, λ _. omega arith))
+  keeps (Some b) is d e' = is.covers_old d e'
+
+  -- the sum at v is covered
+  gains : (o : Option Cost) (b : Cost) → o ≡ Some b → IsLeastAfter o v c least least' → (f : Cost × ℕ) × (least' ≡ Some f) × MeetsFirst f (cost_sum c b, v)
+  gains None b e' is = absurd (none-some _ e')
+  gains (Some d) b e' is = subst (λ r. (f : Cost × ℕ) × (least' ≡ Some f) × MeetsFirst f (cost_sum c r, v)) (same_Some _ _ e') is.covers_new
+
+  -- so are all sums of nodes that both settled
+  seen : IsSeen x.costs.items q y.costs.items y.queue least'
+  seen w a b h k = elim (popped_settled _ _ _ _ _ m.here.search v c l.has l.least (key_within x.queue v c l.has) w a (subst (λ r. IsSettled x.costs.items r w a) e h)) [
+    | inl was ↦
+        let old = m.seen w a b was k in
+        let new = keeps _ met old.0 old.1 in
+        (new.0, new.1, first_trans new.0 old.0 (cost_sum a b, w) new.2 old.2)
+    | inr is ↦
+        let r = gains _ b (ap (cost_at y.costs.items) (sym is.0) ∙ k.0) met in
+        (r.0, r.1, subst (λ z. MeetsFirst r.0 (cost_sum a b, z)) (sym is.0) (subst (λ z. MeetsFirst r.0 (cost_sum z b, v)) (sym is.1) r.2))
+  ]
+
+  -- what is known now is the sum of two paths
+  found_at : (o : Option Cost) → cost_at y.costs.items v ≡ o → IsLeastAfter o v c least least' → IsFoundBy H x y least'
+  found_at None at is f e' = m.found f (sym is ∙ e')
+  found_at (Some d) at is f e' = elim is.chosen [
+    | inl new ↦
+        let same : (cost_sum c d, v) ≡ f = same_Some _ _ (sym new ∙ e') in
+        subst (λ (r : Cost × ℕ). (a b : Cost) × IsUpwardCost (rows_of H x.side) x.source r.1 a × IsUpwardCost (rows_of H y.side) y.source r.1 b × (cost_sum a b ≡ r.0)) same
+        (c, d, m.here.search.sound v c known, m.there.search.sound v d at, refl)
+    | inr old ↦ m.found f (sym old ∙ e')
+  ]
+
+  -- after the node's legs are done, or it is left idle
+  pub met_then : (z : Search) → IsUnderway H z → IsSameSearch (with_queue x q) z → KeepsSettled (with_queue x q) z → AreMeeting H z y least'
+  met_then z u same settled = record {
+    here = u;
+    there = m.there;
+    stalls = (same.stalls ∙ m.stalls.0, m.stalls.1);
+    most = (same.most ∙ m.most.0, m.most.1);
+    seen = λ w a b h k. seen w a b (settled w a h) k;
+    found = λ f e'.
+        let r = found_at _ refl met f e' in
+        (r.0, r.1, subst (λ s. IsUpwardCost (rows_of H z.side) s f.1 r.0) (sym same.source) (subst (λ s. IsUpwardCost (rows_of H s) x.source f.1 r.0) (sym same.side) r.2), r.3, r.4);
+  }
+
+-- a known cost is within the limits
+pub known_arcs : (H : LevelsAndLegs) (x : Search) (v : ℕ) (c : Cost) → IsUnderway H x → cost_at x.costs.items v ≡ Some c → (c.weight ≤ MOST_WEIGHT) × (c.arcs ≤ MOST_PATH_ARCS)
+known_arcs H x v c u known = let r = u.search.sound v c known in (r.weight, reached_arcs H u.levelled x.side x.source v c r)
+
+-- so what both sides know of a node has room for its sum, where the program reads what the other side knows
+pub both_arcs : (H : LevelsAndLegs) (y : Search) (v : ℕ) (c d : Cost) (r : Option Cost) → IsUnderway H y → v < nodes_of H → c.arcs ≤ MOST_PATH_ARCS →
+    r ≡ get_or y.costs.items v r → r ≡ Some d → c.arcs + d.arcs < 2 ^ 64
+both_arcs H y v c d r u within few is known =
+    let size = u.search.sizes.0 in
+    let rows = rows_size H u.levelled y.side in
+    let lt : v < length y.costs.items = omega arith in
+    let there = (known_arcs H y v d u (sym (read y.costs.items v r lt is) ∙ known)).1 in
+    omega arith

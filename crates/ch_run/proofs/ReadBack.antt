@@ -1,0 +1,166 @@
+-- The text of a hierarchy that is right for a graph names it again.
+use Rattle.std.proofs.Common.{◌≡◌, ℕ, ◌+◌, ◌*◌, ◌<◌, ◌≤◌, List, [], ◌∷◌, ◌++◌, length, map, take, get_or, Contains, Option, Some, None, refl, sym, ◌∙◌, ap, subst, arith, append_assoc, inl, inr}
+use Rattle.std.specs.Prelude.{◌≢◌, AllPairs, All, codes, decimal}
+use Rattle.std.specs.List.{flat_map}
+use Rattle.std.proofs.lemmas.Bool.{cases_lt}
+use Rattle.std.proofs.lemmas.Nat.{mul-add-lt, mul-le, same_from_place}
+use Rattle.std.proofs.lemmas.List.{get_or_default, get_or-take, length-map, length-take-le}
+use Rattle.std.proofs.lemmas.List.Concat.{flat_map-append}
+use Rattle.std.proofs.lemmas.Option.{none-some, same_Some}
+use Rattle.std.proofs.lemmas.List.Elements.{All-contains, Contains-get_or}
+use Rattle.std.proofs.lemmas.List.Folds.{flat_map-map}
+use Rattle.ch_graph.specs.declared.limits.TheConstants.{MOST_NODES, MOST_WEIGHT}
+use Rattle.ch_graph.specs.declared.cost.Cost.{Cost}
+use Rattle.ch_graph.specs.declared.saved.SavedLeg.{SavedLeg}
+use Rattle.ch_graph.specs.Graph.{Network}
+use Rattle.ch_graph.specs.Saved.{OrderAndLegs}
+use Rattle.ch_graph.proofs.Lists.{contains_map_of, pairs_map}
+use Rattle.ch_read.specs.Names.{NamesSaved}
+use Rattle.ch_read.proofs.WrittenLines.{fed, text_of}
+use Rattle.ch_read.proofs.WrittenSaved.{middle_word, order_line, leg_line, saved_lines, IsLegWithin, AreWithin}
+use Rattle.ch_read.proofs.SavedReadBack.{reads_back}
+use Rattle.ch_hierarchy.specs.declared.leg.Leg.{Leg}
+use Rattle.ch_hierarchy.specs.Hierarchy.{LevelsAndLegs, nodes_of, IsLegUp}
+use Rattle.ch_hierarchy.specs.Rows.{row}
+use Rattle.ch_hierarchy.specs.Kept.{IsLeg, IsFounded, IsKept}
+use Rattle.ch_hierarchy.specs.Saved.{NamesHierarchy, IsSamePair}
+use Rattle.ch_hierarchy.specs.Written.{IsByLevel, written}
+use Rattle.ch_hierarchy.proofs.theory.Ordered.{every_number}
+use Rattle.ch_hierarchy.proofs.theory.SavedLevels.{in_row_below}
+use Rattle.ch_hierarchy.proofs.theory.WrittenLegs.{written_names, written_kept}
+use Rattle.ch_contract.proofs.theory.BuiltKept.{hierarchies_kept}
+use Rattle.ch_run.specs.SavedTextLaws.{HierarchyTextsReadBack, SavedTextsReadBack}
+use Rattle.ch_run.specs.SaveText.{middle_text, order_text, leg_text, saved_text}
+
+-- the text is that of lines of words
+
+same_middle : (m : Option ℕ) → middle_text m ≡ middle_word m
+same_middle None = refl
+same_middle (Some v) = refl
+
+leg_words : (a b c d e : List ℕ) → codes "l " ++ a ++ codes " " ++ b ++ codes " " ++ c ++ codes " " ++ d ++ codes " " ++ e ++ codes "\n" ≡ fed (codes "l") (a ∷ b ∷ c ∷ d ∷ e ∷ [])
+leg_words a b c d e = simp (append_assoc)
+
+same_leg : (l : SavedLeg) → leg_text l ≡ fed (leg_line l).0 (leg_line l).1
+same_leg l =
+    leg_words (decimal (l.from + 1)) (decimal (l.to + 1)) (decimal l.cost.weight) (decimal l.cost.arcs) (middle_text l.middle)
+    ∙ ap (λ t. fed (codes "l") (decimal (l.from + 1) ∷ decimal (l.to + 1) ∷ decimal l.cost.weight ∷ decimal l.cost.arcs ∷ t ∷ [])) (same_middle l.middle)
+
+same_texts : {X : Type 0} (f g : X → List ℕ) → ((x : X) → f x ≡ g x) → (xs : List X) → flat_map f xs ≡ flat_map g xs
+same_texts f g same [] = refl
+same_texts f g same (x ∷ xs) = λ i. same x i ++ same_texts f g same xs i
+
+heading_words : (a b order legs : List ℕ) → codes "p ch " ++ a ++ codes " " ++ b ++ codes "\n" ++ order ++ legs ≡ fed (codes "p") (codes "ch" ∷ a ∷ b ∷ []) ++ (order ++ legs)
+heading_words a b order legs = simp (append_assoc)
+
+same_text : (s : OrderAndLegs) → saved_text s ≡ text_of (saved_lines s)
+same_text s =
+    let parts : flat_map order_text s.order ++ flat_map leg_text s.legs ≡ text_of (map order_line s.order ++ map leg_line s.legs) =
+    (λ i. flat_map order_text s.order ++ same_texts leg_text (λ l. fed (leg_line l).0 (leg_line l).1) same_leg s.legs i)
+    ∙ sym (flat_map-append (λ l. fed l.0 l.1) (map order_line s.order) (map leg_line s.legs) ∙ (λ i. flat_map-map (λ l. fed l.0 l.1) order_line s.order i ++ flat_map-map (λ l. fed l.0 l.1) leg_line s.legs i)) in
+    heading_words (decimal (length s.order)) (decimal (length s.legs)) (flat_map order_text s.order) (flat_map leg_text s.legs)
+    ∙ ap (λ t. fed (codes "p") (codes "ch" ∷ decimal (length s.order) ∷ decimal (length s.legs) ∷ []) ++ t) parts
+
+-- different numbers below n are at most n
+distinct_few : (xs : List ℕ) (n : ℕ) → AllPairs ◌≢◌ xs → All (λ x. x < n) xs → length xs ≤ n
+distinct_few xs n distinct below = elim (cases_lt n (length xs)) [ inr few ↦ few | inl many ↦ absurd (again many) ]
+  where
+    again : n < length xs → ⊥
+    again many =
+        let d = get_or xs n 0 in
+        let size : length (take n xs) ≡ n = length-take-le n xs (omega arith) in
+        let found = every_number (take n xs) n d size
+        (λ k e lt. subst (λ q. q < n) (sym (get_or-take n xs k e (omega arith))) (below k e (omega arith)))
+        (λ i j e less lt same. distinct i j e less (omega arith) (sym (get_or-take n xs i e (omega arith)) ∙ same ∙ get_or-take n xs j e (omega arith)))
+        (below n 0 many) in
+        let lt = found.1 in
+        distinct found.0 n d (omega arith) many (sym (get_or-take n xs found.0 d (omega arith)) ∙ found.2 ∙ get_or_default xs n 0 d many)
+
+-- a pair of nodes as a number
+abbrev pair_of : ℕ → SavedLeg → ℕ
+pair_of n l = l.from * n + l.to
+
+-- legs between different pairs of nodes are at most as many as there are pairs
+few_pairs : (n : ℕ) (legs : List SavedLeg) → ((l : SavedLeg) → Contains legs l → (l.from < n) × (l.to < n)) → AllPairs (λ k l. IsSamePair k l → ⊥) legs → length legs ≤ n * n
+few_pairs n legs ends once =
+    let size = length-map legs (pair_of n) in
+    let few = distinct_few (map (pair_of n) legs) (n * n) (pairs_map (pair_of n) ◌≢◌ legs apart) below in
+    subst (λ q. q ≤ n * n) size few
+  where
+    apart : AllPairs (λ k l. pair_of n k ≢ pair_of n l) legs
+    apart i j d less lt same =
+        let k = get_or legs i d in
+        let l = get_or legs j d in
+        let a = (ends k (Contains-get_or legs i d (omega arith))).1 in
+        let b = (ends l (Contains-get_or legs j d lt)).1 in
+        once i j d less lt (same_from_place k.from k.to l.from l.to n a b same)
+
+    within : (l : SavedLeg) → Contains legs l → pair_of n l < n * n
+    within l has = let e = ends l has in mul-add-lt l.from n l.to n e.0 e.1
+
+    below : All (λ x. x < n * n) (map (pair_of n) legs)
+    below k d lt = let r = contains_map_of (pair_of n) legs (get_or (map (pair_of n) legs) k d) (Contains-get_or (map (pair_of n) legs) k d lt) in subst (λ q. q < n * n) r.2 (within r.0 r.1)
+
+module _ (g : Network) (H : LevelsAndLegs) (order : List ℕ) (kept : IsKept g H) (by : IsByLevel H order) where
+  names : NamesHierarchy (written H order) H
+  names = written_names H order kept.levelled by
+
+  -- both rows of a node are within the limits
+  leg_within : (l : SavedLeg) → IsLeg H l.from l.to l.cost l.middle → IsLegWithin g.nodes l
+  leg_within l leg = at leg (kept.founded l.from l.to l.cost l.middle leg)
+    where
+      middle_within : (m : Option ℕ) → IsFounded g H l.from l.to l.cost m → (v : ℕ) → m ≡ Some v → v < g.nodes
+      middle_within None founded v e = absurd (none-some v e)
+      middle_within (Some w) founded v e =
+          let inside = in_row_below H.down (nodes_of H) w founded.0 kept.levelled.down.0 founded.2 in
+          let same : w ≡ v = same_Some w v e in
+          let size = kept.nodes in
+          omega arith
+
+      ends : (x : Leg) → x.cost ≡ l.cost → x.cost.weight ≤ MOST_WEIGHT → x.cost.arcs < nodes_of H → l.from < nodes_of H → l.to < nodes_of H → IsFounded g H l.from l.to l.cost l.middle → IsLegWithin g.nodes l
+      ends x cost weight arcs from to founded =
+          let size = kept.nodes in
+          let most = kept.levelled.count in
+          record {
+            from = omega arith;
+            to = omega arith;
+            weight = subst (λ (q : Cost). q.weight ≤ MOST_WEIGHT) cost weight;
+            arcs = (let few = subst (λ (q : Cost). q.arcs < nodes_of H) cost arcs in omega arith);
+            middle = middle_within l.middle founded;
+          }
+
+      at : IsLeg H l.from l.to l.cost l.middle → IsFounded g H l.from l.to l.cost l.middle → IsLegWithin g.nodes l
+      at (x, cost, middle, inl (has, node)) founded =
+          let up = All-contains (IsLegUp H l.from) (row H.up l.from) x (kept.levelled.up.1 l.from).1 has in
+          ends x cost up.weight up.arcs (in_row_below H.up (nodes_of H) l.from x kept.levelled.up.0 has) (subst (λ q. q < nodes_of H) node up.node) founded
+      at (x, cost, middle, inr (has, node)) founded =
+          let up = All-contains (IsLegUp H l.to) (row H.down l.to) x (kept.levelled.down.1 l.to).1 has in
+          ends x cost up.weight up.arcs (subst (λ q. q < nodes_of H) node up.node) (in_row_below H.down (nodes_of H) l.to x kept.levelled.down.0 has) founded
+
+  legs_within : (l : SavedLeg) → Contains (written H order).legs l → IsLegWithin g.nodes l
+  legs_within l h = leg_within l ((names.legs l.from l.to l.cost l.middle).1 h)
+
+  -- what is written is within the limits of files
+  are_within : AreWithin g.nodes (written H order)
+  are_within =
+      let size = kept.nodes in
+      let most = kept.levelled.count in
+      let legs = (written H order).legs in
+      let few = few_pairs g.nodes legs (λ l h. let is = legs_within l h in (is.from, is.to)) names.once in
+      let square = mul-le g.nodes g.nodes MOST_NODES MOST_NODES (omega arith) (omega arith) in
+      record {
+        small = omega arith;
+        count = by.nodes.count ∙ kept.nodes;
+        few = omega arith;
+        nodes = λ v h. (let inside = by.nodes.within h.0 h.1 in let is : get_or order h.0 0 ≡ v = get_or_default order h.0 0 v h.1 ∙ h.2 in omega arith);
+        legs = legs_within;
+      }
+
+-- so the text names it again
+pub hierarchy_reads_back : HierarchyTextsReadBack
+hierarchy_reads_back g H text kept (order, by, is) =
+    (written H order, subst (λ t. NamesSaved t g.nodes (written H order)) (sym (is ∙ same_text (written H order))) (reads_back g.nodes (written H order) (are_within g H order kept by)), written_kept g H order kept by)
+
+-- and so does what is saved of a graph
+pub saved_reads_back : SavedTextsReadBack
+saved_reads_back by g h text limits bound (H, built, is) = (H, built, hierarchy_reads_back g H text (hierarchies_kept by g h H limits bound built) is)

@@ -1,0 +1,155 @@
+//! Jobs that make a value of each item of a list.
+ghost use Rattle.std.specs.Prelude.{◌^◌, ◌<◌, length, All, IfOk, OnOk, List};
+ghost use Rattle.std.specs.List.{AllZip, slice_range};
+
+use crate::gate::Gate;
+use crate::job::RoomJob;
+use crate::lists::joined;
+use crate::pieces::run_pieces_with_rooms;
+use crate::plan::Plan;
+use crate::work::Work;
+use std::alloc::{AllocError, Global};
+use std::marker::Model;
+use std::thread::Threads;
+
+/// Work that makes a value of each item of a list, in a room that is lent to one item after the other.
+pub trait ListJob: Sync {
+    /// What the list consists of.
+    type Item: Sync;
+
+    /// What a worker makes for itself, before its first item.
+    type Room: Send + Drop;
+
+    /// What is made of an item.
+    type Out: Send + Drop;
+
+    /// The items that the job takes.
+    ghost takes: { Self → Self.Item → Type 0 };
+
+    /// What the value of an item is.
+    ghost meaning: { Self → Self.Item → Self.Out → Type 0 };
+
+    /// When a room serves an item of this job.
+    ghost clean: { Self → Self.Room → Type 0 };
+
+    /// A room for one worker.
+    ///
+    /// # Errors
+    /// `AllocError` where there is no memory.
+    fn room(&self, alloc: Global) -> Result<Self::Room, AllocError>
+        ensures { IfOk result (λ room. clean self.now room) };
+
+    /// The value of an item. The room is clean again after `Ok`, and is used no more after an error.
+    ///
+    /// # Errors
+    /// `AllocError` where there is no memory.
+    fn value(
+        &self,
+        alloc: Global,
+        room: &mut Self::Room,
+        item: &Self::Item,
+    ) -> Result<Self::Out, AllocError>
+        requires item { takes self.now item.now }
+        requires clean { clean self.now room.old }
+        ensures value { IfOk result (λ x. meaning self.now item.now x) }
+        ensures clean { OnOk result (clean self.now room.new) };
+}
+
+/// The values of the items, in their order. Workers share the items as [`run_pieces_with_rooms`] says of
+/// pieces, each with a room of its own.
+///
+/// # Errors
+/// `AllocError` where the call, a room or any value was refused memory, once all workers are joined.
+pub fn run_list<R: Threads + Sync, G: Gate, J: ListJob>(
+    rt: &R,
+    alloc: Global,
+    items: &[J::Item],
+    plan: &Plan,
+    gate: &G,
+    job: &J,
+) -> Result<Vec<J::Out>, AllocError>
+    requires takes { All (J.takes job.now) items.now }
+    requires length { length items.now < 2 ^ 32 }
+    ensures { IfOk result (λ values. AllZip (J.meaning job.now) items.now values.items) }
+{
+    let pieces = ListPieces { job, items };
+    // The getter tells the proof that a piece has an item.
+    let _ = plan.piece();
+    let lists = run_pieces_with_rooms(rt, alloc, items.len() as u32, plan, gate, &pieces)?;
+    joined(alloc, lists)
+}
+
+/// As [`run_list`] by the caller alone, in a room that it has: no thread is started and no room is made.
+///
+/// # Errors
+/// `AllocError` where there is no memory. The room isn't clean then.
+pub fn run_list_in_room<G: Gate, J: ListJob>(
+    alloc: Global,
+    items: &[J::Item],
+    plan: &Plan,
+    gate: &G,
+    room: &mut J::Room,
+    job: &J,
+) -> Result<Vec<J::Out>, AllocError>
+    requires takes { All (J.takes job.now) items.now }
+    requires length { length items.now < 2 ^ 32 }
+    requires clean { J.clean job.now room.old }
+    ensures values { IfOk result (λ values. AllZip (J.meaning job.now) items.now values.items) }
+    ensures clean { OnOk result (J.clean job.now room.new) }
+{
+    let pieces = ListPieces { job, items };
+    let work = Work {
+        gate,
+        job: &pieces,
+        items: items.len() as u32,
+        piece: plan.piece(),
+    };
+    let lists = work.values_in(alloc, room)?;
+    joined(alloc, lists)
+}
+
+/// The items of a list, a range of them at a time.
+#[derive(Drop)]
+struct ListPieces<'a, J: ListJob> {
+    job: &'a J,
+    items: &'a [J::Item],
+}
+
+impl<'a, J: ListJob> Model for ListPieces<'a, J> {
+    ghost Value = { J × List J.Item };
+
+    ghost view = { λ w. (w.job.now, w.items.now) };
+
+    ghost invariant = { λ w. All (J.takes w.job.now) w.items.now };
+}
+
+impl<'a, J: ListJob> RoomJob for ListPieces<'a, J> {
+    type Room = J::Room;
+
+    type Out = Vec<J::Out>;
+
+    ghost size = { λ w. length w.1 };
+
+    ghost meaning = { λ w from to values. AllZip (J.meaning w.0) (slice_range w.1 from to) values.items };
+
+    ghost clean = { λ w room. J.clean w.0 room };
+
+    fn room(&self, alloc: Global) -> Result<J::Room, AllocError> {
+        self.job.room(alloc)
+    }
+
+    fn piece(
+        &self,
+        alloc: Global,
+        room: &mut J::Room,
+        from: u32,
+        to: u32,
+    ) -> Result<Vec<J::Out>, AllocError> {
+        let items = &self.items[from as usize..to as usize];
+        let mut values = Vec::with_capacity(alloc, items.len())?;
+        for item in items {
+            values.push(self.job.value(alloc, room, item)?)?;
+        }
+        Ok(values)
+    }
+}

@@ -1,0 +1,4 @@
+use Rattle.chtab.proofs.program.answer_to.Goals as goal
+
+pub returns-in-Ok : goal.returns-in-Ok
+returns-in-Ok g c = rw c.in-Ok.is (rw c.deref.ensures.value at c.answer_words.ensures)

@@ -1,0 +1,21 @@
+use Rattle.std.proofs.Common.{inl}
+use Rattle.chtab.proofs.program.answer_words.Goals as goal
+
+pub returns-in-Ok : goal.returns-in-Ok
+returns-in-Ok g c =
+    let run = c.run_line.ensures in
+    inl (
+      c.in-Ok.line,
+      c.run_line.result,
+      c.in-Ok.ensures.read,
+      record {
+        written = run.written;
+        missing = run.missing;
+        ends = run.ends;
+        unread = run.unread;
+        unwritten = run.unwritten;
+        output_device = run.output_device;
+        output_once = run.output_once;
+      },
+      c.program_answer.ensures,
+    )

@@ -1,0 +1,59 @@
+//! The system's side of the program: its words, its files and its streams, of which no contract can tell anything.
+
+ghost use Rattle.ch_line.specs.Files.{FileState};
+
+use crate::line::{LineFault, refused};
+use crate::program;
+use ch_line::{Files, OpenFault};
+use ch_run::{Open, ReaderInput, WriterOutput};
+use std::io::{ErrorKind, Write};
+use std::rt::Env;
+use std::thread::Threads;
+use std::{env, fs, rt};
+
+/// The system's files, of which nothing is told.
+#[derive(Drop)]
+struct SystemFiles<'a, R: rt::Files> {
+    rt: &'a R,
+}
+
+impl<'a, R: rt::Files> Files for SystemFiles<'a, R> {
+    type Input = ReaderInput<R::File>;
+
+    ghost known = { λ _ _. FileState.Untold };
+
+    fn open(&self, name: &str) -> Result<ReaderInput<R::File>, OpenFault> {
+        match fs::open(self.rt, name) {
+            Ok(file) => Ok(ReaderInput::new(file)),
+            Err(error) if error.kind() == ErrorKind::OutOfMemory => Err(OpenFault::Memory),
+            Err(_) => Err(OpenFault::Refused),
+        }
+    }
+}
+
+/// The words after the program's name.
+fn words_of<R: Env + AllocGlobal>(rt: &R) -> Result<Vec<String>, LineFault> {
+    match env::args(rt) {
+        Ok(words) => Ok(words.skip(1).collect(rt.alloc())?),
+        Err(error) if error.kind() == ErrorKind::OutOfMemory => Err(LineFault::NoMemory),
+        Err(_) => Err(refused(rt.alloc(), "chtab: a word is not UTF-8\n")),
+    }
+}
+
+/// Runs the program over the system's words and files and these two streams, and gives its exit status.
+pub fn run<R, O, E>(rt: &R, output: O, errors: E) -> u8
+where
+    R: Env + rt::Files + Threads + Sync + AllocGlobal,
+    O: Write + Drop,
+    E: Write + Drop,
+{
+    program::run(
+        rt,
+        rt.alloc(),
+        &SystemFiles { rt },
+        &mut WriterOutput::new(output),
+        &mut WriterOutput::new(errors),
+        words_of(rt),
+        &Open,
+    )
+}
