@@ -1,0 +1,121 @@
+"""From a map to the files of a graph: reading, arcs, turns and parts in order, and the table of what was left out."""
+import contextlib
+import gc
+import os
+from typing import NamedTuple
+
+from chtab import files
+from chtab.errors import FileFault
+from chtab.maps import network, parts, profiles, reading, restrictions, turns
+from chtab.maps.report import Report
+from chtab.maps.roads import Survey
+
+SOURCE = (
+    "Source: OpenStreetMap, https://www.openstreetmap.org/copyright",
+    "Licence: (c) OpenStreetMap contributors, Open Database License (ODbL) 1.0",
+)
+
+
+class Choices(NamedTuple):
+    """What is to be made of a map: as the options of the command are named."""
+
+    profile: str = "car"
+    nodes: str = "crossings"
+    part: str | int = "largest"
+    metric: str = "time"
+    turns: bool = False
+    ferries: bool = True
+    bends: bool = False
+
+
+class Numbered(NamedTuple):
+    """A network as its files have it: the nodes' names and places, arcs between nodes from 1 on, their bends, and the ends of trips."""
+
+    names: list
+    places: list
+    arcs: list
+    bends: dict
+    ends: list
+
+
+@contextlib.contextmanager
+def uncollected():
+    """Holds the search for circles of objects: there are none in a map, and looking through its many objects takes a fifth of the time."""
+    was_on = gc.isenabled()
+    gc.disable()
+    try:
+        yield
+    finally:
+        if was_on:
+            gc.enable()
+
+
+@uncollected()
+def convert(path, choices):
+    """Reads a map (`-` is standard input); what comes of it, and the report of what was left out. An empty map is a fault."""
+    profile, report = profiles.profile(choices.profile), Report()
+    survey = Survey(profile, report, choices.ferries)
+    reading.read_map(path, survey)
+    restricting = restrictions.read_all(survey.relations, profile, report) if choices.turns else []
+    made, nodes = network.network_of(survey, survey.closed_nodes(), choices.nodes == "all", choices.metric == "metres", choices.bends)
+    if not made.tails:
+        raise FileFault(f"{name_of(path)}: the map has no road for {profile.people}")
+    forbidden = restrictions.forbidden_turns(restricting, made, nodes, report)
+    if forbidden:
+        made = turns.split(made, forbidden)
+    return numbered(made, kept_of(made, choices.part, report), survey.places), report
+
+
+def kept_of(made, wanted, report):
+    """Whether each node is kept, by the part that is wanted: `all`, `largest` or a rank, from 1 on. What isn't kept is noted."""
+    if wanted == "all":
+        return bytearray([True]) * len(made.names)
+    part, ranked = parts.ranked(made)
+    rank = 1 if wanted == "largest" else wanted
+    if rank > len(ranked):
+        raise FileFault(f"there is no part {rank}: the roads hang together in {len(ranked)}")
+    others = ranked[:rank - 1] + ranked[rank:]
+    if others:
+        words = f"of {len(made.names) - len(made.ends):,}, in {len(others):,} parts of {others[0][1]:,} nodes and fewer"
+        report.note("parts", words, sum(size for _, size in others))
+    return parts.kept_nodes(made, part, ranked[rank - 1][0])
+
+
+def numbered(made, kept, places):
+    """The kept nodes by their names, those of one name in the order in which they came, numbered from 1."""
+    nodes = sorted((node for node, is_kept in enumerate(kept) if is_kept), key=made.names.__getitem__)
+    numbers = dict(zip(nodes, range(1, len(nodes) + 1)))
+    names = [made.names[node] for node in nodes]
+    arcs, bends = [], {}
+    for arc, (tail, head, weight) in enumerate(zip(made.tails, made.heads, made.weights)):
+        if kept[tail] and kept[head]:
+            if made.bends and made.bends[arc]:
+                bends[len(arcs)] = made.bends[arc]
+            arcs.append((numbers[tail], numbers[head], weight))
+    ends = sorted((numbers[node], numbers[end]) for end, node in made.ends.items() if kept[end])
+    return Numbered(names, [places[name] for name in names], arcs, bends, ends)
+
+
+def name_of(path):
+    return "standard input" if path == "-" else os.path.basename(path)
+
+
+def comments_of(path, choices):
+    """The comments of a graph's files: what it was made of, and how."""
+    more = ", turns as the map restricts them" * choices.turns + ", no ferries" * (not choices.ferries)
+    people = profiles.profile(choices.profile).people
+    return [f"Roads for {people}, from {name_of(path)}: nodes {choices.nodes}, part {choices.part}{more}.", *SOURCE]
+
+
+def write(out, made, comments, unit):
+    """Writes the files, none of which takes its name before all are whole; their names."""
+    suffixes = ["gr", "co", "nodes"] + ["bends"] * bool(made.bends)
+    names = [f"{out}.{suffix}" for suffix in suffixes]
+    with contextlib.ExitStack() as stack:
+        graph, coordinates, nodes, *bends = (stack.enter_context(files.whole(name)) for name in names)
+        files.write_graph(graph, len(made.names), made.arcs, [*comments, f"Weights are {unit}."])
+        files.write_coordinates(coordinates, made.places, comments, made.ends)
+        files.write_names(nodes, made.names)
+        if bends:
+            files.write_bends(bends[0], made.bends, comments)
+    return names

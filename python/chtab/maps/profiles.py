@@ -1,0 +1,114 @@
+"""The tables of `tables/`, as they are read: one file for each way of travelling, and one for the limits of speed."""
+import functools
+import pathlib
+import tomllib
+from typing import NamedTuple
+
+TABLES = pathlib.Path(__file__).resolve().parent / "tables"
+NAMES = ("car", "bicycle", "foot")
+# What a limit of speed may do, as `[maxspeed]` says.
+LIMITS = ("is the speed", "bounds the speed", "says nothing")
+
+
+class Access(NamedTuple):
+    """Tags in the order in which they are asked, and the words that open and close."""
+
+    tags: tuple
+    open: frozenset
+    closed: frozenset
+
+
+class Oneway(NamedTuple):
+    """Tags in the order in which they are asked; tags that imply a direction, and tags that open the other, with their words."""
+
+    tags: tuple
+    implied: dict
+    opened_by: dict
+
+
+class Barriers(NamedTuple):
+    """Access at the node, which comes first; the kinds that are open and closed, and whether all others are open."""
+
+    access: Access
+    open: frozenset
+    closed: frozenset
+    others_open: bool
+
+
+class Profile(NamedTuple):
+    """One way of travelling. Speeds are in kilometres an hour."""
+
+    name: str
+    people: str
+    speeds: dict
+    speeds_where_opened: dict
+    access: Access
+    closed_by: dict
+    oneway: Oneway
+    limit: str
+    ferry_speed: float
+    ferries_for_others: tuple
+    barriers: Barriers
+    turn_tags: tuple
+    turn_exceptions: frozenset
+
+    def keys(self):
+        """The tags of ways that the tables ask for."""
+        of_speed = {"maxspeed", "maxspeed:forward", "maxspeed:backward", "route", "duration"}
+        return of_speed | {"highway"}.union(
+            self.access.tags, self.closed_by, self.oneway.tags, self.oneway.implied, self.oneway.opened_by, self.ferries_for_others
+        )
+
+
+class Limits(NamedTuple):
+    """Kilometres an hour of units, of words and of zones; 0 for a word that has no one number."""
+
+    units: dict
+    words: dict
+
+
+def read(name):
+    with open(TABLES / f"{name}.toml", "rb") as file:
+        return tomllib.load(file)
+
+
+def sets(table):
+    return {key: frozenset(words) for key, words in table.items()}
+
+
+def access(table, more=()):
+    return Access(tuple(table["tags"]), frozenset(table["open"]) | frozenset(more), frozenset(table["closed"]) - frozenset(more))
+
+
+@functools.cache
+def profile(name):
+    """The profile of this name, one of `NAMES`."""
+    table = read(name)
+    oneway, barriers, turns = table["oneway"], table["barriers"], table["turns"]
+    return Profile(
+        name=name,
+        people=table["people"],
+        speeds=table["speeds"],
+        speeds_where_opened=table["speeds_where_opened"],
+        access=access(table["access"]),
+        closed_by=sets(table["closed_by"]),
+        oneway=Oneway(tuple(oneway["tags"]), sets(oneway["implied"]), sets(oneway["opened_by"])),
+        limit=table["maxspeed"]["limit"],
+        ferry_speed=table["ferries"]["speed"],
+        ferries_for_others=tuple(table["ferries"]["for_others"]),
+        barriers=Barriers(
+            access(table["access"], barriers["open_words"]),
+            frozenset(barriers["open"]),
+            frozenset(barriers["closed"]),
+            barriers["others"] == "open",
+        ),
+        turn_tags=tuple(turns["tags"]),
+        turn_exceptions=frozenset(turns["except"]),
+    )
+
+
+@functools.cache
+def limits():
+    """The table of limits of speed."""
+    table = read("limits")
+    return Limits(table["units"], table["words"] | table["zones"])

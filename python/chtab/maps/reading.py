@@ -1,0 +1,168 @@
+"""The forms of map files, known by their first bytes: XML of OpenStreetMap, plain or packed by gzip, bzip2 or xz, and .osm.pbf.
+
+A file is read twice: first its ways and relations, then the nodes that roads use. A fault of the file is told in one line.
+"""
+import bz2
+import contextlib
+import gzip
+import lzma
+import os
+import shutil
+import sys
+import tempfile
+import xml.parsers.expat
+import zlib
+from typing import NamedTuple
+
+from chtab.errors import FileFault
+from chtab.maps.roads import ROAD_KEYS
+
+PACKED = {b"\x1f\x8b": gzip.open, b"BZh": bz2.open, b"\xfd7zXZ\x00": lzma.open}
+# What XML's parser says of a text that ends before its last element does.
+CUT_SHORT = {
+    xml.parsers.expat.errors.codes[text]
+    for text in ("no element found", "unclosed token", "unclosed CDATA section", "partial character")
+}
+PBF = b"\x0a\x09OSMHeader"
+BLOCK = 1 << 20
+
+
+class Relation(NamedTuple):
+    """A relation of the type restriction: its number, its tags and its members, each as (type, number, role)."""
+
+    number: int
+    tags: dict
+    members: list
+
+
+@contextlib.contextmanager
+def lasting(path):
+    """The path itself, or for `-` that of a copy of standard input, which is there as long as it is needed."""
+    if path != "-":
+        yield path
+        return
+    with tempfile.TemporaryDirectory(prefix="chtab-map-") as folder:
+        copy = os.path.join(folder, "map")
+        with open(copy, "wb") as file:
+            shutil.copyfileobj(sys.stdin.buffer, file, BLOCK)
+        if is_pbf(copy):
+            os.rename(copy, copy + ".osm.pbf")
+            copy += ".osm.pbf"
+        yield copy
+
+
+def is_pbf(path):
+    with open(path, "rb") as file:
+        return file.read(15)[4:] == PBF
+
+
+def read_map(path, survey):
+    """Reads a map into a survey. `-` is standard input."""
+    name = "standard input" if path == "-" else os.path.basename(path)
+    with lasting(path) as file:
+        if is_pbf(file):
+            from chtab.maps import pbf
+
+            pbf.read(file, name, survey)
+        else:
+            for keeper in Ways, Nodes:
+                read_elements(file, name, keeper(survey))
+
+
+class Ways:
+    """What the first reading of XML keeps: roads, and relations that restrict turns."""
+
+    def __init__(self, survey):
+        self.survey = survey
+
+    def way(self, number, tags, nodes, is_deleted):
+        if not any(key in tags for key in ROAD_KEYS):
+            return
+        if is_deleted:
+            self.survey.report.note("deleted", "")
+            return
+        rule = self.survey.rule_of(tags)
+        if rule:
+            self.survey.add_way(number, rule, [int(node) for node in nodes])
+
+    def relation(self, number, tags, members, is_deleted):
+        if tags.get("type") == "restriction" and not is_deleted:
+            self.survey.relations.append(Relation(number, tags, [(kind, int(ref), role) for kind, ref, role in members]))
+
+
+class Nodes:
+    """What the second reading keeps: the places of the roads' nodes, and barriers."""
+
+    def __init__(self, survey):
+        self.survey = survey
+        self.wanted = {node for road in survey.roads for node in road.nodes}
+
+    def node(self, number, tags, place, is_deleted):
+        if number not in self.wanted or is_deleted or None in place:
+            return
+        longitude, latitude = map(float, place)
+        if not (-180 <= longitude <= 180 and -90 <= latitude <= 90):
+            raise ValueError("a node has no place on the earth")
+        self.survey.places[number] = (longitude, latitude)
+        if "barrier" in tags:
+            self.survey.add_barrier(number, tags)
+
+
+class Elements:
+    """Hears the elements of XML and hands on what `keeper` has a method for."""
+
+    def __init__(self, keeper):
+        self.calls = {name: getattr(keeper, name) for name in ("node", "way", "relation") if hasattr(keeper, name)}
+        self.depth, self.number, self.head, self.tags, self.parts = 0, None, {}, {}, []
+
+    def start(self, name, attributes):
+        self.depth += 1
+        if self.depth == 1 and name != "osm":
+            raise ValueError(f"it begins with {name}")
+        if self.depth == 2 and name in self.calls:
+            self.head, self.tags, self.parts = attributes, {}, []
+        elif self.depth != 3:
+            return
+        elif name == "tag":
+            self.tags[attributes["k"]] = attributes["v"]
+        elif name == "nd":
+            self.parts.append(attributes["ref"])
+        elif name == "member":
+            self.parts.append((attributes["type"], attributes["ref"], attributes["role"]))
+
+    def end(self, name):
+        self.depth -= 1
+        if self.depth == 1 and name in self.calls:
+            head = self.head
+            is_deleted = head.get("action") == "delete" or head.get("visible") == "false"
+            parts = (head.get("lon"), head.get("lat")) if name == "node" else self.parts
+            self.calls[name](int(head["id"]), self.tags, parts, is_deleted)
+
+
+def blocks_of(path):
+    """The bytes of a file, unpacked, block by block."""
+    with open(path, "rb") as file:
+        head = file.read(6)
+    opener = next((opener for magic, opener in PACKED.items() if head.startswith(magic)), open)
+    with opener(path, "rb") as file:
+        while block := file.read(BLOCK):
+            yield block
+
+
+def read_elements(path, name, keeper):
+    """Reads XML once, for what the keeper takes."""
+    elements = Elements(keeper)
+    parser = xml.parsers.expat.ParserCreate()
+    parser.StartElementHandler, parser.EndElementHandler = elements.start, elements.end
+    try:
+        for block in blocks_of(path):
+            parser.Parse(block, False)
+        parser.Parse(b"", True)
+    except (EOFError, zlib.error, lzma.LZMAError, gzip.BadGzipFile) as fault:
+        raise FileFault(f"{name}: cut short or spoilt: {fault}") from None
+    except xml.parsers.expat.ExpatError as fault:
+        raise FileFault(f"{name}: {'cut short' if fault.code in CUT_SHORT else 'not a map in XML'}: {fault}") from None
+    except KeyError as fault:
+        raise FileFault(f"{name}: line {parser.CurrentLineNumber}: an element has no attribute {fault.args[0]}") from None
+    except (ValueError, OverflowError) as fault:
+        raise FileFault(f"{name}: line {parser.CurrentLineNumber}: not a map of OpenStreetMap: {fault}") from None

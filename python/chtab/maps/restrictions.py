@@ -1,0 +1,131 @@
+"""Relations that restrict turns, read to pairs of arcs that may not follow one another.
+
+https://wiki.openstreetmap.org/wiki/Relation:restriction
+"""
+import collections
+from typing import NamedTuple
+
+from chtab.maps.tags import words_of
+
+FORBIDDING = {"no_left_turn", "no_right_turn", "no_straight_on", "no_u_turn", "no_entry", "no_exit"}
+DEMANDING = {"only_left_turn", "only_right_turn", "only_straight_on", "only_u_turn"}
+# Tags of restrictions that hold at some times alone, in a form that is no longer used.
+TIMES = {"day_on", "day_off", "hour_on", "hour_off"}
+
+
+class NotRead(Exception):
+    """Why a restriction is left out."""
+
+
+class Restriction(NamedTuple):
+    """From these ways over the map's node `via` to these ways: no turn, or no other turn where it is demanded."""
+
+    is_demand: bool
+    is_back: bool
+    froms: list
+    via: int
+    tos: list
+
+
+def words_for(relation, profile):
+    """The words of the restriction for this way of travelling."""
+    tags = relation.tags
+    key = next((key for key in profile.turn_tags if key in tags), None)
+    if key is None:
+        raise NotRead("at times alone" if any(f"{key}:conditional" in tags for key in profile.turn_tags) else f"not for {profile.people}")
+    if words_of(tags.get("except", "")) & profile.turn_exceptions:
+        raise NotRead(f"not for {profile.people}")
+    if tags.keys() & TIMES:
+        raise NotRead("at times alone")
+    words = words_of(tags[key])
+    if not words or not (words <= FORBIDDING or words <= DEMANDING):
+        raise NotRead(f"{key}={tags[key]}")
+    return words
+
+
+def restriction_of(relation, profile):
+    """The restriction that a relation tells."""
+    words = words_for(relation, profile)
+    froms, tos = ([ref for kind, ref, part in relation.members if (kind, part) == ("way", role)] for role in ("from", "to"))
+    vias = [(kind, ref) for kind, ref, role in relation.members if role == "via"]
+    if not froms or not tos or not vias:
+        raise NotRead("without from, via and to")
+    if len(vias) > 1 or vias[0][0] != "node":
+        raise NotRead("over ways")
+    return Restriction(words <= DEMANDING, words <= {"no_u_turn", "only_u_turn"} and froms == tos, froms, vias[0][1], tos)
+
+
+def read_all(relations, profile, report):
+    """The restrictions of the relations; those that are left out are noted."""
+    found = []
+    for relation in relations:
+        try:
+            found.append(restriction_of(relation, profile))
+        except NotRead as reason:
+            report.note("turns", str(reason))
+    return found
+
+
+class Crossing(NamedTuple):
+    """The arcs that come to a node and those that leave it, in order."""
+
+    ins: list
+    outs: list
+
+
+def arcs_at(network, nodes):
+    """The crossing of each of these nodes."""
+    crossings = {node: Crossing([], []) for node in nodes}
+    for arc, (tail, head) in enumerate(zip(network.tails, network.heads)):
+        if tail in crossings:
+            crossings[tail].outs.append(arc)
+        if head in crossings:
+            crossings[head].ins.append(arc)
+    return crossings
+
+
+def arcs_of_ways(network, ways, arcs, is_back):
+    """Those of a crossing's arcs that lie on these ways, each of which has to have one, and but for turns back no other."""
+    found = []
+    for way in ways:
+        of_way = [arc for arc in arcs if network.way_of(arc) == way]
+        if not of_way:
+            raise NotRead("without roads that meet at the node")
+        if len(of_way) > 1 and not is_back:
+            raise NotRead("a way that leads through the node")
+        found += of_way
+    return found
+
+
+def turns_of(restriction, crossing, network):
+    """The turns (arc in, arc out) that a restriction names."""
+    ins = arcs_of_ways(network, restriction.froms, crossing.ins, restriction.is_back)
+    outs = arcs_of_ways(network, restriction.tos, crossing.outs, restriction.is_back)
+    turns = [(one, other) for one in ins for other in outs]
+    if restriction.is_back:
+        turns = [(one, other) for one, other in turns if one != other and network.pieces[one] == network.pieces[other]]
+    if not turns:
+        raise NotRead("without roads that meet at the node")
+    return turns
+
+
+def forbidden_turns(restrictions, network, nodes, report):
+    """The arcs that may not follow on an arc: {arc in: {arcs out}}. `nodes` has the network's nodes by the map's numbers.
+
+    What several demands for one arc name is open; what they don't name is not.
+    """
+    crossings = arcs_at(network, {nodes[each.via] for each in restrictions if each.via in nodes})
+    forbidden, demanded = collections.defaultdict(set), collections.defaultdict(set)
+    for restriction in restrictions:
+        try:
+            if restriction.via not in nodes:
+                raise NotRead("without roads that meet at the node")
+            turns = turns_of(restriction, crossings[nodes[restriction.via]], network)
+        except NotRead as reason:
+            report.note("turns", str(reason))
+            continue
+        for one, other in turns:
+            (demanded if restriction.is_demand else forbidden)[one].add(other)
+    for one, others in demanded.items():
+        forbidden[one] |= set(crossings[network.heads[one]].outs) - others
+    return {one: others for one, others in forbidden.items() if others}

@@ -1,0 +1,66 @@
+"""Limits of speed, and durations of ferries, as tags tell them.
+
+https://wiki.openstreetmap.org/wiki/Key:maxspeed and https://wiki.openstreetmap.org/wiki/Key:duration
+"""
+import re
+
+from chtab.maps import profiles
+from chtab.maps.tags import words_of
+
+NUMBER = re.compile(r"(\d+(?:\.\d+)?)\s*([a-z/]*)", re.ASCII)
+# A zone whose name is its limit, in a country that counts in kilometres: DE:zone:30, FR:zone30, CZ:30.
+ZONE = re.compile(r"(?!GB|UK|US)[A-Z]{2}(?:-[A-Z]+)?:(?:zone:?)?(\d+)", re.ASCII)
+# Hours and minutes, with seconds where they are told; minutes alone; or the form of ISO 8601.
+CLOCK = re.compile(r"(?:(\d+):)?(\d+)(?::(\d\d))?", re.ASCII)
+ISO = re.compile(r"P(?:(\d+)D)?(?:T(?:(\d+)H)?(?:(\d+)M)?(?:(\d+)S)?)?", re.ASCII)
+
+
+def one_limit(word):
+    """Kilometres an hour of one word; 0 where it has no one number, None where it can't be read."""
+    limits = profiles.limits()
+    if word in limits.words:
+        return limits.words[word]
+    zone = ZONE.fullmatch(word)
+    if zone:
+        return int(zone[1]) or None
+    number = NUMBER.fullmatch(word)
+    if not number or (number[2] and number[2] not in limits.units):
+        return None
+    return float(number[1]) * limits.units.get(number[2], 1) or None
+
+
+def limit_of(tags, side, notes):
+    """The limit of a way in one direction, `forward` or `backward`, in kilometres an hour; None where no number is told.
+
+    The least of a list is taken. What can't be read is noted, and says nothing.
+    """
+    key = f"maxspeed:{side}" if f"maxspeed:{side}" in tags else "maxspeed"
+    if key not in tags:
+        return None
+    found = [one_limit(word) for word in words_of(tags[key])]
+    if None in found or not found:
+        notes.append(("speeds", f"{key}={tags[key]}"))
+    return min(filter(None, found), default=None)
+
+
+def speed_of(tags, side, usual, limit_use, notes):
+    """Kilometres an hour in one direction of a way whose kind has the usual speed."""
+    if limit_use == "says nothing":
+        return usual
+    limit = limit_of(tags, side, notes)
+    if limit is None:
+        return usual
+    return min(limit, usual) if limit_use == "bounds the speed" else limit
+
+
+def seconds_of(duration):
+    """The seconds of a duration, and None where it can't be read or is 0."""
+    clock = CLOCK.fullmatch(duration.strip())
+    if clock:
+        hours, minutes, seconds = (int(part or 0) for part in clock.groups())
+        return hours * 3600 + minutes * 60 + seconds or None
+    iso = ISO.fullmatch(duration.strip())
+    if iso:
+        days, hours, minutes, seconds = (int(part or 0) for part in iso.groups())
+        return days * 86_400 + hours * 3600 + minutes * 60 + seconds or None
+    return None

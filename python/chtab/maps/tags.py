@@ -1,0 +1,66 @@
+"""What the tags of a way or a node say to one way of travelling: whether it is open, and in which direction.
+
+`notes` is a list that takes what could not be read, each as (kind, text); the kinds are those of `report`.
+"""
+
+# What the words of oneway mean: along the way, against it, both, or a direction that changes with the time of day. Where the direction
+# alternates all the time (`alternating`) each is open.
+# https://wiki.openstreetmap.org/wiki/Key:oneway
+ALONG, AGAINST, BOTH, BY_TIME = 1, -1, 0, None
+DIRECTIONS = {
+    "yes": ALONG, "true": ALONG, "1": ALONG, "-1": AGAINST, "reverse": AGAINST, "no": BOTH, "false": BOTH, "0": BOTH,
+    "alternating": BOTH, "reversible": BY_TIME,
+}
+
+
+def words_of(value):
+    """The words of a list in a tag: a set, since their order says nothing."""
+    return {word.strip() for word in value.split(";")} - {""}
+
+
+def deciding(tags, access, notes):
+    """The first of the access tags that has a known word, and whether it opens: (tag, True or False), or (None, None).
+
+    Of several words one that opens is enough.
+    """
+    for key in access.tags:
+        if key not in tags:
+            continue
+        words = words_of(tags[key])
+        if words & access.open:
+            return key, True
+        if words & access.closed:
+            return key, False
+        notes.append(("access", f"{key}={tags[key]}"))
+    return None, None
+
+
+def has_one_of(tags, table):
+    """The first tag of a table {key: words} that has one of its words, as key=value, and None where there is none."""
+    return next((f"{key}={tags[key]}" for key, words in table.items() if key in tags and words_of(tags[key]) & words), None)
+
+
+def direction_of(tags, oneway, notes):
+    """ALONG, AGAINST, BOTH or BY_TIME."""
+    found = ALONG if has_one_of(tags, oneway.implied) else BOTH
+    for key in oneway.tags:
+        if tags.get(key) in DIRECTIONS:
+            found = DIRECTIONS[tags[key]]
+            break
+        if key in tags:
+            notes.append(("oneway", f"{key}={tags[key]}"))
+    return BOTH if found in (ALONG, AGAINST) and has_one_of(tags, oneway.opened_by) else found
+
+
+def is_closed_barrier(tags, barriers, notes):
+    """Whether no way leads through a node with these tags, of which one is `barrier`."""
+    key, is_open = deciding(tags, barriers.access, notes)
+    if key:
+        return not is_open
+    kinds = words_of(tags["barrier"])
+    if kinds & barriers.closed:
+        return True
+    if kinds <= barriers.open:
+        return False
+    notes.append(("barrier kinds", f"barrier={tags['barrier']}"))
+    return not barriers.others_open

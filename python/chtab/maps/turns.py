@@ -1,0 +1,56 @@
+"""Nodes split so that forbidden turns are no walks.
+
+At a node where turns are forbidden each arc in from which one is forbidden gets a copy of the node to lead to, which has the arcs out that
+are open from there. All other arcs in lead to the node itself, which has all arcs out: there trips begin. Trips end at one more copy, the
+node's end, to which these arcs in lead too, and from the node itself an arc of weight 0, and which nothing leaves. One node can't be both:
+what ends there could go on by any arc out.
+"""
+import collections
+
+from chtab.maps import restrictions
+from chtab.maps.network import Network
+
+# The piece of an arc that is no road.
+NO_PIECE = -1
+
+
+class Copies:
+    """The copies of nodes that forbidden turns ask for, added to the network."""
+
+    def __init__(self, network, forbidden):
+        nodes = {network.heads[arc] for arc in forbidden}
+        crossings = restrictions.arcs_at(network, nodes)
+        # The copy to which an arc leads, None where nothing is open from there, and the copies that an arc leaves beside its tail.
+        self.heads, self.tails = {}, collections.defaultdict(list)
+        for arc in sorted(forbidden):
+            node = network.heads[arc]
+            outs = [out for out in crossings[node].outs if out not in forbidden[arc]]
+            self.heads[arc] = network.add_node(network.names[node]) if outs else None
+            for out in outs:
+                self.tails[out].append(self.heads[arc])
+        self.ends = {node: network.add_node(network.names[node]) for node in sorted(nodes)}
+
+    def tails_of(self, arc, tail):
+        return [tail, *self.tails.get(arc, ())]
+
+    def heads_of(self, arc, head):
+        if arc not in self.heads:
+            return [head]
+        copy = self.heads[arc]
+        return [self.ends[head]] if copy is None else [copy, self.ends[head]]
+
+
+def split(network, forbidden):
+    """The network in which no walk has a forbidden turn; all of its arcs are arcs of this one, some of them several times."""
+    copies = Copies(network, forbidden)
+    made = Network(network.bends is not None)
+    made.names, made.ways = network.names, network.ways
+    made.ends = {end: node for node, end in copies.ends.items()}
+    for arc, (tail, head, weight, piece) in enumerate(zip(network.tails, network.heads, network.weights, network.pieces)):
+        bends = None if network.bends is None else network.bends[arc]
+        for start in copies.tails_of(arc, tail):
+            for end in copies.heads_of(arc, head):
+                made.add_arc(start, end, weight, piece, bends)
+    for node, end in copies.ends.items():
+        made.add_arc(node, end, 0, NO_PIECE, None)
+    return made
