@@ -1,0 +1,80 @@
+"""Finds the nodes nearest to places, and writes them as a query file or a list for chtab.
+
+  nearest.py [--queries|--targets] [--max-metres M] [--plain] OUT.co [PLACES]
+  nearest.py --all OUT.co
+
+PLACES (standard input where it isn't given) has a place a line: longitude, latitude and, where you like, a name. Written is a
+list (`s NODE` a line), or with --queries a query file: of the places the first and second make a query (`q S T`), the third and
+fourth, and so on. With --all the list has all nodes in order. Before each item stands a comment with the place's name and its
+distance to the node in metres. A place that is more than M metres (1,000) from each node is refused, and nothing is written.
+
+Where OUT.co was made with turns (osm_to_gr.py --turns), trips begin and end at different nodes of a crossing where turns are
+restricted: the second place of a query ends at the right one, and --targets makes a list of targets.
+
+Example:  echo "9.5209 47.1410 Vaduz" | tools/nearest.py examples/liechtenstein.co
+
+OUT.co is the coordinate file of tools/osm_to_gr.py or of the challenge, in millionths of a degree. Of nodes at one point the
+least numbered is taken. The search goes by scipy's k-d tree where scipy is installed (Debian's package python3-scipy; it pays from
+a few hundred places on), and else, or with --plain, by a grid. From Python, `chtab.Network` also takes places to roads between nodes.
+"""
+import argparse
+import sys
+
+from chtab import commands, files, nearest
+from chtab.errors import TooFar
+from chtab.progress import Progress
+
+# Places that are looked for before the next sign of life.
+MANY = 1_000
+
+
+def words_of(words):
+    parser = argparse.ArgumentParser("nearest.py", description=__doc__, formatter_class=argparse.RawDescriptionHelpFormatter)
+    kinds = parser.add_mutually_exclusive_group()
+    kinds.add_argument("--queries", action="store_true")
+    kinds.add_argument("--targets", action="store_true")
+    parser.add_argument("--all", action="store_true")
+    parser.add_argument("--plain", action="store_true")
+    parser.add_argument("--max-metres", type=float, default=1_000, metavar="M")
+    parser.add_argument("coordinates", metavar="OUT.co")
+    parser.add_argument("places", metavar="PLACES", nargs="?")
+    return parser.parse_intermixed_args(words)
+
+
+def found_at(places, coordinates, words):
+    """The node of each place and the comment that tells of it. Targets of queries, and of --targets, are the nodes where trips end."""
+    index = nearest.index_of(coordinates, words.plain)
+    nodes, notes, ends = [], [], coordinates.ends() if words.queries or words.targets else {}
+    with Progress("nearest", len(places), "places") as progress:
+        for start in range(0, len(places), MANY):
+            part = places[start:start + MANY]
+            for place, node, metres in zip(part, *index.nearest([each.longitude for each in part], [each.latitude for each in part])):
+                if not metres <= words.max_metres:
+                    raise TooFar(
+                        f"{place.told()} is {metres:,.0f} m from the nearest node, more than --max-metres {words.max_metres:,.0f}; "
+                        "a line is longitude, then latitude"
+                    )
+                is_target = words.targets or len(nodes) % 2
+                nodes.append(ends.get(int(node), int(node)) if is_target else int(node))
+                notes.append(f"{place.told()}: node {nodes[-1]}, {metres:.0f} m away")
+            progress.step(len(part))
+    return nodes, notes
+
+
+def main(words):
+    words = words_of(words)
+    coordinates = files.read_coordinates(words.coordinates)
+    if words.all:
+        return files.write_list(sys.stdout, coordinates.known())
+    places = list(files.read_places(words.places or sys.stdin))
+    if words.queries and len(places) % 2:
+        raise files.FileFault("a query needs two places, and the last line has no second")
+    nodes, notes = found_at(places, coordinates, words)
+    if words.queries:
+        files.write_queries(sys.stdout, list(zip(nodes[::2], nodes[1::2])), list(zip(notes[::2], notes[1::2])))
+    else:
+        files.write_list(sys.stdout, nodes, notes)
+
+
+def command():
+    commands.run("nearest", main)

@@ -1,0 +1,55 @@
+"""Finds what is reached from a place within limits, and writes polygons of it as GeoJSON.
+
+  reach.py --limits R[,R..] [--max-metres M] [--saved FILE] [--workers W] [--program CHTAB] OUT [PLACE]
+
+OUT stands for OUT.gr, OUT.co and, where it is there, OUT.bends (osm_to_gr.py --bends). The first line of PLACE (standard input where it
+isn't given) has a longitude, a latitude and, where you like, a name. The place is taken to the nearest point of the nearest road; one that
+is more than M metres (1,000) from each road is refused. Limits are in the graph's unit. The network may have any number of nodes.
+To standard output goes a MultiPolygon for each limit, the largest first, with the properties `limit` and `from`: what lies within 90
+metres of a stretch of road that is reached, or within a square of a grid where the squares are wider (a 320th of the whole).
+
+Example:  echo "9.5209 47.1410 Vaduz" | tools/reach.py --limits 300000,600000 examples/liechtenstein > reach.geojson
+
+It needs Debian's packages python3-numpy and python3-shapely. From Python, `chtab.Network` does the same.
+A graph with turns (osm_to_gr.py --turns) is refused.
+"""
+import argparse
+import itertools
+import json
+import sys
+
+from chtab import commands, files
+
+
+def limits_of(word):
+    """Whole numbers above 0 with commas between them."""
+    parts = word.split(",")
+    if not all(part.isdecimal() and 0 < int(part) <= 2**60 for part in parts):
+        raise argparse.ArgumentTypeError(f"{word!r} is no list of whole numbers from 1 to 2^60 with commas between them")
+    return [int(part) for part in parts]
+
+
+def words_of(words):
+    parser = argparse.ArgumentParser("reach.py", description=__doc__, formatter_class=argparse.RawDescriptionHelpFormatter)
+    parser.add_argument("--limits", type=limits_of, required=True, metavar="R,R..")
+    commands.add_network(parser)
+    parser.add_argument("place", metavar="PLACE", nargs="?")
+    return parser.parse_intermixed_args(words)
+
+
+def main(words):
+    words = words_of(words)
+    places = list(itertools.islice(files.read_places(words.place or sys.stdin), 1))
+    if not places:
+        raise files.FileFault("there is no place to begin at")
+    with commands.open_network(words) as network:
+        spot = network.snap(places[0].longitude, places[0].latitude, words.max_metres)
+        found = network.isochrones(spot, words.limits)
+    for feature in found["features"]:
+        feature["properties"]["from"] = places[0].told()
+    json.dump(found, sys.stdout, ensure_ascii=False)
+    sys.stdout.write("\n")
+
+
+def command():
+    commands.run("reach", main, needs=("numpy", "shapely"))

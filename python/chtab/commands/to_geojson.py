@@ -1,0 +1,51 @@
+"""Turns chtab's answers into files that maps and spreadsheets read.
+
+  to_geojson.py routes [--names NAMES] OUT.co [TEXT]
+  to_geojson.py table [--names NAMES] TARGETS.ss [TEXT]
+
+TEXT is what chtab wrote (standard input where it isn't given); the result goes to standard output.
+  routes  the text of `chtab dist --routes` to GeoJSON (RFC 7946): a line for each route, with the properties from, to, weight and arcs,
+          and from_name and to_name where NAMES has them. A query without a walk has no line. A text without routes is refused.
+  table   the text of `chtab table` to CSV: a row for each source, a column for each target in the order of TARGETS.ss, an empty
+          cell where there is no walk. With --names a node is called by its name, and else by its number.
+NAMES is a list or a query file that tools/nearest.py wrote, with the names of places, or a file whose line k is the name of node k, as
+OUT.nodes (OpenStreetMap's number of it).
+
+Example:  ./chtab dist --routes liechtenstein.gr trip.p2p | tools/to_geojson.py routes liechtenstein.co > trip.geojson
+"""
+import argparse
+import sys
+
+from chtab import commands, files, geojson
+
+
+def words_of(words):
+    parser = argparse.ArgumentParser("to_geojson.py", description=__doc__, formatter_class=argparse.RawDescriptionHelpFormatter)
+    parser.add_argument("--names", metavar="NAMES")
+    parser.add_argument("kind", choices=("routes", "table"))
+    parser.add_argument("file", metavar="FILE")
+    parser.add_argument("text", metavar="TEXT", nargs="?")
+    return parser.parse_intermixed_args(words)
+
+
+def write_table(path, names, text, out):
+    def called(node):
+        return names.get(node, node)
+
+    targets = files.read_list(path)
+    rows = ((called(source), cells) for source, cells in files.read_rows(text, len(targets)))
+    files.write_csv(out, map(called, targets), rows)
+
+
+def main(words):
+    words = words_of(words)
+    names = files.read_names(words.names) if words.names else {}
+    text = words.text or sys.stdin
+    if words.kind == "routes":
+        geojson.write_routes(text, files.read_coordinates(words.file), names, sys.stdout)
+    else:
+        write_table(words.file, names, text, sys.stdout)
+
+
+def command():
+    commands.run("to_geojson", main)

@@ -1,0 +1,76 @@
+"""Tells how far it is between places that lie beside roads, and writes the ways.
+
+  trips.py [--table|--geojson] [--max-metres M] [--saved FILE] [--workers W] [--program CHTAB] OUT [PLACES]
+
+OUT stands for OUT.gr, OUT.co and, where it is there, OUT.bends (osm_to_gr.py --bends). PLACES (standard input where it isn't given) has a
+place a line: longitude, latitude and, where you like, a name. Each place is taken to the nearest point of the nearest road, and a trip is
+the best over the ends of both roads, with the parts of these added; a place that is more than M metres (1,000) from each road is
+refused, and nothing is written. The weights are in the graph's unit. To standard output goes
+  CSV: a line for each trip: of the places the first and second make a trip, the third and fourth, and so on. The columns are both names, the
+  weight (empty where there is no way), and how many metres each place lies from its road
+  --table    CSV with a row and a column for each place
+  --geojson  a line for each trip that has a way, with both names, the weight and its length in metres
+
+Example:  tools/trips.py examples/liechtenstein places.txt
+
+It needs Debian's packages python3-numpy and python3-shapely. From Python, `chtab.Network` does the same.
+A graph with turns (osm_to_gr.py --turns) is refused.
+"""
+import argparse
+import csv
+import json
+import sys
+
+from chtab import commands, files, geojson
+
+
+def words_of(words):
+    parser = argparse.ArgumentParser("trips.py", description=__doc__, formatter_class=argparse.RawDescriptionHelpFormatter)
+    kinds = parser.add_mutually_exclusive_group()
+    kinds.add_argument("--table", action="store_true")
+    kinds.add_argument("--geojson", action="store_true")
+    commands.add_network(parser)
+    parser.add_argument("places", metavar="PLACES", nargs="?")
+    return parser.parse_intermixed_args(words)
+
+
+def write_trips(places, spots, weights, out):
+    """A line for each trip, from place 2 k to place 2 k + 1."""
+    lines = csv.writer(out, lineterminator="\n")
+    lines.writerow(["from", "to", "weight", "from_metres", "to_metres"])
+    metres = [f"{each:.0f}" for each in spots.metres]
+    for trip, weight in enumerate(weights.tolist()):
+        start, end = 2 * trip, 2 * trip + 1
+        lines.writerow([places[start].told(), places[end].told(), "" if weight < 0 else weight, metres[start], metres[end]])
+
+
+def write_table(names, table, out):
+    rows = ((name, [None if weight < 0 else weight for weight in row]) for name, row in zip(names, table.tolist()))
+    files.write_csv(out, names, rows)
+
+
+def write_lines(places, trips, out):
+    """A feature for each trip that has a way."""
+    ends = zip(places[::2], places[1::2])
+    features = [trip.to_geojson({"from": start.told(), "to": end.told()}) for (start, end), trip in zip(ends, trips) if trip.line]
+    json.dump(geojson.collection(features), out, ensure_ascii=False)
+    out.write("\n")
+
+
+def main(words):
+    words = words_of(words)
+    places = list(files.read_places(words.places or sys.stdin))
+    if len(places) % 2 and not words.table:
+        raise files.FileFault("a trip needs two places, and the last line has no second")
+    with commands.open_network(words) as network:
+        spots = network.snap([each.longitude for each in places], [each.latitude for each in places], words.max_metres)
+        if words.table:
+            write_table([place.told() for place in places], network.trip_table(spots, spots), sys.stdout)
+        elif words.geojson:
+            write_lines(places, network.trip_routes(spots[::2], spots[1::2]), sys.stdout)
+        else:
+            write_trips(places, spots, network.trips(spots[::2], spots[1::2]), sys.stdout)
+
+
+def command():
+    commands.run("trips", main, needs=("numpy", "shapely"))
