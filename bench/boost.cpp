@@ -1,11 +1,11 @@
 // Dijkstra's algorithm of the Boost Graph Library on a graph and queries of chtab, for bench/others.
 //   boost GRAPH QUERIES
-// Prints the distance of each query, or -, and last the mean microseconds of a query. A search stops at its target.
+// Prints the distance of each query, or -, and last the mean microseconds of processor of a query. A search stops at its target.
 #include <boost/graph/compressed_sparse_row_graph.hpp>
 #include <boost/graph/dijkstra_shortest_paths.hpp>
-#include <chrono>
 #include <cstdint>
 #include <cstdio>
+#include <ctime>
 #include <limits>
 #include <utility>
 #include <vector>
@@ -55,7 +55,7 @@ int main(int, char** words) {
     file = std::fopen(words[2], "r");
     while (std::fgets(line, sizeof line, file)) {
         if (std::sscanf(line, "q %u %u", &from, &to) != 2) continue;
-        auto start = std::chrono::steady_clock::now();
+        std::clock_t start = std::clock();
         try {
             boost::dijkstra_shortest_paths(
                 graph, from - 1,
@@ -65,7 +65,7 @@ int main(int, char** words) {
                     .visitor(StopAt(to - 1)));
         } catch (Found&) {
         }
-        micros += std::chrono::duration<double, std::micro>(std::chrono::steady_clock::now() - start).count();
+        micros += 1e6 * (std::clock() - start) / CLOCKS_PER_SEC;
         queries++;
         if (costs[to - 1] == std::numeric_limits<uint64_t>::max()) std::puts("-");
         else std::printf("%llu\n", (unsigned long long)costs[to - 1]);

@@ -1,15 +1,19 @@
 """For the measurements: inputs from a fixed seed, and runs of the built program with their time and memory."""
+import datetime
 import os
 import pathlib
+import platform
 import random
-import resource
 import statistics
 import subprocess
 import tempfile
 import time
+import typing
 
 ROOT = pathlib.Path(__file__).resolve().parent.parent
 PROGRAM = ROOT / "crates" / "chtab" / "out" / "chtab"
+# The words for each order of contraction, where `save`, or `dist` with routes, builds the hierarchy.
+ORDERS = {"depth": ["--deep"], "difference": []}
 
 
 def built():
@@ -17,8 +21,47 @@ def built():
     subprocess.run([ROOT / "chtab", "--help"], stdout=subprocess.DEVNULL, check=True)
 
 
-def run(*command, refused=False):
-    """The seconds and the megabytes at the peak of one run, which ends well or by refusing a file."""
+def printed(*command):
+    """What a command prints."""
+    return subprocess.run(command, capture_output=True, text=True, cwd=ROOT).stdout.strip()
+
+
+def processor():
+    """The name of the processor."""
+    cpus = pathlib.Path("/proc/cpuinfo")
+    lines = cpus.read_text().splitlines() if cpus.exists() else []
+    name = next((line.split(":")[1] for line in lines if line.startswith("model name")), platform.processor())
+    return f"{name.strip()}, {platform.machine()}"
+
+
+def stamp():
+    """The day and the commit."""
+    commit = printed("git", "rev-parse", "--short", "HEAD") + (" and changes" if printed("git", "status", "--porcelain", "crates") else "")
+    return f"{datetime.date.today():%d %B %Y}, commit {commit or 'unknown'}".removeprefix("0")
+
+
+def machine():
+    """When, of which commit, and on which machine."""
+    return f"On {stamp()}, {os.cpu_count()} processors ({processor()}), load {os.getloadavg()[0]:.1f} at the start."
+
+
+def put_between(path, begin, text, end):
+    """Puts the text between two lines of a document, in place of what stands there."""
+    old = path.read_text()
+    if begin not in old or end not in old:
+        raise SystemExit(f"the lines `{begin}` and `{end}` are not in {path}")
+    path.write_text(f"{old[:old.index(begin)]}{begin}\n{text}\n{old[old.index(end):]}")
+
+
+class Used(typing.NamedTuple):
+    """What one run took."""
+    seconds: float
+    megabytes: float
+    processor: float
+
+
+def used(*command, refused=False):
+    """The seconds, the megabytes at the peak and the seconds of all processors of one run, which ends well or by refusing a file."""
     start = time.perf_counter()
     told = subprocess.DEVNULL if refused else None
     process = subprocess.Popen([str(word) for word in command], stdout=subprocess.DEVNULL, stderr=told)
@@ -26,20 +69,17 @@ def run(*command, refused=False):
     seconds = time.perf_counter() - start
     if os.waitstatus_to_exitcode(status) != refused:
         raise SystemExit(f"{command} ended with {status}")
-    return seconds, usage.ru_maxrss / 1024
+    return Used(seconds, usage.ru_maxrss / 1024, usage.ru_utime + usage.ru_stime)
 
 
 def processor_seconds(*command, refused=False):
     """What one run takes of all processors: on a machine with other work it says more than the time."""
-    before = resource.getrusage(resource.RUSAGE_CHILDREN)
-    run(*command, refused=refused)
-    after = resource.getrusage(resource.RUSAGE_CHILDREN)
-    return after.ru_utime - before.ru_utime + after.ru_stime - before.ru_stime
+    return used(*command, refused=refused).processor
 
 
 def seconds(*command, refused=False):
     """The time of one run."""
-    return run(*command, refused=refused)[0]
+    return used(*command, refused=refused).seconds
 
 
 def each_round(rounds, commands, taken=seconds, refused=()):
@@ -105,11 +145,11 @@ class Inputs:
         """A file of so many sources or targets."""
         return self.listed(count, "ss", "s", 1)
 
-    def saved(self):
-        """The hierarchy, as the program saves it."""
-        path = self.folder / "own.ch"
+    def saved(self, order):
+        """The hierarchy in one of the ORDERS, as the program saves it."""
+        path = self.folder / f"{order}.ch"
         with open(path, "wb") as file:
-            subprocess.run([PROGRAM, "save", self.graph], stdout=file, check=True)
+            subprocess.run([PROGRAM, "save", *ORDERS[order], self.graph], stdout=file, check=True)
         return path
 
 
@@ -121,3 +161,23 @@ class Country(Inputs):
 
     def network(self):
         return ROOT / "examples" / "liechtenstein.gr"
+
+
+class Bends(Inputs):
+    """The same on the roads of Liechtenstein with a node at each bend, made of the shipped map."""
+
+    def __init__(self):
+        super().__init__(0)
+
+    def network(self):
+        command = [ROOT / "tools" / "osm_to_gr.py", "--quiet", "--nodes", "all", ROOT / "examples" / "liechtenstein.osm.bz2", self.folder / "bends"]
+        subprocess.run(command, stdout=subprocess.DEVNULL, check=True)
+        graph = self.folder / "bends.gr"
+        self.nodes = nodes_of(graph)
+        return graph
+
+
+def query_seconds(inputs, saved, many, rounds):
+    """The median of the processor seconds of a query by a saved hierarchy: the difference of runs with one query and with many."""
+    commands = {count: [PROGRAM, "dist", "--saved", saved, inputs.graph, inputs.queries(count)] for count in (1, many)}
+    return statistics.median((each[many] - each[1]) / (many - 1) for each in each_round(rounds, commands, processor_seconds))

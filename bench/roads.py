@@ -1,4 +1,4 @@
-#!/usr/bin/env python3
+#!/usr/bin/python3
 """Writes a synthetic road network, the same bytes for the same number of nodes.
 
   roads.py NODES FILE
@@ -82,15 +82,20 @@ def numbered(side, roads, cuts):
     return crossing, first, number
 
 
-def arcs(nodes):
-    """The number of nodes, and the arcs."""
+def network(nodes):
+    """The number of nodes, that of arcs, and the arcs one after the other."""
     draw = random.Random(f"roads {nodes} 1")
     side = max(2, int(math.sqrt(nodes / NODES_OF_A_CROSSING)))
     places = [(200.0 * x + draw.uniform(-60, 60), 200.0 * y + draw.uniform(-60, 60)) for y in range(side) for x in range(side)]
     roads = kept(draw, side)
     cuts = cuts_of(draw, roads, nodes - side * side)
     crossing, first, count = numbered(side, roads, cuts)
-    lines = []
+    arcs = sum((cut + 1) * (1 if is_one_way else 2) for (*_, is_one_way), cut in zip(roads, cuts))
+    return count, arcs, arcs_of(draw, places, roads, cuts, crossing, first)
+
+
+def arcs_of(draw, places, roads, cuts, crossing, first):
+    """The arcs of each road in turn."""
     for (here, there, kind, is_one_way), cut, inner in zip(roads, cuts, first):
         length = math.dist(places[here], places[there]) * draw.uniform(1.0, 1.3)
         time = length / draw.choice(SPEEDS[kind]) * 3600
@@ -100,17 +105,16 @@ def arcs(nodes):
             chain.reverse()
         for a, b, part in zip(chain, chain[1:], parts):
             weight = max(1, round(time * part / sum(parts)))
-            lines.append((a + 1, b + 1, weight))
+            yield a + 1, b + 1, weight
             if not is_one_way:
-                lines.append((b + 1, a + 1, weight))
-    return count, lines
+                yield b + 1, a + 1, weight
 
 
 def main():
-    count, lines = arcs(int(sys.argv[1]))
+    nodes, count, arcs = network(int(sys.argv[1]))
     with open(sys.argv[2], "w") as file:
-        print("p sp", count, len(lines), file=file)
-        for arc in lines:
+        print("p sp", nodes, count, file=file)
+        for arc in arcs:
             print("a", *arc, file=file)
 
 

@@ -1,3 +1,4 @@
+#!/usr/bin/python3
 """Writes a graph file of about 50 MB, the same at each run: make_graph.py FILE."""
 
 import random
