@@ -1,4 +1,4 @@
-#!/usr/bin/env python3
+#!/usr/bin/python3
 """Compares each cell of tables on the roads of Liechtenstein with what `dist` answers for the same pair.
 
   cells.py [SIDE [SEED]]
@@ -12,10 +12,11 @@ import sys
 import tempfile
 from pathlib import Path
 
-from running import ROOT, Count, build, run
+from helpers.running import ROOT, Count, build, run
+from helpers.writing import write_list, write_queries
+from oracles.reading import graph_of
 
 GRAPH = ROOT / "examples" / "liechtenstein.gr"
-NODES = 3137
 # The words of the tables, but for limits.
 WAYS = [], ["--workers", "2", "--piece", "1"], ["--workers", "4", "--piece", "7"], ["--hops", "1"]
 
@@ -23,22 +24,18 @@ WAYS = [], ["--workers", "2", "--piece", "1"], ["--workers", "4", "--piece", "7"
 def drawn(side, seed):
     """The sources and the targets. Every tenth is one that came before, or one of the other list."""
     draw = random.Random(f"cells {seed}")
-    lists = [[draw.randint(1, NODES) for _ in range(side)] for _ in range(2)]
+    most, _ = graph_of(GRAPH)
+    lists = [[draw.randint(1, most) for _ in range(side)] for _ in range(2)]
     for nodes in lists:
         for place in range(9, side, 10):
             nodes[place] = draw.choice(lists[0])
     return lists
 
 
-def write(path, problem, letter, items):
-    lines = [f"p aux sp {problem} {len(items)}", *(" ".join(map(str, (letter, *item))) for item in items)]
-    path.write_text("".join(line + "\n" for line in lines))
-
-
 def asked(folder, sources, targets):
     """The rows of distances, as `dist` answers one pair after the other."""
     pairs = [(source, target) for source in sources for target in targets]
-    write(folder / "pairs.p2p", "p2p", "q", pairs)
+    write_queries(folder / "pairs.p2p", pairs)
     answer = run(["dist", GRAPH, "pairs.p2p"], folder)
     lines = [line.split() for line in answer.out.decode().splitlines()]
     assert answer.status == 0 and [(int(start), int(end)) for _, start, end, _ in lines] == pairs, answer.err
@@ -72,7 +69,7 @@ def main():
         folder = Path(kept)
         sources, targets = drawn(side, seed)
         for name, nodes in ("from.ss", sources), ("to.ss", targets):
-            write(folder / name, "ss", "s", [(node,) for node in nodes])
+            write_list(folder / name, nodes)
         wanted = asked(folder, sources, targets)
         (folder / "own.ch").write_bytes(run(["save", GRAPH], folder).out)
         for words in *WAYS, ["--saved", "own.ch"]:

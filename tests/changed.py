@@ -1,11 +1,11 @@
-#!/usr/bin/env python3
+#!/usr/bin/python3
 """Changes saved hierarchies a little, and sees that the program refuses them or answers as it does with `--plain`.
 
   changed.py [FILES [SEED]]
 
 FILES saved files, 700 where it is left out, are drawn from the seed. In five of seven one number is changed; in the others a leg is
-left out, or two nodes of the order are swapped. Four of five are hierarchies of random graphs, made by `chtab save` or by a script with
-an order of its own; there the fault line is that of an independent reader and an independent checker, and each route is a walk of
+left out, or two nodes of the order are swapped. Four of five are hierarchies of random graphs, made by `chtab save` or by an independent
+program with an order of its own; there the fault line is that of an independent reader and an independent checker, and each route is a walk of
 the graph. The others are the hierarchy of examples/liechtenstein.gr. The last line is 'N passed, N failed', of changed files.
 """
 import random
@@ -16,10 +16,11 @@ import tempfile
 from collections import Counter
 from pathlib import Path
 
-import checking
-from random_graphs import Case, Folder, check_text
-from reading import Fault, read
-from running import PROGRAM, ROOT, Answer, Count, build, in_pairs, run
+from helpers.cases import Case, Folder
+from helpers.running import PROGRAM, ROOT, Answer, Count, build, side_by_side, run
+from oracles.checking import first_fault
+from oracles.contracting import contract_in_order, text_of
+from oracles.reading import Fault, read
 
 GRAPH = ROOT / "examples/liechtenstein.gr"
 QUERIES = ROOT / "examples/liechtenstein.p2p"
@@ -65,7 +66,7 @@ def refusal(nodes, arcs, text):
         _, (order, legs) = read("saved", text.encode(), nodes)
     except Fault as fault:
         return f"chtab: saved {fault}\n", str(fault).split(": ")[1]
-    word = checking.first_fault(nodes, arcs, [node for node, in order], legs)
+    word = first_fault(nodes, arcs, [node for node, in order], legs)
     return (f"chtab: saved hierarchy refused: {word}\n", word) if word else (None, "accepted")
 
 
@@ -77,7 +78,7 @@ def check_small(tally, seed):
     with tempfile.TemporaryDirectory() as kept:
         folder = Folder(kept)
         case.write(folder)
-        own = checking.text_of(case.nodes, case.order, checking.contracted(case.nodes, case.arcs, case.order))
+        own = text_of(case.nodes, case.order, contract_in_order(case.nodes, case.arcs, case.order))
         text = changed(draw, draw.choice([own, folder.run("save", "graph.gr")]))
         folder.save("changed.ch", text)
         line, fault = refusal(case.nodes, case.arcs, text)
@@ -87,17 +88,9 @@ def check_small(tally, seed):
             refused = Answer(1, b"", line.encode())
             tally.expect(answer == tables == refused, f"{seed}, {fault}: {answer} {tables}")
         else:
-            is_right = answer.status == 0 and tables == Answer(0, case.table(checking.LIMIT).encode(), b"")
-            tally.expect(is_right and has_right_routes(case, answer.out.decode()), f"{seed}: {answer} {tables}")
+            is_right = answer.status == 0 and tables == Answer(0, case.table().encode(), b"")
+            tally.expect(is_right and case.has_right_routes(answer.out.decode()), f"{seed}: {answer} {tables}")
     return fault
-
-
-def has_right_routes(case, text):
-    try:
-        check_text(set(case.arcs), case.answers(), text)
-        return True
-    except (AssertionError, StopIteration):
-        return False
 
 
 def check_large(tally, folder, saved, plain, seed):
@@ -121,11 +114,11 @@ def main():
     tally = Count()
     large = int(files) // 5
     seeds = [f"{seed} {place}" for place in range(int(files))]
-    print("random graphs:", told(in_pairs(lambda name: check_small(tally, name), seeds[large:])))
+    print("random graphs:", told(side_by_side(lambda name: check_small(tally, name), seeds[large:])))
     with tempfile.TemporaryDirectory() as folder:
         plain = run(["dist", "--plain", GRAPH, QUERIES], folder)
         saved = subprocess.run([PROGRAM, "save", GRAPH], capture_output=True, text=True, check=True).stdout
-        print("Liechtenstein:", told(in_pairs(lambda name: check_large(tally, folder, saved, plain, name), seeds[:large])))
+        print("Liechtenstein:", told(side_by_side(lambda name: check_large(tally, folder, saved, plain, name), seeds[:large])))
     tally.finish()
 
 

@@ -1,17 +1,27 @@
-#!/usr/bin/env python3
-"""Runs each command of README.md and docs/GUIDE.md as it stands there, in order, and compares what it prints with the lines below it.
+#!/usr/bin/python3
+"""Runs each command of README.md, docs/GUIDE.md and examples/README.md as it stands there, in order, and compares what it prints with the lines below it;
+so with the lines of Python that begin with `>>>`. What needs a package that is missing is told and left out.
 
 The pictures of the guide are those that the commands make, and the code of docs/CALLING.md stands in the sources, where it is proved.
 The last line is 'N passed, N failed'.
 """
-import pathlib
+import contextlib
+import doctest
+import io
 import re
 import subprocess
 import sys
 import tempfile
+from pathlib import Path
 
-ROOT = pathlib.Path(__file__).resolve().parent.parent
-PAGES = ROOT / "README.md", ROOT / "docs" / "GUIDE.md"
+from helpers.packages import missing
+from helpers.running import ROOT, Count, build
+
+PAGES = ROOT / "README.md", ROOT / "docs" / "GUIDE.md", ROOT / "examples" / "README.md"
+PACKAGES = "python3-numpy", "python3-shapely"
+PICTURES = "routes.svg", "reach.svg"
+# What the commands find in the folder that they are run in, beside the program.
+PLACES = "tools", "examples", "tests"
 
 
 def commands(text):
@@ -28,45 +38,63 @@ def commands(text):
     return [(command, "".join(lines)) for command, lines in found]
 
 
-def outcome(command, wanted, folder):
+def needs_packages(command):
+    """Whether a command needs more than Python's own library."""
+    return command.startswith(("tools/trips.py", "tools/reach.py"))
+
+
+def run_python(tally, page, folder):
+    """Runs the lines of Python of a page, all in one."""
+    sys.path.insert(0, str(ROOT / "python"))
+    test = doctest.DocTestParser().get_doctest(page.read_text(), {}, page.name, str(page), 0)
+    told = io.StringIO()
+    with contextlib.chdir(folder):
+        found = doctest.DocTestRunner(verbose=False).run(test, out=told.write)
+    tally.expect(not found.failed, told.getvalue())
+
+
+def run_command(tally, command, wanted, folder):
     done = subprocess.run(command, shell=True, cwd=folder, capture_output=True, text=True)
-    if (done.returncode, done.stderr, done.stdout) == (0, "", wanted):
-        return True
-    print(f"failed: {command}\n  status {done.returncode}\n  wanted: {wanted}\n  came:   {done.stdout}{done.stderr}")
-    return False
+    is_wanted = (done.returncode, done.stderr, done.stdout) == (0, "", wanted)
+    tally.expect(is_wanted, f"{command}\n  status {done.returncode}\n  wanted: {wanted}\n  came:   {done.stdout}{done.stderr}")
 
 
 def is_the_same(picture, folder):
     made = folder / "guide" / picture
-    if made.exists() and made.read_bytes() == (ROOT / "docs" / picture).read_bytes():
-        return True
-    print(f"failed: docs/{picture} is not what the commands make")
-    return False
+    return made.exists() and made.read_bytes() == (ROOT / "docs" / picture).read_bytes()
 
 
 def stands_in_sources(page):
     """The code of the page is part of a source file of its name."""
     code = re.findall(r"^```rust\n(.*?)^```", page.read_text(), re.MULTILINE | re.DOTALL)
     sources = [path.read_text() for path in ROOT.glob(f"crates/*/src/**/{page.stem.lower()}.rt")]
-    if code and all(any(part in source for source in sources) for part in code):
-        return True
-    print(f"failed: the code of {page.name} does not stand in the sources")
-    return False
+    return code and all(any(part in source for source in sources) for part in code)
 
 
 def main():
+    build()
+    tally = Count()
+    lacking = missing(*PACKAGES)
     with tempfile.TemporaryDirectory() as kept:
-        folder = pathlib.Path(kept)
-        for name in ("tools", "examples", "tests"):
+        folder = Path(kept)
+        for name in PLACES:
             (folder / name).symlink_to(ROOT / name)
         (folder / "chtab").write_text(f'#!/bin/sh\nexec "{ROOT}/chtab" "$@"\n')
         (folder / "chtab").chmod(0o755)
-        outcomes = [outcome(command, wanted, folder) for page in PAGES for command, wanted in commands(page.read_text())]
-        outcomes += [is_the_same(picture, folder) for picture in ("routes.svg", "reach.svg")]
-    outcomes.append(stands_in_sources(ROOT / "docs" / "CALLING.md"))
-    failed = outcomes.count(False)
-    print(f"{len(outcomes) - failed} passed, {failed} failed")
-    sys.exit(failed > 0)
+        for page in PAGES:
+            for command, wanted in commands(page.read_text()):
+                if lacking and needs_packages(command):
+                    print(f"left out: {command} needs {', '.join(lacking)}")
+                else:
+                    run_command(tally, command, wanted, folder)
+            if lacking:
+                print(f"left out: the Python of {page.name} needs {', '.join(lacking)}")
+            else:
+                run_python(tally, page, folder)
+        for picture in PICTURES:
+            tally.expect(is_the_same(picture, folder), f"docs/{picture} is not what the commands make")
+    tally.expect(stands_in_sources(ROOT / "docs" / "CALLING.md"), "the code of CALLING.md does not stand in the sources")
+    tally.finish()
 
 
 if __name__ == "__main__":

@@ -6,6 +6,7 @@ root=$(cd "$(dirname "${BASH_SOURCE[0]}")/.." && pwd)
 work=$(mktemp -d)
 trap 'rm -rf "$work"' EXIT
 cd "$work" || exit 1
+export PYTHONPATH=$root/tests
 passed=0
 failed=0
 
@@ -38,12 +39,15 @@ expect_words() {
   compare "$name, words" "yes" "$(grep -qF -e "$words" "$stream.txt" && echo yes || cat "$stream.txt")"
 }
 
-# expect_routes NAME COUNT GRAPH QUERIES: the routes are walks of the graph, as many as this, each of the distance's weight.
+# expect_routes NAME COUNT GRAPH QUERIES: in each order the routes are walks of the graph, as many as this, each of the distance's weight.
 expect_routes() {
-  "$root/chtab" dist --routes "$3" "$4" >routes.txt 2>err.txt
-  compare "$1, status" 0 "$?"
-  compare "$1, routes" "$2 routes" "$(python3 "$root/tests/routes.py" "$3" routes.txt 2>&1)"
-  compare "$1, distances" "$(python3 "$root/tests/dijkstra.py" "$3" "$4")" "$(grep '^d' routes.txt)"
+  local order
+  for order in --deep ""; do
+    "$root/chtab" dist --routes $order "$3" "$4" >routes.txt 2>err.txt
+    compare "$1 $order, status" 0 "$?"
+    compare "$1 $order, routes" "$2 routes" "$(python3 -m oracles.routes "$3" routes.txt 2>&1)"
+    compare "$1 $order, distances" "$(python3 -m oracles.dijkstra "$3" "$4")" "$(grep '^d' routes.txt)"
+  done
 }
 
 # list_of NODE..: a list file of these nodes.
@@ -57,12 +61,16 @@ all_pairs() {
   awk '$1 == "p" { print "p aux sp p2p", $3 * $3; for (s = 1; s <= $3; s++) for (t = 1; t <= $3; t++) print "q", s, t }' "$1"
 }
 
-# expect_same_saved NAME GRAPH QUERIES SOURCES TARGETS: a graph that is saved gives the same routes and the same table.
+# expect_same_saved NAME GRAPH QUERIES SOURCES TARGETS: a graph that is saved, in each order, gives the same routes and the same table.
 expect_same_saved() {
-  "$root/chtab" save "$2" >same.ch
-  compare "$1, saved, status" 0 "$?"
-  expect "$1, routes by the saved hierarchy" 0 "$("$root/chtab" dist --routes "$2" "$3")" "" dist --routes --saved same.ch "$2" "$3"
-  expect "$1, table by the saved hierarchy" 0 "$("$root/chtab" table "$2" "$4" "$5")" "" table --saved same.ch "$2" "$4" "$5"
+  local order
+  for order in --deep ""; do
+    "$root/chtab" save $order "$2" >same.ch
+    compare "$1, saved $order, status" 0 "$?"
+    expect "$1, routes by the hierarchy saved $order" 0 "$("$root/chtab" dist --routes $order "$2" "$3")" "" \
+      dist --routes --saved same.ch "$2" "$3"
+    expect "$1, table by the hierarchy saved $order" 0 "$("$root/chtab" table "$2" "$4" "$5")" "" table --saved same.ch "$2" "$4" "$5"
+  done
 }
 
 # expect_saved NAME STATUS OUT ERR GRAPH QUERIES ORDER LEG..: routes by a saved hierarchy of this order and these legs.
@@ -84,7 +92,7 @@ refused() {
 
 for example in first liechtenstein; do
   files=("$root/examples/$example.gr" "$root/examples/$example.p2p")
-  answers=$(python3 "$root/tests/dijkstra.py" "${files[@]}")
+  answers=$(python3 -m oracles.dijkstra "${files[@]}")
   expect "example $example" 0 "$answers" "" dist "${files[@]}"
   expect "example $example, plain" 0 "$answers" "" dist --plain "${files[@]}"
 done
@@ -97,7 +105,7 @@ for _ in range(200):
     print("q", draw.randint(1, 3137), draw.randint(1, 3137))
 ' >many.p2p
 files=("$root/examples/liechtenstein.gr" many.p2p)
-answers=$(python3 "$root/tests/dijkstra.py" "${files[@]}")
+answers=$(python3 -m oracles.dijkstra "${files[@]}")
 expect "two hundred queries" 0 "$answers" "" dist "${files[@]}"
 expect "two hundred queries, plain" 0 "$answers" "" dist --plain "${files[@]}"
 expect "two hundred queries, at most one hop" 0 "$answers" "" dist --hops 1 "${files[@]}"
@@ -149,6 +157,8 @@ for most in 0 60000 300000 1152921504606846976; do
 done
 expect_same_saved "Liechtenstein" "$lg" fifty.p2p from.ss to.ss
 compare "Liechtenstein, saved by two workers" "$(cksum <same.ch)" "$("$root/chtab" save --workers 2 --piece 7 "$lg" | cksum)"
+compare "Liechtenstein, saved by depth by two workers" "$("$root/chtab" save --deep "$lg" | cksum)" \
+  "$("$root/chtab" save --deep --workers 2 --piece 7 "$lg" | cksum)"
 expect "Liechtenstein, saved, two workers" 0 "$table" "" table --workers 2 --saved same.ch "$lg" from.ss to.ss
 expect "Liechtenstein, saved, within a limit" 0 "$("$root/chtab" table --within 60000 "$lg" from.ss to.ss)" "" \
   table --within 60000 --saved same.ch "$lg" from.ss to.ss
@@ -217,7 +227,7 @@ for name in graph zero ring star square loop around; do
   expect_same_saved "the graph $name" $name.gr $name.p2p nodes.ss nodes.ss
 done
 expect "example first, saved" 0 "$(cat "$ch")" "" save "$g"
-expect "example first, by the saved file" 0 "$(python3 "$root/tests/dijkstra.py" "$g" "$q")" "" dist --saved "$ch" "$g" "$q"
+expect "example first, by the saved file" 0 "$(python3 -m oracles.dijkstra "$g" "$q")" "" dist --saved "$ch" "$g" "$q"
 expect "no node, saved" 0 "p ch 0 0" "" save --workers 2 none.gr
 
 routes=$("$root/chtab" dist --routes "$g" "$q")
@@ -288,7 +298,7 @@ expect "a saved hierarchy leaves hops out" 0 "$routes" "" dist --routes --hops 1
 expect_words "a saved hierarchy to save" 2 err "--saved" save --saved "$ch" "$g"
 expect_words "two files to save" 2 err "'$q'" save "$g" "$q"
 expect_words "no saved file" 2 err "--saved" dist --saved
-expect_words "help of save" 0 out "chtab save roads.gr" save --help
+expect_words "help of save" 0 out "chtab save --deep roads.gr" save --help
 
 expect "a missing graph" 3 "" "chtab: cannot read graph" dist --plain missing.gr "$q"
 expect "missing queries" 3 "" "chtab: cannot read queries" dist --plain "$g" missing.p2p

@@ -1,0 +1,363 @@
+#!/usr/bin/python3
+"""Runs the built program on faulty files, and compares its answer with that of an independent reader.
+
+  files.py [COUNT [SEED]]
+
+COUNT runs, 2,000 where it is left out, are drawn from the seed: small files that are cut, doubled, swapped and mutated by
+lines and bytes, with huge numbers, without line feeds, with CR, NUL and bytes beyond ASCII; and saved hierarchies with legs that are
+left out, doubled or changed. For each the fault line and the status are compared, and where all files are accepted the text, by
+Dijkstra's algorithm. Then files of 50 and 100 MB are read, in
+linear time and bounded memory. The last line is 'N passed, N failed', where each run of the program is counted.
+"""
+import os
+import random
+import subprocess
+import sys
+import tempfile
+from collections import Counter
+from pathlib import Path
+
+from helpers.running import PROGRAM, Answer, Count, build, side_by_side, run, with_files
+from oracles.checking import first_fault
+from oracles.contracting import contract_in_order, text_of as saved_text_of
+from oracles.dijkstra import arcs_ahead, distances_from
+from oracles.reading import FORMS, Fault, read
+
+# The words of each kind of run, and its files in the order in which they are read.
+KINDS = [
+    (["dist"], ["graph", "queries"]),
+    (["dist", "--plain"], ["graph", "queries"]),
+    (["table"], ["graph", "sources", "targets"]),
+    (["dist"], ["graph", "saved", "queries"]),
+    (["table"], ["graph", "saved", "sources", "targets"]),
+]
+
+# The faults of files, those of saved hierarchies, and that none is found.
+HOW_MANY_FAULTS = 10 + 7 + 1
+
+NUMBERS = [b"0", b"1", b"007", b"-1", b"+1", b"1.0", b"1e3", b"0x1", b"65536", b"65537", b"16777216", b"16777217", b"33554432",
+           b"33554433", b"134217728", b"134217729", b"4294967295", b"4294967297", b"576460752303423488", b"576460752303423489",
+           b"1152921504606846976", b"1152921504606846977", b"18446744073709551615", b"18446744073709551616",
+           b"18446744073709551617", b"340282366920938463463374607431768211457", b"9" * 1000, b"0" * 1000 + b"2"]
+
+BYTES = [b"\0", b"\r", b"\n", b"\t", b" ", b"\x0b", b"\x0c", b"\x1c", b"\x85", b"\xa0", b"\xff", b"\xc3\xa9", b"\xef\xbb\xbf",
+         b"\xd9\xa1", b"\xe2\x80\xa8", b"c", b"p", b"a", b"q", b"s", b"o", b"l", b"P", b"-", b"+", b".", b"0", b"1", b"9", b":", b"/"]
+
+# A graph of more nodes than this is not run where it is accepted: it would take long to prepare.
+MOST_NODES_RUN = 1000
+
+
+def draw_sound(draw, name, nodes):
+    """A graph, queries or a list without a fault."""
+    count = draw.randint(0, 6)
+    if nodes == 0:
+        count = 0
+    form = FORMS[name]
+    part, = form.parts
+    sizes = [nodes, count] if name == "graph" else [count]
+    lines = [b" ".join([*form.problem_words, *(b"%d" % size for size in sizes)])]
+    for _ in range(count):
+        numbers = [draw.randint(1, nodes) for _ in range(part.node_count)]
+        numbers += [draw.randint(0, 9) for _ in range(part.size - part.node_count)]
+        lines.append(b" ".join([part.letter, *(b"%d" % value for value in numbers)]))
+    return with_comment(draw, lines)
+
+
+def draw_saved(draw, graph):
+    """A saved hierarchy of this graph, by any order."""
+    nodes, (arcs,) = read("graph", graph)
+    order = draw.sample(range(1, nodes + 1), nodes)
+    front, *lines = saved_text_of(nodes, order, contract_in_order(nodes, map(tuple, arcs), order)).encode().splitlines()
+    if draw.random() < 0.2:
+        # Nodes and legs may be mixed, and no order of legs matters.
+        kinds = [line for line in lines if line.startswith(b"o")], [line for line in lines if line.startswith(b"l")]
+        draw.shuffle(kinds[1])
+        letters = draw.sample([0] * len(kinds[0]) + [1] * len(kinds[1]), len(lines))
+        lines = [kinds[letter].pop(0) for letter in letters]
+    return with_comment(draw, [front, *lines])
+
+
+def with_comment(draw, lines):
+    """The bytes of these lines, sometimes with a comment among them."""
+    if draw.random() < 0.2:
+        lines.insert(draw.randint(0, len(lines)), b"c any bytes \0\xff")
+    return b"\n".join(lines) + b"\n"
+
+
+def place_in(draw, items):
+    return draw.randrange(len(items))
+
+
+def with_lines(change):
+    """A mutation of the bytes, from one of the list of lines."""
+    def mutated(draw, data):
+        lines = data.split(b"\n")
+        change(draw, lines)
+        return b"\n".join(lines)
+    return mutated
+
+
+def double_line(draw, lines):
+    lines.insert(place_in(draw, lines), draw.choice(lines))
+
+
+def drop_line(draw, lines):
+    lines.pop(place_in(draw, lines))
+
+
+def places_of(letter, lines):
+    return [place for place, line in enumerate(lines) if line.startswith(letter + b" ")]
+
+
+def drop_leg(draw, lines):
+    legs = places_of(b"l", lines)
+    if legs:
+        lines.pop(draw.choice(legs))
+        count_legs(lines)
+
+
+def double_leg(draw, lines):
+    legs = places_of(b"l", lines)
+    if legs:
+        lines.insert(draw.choice(legs), lines[draw.choice(legs)])
+        count_legs(lines)
+
+
+def count_legs(lines):
+    """Writes the number of legs into the problem line."""
+    for place in places_of(b"p", lines):
+        lines[place] = b"%s %d" % (lines[place].rsplit(b" ", 1)[0], len(places_of(b"l", lines)))
+
+
+def change_saved(draw, lines):
+    """Changes a number of a leg, or a node of the order, to another small one."""
+    places = places_of(draw.choice([b"l", b"l", b"o"]), lines)
+    if places:
+        place = draw.choice(places)
+        words = lines[place].split(b" ")
+        words[draw.randint(1, len(words) - 1)] = b"%d" % draw.randint(0, 5)
+        lines[place] = b" ".join(words)
+
+
+def swap_levels(draw, lines):
+    """Swaps two nodes of the order."""
+    nodes = places_of(b"o", lines)
+    if nodes:
+        one, other = draw.choice(nodes), draw.choice(nodes)
+        lines[one], lines[other] = lines[other], lines[one]
+
+
+def swap_lines(draw, lines):
+    one, other = place_in(draw, lines), place_in(draw, lines)
+    lines[one], lines[other] = lines[other], lines[one]
+
+
+def change_word(draw, lines):
+    place = place_in(draw, lines)
+    words = lines[place].split(b" ")
+    words[place_in(draw, words)] = draw.choice(NUMBERS + BYTES)
+    lines[place] = b" ".join(words)
+
+
+def change_number(draw, lines):
+    place = place_in(draw, lines)
+    words = lines[place].split(b" ")
+    numbers = [at for at, word in enumerate(words) if word.isdigit()]
+    if numbers:
+        at = draw.choice(numbers)
+        words[at] = draw.choice([*NUMBERS, b"%d" % (int(words[at][:20]) + draw.choice([-1, 1]))])
+    lines[place] = b" ".join(words)
+
+
+def add_word(draw, lines):
+    place = place_in(draw, lines)
+    words = lines[place].split(b" ")
+    words.insert(draw.randint(0, len(words)), draw.choice(NUMBERS + BYTES))
+    lines[place] = b" ".join(words)
+
+
+def drop_word(draw, lines):
+    place = place_in(draw, lines)
+    words = lines[place].split(b" ")
+    words.pop(place_in(draw, words))
+    lines[place] = b" ".join(words)
+
+
+def cut(draw, data):
+    return data[:draw.randint(0, len(data))]
+
+
+def change_byte(draw, data):
+    place = draw.randint(0, len(data))
+    return data[:place] + draw.choice(BYTES) + data[place + 1:]
+
+
+def add_byte(draw, data):
+    place = draw.randint(0, len(data))
+    return data[:place] + draw.choice(BYTES) + data[place:]
+
+
+def swap_bytes(draw, data):
+    place = draw.randint(0, len(data))
+    return data[:place] + data[place + 1:place + 2] + data[place:place + 1] + data[place + 2:]
+
+
+def double(draw, data):
+    return data + data
+
+
+def join_lines(draw, data):
+    return data.replace(b"\n", draw.choice([b"", b" ", b"\r", b"\x0b", b"\0"]))
+
+
+def end_lines(draw, data):
+    return data.replace(b"\n", draw.choice([b"\r\n", b"\n\n", b"\n\r", b" \n\t"]))
+
+
+MUTATIONS = [
+    *map(with_lines, [double_line, drop_line, swap_lines, add_word, drop_word, change_word] + 6 * [change_number]),
+    cut, change_byte, add_byte, swap_bytes, double, join_lines, end_lines,
+]
+
+
+# Mutations of saved hierarchies that leave the grammar of their files alone.
+SAVED_MUTATIONS = list(map(with_lines, [drop_leg, double_leg, change_saved, change_saved, swap_levels]))
+
+
+def draw_case(draw):
+    """The words of a run and the bytes of its files, of which one is mutated, and sometimes another or the same once more."""
+    words, names = draw.choice(KINDS)
+    nodes = draw.randint(0, 5)
+    files = {}
+    for name in names:
+        files[name] = draw_saved(draw, files["graph"]) if name == "saved" else draw_sound(draw, name, nodes)
+    for _ in range(draw.choice([1, 1, 1, 2, 3])):
+        name, mutations = draw.choice(names), MUTATIONS
+        if "saved" in files and draw.random() < 0.5:
+            name, mutations = "saved", SAVED_MUTATIONS
+        files[name] = draw.choice(mutations)(draw, files[name])
+    return words, files
+
+
+def text_of(items):
+    """The text for files that have these items."""
+    ahead = arcs_ahead(items["graph"][0])
+    if "queries" in items:
+        return "".join(f"d {start} {end} {distances_from(start, ahead).get(end, '-')}\n" for start, end in items["queries"][0])
+    targets = [target for target, in items["targets"][0]]
+    rows = [(source, distances_from(source, ahead)) for source, in items["sources"][0]]
+    return "".join(" ".join(["t", str(source), *(str(found.get(target, "-")) for target in targets)]) + "\n"
+                   for source, found in rows)
+
+
+def check_fault(nodes, arcs, order, legs):
+    """The word for the first fault of a saved hierarchy, by what its file and the graph's have."""
+    return first_fault(nodes, list(map(tuple, arcs)), [node for node, in order], legs)
+
+
+def owed(files):
+    """The answer that the program owes, and the fault if there is one; None where it would take long."""
+    nodes, items = None, {}
+    for name, data in files.items():
+        try:
+            nodes, items[name] = read(name, data, nodes)
+        except Fault as fault:
+            return Answer(1, b"", f"chtab: {name} {fault}\n".encode()), str(fault).split(": ")[1]
+        if nodes > MOST_NODES_RUN:
+            return None
+        word = check_fault(nodes, *items["graph"], *items["saved"]) if name == "saved" else None
+        if word:
+            return Answer(1, b"", f"chtab: saved hierarchy refused: {word}\n".encode()), word
+    return Answer(0, text_of(items).encode(), b""), "accepted"
+
+
+def compare_drawn(tally, folder, how_many, seed):
+    """Runs the program on drawn files."""
+    draw = random.Random(seed)
+    cases = []
+    while len(cases) < how_many:
+        words, files = draw_case(draw)
+        wanted = owed(files)
+        if wanted:
+            cases.append((len(cases), words, files, *wanted))
+
+    def compare(case):
+        number, words, files, wanted, _ = case
+        paths = {name: f"{number}.{name}" for name in files}
+        for name, data in files.items():
+            (folder / paths[name]).write_bytes(data)
+        answer = run(with_files(words, paths), folder)
+        tally.expect(answer == wanted, f"{words} on {files}\n  wanted: {wanted}\n  came:   {answer}")
+        for path in paths.values():
+            (folder / path).unlink()
+
+    side_by_side(compare, cases)
+    kinds = Counter(kind for *_, kind in cases)
+    print("faults of drawn files:", ", ".join(f"{kind} {times}" for kind, times in kinds.most_common()))
+    if how_many >= 2000:
+        tally.expect(len(kinds) == HOW_MANY_FAULTS, f"some kind of fault was not drawn: {kinds}")
+
+
+# Long files: what they are, and their bytes: a beginning, a byte or some so many times, and an end; and the answer.
+LONG = [
+    ("a line of zeros and a 7", b"p sp 2 1\na 1 2 ", b"0", 100_000_000, b"7", Answer(0, b"d 1 2 7\n", b"")),
+    ("a line of one word", b"", b"x", 100_000_000, b"", Answer(1, b"", b"chtab: graph line 1: unknown line\n")),
+    ("a line of many words", b"p sp ", b"1 ", 50_000_000, b"", Answer(1, b"", b"chtab: graph line 1: bad problem line\n")),
+    ("empty lines", b"", b"\n", 10_000_000, b"", Answer(1, b"", b"chtab: graph line %d: no problem line\n")),
+]
+
+# A long file is read in so many seconds at most, and a run holds at most twice its bytes and so many more.
+MOST_SECONDS = 10
+MORE_BYTES = 64 * 2**20
+
+
+def write_long(path, front, part, times, back):
+    chunk = 1_000_000
+    with open(path, "wb") as file:
+        file.write(front)
+        for _ in range(times // chunk):
+            file.write(part * chunk)
+        file.write(part * (times % chunk) + back)
+
+
+def measured(folder, words):
+    """The answer of a run, the seconds of its processor, and the most bytes that it held."""
+    with open(folder / "out", "w+b") as out, open(folder / "err", "w+b") as err:
+        process = subprocess.Popen([PROGRAM, *words], cwd=folder, stdin=subprocess.DEVNULL, stdout=out, stderr=err)
+        _, status, usage = os.wait4(process.pid, 0)
+        out.seek(0), err.seek(0)
+        answer = Answer(os.waitstatus_to_exitcode(status), out.read(), err.read())
+    return answer, usage.ru_utime + usage.ru_stime, usage.ru_maxrss * 1024
+
+
+def read_long(tally, folder, what, front, part, times, back, wanted):
+    """Runs the program on a long file of half the size and of the whole."""
+    taken = []
+    for count in times // 2, times:
+        write_long(folder / "long.gr", front, part, count, back)
+        answer, seconds, held = measured(folder, ["dist", "long.gr", "one.p2p"])
+        size = (folder / "long.gr").stat().st_size
+        told = wanted.err.replace(b"%d", b"%d" % (count + 1))
+        tally.expect(answer == wanted._replace(err=told), f"{what}, {count} times: {answer}")
+        tally.expect(held <= 2 * size + MORE_BYTES, f"{what}: {held} bytes held for {size}")
+        taken.append(seconds)
+        print(f"{what}, {size / 1e6:.0f} MB: {seconds:.2f} seconds, {held / 1e6:.0f} MB held")
+    tally.expect(taken[1] <= min(MOST_SECONDS, 3 * taken[0] + 1), f"{what}: {taken[0]} and then {taken[1]} seconds")
+
+
+def main():
+    how_many = int(sys.argv[1]) if len(sys.argv) > 1 else 2000
+    seed = sys.argv[2] if len(sys.argv) > 2 else "faulty files"
+    build()
+    tally = Count()
+    with tempfile.TemporaryDirectory() as place:
+        folder = Path(place)
+        compare_drawn(tally, folder, how_many, seed)
+        (folder / "one.p2p").write_text("p aux sp p2p 1\nq 1 2\n")
+        for long_file in LONG:
+            read_long(tally, folder, *long_file)
+    tally.finish()
+
+
+if __name__ == "__main__":
+    main()

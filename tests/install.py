@@ -1,0 +1,137 @@
+#!/usr/bin/python3
+"""Tests the scripts `chtab` and `install`: through links, without the command rt, and what is installed below a prefix.
+
+The last line is 'N passed, N failed'.
+"""
+import os
+import re
+import shutil
+import subprocess
+import tempfile
+from pathlib import Path
+
+from helpers.running import ROOT, Count, build
+
+FIRST = [ROOT / "examples" / "first.gr", ROOT / "examples" / "first.p2p"]
+FIRST_TEXT = "d 1 3 9\nd 3 1 -\n"
+VERSION = (ROOT / "VERSION").read_text()
+# The folders of commands without those that have rt.
+SYSTEM = ":".join(path for path in os.environ["PATH"].split(":") if not (Path(path) / "rt").exists())
+
+
+def said(command, folder, path=None, **more):
+    """Status, output and errors of a command, run in this folder."""
+    environment = os.environ | ({"PATH": path} if path else {}) | more
+    done = subprocess.run([str(word) for word in command], cwd=folder, env=environment, capture_output=True, text=True)
+    return done.returncode, done.stdout, done.stderr
+
+
+def check_links(tally, folder):
+    """The program and its script, called by links from another folder."""
+    (folder / "linked").symlink_to(ROOT / "chtab")
+    (folder / "twice").symlink_to("linked")
+    for name in "linked", "twice":
+        tally.expect(said([f"./{name}", "dist", *FIRST], folder) == (0, FIRST_TEXT, ""), f"by the link {name}")
+    tally.expect(said(["./linked", "--version"], folder) == (0, VERSION, ""), "the version, by a link")
+
+
+def check_without_rt(tally, folder):
+    """A checkout whose program is a script, where no rt is on the path: its sources are older, newer, and it is gone."""
+    checkout = folder / "checkout"
+    program = checkout / "crates" / "chtab" / "out" / "chtab"
+    program.parent.mkdir(parents=True)
+    program.write_text("#!/bin/sh\necho run \"$@\"\n")
+    program.chmod(0o755)
+    for name in "chtab", "VERSION", "crates.txt":
+        shutil.copy(ROOT / name, checkout)
+    os.utime(checkout / "crates.txt", (1, 1))
+    run = ["checkout/chtab", "one", "two words"]
+    tally.expect(said(run, folder, SYSTEM) == (0, "run one two words\n", ""), "without rt, with a program that is newer")
+    os.utime(program, (0, 0))
+    status, out, err = said(run, folder, SYSTEM)
+    is_told = err.count("\n") == 1 and "newer" in err
+    tally.expect((status, out, is_told) == (0, "run one two words\n", True), f"without rt, with newer sources: {err}")
+    program.unlink()
+    status, out, err = said(run, folder, SYSTEM)
+    is_told = err.count("\n") == 2 and "rt" in err and str(program) in err and "Rattle kit" in err
+    tally.expect((status, out, is_told) == (70, "", True), f"without rt and a program: {err}")
+    tally.expect(said(["checkout/chtab", "--version"], folder, SYSTEM) == (0, VERSION, ""), "the version, without rt and a program")
+
+
+def check_lines_of_the_kit(tally):
+    """The kit's line is one in all places."""
+    line = VERSION.splitlines()[1]
+    for page in "README.md", "docs/PROVED.md":
+        tally.expect(f"`{line}`" in (ROOT / page).read_text(), f"{page} does not name {line}")
+    tally.expect(said(["rt", "version"], ROOT) == (0, line + "\n", ""), f"VERSION names another kit than `rt version`: {line}")
+
+
+def options_of(words, folder):
+    """The options that a help text has."""
+    text = said([*words, "--help"], folder)[1]
+    return set(re.findall(r"^ +(?:-h, )?(--[a-z]+)", text, re.MULTILINE))
+
+
+def completed(prefix, *words):
+    """What is offered for the last of these words."""
+    script = f'source "{prefix}/share/bash-completion/completions/chtab"; COMP_WORDS=("$@"); COMP_CWORD=$(($# - 1)); _chtab; echo "${{COMPREPLY[@]}}"'
+    return set(said(["bash", "-c", script, "bash", *words], prefix)[1].split())
+
+
+def check_installed(tally, prefix, folder):
+    """The program, its tools, manual pages and completion, below a prefix."""
+    path = f"{prefix}/bin:{SYSTEM}"
+    tally.expect(said(["chtab", "dist", *FIRST], folder, path) == (0, FIRST_TEXT, ""), "the installed program")
+    tally.expect(said(["chtab", "--version"], folder, path) == (0, VERSION, ""), "the version that is installed")
+    program = prefix / "bin" / "chtab"
+    tools = set(re.findall(r"^  ([a-z]+)  ", said([program, "--help"], folder)[1], re.MULTILINE)) - {"help"}
+    tally.expect(completed(prefix, program, "") == tools | {"--help", "--version"}, f"completion of tools: {tools}")
+    for tool in sorted(tools):
+        options = options_of([program, tool], folder)
+        tally.expect(len(options) > 1 and completed(prefix, program, tool, "--") == options, f"completion of {tool}: {options}")
+        check_page(tally, prefix, f"chtab-{tool}", options)
+    tally.expect(completed(prefix, program, "dist", "--sa") == {"--saved"}, "completion of --sa")
+    for tool in sorted((ROOT / "tools").glob("*.py")):
+        name = "chtab-" + tool.stem.replace("_", "-")
+        status, out, err = said([name, "--help"], folder, path)
+        tally.expect((status, err) == (0, "") and "usage:" in out.lower(), f"{name} --help: {status} {err}")
+        check_page(tally, prefix, name, {"--help"})
+    check_page(tally, prefix, "chtab", tools)
+
+
+def check_page(tally, prefix, name, words):
+    """A manual page that names these words, where there is the command that makes them."""
+    if shutil.which("help2man"):
+        page = prefix / "share" / "man" / "man1" / f"{name}.1"
+        text = page.read_text().replace("\\-", "-") if page.exists() else ""
+        tally.expect(text and all(word in text for word in words), f"the manual page of {name} lacks some of {sorted(words)}")
+
+
+def check_install(tally, folder):
+    prefix = folder / "a prefix"
+    status, out, err = said([ROOT / "install", prefix], folder)
+    tally.expect((status, out) == (0, "") and "install: chtab" in err, f"install: {status} {out} {err}")
+    check_installed(tally, prefix, folder)
+    said([ROOT / "install", "--remove", prefix], folder)
+    left = [path for path in prefix.glob("**/*") if not path.is_dir()]
+    tally.expect(not left, f"left after removal: {left}")
+    said([ROOT / "install", "/usr"], folder, DESTDIR=str(folder / "stage"))
+    tally.expect((folder / "stage" / "usr" / "lib" / "chtab" / "program").exists(), "DESTDIR is put before the prefix")
+    for words in ["--fast"], ["one", "two"]:
+        tally.expect(said([ROOT / "install", *words], folder)[0] == 2, f"install {words} is not refused")
+
+
+def main():
+    build()
+    tally = Count()
+    with tempfile.TemporaryDirectory() as kept:
+        folder = Path(kept)
+        check_links(tally, folder)
+        check_without_rt(tally, folder)
+        check_lines_of_the_kit(tally)
+        check_install(tally, folder)
+    tally.finish()
+
+
+if __name__ == "__main__":
+    main()

@@ -1,0 +1,272 @@
+#!/usr/bin/python3
+"""Runs the built program where the system refuses it something, each time another thing.
+
+  refusals.py [--tests]
+
+- Each request for memory or for a thread is refused in turn, alone and with all that come after it: the answer is the one of a
+  run with ample memory, byte for byte, or `chtab: out of memory`, with status 3 and nothing written.
+- Each read and each write fails in turn, where a call moves 1, 3 or 1000 bytes: the fault names the file that was being read,
+  and nothing was written; or it tells how many bytes were written, and they are the first of the text.
+- A read or write that is interrupted is made again.
+- A pipe that is closed when it is full: the fault tells how much it held.
+- Where each thread is refused the answer is that of a run with ample memory.
+- The tests of the crates named `refused_in_turn` hold when any one request for memory is refused. Their programs are those that
+  `rt ci` or `rt test` left in the crates' folders out/; a crate without one is left out, or with --tests has failed.
+
+The last line is 'N passed, N failed', where each run of the program is counted.
+"""
+import fcntl
+import os
+import re
+import struct
+import subprocess
+import sys
+import tempfile
+import termios
+import time
+from itertools import count
+from pathlib import Path
+
+from helpers.running import PROGRAM, ROOT, SECONDS, Answer, Count, build, side_by_side, run, with_files
+
+FILES = {
+    "line.gr": "p sp 3 2\na 1 2 4\na 2 3 5\n",
+    "line.p2p": "p aux sp p2p 2\nq 1 3\nq 3 1\n",
+    "from.ss": "p aux sp ss 3\ns 1\ns 1\ns 3\n",
+    "to.ss": "p aux sp ss 2\ns 3\ns 2\n",
+    "star.gr": "p sp 4 6\na 1 2 1\na 2 1 1\na 1 3 1\na 3 1 1\na 1 4 1\na 4 1 1\n",
+    "star.p2p": "p aux sp p2p 2\nq 3 4\nq 4 2\n",
+    "outside.gr": "p sp 2 1\na 1 3 5\n",
+    "line.ch": "p ch 3 2\no 1\no 2\no 3\nl 1 2 4 1 0\nl 2 3 5 1 0\n",
+    "star.ch": "p ch 4 8\no 2\no 1\no 3\no 4\nl 2 1 1 1 0\nl 1 2 1 1 0\nl 1 3 1 1 0\nl 1 4 1 1 0\nl 3 1 1 1 0\nl 4 1 1 1 0\n"
+               "l 3 4 2 2 1\nl 4 3 2 2 1\n",
+    "wrong.ch": "p ch 3 2\no 2\no 1\no 3\nl 1 2 4 1 0\nl 2 3 5 1 0\n",
+}
+
+STAR_SAVED = FILES["star.ch"].encode()
+STAR_ROUTES = b"d 3 4 2\nr 2\na 3 1 1\na 1 4 1\nd 4 2 2\nr 2\na 4 1 1\na 1 2 1\n"
+LINE_ROUTES = b"d 1 3 9\nr 2\na 1 2 4\na 2 3 5\nd 3 1 -\n"
+LINE_TABLE = b"t 1 9 4\nt 1 9 4\nt 3 0 -\n"
+LINE_TABLE_WITHIN_8 = b"t 1 - 4\nt 1 - 4\nt 3 0 -\n"
+TWO_WORKERS = ["--workers", "2", "--piece", "1"]
+
+# The kinds of run: their words, and the answer with ample memory; None where other tests look at the text.
+KINDS = {
+    "distances": (["dist", "star.gr", "star.p2p"], Answer(0, b"d 3 4 2\nd 4 2 2\n", b"")),
+    "distances by two workers": (["dist", *TWO_WORKERS, "star.gr", "star.p2p"], Answer(0, b"d 3 4 2\nd 4 2 2\n", b"")),
+    "plain distances": (["dist", "--plain", "line.gr", "line.p2p"], Answer(0, b"d 1 3 9\nd 3 1 -\n", b"")),
+    "routes": (["dist", "--routes", "star.gr", "star.p2p"], Answer(0, STAR_ROUTES, b"")),
+    "routes by depth": (["dist", "--routes", "--deep", "star.gr", "star.p2p"], Answer(0, STAR_ROUTES, b"")),
+    "routes by two workers": (["dist", "--routes", *TWO_WORKERS, "star.gr", "star.p2p"], Answer(0, STAR_ROUTES, b"")),
+    "a table": (["table", "line.gr", "from.ss", "to.ss"], Answer(0, LINE_TABLE, b"")),
+    "a table by two workers": (["table", *TWO_WORKERS, "line.gr", "from.ss", "to.ss"], Answer(0, LINE_TABLE, b"")),
+    "a table within a limit": (["table", "--within", "8", "line.gr", "from.ss", "to.ss"], Answer(0, LINE_TABLE_WITHIN_8, b"")),
+    "a hierarchy": (["save", "star.gr"], Answer(0, STAR_SAVED, b"")),
+    "a hierarchy by two workers": (["save", *TWO_WORKERS, "star.gr"], Answer(0, STAR_SAVED, b"")),
+    "routes by a saved hierarchy": (["dist", "--routes", "--saved", "star.ch", "star.gr", "star.p2p"], Answer(0, STAR_ROUTES, b"")),
+    "a table by a saved hierarchy": (["table", "--saved", "line.ch", "line.gr", "from.ss", "to.ss"], Answer(0, LINE_TABLE, b"")),
+    "help": (["--help"], Answer(0, None, b"")),
+    "refused words": (["dist", "--fast", "line.gr", "line.p2p"], Answer(2, b"", None)),
+    "a word that is not UTF-8": (["dist", b"\xff", "line.p2p"], Answer(2, b"", None)),
+    "a refused graph": (["dist", "outside.gr", "line.p2p"], Answer(1, b"", b"chtab: graph line 2: node out of range\n")),
+    "a refused hierarchy": (["dist", "--saved", "wrong.ch", "line.gr", "line.p2p"],
+                            Answer(1, b"", b"chtab: saved hierarchy refused: lower\n")),
+    "a missing hierarchy": (["dist", "--saved", "none.ch", "line.gr", "line.p2p"], Answer(3, b"", b"chtab: cannot read saved\n")),
+    "a missing file": (["table", "line.gr", "from.ss", "none.ss"], Answer(3, b"", b"chtab: cannot read targets\n")),
+}
+
+OUT_OF_MEMORY = Answer(3, b"", b"chtab: out of memory\n")
+
+# The runs over files, the names of these files in the order in which they are read, and the text.
+RUNS = {
+    "routes on a line": (["dist", "--routes"], {"graph": "line.gr", "queries": "line.p2p"}, LINE_ROUTES),
+    "routes on a star": (["dist", "--routes"], {"graph": "star.gr", "queries": "star.p2p"}, STAR_ROUTES),
+    "a table": (["table"], {"graph": "line.gr", "sources": "from.ss", "targets": "to.ss"}, LINE_TABLE),
+    "a hierarchy": (["save"], {"graph": "star.gr"}, STAR_SAVED),
+    "routes by a saved hierarchy": (["dist", "--routes"], {"graph": "star.gr", "saved": "star.ch", "queries": "star.p2p"}, STAR_ROUTES),
+    "a table by a saved hierarchy": (["table"], {"graph": "line.gr", "saved": "line.ch", "sources": "from.ss", "targets": "to.ss"},
+                                     LINE_TABLE),
+}
+
+# What Linux calls F_GETPIPE_SZ: how many bytes a pipe can hold.
+PIPE_SIZE = 1032
+
+# The errors of the system, as <errno.h> of Linux has them.
+INTERRUPTED, DEVICE_FAILED, DEVICE_FULL = 4, 5, 28
+
+# The most requests for memory that a run of these kinds could need.
+MOST_REQUESTS = 20_000
+
+
+class Refusing:
+    """Runs of the program under the library that refuses calls."""
+
+    def __init__(self, folder):
+        self.folder = Path(folder)
+        self.library = self.folder / "refusing.so"
+        for name, text in FILES.items():
+            (self.folder / name).write_text(text)
+        subprocess.run([*compiler(), "-shared", "-fPIC", "-O2", "-nostdlib", "-o", self.library, ROOT / "tests/helpers/refusing.c"],
+                       check=True)
+
+    def run(self, words, command=(PROGRAM,), **settings):
+        """The answer, and the counts of requests for memory, of those refused, of reads and of writes."""
+        with tempfile.NamedTemporaryFile(dir=self.folder) as counts:
+            counts.truncate(32)
+            environment = {"LD_PRELOAD": str(self.library), "REFUSE_COUNTS": counts.name}
+            environment |= {name: str(value) for name, value in settings.items()}
+            answer = run(words, self.folder, environment, command)
+            return answer, struct.unpack("=4Q", counts.read(32))
+
+
+def compiler():
+    """The compiler of the kit, which is there wherever the program can be built."""
+    start = subprocess.run(["rt", "doc"], stdout=subprocess.PIPE, text=True, check=True).stdout.strip()
+    return [Path(start).parent / "toolchain/bin/clang", "-fuse-ld=lld"]
+
+
+def agrees(answer, wanted):
+    """Whether the answer is this one, where a stream that is None may have any text."""
+    return all(one == other for one, other in zip(answer, wanted) if other is not None)
+
+
+def refuse_memory(refusing, tally, name, words, wanted):
+    """Refuses each request for memory of one kind of run."""
+    ample, (requests, *_) = refusing.run(words)
+    is_sound = agrees(ample, wanted) and 0 < requests < MOST_REQUESTS
+    tally.expect(is_sound, f"{name}, {requests} requests: {ample}")
+    if not is_sound:
+        return
+    refused_runs = 0
+    for after in "", "+":
+        def refused_at(at):
+            answer, (_, refused, *_) = refusing.run(words, REFUSE_MEMORY=f"{at}{after}")
+            tally.expect(answer in (ample, OUT_OF_MEMORY), f"{name}, request {at}{after} refused: {answer}")
+            return refused > 0, answer == OUT_OF_MEMORY
+
+        found = side_by_side(refused_at, range(1, requests + 1))
+        # Several workers may ask more often than they did in the ample run.
+        while found[-1][0] and len(found) < MOST_REQUESTS:
+            found.append(refused_at(len(found) + 1))
+        refused_runs += sum(told for _, told in found)
+        tally.expect(found[0][1], f"{name}, the first request refused{after}: no want of memory is told")
+    print(f"{name}: {requests} requests, {refused_runs} runs told want of memory")
+
+
+def refuse_threads(refusing, tally, name, words, wanted):
+    """Refuses each thread: the calls are made one after the other."""
+    for workers in "2", "64":
+        answer, _ = refusing.run([*words, "--workers", workers, "--piece", "1"], REFUSE_THREADS=1)
+        tally.expect(answer == wanted, f"{name}, {workers} workers, no thread: {answer}")
+
+
+def has_tests_in_turn(crate):
+    """Whether the crate has a test that is named for refusals."""
+    return any(re.search(r"^fn \w*refused_in_turn", path.read_text(), re.MULTILINE) for path in crate.glob("src/**/*.rt"))
+
+
+def refuse_in_crate(refusing, tally, crate, is_needed):
+    """Refuses each request for memory of the tests of a crate that are named for it, where its tests are built."""
+    program = crate / "out" / f"{crate.name}_tests"
+    if not program.exists():
+        print(f"{crate.name}: its tests are not built")
+        tally.expect(not is_needed, f"{crate.name}: its tests are not built")
+        return
+    listed = refusing.run(["--list"], command=[program])[0].out.decode()
+    names = re.findall(r"^(\S*refused_in_turn\S*): test$", listed, re.MULTILINE)
+    tally.expect(names, f"{program.name} has no test that is named for refusals")
+    for name in names:
+        refuse_in_test(refusing, tally, program, name)
+
+
+def refuse_in_test(refusing, tally, program, name):
+    """Refuses each request for memory of one test."""
+    ample, (requests, *_) = refusing.run([name], command=[program])
+    is_sound = ample.status == 0 and b"test result: ok" in ample.out and 0 < requests < MOST_REQUESTS
+    tally.expect(is_sound, f"{program.name} {name}, {requests} requests: {ample}")
+    for at in count(1) if is_sound else ():
+        answer, (_, refused, *_) = refusing.run([name], command=[program], REFUSE_MEMORY=at)
+        tally.expect(answer == ample, f"{program.name} {name}, request {at} refused: {answer}")
+        if not refused or at == MOST_REQUESTS:
+            break
+    print(f"{program.name} {name}: {requests} requests")
+
+
+def reads_of(size, most):
+    """How many reads a file of this size takes: the last gives no byte."""
+    return -(-size // most) + 1
+
+
+def fail_devices(refusing, tally, name, words, files, text):
+    """Lets each read and each write of one kind of run fail."""
+    words = with_files(words, files)
+    done = Answer(0, text, b"")
+    for most in 1, 3, 1000:
+        what = f"{name}, {most} bytes a call"
+        readers = [which for which, file in files.items() for _ in range(reads_of(len(FILES[file]), most))]
+        writes = -(-len(text) // most)
+        ample, (_, _, read_count, write_count) = refusing.run(words, MOST_BYTES=most)
+        tally.expect(ample == done and (read_count, write_count) == (len(readers), writes), f"{what}: {ample}")
+
+        def fail_read(at):
+            answer, _ = refusing.run(words, MOST_BYTES=most, REFUSE_READ=at)
+            told = f"chtab: cannot read {readers[at - 1]}\n".encode()
+            tally.expect(answer == Answer(3, b"", told), f"{what}, read {at} fails: {answer}")
+            answer, _ = refusing.run(words, MOST_BYTES=most, REFUSE_READ=at, REFUSE_WITH=INTERRUPTED)
+            tally.expect(answer == done, f"{what}, read {at} is interrupted: {answer}")
+
+        def fail_write(at):
+            taken = (at - 1) * most
+            told = Answer(3, text[:taken], f"chtab: cannot write after {taken} bytes\n".encode())
+            for error in 0, DEVICE_FAILED, DEVICE_FULL:
+                answer, _ = refusing.run(words, MOST_BYTES=most, REFUSE_WRITE=at, REFUSE_WITH=error)
+                tally.expect(answer == told, f"{what}, write {at} fails with {error}: {answer}")
+            answer, _ = refusing.run(words, MOST_BYTES=most, REFUSE_WRITE=at, REFUSE_WITH=INTERRUPTED)
+            tally.expect(answer == done, f"{what}, write {at} is interrupted: {answer}")
+
+        side_by_side(fail_read, range(1, len(readers) + 1))
+        side_by_side(fail_write, range(1, writes + 1))
+
+
+def close_pipe(tally, folder):
+    """Closes a pipe once it is full, while the program writes a text that is longer."""
+    (folder / "one.gr").write_text("p sp 1 0\n")
+    (folder / "ones.ss").write_text("p aux sp ss 400\n" + "s 1\n" * 400)
+    read_end, write_end = os.pipe()
+    process = subprocess.Popen([PROGRAM, "table", "one.gr", "ones.ss", "ones.ss"], cwd=folder, stdout=write_end,
+                               stderr=subprocess.PIPE)
+    os.close(write_end)
+    room = fcntl.fcntl(read_end, PIPE_SIZE)
+    for _ in range(100 * SECONDS):
+        if process.poll() is not None or waiting_in(read_end) == room:
+            break
+        time.sleep(0.01)
+    os.close(read_end)
+    err = process.communicate(timeout=SECONDS)[1]
+    told = f"chtab: cannot write after {room} bytes\n".encode()
+    tally.expect((process.returncode, err) == (3, told), f"a full pipe is closed: {process.returncode}, {err}")
+
+
+def waiting_in(pipe):
+    """How many bytes wait in a pipe."""
+    return struct.unpack("=i", fcntl.ioctl(pipe, termios.FIONREAD, bytes(4)))[0]
+
+
+def main():
+    build()
+    tally = Count()
+    with tempfile.TemporaryDirectory() as folder:
+        refusing = Refusing(folder)
+        for name, (words, wanted) in KINDS.items():
+            refuse_memory(refusing, tally, name, words, wanted)
+        for name, (words, files, text) in RUNS.items():
+            refuse_threads(refusing, tally, name, with_files(words, files), Answer(0, text, b""))
+            fail_devices(refusing, tally, name, words, files, text)
+        close_pipe(tally, refusing.folder)
+        for crate in filter(has_tests_in_turn, sorted(ROOT.glob("crates/*"))):
+            refuse_in_crate(refusing, tally, crate, is_needed="--tests" in sys.argv[1:])
+    tally.finish()
+
+
+if __name__ == "__main__":
+    main()
