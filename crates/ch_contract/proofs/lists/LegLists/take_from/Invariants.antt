@@ -1,7 +1,0 @@
-use Rattle.std.proofs.Common.{take}
-use Rattle.ch_contract.specs.LegLists.{AreTaken}
-use Rattle.ch_contract.proofs.lists.LegLists.take_from.Given as goal
-
--- the legs at v of the nodes so far are out
-abbrev pub invariant-loop-leg : goal.invariant-loop-leg
-invariant-loop-leg l = AreTaken l.v (take l.leg-index l.others) l.fn.self l.self

@@ -1,9 +1,0 @@
-use Rattle.std.proofs.Common.{take}
-use Rattle.ch_contract.specs.LegLists.{AreOverridden, legs_from, legs_into}
-use Rattle.ch_contract.proofs.lists.put_shortcuts.Given as goal
-
--- the shortcuts so far are put in on both sides
-abbrev pub invariant-loop-shortcut : goal.invariant-loop-shortcut
-invariant-loop-shortcut l =
-    AreOverridden legs_from l.v (take l.shortcut-index l.shortcuts) l.fn.outs l.outs
-    × AreOverridden legs_into l.v (take l.shortcut-index l.shortcuts) l.fn.ins l.ins

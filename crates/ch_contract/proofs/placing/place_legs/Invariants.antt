@@ -1,9 +1,0 @@
-use Rattle.ch_contract.specs.Placing.{from_of, to_of}
-use Rattle.ch_contract.proofs.code.PairFaults.{ArePlacedBefore}
-use Rattle.ch_contract.proofs.placing.place_legs.Given as goal
-
-abbrev pub invariant-loop-place : goal.invariant-loop-place
-invariant-loop-place l = record {
-  up : ArePlacedBefore from_of to_of l.levels l.legs l.place l.ups.items;
-  down : ArePlacedBefore to_of from_of l.levels l.legs l.place l.downs.items;
-}

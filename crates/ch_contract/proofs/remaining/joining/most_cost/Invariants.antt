@@ -1,7 +1,0 @@
-use Rattle.std.proofs.Common.{take}
-use Rattle.ch_contract.specs.Lines.{AreBounded}
-use Rattle.ch_contract.proofs.remaining.joining.most_cost.Given as goal
-
--- no leg so far makes a dearer candidate
-abbrev pub invariant-loop-second : goal.invariant-loop-second
-invariant-loop-second l = AreBounded l.nodes l.first (take l.second-index l.up) l.most
