@@ -64,6 +64,10 @@ HasFault g s (Middle i) = (l : SavedLeg) × (v : ℕ) × (l.middle ≡ Some v) �
 HasFault g s (Arc i) = (a : InArc) × (slice_get g.arcs i ≡ Some a) × (a.from ≢ a.to) × ((H : LevelsAndLegs) × NamesHierarchy s H × (HasLegWithin H a → ⊥))
 HasFault g s (Lower v) = (v < g.nodes) × ((H : LevelsAndLegs) × NamesHierarchy s H × (IsCovered H v → ⊥))
 
+-- none of the seven faults is there
+abbrev pub IsFaultless : Network → OrderAndLegs → Type 0
+IsFaultless g s = (f : CheckFault) → HasFault g s f → ⊥
+
 -- the kinds, in the order in which they are judged
 abbrev pub kind : CheckFault → ℕ
 kind Order = 0

@@ -5,7 +5,7 @@ use Rattle.ch_graph.specs.Saved.{OrderAndLegs}
 use Rattle.ch_hierarchy.specs.declared.fault.CheckFault.{CheckFault}
 use Rattle.ch_hierarchy.specs.Hierarchy.{LevelsAndLegs, IsLevelled}
 use Rattle.ch_hierarchy.specs.Kept.{IsKept}
-use Rattle.ch_hierarchy.specs.Saved.{NamesHierarchy, NamesFor, NamesKept, HasFault, IsEarly, IsFirstFault}
+use Rattle.ch_hierarchy.specs.Saved.{NamesHierarchy, NamesFor, NamesKept, HasFault, IsFaultless, IsEarly, IsFirstFault}
 use Rattle.ch_hierarchy.specs.Written.{IsByLevel, written}
 
 -- an order and legs name at most one hierarchy
@@ -14,11 +14,11 @@ OneHierarchyIsNamed = (s : OrderAndLegs) (H K : LevelsAndLegs) → NamesHierarch
 
 -- where they name one that is right for the graph they have no fault
 abbrev pub KeptHierarchiesHaveNoFault : Type 0
-KeptHierarchiesHaveNoFault = (g : Network) (s : OrderAndLegs) (H : LevelsAndLegs) → NamesKept g s H → (f : CheckFault) → HasFault g s f → ⊥
+KeptHierarchiesHaveNoFault = (g : Network) (s : OrderAndLegs) (H : LevelsAndLegs) → NamesKept g s H → IsFaultless g s
 
 -- and what has no fault names one that is right for the graph
 abbrev pub FaultlessIsKept : Type 0
-FaultlessIsKept = (g : Network) (s : OrderAndLegs) → IsWithinLimits g → ((f : CheckFault) → HasFault g s f → ⊥) → (H : LevelsAndLegs) × NamesKept g s H
+FaultlessIsKept = (g : Network) (s : OrderAndLegs) → IsWithinLimits g → IsFaultless g s → (H : LevelsAndLegs) × NamesKept g s H
 
 -- where they name one among the graph's nodes they have no early fault
 abbrev pub NamedHierarchiesHaveNoEarlyFault : Type 0
@@ -38,5 +38,4 @@ WrittenHierarchiesAreNamed = (H : LevelsAndLegs) (order : List ℕ) → IsLevell
 
 -- and where it is right for the graph there is no fault
 abbrev pub WrittenHierarchiesHaveNoFault : Type 0
-WrittenHierarchiesHaveNoFault = (g : Network) (H : LevelsAndLegs) (order : List ℕ) → IsKept g H → IsByLevel H order →
-    NamesKept g (written H order) H × ((f : CheckFault) → HasFault g (written H order) f → ⊥)
+WrittenHierarchiesHaveNoFault = (g : Network) (H : LevelsAndLegs) (order : List ℕ) → IsKept g H → IsByLevel H order → NamesKept g (written H order) H × IsFaultless g (written H order)

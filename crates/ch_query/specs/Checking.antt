@@ -4,20 +4,13 @@ use Rattle.ch_graph.specs.declared.arc.InArc.{InArc}
 use Rattle.ch_graph.specs.declared.cost.Cost.{Cost}
 use Rattle.ch_graph.specs.declared.saved.SavedLeg.{SavedLeg}
 use Rattle.ch_graph.specs.Graph.{Network}
-use Rattle.ch_graph.specs.Saved.{OrderAndLegs}
 use Rattle.ch_graph.specs.Cost.{IsAtMost, cost_sum}
 use Rattle.ch_hierarchy.specs.declared.leg.Leg.{Leg}
-use Rattle.ch_hierarchy.specs.declared.fault.CheckFault.{CheckFault}
 use Rattle.ch_hierarchy.specs.declared.fault.CheckError.{CheckError}
 use Rattle.ch_hierarchy.specs.declared.fault.CheckError.TheVariants.{NoMemory}
 use Rattle.ch_hierarchy.specs.Rows.{row}
 use Rattle.ch_hierarchy.specs.Hierarchy.{LevelsAndLegs}
 use Rattle.ch_hierarchy.specs.Kept.{IsLeg, HasLegWithin}
-use Rattle.ch_hierarchy.specs.Saved.{HasFault}
-
--- none of the seven faults is there
-abbrev pub IsFaultless : Network → OrderAndLegs → Type 0
-IsFaultless g s = (f : CheckFault) → HasFault g s f → ⊥
 
 -- the result is Ok exactly where P holds, memory aside
 abbrev pub IsOkWhere : {A : Type 0} → Result A CheckError → Type 0 → Type 0

@@ -4,8 +4,8 @@ ghost use Rattle.ch_hierarchy.specs.declared.fault.CheckFault.{CheckFault as Any
 ghost use Rattle.ch_hierarchy.specs.declared.fault.CheckFault.TheVariants as CheckFault;
 ghost use Rattle.ch_hierarchy.specs.declared.fault.CheckError.TheVariants as CheckError;
 ghost use Rattle.ch_hierarchy.specs.Kept.{IsKept};
-ghost use Rattle.ch_hierarchy.specs.Saved.{IsFirstFault, NamesFor, NamesKept, AnswersWhere};
-ghost use Rattle.ch_query.specs.Checking.{IsOkWhere, IsFaultless};
+ghost use Rattle.ch_hierarchy.specs.Saved.{IsFaultless, IsFirstFault, NamesFor, NamesKept, AnswersWhere};
+ghost use Rattle.ch_query.specs.Checking.{IsOkWhere};
 
 use crate::founding::{first_false_shortcut, first_unserved, first_without_arc};
 use crate::lower::first_uncovered;

@@ -11,14 +11,13 @@ use Rattle.ch_graph.specs.Cost.{IsAtMost, cost_sum}
 use Rattle.ch_graph.specs.Graph.{Network, IsWithinLimits}
 use Rattle.ch_graph.specs.Saved.{OrderAndLegs}
 use Rattle.ch_graph.specs.WalkLaws.{arc_cost}
-use Rattle.ch_hierarchy.specs.declared.fault.CheckFault.{CheckFault}
 use Rattle.ch_hierarchy.specs.declared.fault.CheckFault.TheVariants.{Order, Pair, Bound, Base, Middle, Arc, Lower}
 use Rattle.ch_hierarchy.specs.declared.leg.Leg.{Leg}
 use Rattle.ch_hierarchy.specs.Hierarchy.{LevelsAndLegs, nodes_of, IsLegUp, IsLevelled}
 use Rattle.ch_hierarchy.specs.Kept.{IsLeg, IsFounded, HasLegWithin, MeetsWithin, IsCovered, IsKept}
 use Rattle.ch_hierarchy.specs.Placing.{no_saved_leg}
 use Rattle.ch_hierarchy.specs.Rows.{row}
-use Rattle.ch_hierarchy.specs.Saved.{IsOrderOf, NamesHierarchy, NamesFor, NamesKept, JoinsNodes, IsWithinBounds, IsSamePair, HasFault}
+use Rattle.ch_hierarchy.specs.Saved.{IsOrderOf, NamesHierarchy, NamesFor, NamesKept, JoinsNodes, IsWithinBounds, IsSamePair, IsFaultless}
 use Rattle.ch_hierarchy.proofs.theory.Decided.{Decided, so_if_decided, decided_same, decided_both, decided_either, HasOne, one_decided, contains_arc_decided, same_cost_decided, at_most_decided}
 use Rattle.ch_hierarchy.proofs.theory.LeastUpward.{meets_decided}
 use Rattle.ch_hierarchy.proofs.theory.NamedByLegs.{named_there}
@@ -82,7 +81,7 @@ module _ (g : Network) (H : LevelsAndLegs) where
       so_if_decided (MeetsWithin H a.node b.node (cost_sum a.cost b.cost)) (meets_decided H is a.node b.node (cost_sum a.cost b.cost) node)
       (λ never. can (λ covered. never (covered a b ha hb apart)))
 
-module _ (g : Network) (s : OrderAndLegs) (limits : IsWithinLimits g) (none : (f : CheckFault) → HasFault g s f → ⊥) where
+module _ (g : Network) (s : OrderAndLegs) (limits : IsWithinLimits g) (none : IsFaultless g s) where
   -- the order has each node once
   order_right : IsOrderOf g.nodes s.order
   order_right = record {

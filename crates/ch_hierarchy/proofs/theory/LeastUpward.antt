@@ -1,9 +1,7 @@
 -- A least upward path between two nodes, or none, found by going up; and so whether paths from both ends meet within a bound.
-use Rattle.std.proofs.Common.{◌≡◌, ℕ, zero, suc, ◌+◌, ◌<◌, ◌≤◌, List, [], ◌∷◌, length, Contains, refl, sym, ◌∙◌, subst, arith, inl, inr}
+use Rattle.std.proofs.Common.{◌≡◌, ℕ, zero, suc, ◌+◌, ◌<◌, ◌≤◌, List, [], ◌∷◌, Contains, refl, sym, ◌∙◌, subst, arith, inl, inr}
 use Rattle.std.specs.Prelude.{◌⊎◌, slice_index}
 use Rattle.std.proofs.lemmas.Bool.{cases_eq, cases_lt}
-use Rattle.std.proofs.lemmas.List.{get_or_past}
-use Rattle.std.proofs.lemmas.List.Elements.{All-contains}
 use Rattle.ch_graph.specs.declared.limits.TheConstants.{MOST_WEIGHT}
 use Rattle.ch_graph.specs.declared.cost.Cost.{Cost}
 use Rattle.ch_graph.specs.Cost.{IsAtMost, cost_sum, no_cost}
@@ -13,10 +11,10 @@ use Rattle.ch_graph.proofs.LeastSearch.{LeastOrNone, IsSumOf, least_either, leas
 use Rattle.ch_graph.proofs.Lists.{contains_head, contains_tail, contains_cons, contains_none}
 use Rattle.ch_hierarchy.specs.declared.leg.Leg.{Leg}
 use Rattle.ch_hierarchy.specs.Rows.{row}
-use Rattle.ch_hierarchy.specs.Hierarchy.{LevelsAndLegs, nodes_of, IsLegUp, AreLegsUp, IsLevelled}
+use Rattle.ch_hierarchy.specs.Hierarchy.{LevelsAndLegs, nodes_of, AreLegsUp, IsLevelled}
 use Rattle.ch_hierarchy.specs.Paths.{IsUpwardPath, path_cost, IsLeastUpwardPath, IsMeeting}
 use Rattle.ch_hierarchy.specs.Kept.{MeetsWithin}
-use Rattle.ch_hierarchy.proofs.theory.LegPaths.{path_cost-cons}
+use Rattle.ch_hierarchy.proofs.theory.LegPaths.{path_cost-cons, level_most, leg_of_rows}
 use Rattle.ch_hierarchy.proofs.theory.Decided.{Decided, decided_same, HasBelow, below_decided, at_most_decided}
 
 -- this cost alone
@@ -101,20 +99,9 @@ module _ (rows : List (List Leg)) where
   ends_below n within a b (l ∷ legs) p lt = ends_below n within l.node b legs p.1 (within a l p.0)
 
 module _ (H : LevelsAndLegs) (is : IsLevelled H) where
-  -- no level is past the number of nodes
-  level_most : (v : ℕ) → slice_index H.level v ≤ nodes_of H
-  level_most v = elim (cases_lt v (length H.level)) [
-    | inl node ↦ (is.levels.0 v 0 node).1
-    | inr past ↦ (let none = get_or_past H.level v 0 past in omega arith)
-  ]
-
-  -- a leg of rows that lead up
-  up_leg : (rows : List (List Leg)) → AreLegsUp H rows → (v : ℕ) (l : Leg) → Contains (row rows v) l → IsLegUp H v l
-  up_leg rows are v l has = All-contains (IsLegUp H v) (row rows v) l (are.1 v).1 has
-
   -- a least path in such rows, or none
   least_in : (rows : List (List Leg)) → AreLegsUp H rows → (a b : ℕ) → ((c : Cost) × IsLeastUpwardPath rows a b c) ⊎ ((c : Cost) → IsLeastUpwardPath rows a b c → ⊥)
-  least_in rows are = least_path rows (slice_index H.level) (nodes_of H) level_most (λ v l has. (up_leg rows are v l has).higher)
+  least_in rows are = least_path rows (slice_index H.level) (nodes_of H) (level_most H is) (λ v l has. (leg_of_rows H rows are v l has).higher)
 
   module _ (s t : ℕ) (most : Cost) where
     -- going up to m and down from there costs no more
@@ -142,5 +129,5 @@ module _ (H : LevelsAndLegs) (is : IsLevelled H) where
     pub meets_decided : s < nodes_of H → Decided (MeetsWithin H s t most)
     meets_decided lt = decided_same (HasBelow MeetsAt (nodes_of H)) (MeetsWithin H s t most)
         (λ (m, less, (c, meets, le)). (m, c, meets, le))
-        (λ (m, c, meets, le). (m, ends_below H.up (nodes_of H) (λ v l has. (up_leg H.up is.up v l has).node) s m meets.2.path.0 meets.2.path.1 lt, (c, meets, le)))
+        (λ (m, c, meets, le). (m, ends_below H.up (nodes_of H) (λ v l has. (leg_of_rows H H.up is.up v l has).node) s m meets.2.path.0 meets.2.path.1 lt, (c, meets, le)))
         (below_decided MeetsAt meets_at (nodes_of H))

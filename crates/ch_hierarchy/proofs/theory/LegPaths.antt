@@ -1,6 +1,8 @@
 -- Paths over the legs of a hierarchy, up and down in any order.
-use Rattle.std.proofs.Common.{◌≡◌, ℕ, ◌<◌, ◌≤◌, List, [], ◌∷◌, ◌++◌, Contains, Option, refl, sym, ◌∙◌, ap, subst, arith, inl, inr}
+use Rattle.std.proofs.Common.{◌≡◌, ℕ, ◌<◌, ◌≤◌, List, [], ◌∷◌, ◌++◌, length, Contains, Option, refl, sym, ◌∙◌, ap, subst, arith, inl, inr}
 use Rattle.std.specs.Prelude.{◌⊎◌, slice_index}
+use Rattle.std.proofs.lemmas.Bool.{cases_lt}
+use Rattle.std.proofs.lemmas.List.{get_or_past}
 use Rattle.std.proofs.lemmas.List.Elements.{All-contains}
 use Rattle.std.proofs.lemmas.List.Sums.{sum_by-cons, sum_by-append}
 use Rattle.ch_graph.specs.declared.cost.Cost.{Cost}
@@ -12,7 +14,7 @@ use Rattle.ch_graph.proofs.CostSums.{cost_sum_assoc, cost_sum_comm, cost_sum-no_
 use Rattle.ch_graph.proofs.WalkCosts.{IsWalkCost-no_cost, IsWalkCost-cost_sum}
 use Rattle.ch_hierarchy.specs.declared.leg.Leg.{Leg}
 use Rattle.ch_hierarchy.specs.Rows.{row}
-use Rattle.ch_hierarchy.specs.Hierarchy.{LevelsAndLegs, IsLegUp}
+use Rattle.ch_hierarchy.specs.Hierarchy.{LevelsAndLegs, nodes_of, IsLegUp, AreLegsUp, IsLevelled}
 use Rattle.ch_hierarchy.specs.Paths.{IsUpwardPath, path_cost, IsMeeting}
 use Rattle.ch_hierarchy.specs.Kept.{IsLeg, IsKept}
 use Rattle.ch_hierarchy.specs.Turned.{turned_graph}
@@ -111,14 +113,26 @@ module _ (H : LevelsAndLegs) where
   abbrev pub Falls : ℕ → ℕ → Cost → Type 0
   Falls u w c = (l : Leg) × Contains (row H.down w) l × (l.node ≡ u) × (l.cost ≡ c) × (slice_index H.level w < slice_index H.level u)
 
+module _ (H : LevelsAndLegs) where
+  -- no level is past the number of nodes
+  pub level_most : IsLevelled H → (v : ℕ) → slice_index H.level v ≤ nodes_of H
+  level_most is v = elim (cases_lt v (length H.level)) [
+    | inl node ↦ (is.levels.0 v 0 node).1
+    | inr past ↦ (let none = get_or_past H.level v 0 past in omega arith)
+  ]
+
+  -- a leg of rows whose legs lead up
+  pub leg_of_rows : (rows : List (List Leg)) → AreLegsUp H rows → (v : ℕ) (l : Leg) → Contains (row rows v) l → IsLegUp H v l
+  leg_of_rows rows are v l has = All-contains (IsLegUp H v) (row rows v) l (are.1 v).1 has
+
 module _ (g : Network) (H : LevelsAndLegs) (kept : IsKept g H) where
   -- an up leg of a node
   pub up_leg : (v : ℕ) (l : Leg) → Contains (row H.up v) l → IsLegUp H v l
-  up_leg v l has = All-contains (IsLegUp H v) (row H.up v) l (kept.levelled.up.1 v).1 has
+  up_leg = leg_of_rows H H.up kept.levelled.up
 
   -- a down leg of a node
   pub down_leg : (v : ℕ) (l : Leg) → Contains (row H.down v) l → IsLegUp H v l
-  down_leg v l has = All-contains (IsLegUp H v) (row H.down v) l (kept.levelled.down.1 v).1 has
+  down_leg = leg_of_rows H H.down kept.levelled.down
 
   -- an upward path stays above its start
   pub up_high : (k a b : ℕ) (legs : List Leg) → IsUpwardPath H.up a b legs → k ≤ slice_index H.level a → IsHighPath H k a b legs

@@ -1,8 +1,7 @@
 -- A path of legs in a kept hierarchy is matched by one that goes up and then down: its lowest nodes are avoided in turn.
-use Rattle.std.proofs.Common.{◌≡◌, ℕ, zero, suc, ◌+◌, ◌<◌, ◌≤◌, List, [], ◌∷◌, ◌++◌, length, Contains, refl, sym, ◌∙◌, ap, subst, arith, inl, inr}
+use Rattle.std.proofs.Common.{◌≡◌, ℕ, zero, suc, ◌+◌, ◌<◌, List, [], ◌∷◌, ◌++◌, Contains, refl, sym, ◌∙◌, ap, subst, arith, inl, inr}
 use Rattle.std.specs.Prelude.{◌⊎◌, slice_index}
 use Rattle.std.proofs.lemmas.Bool.{cases_lt, cases_eq}
-use Rattle.std.proofs.lemmas.List.{get_or_past}
 use Rattle.ch_graph.specs.declared.cost.Cost.{Cost}
 use Rattle.ch_graph.specs.Cost.{IsAtMost, cost_sum, no_cost}
 use Rattle.ch_graph.specs.Graph.{Network}
@@ -15,7 +14,7 @@ use Rattle.ch_hierarchy.specs.Hierarchy.{LevelsAndLegs, nodes_of}
 use Rattle.ch_hierarchy.specs.Paths.{IsUpwardPath, path_cost}
 use Rattle.ch_hierarchy.specs.Kept.{IsKept}
 use Rattle.ch_hierarchy.specs.Turned.{turned_hierarchy}
-use Rattle.ch_hierarchy.proofs.theory.LegPaths.{IsHighPath, HasHighPath, high_start, high_end, high_append, last_leg, meeting_high, Rises, Falls, rises_or_falls, path_cost-cons, path_cost-append}
+use Rattle.ch_hierarchy.proofs.theory.LegPaths.{IsHighPath, HasHighPath, high_start, high_end, high_append, last_leg, meeting_high, Rises, Falls, rises_or_falls, path_cost-cons, path_cost-append, level_most}
 
 -- an upward path from s and one from t that meet, and cost at most c together
 pub record HasMeetingPaths (H : LevelsAndLegs) (s t : ℕ) (c : Cost) : Type 0 where
@@ -144,13 +143,6 @@ module _ (g : Network) (H : LevelsAndLegs) (kept : IsKept g H) where
         ]
   ]
 
-  -- no level is past the number of nodes
-  level_bound : (v : ℕ) → slice_index H.level v ≤ nodes_of H
-  level_bound v = elim (cases_lt v (length H.level)) [
-    | inl node ↦ (kept.levelled.levels.0 v 0 node).1
-    | inr past ↦ omega (arith, get_or_past H.level v 0 past)
-  ]
-
   -- each path over nodes of level k and above is matched by two paths that meet, of no greater cost
   abbrev pub AreMatched : ℕ → Type 0
   AreMatched k = (s t : ℕ) (legs : List Leg) → IsHighPath H k s t legs → HasMeetingPaths H s t (path_cost legs)
@@ -194,7 +186,7 @@ module _ (g : Network) (H : LevelsAndLegs) (kept : IsKept g H) where
 
   -- from the top level downwards
   matched_from : (d k : ℕ) → nodes_of H < d + k → AreMatched k
-  matched_from zero k top = λ s t legs h. absurd (omega (arith, level_bound s, high_start H k s t legs h))
+  matched_from zero k top = λ s t legs h. absurd (omega (arith, level_most H kept.levelled s, high_start H k s t legs h))
   matched_from (suc d) k top = one_lower k (matched_from d (k + 1) (omega arith))
 
   -- so each path of legs is matched

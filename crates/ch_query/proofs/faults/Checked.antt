@@ -15,11 +15,11 @@ use Rattle.ch_hierarchy.specs.declared.fault.CheckError.TheVariants.{Fault, NoMe
 use Rattle.ch_hierarchy.specs.Hierarchy.{LevelsAndLegs, nodes_of}
 use Rattle.ch_hierarchy.specs.Kept.{IsLeg, IsFounded, HasLegWithin, IsCovered, IsKept}
 use Rattle.ch_hierarchy.specs.Assembling.{IsFirstFailing}
-use Rattle.ch_hierarchy.specs.Saved.{NamesFor, HasFault, IsFirstFault}
+use Rattle.ch_hierarchy.specs.Saved.{NamesFor, HasFault, IsFaultless, IsFirstFault}
 use Rattle.ch_hierarchy.proofs.theory.OneSaved.{one_saved}
 use Rattle.ch_hierarchy.proofs.theory.SavedFaults.{HasNoneBelow, none_more, first_at, none_early, no_fault, Checks}
 use Rattle.ch_query.specs.declared.side.Side.TheVariants.{Up, Down}
-use Rattle.ch_query.specs.Checking.{IsFaultless, IsOkWhere, IsArcIfBase, IsSumIfShortcut, IsServed}
+use Rattle.ch_query.specs.Checking.{IsOkWhere, IsArcIfBase, IsSumIfShortcut, IsServed}
 use Rattle.ch_query.specs.Covering.{IsFirstUncovered}
 use Rattle.ch_query.proofs.one_side.Expanding.{leg_up}
 use Rattle.ch_query.proofs.faults.FirstFailing.{held_at}

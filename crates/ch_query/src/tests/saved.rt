@@ -4,7 +4,7 @@
 use super::prepared::{Leg, Prepared, checked};
 use super::routes::{Route, expect_all};
 use ch_hierarchy::{CheckError, CheckFault};
-use std::alloc::{AllocError, Global};
+use std::alloc::Global;
 use std::process::Abort;
 use std::test::Fail;
 
