@@ -7,3 +7,7 @@ pub mod Limits
 pub mod WrittenLines
 pub mod WrittenSaved
 pub mod SavedReadBack
+pub mod Requests
+pub mod RequestLaws
+pub mod RequestTurns
+pub mod RequestsHeldBack

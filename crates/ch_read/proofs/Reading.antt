@@ -79,7 +79,7 @@ module _ (form : Form) (before : List (List ℕ)) (text : List ℕ) where
 none_within : (form : Form) (part : Part) (h : Heading) → AreItemsWithin form part h []
 none_within form part h = record { few = omega arith; each = λ k d lt. absurd (omega arith) }
 
-one : {X : Type 0} (P : X → Type 0) (x : X) → P x → All P (x ∷ [])
+pub one : {X : Type 0} (P : X → Type 0) (x : X) → P x → All P (x ∷ [])
 one P x px zero d lt = px
 one P x px (suc k) d lt = absurd (omega arith)
 

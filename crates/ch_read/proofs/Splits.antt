@@ -1,13 +1,14 @@
 -- The first line of a file and the first word of a line.
-use Rattle.std.proofs.Common.{subst, add-zero, ◌⊎◌, inl, inr, ◌-◌, eqb, ◌≡◌, ℕ, suc, ◌+◌, ◌<◌, ◌≤◌, Bool, true, false, cond, not, ltb, List, [], ◌∷◌, length, take, drop, get_or, Some, None, refl, sym, ◌∙◌, ap, arith, length-take, length-drop}
+use Rattle.std.proofs.Common.{subst, add-zero, ◌⊎◌, inl, inr, ◌-◌, eqb, ◌≡◌, ℕ, suc, ◌+◌, ◌<◌, ◌≤◌, Bool, true, false, cond, not, ltb, List, [], ◌∷◌, length, take, drop, get_or, ◌++◌, Some, None, refl, sym, ◌∙◌, ap, arith, length-take, length-drop}
 use Rattle.std.specs.Prelude.{filter}
 use Rattle.std.specs.List.{slice_split, position, position_or_len}
 use Rattle.std.proofs.Math.Nat.{eq-zero-or-pos}
 use Rattle.std.proofs.lemmas.Bool.Decides.{nat_tests}
 use Rattle.std.proofs.lemmas.Option.{cond_some, none-some}
-use Rattle.std.proofs.lemmas.List.{take_rest, get_or-drop, drop_all, drop_more}
+use Rattle.std.proofs.lemmas.List.{length-append, take-append-drop, take_rest, get_or-drop, drop_all, drop_more}
 use Rattle.std.proofs.lemmas.List.Splits.{slice_split_first, slice_split_none, length-slice_split}
-use Rattle.std.proofs.lemmas.List.Sums.{passes_at_first, fails_before_first}
+use Rattle.std.proofs.lemmas.List.Folds.{prefix_len-append}
+use Rattle.std.proofs.lemmas.List.Sums.{passes_at_first, fails_before_first, prefix_len-le-length}
 use Rattle.ch_read.specs.Words.{lines, words, is_word, is_blank, without_empty_last}
 
 -- a list that is cut at its first element that passes
@@ -21,7 +22,7 @@ module _ (p : ℕ → Bool) where
       = (within, passes_at_first p xs 0 within, slice_split_first p xs 0 within) in
       subst (λ n. (n < length xs) × (p (get_or xs n 0) ≡ true) × (slice_split p xs ≡ take n xs ∷ slice_split p (drop (n + 1) xs))) at cut
 
-  none_passes : (xs : List ℕ) → position p xs ≡ None → length xs ≤ position_or_len p xs
+  pub none_passes : (xs : List ℕ) → position p xs ≡ None → length xs ≤ position_or_len p xs
   none_passes xs e = at (ltb (position_or_len p xs) (length xs)) refl e
     where
       at : (t : Bool) → ltb (position_or_len p xs) (length xs) ≡ t → cond t (Some (position_or_len p xs)) None ≡ None → length xs ≤ position_or_len p xs
@@ -30,6 +31,43 @@ module _ (p : ℕ → Bool) where
 
   pub split_none : (xs : List ℕ) → position p xs ≡ None → slice_split p xs ≡ xs ∷ []
   split_none xs e = let past = none_passes xs e in slice_split_none p xs (λ k d lt. fails_before_first p xs k d (omega arith))
+
+-- the first element that passes, after a front where none does
+module _ (p : ℕ → Bool) (front back : List ℕ) (none : position p front ≡ None) where
+  past_front : position_or_len p (front ++ back) ≡ length front + position_or_len p back
+  past_front =
+      let past = none_passes p front none in
+      let within = prefix_len-le-length (λ b. not (p b)) front in
+      let whole : eqb (position_or_len p front) (length front) ≡ true = grind (arith, nat_tests) in
+      prefix_len-append (λ b. not (p b)) front back ∙ rw whole refl
+
+  found_past : (i : ℕ) → position p back ≡ Some i → position p (front ++ back) ≡ Some (length front + i)
+  found_past i e =
+      let found = cond_some _ _ _ e in
+      let at : position_or_len p back ≡ i = found.1 in
+      let within : position_or_len p back < length back = grind (arith, nat_tests) in
+      let past = past_front in
+      let long : length (front ++ back) ≡ length front + length back = length-append front back in
+      let inside : ltb (position_or_len p (front ++ back)) (length (front ++ back)) ≡ true = grind (arith, nat_tests) in
+      rw inside (ap Some (past ∙ ap (λ n. length front + n) at))
+
+  none_past : position p back ≡ None → position p (front ++ back) ≡ None
+  none_past e =
+      let behind = none_passes p back e in
+      let past = past_front in
+      let long : length (front ++ back) ≡ length front + length back = length-append front back in
+      let outside : ltb (position_or_len p (front ++ back)) (length (front ++ back)) ≡ false = grind (arith, nat_tests) in
+      rw outside refl
+
+-- a list whose first elements were searched, and none of them passes
+module _ (p : ℕ → Bool) (xs : List ℕ) (searched : ℕ) (inside : searched ≤ length xs) (none : position p (take searched xs) ≡ None) where
+  pub found_after : (i : ℕ) → position p (drop searched xs) ≡ Some i → position p xs ≡ Some (searched + i)
+  found_after i e =
+      let front : length (take searched xs) ≡ searched = omega (arith, length-take searched xs) in
+      ap (position p) (sym (take-append-drop searched xs)) ∙ found_past p (take searched xs) (drop searched xs) none i e ∙ ap (λ n. Some (n + i)) front
+
+  pub none_after : position p (drop searched xs) ≡ None → position p xs ≡ None
+  none_after e = ap (position p) (sym (take-append-drop searched xs)) ∙ none_past p (take searched xs) (drop searched xs) none e
 
 -- lines
 

@@ -5,3 +5,8 @@ pub mod Names
 pub mod Answers
 pub mod Text
 pub mod Reading
+pub mod RequestLists
+pub mod Requests
+pub mod RequestSteps
+pub mod RequestText
+pub mod RequestLaws

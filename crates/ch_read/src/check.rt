@@ -66,7 +66,7 @@ pub fn check_end(seen: Option<Heading>, counts: Counts) -> Result<Heading, Fault
 }
 
 /// Whether the word is this letter alone.
-fn is_letter(word: &[u8], letter: u8) -> bool
+pub(crate) fn is_letter(word: &[u8], letter: u8) -> bool
     ensures { result ≡ bytes_eq word.now (letter ∷ []) }
 {
     word.len() == 1 && word[0] == letter
@@ -159,7 +159,7 @@ fn heading_of(form: Form, values: &[u64; MOST_NUMBERS]) -> Option<Heading>
 }
 
 /// Judges the rest of an item line after its letter, where so many items of its part came before it.
-fn check_item(
+pub(crate) fn check_item(
     form: Form,
     part: Part,
     seen: Option<Heading>,

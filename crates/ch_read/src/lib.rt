@@ -1,9 +1,11 @@
-//! Readers of the four kinds of file: graphs, queries, lists of nodes, and saved hierarchies.
+//! Readers of the four kinds of file, graphs, queries, lists of nodes, and saved hierarchies, and of requests whose
+//! bytes come in parts.
 //!
-//! It stands on `ch_graph`, for graphs, arcs and hierarchies as data. Proved of it: memory aside, a reader
-//! answers the value that the bytes name, exactly where they name one, and the first fault of the first
-//! faulty line, exactly where there is one; each list of bytes names one value or has one fault, and not
-//! both.
+//! It stands on `ch_graph`, for graphs, arcs and hierarchies as data, and on `ch_work` for the limit on cells. Proved
+//! of it: memory aside, a reader answers the value that the bytes name, exactly where they name one, and the first
+//! fault of the first faulty line, exactly where there is one; each list of bytes names one value or has one fault,
+//! and not both. What a [`RequestReader`] gives is what its bytes tell, however they are cut: each request as soon as
+//! its last line is whole, in order and each once, and then the first fault.
 //!
 //! # The order of checks
 //!
@@ -25,8 +27,25 @@
 //! | leg | its weight is at most that, and its arcs at most [`MOST_NODES`](ch_graph::limits::MOST_NODES) | `Sum` |
 //! | after the last | there was a problem line | `NoProblem` |
 //! | after the last | there were no fewer items of each letter than declared | `TooFew` |
+//!
+//! # Requests
+//!
+//! A stream of requests has lines `q S T`, a query, and `t K L`, a table of K sources and L targets, which are the
+//! nodes of the next K + L lines `s V`, sources first. Lines are skipped as in files, and the others are judged in
+//! order:
+//!
+//! | line | check | where it fails |
+//! |---|---|---|
+//! | any | its first word is `q`, `t` or `s` | `UnknownLine` |
+//! | `q`, `t`, after the last | no table that was begun wants a node | `TooFew` |
+//! | any | it has numbers in their places, and no other words | `BadLine` |
+//! | `t` | K and L are at most [`MOST_LISTED`](ch_graph::limits::MOST_LISTED) | `Size` |
+//! | `t` | K times L is at most [`MOST_CELLS`](ch_work::limits::MOST_CELLS) | [`Cells`](RequestFault::Cells) |
+//! | `s` | a table that was begun wants a node | `TooMany` |
+//! | `q`, `s` | each node is from 1 to the number of nodes | `NodeRange` |
 #![tactic(auto)]
 
+mod begun;
 mod check;
 mod fault;
 mod form;
@@ -35,8 +54,13 @@ mod laws;
 mod lines;
 mod nodes;
 mod number;
+mod pending;
 mod queries;
 mod reader;
+mod request;
+mod request_fault;
+mod request_line;
+mod request_reader;
 mod saved;
 #[cfg(test)]
 mod tests;
@@ -44,7 +68,10 @@ mod tests;
 pub use fault::{FaultKind, ReadError, ReadFault};
 pub use form::Form;
 pub use graph::read_graph;
-pub use laws::one_answer;
+pub use laws::{one_answer, requests_by_parts, requests_whole_in_turn};
 pub use nodes::read_nodes;
 pub use queries::read_queries;
+pub use request::{Request, TableLists};
+pub use request_fault::{RequestError, RequestFault};
+pub use request_reader::RequestReader;
 pub use saved::read_saved;

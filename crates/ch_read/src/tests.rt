@@ -6,6 +6,8 @@ use std::process::Abort;
 use std::test::Fail;
 
 mod hostile;
+mod request_streams;
+mod requests;
 mod saved;
 
 const SMALL_GRAPH: &str = "p sp 3 2\na 1 2 4\na 2 3 5\n";

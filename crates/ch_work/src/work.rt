@@ -1,5 +1,5 @@
 //! What one worker does.
-ghost use Rattle.std.specs.Prelude.{◌≡◌, ◌+◌, ◌*◌, ◌<◌, min, All, IfOk, OnOk};
+ghost use Rattle.std.specs.Prelude.{◌≡◌, ◌+◌, ◌*◌, ◌<◌, min, IfOk, OnOk};
 ghost use Rattle.ch_work.specs.Claims.{HasWorked};
 ghost use Rattle.ch_work.specs.Passes.{view_of, IsPassOf};
 ghost use Rattle.ch_work.specs.Pieces.{pieces_of, AreValues};

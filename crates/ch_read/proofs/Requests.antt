@@ -1,0 +1,146 @@
+-- Requests as their bytes come.
+use Rattle.std.proofs.Common.{subst, ◌≡◌, ℕ, suc, ◌+◌, ◌-◌, ◌<◌, ◌≤◌, Bool, true, false, eqb, ltb, if◌then◌else◌, List, [], ◌∷◌, ◌++◌, length, take, drop, Option, Some, None, refl, sym, ◌∙◌, ap, arith, length-take, length-drop}
+use Rattle.std.specs.Prelude.{All, is_none}
+use Rattle.std.specs.List.{position, position_or_len}
+use Rattle.std.proofs.lemmas.Bool.Decides.{nat_tests}
+use Rattle.std.proofs.lemmas.Option.{cond_some}
+use Rattle.std.proofs.lemmas.List.{append-nil, append_assoc, length_push, length-append, take_rest, take-append-le, drop-append-le, drop_all}
+use Rattle.std.proofs.lemmas.List.Elements.{All-append, All-take, All-drop}
+use Rattle.ch_read.specs.declared.request.Request.{Request}
+use Rattle.ch_read.specs.declared.request_fault.RequestFault.{RequestFault}
+use Rattle.ch_read.specs.declared.request_fault.RequestError.{RequestError}
+use Rattle.ch_read.specs.declared.request_fault.RequestError.TheVariants.{Fault, NoMemory}
+use Rattle.ch_read.specs.Words.{lines, words}
+use Rattle.ch_read.specs.Requests.{Begun, Made, Told, Standing, wanted, is_whole, nothing, settled, with_node, table_of, none_made, at_most_one, made, told, ahead, after_these, stopping, line_after, request_fault, Gives, IsErrorAhead, IsGiven, IsRequest, AreTwoLists}
+use Rattle.ch_read.specs.RequestSteps.{IsBegun, IsLineAhead, IsLineError, Makes, advanced}
+use Rattle.ch_read.proofs.Splits.{line_to_feed, line_to_end}
+use Rattle.ch_read.proofs.Reading.{one}
+
+-- one more node of a table that wants more
+pub node_added : (n : ℕ) (begun : Begun) (node : ℕ) → IsBegun n begun → node < n → length begun.listed < wanted begun → IsBegun n (with_node begun node)
+node_added n begun node is below room = record {
+  listed = All-append (λ v. v < n) begun.listed (node ∷ []) is.listed (one (λ v. v < n) node below);
+  few = omega (arith, length_push begun.listed node);
+  sizes = is.sizes;
+  cells = is.cells;
+}
+
+nothing_begun : (n : ℕ) → IsBegun n nothing
+nothing_begun n = record {
+  listed = λ k d lt. absurd (omega arith);
+  few = omega arith;
+  sizes = (omega arith, omega arith);
+  cells = omega arith;
+}
+
+whole_lists : (n : ℕ) (begun : Begun) → IsBegun n begun → wanted begun ≤ length begun.listed →
+    AreTwoLists n (record { sources = take begun.sources begun.listed; targets = drop begun.sources begun.listed })
+whole_lists n begun is whole =
+    let few = is.few in
+    let sources : length (take begun.sources begun.listed) ≡ begun.sources = omega (arith, length-take begun.sources begun.listed) in
+    let targets : length (drop begun.sources begun.listed) ≡ begun.targets = omega (arith, length-drop begun.sources begun.listed) in
+    record {
+      sources = All-take (λ v. v < n) begun.sources begun.listed is.listed;
+      targets = All-drop (λ v. v < n) begun.sources begun.listed is.listed;
+      sizes = (rw sources is.sizes.0, rw targets is.sizes.1);
+      cells = rw (sources, targets) is.cells;
+    }
+
+-- a table that was settled is given with its lists, or wants more
+pub settled_within : (n : ℕ) (begun new : Begun) (given : Option Request) → IsBegun n begun → settled begun ≡ record { given = at_most_one given; begun = new } → IsGiven n given × IsBegun n new
+settled_within n begun new given is e = at (is_whole begun) refl (sym e)
+  where
+    at : (t : Bool) → is_whole begun ≡ t → record { given = at_most_one given; begun = new } ≡ settled begun → IsGiven n given × IsBegun n new
+    at true whole made_is =
+        let long : wanted begun ≤ length begun.listed = grind (arith, nat_tests) in
+        let same : record { given = at_most_one given; begun = new } ≡ record { given = table_of begun ∷ []; begun = nothing } = rw whole at made_is in (
+          given_is given (ap (λ (m : Made). m.given) same) long,
+          subst (IsBegun n) (sym (ap (λ (m : Made). m.begun) same)) (nothing_begun n),
+        )
+      where
+        given_is : (o : Option Request) → at_most_one o ≡ table_of begun ∷ [] → wanted begun ≤ length begun.listed → IsGiven n o
+        given_is None f long = absurd (omega (arith, ap length f))
+        given_is (Some r) f long = subst (IsRequest n) (sym (ap (λ (rs : List Request). Rattle.std.specs.Prelude.slice_index_or rs 0 r) f)) (whole_lists n begun is long)
+    at false short made_is =
+        let same : record { given = at_most_one given; begun = new } ≡ none_made begun = rw short at made_is in (
+          given_none given (ap (λ (m : Made). m.given) same),
+          subst (IsBegun n) (sym (ap (λ (m : Made). m.begun) same)) is,
+        )
+      where
+        given_none : (o : Option Request) → at_most_one o ≡ [] → IsGiven n o
+        given_none None f = tt
+        given_none (Some r) f = absurd (omega (arith, ap length f))
+
+-- the line that is ahead
+
+module _ (p : ℕ → Bool) where
+  found_before : (xs ys : List ℕ) → position_or_len p xs < length xs → position_or_len p (xs ++ ys) ≡ position_or_len p xs
+  found_before [] ys lt = absurd (omega arith)
+  found_before (x ∷ xs) ys lt = at (p x) refl lt (found_before xs ys)
+    where
+      at : (t : Bool) → p x ≡ t → position_or_len p (x ∷ xs) < suc (length xs) → (position_or_len p xs < length xs → position_or_len p (xs ++ ys) ≡ position_or_len p xs) →
+          position_or_len p (x ∷ (xs ++ ys)) ≡ position_or_len p (x ∷ xs)
+      at true e lt more = rw e refl
+      at false e lt more =
+          let less = rw e at lt in
+          let inside : position_or_len p xs < length xs = omega arith in
+          rw e (ap (λ n. 1 + n) (more inside))
+
+  pub found_and_more : (xs ys : List ℕ) (i : ℕ) → position p xs ≡ Some i → (i < length xs) × (position p (xs ++ ys) ≡ Some i)
+  found_and_more xs ys i e =
+      let found = cond_some _ _ _ e in
+      let at : position_or_len p xs ≡ i = found.1 in
+      let within : position_or_len p xs < length xs = grind (arith, nat_tests) in
+      let same : position_or_len p (xs ++ ys) ≡ position_or_len p xs = found_before xs ys within in
+      let long : length (xs ++ ys) ≡ length xs + length ys = length-append xs ys in
+      let inside : ltb (position_or_len p (xs ++ ys)) (length (xs ++ ys)) ≡ true = grind (arith, nat_tests) in
+      (omega arith, rw inside (ap Some (same ∙ at)))
+
+-- a line that ends at a line feed is the first whatever comes after
+pub feed_ahead : (xs more : List ℕ) (i : ℕ) → position (λ b. eqb b 10) xs ≡ Some i → lines (xs ++ more) ≡ take i xs ∷ lines (drop (i + 1) xs ++ more)
+feed_ahead xs more i e =
+    let found = found_and_more (λ b. eqb b 10) xs more i e in
+    let within : i < length xs = found.0 in
+    let before : take i (xs ++ more) ≡ take i xs = take-append-le i xs more (omega arith) in
+    let after : take (length (xs ++ more) - (i + 1)) (drop (i + 1) (xs ++ more)) ≡ drop (i + 1) xs ++ more = take_rest (xs ++ more) (i + 1) ∙ drop-append-le (i + 1) xs more (omega arith) in
+    line_to_feed (xs ++ more) i found.1 ∙ ap (λ (t : List ℕ). t ∷ lines (take (length (xs ++ more) - (i + 1)) (drop (i + 1) (xs ++ more)))) before
+    ∙ ap (λ (r : List ℕ). take i xs ∷ lines r) after
+
+-- at the end the bytes without a line feed are the last line
+pub last_ahead : (xs more : List ℕ) → position (λ b. eqb b 10) xs ≡ None → 0 < length xs → more ≡ [] → lines (xs ++ more) ≡ xs ∷ lines (drop (length xs) xs ++ more)
+last_ahead xs more e some none =
+    rw none (ap lines (append-nil xs) ∙ line_to_end xs e some ∙ ap (λ (r : List ℕ). xs ∷ lines (r ++ [])) (sym (drop_all (length xs) xs (omega arith))))
+
+-- what a line tells
+
+module _ (n line : ℕ) (begun : Begun) (text : List ℕ) (more : List (List ℕ)) where
+  abbrev after_line : Option RequestFault → Told
+  after_line fault =
+      if is_none fault then after_these (made n begun (words text)).given (told n (line_after line) (made n begun (words text)).begun more) else stopping fault
+
+  pub line_made : (new : Begun) (given : Option Request) → Makes n (line_after line) begun new (words text) given →
+      told n line begun (text ∷ more) ≡ after_these (at_most_one given) (told n (line_after line) new more)
+  line_made new given makes = ap after_line makes.0 ∙ ap (λ (m : Made). after_these m.given (told n (line_after line) m.begun more)) makes.1
+
+  pub line_faulty : (fault : RequestFault) → request_fault n (line_after line) begun (words text) ≡ Some fault → told n line begun (text ∷ more) ≡ stopping (Some fault)
+  line_faulty fault e = ap after_line e
+
+-- what was given and what is given next
+pub gives_more : (ended : Bool) (a b c : Standing) (xs ys : List Request) → Gives ended a b xs → Gives ended b c ys → Gives ended a c (xs ++ ys)
+gives_more ended a b c xs ys first next more comes =
+    first more comes ∙ ap (after_these xs) (next more comes) ∙ (λ i. record { given = sym (append_assoc xs ys (ahead c more).given) i; fault = (ahead c more).fault })
+
+pub feed_within : (xs : List ℕ) (i : ℕ) → position (λ b. eqb b 10) xs ≡ Some i → i < length xs
+feed_within xs i e = (found_and_more (λ b. eqb b 10) xs [] i e).0
+
+-- a line that makes something, and one that is faulty, as what is ahead sees them
+module _ (ended : Bool) (s : Standing) (text : List ℕ) (taken : ℕ) (is : IsLineAhead ended s.pending text taken) where
+  pub step_given : (new : Begun) (given : Option Request) → Makes s.nodes (line_after s.line) s.begun new (words text) given → Gives ended s (advanced s new taken) (at_most_one given)
+  step_given new given makes more comes = ap (told s.nodes s.line s.begun) (is.0 more comes) ∙ line_made s.nodes s.line s.begun text (lines (drop taken s.pending ++ more)) new given makes
+
+  pub step_shorter : (new : Begun) → length (advanced s new taken).pending < length s.pending
+  step_shorter new = let some = is.1 in let within = is.2 in omega (arith, length-drop taken s.pending)
+
+  pub step_faulty : (error : RequestError) → IsLineError (request_fault s.nodes (line_after s.line) s.begun (words text)) error → IsErrorAhead ended s error
+  step_faulty (Fault fault) e = λ more comes. ap (told s.nodes s.line s.begun) (is.0 more comes) ∙ line_faulty s.nodes s.line s.begun text (lines (drop taken s.pending ++ more)) fault e
+  step_faulty NoMemory e = tt

@@ -1,0 +1,61 @@
+-- What the reader of requests knows of one line.
+use Rattle.std.specs.Prelude.{◌≡◌, ℕ, ◌*◌, ◌<◌, ◌≤◌, Bool, true, false, List, [], ◌∷◌, ◌++◌, length, drop, Option, Some, None, position, ◌==◌, All, ⊤}
+use Rattle.ch_graph.specs.declared.limits.TheConstants.{MOST_LISTED}
+use Rattle.ch_work.specs.declared.limits.TheConstants.{MOST_CELLS}
+use Rattle.ch_read.specs.declared.request.Request.{Request}
+use Rattle.ch_read.specs.declared.request_fault.RequestFault.{RequestFault}
+use Rattle.ch_read.specs.declared.request_fault.RequestError.{RequestError}
+use Rattle.ch_read.specs.declared.request_fault.RequestError.TheVariants.{Fault, NoMemory}
+use Rattle.ch_read.specs.declared.request_reader.Step.{Step}
+use Rattle.ch_read.specs.declared.request_reader.Step.TheVariants.{Quiet, Given, UsedUp}
+use Rattle.ch_read.specs.Words.{lines}
+use Rattle.ch_read.specs.Requests.{Begun, Standing, wanted, made, at_most_one, request_fault, line_after, MayCome, Gives, IsUsedUp, IsRequest}
+
+-- a table that is begun on a graph of n nodes: no more nodes than it wants, and lists within the limits
+pub record IsBegun (n : ℕ) (begun : Begun) : Type 0 where
+  pub listed : All (λ v. v < n) begun.listed
+  pub few : length begun.listed ≤ wanted begun
+  pub sizes : (begun.sources ≤ MOST_LISTED) × (begun.targets ≤ MOST_LISTED)
+  pub cells : begun.sources * begun.targets ≤ MOST_CELLS
+
+-- there is no fault, and of the numbers this value is made
+abbrev pub PassesAs : {A : Type 0} → Option RequestFault → Option (List ℕ) → (List ℕ → A) → A → Type 0
+PassesAs fault numbers from value = (fault ≡ None) × (ns : List ℕ) × (numbers ≡ Some ns) × (value ≡ from ns)
+
+-- there is this fault
+abbrev pub FailsAs : Option RequestFault → RequestFault → Type 0
+FailsAs fault is = fault ≡ Some is
+
+-- a line of these words has no fault, and makes this request or none
+abbrev pub Makes : ℕ → ℕ → Begun → Begun → List (List ℕ) → Option Request → Type 0
+Makes n line old new ws given =
+    (request_fault n line old ws ≡ None) × (made n old ws ≡ record { given = at_most_one given; begun = new })
+
+-- the error is this fault, or want of memory
+abbrev pub IsLineError : Option RequestFault → RequestError → Type 0
+IsLineError fault (Fault is) = fault ≡ Some is
+IsLineError fault NoMemory = ⊤
+
+-- a line and how many bytes it takes, whatever may come; or no line is there
+abbrev pub IsLineAhead : Bool → List ℕ → List ℕ → ℕ → Type 0
+IsLineAhead ended bytes text taken =
+    ((more : List ℕ) → MayCome ended more → lines (bytes ++ more) ≡ text ∷ lines (drop taken bytes ++ more)) × (0 < taken) × (taken ≤ length bytes)
+
+abbrev pub HasNoLine : Bool → List ℕ → Type 0
+HasNoLine false bytes = position (λ b. b == 10) bytes ≡ None
+HasNoLine true bytes = bytes ≡ []
+
+-- after a line of so many bytes, which left this begun
+abbrev pub advanced : Standing → Begun → ℕ → Standing
+advanced s begun taken = record { nodes = s.nodes; line = line_after s.line; begun = begun; pending = drop taken s.pending }
+
+-- what one line gave: it makes nothing that is whole, or this request; or there was no line
+abbrev pub IsStep : Bool → Standing → Standing → Step → Type 0
+IsStep ended old new Quiet = Gives ended old new [] × (length new.pending < length old.pending)
+IsStep ended old new (Given r) = Gives ended old new (r ∷ [])
+IsStep ended old new UsedUp = (new ≡ old) × IsUsedUp ended old
+
+abbrev pub IsGivenBy : ℕ → Step → Type 0
+IsGivenBy n Quiet = ⊤
+IsGivenBy n (Given r) = IsRequest n r
+IsGivenBy n UsedUp = ⊤

@@ -1,0 +1,96 @@
+//! The table that is begun.
+ghost use Rattle.std.specs.Prelude.{◌≡◌, ◌≤◌, [], length, OnErr, OnOk};
+ghost use Rattle.ch_graph.specs.declared.limits.TheConstants.{MOST_LISTED};
+ghost use Rattle.ch_read.specs.Requests.{at_most_one, is_whole, nothing, settled, wanted, with_node};
+
+use crate::request::{Request, TableLists};
+use std::alloc::{AllocFailed, Global};
+use std::marker::Model;
+use std::mem;
+
+/// A table whose lists are read, or none. Contracts see its sizes and the nodes listed so far.
+#[derive(Drop)]
+pub(crate) struct BegunTable {
+    sources: u64,
+    targets: u64,
+    listed: Vec<u32>,
+}
+
+impl Model for BegunTable {
+    ghost use Rattle.std.specs.Prelude.{◌≤◌};
+    ghost use Rattle.ch_graph.specs.declared.limits.TheConstants.{MOST_LISTED};
+    ghost use Rattle.ch_read.specs.Requests.{Begun};
+
+    ghost Value = { Begun };
+
+    ghost view = { λ t. record { sources = t.sources; targets = t.targets; listed = t.listed.items } };
+
+    ghost invariant = { λ t. (t.sources ≤ MOST_LISTED) × (t.targets ≤ MOST_LISTED) };
+}
+
+impl BegunTable {
+    /// No table.
+    pub(crate) fn none(alloc: Global) -> BegunTable
+        ensures { result ≡ nothing }
+    {
+        BegunTable {
+            sources: 0,
+            targets: 0,
+            listed: Vec::new(alloc),
+        }
+    }
+
+    /// How many nodes its lists have.
+    pub(crate) fn wanted(&self) -> u64
+        ensures { result ≡ wanted self.now }
+    {
+        self.sources + self.targets
+    }
+
+    /// How many nodes are listed.
+    pub(crate) fn count(&self) -> u64
+        ensures { result ≡ length self.now.listed }
+    {
+        self.listed.len() as u64
+    }
+
+    /// Whether all that was begun has its nodes.
+    pub(crate) fn is_whole(&self) -> bool
+        ensures { result ≡ is_whole self.now }
+    {
+        self.wanted() <= self.count()
+    }
+
+    /// Begins a table of so many sources and targets, where none is begun.
+    pub(crate) fn begin(&mut self, sources: u64, targets: u64)
+        requires { (sources ≤ MOST_LISTED) × (targets ≤ MOST_LISTED) }
+        ensures { self.new ≡ record { sources = sources; targets = targets; listed = [] } }
+    {
+        self.sources = sources;
+        self.targets = targets;
+        self.listed.clear();
+    }
+
+    /// Lists a node.
+    pub(crate) fn push(&mut self, node: u32) -> Result<(), AllocFailed<u32>>
+        ensures pushed { OnOk result (self.new ≡ with_node self.old node) }
+        ensures same { OnErr result (self.new ≡ self.old) }
+    {
+        self.listed.push(node)
+    }
+
+    /// The table, where it has its nodes: none is begun then.
+    pub(crate) fn settle(&mut self, alloc: Global) -> Option<Request>
+        requires { length self.old.listed ≤ wanted self.old }
+        ensures { settled self.old ≡ record { given = at_most_one result; begun = self.new } }
+    {
+        if !self.is_whole() {
+            return None;
+        }
+        let sources = self.sources as usize;
+        let listed = mem::replace(&mut self.listed, Vec::new(alloc));
+        self.sources = 0;
+        self.targets = 0;
+        Some(Request::Table(TableLists::new(listed, sources)))
+    }
+}

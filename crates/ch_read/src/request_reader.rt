@@ -1,0 +1,117 @@
+//! A reader of requests as their bytes come.
+ghost use Rattle.std.specs.Prelude.{◌≡◌, [], None, IfErr, IfOk, OnErr, OnOk};
+ghost use Rattle.ch_read.specs.Requests.{Gives, IsErrorAhead, IsGiven, IsUsedUp, at_most_one, fed, starting};
+ghost use Rattle.ch_read.specs.RequestSteps.{IsGivenBy, IsStep};
+
+use crate::begun::BegunTable;
+use crate::fault::FaultKind;
+use crate::pending::Pending;
+use crate::request::Request;
+use crate::request_fault::RequestError;
+use crate::request_line::{fault_at, read_line};
+use std::alloc::{AllocError, Global};
+use std::marker::Model;
+
+/// What one line gave.
+#[derive(Drop)]
+enum Step {
+    /// Nothing that is whole.
+    Quiet,
+    Given(Request),
+    /// There was no line.
+    UsedUp,
+}
+
+/// A reader of requests on a graph. Contracts see after how many lines it stands, what these left begun, and the
+/// bytes that it was fed of later ones. No line is kept once it was read, nor is a request that was given.
+#[derive(Drop)]
+pub struct RequestReader {
+    nodes: u32,
+    line: u64,
+    begun: BegunTable,
+    pending: Pending,
+}
+
+impl Model for RequestReader {
+    ghost use Rattle.ch_read.specs.Requests.{Standing};
+    ghost use Rattle.ch_read.specs.RequestSteps.{IsBegun};
+
+    ghost Value = { Standing };
+
+    ghost view = { λ r. record { nodes = r.nodes; line = r.line; begun = r.begun; pending = r.pending } };
+
+    ghost invariant = { λ r. IsBegun r.nodes r.begun };
+}
+
+impl RequestReader {
+    /// A reader that was fed nothing, of requests on a graph of so many nodes.
+    pub fn new(alloc: Global, nodes: u32) -> RequestReader
+        ensures { result ≡ starting nodes }
+    {
+        RequestReader {
+            nodes,
+            line: 0,
+            begun: BegunTable::none(alloc),
+            pending: Pending::new(alloc),
+        }
+    }
+
+    /// Takes the bytes that come next.
+    ///
+    /// # Errors
+    /// `AllocError` where there is no memory for them: none was taken then.
+    pub fn feed(&mut self, bytes: &[u8]) -> Result<(), AllocError>
+        ensures fed { OnOk result (self.new ≡ fed self.old bytes.now) }
+        ensures same { OnErr result (self.new ≡ self.old) }
+    {
+        self.pending.extend(bytes)
+    }
+
+    /// The next request that is whole, or none where no further line is whole. Where the input has ended, its last
+    /// line needs no line feed, and none is answered where all was read.
+    ///
+    /// # Errors
+    /// The fault that comes next, which is told again at each further call, or `NoMemory`. The reader then stands
+    /// before the line that met it.
+    pub fn next(&mut self, alloc: Global, ended: bool) -> Result<Option<Request>, RequestError>
+        ensures nodes { self.new.nodes ≡ self.old.nodes }
+        ensures given { IfOk result (λ given. Gives ended self.old self.new (at_most_one given)) }
+        ensures used_up { IfOk result (λ given. given ≡ None → IsUsedUp ended self.new) }
+        ensures fault { IfErr result (IsErrorAhead ended self.old) }
+        ensures same_or_on { OnErr result (Gives ended self.old self.new []) }
+        ensures within { IfOk result (IsGiven self.old.nodes) }
+    {
+        loop {
+            match self.step(alloc, ended)? {
+                Step::Quiet => {}
+                Step::Given(request) => return Ok(Some(request)),
+                Step::UsedUp => return Ok(None),
+            }
+        }
+    }
+
+    /// Reads a line, where one is whole.
+    fn step(&mut self, alloc: Global, ended: bool) -> Result<Step, RequestError>
+        ensures nodes { self.new.nodes ≡ self.old.nodes }
+        ensures step { IfOk result (IsStep ended self.old self.new) }
+        ensures fault { IfErr result (IsErrorAhead ended self.old) }
+        ensures within { IfOk result (IsGivenBy self.old.nodes) }
+        ensures same { OnErr result (self.new ≡ self.old) }
+    {
+        let line = self.line.saturating_add(1);
+        let Some((text, taken)) = self.pending.line(ended) else {
+            self.pending.note_searched();
+            if ended && !self.begun.is_whole() {
+                return Err(RequestError::Fault(fault_at(line, FaultKind::TooFew)));
+            }
+            return Ok(Step::UsedUp);
+        };
+        let given = read_line(alloc, self.nodes, line, &mut self.begun, text)?;
+        self.line = line;
+        self.pending.advance(taken);
+        match given {
+            Some(request) => Ok(Step::Given(request)),
+            None => Ok(Step::Quiet),
+        }
+    }
+}
