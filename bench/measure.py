@@ -60,13 +60,15 @@ class Used(typing.NamedTuple):
     processor: float
 
 
-def used(*command, refused=False):
-    """The seconds, the megabytes at the peak and the seconds of all processors of one run, which ends well or by refusing a file."""
-    start = time.perf_counter()
+def used(*command, refused=False, output=os.devnull):
+    """The seconds, the megabytes at the peak and the seconds of all processors of one run, which ends well or by refusing a file. What it
+    prints goes to a file, or nowhere."""
     told = subprocess.DEVNULL if refused else None
-    process = subprocess.Popen([str(word) for word in command], stdout=subprocess.DEVNULL, stderr=told)
-    _, status, usage = os.wait4(process.pid, 0)
-    seconds = time.perf_counter() - start
+    with open(output, "wb") as file:
+        start = time.perf_counter()
+        process = subprocess.Popen([str(word) for word in command], stdout=file, stderr=told)
+        _, status, usage = os.wait4(process.pid, 0)
+        seconds = time.perf_counter() - start
     if os.waitstatus_to_exitcode(status) != refused:
         raise SystemExit(f"{command} ended with {status}")
     return Used(seconds, usage.ru_maxrss / 1024, usage.ru_utime + usage.ru_stime)
@@ -107,6 +109,8 @@ def nodes_of(graph):
 
 class Inputs:
     """A folder of inputs on a road network of so many nodes, gone after `with`."""
+    # The script that makes the network.
+    maker = "roads.py"
 
     def __init__(self, nodes):
         self.nodes = nodes
@@ -122,9 +126,9 @@ class Inputs:
 
     def network(self):
         """Its file. Where CHTAB_ROADS names a folder it is made there, once for all scripts."""
-        graph = pathlib.Path(os.environ.get("CHTAB_ROADS", self.folder)) / f"roads-{self.nodes}.gr"
+        graph = pathlib.Path(os.environ.get("CHTAB_ROADS", self.folder)) / f"{self.maker.removesuffix('.py')}-{self.nodes}.gr"
         if not graph.exists():
-            subprocess.run([ROOT / "bench" / "roads.py", str(self.nodes), graph], check=True)
+            subprocess.run([ROOT / "bench" / self.maker, str(self.nodes), graph], check=True)
         return graph
 
     def listed(self, count, kind, letter, width):

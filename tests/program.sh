@@ -50,6 +50,17 @@ expect_routes() {
   done
 }
 
+# expect_left NAME OUT WORD..: a reader that takes the first line of what the program writes on these words, and goes away: it ends silently.
+expect_left() {
+  local name=$1 out=$2 statuses
+  shift 2
+  "$root/chtab" "$@" 2>err.txt | head -n 1 >out.txt
+  statuses=("${PIPESTATUS[@]}")
+  compare "$name, status" 141 "${statuses[0]}"
+  compare "$name, standard output" "$out" "$(cat out.txt)"
+  compare "$name, standard error" "" "$(cat err.txt)"
+}
+
 # list_of NODE..: a list file of these nodes.
 list_of() {
   printf 'p aux sp ss %d\n' "$#"
@@ -173,6 +184,7 @@ for name, count in ("most.ss", 2048), ("more.ss", 2049):
 "$root/chtab" table graph.gr most.ss most.ss >cells.txt
 compare "the most cells, status" 0 "$?"
 compare "the most cells, lines" 2048 "$(grep -cxE 't 1( 0){2048}' cells.txt)"
+expect_left "the most cells, to a reader that goes away" "$(head -n 1 cells.txt)" table graph.gr most.ss most.ss
 expect "too many cells" 1 "" "chtab: too many cells" table graph.gr more.ss most.ss
 list_of 1 2 >two.ss
 list_of 4 >four.ss
@@ -318,8 +330,33 @@ read_end, write_end = os.pipe()
 os.close(read_end)
 sys.exit(subprocess.run([sys.argv[1], "dist", "--plain", *sys.argv[2:]], stdout=write_end).returncode)
 PYTHON
-compare "a closed pipe, status" 3 "$?"
-compare "a closed pipe, standard error" "chtab: cannot write after 0 bytes" "$(cat err.txt)"
+compare "a closed pipe, status" 141 "$?"
+compare "a closed pipe, standard error" "" "$(cat err.txt)"
+
+printf 'q 1 3\nt 1 2\ns 2\ns 3\ns 1\n' >requests.txt
+expect "requests" 0 $'d 1 3 9\nt 2 5 -' "" ask --saved "$ch" "$g" <requests.txt
+expect "requests, by a hierarchy that is built" 0 $'d 1 3 9\nt 2 5 -' "" ask "$g" <requests.txt
+expect "requests, with routes and a limit" 0 $'d 1 3 9\nr 2\na 1 2 4\na 2 3 5\nt 2 - -' "" ask --routes --deep --within 4 "$g" <requests.txt
+expect "no request" 0 "" "" ask "$g" </dev/null
+expect "a faulty request" 1 "d 1 3 9" "chtab: request line 3: node out of range" ask "$g" < <(printf 'q 1 3\n\nq 1 4\nq 1 3\n')
+expect "a table that is cut short" 1 "" "chtab: request line 4: too few lines" ask "$g" < <(printf 't 1 2\ns 2\ns 3\n')
+expect "requests for too many cells" 1 "d 1 3 9" "chtab: too many cells" ask "$g" < <(printf 'q 1 3\nt 4096 1025\n')
+expect "a folder as requests" 3 "" "chtab: cannot read requests" ask "$g" <"$root"
+expect "a missing graph, and requests" 3 "" "chtab: cannot read graph" ask missing.gr <requests.txt
+expect "a missing hierarchy, and requests" 3 "" "chtab: cannot read saved" ask --saved missing.ch "$g" <requests.txt
+expect "a refused graph, and requests" 1 "" "chtab: graph line 1: bad problem line" ask bad.txt <requests.txt
+expect_words "a file of requests" 2 err "'requests.txt'" ask "$g" requests.txt
+expect_words "requests without a graph" 2 err "GRAPH" ask
+expect_words "requests, plain" 2 err "--plain" ask --plain "$g"
+expect_words "help of ask" 0 out "chtab ask" ask --help
+"$root/chtab" ask "$g" <requests.txt >/dev/full 2>err.txt
+compare "a full device for answers, status" 3 "$?"
+compare "a full device for answers, standard error" "chtab: cannot write after 0 bytes" "$(cat err.txt)"
+yes 'q 1 3' | head -n 50000 >long.txt
+expect_left "answers to a reader that goes away" "d 1 3 9" ask --saved "$ch" "$g" <long.txt
+expect_left "a hierarchy to a reader that goes away" "$("$root/chtab" save "$lg" | sed -n 1p)" save "$lg"
+{ echo 'p aux sp p2p 50000'; cat long.txt; } >long.p2p
+expect_left "distances to a reader that goes away" "d 1 3 9" dist "$g" long.p2p
 
 expect_words "help" 0 out "chtab dist" --help
 expect_words "help of dist" 0 out "GRAPH" dist --help

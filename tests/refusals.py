@@ -4,11 +4,13 @@
   refusals.py [--tests]
 
 - Each request for memory or for a thread is refused in turn, alone and with all that come after it: the answer is the one of a
-  run with ample memory, byte for byte, or `chtab: out of memory`, with status 3 and nothing written.
+  run with ample memory, byte for byte, or `chtab: out of memory`, with status 3 and nothing written; of a run that answers requests as they
+  come the answers to the first of them, each whole.
 - Each read and each write fails in turn, where a call moves 1, 3 or 1000 bytes: the fault names the file that was being read,
-  and nothing was written; or it tells how many bytes were written, and they are the first of the text.
+  and nothing was written, or the answers to all requests that had been read whole; or it tells how many bytes were written, and they are the
+  first of the text.
 - A read or write that is interrupted is made again.
-- A pipe that is closed when it is full: the fault tells how much it held.
+- A reader that goes away, also from a pipe that is full: the run ends silently.
 - Where each thread is refused the answer is that of a run with ample memory.
 - The tests of the crates named `refused_in_turn` hold when any one request for memory is refused. Their programs are those that
   `rt ci` or `rt test` left in the crates' folders out/; a crate without one is left out, or with --tests has failed.
@@ -24,12 +26,21 @@ import sys
 import tempfile
 import termios
 import time
-from itertools import count
+from itertools import count, pairwise
 from pathlib import Path
 
-from helpers.running import PROGRAM, ROOT, SECONDS, Answer, Count, build, side_by_side, run, with_files
+from helpers.asking import answers_after, answers_of, requests_of
+from helpers.running import PROGRAM, ROOT, SECONDS, Answer, Count, agrees, build, side_by_side, run, with_files
 
+# Requests on a line and on a star, each with its answer.
+LINE_ASKED = [(b"q 1 3\n", b"d 1 3 9\n"), (b"q 3 1\n", b"d 3 1 -\n"), (b"c\nt 2 2\ns 1\ns 3\n\ns 3\ns 2\n", b"t 1 9 4\nt 3 0 -\n"),
+              (b"t 0 1\ns 1\n", b""), (b"q 2 3\n", b"d 2 3 5\n"), (b"t 1 1\ns 2\ns 1\n", b"t 2 -\n")]
+STAR_ASKED = [(b"q 3 4\n", b"d 3 4 2\nr 2\na 3 1 1\na 1 4 1\n"), (b"t 1 2\ns 3\ns 2\ns 1\n", b"t 3 2 1\n"),
+              (b"q 4 2\n", b"d 4 2 2\nr 2\na 4 1 1\na 1 2 1\n")]
+
+ASKED = {"line.txt": LINE_ASKED, "star.txt": STAR_ASKED}
 FILES = {
+    **{name: requests_of(asked).decode() for name, asked in ASKED.items()},
     "line.gr": "p sp 3 2\na 1 2 4\na 2 3 5\n",
     "line.p2p": "p aux sp p2p 2\nq 1 3\nq 3 1\n",
     "from.ss": "p aux sp ss 3\ns 1\ns 1\ns 3\n",
@@ -75,9 +86,18 @@ KINDS = {
     "a missing file": (["table", "line.gr", "from.ss", "none.ss"], Answer(3, b"", b"chtab: cannot read targets\n")),
 }
 
+# The runs over requests: their words, and the requests.
+ASKS = {
+    "requests": (["ask", "line.gr"], LINE_ASKED),
+    "requests by two workers": (["ask", *TWO_WORKERS, "line.gr"], LINE_ASKED),
+    "requests by a saved hierarchy": (["ask", "--saved", "line.ch", "line.gr"], LINE_ASKED),
+    "requests for routes": (["ask", "--routes", "star.gr"], STAR_ASKED),
+    "requests for routes by a saved hierarchy": (["ask", "--routes", "--saved", "star.ch", "star.gr"], STAR_ASKED),
+}
+
 OUT_OF_MEMORY = Answer(3, b"", b"chtab: out of memory\n")
 
-# The runs over files, the names of these files in the order in which they are read, and the text.
+# The runs, the names of their files in the order in which they are read, requests among them, and the text.
 RUNS = {
     "routes on a line": (["dist", "--routes"], {"graph": "line.gr", "queries": "line.p2p"}, LINE_ROUTES),
     "routes on a star": (["dist", "--routes"], {"graph": "star.gr", "queries": "star.p2p"}, STAR_ROUTES),
@@ -86,13 +106,19 @@ RUNS = {
     "routes by a saved hierarchy": (["dist", "--routes"], {"graph": "star.gr", "saved": "star.ch", "queries": "star.p2p"}, STAR_ROUTES),
     "a table by a saved hierarchy": (["table"], {"graph": "line.gr", "saved": "line.ch", "sources": "from.ss", "targets": "to.ss"},
                                      LINE_TABLE),
+    "requests": (["ask"], {"graph": "line.gr", "requests": "line.txt"}, answers_of(LINE_ASKED)),
+    "requests by a saved hierarchy": (["ask"], {"graph": "line.gr", "saved": "line.ch", "requests": "line.txt"}, answers_of(LINE_ASKED)),
+    "requests for routes": (["ask", "--routes"], {"graph": "star.gr", "requests": "star.txt"}, answers_of(STAR_ASKED)),
 }
 
 # What Linux calls F_GETPIPE_SZ: how many bytes a pipe can hold.
 PIPE_SIZE = 1032
 
 # The errors of the system, as <errno.h> of Linux has them.
-INTERRUPTED, DEVICE_FAILED, DEVICE_FULL = 4, 5, 28
+INTERRUPTED, DEVICE_FAILED, DEVICE_FULL, READER_GONE = 4, 5, 28, 32
+
+# The status of a run whose reader went away: the one that a shell shows for a program that the system ended for it.
+STATUS_OF_READER_GONE = 141
 
 # The most requests for memory that a run of these kinds could need.
 MOST_REQUESTS = 20_000
@@ -109,13 +135,13 @@ class Refusing:
         subprocess.run([*compiler(), "-shared", "-fPIC", "-O2", "-nostdlib", "-o", self.library, ROOT / "tests/helpers/refusing.c"],
                        check=True)
 
-    def run(self, words, command=(PROGRAM,), **settings):
-        """The answer, and the counts of requests for memory, of those refused, of reads and of writes."""
+    def run(self, words, command=(PROGRAM,), asked=(), **settings):
+        """The answer, and the counts of requests for memory, of those refused, of reads and of writes. What is asked comes to standard input."""
         with tempfile.NamedTemporaryFile(dir=self.folder) as counts:
             counts.truncate(32)
             environment = {"LD_PRELOAD": str(self.library), "REFUSE_COUNTS": counts.name}
             environment |= {name: str(value) for name, value in settings.items()}
-            answer = run(words, self.folder, environment, command)
+            answer = run(words, self.folder, environment, command, requests_of(asked))
             return answer, struct.unpack("=4Q", counts.read(32))
 
 
@@ -125,14 +151,10 @@ def compiler():
     return [Path(start).parent / "toolchain/bin/clang", "-fuse-ld=lld"]
 
 
-def agrees(answer, wanted):
-    """Whether the answer is this one, where a stream that is None may have any text."""
-    return all(one == other for one, other in zip(answer, wanted) if other is not None)
-
-
-def refuse_memory(refusing, tally, name, words, wanted):
+def refuse_memory(refusing, tally, name, words, wanted, asked=(), **settings):
     """Refuses each request for memory of one kind of run."""
-    ample, (requests, *_) = refusing.run(words)
+    told = [OUT_OF_MEMORY._replace(out=answers_of(asked[:first])) for first in range(len(asked) + 1)]
+    ample, (requests, *_) = refusing.run(words, asked=asked, **settings)
     is_sound = agrees(ample, wanted) and 0 < requests < MOST_REQUESTS
     tally.expect(is_sound, f"{name}, {requests} requests: {ample}")
     if not is_sound:
@@ -140,23 +162,23 @@ def refuse_memory(refusing, tally, name, words, wanted):
     refused_runs = 0
     for after in "", "+":
         def refused_at(at):
-            answer, (_, refused, *_) = refusing.run(words, REFUSE_MEMORY=f"{at}{after}")
-            tally.expect(answer in (ample, OUT_OF_MEMORY), f"{name}, request {at}{after} refused: {answer}")
-            return refused > 0, answer == OUT_OF_MEMORY
+            answer, (_, refused, *_) = refusing.run(words, asked=asked, REFUSE_MEMORY=f"{at}{after}", **settings)
+            tally.expect(answer in (ample, *told), f"{name}, request {at}{after} refused: {answer}")
+            return refused > 0, answer in told
 
         found = side_by_side(refused_at, range(1, requests + 1))
         # Several workers may ask more often than they did in the ample run.
         while found[-1][0] and len(found) < MOST_REQUESTS:
             found.append(refused_at(len(found) + 1))
-        refused_runs += sum(told for _, told in found)
+        refused_runs += sum(is_told for _, is_told in found)
         tally.expect(found[0][1], f"{name}, the first request refused{after}: no want of memory is told")
     print(f"{name}: {requests} requests, {refused_runs} runs told want of memory")
 
 
-def refuse_threads(refusing, tally, name, words, wanted):
+def refuse_threads(refusing, tally, name, words, wanted, asked):
     """Refuses each thread: the calls are made one after the other."""
     for workers in "2", "64":
-        answer, _ = refusing.run([*words, "--workers", workers, "--piece", "1"], REFUSE_THREADS=1)
+        answer, _ = refusing.run([*words, "--workers", workers, "--piece", "1"], asked=asked, REFUSE_THREADS=1)
         tally.expect(answer == wanted, f"{name}, {workers} workers, no thread: {answer}")
 
 
@@ -199,37 +221,54 @@ def reads_of(size, most):
 
 def fail_devices(refusing, tally, name, words, files, text):
     """Lets each read and each write of one kind of run fail."""
-    words = with_files(words, files)
+    words, asked = with_files(words, files), asked_in(files)
     done = Answer(0, text, b"")
     for most in 1, 3, 1000:
         what = f"{name}, {most} bytes a call"
         readers = [which for which, file in files.items() for _ in range(reads_of(len(FILES[file]), most))]
-        writes = -(-len(text) // most)
-        ample, (_, _, read_count, write_count) = refusing.run(words, MOST_BYTES=most)
-        tally.expect(ample == done and (read_count, write_count) == (len(readers), writes), f"{what}: {ample}")
+        ample, (_, _, read_count, write_count) = refusing.run(words, asked=asked, MOST_BYTES=most)
+        tally.expect(ample == done and read_count == len(readers), f"{what}: {ample}")
 
         def fail_read(at):
-            answer, _ = refusing.run(words, MOST_BYTES=most, REFUSE_READ=at)
+            answer, _ = refusing.run(words, asked=asked, MOST_BYTES=most, REFUSE_READ=at)
             told = f"chtab: cannot read {readers[at - 1]}\n".encode()
-            tally.expect(answer == Answer(3, b"", told), f"{what}, read {at} fails: {answer}")
-            answer, _ = refusing.run(words, MOST_BYTES=most, REFUSE_READ=at, REFUSE_WITH=INTERRUPTED)
+            written = answers_after(asked, most * readers[:at - 1].count("requests"))
+            tally.expect(answer == Answer(3, written, told), f"{what}, read {at} fails: {answer}")
+            answer, _ = refusing.run(words, asked=asked, MOST_BYTES=most, REFUSE_READ=at, REFUSE_WITH=INTERRUPTED)
             tally.expect(answer == done, f"{what}, read {at} is interrupted: {answer}")
 
         def fail_write(at):
-            taken = (at - 1) * most
+            """How many bytes were written before."""
+            answer, _ = refusing.run(words, asked=asked, MOST_BYTES=most, REFUSE_WRITE=at)
+            taken = len(answer.out)
             told = Answer(3, text[:taken], f"chtab: cannot write after {taken} bytes\n".encode())
-            for error in 0, DEVICE_FAILED, DEVICE_FULL:
-                answer, _ = refusing.run(words, MOST_BYTES=most, REFUSE_WRITE=at, REFUSE_WITH=error)
-                tally.expect(answer == told, f"{what}, write {at} fails with {error}: {answer}")
-            answer, _ = refusing.run(words, MOST_BYTES=most, REFUSE_WRITE=at, REFUSE_WITH=INTERRUPTED)
-            tally.expect(answer == done, f"{what}, write {at} is interrupted: {answer}")
+            tally.expect(answer == told, f"{what}, write {at} fails: {answer}")
+            for error, wanted in ((0, told), (DEVICE_FULL, told), (READER_GONE, Answer(STATUS_OF_READER_GONE, text[:taken], b"")),
+                                  (INTERRUPTED, done)):
+                answer, _ = refusing.run(words, asked=asked, MOST_BYTES=most, REFUSE_WRITE=at, REFUSE_WITH=error)
+                tally.expect(answer == wanted, f"{what}, write {at} fails with {error}: {answer}")
+            return taken
 
         side_by_side(fail_read, range(1, len(readers) + 1))
-        side_by_side(fail_write, range(1, writes + 1))
+        places = side_by_side(fail_write, range(1, write_count + 1))
+        tally.expect(are_places(places, len(text), most, not asked), f"{what}: writes begin at {places}")
+
+
+def are_places(places, size, most, is_one):
+    """Whether writes of at most so many bytes that begin at these places move a text of this size; where it is one text, and not the texts of
+    answers, in as few writes as it takes."""
+    if is_one:
+        return places == list(range(0, size, most))
+    return places[:1] == [0] and all(0 < end - start <= most for start, end in pairwise([*places, size]))
+
+
+def asked_in(files):
+    """What is asked of a run over these files."""
+    return ASKED[files["requests"]] if "requests" in files else []
 
 
 def close_pipe(tally, folder):
-    """Closes a pipe once it is full, while the program writes a text that is longer."""
+    """Closes a pipe once it is full, while the program writes a text that is longer: it ends silently."""
     (folder / "one.gr").write_text("p sp 1 0\n")
     (folder / "ones.ss").write_text("p aux sp ss 400\n" + "s 1\n" * 400)
     read_end, write_end = os.pipe()
@@ -243,8 +282,8 @@ def close_pipe(tally, folder):
         time.sleep(0.01)
     os.close(read_end)
     err = process.communicate(timeout=SECONDS)[1]
-    told = f"chtab: cannot write after {room} bytes\n".encode()
-    tally.expect((process.returncode, err) == (3, told), f"a full pipe is closed: {process.returncode}, {err}")
+    is_silent = (process.returncode, err) == (STATUS_OF_READER_GONE, b"")
+    tally.expect(is_silent, f"a full pipe is closed: {process.returncode}, {err}")
 
 
 def waiting_in(pipe):
@@ -259,8 +298,12 @@ def main():
         refusing = Refusing(folder)
         for name, (words, wanted) in KINDS.items():
             refuse_memory(refusing, tally, name, words, wanted)
+        for name, (words, asked) in ASKS.items():
+            for most in 16, 65_536:
+                done = Answer(0, answers_of(asked), b"")
+                refuse_memory(refusing, tally, f"{name}, {most} bytes a call", words, done, asked, MOST_BYTES=most)
         for name, (words, files, text) in RUNS.items():
-            refuse_threads(refusing, tally, name, with_files(words, files), Answer(0, text, b""))
+            refuse_threads(refusing, tally, name, with_files(words, files), Answer(0, text, b""), asked_in(files))
             fail_devices(refusing, tally, name, words, files, text)
         close_pipe(tally, refusing.folder)
         for crate in filter(has_tests_in_turn, sorted(ROOT.glob("crates/*"))):

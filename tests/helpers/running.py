@@ -23,20 +23,27 @@ def build():
         sys.exit(1)
 
 
-def run(words, folder, environment=None, command=(PROGRAM,)):
-    """The answer of the program on these words, run in this folder."""
+def run(words, folder, environment=None, command=(PROGRAM,), requests=None):
+    """The answer of the program on these words, run in this folder. Requests are bytes, which come through a pipe to standard input, or a
+    file that is open for reading; where there are none it is empty."""
+    given = {"input": requests} if isinstance(requests, bytes) else {"stdin": subprocess.DEVNULL if requests is None else requests}
     try:
-        ended = subprocess.run([*command, *words], cwd=folder, env=environment or {}, stdin=subprocess.DEVNULL,
-                               capture_output=True, timeout=SECONDS)
+        ended = subprocess.run([*command, *words], cwd=folder, env=environment or {}, capture_output=True, timeout=SECONDS, **given)
         return Answer(ended.returncode, ended.stdout, ended.stderr)
     except subprocess.TimeoutExpired:
         return Answer("stopped", b"", b"")
 
 
+def agrees(answer, wanted):
+    """Whether the answer is this one, where a stream that is None may have any text."""
+    return all(one == other for one, other in zip(answer, wanted) if other is not None)
+
+
 def with_files(words, files):
-    """The words of a run over these files, each named by what it is to the program, in the order in which they are read."""
+    """The words of a run over these files, each named by what it is to the program, in the order in which they are read. That of requests is
+    no word: it comes to standard input."""
     saved = ["--saved", files["saved"]] if "saved" in files else []
-    return [*words, *saved, *(file for which, file in files.items() if which != "saved")]
+    return [*words, *saved, *(file for which, file in files.items() if which not in ("saved", "requests"))]
 
 
 def side_by_side(call, items):

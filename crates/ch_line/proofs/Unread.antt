@@ -1,5 +1,5 @@
 -- Which of a run's inputs couldn't be read.
-use Rattle.std.proofs.Common.{◌≡◌, ◌<◌, ℕ, refl, inl, inr}
+use Rattle.std.proofs.Common.{◌≡◌, ◌⊎◌, ◌<◌, ℕ, refl, inl, inr}
 use Rattle.std.specs.Prelude.{Result, Err, IfErr}
 use Rattle.ch_run.specs.declared.fault.RunFault.{RunFault}
 use Rattle.ch_run.specs.declared.fault.Which.{Which}
@@ -17,17 +17,18 @@ no-queries (inr (inl (inr (inl e)))) = cc
 no-queries (inr (inl (inr (inr e)))) = cc
 no-queries (inr (inr e)) = e
 
--- where a fault of an input's device is told only when a read of it failed, one failed of the input that is told
+-- where a fault of an input's device is told only when a read of it failed, one failed of the input that is told, be it not the requests
 pub lists-by-unread : {I : Type 0} (failed : I → ℕ) (graph saved sources targets graph' saved' sources' targets' : I) (r : Result Unit RunFault)
     → IfErr r IsOfTableSaved
     → (r ≡ Err (RunFault.Device Which.Graph) → failed graph < failed graph')
     → (r ≡ Err (RunFault.Device Which.Saved) → failed saved < failed saved')
     → (r ≡ Err (RunFault.Device Which.Sources) → failed sources < failed sources')
     → (r ≡ Err (RunFault.Device Which.Targets) → failed targets < failed targets')
-    → (which : Which) → r ≡ Err (RunFault.Device which) → HasFailedRead failed (Inputs.ListsBy graph saved sources targets) which
-lists-by-unread failed graph saved sources targets graph' saved' sources' targets' r own g s j l Which.Graph same = inl (refl, (graph', g same))
-lists-by-unread failed graph saved sources targets graph' saved' sources' targets' r own g s j l Which.Saved same = inr (inl (refl, (saved', s same)))
-lists-by-unread failed graph saved sources targets graph' saved' sources' targets' r own g s j l Which.Sources same = inr (inr (inl (refl, (sources', j same))))
-lists-by-unread failed graph saved sources targets graph' saved' sources' targets' r own g s j l Which.Targets same = inr (inr (inr (refl, (targets', l same))))
+    → (which : Which) → r ≡ Err (RunFault.Device which) → (which ≡ Which.Requests) ⊎ HasFailedRead failed (Inputs.ListsBy graph saved sources targets) which
+lists-by-unread failed graph saved sources targets graph' saved' sources' targets' r own g s j l Which.Graph same = inr (inl (refl, (graph', g same)))
+lists-by-unread failed graph saved sources targets graph' saved' sources' targets' r own g s j l Which.Saved same = inr (inr (inl (refl, (saved', s same))))
+lists-by-unread failed graph saved sources targets graph' saved' sources' targets' r own g s j l Which.Sources same = inr (inr (inr (inl (refl, (sources', j same)))))
+lists-by-unread failed graph saved sources targets graph' saved' sources' targets' r own g s j l Which.Targets same = inr (inr (inr (inr (refl, (targets', l same)))))
 lists-by-unread failed graph saved sources targets graph' saved' sources' targets' r own g s j l Which.Queries same =
     absurd (no-queries (ends_in r IsOfTableSaved (RunFault.Device Which.Queries) own same))
+lists-by-unread failed graph saved sources targets graph' saved' sources' targets' r own g s j l Which.Requests same = inl refl

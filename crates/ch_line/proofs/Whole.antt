@@ -10,6 +10,7 @@ use Rattle.ch_run.specs.declared.options.Options.{Options}
 use Rattle.ch_run.specs.Run.{IsAnsweredBy, IsTabledBy}
 use Rattle.ch_run.specs.Lists.{ReadsLists}
 use Rattle.ch_run.specs.SavedRun.{AreChecked, IsAnsweredFrom, IsSavedBy, IsTabledFrom}
+use Rattle.ch_run.specs.Ask.{ServesBy, ServesFrom}
 use Rattle.ch_line.specs.Inputs.{whole_of}
 
 -- an input that was read to its end gave the whole of its bytes
@@ -53,3 +54,13 @@ tabled-whole options gb ga jb ja lb la text t = (t.0, t.1, t.2, to-whole gb ga _
 -- and a table by a saved hierarchy
 pub tabled-by-whole : (options : Options) (gb ga sb sa jb ja lb la : Option (List ℕ)) (text : List ℕ) → IsTabledFrom options (read_from gb ga) (read_from sb sa) (read_from jb ja) (read_from lb la) text → IsTabledFrom options (whole_of gb) (whole_of sb) (whole_of jb) (whole_of lb) text
 tabled-by-whole options gb ga sb sa jb ja lb la text t = (t.0, t.1, t.2, checked-whole gb ga sb sa _ _ _ t.3, (t.4.0, t.4.1, lists-whole jb ja lb la _ _ _ t.4.2, t.4.3))
+
+-- answers to requests
+pub served-whole : {T : Type 0} (options : Options) (gb ga : Option (List ℕ)) (requests : Reading) (old new : Option (List ℕ)) (r : Result T RunFault)
+    → ServesBy options (read_from gb ga) requests old new r → ServesBy options (whole_of gb) requests old new r
+served-whole options gb ga requests old new r t = (t.0, t.1, to-whole gb ga _ t.2, t.3)
+
+-- and answers to requests by a saved hierarchy
+pub served-by-whole : {T : Type 0} (options : Options) (gb ga sb sa : Option (List ℕ)) (requests : Reading) (old new : Option (List ℕ)) (r : Result T RunFault)
+    → ServesFrom options (read_from gb ga) (read_from sb sa) requests old new r → ServesFrom options (whole_of gb) (whole_of sb) requests old new r
+served-by-whole options gb ga sb sa requests old new r t = (t.0, t.1, t.2, checked-whole gb ga sb sa _ _ _ t.3, t.4)

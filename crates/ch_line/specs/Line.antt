@@ -1,23 +1,24 @@
 -- What a line asks for, of which files, and how its run ends.
-use Rattle.std.specs.Prelude.{◌≡◌, ◌⊎◌, ◌↔◌, ◌<◌, ◌≤◌, ℕ, [], ◌∷◌, List, Option, Some, None, Result, Err, IfErr, IfSome, IsErrAnd, ⊤, vec_len, codes, length, get_or, map, option_map, if◌then◌else◌}
+use Rattle.std.specs.Prelude.{◌≡◌, ◌⊎◌, ◌↔◌, ◌<◌, ◌≤◌, ℕ, [], ◌∷◌, List, Option, Some, None, Result, Err, IfSome, IsErrAnd, ⊤, vec_len, codes, length, get_or, map, option_map, if◌then◌else◌}
 use Rattle.std.specs.String.{string_bytes}
 use Rattle.ch_run.specs.declared.options.TheConstants.{MOST_HOPS, MOST_WITHIN}
 use Rattle.ch_run.specs.declared.fault.Which.{Which}
 use Rattle.ch_run.specs.declared.fault.RunFault.{RunFault}
-use Rattle.ch_run.specs.Device.{CountsAtMostOneOf}
-use Rattle.ch_run.specs.Run.{Delivers, IsWrite, Reading}
+use Rattle.ch_run.specs.Device.{CountsAtMostOne, CountsAtMostOneOf}
+use Rattle.ch_run.specs.Run.{IsWrite, Reading}
 use Rattle.ch_work.specs.Plan.{IsWithinLimits}
 use Rattle.ch_line.specs.declared.line.Line.{Line}
 use Rattle.ch_line.specs.declared.line.Tool.{Tool}
 use Rattle.ch_line.specs.declared.inputs.Inputs.{Inputs}
 use Rattle.ch_line.specs.Files.{FileState, bytes_of}
-use Rattle.ch_line.specs.Inputs.{Task, EndsFor, HasFailedRead, IsTextFor, task_of, whole_of}
+use Rattle.ch_line.specs.Inputs.{Task, EndsFor, HasFailedRead, Writes, task_of, whole_of}
 
 -- the files of a tool, in their order
 abbrev pub file_names : Tool → List (List ℕ)
 file_names Tool.Dist = codes "GRAPH" ∷ codes "QUERIES" ∷ []
 file_names Tool.Table = codes "GRAPH" ∷ codes "SOURCES" ∷ codes "TARGETS" ∷ []
 file_names Tool.Save = codes "GRAPH" ∷ []
+file_names Tool.Ask = codes "GRAPH" ∷ []
 
 -- the numbers of a line are within the program's limits, and it names each file of its tool
 pub record IsAllowed (line : Line) : Type 0 where
@@ -49,11 +50,17 @@ abbrev pub lists_task : Reading → Option Reading → Reading → Reading → T
 lists_task graph None sources targets = Task.Table graph sources targets
 lists_task graph (Some saved) sources targets = Task.TableBy graph saved sources targets
 
+-- what is asked of a graph and a saved hierarchy, if there is one, by which requests are answered
+abbrev pub requests_task : Reading → Option Reading → Task
+requests_task graph None = Task.Requests graph
+requests_task graph (Some saved) = Task.RequestsBy graph saved
+
 -- what a tool asks of its files and of a saved hierarchy, or none
 abbrev pub tool_task : Tool → (ℕ → Reading) → Option Reading → Task
 tool_task Tool.Dist file saved = queries_task (file 0) saved (file 1)
 tool_task Tool.Table file saved = lists_task (file 0) saved (file 1) (file 2)
 tool_task Tool.Save file saved = Task.Hierarchy (file 0)
+tool_task Tool.Ask file saved = requests_task (file 0) saved
 
 -- what a line asks for of the bytes that are known of its files
 abbrev pub line_task : (List ℕ → FileState) → Line → Task
@@ -73,11 +80,17 @@ abbrev pub lists_files : List ℕ → Option (List ℕ) → List ℕ → List �
 lists_files graph None sources targets = (Which.Graph, graph) ∷ (Which.Sources, sources) ∷ (Which.Targets, targets) ∷ []
 lists_files graph (Some saved) sources targets = (Which.Graph, graph) ∷ (Which.Saved, saved) ∷ (Which.Sources, sources) ∷ (Which.Targets, targets) ∷ []
 
+-- the files of a run that answers requests
+abbrev pub hierarchy_files : List ℕ → Option (List ℕ) → List File
+hierarchy_files graph None = (Which.Graph, graph) ∷ []
+hierarchy_files graph (Some saved) = (Which.Graph, graph) ∷ (Which.Saved, saved) ∷ []
+
 -- the files that a tool opens, in order
 abbrev pub tool_files : Tool → (ℕ → List ℕ) → Option (List ℕ) → List File
 tool_files Tool.Dist file saved = queries_files (file 0) saved (file 1)
 tool_files Tool.Table file saved = lists_files (file 0) saved (file 1) (file 2)
 tool_files Tool.Save file saved = (Which.Graph, file 0) ∷ []
+tool_files Tool.Ask file saved = hierarchy_files (file 0) saved
 
 -- the files that the run of a line opens, in order
 abbrev pub line_files : Line → List File
@@ -109,6 +122,10 @@ abbrev pub IsUnopened : (List ℕ → FileState) → List File → RunFault → 
 IsUnopened known [] fault = ⊥
 IsUnopened known (file ∷ files) fault = IsNotOpened (known file.1) file.0 fault ⊎ IsUnopened known files fault
 
+-- one of these files isn't opened, and neither requests nor output are touched
+abbrev pub IsNotBegun : {J O : Type 0} → (List ℕ → FileState) → List File → (requests requests' : J) → (old new : O) → Result Unit RunFault → Type 0
+IsNotBegun known files requests requests' old new result = IsErrAnd result (IsUnopened known files) × (requests' ≡ requests) × (new ≡ old)
+
 -- where this file is missing, the run ends at it, or before, for want of memory; and where nothing is known of it,
 -- it may end at it, or goes on
 abbrev pub AtMissing : {T : Type 0} → FileState → Which → Type 0 → Result T RunFault → Type 0
@@ -125,12 +142,15 @@ EndsAtMissing known (file ∷ files) result = AtMissing (known file.1) file.0 (E
 abbrev pub HasReadFailed : {I : Type 0} → (I → Option (List ℕ)) → (I → ℕ) → (List ℕ → FileState) → Line → Which → Type 0
 HasReadFailed {I} left failed known line which = (inputs : Inputs I) × (task_of left inputs ≡ line_task known line) × HasFailedRead failed inputs which
 
--- the run of a line, as `run_line` owes it: what the output took, where it ends, and which faults were counted
-pub record IsRunOf {I O : Type 0} (left : I → Option (List ℕ)) (failures : I → ℕ) (known : List ℕ → FileState) (taken : O → Option (List ℕ)) (failed idle : O → ℕ) (line : Line) (old new : O) (result : Result Unit RunFault) : Type 0 where
-  pub written : Delivers result (taken old) (taken new) (IsTextFor line.options (line_task known line))
+-- the run of a line, as `run_line` owes it: what the output took, where it ends, and which faults were counted. Files and requests
+-- tell their bytes and count their failures, each in its own way
+pub record IsRunOf {I J O : Type 0} (left : I → Option (List ℕ)) (failures : I → ℕ) (known : List ℕ → FileState) (left_requests : J → Option (List ℕ)) (failed_requests : J → ℕ)
+    (taken : O → Option (List ℕ)) (failed idle : O → ℕ) (line : Line) (requests requests' : J) (old new : O) (result : Result Unit RunFault) : Type 0 where
+  pub written : IsNotBegun known (line_files line) requests requests' old new result
+      ⊎ Writes line.options (line_task known line) left_requests failed_requests taken requests requests' old new result
   pub missing : EndsAtMissing known (line_files line) result
   pub ends : EndsFor (line_task known line) result ⊎ IsErrAnd result (IsUnopened known (line_files line))
-  pub unread : (which : Which) → result ≡ Err (RunFault.Device which) → IsUnopened known (line_files line) (RunFault.Device which) ⊎ HasReadFailed left failures known line which
-  pub unwritten : (new ≡ old) ⊎ IfErr result IsWrite
+  pub unread : (which : Which) → result ≡ Err (RunFault.Device which) → IsUnopened known (line_files line) (RunFault.Device which) ⊎ (which ≡ Which.Requests) ⊎ HasReadFailed left failures known line which
+  pub requests_once : CountsAtMostOne (failed_requests requests) (failed_requests requests')
   pub output_device : IsErrAnd result IsWrite ↔ ((failed old < failed new) ⊎ (idle old < idle new))
   pub output_once : CountsAtMostOneOf (failed old) (failed new) (idle old) (idle new)

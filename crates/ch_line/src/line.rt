@@ -11,6 +11,8 @@ pub enum Tool {
     Table,
     /// Writes the hierarchy of a graph.
     Save,
+    /// Answers requests as they come.
+    Ask,
 }
 
 /// What the words say.

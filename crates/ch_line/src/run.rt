@@ -1,52 +1,66 @@
 //! The run that a line asks for, over files that are opened by their names.
 
 ghost use Rattle.std.specs.Prelude.{◌≡◌, ◌<◌, ◌↔◌, ◌⊎◌, Err, IfErr, IfOk, IsErrAnd, option_map, vec_len};
-ghost use Rattle.ch_run.specs.Device.{CanCountOneMore, CountsAtMostOneOf};
-ghost use Rattle.ch_run.specs.Run.{Delivers, IsWrite};
+ghost use Rattle.ch_run.specs.Device.{CanCountOneMore, CountsAtMostOne, CountsAtMostOneOf};
+ghost use Rattle.ch_run.specs.Run.{IsWrite};
 ghost use Rattle.ch_run.specs.declared.fault.Which.{Which as WhichInput};
 ghost use Rattle.ch_line.specs.Files.{bytes_of};
-ghost use Rattle.ch_line.specs.Inputs.{AreFresh, EndsFor, IsTextFor, task_of};
-ghost use Rattle.ch_line.specs.Line.{EndsAtMissing, HasReadFailed, IsAllowed, IsNotOpened, IsUnopened, MayAllBeThere, MayBeThere, file_reading, line_files, line_task, lists_files, lists_task, name_at, queries_files, queries_task, saved_name};
+ghost use Rattle.ch_line.specs.Inputs.{AreFresh, EndsFor, Writes, task_of};
+ghost use Rattle.ch_line.specs.Line.{EndsAtMissing, HasReadFailed, IsAllowed, IsNotBegun, IsNotOpened, IsUnopened, MayAllBeThere, MayBeThere, file_reading, hierarchy_files, line_files, line_task, lists_files, lists_task, name_at, queries_files, queries_task, requests_task, saved_name};
 
 use crate::files::{Files, OpenFault};
 use crate::inputs::{Inputs, run_inputs};
 use crate::line::{Line, Tool};
-use ch_run::{Gate, Output, RunFault, Which};
+use ch_run::{Gate, Input, Output, RunFault, Which};
 use std::alloc::Global;
 use std::thread::Threads;
 
-/// Does what a line asks for. All of its files are opened, in the order of the arguments, before one is read.
+/// Does what a line asks for. All of its files are opened, in the order of the arguments, before one is read. The requests are read
+/// where it asks that they be answered, and else left alone.
 ///
 /// # Errors
 /// The fault of the first file that can't be opened, or of the run.
-pub fn run_line<R: Threads + Sync, F: Files, O: Output, G: Gate>(
+pub fn run_line<R: Threads + Sync, F: Files, J: Input, O: Output, G: Gate>(
     rt: &R,
     alloc: Global,
     files: &F,
+    requests: &mut J,
     output: &mut O,
     line: &Line,
     gate: &G,
 ) -> Result<(), RunFault>
     requires allowed { IsAllowed line.now }
+    requires requests { CanCountOneMore (J.failed requests.old) }
     requires failures { CanCountOneMore (O.failed output.old) }
     requires zeros { CanCountOneMore (O.idle output.old) }
 
-    // What is written is the text that the line asks for, of the files that it names: all of it, or its first bytes.
-    ensures written { Delivers result (O.taken output.old) (O.taken output.new) (IsTextFor line.now.options (line_task (F.known files.now) line.now)) }
+    // What is written is what the line asks for, of the files that it names; where one of them isn't opened, nothing is.
+    ensures written { IsNotBegun (F.known files.now) (line_files line.now) requests.old requests.new output.old output.new result
+        ⊎ Writes line.now.options (line_task (F.known files.now) line.now) J.left J.failed O.taken requests.old requests.new output.old output.new result }
 
     // A missing file ends it before anything is read, and otherwise a fault is of what the files hold.
     ensures missing { EndsAtMissing (F.known files.now) (line_files line.now) result }
     ensures ends { EndsFor (line_task (F.known files.now) line.now) result ⊎ IsErrAnd result (IsUnopened (F.known files.now) (line_files line.now)) }
     ensures unread { (which : WhichInput) → result ≡ Err (RunFault.Device which) →
-        IsUnopened (F.known files.now) (line_files line.now) (RunFault.Device which) ⊎ HasReadFailed F.Input.left F.Input.failed (F.known files.now) line.now which }
+        IsUnopened (F.known files.now) (line_files line.now) (RunFault.Device which) ⊎ (which ≡ Which.Requests)
+        ⊎ HasReadFailed F.Input.left F.Input.failed (F.known files.now) line.now which }
 
-    // Nothing is written but by a run that is done or was refused a write; a refused write is told, and not tried again.
-    ensures unwritten { (output.new ≡ output.old) ⊎ IfErr result IsWrite }
+    // A read or a write that was refused isn't tried again, and a refused write is told.
+    ensures requests_once { CountsAtMostOne (J.failed requests.old) (J.failed requests.new) }
     ensures output_device { IsErrAnd result IsWrite ↔ ((O.failed output.old < O.failed output.new) ⊎ (O.idle output.old < O.idle output.new)) }
     ensures output_once { CountsAtMostOneOf (O.failed output.old) (O.failed output.new) (O.idle output.old) (O.idle output.new) }
 {
     let inputs = open_inputs(files, line)?;
-    run_inputs(rt, alloc, inputs, output, &line.options, &line.plan, gate)
+    run_inputs(
+        rt,
+        alloc,
+        inputs,
+        requests,
+        output,
+        &line.options,
+        &line.plan,
+        gate,
+    )
 }
 
 /// Opens the files of a line, in the order of its arguments.
@@ -73,6 +87,7 @@ pub fn open_inputs<F: Files>(files: &F, line: &Line) -> Result<Inputs<F::Input>,
         Tool::Save => Ok(Inputs::Hierarchy {
             graph: open_input(files, name_of(line, 0), Which::Graph)?,
         }),
+        Tool::Ask => open_hierarchy(files, name_of(line, 0), saved_of(line)),
     }
 }
 
@@ -138,6 +153,27 @@ fn open_lists<F: Files>(
         sources,
         targets,
     })
+}
+
+/// Opens a graph and a saved hierarchy, if one is named, by which requests are answered.
+fn open_hierarchy<F: Files>(
+    files: &F,
+    graph: &str,
+    saved: Option<&str>,
+) -> Result<Inputs<F::Input>, RunFault>
+    ensures fresh { IfOk result (AreFresh F.Input.failed) }
+    ensures asked { IfOk result (λ inputs. task_of F.Input.left inputs
+        ≡ requests_task (file_reading (F.known files.now) graph.now) (option_map (file_reading (F.known files.now)) (option_map (λ name. name.now) saved.entry))) }
+    ensures there { IfOk result (λ _. MayAllBeThere (F.known files.now) (hierarchy_files graph.now (option_map (λ name. name.now) saved.entry))) }
+    ensures missing { EndsAtMissing (F.known files.now) (hierarchy_files graph.now (option_map (λ name. name.now) saved.entry)) result }
+    ensures unopened { IfErr result (IsUnopened (F.known files.now) (hierarchy_files graph.now (option_map (λ name. name.now) saved.entry))) }
+{
+    let graph = open_input(files, graph, Which::Graph)?;
+    let Some(saved) = saved else {
+        return Ok(Inputs::Requests { graph });
+    };
+    let saved = open_input(files, saved, Which::Saved)?;
+    Ok(Inputs::RequestsBy { graph, saved })
 }
 
 /// The name of a line's file at this place.

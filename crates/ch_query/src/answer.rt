@@ -1,5 +1,5 @@
 //! Answers to many queries.
-ghost use Rattle.std.specs.Prelude.{◌≡◌, ◌≤◌, ◌<◌, length, All, true, IfOk};
+ghost use Rattle.std.specs.Prelude.{◌≡◌, ◌≤◌, ◌<◌, length, true, IfOk, OnOk};
 ghost use Rattle.std.specs.List.{AllZip};
 ghost use Rattle.ch_graph.specs.declared.limits.TheConstants.{MOST_QUERIES};
 ghost use Rattle.ch_hierarchy.specs.Hierarchy.{nodes_of};
@@ -10,7 +10,7 @@ use crate::query::{distance, route};
 use crate::scratch::Scratch;
 use ch_graph::InArc;
 use ch_hierarchy::Hierarchy;
-use ch_work::{Gate, ListJob, Plan, run_list};
+use ch_work::{Gate, ListJob, Plan, run_list, run_list_in_room};
 use std::alloc::{AllocError, Global};
 use std::marker::Model;
 use std::thread::Threads;
@@ -58,6 +58,31 @@ pub fn answer_all<R: Threads + Sync, G: Gate>(
 {
     let job = QueryJob { hierarchy, routes };
     run_list(rt, alloc, queries, plan, gate, &job)
+}
+
+/// As [`answer_all`] by the caller alone, in a scratch that it has: for those who ask again and again, since to make
+/// one takes a number of steps that grows with the nodes.
+///
+/// # Errors
+/// `AllocError` where there is no memory.
+pub fn answer_all_in<G: Gate>(
+    alloc: Global,
+    hierarchy: &Hierarchy,
+    scratch: &mut Scratch,
+    queries: &[(u32, u32)],
+    routes: bool,
+    plan: &Plan,
+    gate: &G,
+) -> Result<Vec<Answer>, AllocError>
+    requires kept { IsKeptForSome hierarchy.now }
+    requires scratch { scratch.old ≡ nodes_of hierarchy.now }
+    requires queries { AreQueries (nodes_of hierarchy.now) queries.now }
+    requires count { length queries.now ≤ MOST_QUERIES }
+    ensures answers { IfOk result (λ answers. AllZip (IsReply hierarchy.now routes) queries.now answers.items) }
+    ensures scratch { OnOk result (scratch.new ≡ scratch.old) }
+{
+    let job = QueryJob { hierarchy, routes };
+    run_list_in_room(alloc, queries, plan, gate, scratch, &job)
 }
 
 /// What is to be answered to each query.

@@ -31,7 +31,7 @@ mod spaces;
 mod spreading;
 mod unpacking;
 
-pub use answer::{Answer, answer_all};
+pub use answer::{Answer, answer_all, answer_all_in};
 pub use checking::check;
 pub use query::{distance, route};
 pub use routes::Route;

@@ -22,6 +22,8 @@ refused_for Which.Sources (Fault f) fault same = cc
 refused_for Which.Sources NoMemory fault same = cc
 refused_for Which.Targets (Fault f) fault same = cc
 refused_for Which.Targets NoMemory fault same = cc
+refused_for Which.Requests (Fault f) fault same = cc
+refused_for Which.Requests NoMemory fault same = cc
 
 -- an input that gave no bytes has no fault of a file
 pub unread_not : (which : Which) (fault : ReadFault) → IsUnread which (refusal_of which fault) → ⊥
@@ -30,6 +32,7 @@ unread_not Which.Saved fault h = h
 unread_not Which.Queries fault h = h
 unread_not Which.Sources fault h = h
 unread_not Which.Targets fault h = h
+unread_not Which.Requests fault h = h
 
 -- what a reader refused is of its input
 pub refused_is_of : (which : Which) (error : ReadError) → IsOf which (input_fault which error)
@@ -43,6 +46,8 @@ refused_is_of Which.Sources (Fault f) = refl
 refused_is_of Which.Sources NoMemory = tt
 refused_is_of Which.Targets (Fault f) = refl
 refused_is_of Which.Targets NoMemory = tt
+refused_is_of Which.Requests (Fault f) = refl
+refused_is_of Which.Requests NoMemory = tt
 
 -- an input that gave no bytes ended so
 pub unread_is_of : (which : Which) (fault : RunFault) → IsUnread which fault → IsOf which fault
@@ -56,6 +61,7 @@ unread_is_of which RunFault.Cells h = absurd h
 unread_is_of which (RunFault.Write count) h = absurd h
 unread_is_of which (RunFault.Saved f) h = absurd h
 unread_is_of which (RunFault.Check f) h = absurd h
+unread_is_of which (RunFault.Requests f) h = absurd h
 
 -- a fault that stops a run is of one input
 pub of_one : (which other : Which) (fault : RunFault) → IsOf which fault → StopsAt other fault → other ≡ which
@@ -69,6 +75,7 @@ of_one which other RunFault.Cells h k = absurd h
 of_one which other (RunFault.Write count) h k = absurd h
 of_one which other (RunFault.Saved f) h k = k.0 ∙ sym h
 of_one which other (RunFault.Check f) h k = k.0 ∙ sym h
+of_one which other (RunFault.Requests f) h k = k.0 ∙ sym h
 
 -- one fault of a saved hierarchy is told
 pub one_refusal : {T : Type 0} (f fault : CheckFault) → ◌≡◌ {A = Result T RunFault} (Err (RunFault.Check f)) (Err (RunFault.Check fault)) → f ≡ fault

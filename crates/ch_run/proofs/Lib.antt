@@ -7,3 +7,6 @@ pub mod Saving
 pub mod OneSavedText
 pub mod Writes
 pub mod ReadBack
+pub mod Answered
+pub mod Served
+pub mod Counted

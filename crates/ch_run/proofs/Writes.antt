@@ -37,6 +37,7 @@ past_inputs which RunFault.Memory h k = h
 past_inputs which (RunFault.Device input) h k = h
 past_inputs which (RunFault.Saved f) h k = h
 past_inputs which (RunFault.Check f) h k = h
+past_inputs which (RunFault.Requests f) h k = h
 
 -- a run that ends in no fault but a refused write stopped at no input
 pub gone_past : {T : Type 0} (r : Result T RunFault) → IfErr r IsWrite → (which : Which) → GoesPast which r

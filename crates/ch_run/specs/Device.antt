@@ -1,5 +1,5 @@
 -- What devices give, take and count.
-use Rattle.std.specs.Prelude.{◌≡◌, ℕ, zero, suc, ◌+◌, ◌-◌, ◌^◌, ◌<◌, ◌++◌, ◌==◌, ◌&&◌, ◌⊎◌, if◌then◌else◌, nat_lt, List, [], Option, Some, None, IsNone, Result, Ok, Err, length, take, MatchResult}
+use Rattle.std.specs.Prelude.{◌≡◌, ℕ, zero, suc, ◌+◌, ◌-◌, ◌^◌, ◌<◌, ◌++◌, ◌==◌, ◌&&◌, ◌⊎◌, if◌then◌else◌, nat_lt, Bool, true, List, [], Option, Some, None, IsNone, Result, Ok, Err, IsErr, length, take, MatchResult}
 use Rattle.ch_run.specs.declared.device.ReadAllFault.{ReadAllFault}
 use Rattle.ch_run.specs.declared.device.ReadAllFault.TheVariants.{Device, Memory}
 
@@ -50,6 +50,11 @@ abbrev pub HasGiven : Option (List ℕ) → Option (List ℕ) → List ℕ → T
 HasGiven None new bytes = IsNone new
 HasGiven (Some old) new bytes = (old ≡ bytes) × (new ≡ Some [])
 
+-- of an input that tells its bytes these were read, and these are left
+abbrev pub HasRead : (old new : Option (List ℕ)) → (read left : List ℕ) → Type 0
+HasRead None new read left = IsNone new
+HasRead (Some old) new read left = (old ≡ read ++ left) × (new ≡ Some left)
+
 -- an output that tells the bytes that it took has taken these after the earlier ones
 abbrev pub HasTaken : Option (List ℕ) → Option (List ℕ) → List ℕ → Type 0
 HasTaken None new bytes = IsNone new
@@ -59,6 +64,10 @@ HasTaken (Some old) new bytes = new ≡ Some (old ++ bytes)
 abbrev pub CountsFault : {T E : Type 0} → (failed failed' idle idle' : ℕ) → Result T E → Type 0
 CountsFault failed failed' idle idle' (Ok _) = (failed' ≡ failed) × (idle' ≡ idle)
 CountsFault failed failed' idle idle' (Err _) = ((failed' ≡ failed + 1) × (idle' ≡ idle)) ⊎ ((failed' ≡ failed) × (idle' ≡ idle + 1))
+
+-- an output is open or closed as it was before, or an error has closed it
+abbrev pub ClosesAtFault : {T E : Type 0} → (closed closed' : Bool) → Result T E → Type 0
+ClosesAtFault closed closed' result = (closed' ≡ closed) ⊎ (IsErr result × (closed' ≡ true))
 
 -- the turns that are left after one: none where it was the last
 abbrev pub turns_after : Option ℕ → Option ℕ

@@ -15,6 +15,7 @@ input_name Which.Saved = codes "saved"
 input_name Which.Queries = codes "queries"
 input_name Which.Sources = codes "sources"
 input_name Which.Targets = codes "targets"
+input_name Which.Requests = codes "requests"
 
 -- the line that is told of a fault, without its line feed
 abbrev pub fault_text : RunFault → List ℕ
@@ -28,6 +29,7 @@ fault_text (RunFault.Device which) = codes "chtab: cannot read " ++ input_name w
 fault_text (RunFault.Write count) = codes "chtab: cannot write after " ++ decimal count ++ codes " bytes"
 fault_text (RunFault.Saved fault) = codes "chtab: saved " ++ read_fault_text fault
 fault_text (RunFault.Check fault) = codes "chtab: saved hierarchy refused: " ++ check_fault_text fault
+fault_text (RunFault.Requests fault) = codes "chtab: request " ++ read_fault_text fault
 
 -- the exit status of a fault: 1 where a file, a saved hierarchy or the size of a table was refused, 3 where the system refused something
 abbrev pub status_of : RunFault → ℕ
@@ -41,6 +43,7 @@ status_of (RunFault.Device _) = 3
 status_of (RunFault.Write _) = 3
 status_of (RunFault.Saved _) = 1
 status_of (RunFault.Check _) = 1
+status_of (RunFault.Requests _) = 1
 
 -- the fault of a run whose input has this fault
 abbrev pub refusal_of : Which → ReadFault → RunFault
@@ -49,6 +52,7 @@ refusal_of Which.Saved fault = RunFault.Saved fault
 refusal_of Which.Queries fault = RunFault.Queries fault
 refusal_of Which.Sources fault = RunFault.Sources fault
 refusal_of Which.Targets fault = RunFault.Targets fault
+refusal_of Which.Requests fault = RunFault.Requests fault
 
 -- the fault of a run whose input a reader refused
 abbrev pub input_fault : Which → ReadError → RunFault

@@ -8,3 +8,5 @@ pub mod SavedTextLaws
 pub mod TableText
 pub mod TextLaws
 pub mod Text
+pub mod Ask
+pub mod Serving

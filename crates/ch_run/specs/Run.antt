@@ -111,6 +111,7 @@ IsUnread which RunFault.Cells = ⊥
 IsUnread which (RunFault.Write count) = ⊥
 IsUnread which (RunFault.Saved fault) = ⊥
 IsUnread which (RunFault.Check fault) = ⊥
+IsUnread which (RunFault.Requests fault) = ⊥
 
 -- what reading this input may end in: it is refused, it can't be read, or there is no memory
 abbrev pub IsOf : Which → RunFault → Type 0
@@ -124,6 +125,7 @@ IsOf which (RunFault.Device input) = which ≡ input
 IsOf which (RunFault.Write count) = ⊥
 IsOf which (RunFault.Saved fault) = which ≡ Which.Saved
 IsOf which (RunFault.Check fault) = which ≡ Which.Saved
+IsOf which (RunFault.Requests fault) = which ≡ Which.Requests
 
 -- the output refused a write
 abbrev pub IsWrite : RunFault → Type 0
@@ -137,6 +139,7 @@ IsWrite RunFault.Memory = ⊥
 IsWrite (RunFault.Device which) = ⊥
 IsWrite (RunFault.Saved fault) = ⊥
 IsWrite (RunFault.Check fault) = ⊥
+IsWrite (RunFault.Requests fault) = ⊥
 
 -- what a run that answers queries may end in: the graph or the queries are refused or can't be read,
 -- there is no memory, or the output refuses a write

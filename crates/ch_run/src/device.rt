@@ -1,7 +1,7 @@
 //! What a run reads its files from and writes its text to.
 
-ghost use Rattle.std.specs.Prelude.{◌≡◌, ◌+◌, ◌<◌, ◌≤◌, ℕ, List, Option, Some, codes, length, take, vec_len, IfOk, IfErr, OnOk};
-ghost use Rattle.ch_run.specs.Device.{CanCountOneMore, GivesBytes, HasGiven, HasTaken, CountsFault, TakesBytes, idle_writes, failures_in, failed_reads};
+ghost use Rattle.std.specs.Prelude.{◌≡◌, ◌+◌, ◌<◌, ◌≤◌, ℕ, Bool, List, Option, Some, codes, length, take, vec_len, IfOk, IfErr, OnOk};
+ghost use Rattle.ch_run.specs.Device.{CanCountOneMore, ClosesAtFault, GivesBytes, HasGiven, HasTaken, CountsFault, TakesBytes, idle_writes, failures_in, failed_reads};
 
 mod file;
 mod memory;
@@ -56,7 +56,8 @@ pub trait Input {
 
 /// A taker of bytes that counts its faults.
 ///
-/// Each implementation says whether it tells the bytes that it took, as [`Input`] does.
+/// Each implementation says whether it tells the bytes that it took, as [`Input`] does. It is closed once a
+/// write has failed because no one reads what is written any more.
 pub trait Output {
     // how many writes have failed
     ghost failed: { Self → ℕ };
@@ -64,18 +65,21 @@ pub trait Output {
     ghost idle: { Self → ℕ };
     // the bytes that were taken, where the output tells them
     ghost taken: { Self → Option (List ℕ) };
+    // whether a write has failed because no one reads what is written any more
+    ghost closed: { Self → Bool };
 
     /// Writes from the front of `bytes`, and gives the number of bytes taken.
     ///
     /// An `Err` raises the count of failures by one, and has taken no byte where the output tells
-    /// its bytes. One that doesn't may have taken some, which are not counted.
+    /// its bytes. One that doesn't may have taken some, which are not counted. Only an `Err` closes the output.
     fn write(&mut self, bytes: &[u8]) -> Result<usize, DeviceFault>
         requires failures { CanCountOneMore (failed self.old) }
         requires zeros { CanCountOneMore (idle self.old) }
         ensures fits { IfOk result (λ n. n ≤ length bytes.now) }
         ensures failures { failed self.new ≡ failed self.old + failures_in result }
         ensures zeros { idle self.new ≡ idle self.old + idle_writes result bytes.now }
-        ensures bytes { TakesBytes (taken self.old) (taken self.new) result bytes.now };
+        ensures bytes { TakesBytes (taken self.old) (taken self.new) result bytes.now }
+        ensures closes { ClosesAtFault (closed self.old) (closed self.new) result };
 
     /// How many writes have failed.
     fn failures(&self) -> u64
@@ -84,6 +88,11 @@ pub trait Output {
     /// How many writes of some bytes took none.
     fn zeros(&self) -> u64
         ensures { result ≡ idle self.now };
+
+    /// Whether a write has failed because no one reads what is written any more, as where a pipe leads to a
+    /// program that has ended.
+    fn is_closed(&self) -> bool
+        ensures { result ≡ closed self.now };
 }
 
 /// Why an input wasn't read to its end.
@@ -153,6 +162,7 @@ pub fn write_all<O: Output>(output: &mut O, bytes: &[u8]) -> Result<(), u64>
     ensures done { OnOk result (HasTaken (O.taken output.old) (O.taken output.new) bytes.now) }
     ensures part { IfErr result (λ count. (count < length bytes.now) × HasTaken (O.taken output.old) (O.taken output.new) (take count bytes.now)) }
     ensures counts { CountsFault (O.failed output.old) (O.failed output.new) (O.idle output.old) (O.idle output.new) result }
+    ensures closes { ClosesAtFault (O.closed output.old) (O.closed output.new) result }
 {
     let mut count = 0;
     while count < bytes.len() {

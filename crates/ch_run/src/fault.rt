@@ -17,6 +17,7 @@ pub enum Which {
     Queries,
     Sources,
     Targets,
+    Requests,
 }
 
 impl Which {
@@ -31,6 +32,7 @@ impl Which {
                 Which::Queries => RunFault::Queries(fault),
                 Which::Sources => RunFault::Sources(fault),
                 Which::Targets => RunFault::Targets(fault),
+                Which::Requests => RunFault::Requests(fault),
             },
             ReadError::NoMemory => RunFault::Memory,
         }
@@ -47,13 +49,14 @@ impl fmt::Display for Which {
             Which::Queries => f.write_str("queries"),
             Which::Sources => f.write_str("sources"),
             Which::Targets => f.write_str("targets"),
+            Which::Requests => f.write_str("requests"),
         }
     }
 }
 
-/// Why a run gave no answer. Its `Display` is the line that the program writes to standard error.
+/// Why a run gave no answer, or no further one. Its `Display` is the line that the program writes to standard error.
 ///
-/// After all but `Write` nothing was written.
+/// After all but `Write` nothing was written, but by a run over requests: it has answered some of these.
 #[derive(Clone, Copy, Debug, PartialEq, Eq)]
 pub enum RunFault {
     /// The graph's file has this fault.
@@ -64,7 +67,7 @@ pub enum RunFault {
     Sources(ReadFault),
     /// The targets' file has this fault.
     Targets(ReadFault),
-    /// The sources times the targets are more than 2^22.
+    /// The sources times the targets are more than 2^22, of two files or of a request.
     Cells,
     /// There was no memory.
     Memory,
@@ -76,6 +79,8 @@ pub enum RunFault {
     Saved(ReadFault),
     /// The saved hierarchy isn't right for the graph, for this fault.
     Check(CheckFault),
+    /// A line of the requests, or their end, has this fault.
+    Requests(ReadFault),
 }
 
 impl fmt::Display for RunFault {
@@ -93,6 +98,7 @@ impl fmt::Display for RunFault {
             RunFault::Write(count) => write!(f, "chtab: cannot write after {count} bytes"),
             RunFault::Saved(fault) => write!(f, "chtab: saved {fault}"),
             RunFault::Check(fault) => write!(f, "chtab: saved hierarchy refused: {fault}"),
+            RunFault::Requests(fault) => write!(f, "chtab: request {fault}"),
         }
     }
 }
@@ -132,6 +138,7 @@ pub fn status(fault: &RunFault) -> u8
         | RunFault::Targets(_)
         | RunFault::Saved(_)
         | RunFault::Check(_)
+        | RunFault::Requests(_)
         | RunFault::Cells => 1,
         RunFault::Memory | RunFault::Device(_) | RunFault::Write(_) => 3,
     }

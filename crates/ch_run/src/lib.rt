@@ -1,4 +1,4 @@
-//! Runs: from the bytes of a graph and of queries, or of lists of nodes, to the text of the answers.
+//! Runs: from the bytes of a graph and of queries, of lists of nodes or of requests, to the text of the answers.
 //!
 //! It stands on ch_graph, ch_read, ch_contract, ch_query, ch_table and ch_work, and knows no command line.
 //! Proved of it: what the output took after [`run_dist`] and [`run_table`] is exactly the text that the
@@ -6,8 +6,10 @@
 //! gate; a run ends in no fault but its own, and touches nothing before all that comes earlier was accepted.
 //! The same holds of [`run_save`], which writes the graph's hierarchy, and of [`run_dist_saved`] and
 //! [`run_table_saved`], which go by a saved one, of any origin, after it was found right for the graph.
+//! [`run_ask`] and [`run_ask_saved`] answer requests as they come: what is whole in the bytes that were read is answered before the next read.
 //! [`Input`] and [`Output`] are devices that count their faults, over memory ([`MemoryInput`],
-//! [`MemoryOutput`]) or over the readers and writers of `std` ([`ReaderInput`], [`WriterOutput`]).
+//! [`MemoryOutput`]) or over the readers and writers of `std` ([`ReaderInput`], [`WriterOutput`]). An output also tells
+//! whether it is closed: whether a write has failed because no one reads what is written any more.
 #![tactic(auto)]
 
 mod device;
@@ -26,4 +28,6 @@ pub use device::{
 pub use fault::{RunFault, Which, status};
 pub use options::{MOST_HOPS, MOST_WITHIN, Options, OrderBy};
 pub use plan::{Gate, Open, Plan};
-pub use run::{run_dist, run_dist_saved, run_save, run_table, run_table_saved};
+pub use run::{
+    run_ask, run_ask_saved, run_dist, run_dist_saved, run_save, run_table, run_table_saved,
+};

@@ -1,5 +1,5 @@
 -- The words of the command line, and what they say.
-use Rattle.std.specs.Prelude.{◌≡◌, ◌≢◌, ℕ, pos, ◌≤◌, [], ◌∷◌, ◌++◌, Bool, ◌&&◌, not, List, Option, Some, None, IfSome, is_some, true, false, codes, fold, length, map, option_map, ⊤, vec_len}
+use Rattle.std.specs.Prelude.{◌≡◌, ◌≢◌, ℕ, pos, [], ◌∷◌, ◌++◌, Bool, List, Option, Some, None, true, false, codes, fold, map, option_map, ⊤}
 use Rattle.std.specs.Str.Parse.{digits_value, without_leading_plus}
 use Rattle.std.specs.String.{string_bytes}
 use Rattle.clap.specs.Words.{App, IsAmong, Kinds, Row, Rule, Text, fault_of, first_of, new_app, new_rule, one_of, subcommand_of, with_rule, with_subcommand}
@@ -18,13 +18,14 @@ use Rattle.ch_line.specs.Line.{file_names}
 use Rattle.ch_line.specs.declared.line.Line.{Line}
 use Rattle.chtab.specs.declared.line.LineFault.{LineFault}
 use Rattle.ch_line.specs.declared.line.Tool.{Tool}
-use Rattle.ch_line.specs.declared.line.Tool.TheVariants.{Dist, Table, Save}
+use Rattle.ch_line.specs.declared.line.Tool.TheVariants.{Dist, Table, Save, Ask}
 
 -- the word that names a tool
 abbrev pub name_of : Tool → Text
 name_of Dist = codes "dist"
 name_of Table = codes "table"
 name_of Save = codes "save"
+name_of Ask = codes "ask"
 
 -- a flag
 abbrev pub flag_rule : Text → Rule
@@ -46,15 +47,28 @@ limit_rule name most = record (option_rule name) { parser = Some (parser.Unsigne
 abbrev pub file_rule : Text → Rule
 file_rule name = record (new_rule name) { required = true; action = Some Set }
 
+-- `[--routes]`
+abbrev pub routes_rule : Rule
+routes_rule = flag_rule (codes "routes")
+
+-- `[--deep]`
+abbrev pub deep_rule : Rule
+deep_rule = flag_rule (codes "deep")
+
+-- `[--within R]`
+abbrev pub within_rule : Rule
+within_rule = limit_rule (codes "within") MOST_WITHIN
+
 -- `[--saved FILE]`
 abbrev pub saved_rule : Rule
 saved_rule = option_rule (codes "saved")
 
--- `[--plain] [--routes] [--deep] [--saved FILE]` of `dist`, `[--within R] [--saved FILE]` of `table`, and `[--deep]` of `save`
+-- the options of a tool beside its numbers
 abbrev pub own_rules : Tool → List Rule
-own_rules Dist = flag_rule (codes "plain") ∷ flag_rule (codes "routes") ∷ flag_rule (codes "deep") ∷ saved_rule ∷ []
-own_rules Table = limit_rule (codes "within") MOST_WITHIN ∷ saved_rule ∷ []
-own_rules Save = flag_rule (codes "deep") ∷ []
+own_rules Dist = flag_rule (codes "plain") ∷ routes_rule ∷ deep_rule ∷ saved_rule ∷ []
+own_rules Table = within_rule ∷ saved_rule ∷ []
+own_rules Save = deep_rule ∷ []
+own_rules Ask = routes_rule ∷ deep_rule ∷ within_rule ∷ saved_rule ∷ []
 
 -- `[--workers N] [--piece K] [--hops H]`, which each tool reads
 abbrev pub number_rules : List Rule
@@ -70,7 +84,7 @@ program_form = on_top (λ s. record s { no_binary_name = true; subcommand_requir
 
 -- the words after the program's name: a tool, and its words
 abbrev pub chtab_form : App
-chtab_form = with_subcommand (with_subcommand (with_subcommand program_form (form_of Dist).top) (form_of Table).top) (form_of Save).top
+chtab_form = fold (λ form tool. with_subcommand form (form_of tool).top) program_form (Dist ∷ Table ∷ Save ∷ Ask ∷ [])
 
 -- what is wrong with the words, as clap tells it: nothing, or the kinds of fault that come first
 abbrev pub faults_of : List Text → Kinds
@@ -106,11 +120,12 @@ abbrev pub is_deep : OrderBy → Bool
 is_deep Difference = false
 is_deep Depth = true
 
--- the flags of `dist` and `save` are as given, and `table` has none
+-- the flags that a tool has are as given, and the others are off
 abbrev pub AreFlagsIn : List Row → Tool → Options → Type 0
 AreFlagsIn given Dist options = IsFlagIn given (codes "plain") options.plain × IsFlagIn given (codes "routes") options.routes × IsFlagIn given (codes "deep") (is_deep options.order)
 AreFlagsIn given Table options = (options.plain ≡ false) × (options.routes ≡ false) × (options.order ≡ Difference)
 AreFlagsIn given Save options = (options.plain ≡ false) × (options.routes ≡ false) × IsFlagIn given (codes "deep") (is_deep options.order)
+AreFlagsIn given Ask options = (options.plain ≡ false) × IsFlagIn given (codes "routes") options.routes × IsFlagIn given (codes "deep") (is_deep options.order)
 
 -- workers and pieces are as given, and a step's work is shared from 64 items on
 pub record IsPlanIn (given : List Row) (plan : Division) : Type 0 where

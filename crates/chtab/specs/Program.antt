@@ -1,15 +1,17 @@
 -- How the program answers its words, and how it ends.
-use Rattle.std.specs.Prelude.{◌≡◌, ◌⊎◌, ℕ, ◌++◌, ◌<◌, List, Option, Result, Ok, Err, IfErr, OnOk, codes, length, take}
+use Rattle.std.specs.Prelude.{◌≡◌, ◌⊎◌, ℕ, ◌++◌, ◌<◌, Bool, List, Option, Result, Ok, Err, IfErr, IsTrue, OnOk, codes, length, take}
 use Rattle.std.specs.String.{string_bytes}
 use Rattle.clap.specs.Words.{Text}
 use Rattle.ch_run.specs.declared.fault.RunFault.{RunFault}
 use Rattle.ch_run.specs.Device.{CountsFault, HasTaken}
 use Rattle.ch_run.specs.Fault.{status_of, fault_text as run_fault_text}
+use Rattle.ch_run.specs.Run.{IsWrite}
 use Rattle.ch_line.specs.declared.line.Line.{Line}
 use Rattle.ch_line.specs.Files.{FileState}
 use Rattle.ch_line.specs.Line.{IsRunOf}
 use Rattle.chtab.specs.declared.line.LineFault.{LineFault}
 use Rattle.chtab.specs.declared.program.ProgramFault.{ProgramFault}
+use Rattle.chtab.specs.declared.program.TheConstants.{CLOSED_PIPE}
 use Rattle.chtab.specs.Line.{IsFaultOf, IsReadFrom, faults_of, line_status_of}
 
 -- the exit status of a fault, of the words or of the run
@@ -50,11 +52,13 @@ AnswersFault taken failed idle (LineFault.Help text) old new answer = (written :
 AnswersFault taken failed idle (LineFault.Refused text) old new answer = (answer ≡ Err (ProgramFault.Line (LineFault.Refused text))) × (new ≡ old)
 AnswersFault taken failed idle LineFault.NoMemory old new answer = (answer ≡ Err (ProgramFault.Line LineFault.NoMemory)) × (new ≡ old)
 
--- the words say a line, and the answer is how its run ended; or they have a fault, which is answered
-abbrev pub IsAnswer : {I O : Type 0} → (I → Option (List ℕ)) → (I → ℕ) → (List ℕ → FileState) → (O → Option (List ℕ)) → (O → ℕ) → (O → ℕ) → List Text → O → O → Result Unit ProgramFault → Type 0
-IsAnswer left failures known taken failed idle words old new answer =
-    ((line : Line) × (result : Result Unit RunFault) × IsReadFrom words line × IsRunOf left failures known taken failed idle line old new result × (answer ≡ answer_of result))
-    ⊎ ((fault : LineFault) × IsFaultOf (faults_of words) fault × AnswersFault taken failed idle fault old new answer)
+-- the words say a line, and the answer is how its run ended; or they have a fault, which is answered, and the requests are as they were
+abbrev pub IsAnswer : {I J O : Type 0} → (I → Option (List ℕ)) → (I → ℕ) → (List ℕ → FileState) → (J → Option (List ℕ)) → (J → ℕ)
+    → (O → Option (List ℕ)) → (O → ℕ) → (O → ℕ) → List Text → J → J → O → O → Result Unit ProgramFault → Type 0
+IsAnswer left failures known left_requests failed_requests taken failed idle words requests requests' old new answer =
+    ((line : Line) × (result : Result Unit RunFault) × IsReadFrom words line
+    × IsRunOf left failures known left_requests failed_requests taken failed idle line requests requests' old new result × (answer ≡ answer_of result))
+    ⊎ ((fault : LineFault) × IsFaultOf (faults_of words) fault × (requests' ≡ requests) × AnswersFault taken failed idle fault old new answer)
 
 -- the errors took this text, as far as they take any
 abbrev pub IsTold : {E : Type 0} → (E → Option (List ℕ)) → (E → ℕ) → (E → ℕ) → List ℕ → E → E → Type 0
@@ -68,7 +72,15 @@ EndsIn taken failed idle fault old new status = IsTold taken failed idle (fault_
 abbrev pub IsFaultEnd : {E : Type 0} → (E → Option (List ℕ)) → (E → ℕ) → (E → ℕ) → ProgramFault → E → E → ℕ → Type 0
 IsFaultEnd taken failed idle fault old new status = EndsIn taken failed idle fault old new status ⊎ EndsIn taken failed idle (ProgramFault.Line LineFault.NoMemory) old new status
 
--- how the program ends with this answer: in status 0, with nothing told, or in its fault
-abbrev pub IsEnd : {E : Type 0} → (E → Option (List ℕ)) → (E → ℕ) → (E → ℕ) → Result Unit ProgramFault → E → E → ℕ → Type 0
-IsEnd taken failed idle (Ok done) old new status = (status ≡ 0) × (new ≡ old)
-IsEnd taken failed idle (Err fault) old new status = IsFaultEnd taken failed idle fault old new status
+-- nobody hears the fault: a write was refused, and the reader of the output has gone away
+abbrev pub IsUnheard : Bool → ProgramFault → Type 0
+IsUnheard closed (ProgramFault.Line fault) = ⊥
+IsUnheard closed (ProgramFault.Run fault) = IsTrue closed × IsWrite fault
+
+-- how the program ends with this answer: in status 0, with nothing told; in the status of a closed pipe, with nothing told, where
+-- nobody hears its fault; or in its fault
+abbrev pub IsEnd : {E : Type 0} → (E → Option (List ℕ)) → (E → ℕ) → (E → ℕ) → Bool → Result Unit ProgramFault → E → E → ℕ → Type 0
+IsEnd taken failed idle closed (Ok done) old new status = (status ≡ 0) × (new ≡ old)
+IsEnd taken failed idle closed (Err fault) old new status =
+    (IsUnheard closed fault × (status ≡ CLOSED_PIPE) × (new ≡ old))
+    ⊎ ((IsUnheard closed fault → ⊥) × IsFaultEnd taken failed idle fault old new status)

@@ -93,14 +93,16 @@ fn tool_of(name: &str) -> Option<Tool>
         "dist" => Some(Tool::Dist),
         "table" => Some(Tool::Table),
         "save" => Some(Tool::Save),
+        "ask" => Some(Tool::Ask),
         _ => None,
     }
 }
 
 /// Reads the words after the program's name:
 /// `dist [--plain] [--routes] [--deep] [--saved FILE] [--workers N] [--piece K] [--hops H] GRAPH QUERIES`,
-/// `table [--within R] [--saved FILE] [--workers N] [--piece K] [--hops H] GRAPH SOURCES TARGETS` or
-/// `save [--deep] [--workers N] [--piece K] [--hops H] GRAPH`.
+/// `table [--within R] [--saved FILE] [--workers N] [--piece K] [--hops H] GRAPH SOURCES TARGETS`,
+/// `save [--deep] [--workers N] [--piece K] [--hops H] GRAPH` or
+/// `ask [--routes] [--deep] [--within R] [--saved FILE] [--workers N] [--piece K] [--hops H] GRAPH`.
 ///
 /// # Errors
 /// `Help` where the words ask for it; `Refused` where they aren't of this form; `NoMemory`.

@@ -7,12 +7,12 @@ mod system;
 
 pub use ch_run::{
     DeviceFault, Gate, Input, MemoryInput, MemoryOutput, Open, Options, Output, Plan, ReadAllFault,
-    ReaderInput, RunFault, Which, WriterOutput, laws, read_all, run_dist, run_dist_saved, run_save,
-    run_table, run_table_saved, status, write_all,
+    ReaderInput, RunFault, Which, WriterOutput, laws, read_all, run_ask, run_ask_saved, run_dist,
+    run_dist_saved, run_save, run_table, run_table_saved, status, write_all,
 };
 pub use line::{Line, LineFault, Tool, line_status, read_words};
 use std::process::ExitCode;
 
 fn main(rt: HostRuntime) -> ExitCode {
-    ExitCode::from(system::run(&rt, rt.stdout(), rt.stderr()))
+    ExitCode::from(system::run(&rt, rt.stdin(), rt.stdout(), rt.stderr()))
 }

@@ -1,21 +1,24 @@
 //! The program, over whatever opens its files and takes its texts: words in, text, fault line and exit status out.
 
-ghost use Rattle.std.specs.Prelude.{◌≡◌, [], IfErr, IfOk, MatchResult, Result, map};
+ghost use Rattle.std.specs.Prelude.{◌≡◌, ◌↔◌, [], IfErr, IfOk, IsTrue, MatchResult, Result, map};
 ghost use Rattle.std.specs.String.{string_bytes};
 ghost use Rattle.ch_run.specs.Device.{CanCountOneMore};
 ghost use Rattle.ch_line.specs.Line.{IsAllowed};
 ghost use Rattle.chtab.specs.Line.{IsFaultOf, IsReadFrom, faults_of, line_status_of};
-ghost use Rattle.chtab.specs.Program.{AnswersFault, IsAnswer, IsEnd, IsFaultEnd, IsTold, answer_of, line_fault_text};
+ghost use Rattle.chtab.specs.Program.{AnswersFault, IsAnswer, IsEnd, IsFaultEnd, IsTold, IsUnheard, answer_of, line_fault_text};
 ghost use Rattle.chtab.specs.declared.program.ProgramFault.{ProgramFault as FaultOf};
 
 use crate::line::{Line, LineFault, line_status, read_words};
 use ch_line::{Files, run_line};
-use ch_run::{Gate, Output, RunFault, status, write_all};
+use ch_run::{Gate, Input, Output, RunFault, status, write_all};
 use std::alloc::{AllocError, Global};
 use std::thread::Threads;
 
 /// Room in bytes for the line of a run's fault. It is taken before all else, so that a fault can be told where memory has run out.
 const ROOM: usize = 128;
+
+/// The exit status where the reader of the output has gone away, which shells give a program that the signal of a closed pipe has ended.
+pub const CLOSED_PIPE: u8 = 141;
 
 /// Why the program ends with no answer.
 #[derive(Debug, Drop)]
@@ -25,31 +28,36 @@ pub enum ProgramFault {
 }
 
 /// Runs the program on the words after its name, or on why there are none, and gives its exit status: 0 where it is done, 1
-/// where a file was refused, 2 where the words were, 3 where the system refused memory, a file or a write.
+/// where a file or a request was refused, 2 where the words were, 3 where the system refused memory, a file or a write, and
+/// [`CLOSED_PIPE`].
 ///
-/// The text of an answer or of help goes to `output`, and the line of a fault to `errors`.
-pub fn run<R: Threads + Sync, F: Files, O: Output, E: Output, G: Gate>(
+/// The text of an answer or of help goes to `output`, and the line of a fault to `errors`: none where the reader of the output has
+/// gone away. The requests are read where the words ask that they be answered.
+pub fn run<R: Threads + Sync, F: Files, J: Input, O: Output, E: Output, G: Gate>(
     rt: &R,
     alloc: Global,
     files: &F,
+    requests: &mut J,
     output: &mut O,
     errors: &mut E,
     words: Result<Vec<String>, LineFault>,
     gate: &G,
 ) -> u8
+    requires requests { CanCountOneMore (J.failed requests.old) }
     requires output_failures { CanCountOneMore (O.failed output.old) }
     requires output_zeros { CanCountOneMore (O.idle output.old) }
     requires error_failures { CanCountOneMore (E.failed errors.old) }
     requires error_zeros { CanCountOneMore (E.idle errors.old) }
     ensures { (answer : Result Unit FaultOf)
         × MatchResult words
-        (λ list. IsAnswer F.Input.left F.Input.failed (F.known files.now) O.taken O.failed O.idle (map string_bytes list.items) output.old output.new answer)
-        (λ fault. AnswersFault O.taken O.failed O.idle fault output.old output.new answer)
-        × IsEnd E.taken E.failed E.idle answer errors.old errors.new result }
+        (λ list. IsAnswer F.Input.left F.Input.failed (F.known files.now) J.left J.failed O.taken O.failed O.idle
+        (map string_bytes list.items) requests.old requests.new output.old output.new answer)
+        (λ fault. (requests.new ≡ requests.old) × AnswersFault O.taken O.failed O.idle fault output.old output.new answer)
+        × IsEnd E.taken E.failed E.idle (O.closed output.new) answer errors.old errors.new result }
 {
     let room = room_of(alloc);
-    let answer = answer_to(rt, alloc, files, output, words, gate);
-    end(errors, room, &answer)
+    let answer = answer_to(rt, alloc, files, requests, output, words, gate);
+    end(errors, room, &answer, output.is_closed())
 }
 
 /// Room for the line of a fault, where there is memory for it.
@@ -63,41 +71,47 @@ fn room_of(alloc: Global) -> String
 }
 
 /// Does what the words say, or answers why there are none.
-fn answer_to<R: Threads + Sync, F: Files, O: Output, G: Gate>(
+fn answer_to<R: Threads + Sync, F: Files, J: Input, O: Output, G: Gate>(
     rt: &R,
     alloc: Global,
     files: &F,
+    requests: &mut J,
     output: &mut O,
     words: Result<Vec<String>, LineFault>,
     gate: &G,
 ) -> Result<(), ProgramFault>
+    requires requests { CanCountOneMore (J.failed requests.old) }
     requires failures { CanCountOneMore (O.failed output.old) }
     requires zeros { CanCountOneMore (O.idle output.old) }
     ensures { MatchResult words
-        (λ list. IsAnswer F.Input.left F.Input.failed (F.known files.now) O.taken O.failed O.idle (map string_bytes list.items) output.old output.new result)
-        (λ fault. AnswersFault O.taken O.failed O.idle fault output.old output.new result) }
+        (λ list. IsAnswer F.Input.left F.Input.failed (F.known files.now) J.left J.failed O.taken O.failed O.idle
+        (map string_bytes list.items) requests.old requests.new output.old output.new result)
+        (λ fault. (requests.new ≡ requests.old) × AnswersFault O.taken O.failed O.idle fault output.old output.new result) }
 {
     match words {
-        Ok(words) => answer_words(rt, alloc, files, output, &words, gate),
+        Ok(words) => answer_words(rt, alloc, files, requests, output, &words, gate),
         Err(fault) => answer_fault(output, fault),
     }
 }
 
 /// Does what the words say.
-fn answer_words<R: Threads + Sync, F: Files, O: Output, G: Gate>(
+fn answer_words<R: Threads + Sync, F: Files, J: Input, O: Output, G: Gate>(
     rt: &R,
     alloc: Global,
     files: &F,
+    requests: &mut J,
     output: &mut O,
     words: &[String],
     gate: &G,
 ) -> Result<(), ProgramFault>
+    requires requests { CanCountOneMore (J.failed requests.old) }
     requires failures { CanCountOneMore (O.failed output.old) }
     requires zeros { CanCountOneMore (O.idle output.old) }
-    ensures { IsAnswer F.Input.left F.Input.failed (F.known files.now) O.taken O.failed O.idle (map string_bytes words.now) output.old output.new result }
+    ensures { IsAnswer F.Input.left F.Input.failed (F.known files.now) J.left J.failed O.taken O.failed O.idle
+        (map string_bytes words.now) requests.old requests.new output.old output.new result }
 {
     match line_of(alloc, words) {
-        Ok(line) => program_answer(run_line(rt, alloc, files, output, &line, gate)),
+        Ok(line) => program_answer(run_line(rt, alloc, files, requests, output, &line, gate)),
         Err(fault) => answer_fault(output, fault),
     }
 }
@@ -148,17 +162,30 @@ fn answer_fault<O: Output>(output: &mut O, fault: LineFault) -> Result<(), Progr
     }
 }
 
-/// Tells the fault of an answer, if it has one, and gives the exit status.
-fn end<E: Output>(errors: &mut E, room: String, answer: &Result<(), ProgramFault>) -> u8
+/// Tells the fault of an answer, if it has one and the output is not closed to it, and gives the exit status.
+fn end<E: Output>(
+    errors: &mut E,
+    room: String,
+    answer: &Result<(), ProgramFault>,
+    is_closed: bool,
+) -> u8
     requires failures { CanCountOneMore (E.failed errors.old) }
     requires zeros { CanCountOneMore (E.idle errors.old) }
     requires room { string_bytes room ≡ [] }
-    ensures { IsEnd E.taken E.failed E.idle answer.now errors.old errors.new result }
+    ensures { IsEnd E.taken E.failed E.idle is_closed answer.now errors.old errors.new result }
 {
     match answer {
         Ok(()) => 0,
+        Err(fault) if is_unheard(fault, is_closed) => CLOSED_PIPE,
         Err(fault) => tell_fault(errors, room, fault),
     }
+}
+
+/// Whether a write was refused since the reader of the output has gone away.
+fn is_unheard(fault: &ProgramFault, is_closed: bool) -> bool
+    ensures { IsTrue result ↔ IsUnheard is_closed fault.now }
+{
+    is_closed && matches!(fault, ProgramFault::Run(RunFault::Write(_)))
 }
 
 /// Tells a fault, in this room, and gives the exit status. Where there is no memory for its line, that is the fault told.

@@ -6,7 +6,7 @@ use crate::line::{LineFault, refused};
 use crate::program;
 use ch_line::{Files, OpenFault};
 use ch_run::{Open, ReaderInput, WriterOutput};
-use std::io::{ErrorKind, Write};
+use std::io::{ErrorKind, Read, Write};
 use std::rt::Env;
 use std::thread::Threads;
 use std::{env, fs, rt};
@@ -40,10 +40,11 @@ fn words_of<R: Env + AllocGlobal>(rt: &R) -> Result<Vec<String>, LineFault> {
     }
 }
 
-/// Runs the program over the system's words and files and these two streams, and gives its exit status.
-pub fn run<R, O, E>(rt: &R, output: O, errors: E) -> u8
+/// Runs the program over the system's words and files and these three streams, and gives its exit status.
+pub fn run<R, J, O, E>(rt: &R, requests: J, output: O, errors: E) -> u8
 where
     R: Env + rt::Files + Threads + Sync + AllocGlobal,
+    J: Read + Drop,
     O: Write + Drop,
     E: Write + Drop,
 {
@@ -51,6 +52,7 @@ where
         rt,
         rt.alloc(),
         &SystemFiles { rt },
+        &mut ReaderInput::new(requests),
         &mut WriterOutput::new(output),
         &mut WriterOutput::new(errors),
         words_of(rt),

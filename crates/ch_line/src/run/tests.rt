@@ -4,7 +4,7 @@ ghost use Rattle.ch_line.specs.Line.{IsAllowed, file_names};
 
 use super::*;
 use crate::files::{MemoryFile, MemoryFiles};
-use ch_run::{MemoryOutput, Open, Options, OrderBy, Plan};
+use ch_run::{MemoryInput, MemoryOutput, Open, Options, OrderBy, Plan, read_all};
 use std::alloc::AllocError;
 use std::process::Abort;
 use std::test::Fail;
@@ -38,6 +38,11 @@ const SAVED: &[u8] = b"p ch 3 2\no 1\no 2\no 3\nl 1 2 4 1 0\nl 2 3 5 1 0\n";
 const ROUTES: &[u8] = b"d 1 3 9\nr 2\na 1 2 4\na 2 3 5\nd 3 1 -\n";
 
 const TABLE: &[u8] = b"t 1 9 4\nt 3 0 -\n";
+
+/// The same queries, lists and table as requests, and their answers.
+const REQUESTS: &[u8] = b"q 1 3\nq 3 1\nt 2 2\ns 1\ns 3\ns 3\ns 2\n";
+
+const ANSWERS: &[u8] = b"d 1 3 9\nr 2\na 1 2 4\na 2 3 5\nd 3 1 -\nt 1 9 4\nt 3 0 -\n";
 
 /// The texts in memory of their own.
 fn strings(alloc: Global, texts: &[&str]) -> Result<Vec<String>, AllocError>
@@ -79,7 +84,7 @@ fn line_of(
     })
 }
 
-/// Expects this answer of a line's run over these files, and that it wrote this text.
+/// Expects this answer of a line's run over these files, that it wrote this text, and that only a run that answers requests read them.
 fn expect<R: Threads + Abort + Sync>(
     rt: &R,
     alloc: Global,
@@ -92,9 +97,14 @@ fn expect<R: Threads + Abort + Sync>(
 {
     let mut output = MemoryOutput::new(alloc, 256, 256)?;
     let files = MemoryFiles::new(files, 7);
-    let result = run_line(rt, alloc, &files, &mut output, line, &Open);
+    let mut requests = MemoryInput::new(REQUESTS, 7);
+    let result = run_line(rt, alloc, &files, &mut requests, &mut output, line, &Open);
     assert_eq!(rt; result, answer);
     assert_eq!(rt; output.bytes(), text);
+    let left = read_all(alloc, &mut requests)?;
+    let are_read = line.tool == Tool::Ask && answer.is_ok();
+    let expected = if are_read { b"".as_slice() } else { REQUESTS };
+    assert_eq!(rt; left.as_slice(), expected);
     Ok(())
 }
 
@@ -152,6 +162,17 @@ fn hierarchies_are_saved(rt: HostRuntime) -> Result<(), Fail> {
     let alloc = rt.alloc();
     let line = line_of(alloc, Tool::Save, &["line.gr"], None)?;
     expect_line(&rt, alloc, &line, &[(Which::Graph, "line.gr")], SAVED)
+}
+
+#[test]
+fn requests_are_answered(rt: HostRuntime) -> Result<(), Fail> {
+    let alloc = rt.alloc();
+    let graph = (Which::Graph, "line.gr");
+    let line = line_of(alloc, Tool::Ask, &["line.gr"], None)?;
+    expect_line(&rt, alloc, &line, &[graph], ANSWERS)?;
+    let saved = (Which::Saved, "line.ch");
+    let line = line_of(alloc, Tool::Ask, &["line.gr"], Some("line.ch"))?;
+    expect_line(&rt, alloc, &line, &[graph, saved], ANSWERS)
 }
 
 /// All files are opened before one is read.

@@ -1,12 +1,14 @@
 //! Devices over the readers and writers of `std`, as files and standard output, which don't tell
 //! their bytes.
 
-ghost use Rattle.std.specs.Prelude.{◌≡◌, ◌+◌, ◌≤◌, None, IfOk, length, take};
+ghost use Rattle.std.specs.Prelude.{◌≡◌, ◌+◌, ◌≤◌, ◌↔◌, false, None, IfOk, length, take};
 ghost use Rattle.std.specs.Io.KnownBytes.{Appends, Keeps, ReadConsumes, WriteAppends};
-ghost use Rattle.ch_run.specs.Device.{CanCountOneMore, idle_writes, failures_in};
+ghost use Rattle.std.specs.IoError.{error_kind};
+ghost use Rattle.std.specs.declared.io.ErrorKind.TheVariants.{BrokenPipe};
+ghost use Rattle.ch_run.specs.Device.{CanCountOneMore, ClosesAtFault, idle_writes, failures_in};
 
 use super::{DeviceFault, Input, Output};
-use std::io::{ErrorKind, Read, Write};
+use std::io::{self, ErrorKind, Read, Write};
 
 /// An input from a reader. An interrupted read is made again.
 #[derive(Drop)]
@@ -77,6 +79,7 @@ pub struct WriterOutput<D: Write + Drop> {
     writer: D,
     failures: u64,
     zeros: u64,
+    is_closed: bool,
 }
 
 impl<D: Write + Drop> WriterOutput<D> {
@@ -85,17 +88,39 @@ impl<D: Write + Drop> WriterOutput<D> {
         ensures writer { result.writer ≡ writer }
         ensures failed { ⟦<WriterOutput<D> as Output>⟧.failed result ≡ 0 }
         ensures idle { ⟦<WriterOutput<D> as Output>⟧.idle result ≡ 0 }
+        ensures closed { ⟦<WriterOutput<D> as Output>⟧.closed result ≡ false }
     {
         WriterOutput {
             writer,
             failures: 0,
             zeros: 0,
+            is_closed: false,
         }
     }
 }
 
+/// Why a write or a flush failed.
+#[derive(Clone, Copy, Debug, PartialEq, Eq)]
+enum WriteFault {
+    /// No one reads what is written any more.
+    Closed,
+    /// Any other fault.
+    Refused,
+}
+
+/// The fault that an error of a writer tells.
+fn write_fault(error: &io::Error) -> WriteFault
+    ensures { (result ≡ WriteFault.Closed) ↔ (error_kind error.now ≡ BrokenPipe) }
+{
+    if error.kind() == ErrorKind::BrokenPipe {
+        WriteFault::Closed
+    } else {
+        WriteFault::Refused
+    }
+}
+
 /// Writes once, and again after each write that was interrupted.
-fn write_uninterrupted<D: Write>(writer: &mut D, bytes: &[u8]) -> Result<usize, DeviceFault>
+fn write_uninterrupted<D: Write>(writer: &mut D, bytes: &[u8]) -> Result<usize, WriteFault>
     ensures fits { IfOk result (λ count. count ≤ length bytes.now) }
     ensures taken { WriteAppends (D.contents writer.old) (D.contents writer.new) result bytes.now }
 {
@@ -103,28 +128,28 @@ fn write_uninterrupted<D: Write>(writer: &mut D, bytes: &[u8]) -> Result<usize, 
         match writer.write(bytes) {
             Ok(count) => return Ok(count),
             Err(error) if error.kind() == ErrorKind::Interrupted => {}
-            Err(_) => break,
+            Err(error) => return Err(write_fault(&error)),
         }
     }
-    Err(DeviceFault)
+    Err(WriteFault::Refused)
 }
 
 /// Flushes once, and again after each flush that was interrupted.
-fn flush_uninterrupted<D: Write>(writer: &mut D) -> Result<(), DeviceFault>
+fn flush_uninterrupted<D: Write>(writer: &mut D) -> Result<(), WriteFault>
     ensures { Keeps (D.contents writer.old) (D.contents writer.new) }
 {
     for _ in 0..u64::MAX {
         match writer.flush() {
             Ok(()) => return Ok(()),
             Err(error) if error.kind() == ErrorKind::Interrupted => {}
-            Err(_) => break,
+            Err(error) => return Err(write_fault(&error)),
         }
     }
-    Err(DeviceFault)
+    Err(WriteFault::Refused)
 }
 
 /// Writes once and then flushes. Where the flush fails, no byte of the write is counted.
-fn write_and_flush<D: Write>(writer: &mut D, bytes: &[u8]) -> Result<usize, DeviceFault>
+fn write_and_flush<D: Write>(writer: &mut D, bytes: &[u8]) -> Result<usize, WriteFault>
     ensures fits { IfOk result (λ count. count ≤ length bytes.now) }
     ensures taken { IfOk result (λ count. Appends (D.contents writer.old) (D.contents writer.new) (take count bytes.now)) }
 {
@@ -140,6 +165,8 @@ impl<D: Write + Drop> Output for WriterOutput<D> {
 
     ghost taken = { λ _. None };
 
+    ghost closed = { λ d. d.is_closed };
+
     // What it took is what the writer tells that it took.
     fn write(&mut self, bytes: &[u8]) -> Result<usize, DeviceFault>
         requires failures { CanCountOneMore self.old.failures }
@@ -148,14 +175,23 @@ impl<D: Write + Drop> Output for WriterOutput<D> {
         ensures failures { self.new.failures ≡ self.old.failures + failures_in result }
         ensures zeros { self.new.zeros ≡ self.old.zeros + idle_writes result bytes.now }
         ensures taken { IfOk result (λ count. Appends (D.contents self.old.writer) (D.contents self.new.writer) (take count bytes.now)) }
+        ensures closes { ClosesAtFault self.old.is_closed self.new.is_closed result }
     {
-        let answer = write_and_flush(&mut self.writer, bytes);
-        match answer {
-            Ok(0) if !bytes.is_empty() => self.zeros += 1,
-            Ok(_) => {}
-            Err(_) => self.failures += 1,
+        match write_and_flush(&mut self.writer, bytes) {
+            Ok(count) => {
+                if count == 0 && !bytes.is_empty() {
+                    self.zeros += 1;
+                }
+                Ok(count)
+            }
+            Err(fault) => {
+                self.failures += 1;
+                if fault == WriteFault::Closed {
+                    self.is_closed = true;
+                }
+                Err(DeviceFault)
+            }
         }
-        answer
     }
 
     fn failures(&self) -> u64 {
@@ -164,5 +200,9 @@ impl<D: Write + Drop> Output for WriterOutput<D> {
 
     fn zeros(&self) -> u64 {
         self.zeros
+    }
+
+    fn is_closed(&self) -> bool {
+        self.is_closed
     }
 }

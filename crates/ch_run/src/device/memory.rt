@@ -1,7 +1,7 @@
 //! Devices over memory, which tell their bytes and fail where they are told to: for tests.
 
-ghost use Rattle.std.specs.Prelude.{◌≡◌, ◌+◌, ◌<◌, ◌≤◌, ◌↔◌, [], Some, IfOk, IsErr, IsTrue, OnErr, OnOk, length};
-ghost use Rattle.ch_run.specs.Device.{CanCountOneMore, GivesBytes, TakesBytes, idle_writes, failures_in, turns_after};
+ghost use Rattle.std.specs.Prelude.{◌≡◌, ◌+◌, ◌<◌, ◌≤◌, ◌↔◌, ◌||◌, [], true, false, Some, IfOk, IsErr, IsTrue, OnErr, OnOk, length};
+ghost use Rattle.ch_run.specs.Device.{CanCountOneMore, ClosesAtFault, GivesBytes, TakesBytes, idle_writes, failures_in, turns_after};
 
 use super::{DeviceFault, Input, Output};
 use std::alloc::{AllocError, Global};
@@ -115,6 +115,8 @@ pub struct MemoryOutput {
     pause: Turn,
     failures: u64,
     zeros: u64,
+    closes: bool,
+    is_closed: bool,
 }
 
 impl MemoryOutput {
@@ -124,6 +126,7 @@ impl MemoryOutput {
         ensures taken { IfOk result (λ output. ⟦<MemoryOutput as Output>⟧.taken output ≡ Some []) }
         ensures failed { IfOk result (λ output. ⟦<MemoryOutput as Output>⟧.failed output ≡ 0) }
         ensures idle { IfOk result (λ output. ⟦<MemoryOutput as Output>⟧.idle output ≡ 0) }
+        ensures closed { IfOk result (λ output. ⟦<MemoryOutput as Output>⟧.closed output ≡ false) }
     {
         Ok(MemoryOutput {
             taken: Vec::with_capacity(alloc, room)?,
@@ -132,6 +135,8 @@ impl MemoryOutput {
             pause: Turn::NEVER,
             failures: 0,
             zeros: 0,
+            closes: false,
+            is_closed: false,
         })
     }
 
@@ -141,6 +146,7 @@ impl MemoryOutput {
         ensures taken { ⟦<MemoryOutput as Output>⟧.taken result ≡ ⟦<MemoryOutput as Output>⟧.taken self }
         ensures failed { ⟦<MemoryOutput as Output>⟧.failed result ≡ ⟦<MemoryOutput as Output>⟧.failed self }
         ensures idle { ⟦<MemoryOutput as Output>⟧.idle result ≡ ⟦<MemoryOutput as Output>⟧.idle self }
+        ensures closed { ⟦<MemoryOutput as Output>⟧.closed result ≡ ⟦<MemoryOutput as Output>⟧.closed self }
     {
         self.fault = Turn {
             before: Some(writes),
@@ -154,10 +160,24 @@ impl MemoryOutput {
         ensures taken { ⟦<MemoryOutput as Output>⟧.taken result ≡ ⟦<MemoryOutput as Output>⟧.taken self }
         ensures failed { ⟦<MemoryOutput as Output>⟧.failed result ≡ ⟦<MemoryOutput as Output>⟧.failed self }
         ensures idle { ⟦<MemoryOutput as Output>⟧.idle result ≡ ⟦<MemoryOutput as Output>⟧.idle self }
+        ensures closed { ⟦<MemoryOutput as Output>⟧.closed result ≡ ⟦<MemoryOutput as Output>⟧.closed self }
     {
         self.pause = Turn {
             before: Some(writes),
         };
+        self
+    }
+
+    /// The same output, whose write that fails closes it.
+    pub fn closing(mut self) -> Self
+        ensures closes { result.closes ≡ true }
+        ensures turn { result.fault.before ≡ self.fault.before }
+        ensures taken { ⟦<MemoryOutput as Output>⟧.taken result ≡ ⟦<MemoryOutput as Output>⟧.taken self }
+        ensures failed { ⟦<MemoryOutput as Output>⟧.failed result ≡ ⟦<MemoryOutput as Output>⟧.failed self }
+        ensures idle { ⟦<MemoryOutput as Output>⟧.idle result ≡ ⟦<MemoryOutput as Output>⟧.idle self }
+        ensures closed { ⟦<MemoryOutput as Output>⟧.closed result ≡ ⟦<MemoryOutput as Output>⟧.closed self }
+    {
+        self.closes = true;
         self
     }
 
@@ -176,7 +196,10 @@ impl Output for MemoryOutput {
 
     ghost taken = { λ d. Some d.taken.items };
 
-    // It fails at its turn, and at no other write; and at the turn of its pause it takes no byte.
+    ghost closed = { λ d. d.is_closed };
+
+    // It fails at its turn, and at no other write, and is closed then where it was told to close; and at the turn of its
+    // pause it takes no byte.
     fn write(&mut self, bytes: &[u8]) -> Result<usize, DeviceFault>
         requires failures { CanCountOneMore self.old.failures }
         requires zeros { CanCountOneMore self.old.zeros }
@@ -189,9 +212,13 @@ impl Output for MemoryOutput {
         ensures pause { self.old.pause.before ≡ Some 0 → IfOk result (λ count. count ≡ 0) }
         ensures pauses { OnOk result (self.new.pause.before ≡ turns_after self.old.pause.before) }
         ensures no_pause { OnErr result (self.new.pause.before ≡ self.old.pause.before) }
+        ensures closes { ClosesAtFault self.old.is_closed self.new.is_closed result }
+        ensures closing { OnErr result (self.new.is_closed ≡ self.old.is_closed || self.old.closes) }
+        ensures told { self.new.closes ≡ self.old.closes }
     {
         if self.fault.has_come() {
             self.failures += 1;
+            self.is_closed = self.is_closed || self.closes;
             return Err(DeviceFault);
         }
         let room = self.taken.capacity() - self.taken.len();
@@ -215,5 +242,9 @@ impl Output for MemoryOutput {
 
     fn zeros(&self) -> u64 {
         self.zeros
+    }
+
+    fn is_closed(&self) -> bool {
+        self.is_closed
     }
 }

@@ -162,9 +162,11 @@ fn an_interrupted_call_is_made_again(rt: HostRuntime) -> Result<(), Fail> {
     Ok(())
 }
 
-/// A writer that takes all bytes, and whose flushes fail.
+/// A writer that takes all bytes, and whose flushes fail with an error of this kind.
 #[derive(Drop)]
-struct Unflushed;
+struct Unflushed {
+    kind: ErrorKind,
+}
 
 impl Write for Unflushed {
     fn write(&mut self, bytes: &[u8]) -> io::Result<usize> {
@@ -172,51 +174,92 @@ impl Write for Unflushed {
     }
 
     fn flush(&mut self) -> io::Result<()> {
-        Err(io::Error::from(ErrorKind::Other))
+        Err(io::Error::from(self.kind))
     }
 }
 
 #[test]
 fn bytes_of_a_write_that_is_not_flushed_are_not_counted(rt: HostRuntime) {
-    let mut output = WriterOutput::new(Unflushed);
+    let mut output = WriterOutput::new(Unflushed {
+        kind: ErrorKind::Other,
+    });
     assert_eq!(rt; write_all(&mut output, TEXT), Err(0));
     assert_eq!(rt; (output.failures(), output.zeros()), (1, 0));
 }
 
-/// A reader and a writer that fail at every call.
+/// A reader and a writer that fail at every call, with an error of this kind.
 #[derive(Drop)]
-struct Broken;
+struct Broken {
+    kind: ErrorKind,
+}
 
 impl Read for Broken {
     fn read(&mut self, _buffer: &mut [u8]) -> io::Result<usize> {
-        Err(io::Error::from(ErrorKind::Other))
+        Err(io::Error::from(self.kind))
     }
 }
 
 impl Write for Broken {
     fn write(&mut self, _bytes: &[u8]) -> io::Result<usize> {
-        Err(io::Error::from(ErrorKind::Other))
+        Err(io::Error::from(self.kind))
     }
 
     fn flush(&mut self) -> io::Result<()> {
-        Err(io::Error::from(ErrorKind::Other))
+        Err(io::Error::from(self.kind))
     }
 }
 
 #[test]
 fn a_call_that_fails_is_not_made_again(rt: HostRuntime) -> Result<(), Fail> {
-    let mut input = ReaderInput::new(Broken);
+    let kind = ErrorKind::Other;
+    let mut input = ReaderInput::new(Broken { kind });
     assert_eq!(rt;
         read_all(rt.alloc(), &mut input).err(),
         Some(ReadAllFault::Device)
     );
     assert_eq!(rt; input.failures(), 1);
 
-    let mut output = WriterOutput::new(Broken);
+    let mut output = WriterOutput::new(Broken { kind });
     assert_eq!(rt; write_all(&mut output, TEXT), Err(0));
     assert_eq!(rt; (output.failures(), output.zeros()), (1, 0));
 
     let text = format!(in rt.alloc(); "{}", DeviceFault)?;
     assert_eq!(rt; text.as_str(), "a device failed");
+    Ok(())
+}
+
+#[test]
+fn a_write_into_a_broken_pipe_closes_the_output(rt: HostRuntime) {
+    for (kind, closes) in [(ErrorKind::BrokenPipe, true), (ErrorKind::Other, false)] {
+        let mut unwritten = WriterOutput::new(Broken { kind });
+        assert!(rt; !unwritten.is_closed());
+        assert_eq!(rt; write_all(&mut unwritten, TEXT), Err(0));
+        assert_eq!(rt; unwritten.is_closed(), closes);
+
+        let mut unflushed = WriterOutput::new(Unflushed { kind });
+        assert_eq!(rt; write_all(&mut unflushed, TEXT), Err(0));
+        assert_eq!(rt; unflushed.is_closed(), closes);
+    }
+}
+
+#[test]
+fn an_output_over_memory_closes_where_it_is_told_to(rt: HostRuntime) -> Result<(), Fail> {
+    let mut output = MemoryOutput::new(rt.alloc(), 100, 3)?
+        .failing_after(1)
+        .closing();
+    assert_eq!(rt; output.write(TEXT), Ok(3));
+    assert!(rt; !output.is_closed());
+    assert_eq!(rt; output.write(TEXT), Err(DeviceFault));
+    assert!(rt; output.is_closed());
+
+    let mut failing = MemoryOutput::new(rt.alloc(), 100, 3)?.failing_after(1);
+    assert_eq!(rt; write_all(&mut failing, TEXT), Err(3));
+    assert!(rt; !failing.is_closed());
+
+    let mut idle = MemoryOutput::new(rt.alloc(), 100, 3)?
+        .idle_after(1)
+        .closing();
+    assert_eq!(rt; write_all(&mut idle, TEXT), Err(3));
+    assert!(rt; !idle.is_closed());
     Ok(())
 }

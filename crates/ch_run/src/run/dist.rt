@@ -110,7 +110,7 @@ fn text_of<R: Threads + Sync, G: Gate>(
 
 /// The order of the hierarchy by which queries are answered: for routes the one that is wanted, and for distances, which
 /// are the same in each order, the one that is quick.
-fn order_for(options: &Options) -> OrderBy
+pub(super) fn order_for(options: &Options) -> OrderBy
     ensures { options.now.routes ≡ true → result ≡ options.now.order }
 {
     if options.routes {

@@ -107,5 +107,14 @@ fn table_of<R: Threads + Sync, G: Gate>(
     ensures { IfOk result (λ text. IsTableText graph.now options.now.within lists.now.sources.items lists.now.targets.items text.items) }
 {
     let hierarchy = build_by(rt, alloc, graph, options.hops, OrderBy::Depth, plan, gate)?;
-    table_by(rt, alloc, &hierarchy, lists, options.within, plan, gate)
+    table_by(
+        rt,
+        alloc,
+        &hierarchy,
+        &lists.sources,
+        &lists.targets,
+        options.within,
+        plan,
+        gate,
+    )
 }

@@ -11,6 +11,7 @@ use std::process::Abort;
 use std::test::Fail;
 use std::thread::Threads;
 
+mod asking;
 mod calling;
 mod devices;
 mod distances;
@@ -85,8 +86,8 @@ const TABLE: &[u8] = b"t 1 9 4\nt 1 9 4\nt 3 0 -\n";
 /// Five nodes, each with an arc to the next.
 const RING: &[u8] = b"p sp 5 5\na 1 2 1\na 2 3 1\na 3 4 1\na 4 5 1\na 5 1 1\n";
 
-/// Runs of each kind, by options with routes, and their texts.
-const EACH_RUN: [(Files<'static>, &[u8]); 5] = [
+/// Runs of each kind, by options with routes, and their texts. Each of those over requests has one, which is whole at the end.
+const EACH_RUN: [(Files<'static>, &[u8]); 7] = [
     (
         Files {
             graph: STAR,
@@ -124,6 +125,22 @@ const EACH_RUN: [(Files<'static>, &[u8]); 5] = [
             graph: LINE,
             saved: Some(LINE_SAVED),
             asked: Asked::Table(SOURCES, TARGETS),
+        },
+        TABLE,
+    ),
+    (
+        Files {
+            graph: STAR,
+            saved: None,
+            asked: Asked::Requests(b"q 3 4"),
+        },
+        STAR_ROUTE,
+    ),
+    (
+        Files {
+            graph: LINE,
+            saved: Some(LINE_SAVED),
+            asked: Asked::Requests(b"t 3 2\ns 1\ns 1\ns 3\ns 3\ns 2"),
         },
         TABLE,
     ),

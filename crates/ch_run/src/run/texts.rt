@@ -1,22 +1,21 @@
 //! The texts of runs, made whole before the first write.
-ghost use Rattle.std.specs.Prelude.{◌≡◌, ◌≤◌, length, IfOk};
+ghost use Rattle.std.specs.Prelude.{◌≡◌, ◌≤◌, length, IfOk, OnOk};
 ghost use Rattle.std.specs.List.{AllZip};
 ghost use Rattle.ch_graph.specs.declared.limits.TheConstants.{MOST_QUERIES};
 ghost use Rattle.ch_graph.specs.Graph.{Network, IsWithinLimits};
 ghost use Rattle.ch_hierarchy.specs.Hierarchy.{nodes_of};
 ghost use Rattle.ch_hierarchy.specs.Kept.{IsKept};
-ghost use Rattle.ch_query.specs.Answers.{AreQueries};
+ghost use Rattle.ch_query.specs.Answers.{AreQueries, IsReply};
 ghost use Rattle.ch_query.specs.Distance.{IsKeptForSome};
 ghost use Rattle.ch_run.specs.Text.{AnswersShortly, IsDistanceText, IsTextBy};
 ghost use Rattle.ch_run.specs.TableText.{IsTableText};
 ghost use Rattle.ch_run.specs.Lists.{AreLists};
 
-use super::lists::Lists;
 use crate::plan::{Gate, Plan};
 use crate::text::{answers_text, table_text};
 use ch_contract::Hierarchy;
 use ch_graph::{Graph, plain_distance};
-use ch_query::{Answer, answer_all};
+use ch_query::{Answer, Scratch, answer_all, answer_all_in};
 use ch_table::table;
 use std::alloc::{AllocError, Global};
 use std::thread::Threads;
@@ -39,6 +38,53 @@ pub(crate) fn answers_by<R: Threads + Sync, G: Gate>(
 {
     let answers = answer_all(rt, alloc, hierarchy, queries, routes, plan, gate)?;
     answers_text(alloc, &answers)
+}
+
+/// As [`answers_by`], in a scratch that the caller has, where the plan gives all queries to one worker.
+pub(crate) fn answers_in<R: Threads + Sync, G: Gate>(
+    rt: &R,
+    alloc: Global,
+    hierarchy: &Hierarchy,
+    scratch: &mut Scratch,
+    queries: &[(u32, u32)],
+    routes: bool,
+    plan: &Plan,
+    gate: &G,
+) -> Result<Vec<u8>, AllocError>
+    requires kept { IsKeptForSome hierarchy.now }
+    requires scratch { scratch.old ≡ nodes_of hierarchy.now }
+    requires queries { AreQueries (nodes_of hierarchy.now) queries.now }
+    requires count { length queries.now ≤ MOST_QUERIES }
+    ensures text { IfOk result (λ text. (g : Network) → IsWithinLimits g → IsKept g hierarchy.now →
+        IsTextBy routes g (λ H. H ≡ hierarchy.now) queries.now text.items) }
+    ensures scratch { OnOk result (scratch.new ≡ scratch.old) }
+{
+    let answers = replies_in(rt, alloc, hierarchy, scratch, queries, routes, plan, gate)?;
+    answers_text(alloc, &answers)
+}
+
+/// The answers to the queries, in the scratch where they are one worker's.
+fn replies_in<R: Threads + Sync, G: Gate>(
+    rt: &R,
+    alloc: Global,
+    hierarchy: &Hierarchy,
+    scratch: &mut Scratch,
+    queries: &[(u32, u32)],
+    routes: bool,
+    plan: &Plan,
+    gate: &G,
+) -> Result<Vec<Answer>, AllocError>
+    requires kept { IsKeptForSome hierarchy.now }
+    requires scratch { scratch.old ≡ nodes_of hierarchy.now }
+    requires queries { AreQueries (nodes_of hierarchy.now) queries.now }
+    requires count { length queries.now ≤ MOST_QUERIES }
+    ensures answers { IfOk result (λ answers. AllZip (IsReply hierarchy.now routes) queries.now answers.items) }
+    ensures scratch { OnOk result (scratch.new ≡ scratch.old) }
+{
+    if plan.workers() == 1 || queries.len() <= plan.piece() as usize {
+        return answer_all_in(alloc, hierarchy, scratch, queries, routes, plan, gate);
+    }
+    answer_all(rt, alloc, hierarchy, queries, routes, plan, gate)
 }
 
 /// The text that answers the queries by rounds over all arcs, without a hierarchy and without routes.
@@ -81,25 +127,17 @@ pub(crate) fn table_by<R: Threads + Sync, G: Gate>(
     rt: &R,
     alloc: Global,
     hierarchy: &Hierarchy,
-    lists: &Lists,
+    sources: &[u32],
+    targets: &[u32],
     within: Option<u64>,
     plan: &Plan,
     gate: &G,
 ) -> Result<Vec<u8>, AllocError>
     requires kept { IsKeptForSome hierarchy.now }
-    requires lists { AreLists (nodes_of hierarchy.now) lists.now.sources.items lists.now.targets.items }
+    requires lists { AreLists (nodes_of hierarchy.now) sources.now targets.now }
     ensures { IfOk result (λ text. (g : Network) → IsWithinLimits g → IsKept g hierarchy.now →
-        IsTableText g within lists.now.sources.items lists.now.targets.items text.items) }
+        IsTableText g within sources.now targets.now text.items) }
 {
-    let cells = table(
-        rt,
-        alloc,
-        hierarchy,
-        &lists.sources,
-        &lists.targets,
-        within,
-        plan,
-        gate,
-    )?;
-    table_text(alloc, &lists.sources, &cells)
+    let cells = table(rt, alloc, hierarchy, sources, targets, within, plan, gate)?;
+    table_text(alloc, sources, &cells)
 }

@@ -3,8 +3,8 @@
 ghost use Rattle.std.specs.Prelude.{◌≡◌, IfOk, codes, false, fold};
 ghost use Rattle.clap.specs.Words.{app_of, rule_of, with_rule};
 ghost use Rattle.clap.specs.declared.builder.command.Command.TheViews.{out-Command as fields_of};
-ghost use Rattle.ch_line.specs.declared.line.Tool.TheVariants.{Dist, Save, Table};
-ghost use Rattle.chtab.specs.Line.{chtab_form, file_rule, flag_rule, form_of, limit_rule, number_rule, number_rules, option_rule, saved_rule};
+ghost use Rattle.ch_line.specs.declared.line.Tool.TheVariants.{Ask, Dist, Save, Table};
+ghost use Rattle.chtab.specs.Line.{chtab_form, deep_rule, file_rule, flag_rule, form_of, limit_rule, number_rule, number_rules, option_rule, routes_rule, saved_rule, within_rule};
 
 use ch_run::{MOST_HOPS, MOST_WITHIN};
 use ch_work::limits::{MOST_PIECE, MOST_WORKERS};
@@ -81,6 +81,43 @@ fn with_numbers<'a>(alloc: Global, command: Command<'a>) -> Result<Command<'a>, 
     command.arg(workers)?.arg(piece)?.arg(hops)
 }
 
+/// Whether routes are written.
+fn routes<'a>(alloc: Global) -> Arg<'a>
+    ensures rule { rule_of result ≡ routes_rule }
+    ensures local { result.global ≡ false }
+{
+    flag(
+        alloc,
+        "routes",
+        "After each distance, write `r K` and K lines `a U V W`, the arcs of a shortest path in order \
+        [default: off]",
+    )
+}
+
+/// By which order routes are found.
+fn route_order<'a>(alloc: Global) -> Arg<'a>
+    ensures rule { rule_of result ≡ deep_rule }
+    ensures local { result.global ≡ false }
+{
+    flag(
+        alloc,
+        "deep",
+        "With --routes, build the hierarchy in the order of depth, which is quicker: of equally good routes \
+        another may be written. It changes nothing else [default: off]",
+    )
+}
+
+/// The limit of a table's distances.
+fn within<'a>(alloc: Global) -> Arg<'a>
+    ensures rule { rule_of result ≡ within_rule }
+    ensures local { result.global ≡ false }
+{
+    limit(alloc, "within", "R", MOST_WITHIN).help(
+        "In tables, write distances of at most R alone, from 0 to 1152921504606846976: cells above R are written as - \
+        [default: no limit]",
+    )
+}
+
 /// The file of a saved hierarchy.
 fn saved<'a>(alloc: Global) -> Arg<'a>
     ensures rule { rule_of result ≡ saved_rule }
@@ -118,24 +155,12 @@ fn dist_command<'a>(alloc: Global) -> Result<Command<'a>, AllocError>
         "Answer by rounds of relaxation over all arcs, without a hierarchy, and ignore --routes, --deep, \
         --saved, --workers, --piece and --hops [default: off]",
     );
-    let routes = flag(
-        alloc,
-        "routes",
-        "After each distance, write `r K` and K lines `a U V W`, the arcs of a shortest path in order \
-        [default: off]",
-    );
-    let deep = flag(
-        alloc,
-        "deep",
-        "With --routes, build the hierarchy in the order of depth, which is quicker: of equally good routes \
-        another may be written. It changes nothing else [default: off]",
-    );
     let command = Command::new(alloc, "dist")
         .about("For each query, writes `d S T X`: X is the distance from S to T, or - for no path")
         .after_help("Example: chtab dist --routes roads.gr pairs.p2p")
         .arg(plain)?
-        .arg(routes)?
-        .arg(deep)?
+        .arg(routes(alloc))?
+        .arg(route_order(alloc))?
         .arg(saved(alloc))?;
     with_numbers(alloc, command)?.arg(graph(alloc))?.arg(file(
         alloc,
@@ -149,10 +174,6 @@ fn table_command<'a>(alloc: Global) -> Result<Command<'a>, AllocError>
     ensures form { IfOk result (λ c. app_of c ≡ form_of Table) }
     ensures local { IfOk result (λ c. (fields_of c).has_globals ≡ false) }
 {
-    let within = limit(alloc, "within", "R", MOST_WITHIN).help(
-        "Write distances of at most R alone, from 0 to 1152921504606846976: cells above R are written as - \
-        [default: no limit]",
-    );
     let command = Command::new(alloc, "table")
         .about(
             "For each source, writes `t S X ..`: an X for each target, the distance from S to it, or - \
@@ -163,7 +184,7 @@ fn table_command<'a>(alloc: Global) -> Result<Command<'a>, AllocError>
             chtab table roads.gr depots.ss shops.ss\n  \
             chtab table --within 900000 roads.gr homes.ss doctors.ss",
         )
-        .arg(within)?
+        .arg(within(alloc))?
         .arg(saved(alloc))?;
     with_numbers(alloc, command)?
         .arg(graph(alloc))?
@@ -193,6 +214,24 @@ fn save_command<'a>(alloc: Global) -> Result<Command<'a>, AllocError>
     with_numbers(alloc, command)?.arg(graph(alloc))
 }
 
+/// What clap reads after `ask`.
+fn ask_command<'a>(alloc: Global) -> Result<Command<'a>, AllocError>
+    ensures form { IfOk result (λ c. app_of c ≡ form_of Ask) }
+    ensures local { IfOk result (λ c. (fields_of c).has_globals ≡ false) }
+{
+    let command = Command::new(alloc, "ask")
+        .about(
+            "Loads the graph once, and answers requests of standard input as they come: `q S T` as `dist` does, \
+            and `t K L`, then K lines `s V`, the sources, and L lines `s V`, the targets, as `table` does",
+        )
+        .after_help("Example: chtab ask --saved roads.ch roads.gr <requests.txt")
+        .arg(routes(alloc))?
+        .arg(route_order(alloc))?
+        .arg(within(alloc))?
+        .arg(saved(alloc))?;
+    with_numbers(alloc, command)?.arg(graph(alloc))
+}
+
 /// What clap reads: the words after the program's name.
 pub fn command<'a>(alloc: Global) -> Result<Command<'a>, AllocError>
     ensures { IfOk result (λ c. app_of c ≡ chtab_form) }
@@ -201,15 +240,17 @@ pub fn command<'a>(alloc: Global) -> Result<Command<'a>, AllocError>
         .bin_name("chtab")?
         .about("Exact distances on directed graphs")
         .after_help(
-            "See `chtab dist --help`, `chtab table --help` and `chtab save --help`. Examples:\n  \
+            "See `chtab dist --help`, `chtab table --help`, `chtab save --help` and `chtab ask --help`. Examples:\n  \
             chtab dist --routes roads.gr pairs.p2p\n  \
             chtab table roads.gr depots.ss shops.ss\n  \
-            chtab save --deep roads.gr >roads.ch",
+            chtab save --deep roads.gr >roads.ch\n  \
+            chtab ask --saved roads.ch roads.gr <requests.txt",
         )
         .no_binary_name(true)
         .subcommand_required(true)
         .disable_help_subcommand(true)
         .subcommand(dist_command(alloc)?)?
         .subcommand(table_command(alloc)?)?
-        .subcommand(save_command(alloc)?)
+        .subcommand(save_command(alloc)?)?
+        .subcommand(ask_command(alloc)?)
 }

@@ -53,7 +53,7 @@ fn files_of(alloc: Global, tool: Tool, matches: &ArgMatches<'_>) -> Result<Vec<S
             files.push(file_of(alloc, matches, "SOURCES")?)?;
             files.push(file_of(alloc, matches, "TARGETS")?)?;
         }
-        Tool::Save => {}
+        Tool::Save | Tool::Ask => {}
     }
     Ok(files)
 }
@@ -109,7 +109,7 @@ fn order_of(deep: bool) -> OrderBy
     }
 }
 
-/// The options of a tool. `dist` and `save` alone have flags.
+/// The options of a tool. `table` has no flags, and `save` and `ask` have not all.
 fn options_of(tool: Tool, matches: &ArgMatches<'_>) -> Result<Options, AllocError>
     ensures range { IfOk result (λ options. (1 ≤ options.hops) × (options.hops ≤ MOST_HOPS)) }
     ensures hops { IfOk result (λ options. Some options.hops ≡ number_in (rows_of (found_of matches.now)) (codes "hops")) }
@@ -119,10 +119,11 @@ fn options_of(tool: Tool, matches: &ArgMatches<'_>) -> Result<Options, AllocErro
 {
     let (plain, routes) = match tool {
         Tool::Dist => (flag_of(matches, "plain"), flag_of(matches, "routes")),
+        Tool::Ask => (false, flag_of(matches, "routes")),
         Tool::Table | Tool::Save => (false, false),
     };
     let order = match tool {
-        Tool::Dist | Tool::Save => order_of(flag_of(matches, "deep")),
+        Tool::Dist | Tool::Save | Tool::Ask => order_of(flag_of(matches, "deep")),
         Tool::Table => OrderBy::Difference,
     };
     Ok(Options {

@@ -172,7 +172,8 @@ fn is_saved(line: &Line, path: &str) -> bool {
 
 #[test]
 fn a_saved_hierarchy_is_named(rt: HostRuntime) {
-    let rows: [(&[&str], &str); 5] = [
+    let rows: [(&[&str], &str); 6] = [
+        (&["ask", "g", "--saved", "h"], "h"),
         (&["dist", "--saved", "h", "g", "q"], "h"),
         (&["dist", "g", "q", "--saved=g"], "g"),
         (&["dist", "--plain", "--saved", "h", "g", "q"], "h"),
@@ -225,6 +226,40 @@ fn save_reads_a_graph_the_order_and_the_numbers(rt: HostRuntime) {
             order,
             ..NONE_GIVEN
         };
+        assert_eq!(rt; line.options, options);
+        assert_eq!(rt; line.plan, plan);
+        assert!(rt; line.saved.is_none());
+    }
+}
+
+#[test]
+fn ask_reads_a_graph_and_every_option_of_its_own(rt: HostRuntime) {
+    let rows: [(&[&str], Options, Plan); 3] = [
+        (&["ask", "g"], NONE_GIVEN, usual_plan()),
+        (
+            &["ask", "--deep", "g", "--workers", "2", "--piece", "3"],
+            Options {
+                order: OrderBy::Depth,
+                ..NONE_GIVEN
+            },
+            Plan::new(2, 3, 64),
+        ),
+        (
+            &["ask", "--routes", "--within", "8", "--hops", "1", "g"],
+            Options {
+                routes: true,
+                within: Some(8),
+                hops: 1,
+                ..NONE_GIVEN
+            },
+            usual_plan(),
+        ),
+    ];
+    for (words, options, plan) in rows {
+        let line = read_words(rt.alloc(), words).expect(&rt, "a line");
+        assert_eq!(rt; line.tool, Tool::Ask);
+        assert_eq!(rt; line.files.len(), 1);
+        assert_eq!(rt; line.files[0].as_str(), "g");
         assert_eq!(rt; line.options, options);
         assert_eq!(rt; line.plan, plan);
         assert!(rt; line.saved.is_none());

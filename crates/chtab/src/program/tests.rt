@@ -3,11 +3,14 @@ ghost use Rattle.std.specs.Prelude.{◌≡◌};
 
 use super::*;
 use ch_line::{MemoryFile, MemoryFiles};
-use ch_run::{MemoryOutput, Open};
+use ch_run::{MemoryInput, MemoryOutput, Open};
 use std::process::Abort;
 use std::test::Fail;
 
 const SAVED: &[u8] = b"p ch 3 2\no 1\no 2\no 3\nl 1 2 4 1 0\nl 2 3 5 1 0\n";
+
+/// Requests on the graph of three nodes, and a faulty one after them.
+const REQUESTS: &[u8] = b"q 1 3\nt 1 2\ns 2\ns 3\ns 1\nq 1 4\n";
 
 /// A graph of three nodes in a line, a faulty one, queries, sources and targets, and the first graph's hierarchy.
 fn files() -> [MemoryFile<'static>; 6] {
@@ -53,7 +56,17 @@ fn status_of<R: Threads + Sync>(
     };
     let held = files();
     let files = MemoryFiles::new(&held, 7);
-    run(rt, alloc, &files, output, errors, words, &Open)
+    let mut requests = MemoryInput::new(REQUESTS, 9);
+    run(
+        rt,
+        alloc,
+        &files,
+        &mut requests,
+        output,
+        errors,
+        words,
+        &Open,
+    )
 }
 
 /// Expects what the program writes, what it tells, and its status.
@@ -98,6 +111,26 @@ fn each_tool_writes_its_text(rt: HostRuntime) -> Result<(), Fail> {
     ];
     for (words, text) in rows {
         expect(&rt, rt.alloc(), words, text, b"", 0)?;
+    }
+    Ok(())
+}
+
+#[test]
+fn requests_are_answered_up_to_a_faulty_one(rt: HostRuntime) -> Result<(), Fail> {
+    let rows: [(&[&str], &[u8]); 3] = [
+        (&["ask", "line.gr"], b"d 1 3 9\nt 2 5 -\n"),
+        (
+            &["ask", "--routes", "--deep", "line.gr"],
+            b"d 1 3 9\nr 2\na 1 2 4\na 2 3 5\nt 2 5 -\n",
+        ),
+        (
+            &["ask", "--within", "4", "--saved", "line.ch", "line.gr"],
+            b"d 1 3 9\nt 2 - -\n",
+        ),
+    ];
+    let told = b"chtab: request line 6: node out of range\n";
+    for (words, text) in rows {
+        expect(&rt, rt.alloc(), words, text, told, 1)?;
     }
     Ok(())
 }
@@ -162,6 +195,28 @@ fn a_text_that_is_refused_in_its_middle_is_a_fault(rt: HostRuntime) -> Result<()
         assert_eq!(rt; ended, 3, "{words:?}");
         let told: &[u8] = b"chtab: cannot write after 5 bytes\n";
         assert_eq!(rt; errors.bytes(), told, "{words:?}");
+    }
+    Ok(())
+}
+
+#[test]
+fn a_reader_that_goes_away_is_told_nothing(rt: HostRuntime) -> Result<(), Fail> {
+    let alloc = rt.alloc();
+    let rows: [&[&str]; 3] = [
+        &["dist", "line.gr", "line.p2p"],
+        &["ask", "line.gr"],
+        &["--help"],
+    ];
+    for words in rows {
+        let mut output = MemoryOutput::new(alloc, 256, 5)?.failing_after(1).closing();
+        let mut errors = MemoryOutput::new(alloc, 256, 256)?;
+        let ended = status_of(&rt, alloc, words, &mut output, &mut errors);
+        assert_eq!(rt;
+            (ended, output.bytes().len()),
+            (CLOSED_PIPE, 5),
+            "{words:?}"
+        );
+        assert!(rt; errors.bytes().is_empty(), "{words:?}");
     }
     Ok(())
 }

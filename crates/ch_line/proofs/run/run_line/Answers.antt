@@ -1,10 +1,19 @@
-use Rattle.std.proofs.Common.{inr}
-use Rattle.ch_line.proofs.Opening.{goes-on}
+use Rattle.std.proofs.Common.{inr, rules}
+use Rattle.std.proofs.Math.Logic.{⊎_map}
+use Rattle.ch_line.proofs.Opening.{goes-on, passed-on}
 use Rattle.ch_line.specs.Line.{line_files}
 use Rattle.ch_line.proofs.run.run_line.Goals as goal
+
+pub returns-clause-written : goal.returns-clause-written
+returns-clause-written g c = inr (rw c.in_ok-inputs.ensures.asked at c.run_inputs.ensures.written)
 
 pub returns-clause-missing : goal.returns-clause-missing
 returns-clause-missing g c = goes-on (g.F.Files.known c.args.files.now) (line_files c.args.line.now) c.run_inputs.result c.in_ok-inputs.ensures.there
 
+pub returns-in_err-inputs-clause-missing : goal.returns-in_err-inputs-clause-missing
+returns-in_err-inputs-clause-missing g c =
+    passed-on (g.F.Files.known c.args.files.now) (line_files c.args.line.now) c.open_inputs.result c.from_residual.result c.in_err-inputs.field-0.0
+    (search rules) c.from_residual.ensures.1 c.open_inputs.ensures.missing
+
 pub returns-clause-unread : goal.returns-clause-unread
-returns-clause-unread g c = λ which same. inr (c.in_ok-inputs.inputs, c.in_ok-inputs.ensures.asked, c.run_inputs.ensures.unread which same)
+returns-clause-unread g c = λ which same. inr (⊎_map (λ asked. asked) (λ read. (c.in_ok-inputs.inputs, c.in_ok-inputs.ensures.asked, read)) (c.run_inputs.ensures.unread which same))

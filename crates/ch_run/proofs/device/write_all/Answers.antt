@@ -10,5 +10,6 @@ loop-count-preserved g c =
       within = grind (arith, common_steps, wrote.fits);
       failed = omega (arith, wrote.failures);
       idle = omega (arith, wrote.zeros, idle_writes-some);
+      closed = grind (arith, common_steps, wrote.closes);
       taken = taken-more _ _ _ _ _ _ _ c.loop-count.invariant.taken wrote.bytes;
     }

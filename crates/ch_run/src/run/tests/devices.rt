@@ -74,6 +74,17 @@ fn tells_how_many_bytes_an_idle_output_took(rt: HostRuntime) -> Result<(), Fail>
     Ok(())
 }
 
+#[test]
+fn a_run_leaves_an_output_closed(rt: HostRuntime) -> Result<(), Fail> {
+    let mut output = MemoryOutput::new(rt.alloc(), 64, 3)?
+        .failing_after(1)
+        .closing();
+    let result = run_into(&rt, rt.alloc(), &mut output);
+    assert_eq!(rt; result, Err(RunFault::Write(3)));
+    assert!(rt; output.is_closed());
+    Ok(())
+}
+
 /// The answer of a run over these inputs, which writes nothing.
 fn run_from<'a, R: Threads + Sync>(
     rt: &R,

@@ -115,8 +115,18 @@ fn expect_calls<R: Threads + Abort + Sync>(
 fn each_call_of_a_device_fails(rt: HostRuntime) -> Result<(), Fail> {
     let line = Files::answers(LINE, THERE_AND_BACK);
     expect_calls(&rt, rt.alloc(), &line, ROUTES)?;
-    for (files, text) in EACH_RUN {
-        expect_calls(&rt, rt.alloc(), &files, text)?;
+    for (files, text) in &EACH_RUN[..3] {
+        expect_calls(&rt, rt.alloc(), files, text)?;
+    }
+    Ok(())
+}
+
+#[test]
+fn each_call_of_a_device_fails_by_a_saved_hierarchy_or_over_requests(
+    rt: HostRuntime,
+) -> Result<(), Fail> {
+    for (files, text) in &EACH_RUN[3..] {
+        expect_calls(&rt, rt.alloc(), files, text)?;
     }
     Ok(())
 }

@@ -6,7 +6,9 @@ use crate::device::{Input, MemoryInput, MemoryOutput, Output};
 use crate::fault::{RunFault, Which};
 use crate::options::Options;
 use crate::plan::{Open, Plan};
-use crate::run::{run_dist, run_dist_saved, run_save, run_table, run_table_saved};
+use crate::run::{
+    run_ask, run_ask_saved, run_dist, run_dist_saved, run_save, run_table, run_table_saved,
+};
 use std::alloc::{AllocError, Global};
 use std::thread::Threads;
 
@@ -16,6 +18,7 @@ pub(super) enum Asked<'a> {
     Hierarchy,
     Answers(&'a [u8]),
     Table(&'a [u8], &'a [u8]),
+    Requests(&'a [u8]),
 }
 
 /// The files of a run, with a saved hierarchy or without.
@@ -54,6 +57,15 @@ impl<'a> Files<'a> {
         }
     }
 
+    /// A graph and requests.
+    pub(super) fn requests(graph: &'a [u8], requests: &'a [u8]) -> Files<'a> {
+        Files {
+            graph,
+            saved: None,
+            asked: Asked::Requests(requests),
+        }
+    }
+
     /// These files and a saved hierarchy.
     pub(super) fn by(self, saved: &'a [u8]) -> Files<'a> {
         Files {
@@ -64,11 +76,12 @@ impl<'a> Files<'a> {
     }
 
     /// The files, in the order in which they are read.
-    pub(super) fn in_order(&self) -> [(Which, Option<&'a [u8]>); 5] {
-        let (queries, sources, targets) = match self.asked {
-            Asked::Hierarchy => (None, None, None),
-            Asked::Answers(queries) => (Some(queries), None, None),
-            Asked::Table(sources, targets) => (None, Some(sources), Some(targets)),
+    pub(super) fn in_order(&self) -> [(Which, Option<&'a [u8]>); 6] {
+        let (queries, sources, targets, requests) = match self.asked {
+            Asked::Hierarchy => (None, None, None, None),
+            Asked::Answers(queries) => (Some(queries), None, None, None),
+            Asked::Table(sources, targets) => (None, Some(sources), Some(targets), None),
+            Asked::Requests(requests) => (None, None, None, Some(requests)),
         };
         [
             (Which::Graph, Some(self.graph)),
@@ -76,6 +89,7 @@ impl<'a> Files<'a> {
             (Which::Queries, queries),
             (Which::Sources, sources),
             (Which::Targets, targets),
+            (Which::Requests, requests),
         ]
     }
 }
@@ -155,6 +169,12 @@ pub(super) fn run_over<R: Threads + Sync>(
         }
         (Asked::Table(sources, targets), Some(saved)) => {
             ended!(run_table_saved, Graph files.graph, Saved saved, Sources sources, Targets targets)
+        }
+        (Asked::Requests(requests), None) => {
+            ended!(run_ask, Graph files.graph, Requests requests)
+        }
+        (Asked::Requests(requests), Some(saved)) => {
+            ended!(run_ask_saved, Graph files.graph, Saved saved, Requests requests)
         }
     };
     Ok((result, output))

@@ -13,7 +13,7 @@ returns-in-Ok g c =
         missing = run.missing;
         ends = run.ends;
         unread = run.unread;
-        unwritten = run.unwritten;
+        requests_once = run.requests_once;
         output_device = run.output_device;
         output_once = run.output_once;
       },

@@ -50,7 +50,7 @@ fn limits_outside_their_range_are_refused(rt: HostRuntime) {
 }
 
 /// Words that are no line, and part of what is told of them.
-const OTHERS: [(&[&str], &str); 27] = [
+const OTHERS: [(&[&str], &str); 30] = [
     (&[], "requires a subcommand"),
     (&["help"], "unrecognized subcommand 'help'"),
     (&["tables", "g", "s", "t"], "unrecognized subcommand"),
@@ -111,6 +111,9 @@ const OTHERS: [(&[&str], &str); 27] = [
         "unexpected argument '--saved'",
     ),
     (&["save", "--plain", "g"], "unexpected argument '--plain'"),
+    (&["ask"], "required arguments were not provided"),
+    (&["ask", "g", "q"], "unexpected argument 'q'"),
+    (&["ask", "--plain", "g"], "unexpected argument '--plain'"),
 ];
 
 #[test]
@@ -121,7 +124,7 @@ fn other_words_are_refused(rt: HostRuntime) {
 }
 
 /// Words that ask for help, and parts of what it says.
-const HELPS: [(&[&str], &[&str]); 4] = [
+const HELPS: [(&[&str], &[&str]); 5] = [
     (
         &["--help"],
         &[
@@ -132,6 +135,8 @@ const HELPS: [(&[&str], &[&str]); 4] = [
             "save",
             "chtab table roads.gr depots.ss shops.ss",
             "chtab save --deep roads.gr >roads.ch",
+            "ask",
+            "chtab ask --saved roads.ch roads.gr <requests.txt",
         ],
     ),
     (
@@ -181,6 +186,22 @@ const HELPS: [(&[&str], &[&str]); 4] = [
             "--piece <K>",
             "--hops <H>",
             "Example: chtab save --deep roads.gr >roads.ch",
+        ],
+    ),
+    (
+        &["ask", "--help"],
+        &[
+            "Usage: chtab ask [OPTIONS] <GRAPH>",
+            "as they come: `q S T` as `dist` does",
+            "`t K L`, then K lines `s V`, the sources",
+            "--routes",
+            "--deep",
+            "--within <R>",
+            "--saved <FILE>",
+            "--workers <N>",
+            "--piece <K>",
+            "--hops <H>",
+            "Example: chtab ask --saved roads.ch roads.gr <requests.txt",
         ],
     ),
 ];

@@ -8,8 +8,8 @@ use Rattle.ch_run.proofs.run.table_saved.run_table_saved.Goals as goal
 pub returns-clause-written : goal.returns-clause-written
 returns-clause-written g c =
     let value = c.in_ok-checked.ensures.value in
-    let text = c.in_ok-text.ensures _ value.1.limits value.1.names.1 in
-    delivered c.write_text.result _ _ _ _ (_, value.0, _, value.1, (_, _, c.in_ok-lists.ensures.value, rw c.deref.ensures.value text)) c.write_text.ensures.written
+    let text = rw (c.deref.ensures.value, c.deref-2.ensures.value) at (c.in_ok-text.ensures _ value.1.limits value.1.names.1) in
+    delivered c.write_text.result _ _ _ _ (_, value.0, _, value.1, (_, _, c.in_ok-lists.ensures.value, rw c.deref-3.ensures.value text)) c.write_text.ensures.written
 
 pub returns-clause-unwritten : goal.returns-clause-unwritten
 returns-clause-unwritten g c =

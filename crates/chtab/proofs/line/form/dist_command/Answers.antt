@@ -11,8 +11,8 @@ returns-clause-form c =
     let named : app_of c.after_help.result ≡ new_app (codes "dist") = search rules in
     let with_plain : app_of c.in_ok-arg.field-0 ≡ with_rule (new_app (codes "dist")) (flag_rule (codes "plain")) =
     c.in_ok-arg.ensures.shape c.flag-plain.ensures.local ∙ ap₂ with_rule named c.flag-plain.ensures.rule in
-    let with_routes = c.in_ok-arg-2.ensures.shape c.flag-routes.ensures.local ∙ ap₂ with_rule with_plain c.flag-routes.ensures.rule in
-    let with_deep = c.in_ok-arg-3.ensures.shape c.flag-deep.ensures.local ∙ ap₂ with_rule with_routes c.flag-deep.ensures.rule in
+    let with_routes = c.in_ok-arg-2.ensures.shape c.routes.ensures.local ∙ ap₂ with_rule with_plain c.routes.ensures.rule in
+    let with_deep = c.in_ok-arg-3.ensures.shape c.route_order.ensures.local ∙ ap₂ with_rule with_routes c.route_order.ensures.rule in
     let with_saved = c.in_ok-command.ensures.shape c.saved.ensures.local ∙ ap₂ with_rule with_deep c.saved.ensures.rule in
     let with_numbers = c.in_ok-with_numbers.ensures.form ∙ ap (λ form. fold with_rule form number_rules) with_saved in
     let with_graph = c.in_ok-arg-4.ensures.shape c.graph.ensures.local ∙ ap₂ with_rule with_numbers c.graph.ensures.rule in
@@ -22,8 +22,8 @@ pub returns-clause-local : goal.returns-clause-local
 returns-clause-local c =
     let begun : (out-Command c.after_help.result).has_globals ≡ false = search rules in
     let with_plain = stays_local _ _ _ c.in_ok-arg.ensures begun c.flag-plain.ensures.local in
-    let with_routes = stays_local _ _ _ c.in_ok-arg-2.ensures with_plain c.flag-routes.ensures.local in
-    let with_deep = stays_local _ _ _ c.in_ok-arg-3.ensures with_routes c.flag-deep.ensures.local in
+    let with_routes = stays_local _ _ _ c.in_ok-arg-2.ensures with_plain c.routes.ensures.local in
+    let with_deep = stays_local _ _ _ c.in_ok-arg-3.ensures with_routes c.route_order.ensures.local in
     let with_saved = stays_local _ _ _ c.in_ok-command.ensures with_deep c.saved.ensures.local in
     let with_numbers = c.in_ok-with_numbers.ensures.local with_saved in
     let with_graph = stays_local _ _ _ c.in_ok-arg-4.ensures with_numbers c.graph.ensures.local in

@@ -1,18 +1,15 @@
 use Rattle.std.proofs.Common.{◌≡◌, ◌∙◌, ap, ap₂, codes, false, fold, rules}
 use Rattle.std.proofs.lemmas.Result.{IfOk-weaker}
-use Rattle.clap.specs.Words.{app_of, new_app, rule_of, with_rule}
+use Rattle.clap.specs.Words.{app_of, new_app, with_rule}
 use Rattle.clap.specs.declared.builder.command.Command.TheViews.{out-Command}
-use Rattle.ch_run.specs.declared.options.TheConstants.{MOST_WITHIN}
-use Rattle.chtab.specs.Line.{limit_rule, number_rules}
+use Rattle.chtab.specs.Line.{number_rules, within_rule}
 use Rattle.chtab.proofs.line.form.table_command.Goals as goal
 
 pub returns-clause-form : goal.returns-clause-form
 returns-clause-form c =
     let named : app_of c.after_help.result ≡ new_app (codes "table") = search rules in
-    let limit_is : rule_of c.help-within.result ≡ limit_rule (codes "within") MOST_WITHIN = search rules in
-    let limit_local : c.help-within.result.global ≡ false = search rules in
-    let with_limit : app_of c.in_ok-arg.field-0 ≡ with_rule (new_app (codes "table")) (limit_rule (codes "within") MOST_WITHIN) =
-    c.in_ok-arg.ensures.shape limit_local ∙ ap₂ with_rule named limit_is in
+    let with_limit : app_of c.in_ok-arg.field-0 ≡ with_rule (new_app (codes "table")) within_rule =
+    c.in_ok-arg.ensures.shape c.within.ensures.local ∙ ap₂ with_rule named c.within.ensures.rule in
     let with_saved = c.in_ok-command.ensures.shape c.saved.ensures.local ∙ ap₂ with_rule with_limit c.saved.ensures.rule in
     let with_numbers = c.in_ok-with_numbers.ensures.form ∙ ap (λ form. fold with_rule form number_rules) with_saved in
     let with_graph = c.in_ok-arg-2.ensures.shape c.graph.ensures.local ∙ ap₂ with_rule with_numbers c.graph.ensures.rule in
@@ -21,7 +18,6 @@ returns-clause-form c =
 
 pub returns-clause-local : goal.returns-clause-local
 returns-clause-local c =
-    let limit_local : c.help-within.result.global ≡ false = search rules in
     let limited : (out-Command c.in_ok-command.command).has_globals ≡ false = search rules in
     let numbered : (out-Command c.in_ok-with_numbers.field-0).has_globals ≡ false = c.in_ok-with_numbers.ensures.local limited in
     let before : (out-Command c.in_ok-arg-3.field-0).has_globals ≡ false = search rules in

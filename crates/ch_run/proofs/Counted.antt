@@ -1,0 +1,96 @@
+-- Refused writes that are counted.
+use Rattle.std.proofs.Common.{◌≡◌, ℕ, ◌<◌, ◌≤◌, Result, Ok, Err, inl, inr, refl, ap, arith}
+use Rattle.std.specs.Prelude.{◌↔◌, ◌⊎◌, IsErrAnd}
+use Rattle.std.proofs.lemmas.Bool.{cases_lt}
+use Rattle.ch_run.specs.declared.fault.RunFault.{RunFault}
+use Rattle.ch_run.specs.declared.run.batch.Then.{Then}
+use Rattle.ch_run.specs.declared.run.batch.Then.TheVariants.{Table, More, Nothing, Stop}
+use Rattle.ch_run.specs.Device.{CountsAtMostOneOf}
+use Rattle.ch_run.specs.Run.{IsWrite}
+use Rattle.ch_run.specs.Serving.{CountsWrites, IsWithin, end_of, refused_writes}
+
+-- a result tells of one refused write, or of none
+told : {T : Type 0} (r : Result T RunFault) → (IsErrAnd r IsWrite × (refused_writes r ≡ 1)) ⊎ ((IsErrAnd r IsWrite → ⊥) × (refused_writes r ≡ 0))
+told (Ok x) = inr (λ h. h, refl)
+told (Err (RunFault.Write count)) = inl (tt, refl)
+told (Err RunFault.Memory) = inr (λ h. h, refl)
+told (Err RunFault.Cells) = inr (λ h. h, refl)
+told (Err (RunFault.Requests f)) = inr (λ h. h, refl)
+told (Err (RunFault.Graph f)) = inr (λ h. h, refl)
+told (Err (RunFault.Queries f)) = inr (λ h. h, refl)
+told (Err (RunFault.Sources f)) = inr (λ h. h, refl)
+told (Err (RunFault.Targets f)) = inr (λ h. h, refl)
+told (Err (RunFault.Saved f)) = inr (λ h. h, refl)
+told (Err (RunFault.Check f)) = inr (λ h. h, refl)
+told (Err (RunFault.Device which)) = inr (λ h. h, refl)
+
+module _ {T : Type 0} (failed failed' idle idle' : ℕ) (r : Result T RunFault) (h : CountsWrites failed failed' idle idle' r) where
+  grown : refused_writes r ≡ 1 → (failed < failed') ⊎ (failed' ≤ failed) → (failed < failed') ⊎ (idle < idle')
+  grown e (inl less) = inl less
+  grown e (inr most) = let b = h.idle_grows in let c = h.together in inr (omega arith)
+
+  not_grown : refused_writes r ≡ 0 → (failed < failed') ⊎ (idle < idle') → ⊥
+  not_grown e (inl less) = let b = h.idle_grows in let c = h.together in omega arith
+  not_grown e (inr less) = let a = h.failed_grows in let c = h.together in omega arith
+
+  counted : (IsErrAnd r IsWrite × (refused_writes r ≡ 1)) ⊎ ((IsErrAnd r IsWrite → ⊥) × (refused_writes r ≡ 0)) → IsErrAnd r IsWrite ↔ ((failed < failed') ⊎ (idle < idle'))
+  counted (inl one) = (λ is. grown one.1 (cases_lt failed failed'), λ any. one.0)
+  counted (inr none) = (λ is. absurd (none.0 is), λ any. absurd (not_grown none.1 any))
+
+  -- a refused write is told exactly where one was counted
+  pub told_counted : IsErrAnd r IsWrite ↔ ((failed < failed') ⊎ (idle < idle'))
+  told_counted = counted (told r)
+
+  one_more : refused_writes r ≡ 1 → (failed < failed') ⊎ (failed' ≤ failed) → CountsAtMostOneOf failed failed' idle idle'
+  one_more e (inl less) = let b = h.idle_grows in let c = h.together in inl (inr (omega arith), omega arith)
+  one_more e (inr most) = let a = h.failed_grows in let b = h.idle_grows in let c = h.together in inr (omega arith, inr (omega arith))
+
+  once : (IsErrAnd r IsWrite × (refused_writes r ≡ 1)) ⊎ ((IsErrAnd r IsWrite → ⊥) × (refused_writes r ≡ 0)) → CountsAtMostOneOf failed failed' idle idle'
+  once (inl one) = one_more one.1 (cases_lt failed failed')
+  once (inr none) = let a = h.failed_grows in let b = h.idle_grows in let c = h.together in let e = none.1 in inl (inl (omega arith), omega arith)
+
+  -- at most one was counted
+  pub counted_once : CountsAtMostOneOf failed failed' idle idle'
+  counted_once = once (told r)
+
+-- a call that ended well counted none
+pub counted_well : (failed failed' idle idle' : ℕ) → CountsWrites {T = Unit} failed failed' idle idle' (Ok tt) → (failed' ≡ failed) × (idle' ≡ idle)
+counted_well failed failed' idle idle' h = let a = h.failed_grows in let b = h.idle_grows in let c = h.together in (omega arith, omega arith)
+
+-- what a batch ends in is no refused write
+pub end_unrefused : (n : ℕ) (ends : Then) → IsWithin n ends → refused_writes (end_of ends) ≡ 0
+end_unrefused n (Table lists) is = refl
+end_unrefused n More is = refl
+end_unrefused n Nothing is = refl
+end_unrefused n (Stop RunFault.Memory) is = refl
+end_unrefused n (Stop RunFault.Cells) is = refl
+end_unrefused n (Stop (RunFault.Requests f)) is = refl
+end_unrefused n (Stop (RunFault.Write count)) is = absurd is
+end_unrefused n (Stop (RunFault.Graph f)) is = absurd is
+end_unrefused n (Stop (RunFault.Queries f)) is = absurd is
+end_unrefused n (Stop (RunFault.Sources f)) is = absurd is
+end_unrefused n (Stop (RunFault.Targets f)) is = absurd is
+end_unrefused n (Stop (RunFault.Saved f)) is = absurd is
+end_unrefused n (Stop (RunFault.Check f)) is = absurd is
+end_unrefused n (Stop (RunFault.Device which)) is = absurd is
+
+-- what was counted until a batch was answered is what was counted in the end
+pub counted_batch : (n : ℕ) (start failed failed' first idle idle' : ℕ) (ends : Then) (end : Result Unit RunFault) → IsWithin n ends → failed ≡ start → idle ≡ first → CountsWrites {T = Unit} failed failed' idle idle' (Ok tt) →
+    end ≡ end_of ends → CountsWrites start failed' first idle' end
+counted_batch n start failed failed' first idle idle' ends end is e f h same =
+    let none : refused_writes end ≡ 0 = rw same (end_unrefused n ends is) in
+    let a = h.failed_grows in
+    let b = h.idle_grows in
+    let c = h.together in
+    record { failed_grows = omega arith; idle_grows = omega arith; together = omega arith }
+
+-- and what was counted until a call that was refused is what was counted in the end, where its fault was passed on
+pub counted_passed : (start failed failed' first idle idle' : ℕ) (e : RunFault) (end : Result Unit RunFault) → IsErrAnd end (λ other. other ≡ e) → failed ≡ start → idle ≡ first →
+    CountsWrites {T = Unit} failed failed' idle idle' (Err e) → CountsWrites start failed' first idle' end
+counted_passed start failed failed' first idle idle' e (Ok x) is f i h = absurd is
+counted_passed start failed failed' first idle idle' e (Err other) is f i h =
+    let same : refused_writes {T = Unit} (Err other) ≡ refused_writes {T = Unit} (Err e) = ap (λ fault. refused_writes {T = Unit} (Err fault)) is in
+    let a = h.failed_grows in
+    let b = h.idle_grows in
+    let c = h.together in
+    record { failed_grows = omega arith; idle_grows = omega arith; together = omega arith }

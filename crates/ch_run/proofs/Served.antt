@@ -1,0 +1,399 @@
+-- Requests that are read and answered as they come.
+use Rattle.std.proofs.Common.{◌≡◌, ℕ, ◌<◌, ◌==◌, Bool, true, false, not, ◌&&◌, List, [], ◌∷◌, ◌++◌, length, take, drop, Option, Some, None, Result, Ok, Err, inl, inr, refl, sym, ap, ◌∙◌, subst, append_assoc}
+use Rattle.std.specs.Prelude.{IfErr, IsErrAnd, IsNone, map, is_ok, is_err, if◌then◌else◌}
+use Rattle.std.proofs.lemmas.Bool.{eqb-true}
+use Rattle.std.proofs.Math.Seq.{take-append_seam}
+use Rattle.std.proofs.lemmas.List.{append-nil}
+use Rattle.ch_read.specs.declared.request.Request.{Request}
+use Rattle.ch_read.specs.declared.request.Request.TheVariants.{Query, Table as TableOf}
+use Rattle.ch_read.specs.RequestLists.{TwoLists}
+use Rattle.ch_read.specs.declared.request_fault.RequestFault.{RequestFault}
+use Rattle.ch_read.specs.declared.request_fault.RequestFault.TheVariants.{Line, Cells}
+use Rattle.ch_read.specs.declared.request_fault.RequestError.{RequestError}
+use Rattle.ch_read.specs.declared.request_fault.RequestError.TheVariants.{Fault, NoMemory}
+use Rattle.ch_read.specs.Words.{lines}
+use Rattle.ch_read.specs.Requests.{Gives, IsErrorAhead, IsUsedUp, MayCome, Standing, Told, after_these, ahead, fed, query_from, starting, stopping, told, told_by}
+use Rattle.ch_read.proofs.RequestsHeldBack.{not_held_back}
+use Rattle.ch_run.specs.declared.fault.RunFault.{RunFault}
+use Rattle.ch_run.specs.declared.fault.Which.{Which}
+use Rattle.ch_run.specs.Device.{GivesBytes, HasGiven, HasRead}
+use Rattle.ch_run.specs.Run.{Reading, IsWrite}
+use Rattle.ch_run.specs.Ask.{IsOfServing, IsRequestText, Serves, TellsThen, TookAnswers, whole_in}
+use Rattle.ch_run.specs.declared.run.batch.Then.TheVariants.{Table, More, Nothing, Stop}
+use Rattle.ch_run.specs.Serving.{Answers, GivesUntil, IsOfAnswering, IsToldAfter, end_of, request_refusal, requests_of}
+use Rattle.ch_graph.specs.Graph.{Network}
+use Rattle.ch_hierarchy.specs.Hierarchy.{LevelsAndLegs}
+use Rattle.ch_contract.specs.Built.{IsHierarchyBy}
+use Rattle.ch_contract.specs.declared.measure.OrderBy.{OrderBy}
+use Rattle.ch_run.specs.declared.options.Options.{Options}
+use Rattle.ch_run.specs.Text.{IsTextBy}
+use Rattle.ch_run.proofs.Texts.{each_weaker, text_in}
+use Rattle.ch_run.proofs.Answered.{answered_none, answers_more, taken_none}
+
+-- what readers give
+
+after_both : (xs ys : List Request) (t : Told) → after_these xs (after_these ys t) ≡ after_these (xs ++ ys) t
+after_both xs ys t = λ i. record { given = sym (append_assoc xs ys t.given) i; fault = t.fault }
+
+pub gives_none : (ended : Bool) (s : Standing) → Gives ended s s []
+gives_none ended s = λ more may. refl
+
+-- requests were given, and then more, until a call ended
+pub gives_on : {T : Type 0} (ended : Bool) (old mid new : Standing) (xs ys : List Request) (r : Result T RunFault) → Gives ended old mid xs → GivesUntil ended mid new ys r → GivesUntil ended old new (xs ++ ys) r
+gives_on ended old mid new xs ys r h k = λ more may.
+    let step = k more may in
+    (step.0, h more may ∙ ap (after_these xs) step.1 ∙ after_both xs ys step.0, step.2)
+
+pub gives_more : (ended : Bool) (old mid new : Standing) (xs ys : List Request) → Gives ended old mid xs → Gives ended mid new ys → Gives ended old new (xs ++ ys)
+gives_more ended old mid new xs ys h k = λ more may. h more may ∙ ap (after_these xs) (k more may) ∙ after_both xs ys (ahead new more)
+
+-- a call that ended well gave them
+pub given_well : (ended : Bool) (old new : Standing) (xs : List Request) → GivesUntil {T = Unit} ended old new xs (Ok tt) → Gives ended old new xs
+given_well ended old new xs h = λ more may. let step = h more may in step.1 ∙ ap (after_these xs) step.2
+
+pub well_given : (ended : Bool) (old new : Standing) (xs : List Request) → Gives ended old new xs → GivesUntil {T = Unit} ended old new xs (Ok tt)
+well_given ended old new xs h = λ more may. (ahead new more, h more may, refl)
+
+-- nothing more is known where there is no memory, or a write was refused
+pub given_without : (ended : Bool) (old mid new : Standing) (xs : List Request) (fault : RunFault) → Gives ended old mid xs → ((next rest : Told) → IsToldAfter {T = Unit} (Err fault) next rest) →
+    GivesUntil {T = Unit} ended old new xs (Err fault)
+given_without ended old mid new xs fault h any = λ more may. (ahead mid more, h more may, any (ahead new more) (ahead mid more))
+
+-- the error that a reader answers is what is told next
+refused_next : (ended : Bool) (old mid new : Standing) (xs : List Request) (error : RequestError) → Gives ended old mid xs → IsErrorAhead ended mid error →
+    GivesUntil {T = Unit} ended old new xs (Err (request_refusal error))
+refused_next ended old mid new xs (Fault (Line fault)) h stops = λ more may.
+    (record { given = []; fault = Some (Line fault) }, h more may ∙ ap (after_these xs) (stops more may), refl)
+refused_next ended old mid new xs (Fault (Cells line)) h stops = λ more may.
+    (record { given = []; fault = Some (Cells line) }, h more may ∙ ap (after_these xs) (stops more may), (line, refl))
+refused_next ended old mid new xs NoMemory h stops = λ more may. (ahead mid more, h more may, tt)
+
+-- what comes after the queries of a batch
+
+module _ (ended : Bool) (old mid new : Standing) (queries : List (ℕ × ℕ)) where
+  pub batch_more : Gives ended old new (map query_from queries) → GivesUntil ended old new (requests_of queries More) (end_of More)
+  batch_more h = well_given ended old new (map query_from queries ++ []) (rw append-nil h)
+
+  pub batch_table : (lists : TwoLists) → Gives ended old mid (map query_from queries) → Gives ended mid new (TableOf lists ∷ []) → GivesUntil ended old new (requests_of queries (Table lists)) (end_of (Table lists))
+  batch_table lists h k = well_given ended old new (map query_from queries ++ TableOf lists ∷ []) (gives_more ended old mid new (map query_from queries) (TableOf lists ∷ []) h k)
+
+  pub batch_nothing : Gives ended old mid (map query_from queries) → Gives ended mid new [] → GivesUntil ended old new (requests_of queries Nothing) (end_of Nothing)
+  batch_nothing h k = well_given ended old new (map query_from queries ++ []) (gives_more ended old mid new (map query_from queries) [] h k)
+
+  pub batch_refused : Gives ended old mid (map query_from queries) → GivesUntil ended old new (requests_of queries (Stop RunFault.Memory)) (end_of (Stop RunFault.Memory))
+  batch_refused h = given_without ended old mid new (map query_from queries ++ []) RunFault.Memory (rw append-nil h) (λ next rest. tt)
+
+  pub batch_stopped : (error : RequestError) → Gives ended old mid (map query_from queries) → IsErrorAhead ended mid error →
+      GivesUntil ended old new (requests_of queries (Stop (request_refusal error))) (end_of (Stop (request_refusal error)))
+  batch_stopped error h stops = refused_next ended old mid new (map query_from queries ++ []) error (rw append-nil h) stops
+
+-- nothing was pushed where memory was refused
+pub not_pushed : {T E A : Type 0} (r : Result T E) (xs more all : List A) → is_err r ≡ true → all ≡ (if is_ok r then more else xs) → all ≡ xs
+not_pushed (Ok x) xs more all e h = cc
+not_pushed (Err y) xs more all e h = h
+
+-- where a call ends in want of memory or a refused write, anything may be told next
+told_write : (e : RunFault) → IsWrite e → (next rest : Told) → IsToldAfter {T = Unit} (Err e) next rest
+told_write (RunFault.Write count) is next rest = tt
+told_write RunFault.Memory is next rest = absurd is
+told_write RunFault.Cells is next rest = absurd is
+told_write (RunFault.Requests f) is next rest = absurd is
+told_write (RunFault.Graph f) is next rest = absurd is
+told_write (RunFault.Queries f) is next rest = absurd is
+told_write (RunFault.Sources f) is next rest = absurd is
+told_write (RunFault.Targets f) is next rest = absurd is
+told_write (RunFault.Saved f) is next rest = absurd is
+told_write (RunFault.Check f) is next rest = absurd is
+told_write (RunFault.Device which) is next rest = absurd is
+
+told_any : (e : RunFault) → IsOfAnswering e → (next rest : Told) → IsToldAfter {T = Unit} (Err e) next rest
+told_any e (inl is) next rest = told_write e is next rest
+told_any e (inr is) next rest = subst (λ (f : RunFault). IsToldAfter {T = Unit} (Err f) next rest) (sym is) tt
+
+-- what a batch gave was given also where its answers ended the run
+pub given_anyway : (ended : Bool) (old new : Standing) (xs : List Request) (end : Result Unit RunFault) (e : RunFault) (r : Result Unit RunFault) → GivesUntil ended old new xs end → IsOfAnswering e →
+    IsErrAnd r (λ y. y ≡ e) → GivesUntil ended old new xs r
+given_anyway ended old new xs end e (Ok x) h own is = absurd is
+given_anyway ended old new xs end e (Err y) h own is = λ more may.
+    let step = h more may in
+    (step.0, step.1, subst (λ (f : RunFault). IsToldAfter {T = Unit} (Err f) (ahead new more) step.0) (sym is) (told_any e own (ahead new more) step.0))
+
+-- a call that gave requests ends in no fault but those of answering them
+pub own_fault : (ended : Bool) (old new : Standing) (xs : List Request) (e : RunFault) → GivesUntil {T = Unit} ended old new xs (Err e) → IsOfServing e
+own_fault ended old new xs e h = let step = h [] (λ is. refl) in at e (ahead new []) step.0 step.2
+  where
+    at : (e : RunFault) (next rest : Told) → IsToldAfter {T = Unit} (Err e) next rest → IsOfServing e
+    at (RunFault.Requests f) next rest is = inl refl
+    at RunFault.Cells next rest is = inr (inl refl)
+    at RunFault.Memory next rest is = inl tt
+    at (RunFault.Write count) next rest is = inr (inr tt)
+    at (RunFault.Graph f) next rest is = absurd is
+    at (RunFault.Queries f) next rest is = absurd is
+    at (RunFault.Sources f) next rest is = absurd is
+    at (RunFault.Targets f) next rest is = absurd is
+    at (RunFault.Saved f) next rest is = absurd is
+    at (RunFault.Check f) next rest is = absurd is
+    at (RunFault.Device which) next rest is = absurd is
+
+pub own_passed : (r : Result Unit RunFault) (e : RunFault) → IsErrAnd r (λ y. y ≡ e) → IsOfServing e → IfErr r IsOfServing
+own_passed (Ok x) e is own = absurd is
+own_passed (Err y) e is own = subst IsOfServing (sym is) own
+
+-- inputs that are read
+
+pub read_none : (old : Option (List ℕ)) (all : List ℕ) → (left : List ℕ) × HasRead old old [] left
+read_none None all = ([], refl)
+read_none (Some old) all = (old, (refl, refl))
+
+-- one more read
+pub read_on : (E : Type 0) (start old new : Option (List ℕ)) (read left buffer : List ℕ) (n : ℕ) → HasRead start old read left → GivesBytes {E = E} old new (Ok n) buffer → 0 < length buffer →
+    (left' : List ℕ) × HasRead start new (read ++ take n buffer) left' × (n ≡ 0 → left' ≡ [])
+read_on E None None new read left buffer n h k room = ([], k, λ e. refl)
+read_on E None (Some old) new read left buffer n h k room = cc
+read_on E (Some start) None new read left buffer n h k room = cc
+read_on E (Some start) (Some old) None read left buffer n h k room = absurd k
+read_on E (Some start) (Some old) (Some new) read left buffer n h k room =
+    let same : old ≡ left = cc in
+    let parts : left ≡ take n buffer ++ new = sym same ∙ k.0 in
+    let none : n ≡ 0 → new ≡ [] = λ zero_is. (let all : left ≡ new = rw zero_is at parts in sym all ∙ sym same ∙ k.1 zero_is room) in
+    (new, (h.0 ∙ ap (λ xs. read ++ xs) parts ∙ sym (append_assoc read (take n buffer) new), refl), none)
+
+-- a read that is refused
+pub read_refused : (E : Type 0) (start old new : Option (List ℕ)) (read left buffer : List ℕ) (e : E) → HasRead start old read left → GivesBytes old new (Err e) buffer → HasRead start new read left
+read_refused E None old new read left buffer e h k = at old h k
+  where
+    at : (old : Option (List ℕ)) → IsNone old → GivesBytes {E = E} old new (Err e) buffer → IsNone new
+    at None h k = k
+    at (Some old) h k = cc
+read_refused E (Some start) None new read left buffer e h k = cc
+read_refused E (Some start) (Some old) None read left buffer e h k = absurd k
+read_refused E (Some start) (Some old) (Some new) read left buffer e h k = (h.0, ap (λ (xs : List ℕ). Some xs) k ∙ h.1)
+
+all_given : (old new : Option (List ℕ)) (read left : List ℕ) → HasRead old new read left → left ≡ [] → HasGiven old new read
+all_given None new read left h none = h
+all_given (Some old) new read left h none = (h.0 ∙ ap (λ xs. read ++ xs) none ∙ append-nil read, h.1 ∙ ap (λ (xs : List ℕ). Some xs) none)
+
+-- a buffer holds what was written into all of it
+pub written_back : (size : ℕ) (new old : List ℕ) → size ≡ length new → take size (new ++ drop (length new) old) ≡ new
+written_back size new old is = rw is (take-append_seam new (drop (length new) old))
+
+-- bytes that are fed come first
+fed_ahead : (s : Standing) (bytes more : List ℕ) → ahead s (bytes ++ more) ≡ ahead (fed s bytes) more
+fed_ahead s bytes more = ap (λ xs. told s.nodes s.line s.begun (lines xs)) (sym (append_assoc s.pending bytes more))
+
+-- where no line is whole in what is pending, all was given that is whole in the bytes
+whole_given : (n : ℕ) (bytes : List ℕ) (s : Standing) (given : List Request) → ((more : List ℕ) → told_by n (bytes ++ more) ≡ after_these given (ahead s more)) → IsUsedUp false s → given ≡ whole_in n bytes
+whole_given n bytes s given h none =
+    sym (append-nil given) ∙ not_held_back n ((bytes, given) ∷ []) s (s, (λ more may. h more), refl) none ∙ ap (whole_in n) (append-nil bytes)
+
+module _ (IsTextOf : Request → List ℕ → Type 0) (n : ℕ) where
+  -- these bytes were read and all that is whole in them is answered, the reader stands so, and the output took so many bytes
+  pub record HasServed (requests : Reading) (old new : Option (List ℕ)) (written : ℕ) (s : Standing) : Type 0 where
+    pub read : List ℕ
+    pub left : List ℕ
+    pub given : List Request
+    pub input : HasRead requests.before requests.after read left
+    pub nodes : s.nodes ≡ n
+    pub ahead_is : (more : List ℕ) → told_by n (read ++ more) ≡ after_these given (ahead s more)
+    pub used_up : IsUsedUp false s
+    pub answered : Answers {T = Unit} IsTextOf old new 0 written given (Ok tt)
+
+  -- bytes were read, and fed to the reader; at the end none is left
+  pub record HasFed (ended : Bool) (requests : Reading) (old new : Option (List ℕ)) (written : ℕ) (s : Standing) : Type 0 where
+    pub read : List ℕ
+    pub left : List ℕ
+    pub given : List Request
+    pub input : HasRead requests.before requests.after read left
+    pub ends : MayCome ended left
+    pub nodes : s.nodes ≡ n
+    pub ahead_is : (more : List ℕ) → told_by n (read ++ more) ≡ after_these given (ahead s more)
+    pub answered : Answers {T = Unit} IsTextOf old new 0 written given (Ok tt)
+
+  pub served_none : (input : Option (List ℕ)) (output : Option (List ℕ)) → HasServed (record { before = input; after = input }) output output 0 (starting n)
+  served_none input output =
+      let none = read_none input [] in
+      record {
+        read = [];
+        left = none.0;
+        given = [];
+        input = none.1;
+        nodes = refl;
+        ahead_is = λ more. refl;
+        used_up = refl;
+        answered = ([], answered_none IsTextOf, taken_none output, refl);
+      }
+
+  -- one more read is fed
+  pub served_fed : (E : Type 0) (before mid after old new : Option (List ℕ)) (written : ℕ) (s : Standing) (buffer : List ℕ) (count : ℕ) →
+      HasServed (record { before = before; after = mid }) old new written s → GivesBytes {E = E} mid after (Ok count) buffer → 0 < length buffer →
+      HasFed (count == 0) (record { before = before; after = after }) old new written (fed s (take count buffer))
+  served_fed E before mid after old new written s buffer count h gives room =
+      let on = read_on E before mid after h.read h.left buffer count h.input gives room in
+      record {
+        read = h.read ++ take count buffer;
+        left = on.0;
+        given = h.given;
+        input = on.1;
+        ends = λ is. on.2 (eqb-true count 0 is);
+        nodes = h.nodes;
+        ahead_is = λ more.
+            ap (told_by n) (append_assoc h.read (take count buffer) more) ∙ h.ahead_is (take count buffer ++ more) ∙ ap (after_these h.given) (fed_ahead s (take count buffer) more);
+        answered = h.answered;
+      }
+
+  -- the reader is fed what was read
+  pub fed_more : (E : Type 0) (before mid after old new : Option (List ℕ)) (written : ℕ) (s next : Standing) (buffer slice : List ℕ) (count : ℕ) → next ≡ fed s slice → slice ≡ take count buffer →
+      HasServed (record { before = before; after = mid }) old new written s → GivesBytes {E = E} mid after (Ok count) buffer → 0 < length buffer →
+      HasFed (count == 0) (record { before = before; after = after }) old new written next
+  fed_more E before mid after old new written s next buffer slice count is same h gives room =
+      subst (HasFed (count == 0) (record { before = before; after = after }) old new written) (sym (is ∙ ap (fed s) same)) (served_fed E before mid after old new written s buffer count h gives room)
+
+  module _ (requests : Reading) (old mid new : Option (List ℕ)) (before after : ℕ) (s next : Standing) (given : List Request) where
+    -- what was whole is answered, and there may be more
+    pub fed_served : (ended : Bool) → ended ≡ false → HasFed ended requests old mid before s → GivesUntil {T = Unit} ended s next given (Ok tt) → Answers {T = Unit} IsTextOf mid new before after given (Ok tt) →
+        IsUsedUp ended next → next.nodes ≡ s.nodes → HasServed requests old new after next
+    fed_served true is h gives answers used_up same = cc
+    fed_served false is h gives answers used_up same = record {
+      read = h.read;
+      left = h.left;
+      given = h.given ++ given;
+      input = h.input;
+      nodes = same ∙ h.nodes;
+      ahead_is = λ more. h.ahead_is more ∙ ap (after_these h.given) (given_well false s next given gives more (λ e. cc)) ∙ after_both h.given given (ahead next more);
+      used_up = used_up;
+      answered = answers_more IsTextOf {T = Unit} old mid new 0 before after h.given given (Ok tt) h.answered answers;
+    }
+
+    -- all is answered at the end
+    pub fed_done : (ended : Bool) → ended ≡ true → HasFed ended requests old mid before s → GivesUntil {T = Unit} ended s next given (Ok tt) → Answers {T = Unit} IsTextOf mid new before after given (Ok tt) →
+        IsUsedUp ended next → Serves {T = Unit} IsTextOf n requests old new (Ok tt)
+    fed_done false is h gives answers used_up = cc
+    fed_done true is h gives answers used_up =
+        let none : lines (next.pending ++ []) ≡ [] = ap (λ xs. lines (xs ++ [])) used_up.0 in
+        let nothing_ahead : ahead next [] ≡ stopping None = ap (told next.nodes next.line next.begun) none ∙ ap stopping used_up.1 in
+        let all : told_by n (h.read ++ []) ≡ after_these (h.given ++ given) (stopping None) =
+        h.ahead_is [] ∙ ap (after_these h.given) (given_well true s next given gives [] (λ e. refl)) ∙ after_both h.given given (ahead next []) ∙ ap (after_these (h.given ++ given)) nothing_ahead in
+        let whole : told_by n h.read ≡ after_these (h.given ++ given) (stopping None) = ap (told_by n) (sym (append-nil h.read)) ∙ all in
+        let took = answers_more IsTextOf {T = Unit} old mid new 0 before after h.given given (Ok tt) h.answered answers in
+        let given_is : (told_by n h.read).given ≡ h.given ++ given = ap (λ t. t.given) whole ∙ append-nil (h.given ++ given) in
+        (h.read, all_given requests.before requests.after h.read h.left h.input (h.ends refl), (ap (λ t. t.fault) whole, subst (TookAnswers IsTextOf old new) (sym given_is) (took.0, took.1, took.2)))
+
+    -- what is told of the whole input
+    fed_told : (ended : Bool) (h : HasFed ended requests old mid before s) (rest : Told) → ahead s h.left ≡ after_these given rest → told_by n (h.read ++ h.left) ≡ after_these (h.given ++ given) rest
+    fed_told ended h rest is = h.ahead_is h.left ∙ ap (after_these h.given) is ∙ after_both h.given given rest
+
+    -- the first of what was given is the first of what is told
+    first_told : (ended : Bool) (h : HasFed ended requests old mid before s) (rest : Told) (first later : List Request) → ahead s h.left ≡ after_these given rest → h.given ++ given ≡ first ++ later →
+        (told_by n (h.read ++ h.left)).given ≡ first ++ (later ++ rest.given)
+    first_told ended h rest first later is same =
+        ap (λ t. t.given) (fed_told ended h rest is) ∙ ap (λ xs. xs ++ rest.given) same ∙ append_assoc first later rest.given
+
+    -- a fault comes after all that was given, and all of it is answered
+    told_fault : (ended : Bool) (h : HasFed ended requests old mid before s) (rest : Told) (fault : RequestFault) → ahead s h.left ≡ after_these given rest → rest ≡ record { given = []; fault = Some fault } →
+        TookAnswers IsTextOf old new (h.given ++ given) → TellsThen n (Some fault) (TookAnswers IsTextOf old new) (h.read ++ h.left)
+    told_fault ended h rest fault is rest_is took =
+        let whole = fed_told ended h rest is in
+        let given_is : (told_by n (h.read ++ h.left)).given ≡ h.given ++ given =
+        ap (λ t. t.given) whole ∙ ap (λ (t : Told). (h.given ++ given) ++ t.given) rest_is ∙ append-nil (h.given ++ given) in
+        (ap (λ t. t.fault) whole ∙ ap (λ (t : Told). t.fault) rest_is, subst (TookAnswers IsTextOf old new) (sym given_is) took)
+
+    -- the run ends in the fault that answering ended in
+    pub fed_refused : (ended : Bool) (fault : RunFault) → HasFed ended requests old mid before s → GivesUntil {T = Unit} ended s next given (Err fault) →
+        Answers {T = Unit} IsTextOf mid new before after given (Err fault) → Serves {T = Unit} IsTextOf n requests old new (Err fault)
+    fed_refused ended (RunFault.Requests fault) h gives answers =
+        let step = gives h.left h.ends in
+        let took = answers_more IsTextOf {T = Unit} old mid new 0 before after h.given given (Err (RunFault.Requests fault)) h.answered answers in
+        (h.read, h.left, h.input, told_fault ended h step.0 (Line fault) step.1 step.2 took)
+    fed_refused ended RunFault.Cells h gives answers =
+        let step = gives h.left h.ends in
+        let took = answers_more IsTextOf {T = Unit} old mid new 0 before after h.given given (Err RunFault.Cells) h.answered answers in
+        (h.read, h.left, h.input, (step.2.0, told_fault ended h step.0 (Cells step.2.0) step.1 step.2.1 took))
+    fed_refused ended RunFault.Memory h gives answers =
+        let step = gives h.left h.ends in
+        let took = answers_more IsTextOf {T = Unit} old mid new 0 before after h.given given (Err RunFault.Memory) h.answered answers in
+        (h.read, h.left, h.input, (took.0, took.1 ++ step.0.given, first_told ended h step.0 took.0 took.1 step.1 took.2, took.3))
+    fed_refused ended (RunFault.Write count) h gives answers =
+        let step = gives h.left h.ends in
+        let took = answers_more IsTextOf {T = Unit} old mid new 0 before after h.given given (Err (RunFault.Write count)) h.answered answers in (
+          h.read,
+          h.left,
+          h.input,
+          (took.0, took.1 ++ step.0.given, took.2, took.3, first_told ended h step.0 took.0 took.1 step.1 took.4, took.5, took.6, took.7, took.8),
+        )
+    fed_refused ended (RunFault.Device which) h gives answers = absurd (gives h.left h.ends).2
+    fed_refused ended (RunFault.Graph f) h gives answers = absurd (gives h.left h.ends).2
+    fed_refused ended (RunFault.Queries f) h gives answers = absurd (gives h.left h.ends).2
+    fed_refused ended (RunFault.Sources f) h gives answers = absurd (gives h.left h.ends).2
+    fed_refused ended (RunFault.Targets f) h gives answers = absurd (gives h.left h.ends).2
+    fed_refused ended (RunFault.Saved f) h gives answers = absurd (gives h.left h.ends).2
+    fed_refused ended (RunFault.Check f) h gives answers = absurd (gives h.left h.ends).2
+
+  -- a read that is refused finds all answered that was whole
+  pub served_refused : (E : Type 0) (before mid after old new : Option (List ℕ)) (written : ℕ) (s : Standing) (buffer : List ℕ) (e : E) →
+      HasServed (record { before = before; after = mid }) old new written s → GivesBytes mid after (Err e) buffer →
+      Serves {T = Unit} IsTextOf n (record { before = before; after = after }) old new (Err (RunFault.Device Which.Requests))
+  served_refused E before mid after old new written s buffer e h gives =
+      let took = h.answered in
+      let whole : h.given ≡ whole_in n h.read = whole_given n h.read s h.given h.ahead_is h.used_up in
+      (refl, (h.read, h.left, read_refused E before mid after h.read h.left buffer e h.input gives, subst (TookAnswers IsTextOf old new) whole (took.0, took.1, took.2)))
+
+  -- there is no memory for what was read
+  pub served_unfed : (E : Type 0) (before mid after old new : Option (List ℕ)) (written : ℕ) (s : Standing) (buffer : List ℕ) (count : ℕ) →
+      HasServed (record { before = before; after = mid }) old new written s → GivesBytes {E = E} mid after (Ok count) buffer → 0 < length buffer →
+      Serves {T = Unit} IsTextOf n (record { before = before; after = after }) old new (Err RunFault.Memory)
+  served_unfed E before mid after old new written s buffer count h gives room =
+      let fed = served_fed E before mid after old new written s buffer count h gives room in
+      let took = fed.answered in (
+        fed.read,
+        fed.left,
+        fed.input,
+        (fed.given, (ahead (Rattle.ch_read.specs.Requests.fed s (take count buffer)) fed.left).given, ap (λ t. t.given) (fed.ahead_is fed.left), (took.0, took.1, took.2)),
+      )
+
+  -- there were more reads than are counted
+  pub served_long : (requests : Reading) (old new : Option (List ℕ)) (written : ℕ) (s : Standing) → HasServed requests old new written s → Serves {T = Unit} IsTextOf n requests old new (Err RunFault.Memory)
+  served_long requests old new written s h =
+      let took = h.answered in
+      (h.read, h.left, h.input, (h.given, (ahead s h.left).given, ap (λ t. t.given) (h.ahead_is h.left), (took.0, took.1, took.2)))
+
+  -- nothing was read and nothing was written
+  pub served_unread : (input output : Option (List ℕ)) → Serves {T = Unit} IsTextOf n (record { before = input; after = input }) output output (Err RunFault.Memory)
+  served_unread input output = served_long (record { before = input; after = input }) output output 0 (starting n) (served_none input output)
+
+-- a fault that is passed on ends the run as the one that was met
+pub passes_end : (IsTextOf : Request → List ℕ → Type 0) (n : ℕ) (requests : Reading) (old new : Option (List ℕ)) (r : Result Unit RunFault) (e : RunFault) → IsErrAnd r (λ y. y ≡ e) →
+    Serves {T = Unit} IsTextOf n requests old new (Err e) → Serves IsTextOf n requests old new r
+passes_end IsTextOf n requests old new (Ok x) e is h = absurd is
+passes_end IsTextOf n requests old new (Err y) e is h = subst (λ (f : RunFault). Serves {T = Unit} IsTextOf n requests old new (Err f)) (sym is) h
+
+-- answers by one hierarchy are answers by any way that holds of it
+
+module _ (P Q : Request → List ℕ → Type 0) (so : (request : Request) (text : List ℕ) → P request text → Q request text) where
+  took_weaker : (old new : Option (List ℕ)) (requests : List Request) → TookAnswers P old new requests → TookAnswers Q old new requests
+  took_weaker old new requests h = (h.0, (h.1.0, each_weaker P Q so requests h.1.0 h.1.1, h.1.2), h.2)
+
+  pub served_weaker : (n : ℕ) (requests : Reading) (old new : Option (List ℕ)) (r : Result Unit RunFault) → Serves P n requests old new r → Serves Q n requests old new r
+  served_weaker n requests old new (Ok x) h = (h.0, h.1, (h.2.0, took_weaker old new (told_by n h.0).given h.2.1))
+  served_weaker n requests old new (Err (RunFault.Requests fault)) h = (h.0, h.1, h.2, (h.3.0, took_weaker old new (told_by n (h.0 ++ h.1)).given h.3.1))
+  served_weaker n requests old new (Err RunFault.Cells) h = (h.0, h.1, h.2, (h.3.0, (h.3.1.0, took_weaker old new (told_by n (h.0 ++ h.1)).given h.3.1.1)))
+  served_weaker n requests old new (Err RunFault.Memory) h = (h.0, h.1, h.2, (h.3.0, h.3.1, h.3.2, took_weaker old new h.3.0 h.3.3))
+  served_weaker n requests old new (Err (RunFault.Device which)) h = (h.0, (h.1.0, h.1.1, h.1.2, took_weaker old new (whole_in n h.1.0) h.1.3))
+  served_weaker n requests old new (Err (RunFault.Write count)) h =
+      let took = h.3 in
+      (h.0, h.1, h.2, (took.0, took.1, took.2, took.3, took.4, (took.5.0, each_weaker P Q so took.0 took.5.0 took.5.1, took.5.2), took.6, took.7, took.8))
+  served_weaker n requests old new (Err (RunFault.Graph f)) h = absurd h
+  served_weaker n requests old new (Err (RunFault.Queries f)) h = absurd h
+  served_weaker n requests old new (Err (RunFault.Sources f)) h = absurd h
+  served_weaker n requests old new (Err (RunFault.Targets f)) h = absurd h
+  served_weaker n requests old new (Err (RunFault.Saved f)) h = absurd h
+  served_weaker n requests old new (Err (RunFault.Check f)) h = absurd h
+
+-- the answer to a request by the hierarchy in one order is one by that in the order that is wanted, where routes are written in it
+pub asked_in : (options : Options) (by_order : OrderBy) (g : Network) (H : LevelsAndLegs) → (options.routes ≡ true → by_order ≡ options.order) → IsHierarchyBy by_order g options.hops H →
+    (request : Request) (text : List ℕ) → IsRequestText options g (λ K. K ≡ H) request text → IsRequestText options g (IsHierarchyBy options.order g options.hops) request text
+asked_in options by_order g H same is (Query s t) text h = at options.plain options.routes same h
+  where
+    at : (plain routes : Bool) → (routes ≡ true → by_order ≡ options.order) → IsTextBy (not plain && routes) g (λ K. K ≡ H) ((s, t) ∷ []) text → IsTextBy (not plain && routes) g (IsHierarchyBy options.order g options.hops) ((s, t) ∷ []) text
+    at true routes same h = h
+    at false routes same h = text_in routes options.order by_order g options.hops H same is ((s, t) ∷ []) text h
+asked_in options by_order g H same is (TableOf lists) text h = h

@@ -1,0 +1,18 @@
+use Rattle.std.proofs.Common.{◌≡◌, ◌<◌, vec_len}
+use Rattle.ch_hierarchy.specs.Hierarchy.{nodes_of}
+use Rattle.ch_run.specs.Ask.{IsRequestText}
+use Rattle.ch_run.specs.Run.{reading}
+use Rattle.ch_run.proofs.Served.{HasServed}
+use Rattle.ch_run.proofs.run.serving.serve.Given as goal
+
+-- all that was whole in what was read is answered, and no call of a device has failed
+abbrev pub invariant-loop : goal.invariant-loop
+invariant-loop g l = record {
+  room : 0 < vec_len l.buffer;
+  scratch : l.scratch ≡ nodes_of l.checked.hierarchy;
+  served : HasServed (IsRequestText l.options l.checked.graph (λ H. H ≡ l.checked.hierarchy)) l.checked.graph.nodes
+      (reading g.J.Input.left l.initial.requests l.requests) (g.O.Output.taken l.initial.output) (g.O.Output.taken l.output) l.written l.reader;
+  reads : g.J.Input.failed l.requests ≡ g.J.Input.failed l.initial.requests;
+  failed : g.O.Output.failed l.output ≡ g.O.Output.failed l.initial.output;
+  idle : g.O.Output.idle l.output ≡ g.O.Output.idle l.initial.output;
+}

@@ -1,0 +1,8 @@
+use Rattle.std.proofs.lemmas.Result.{IfOk-weaker}
+use Rattle.ch_run.proofs.Texts.{replies_text}
+use Rattle.ch_run.proofs.run.texts.answers_in.Goals as goal
+
+pub returns-clause-text : goal.returns-clause-text
+returns-clause-text g c =
+    IfOk-weaker c.answers_text.result _ _ (λ text is network limits kept.
+    replies_text network c.args.hierarchy.now limits kept c.args.routes c.args.queries.now c.in_ok-answers.answers.items text.items c.in_ok-answers.ensures.answers (rw c.deref.ensures.value at is)) c.answers_text.ensures

@@ -1,0 +1,96 @@
+-- What a run that answers requests as they come owes.
+use Rattle.std.specs.Prelude.{◌≡◌, ◌⊎◌, ℕ, ◌+◌, ◌<◌, List, [], ◌∷◌, ◌++◌, length, take, Option, Some, None, Result, Ok, Err}
+use Rattle.std.specs.List.{AllZip, concat}
+use Rattle.ch_graph.specs.Graph.{Network, IsWithinLimits}
+use Rattle.ch_hierarchy.specs.Hierarchy.{LevelsAndLegs}
+use Rattle.ch_contract.specs.Built.{IsHierarchyBy}
+use Rattle.ch_read.specs.declared.request.Request.{Request}
+use Rattle.ch_read.specs.declared.request.Request.TheVariants.{Query, Table}
+use Rattle.ch_read.specs.declared.request_fault.RequestFault.{RequestFault}
+use Rattle.ch_read.specs.declared.request_fault.RequestFault.TheVariants.{Line, Cells}
+use Rattle.ch_read.specs.Reading.{capped_number}
+use Rattle.ch_read.specs.Requests.{told_by}
+use Rattle.ch_read.specs.RequestLaws.{went_by}
+use Rattle.ch_run.specs.declared.fault.Which.{Which}
+use Rattle.ch_run.specs.declared.fault.RunFault.{RunFault}
+use Rattle.ch_run.specs.declared.options.Options.{Options}
+use Rattle.ch_run.specs.Device.{HasRead, HasTaken}
+use Rattle.ch_run.specs.Run.{Reading, ReadsAll, ReadsGraph, IsOf, IsWrite}
+use Rattle.ch_run.specs.SavedRun.{WithChecked, IsOfChecked}
+use Rattle.ch_run.specs.TableText.{IsTableText}
+use Rattle.ch_run.specs.Text.{IsTextBy, writes_routes}
+
+-- the text of a request: of its query, as a run over this one query writes it, or of the table of its lists
+abbrev pub IsRequestText : Options → Network → (LevelsAndLegs → Type 0) → Request → List ℕ → Type 0
+IsRequestText options g From (Query s t) text = IsTextBy (writes_routes options) g From ((s, t) ∷ []) text
+IsRequestText options g From (Table lists) text = IsTableText g options.within lists.sources lists.targets text
+
+-- a text of each of these requests, one after the other
+abbrev pub AreAnswered : (IsTextOf : Request → List ℕ → Type 0) → List Request → List ℕ → Type 0
+AreAnswered IsTextOf requests text = (texts : List (List ℕ)) × AllZip IsTextOf requests texts × (text ≡ concat texts)
+
+-- the output took the answers to these requests
+abbrev pub TookAnswers : (IsTextOf : Request → List ℕ → Type 0) → (old new : Option (List ℕ)) → List Request → Type 0
+TookAnswers IsTextOf old new requests = (text : List ℕ) × AreAnswered IsTextOf requests text × HasTaken old new text
+
+-- the output took the answers to the first of these requests, however many they are
+abbrev pub TookFirstAnswers : (IsTextOf : Request → List ℕ → Type 0) → (old new : Option (List ℕ)) → List Request → Type 0
+TookFirstAnswers IsTextOf old new requests = (first later : List Request) × (requests ≡ first ++ later) × TookAnswers IsTextOf old new first
+
+-- the output took a beginning of the answers to the first of these requests, and not all of it: so many bytes, with those
+-- that it took before, as far as 64 bits go
+abbrev pub TookBeginning : (IsTextOf : Request → List ℕ → Type 0) → (old new : Option (List ℕ)) → (before count : ℕ) → List Request → Type 0
+TookBeginning IsTextOf old new before count requests =
+    (first later : List Request) × (text : List ℕ) × (bytes : ℕ) × (requests ≡ first ++ later) × AreAnswered IsTextOf first text
+    × (bytes < length text) × HasTaken old new (take bytes text) × (count ≡ capped_number (before + bytes))
+
+-- P holds of the bytes that were read of an input, and of those that are left
+abbrev pub ReadsSome : Reading → (List ℕ → List ℕ → Type 0) → Type 0
+ReadsSome input P = (read left : List ℕ) × HasRead input.before input.after read left × P read left
+
+-- the bytes tell requests of which P holds, and then this fault or none
+abbrev pub TellsThen : ℕ → Option RequestFault → (List Request → Type 0) → List ℕ → Type 0
+TellsThen n fault P bytes = ((told_by n bytes).fault ≡ fault) × P (told_by n bytes).given
+
+-- the requests that are whole in these bytes: those that the lines tell which a line feed ends
+abbrev pub whole_in : ℕ → List ℕ → List Request
+whole_in n bytes = (went_by n bytes).told.given
+
+-- how a run over requests on a graph of n nodes ends, and what the output took. A read that is refused finds all answered that
+-- was whole before it, and no run can know which read will be: so what is whole is answered before each read
+abbrev pub Serves : {T : Type 0} → (IsTextOf : Request → List ℕ → Type 0) → ℕ → Reading → (old new : Option (List ℕ)) → Result T RunFault → Type 0
+Serves IsTextOf n requests old new (Ok _) = ReadsAll requests (TellsThen n None (TookAnswers IsTextOf old new))
+Serves IsTextOf n requests old new (Err (RunFault.Requests fault)) =
+    ReadsSome requests (λ read left. TellsThen n (Some (Line fault)) (TookAnswers IsTextOf old new) (read ++ left))
+Serves IsTextOf n requests old new (Err RunFault.Cells) =
+    ReadsSome requests (λ read left. (line : ℕ) × TellsThen n (Some (Cells line)) (TookAnswers IsTextOf old new) (read ++ left))
+Serves IsTextOf n requests old new (Err RunFault.Memory) =
+    ReadsSome requests (λ read left. TookFirstAnswers IsTextOf old new (told_by n (read ++ left)).given)
+Serves IsTextOf n requests old new (Err (RunFault.Device which)) =
+    (which ≡ Which.Requests) × ReadsSome requests (λ read left. TookAnswers IsTextOf old new (whole_in n read))
+Serves IsTextOf n requests old new (Err (RunFault.Write count)) =
+    ReadsSome requests (λ read left. TookBeginning IsTextOf old new 0 count (told_by n (read ++ left)).given)
+Serves IsTextOf n requests old new (Err _) = ⊥
+
+-- the graph and the saved hierarchy were accepted, and by them the run answered the requests
+abbrev pub ServesFrom : {T : Type 0} → Options → Reading → Reading → Reading → (old new : Option (List ℕ)) → Result T RunFault → Type 0
+ServesFrom options graph saved requests old new result =
+    WithChecked graph saved (λ g H. Serves (IsRequestText options g (λ K. K ≡ H)) g.nodes requests old new result)
+
+-- the graph was accepted, and by its contraction hierarchy the run answered the requests
+abbrev pub ServesBy : {T : Type 0} → Options → Reading → Reading → (old new : Option (List ℕ)) → Result T RunFault → Type 0
+ServesBy options graph requests old new result =
+    (g : Network) × IsWithinLimits g × ReadsGraph graph g × Serves (IsRequestText options g (IsHierarchyBy options.order g options.hops)) g.nodes requests old new result
+
+-- what answering requests may end in: they are refused or can't be read, one has too many cells, there is no memory, or the
+-- output refuses a write
+abbrev pub IsOfServing : RunFault → Type 0
+IsOfServing fault = IsOf Which.Requests fault ⊎ (fault ≡ RunFault.Cells) ⊎ IsWrite fault
+
+-- what a run that answers requests may end in
+abbrev pub IsOfAsk : RunFault → Type 0
+IsOfAsk fault = IsOf Which.Graph fault ⊎ IsOfServing fault
+
+-- what a run that answers requests by a saved hierarchy may end in
+abbrev pub IsOfAskSaved : RunFault → Type 0
+IsOfAskSaved fault = IsOfChecked fault ⊎ IsOfServing fault

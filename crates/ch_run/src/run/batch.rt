@@ -1,0 +1,270 @@
+//! Requests that came together, and their answers.
+ghost use Rattle.std.specs.Prelude.{◌≡◌, ◌<◌, ◌≤◌, [], ◌∷◌, map, length, IfErr, IfOk, MatchOption, OnOk};
+ghost use Rattle.ch_graph.specs.declared.limits.TheConstants.{MOST_QUERIES};
+ghost use Rattle.ch_graph.specs.Graph.{IsWithinLimits};
+ghost use Rattle.ch_hierarchy.specs.Hierarchy.{nodes_of};
+ghost use Rattle.ch_hierarchy.specs.Kept.{IsKept};
+ghost use Rattle.ch_query.specs.Answers.{AreQueries};
+ghost use Rattle.ch_read.specs.Requests.{AreTwoLists, IsUsedUp, query_from};
+ghost use Rattle.ch_read.specs.declared.request.Request.TheVariants as RequestOf;
+ghost use Rattle.ch_run.specs.declared.run.batch.Then.TheVariants as ThenOf;
+ghost use Rattle.ch_run.specs.Ask.{AreAnswered, IsRequestText};
+ghost use Rattle.ch_run.specs.Device.{CanCountOneMore};
+ghost use Rattle.ch_run.specs.Serving.{Answers, CountsWrites, EndsSo, GivesUntil, GoesOn, IsBatch, IsOfAnswering, IsStop, WritesMore, end_of, request_refusal, requests_of};
+
+use super::saved::Checked;
+use super::texts::{answers_in, plain_text, table_by};
+use crate::device::{Output, write_all};
+use crate::fault::{RunFault, Which};
+use crate::options::Options;
+use crate::plan::{Gate, Plan};
+use ch_query::Scratch;
+use ch_read::{Request, RequestError, RequestFault, RequestReader, TableLists};
+use std::alloc::{AllocError, Global};
+use std::thread::Threads;
+
+/// How many queries are answered together at most.
+const TOGETHER: usize = 65_536;
+
+/// Queries that came together, and what came after them.
+#[derive(Drop)]
+pub(crate) struct Batch {
+    pub(crate) queries: Vec<(u32, u32)>,
+    pub(crate) then: Then,
+}
+
+impl Batch {
+    fn new(queries: Vec<(u32, u32)>, then: Then) -> Batch
+        ensures queries { result.queries ≡ queries }
+        ensures then { result.then ≡ then }
+    {
+        Batch { queries, then }
+    }
+}
+
+/// What comes after the queries of a batch.
+#[derive(Drop)]
+pub(crate) enum Then {
+    /// A table.
+    Table(TableLists),
+    /// Maybe more queries.
+    More,
+    /// No further request that is whole.
+    Nothing,
+    /// This fault.
+    Stop(RunFault),
+}
+
+impl Then {
+    /// How a run ends after it, where it ends there.
+    pub(crate) fn end(&self) -> Option<Result<(), RunFault>>
+        ensures { MatchOption result (GoesOn self.now) (EndsSo self.now) }
+    {
+        match self {
+            Then::Table(_) | Then::More => None,
+            Then::Nothing => Some(Ok(())),
+            Then::Stop(fault) => Some(Err(*fault)),
+        }
+    }
+}
+
+/// The requests that are whole, up to the first table or as many queries as are answered together.
+pub(crate) fn gather(alloc: Global, reader: &mut RequestReader, ended: bool) -> Batch
+    ensures nodes { reader.new.nodes ≡ reader.old.nodes }
+    ensures given { GivesUntil ended reader.old reader.new (requests_of result.queries.items result.then) (end_of result.then) }
+    ensures used_up { result.then ≡ ThenOf.Nothing → IsUsedUp ended reader.new }
+    ensures batch { IsBatch reader.old.nodes result.queries.items result.then }
+{
+    let mut queries = Vec::new(alloc);
+    for _ in 0..TOGETHER {
+        match reader.next(alloc, ended) {
+            Ok(Some(Request::Query(from, to))) => {
+                if queries.push((from, to)).is_err() {
+                    return Batch::new(queries, Then::Stop(RunFault::Memory));
+                }
+            }
+            Ok(Some(Request::Table(lists))) => return Batch::new(queries, Then::Table(lists)),
+            Ok(None) => return Batch::new(queries, Then::Nothing),
+            Err(error) => return Batch::new(queries, Then::Stop(refusal(error))),
+        }
+    }
+    Batch::new(queries, Then::More)
+}
+
+/// The fault of a run, where the reader of requests gives none for this error.
+fn refusal(error: RequestError) -> RunFault
+    ensures fault { result ≡ request_refusal error }
+    ensures stop { IsStop result }
+{
+    match error {
+        RequestError::Fault(RequestFault::Line(fault)) => RunFault::Requests(fault),
+        RequestError::Fault(RequestFault::Cells(_)) => RunFault::Cells,
+        RequestError::NoMemory => RunFault::Memory,
+    }
+}
+
+/// Answers a batch: its queries, and then its table. The scratch is the room of queries that one worker answers. `written` counts the bytes that the output took, as far as 64 bits go.
+pub(crate) fn answer_batch<R: Threads + Sync, O: Output, G: Gate>(
+    rt: &R,
+    alloc: Global,
+    checked: &Checked,
+    scratch: &mut Scratch,
+    batch: &Batch,
+    output: &mut O,
+    written: &mut u64,
+    options: &Options,
+    plan: &Plan,
+    gate: &G,
+) -> Result<(), RunFault>
+    requires limits { IsWithinLimits checked.now.graph }
+    requires kept { IsKept checked.now.graph checked.now.hierarchy }
+    requires scratch { scratch.old ≡ nodes_of checked.now.hierarchy }
+    requires batch { IsBatch checked.now.graph.nodes batch.now.queries.items batch.now.then }
+    requires failures { CanCountOneMore (O.failed output.old) }
+    requires zeros { CanCountOneMore (O.idle output.old) }
+    ensures answers { Answers (IsRequestText options.now checked.now.graph (λ H. H ≡ checked.now.hierarchy)) (O.taken output.old) (O.taken output.new)
+        written.old written.new (requests_of batch.now.queries.items batch.now.then) result }
+    ensures scratch { OnOk result (scratch.new ≡ scratch.old) }
+    ensures own { IfErr result IsOfAnswering }
+    ensures counts { CountsWrites (O.failed output.old) (O.failed output.new) (O.idle output.old) (O.idle output.new) result }
+{
+    answer_queries(
+        rt,
+        alloc,
+        checked,
+        scratch,
+        &batch.queries,
+        output,
+        written,
+        options,
+        plan,
+        gate,
+    )?;
+    match &batch.then {
+        Then::Table(lists) => answer_table(
+            rt, alloc, checked, lists, output, written, options, plan, gate,
+        ),
+        _ => Ok(()),
+    }
+}
+
+/// Answers queries, all by one text.
+fn answer_queries<R: Threads + Sync, O: Output, G: Gate>(
+    rt: &R,
+    alloc: Global,
+    checked: &Checked,
+    scratch: &mut Scratch,
+    queries: &[(u32, u32)],
+    output: &mut O,
+    written: &mut u64,
+    options: &Options,
+    plan: &Plan,
+    gate: &G,
+) -> Result<(), RunFault>
+    requires limits { IsWithinLimits checked.now.graph }
+    requires kept { IsKept checked.now.graph checked.now.hierarchy }
+    requires scratch { scratch.old ≡ nodes_of checked.now.hierarchy }
+    requires queries { AreQueries checked.now.graph.nodes queries.now }
+    requires count { length queries.now ≤ MOST_QUERIES }
+    requires failures { CanCountOneMore (O.failed output.old) }
+    requires zeros { CanCountOneMore (O.idle output.old) }
+    ensures answers { Answers (IsRequestText options.now checked.now.graph (λ H. H ≡ checked.now.hierarchy)) (O.taken output.old) (O.taken output.new)
+        written.old written.new (map query_from queries.now) result }
+    ensures scratch { OnOk result (scratch.new ≡ scratch.old) }
+    ensures own { IfErr result IsOfAnswering }
+    ensures counts { CountsWrites (O.failed output.old) (O.failed output.new) (O.idle output.old) (O.idle output.new) result }
+{
+    let text = queries_text(rt, alloc, checked, scratch, queries, options, plan, gate)?;
+    write_more(output, &text, written)
+}
+
+/// The text of queries. Where there are none, nothing is made ready for them.
+fn queries_text<R: Threads + Sync, G: Gate>(
+    rt: &R,
+    alloc: Global,
+    checked: &Checked,
+    scratch: &mut Scratch,
+    queries: &[(u32, u32)],
+    options: &Options,
+    plan: &Plan,
+    gate: &G,
+) -> Result<Vec<u8>, AllocError>
+    requires limits { IsWithinLimits checked.now.graph }
+    requires kept { IsKept checked.now.graph checked.now.hierarchy }
+    requires scratch { scratch.old ≡ nodes_of checked.now.hierarchy }
+    requires queries { AreQueries checked.now.graph.nodes queries.now }
+    requires count { length queries.now ≤ MOST_QUERIES }
+    ensures text { IfOk result (λ text. AreAnswered (IsRequestText options.now checked.now.graph (λ H. H ≡ checked.now.hierarchy)) (map query_from queries.now) text.items) }
+    ensures scratch { OnOk result (scratch.new ≡ scratch.old) }
+{
+    if queries.is_empty() {
+        return Ok(Vec::new(alloc));
+    }
+    if options.plain {
+        return plain_text(alloc, &checked.graph, queries);
+    }
+    let routes = options.routes;
+    answers_in(
+        rt,
+        alloc,
+        &checked.hierarchy,
+        scratch,
+        queries,
+        routes,
+        plan,
+        gate,
+    )
+}
+
+/// Answers a table.
+fn answer_table<R: Threads + Sync, O: Output, G: Gate>(
+    rt: &R,
+    alloc: Global,
+    checked: &Checked,
+    lists: &TableLists,
+    output: &mut O,
+    written: &mut u64,
+    options: &Options,
+    plan: &Plan,
+    gate: &G,
+) -> Result<(), RunFault>
+    requires limits { IsWithinLimits checked.now.graph }
+    requires kept { IsKept checked.now.graph checked.now.hierarchy }
+    requires lists { AreTwoLists checked.now.graph.nodes lists.now }
+    requires failures { CanCountOneMore (O.failed output.old) }
+    requires zeros { CanCountOneMore (O.idle output.old) }
+    ensures answers { Answers (IsRequestText options.now checked.now.graph (λ H. H ≡ checked.now.hierarchy)) (O.taken output.old) (O.taken output.new)
+        written.old written.new (RequestOf.Table lists.now ∷ []) result }
+    ensures own { IfErr result IsOfAnswering }
+    ensures counts { CountsWrites (O.failed output.old) (O.failed output.new) (O.idle output.old) (O.idle output.new) result }
+{
+    let sources = lists.sources();
+    let targets = lists.targets();
+    let text = table_by(
+        rt,
+        alloc,
+        &checked.hierarchy,
+        sources,
+        targets,
+        options.within,
+        plan,
+        gate,
+    )?;
+    write_more(output, &text, written)
+}
+
+/// Writes more, and counts it.
+fn write_more<O: Output>(output: &mut O, text: &[u8], written: &mut u64) -> Result<(), RunFault>
+    requires failures { CanCountOneMore (O.failed output.old) }
+    requires zeros { CanCountOneMore (O.idle output.old) }
+    ensures more { WritesMore (O.taken output.old) (O.taken output.new) written.old written.new text.now result }
+    ensures counts { CountsWrites (O.failed output.old) (O.failed output.new) (O.idle output.old) (O.idle output.new) result }
+{
+    match write_all(output, text) {
+        Ok(()) => {
+            *written = written.saturating_add(text.len() as u64);
+            Ok(())
+        }
+        Err(count) => Err(RunFault::Write(written.saturating_add(count))),
+    }
+}

@@ -1,0 +1,107 @@
+"""Streams of requests: written, and drawn from a seed on random graphs, with the options of their run and what is owed for them."""
+import random
+from itertools import pairwise
+
+from helpers.cases import Case
+from helpers.mutating import MUTATIONS, with_lines
+from helpers.writing import write_graph
+from oracles.contracting import contract_in_order, text_of
+from oracles.reading import read
+from oracles.requesting import Answers, Query, Table
+from oracles.rules import hierarchy_text
+
+# The options of a run that `dist` knows, and those that `table` does. Each is a word and its value, or None.
+FOR_ALL = "--saved", "--workers", "--piece", "--hops"
+FOR_QUERIES = "--routes", "--deep", *FOR_ALL
+FOR_TABLES = "--within", *FOR_ALL
+
+
+def words_of(options, known=(*FOR_QUERIES, *FOR_TABLES)):
+    """The words of those options that are known."""
+    return [str(word) for option, value in options.items() if option in known for word in (option, value) if word is not None]
+
+
+def stream_of(requests):
+    """The bytes that ask for these."""
+    lines = []
+    for request in requests:
+        if isinstance(request, Query):
+            lines.append("q %d %d" % request)
+        else:
+            lines += [f"t {len(request.sources)} {len(request.targets)}", *(f"s {node}" for node in request.sources + request.targets)]
+    return "".join(f"{line}\n" for line in lines).encode()
+
+
+def drawn_requests(draw, nodes, how_many, sizes):
+    """So many requests, of which one of five is a table, with lists of these sizes."""
+    def drawn(count):
+        return [draw.randint(1, nodes) for _ in range(count)]
+
+    return [Table(drawn(draw.choice(sizes)), drawn(draw.choice(sizes))) if draw.random() < 0.2 else Query(*drawn(2)) for _ in range(how_many)]
+
+
+def with_skipped(draw, stream):
+    """The stream with lines that are skipped among the others, and sometimes without its last line feed."""
+    lines = stream.split(b"\n")
+    for _ in range(draw.choice([0, 0, 1, 3])):
+        lines.insert(draw.randint(0, len(lines)), draw.choice([b"", b"c q 1 1", b" \t\r", b"comment \0\xff"]))
+    return b"\n".join(lines)[:draw.choice([None, -1])]
+
+
+def resize_table(draw, lines):
+    """Gives a table other sizes, small ones and those at the limits."""
+    tables = [place for place, line in enumerate(lines) if line.startswith(b"t ")]
+    if tables:
+        lines[draw.choice(tables)] = b"t %d %d" % tuple(draw.choice([0, 2, 65, 65_536, 65_537]) for _ in range(2))
+
+
+SIZE_MUTATIONS = 6 * [with_lines(resize_table)]
+
+
+def cut_at_random(draw, stream):
+    """The parts of a stream, none of them empty."""
+    inner = range(1, len(stream))
+    places = sorted(draw.sample(inner, min(len(inner), draw.choice([0, 1, 3, 20]))))
+    return [stream[start:end] for start, end in pairwise([0, *places, len(stream)]) if start < end]
+
+
+class Drawn:
+    """A random graph, a stream of requests on it, where it is cut, and the options of its run."""
+
+    def __init__(self, seed):
+        draw = random.Random(f"stream {seed}")
+        self.case = Case(seed)
+        self.is_mutated = draw.random() < 0.5
+        self.stream = with_skipped(draw, stream_of(drawn_requests(draw, self.case.nodes, draw.randint(0, 12), (0, 1, 2, 5))))
+        if self.is_mutated:
+            for _ in range(draw.choice([1, 1, 2])):
+                self.stream = draw.choice([*MUTATIONS, *SIZE_MUTATIONS])(draw, self.stream)
+        self.parts = cut_at_random(draw, self.stream)
+        self.options = self.drawn_options(draw)
+
+    def drawn_options(self, draw):
+        options = {"--workers": draw.choice([1, 2, 64]), "--piece": draw.choice([1, 3]), "--hops": self.case.hops[0]}
+        more = {"--routes": None, "--deep": None, "--within": self.case.limit, "--saved": "own.ch"}
+        return options | {option: value for option, value in more.items() if draw.random() < 0.4}
+
+    def write(self, folder):
+        """The graph, and a hierarchy of it in an order of its own."""
+        case = self.case
+        write_graph(folder / "graph.gr", case.nodes, case.arcs)
+        (folder / "own.ch").write_text(text_of(case.nodes, case.order, contract_in_order(case.nodes, case.arcs, case.order)))
+
+    def hierarchy(self, folder):
+        """The order and the legs by which routes are told, where they are."""
+        if "--routes" not in self.options:
+            return None
+        case = self.case
+        if "--saved" in self.options:
+            text = (folder / "own.ch").read_text()
+        else:
+            text = hierarchy_text(case.nodes, case.arcs, case.hops[0], "--deep" in self.options)
+        _, (order, legs) = read("saved", text.encode(), case.nodes)
+        return [node for node, in order], legs
+
+    def owed(self, folder):
+        within = self.options.get("--within", 2**60)
+        return Answers(self.case.nodes, self.case.arcs, within, self.hierarchy(folder)).owed(self.stream)
