@@ -14,6 +14,10 @@ import sys
 
 # A crossing keeps 1.63 roads on average, and a road has 1.2 nodes of degree two.
 NODES_OF_A_CROSSING = 1 + 1.2 * 1.63
+# How many of the streets outside the tree are kept, and how many of these are one-way.
+KEPT, ONE_WAY = 0.60, 0.03
+# How many nodes cut a road, each as likely as the others.
+CUTS = (0, 0, 1, 1, 1, 2, 2, 1, 4, 0)
 SPEEDS = ((20, 30, 30, 50, 50), (70, 80, 100), (120, 130))
 
 
@@ -49,14 +53,14 @@ def kept(draw, side):
         if a != b:
             root[a] = b
             roads.append((here, there, kind, False))
-        elif kind or draw.random() < 0.60:
-            roads.append((here, there, kind, kind == 0 and draw.random() < 0.03))
+        elif kind or draw.random() < KEPT:
+            roads.append((here, there, kind, kind == 0 and draw.random() < ONE_WAY))
     return sorted(roads)
 
 
 def cuts_of(draw, roads, wanted):
     """How many nodes cut each road, `wanted` in all."""
-    cuts = [draw.choice((0, 0, 1, 1, 1, 2, 2, 1, 4, 0)) for _ in roads]
+    cuts = [draw.choice(CUTS) for _ in roads]
     have = sum(cuts)
     while have != wanted:
         road = draw.randrange(len(roads))

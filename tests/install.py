@@ -96,7 +96,8 @@ def check_installed(tally, prefix, folder):
         status, out, err = said([name, "--help"], folder, path)
         tally.expect((status, err) == (0, "") and "usage:" in out.lower(), f"{name} --help: {status} {err}")
         check_page(tally, prefix, name, {"--help"})
-    check_page(tally, prefix, "chtab", tools)
+        tally.expect(out.startswith(f"usage: {name} "), f"{name} is told by another name: {out[:60]}")
+    check_page(tally, prefix, "chtab", tools | {"--help", "--version"})
 
 
 def check_page(tally, prefix, name, words):

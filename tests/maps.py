@@ -12,12 +12,13 @@ import os
 import pathlib
 import random
 import re
+import subprocess
 
 # First of all, since it puts the package on the path.
 from helpers.maps import BLOCK, COUNTRY, ROAD, arcs_of, converted, fault_of, in_line, noted, osm, random_map, refused, tool, weights
 
 from helpers import tables
-from helpers.packages import run_checks
+from helpers.packages import PYTHON, run_checks
 from helpers.running import ROOT
 from oracles import mapping
 from chtab import files
@@ -57,6 +58,7 @@ def lists_in_tags_are_sets():
     ]:
         assert (weights(ROAD | {"access": value}) is not None) == is_open, value
     assert weights(ROAD | {"smoothness": "impassable"}) is None and weights(ROAD | {"smoothness": "bad"})
+    assert weights(ROAD | {"smoothness": "impassable"}, profile="bicycle") is None and weights(ROAD | {"smoothness": "impassable"}, profile="foot")
     assert weights({"highway": "service", "service": "emergency_access"}) is None
     assert weights(ROAD | {"area": "yes"}) is None and weights({"highway": "rest_area"}) is None
     for tags, is_open in [
@@ -281,11 +283,32 @@ def maps_in_binary():
         writer.close()
         made = [converting.convert(path, converting.Choices(turns=True, nodes="all", part="all")) for path in (str(given), f"{name}.osm.pbf")]
         assert made[0][0] == made[1][0] and made[0][1].counts == made[1][1].counts, name
+    assert told_by_the_way("odd.osm.pbf").startswith("reading: 7 objects\nroads: 1 of 1 roads\n"), told_by_the_way("odd.osm.pbf")
     whole = pathlib.Path("country.osm.pbf").read_bytes()
     assert tool("osm_to_gr", "--quiet", "-", "out", text=whole)[0] == tool("osm_to_gr", "--quiet", "country.osm.pbf", "out")[0]
     for size in 20, 100, len(whole) // 2, len(whole) - 1:
         pathlib.Path("short.osm.pbf").write_bytes(whole[:size])
         assert "short.osm.pbf: cut short or spoilt: " in refused("short.osm.pbf", "none"), size
+
+
+def told_by_the_way(*words):
+    """What the command tells on standard error where each step is told, numbers of seconds aside."""
+    text = "import sys; sys.path.insert(0, sys.argv[1])\nimport chtab.progress\nchtab.progress.SECONDS = 0\n"
+    text += "from chtab.commands import osm_to_gr\nosm_to_gr.main(sys.argv[2:])\n"
+    done = subprocess.run([PYTHON, "-c", text, ROOT / "python", *words, "out"], capture_output=True, text=True)
+    assert done.returncode == 0, done.stderr
+    return re.sub(r" after \d+ s(, some \d+ s left)?", "", done.stderr)
+
+
+def signs_of_life():
+    """The bytes that were read, of the ways and then of the nodes, and the roads; with --quiet nothing."""
+    text = in_line(3).encode()
+    for packer in bytes, gzip.compress, bz2.compress, lzma.compress:
+        pathlib.Path("map").write_bytes(packer(text))
+        size = os.path.getsize("map")
+        told = f"reading: {size} of {2 * size} bytes\nreading: {2 * size} of {2 * size} bytes\nroads: 1 of 1 roads\n"
+        assert told_by_the_way("map") == told + "left out of map, for cars: nothing\n", told_by_the_way("map")
+        assert told_by_the_way("--quiet", "map") == ""
 
 
 def weights_are_rounded_once():
@@ -319,6 +342,7 @@ def bends_of_arcs():
     pathlib.Path("bends.osm").write_text(osm({1: (0, 0), 2: (1, 0), 3: (1, 1), 4: (2, 2)}, [([1, 2, 3, 4], ROAD)]))
     tool("osm_to_gr", "--bends", "--quiet", "bends.osm", "bends")
     assert files.read_bends("bends.bends") == {0: [(0.001, 0), (0.001, 0.001)], 1: [(0.001, 0.001), (0.001, 0)]}
+    pathlib.Path("plain.bends").write_text("b 1 0 0\n")
     tool("osm_to_gr", "--quiet", "bends.osm", "plain")
     assert not pathlib.Path("plain.bends").exists() and items("plain.gr") == items("bends.gr")
 
@@ -368,7 +392,7 @@ GROUPS = (
         [
             barriers_leave_dead_ends, lists_in_tags_are_sets, deleted_things_are_not_there, limits_of_speed, directions, profiles_differ,
             tables_are_sound, the_page_has_the_tables, ferries_take_their_time, what_is_left_out_is_told, parts_are_kept,
-            files_of_all_forms, weights_are_rounded_once, the_sphere_is_like_the_earth, bends_of_arcs,
+            files_of_all_forms, signs_of_life, weights_are_rounded_once, the_sphere_is_like_the_earth, bends_of_arcs,
             random_maps_agree_with_the_other_converter, the_example_is_made_again, no_package_is_needed,
         ],
     ),

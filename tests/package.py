@@ -1,10 +1,8 @@
 #!/usr/bin/python3
-"""Tests the Python package: files, networks over the built program and over a stand-in that behaves badly, trips, reach, and installing.
+"""Tests the Python package: files, networks over the built program and over one that fails, blocks, and installing.
 
 What needs a package that is missing is told and left out. The last line is 'N passed, N failed'.
 """
-import contextlib
-import json
 import os
 import pathlib
 import random
@@ -14,60 +12,22 @@ import sys
 import threading
 import time
 
+# First of all, since it puts the package on the path.
+from helpers.maps import COUNTRY
+
 from helpers import running
 from helpers.cases import Case
+from helpers.commands import raises
+from helpers.moods import STANDIN, asked, lives_on, living, mood, noted
 from helpers.packages import PYTHON, run_checks
 from helpers.running import PROGRAM, ROOT
 from helpers.writing import write_graph
+import chtab
+from chtab import blocks, files
+from chtab.progress import Progress
 
-sys.path.insert(0, str(ROOT / "python"))
-
-import chtab  # noqa: E402
-from chtab import blocks, engine, files  # noqa: E402
-from chtab.progress import Progress  # noqa: E402
-
-STANDIN = ROOT / "tests" / "helpers" / "standin.py"
-COUNTRY = ROOT / "examples" / "liechtenstein"
-VADUZ, MALBUN, RUGGELL = (9.5209, 47.1410), (9.6079, 47.1020), (9.5280, 47.2390)
-
-
-@contextlib.contextmanager
-def mood(words):
-    """Runs of the stand-in within behave so, and note their process numbers; none of them is left behind."""
-    os.environ["STANDIN"] = f"{words} notes={os.getcwd()}/noted"
-    engine.knows_ask.cache_clear()
-    try:
-        yield
-    finally:
-        del os.environ["STANDIN"]
-        engine.knows_ask.cache_clear()
-    left = left_of("noted")
-    assert not left, left
-
-
-def left_of(path):
-    """The runs that were noted and live on."""
-    if not os.path.exists(path):
-        return []
-    noted = [line.split()[0] for line in open(path)]
-    return [number for number in noted if os.path.exists(f"/proc/{number}") and "standin" in open(f"/proc/{number}/cmdline").read()]
-
-
-def raises(kind, call, *words, told=""):
-    try:
-        call(*words)
-    except kind as fault:
-        assert told in str(fault), fault
-        return fault
-    raise AssertionError(f"{call} raised nothing")
-
-
-def command(name, *words, text="", status=0):
-    """What a command of tools/ writes to standard output, or with another status to standard error."""
-    words = [PYTHON, ROOT / "tools" / f"{name}.py", *words]
-    done = subprocess.run(list(map(str, words)), input=text, capture_output=True, text=True)
-    assert done.returncode == status and bool(done.stderr) == bool(status), done
-    return done.stderr if status else done.stdout
+FIRST = ROOT / "examples" / "first.gr"
+VADUZ, MALBUN = (9.5209, 47.1410), (9.6079, 47.1020)
 
 
 def files_are_read_as_written():
@@ -93,14 +53,13 @@ def files_are_read_as_written():
 
 
 def random_graphs_answer_as_dijkstra():
-    """Distances, tables and routes of random graphs, by the built program and by both engines over the stand-in."""
+    """Distances, tables and routes of random graphs."""
     import numpy
 
     for seed in range(24):
         case = Case(seed)
-        program, words = [(PROGRAM, ""), (STANDIN, ""), (STANDIN, "old")][seed % 3]
         write_graph("graph.gr", case.nodes, case.arcs)
-        with mood(words), chtab.Network.open("graph.gr", program=program) as network:
+        with chtab.Network.open("graph.gr", program=PROGRAM) as network:
             wanted = [-1 if weight is None else weight for _, _, weight, _ in case.answers()]
             found = network.distances(numpy.array(case.queries, int).reshape(-1, 2))
             assert found.dtype == numpy.int64 and found.tolist() == wanted, (seed, found, wanted)
@@ -143,7 +102,7 @@ def roads_answer_as_scipy():
 
 
 def what_is_not_a_question_is_refused():
-    with mood(""), chtab.Network.open(ROOT / "examples" / "first.gr", program=STANDIN) as network:
+    with chtab.Network.open(FIRST, program=PROGRAM) as network:
         for pairs, told in ([(1, 4)], "node 4 is not from 1 to 3"), ([(0, 1)], "node 0"), ([1, 2, 3], "shape (n, 2)"), ([(1.5, 2)], "whole number"):
             raises(ValueError, network.distances, pairs, told=told)
         raises(ValueError, network.table, [1], [2], -1, told="limit")
@@ -153,42 +112,93 @@ def what_is_not_a_question_is_refused():
     pathlib.Path("bad.gr").write_text("p sp 1 1\n")
     fault = raises(chtab.ProgramFault, lambda: chtab.Network.open("bad.gr", program=PROGRAM), told="chtab: graph line 2: too few lines")
     assert fault.status == 1
+    raises(chtab.ProgramFault, lambda: chtab.Network.open(FIRST, program=PROGRAM, workers=0), told="error: invalid value '0'")
     raises(FileNotFoundError, lambda: chtab.Network.open("none.gr", program=PROGRAM))
     raises(chtab.ChtabError, lambda: chtab.Network.open("bad.gr", program="no-program"), told="can't be run")
 
 
 def a_program_that_fails_is_told_and_gone():
-    """A run that dies, stops or is late is an error with its own line; the next call begins a new one."""
-    first = ROOT / "examples" / "first.gr"
+    """A run that dies, stops, is late or writes what is no answer is an error; the next call begins a new one."""
     for words, kind, told in (
         ("dies=2", chtab.ProgramFault, "ended by signal 11"),
         ("stops=2", chtab.ProgramFault, "chtab: out of memory"),
         ("hangs=2", chtab.TimedOut, "longer than 1 seconds"),
+        ("garbles=2", chtab.ProgramFault, "not asked"),
     ):
-        with mood(words), chtab.Network.open(first, program=STANDIN, timeout=1) as network:
+        with mood(words), chtab.Network.open(FIRST, program=STANDIN, timeout=1) as network:
             assert network.distances([(1, 3)]).tolist() == [9]
             raises(kind, network.distances, [(1, 3)], told=told)
-            assert not left_of("noted")
-            assert network.distances([(1, 3), (3, 1)]).tolist() == [9, -1]
-    with mood("slow=0.2"), chtab.Network.open(first, program=STANDIN, timeout=5) as network:
+            assert lives_on(0), words
+            assert network.distances([(3, 1)]).tolist() == [-1]
+    with mood("garbles=1"), chtab.Network.open(FIRST, program=STANDIN) as network:
+        for call, *words in (network.distances, [(1, 3), (3, 1)]), (network.table, [1, 3], [1]):
+            raises(chtab.ProgramFault, call, *words, told="not asked")
+    with mood("slow=0.2"), chtab.Network.open(FIRST, program=STANDIN, timeout=5) as network:
         assert network.distances([(1, 3)] * 3).tolist() == [9] * 3
+    with mood("loads=1.5"), chtab.Network.open(FIRST, program=STANDIN, timeout=1) as network:
+        assert network.distances([(1, 3)]).tolist() == [9]
+    with mood(), chtab.Network.open(FIRST, program=STANDIN) as network:
+        os.kill(living()[0], signal.SIGKILL)
+        raises(chtab.ProgramFault, network.distances, [(1, 3)], told="ended by signal 9")
+        assert network.distances([(1, 3)]).tolist() == [9]
+
+
+def runs_are_kept():
+    """One for distances and tables, one for routes and one for limits up to a power of two; of more than four the one that was not asked
+    for longest is ended."""
+    with mood(), chtab.Network.open(FIRST, program=STANDIN) as network:
+        for _ in range(2):
+            assert network.distances([(1, 3)]).tolist() == [9] and network.table([1], [2, 3]).tolist() == [[4, 9]]
+            assert network.routes([(1, 3)])[0].nodes == [1, 2, 3]
+            assert [network.table([1], [2, 3], within).tolist() for within in (5, 7, 8)] == [[[4, -1]]] * 3
+            assert network.table([1], [2, 3], 9).tolist() == [[4, 9]]
+        assert asked() == ["", "--routes", "--within 8", "--within 16"] and lives_on(8), noted()
+        network.routes([(1, 3)])
+        assert network.table([1], [2], 0).tolist() == [[-1]] and lives_on(8)
+        network.routes([(1, 3)])
+        assert network.distances([(1, 3)]).tolist() == [9] and lives_on(8)
+        assert asked()[4:] == ["--within 1", ""], noted()
+    with mood(), chtab.Network.open(FIRST, program=STANDIN, load=False) as network:
+        assert network.table([1], [2, 3], 8).tolist() == [[4, -1]] and asked()[6:] == ["--within 8"], noted()
+
+
+def closing_ends_what_is_under_way():
+    with mood("hangs=1"):
+        network, faults = chtab.Network.open(FIRST, program=STANDIN), []
+        thread = threading.Thread(target=lambda: faults.append(raises(chtab.ChtabError, network.distances, [(1, 3)], told="closed")))
+        thread.start()
+        while not network.engine.asked:
+            time.sleep(0.01)
+        network.close()
+        thread.join(20)
+        assert len(faults) == 1
+        raises(chtab.ChtabError, network.routes, [(1, 3)], told="closed")
+
+
+def what_is_longer_than_a_pipe_holds():
+    """Many questions, and long answers to few: neither side waits for the other."""
+    write_graph("line.gr", 5_000, [(node, node + 1, 1) for node in range(1, 5_000)])
+    with chtab.Network.open("line.gr", program=PROGRAM, timeout=120) as network:
+        pairs = [(1, 1 + count % 5_000) for count in range(200_000)]
+        assert network.distances(pairs).tolist() == [end - start for start, end in pairs]
+        assert network.table(range(1, 1_001), [5_000]).tolist() == [[5_000 - node] for node in range(1, 1_001)]
+        assert network.table([1], range(1, 5_001)).tolist() == [list(range(5_000))]
+        assert [len(route.nodes) for route in network.routes([(1, 5_000)] * 100)] == [5_000] * 100
 
 
 def a_signal_leaves_nothing_behind():
     """Ctrl-C and SIGTERM while the program is asked end a command by the signal, without a word and without a child."""
     files.write_list("some.ss", [1, 2, 3])
-    command = [PYTHON, ROOT / "tools" / "blocks.py", "--program", STANDIN, "--side", "1", ROOT / "examples" / "first.gr", "some.ss", "some.ss", "out.csv"]
-    for words in "hangs=1", "hangs=1 old":
-        for number in signal.SIGINT, signal.SIGTERM:
-            with mood("old slow=1" if "old" in words else words):
-                child = subprocess.Popen(list(map(str, command)), stdout=subprocess.PIPE, stderr=subprocess.PIPE)
-                while not os.path.exists("noted") or len(open("noted").readlines()) < 2:
-                    time.sleep(0.02)
-                child.send_signal(number)
-                told = child.communicate(timeout=20)
-                assert (child.returncode, *told) == (-number, b"", b""), (child.returncode, told)
-            assert not [name for name in os.listdir() if "out.csv" in name], os.listdir()
-            os.unlink("noted")
+    command = [PYTHON, ROOT / "tools" / "blocks.py", "--program", STANDIN, "--side", "1", FIRST, "some.ss", "some.ss", "out.csv"]
+    for number in signal.SIGINT, signal.SIGTERM:
+        with mood("hangs=1"):
+            child = subprocess.Popen(list(map(str, command)), stdout=subprocess.PIPE, stderr=subprocess.PIPE)
+            while not living():
+                time.sleep(0.02)
+            child.send_signal(number)
+            told = child.communicate(timeout=20)
+            assert (child.returncode, *told) == (-number, b"", b""), (child.returncode, told)
+        assert not [name for name in os.listdir() if "out.csv" in name], os.listdir()
 
 
 def a_closed_pipe_is_silent():
@@ -215,23 +225,23 @@ def signs_of_life():
 
 
 def threads_share_a_network():
-    """Calls of distances, tables and routes from eight threads."""
+    """Calls of distances, routes, tables and tables within limits from eight threads, by more runs than are kept."""
     wrong = []
-    with mood(""), chtab.Network.open(f"{COUNTRY}.gr", program=STANDIN) as network:
+    with chtab.Network.open(f"{COUNTRY}.gr", program=PROGRAM) as network:
         draw = random.Random("threads")
         nodes = [draw.randint(1, network.nodes) for _ in range(6)]
         table = network.table(nodes, nodes)
 
         def work(seed):
             draw = random.Random(seed)
-            for _ in range(30):
-                k, l = draw.randrange(6), draw.randrange(6)
+            for _ in range(12):
+                k, l, within = draw.randrange(6), draw.randrange(6), 1 << draw.randrange(18, 21)
                 found = [
                     int(network.distances([(nodes[k], nodes[l])])[0]), int(network.table(nodes[k], nodes[l])[0, 0]),
-                    network.routes([(nodes[k], nodes[l])])[0].weight,
+                    network.routes([(nodes[k], nodes[l])])[0].weight, int(network.table(nodes[k], nodes[l], within)[0, 0]),
                 ]
-                if found != [table[k, l]] * 3:
-                    wrong.append((k, l, found))
+                if found != [table[k, l]] * 3 + [table[k, l] if table[k, l] <= within else -1]:
+                    wrong.append((k, l, within, found))
 
         threads = [threading.Thread(target=work, args=(seed,)) for seed in range(8)]
         for thread in threads:
@@ -249,21 +259,20 @@ def blocks_are_as_wide_as_the_limits_let_them():
         assert rows * columns <= 2**22 and max(rows, columns) <= 2**16, (rows, columns)
     wide = [(node, node + 1, 1) for node in range(1, 70_000)]
     write_graph("wide.gr", 70_000, wide)
-    with mood(""):
+    with mood():
         files.write_list("from.ss", [1])
         files.write_list("all.ss", range(1, 70_001))
         command = [PYTHON, ROOT / "tools" / "blocks.py", "--program", STANDIN, "wide.gr", "from.ss", "all.ss", "reach.csv"]
         told = subprocess.run(list(map(str, command)), capture_output=True, text=True)
         assert told.stdout == "1 by 70,000 cells in reach.csv, from 2 blocks\n", told
-        runs = [line.split()[1] for line in open("noted")]
-        assert runs.count("ask") == 1, runs
+        assert len(asked()) == 1, noted()
         assert pathlib.Path("reach.csv").read_text().split("\n")[1] == "1," + ",".join(map(str, range(70_000)))
 
 
 def frames_and_features():
     import pandas
 
-    with mood(""), chtab.Network.open(f"{COUNTRY}.gr", program=STANDIN) as network:
+    with chtab.Network.open(f"{COUNTRY}.gr", program=PROGRAM) as network:
         nodes, metres = network.nearest(*zip(VADUZ, MALBUN))
         assert nodes.tolist() == [72, network.nearest(*MALBUN)[0][0]] and metres.max() < 100
         frame = network.frame(nodes, nodes)
@@ -274,128 +283,6 @@ def frames_and_features():
         assert [len(each["geometry"]["coordinates"]) for each in features] == [len(each.nodes) for each in routes]
 
 
-def trips_are_exact_between_places_on_roads():
-    """Places beside roads: trips on the graph of crossings with its bends against those on the graph of all bends, by a search of this
-    script over both ends of each road."""
-    import numpy
-
-    graphs = ("all", ["--nodes", "all"]), ("crossings", ["--bends"])
-    for name, words in graphs:
-        command("osm_to_gr", "--quiet", *words, f"{COUNTRY}.osm.bz2", name)
-    graph, coordinates = files.read_graph("all.gr"), files.read_coordinates("all.co")
-    draw = random.Random("two hundred trips")
-
-    def place():
-        arc, part = draw.randrange(len(graph.tails)), draw.random()
-        (x, y), (u, v) = coordinates.of(graph.tails[arc]), coordinates.of(graph.heads[arc])
-        return x + (u - x) * part + draw.gauss(0, 20) / 75_700, y + (v - y) * part + draw.gauss(0, 20) / 111_195
-
-    places = numpy.array([place() for _ in range(400)])
-    found = []
-    for name, _ in graphs:
-        with chtab.Network.open(f"{name}.gr", program=PROGRAM) as network:
-            spots = network.snap(*places.T)
-            found.append(network.trips(spots[:200], spots[200:]))
-            few = network.trip_routes(spots[:20], spots[200:220])
-            assert [trip.weight for trip in few] == found[-1][:20].tolist()
-            assert numpy.array_equal(numpy.diag(network.trip_table(spots[:20], spots[200:220])), found[-1][:20])
-            for trip, start, end in zip(few, spots[:20].longitudes, spots[200:220].longitudes):
-                assert max(abs(trip.line[0][0] - start), abs(trip.line[-1][0] - end)) < 2e-5
-                steps = numpy.hypot(*(numpy.diff(trip.line, axis=0) * (75_700, 111_195)).T)
-                assert abs(steps.sum() - trip.metres) < 0.01 * trip.metres
-    errors = abs(found[0] - found[1]) / 1000
-    assert (found[0] >= 0).all() and (errors < 5).mean() >= 0.99, sorted(errors)[-10:]
-
-
-def places_on_one_road_and_past_it():
-    """A one-way road and one of both directions, by hand; places that are too far away, or swapped, are refused."""
-    degree = 1 / 111_195
-    write_graph("road.gr", 3, [(1, 2, 1000), (2, 3, 1000), (3, 2, 3000)])
-    files.write_coordinates("road.co", [(0, 0), (1000 * degree, 0), (2000 * degree, 0)])
-    with mood(""), chtab.Network.open("road.gr", program=STANDIN) as network:
-        spots = network.snap([200 * degree, 600 * degree, 1500 * degree, 0.0, 1750 * degree], [10 * degree, 0.0, 0.0, 0.0, 0.0])
-        assert spots.metres.round().tolist() == [10, 0, 0, 0, 0]
-        table = network.trip_table(spots, spots).tolist()
-        near = [[0, 400, 1300, -1, 1550], [-1, 0, 900, -1, 1150], [-1, -1, 0, -1, 250], [200, 600, 1500, 0, 1750], [-1, -1, 750, -1, 0]]
-        assert all(abs(a - b) <= 1 for row, wanted in zip(table, near) for a, b in zip(row, wanted)), table
-        pairs = [(a, b) for a in range(5) for b in range(5)]
-        starts, ends = (spots[list(part)] for part in zip(*pairs))
-        assert network.trips(starts, ends).reshape(5, 5).tolist() == table
-        assert [trip.line is None for trip in network.trip_routes(starts, ends)] == [weight < 0 for row in table for weight in row]
-        raises(chtab.TooFar, network.snap, [0.0], [0.02], told="2,224 m from the nearest road, more than 1,000 m")
-        assert network.snap([0.0], [0.02], 3_000).metres.round().tolist() == [2224]
-
-
-def reach_is_where_its_nodes_are():
-    """Polygons of reach have all nodes that are reached, but for their smoothed corners, and few of the others."""
-    import numpy
-    from shapely.geometry import MultiPoint, Point, shape
-
-    with mood(""), chtab.Network.open(f"{COUNTRY}.gr", program=STANDIN) as network:
-        spot = network.snap(*VADUZ)
-        times = network.reach(spot, 600_000)
-        found = network.isochrones(spot, [300_000, 600_000])["features"]
-        assert [each["properties"]["limit"] for each in found] == [600_000, 300_000]
-        outer, inner = (shape(each["geometry"]).buffer(0) for each in found)
-        assert outer.is_valid and inner.is_valid and inner.difference(outer).area < 0.01 * inner.area
-        for limit, area in (600_000, outer), (300_000, inner):
-            inside = MultiPoint(network.roads.places[(times >= 0) & (times <= limit)].tolist())
-            assert sum(area.buffer(0.0006).contains(place) for place in inside.geoms) == len(inside.geoms)
-        assert outer.contains(Point(VADUZ)) and not outer.contains(Point(RUGGELL))
-        raises(ValueError, network.isochrones, spot, [], told="limit")
-
-
-def commands_tell_trips_and_reach():
-    """The commands `trips` and `reach` write what the package finds, and refuse what lies nowhere near."""
-    places = "9.5209 47.1410 Vaduz\n9.6079 47.1020 Malbun\n9.5280 47.2390 Ruggell\n9.5020 47.0660\n"
-    words = "--program", PROGRAM, COUNTRY
-    with chtab.Network.open(f"{COUNTRY}.gr", program=PROGRAM) as network:
-        spots = network.snap(*zip(VADUZ, MALBUN, RUGGELL, (9.5020, 47.0660)))
-        table = network.trip_table(spots, spots)
-        limits = [feature["geometry"] for feature in network.isochrones(spots[:1], [60_000, 300_000])["features"]]
-    metres = spots.metres.round().astype(int)
-    told = [f"Vaduz,Malbun,{table[0, 1]},{metres[0]},{metres[1]}", f"Ruggell,9.502 47.066,{table[2, 3]},{metres[2]},{metres[3]}"]
-    assert command("trips", *words, text=places).splitlines() == ["from,to,weight,from_metres,to_metres", *told]
-    rows = [line.split(",") for line in command("trips", "--table", *words, text=places).splitlines()]
-    assert [row[0] for row in rows] == ["source", "Vaduz", "Malbun", "Ruggell", "9.502 47.066"] and rows[0][1:] == [row[0] for row in rows[1:]]
-    assert [row[1:] for row in rows[1:]] == [list(map(str, row)) for row in table.tolist()]
-    lines = json.loads(command("trips", "--geojson", *words, text=places))["features"]
-    assert [each["properties"]["weight"] for each in lines] == [table[0, 1], table[2, 3]] and len(lines[0]["geometry"]["coordinates"]) > 10
-    found = json.loads(command("reach", *words, "--limits", "60000,300000", text=places))["features"]
-    assert [each["properties"] for each in found] == [{"limit": limit, "from": "Vaduz"} for limit in (300_000, 60_000)]
-    assert [each["geometry"] for each in found] == json.loads(json.dumps(limits))
-    swapped = "47.1410 9.5209 Vaduz\n47.1 9.5\n"
-    for name, more in ("trips", ()), ("trips", ("--table",)), ("reach", ("--limits", 1000)):
-        fault = command(name, *more, *words, text=swapped, status=1)
-        assert "is 5,467,4" in fault and "from the nearest road, more than 1,000 m" in fault and fault.count("\n") == 1, fault
-    assert "no second" in command("trips", *words, text=swapped[:20], status=1)
-    assert "no place" in command("reach", "--limits", 1000, *words, status=1)
-
-
-def graphs_with_turns_have_no_roads():
-    """Where a crossing has several nodes, places are not taken to roads."""
-    write_graph("turns.gr", 3, [(1, 2, 1), (2, 1, 1)])
-    files.write_coordinates("turns.co", [(0, 0), (0.01, 0), (0.01, 0)], (), [(2, 3)])
-    for name, words in ("trips", []), ("reach", ["--limits", "5"]):
-        fault = command(name, *words, "--program", PROGRAM, "turns", text="0 0 A\n0.01 0 B\n", status=1)
-        assert "where turns are restricted" in fault and fault.count("\n") == 1, fault
-
-
-def reach_of_more_nodes_than_a_table_has():
-    """A road of 70,000 nodes: one run answers two blocks."""
-    degree = 1 / 111_195
-    write_graph("long.gr", 70_000, [(node, node + 1, 1) for node in range(1, 70_000)])
-    files.write_coordinates("long.co", [(node * degree, 0) for node in range(70_000)])
-    with mood(""), chtab.Network.open("long.gr", program=STANDIN) as network:
-        spot = network.snap(0.0, 0.0)
-        assert network.reach(spot).tolist() == list(range(70_000))
-        assert network.reach(spot, 68_000)[68_000:].tolist() == [68_000] + [-1] * 1_999
-        [feature] = network.isochrones(spot, [69_000])["features"]
-        east = max(place[0] for part in feature["geometry"]["coordinates"] for place in part[0])
-        assert 69_000 * degree <= east <= 69_800 * degree, east / degree
-        assert [line.split()[1] for line in open("noted")].count("ask") == 1
-
-
 def it_installs_without_a_network():
     subprocess.run([PYTHON, "-m", "venv", "--system-site-packages", "venv"], check=True)
     words = ["venv/bin/pip", "install", "--no-input", "--no-index", "--quiet", "--disable-pip-version-check"]
@@ -403,27 +290,26 @@ def it_installs_without_a_network():
     subprocess.run(["cp", "-r", str(ROOT / "python"), str(source)], check=True)
     done = subprocess.run([*words, f"./{source}"], capture_output=True, text=True)
     assert done.returncode == 0, done.stderr
-    text = f"import chtab; n = chtab.Network.open('{ROOT}/examples/first.gr', program='{STANDIN}'); print(n.distances([(1, 3)])[0], chtab.__file__)"
+    text = f"import chtab; n = chtab.Network.open('{ROOT}/examples/first.gr', program='{PROGRAM}'); print(n.distances([(1, 3)])[0], chtab.__file__)"
     done = subprocess.run(["venv/bin/python", "-c", text], capture_output=True, text=True)
     assert done.stdout.startswith("9 ") and "/venv/" in done.stdout, done
-    done = subprocess.run(["venv/bin/chtab-page", "--help"], capture_output=True, text=True)
-    assert "chtab-page" in done.stdout, done
+    for tool in sorted((ROOT / "tools").glob("*.py")):
+        done = subprocess.run([f"venv/bin/chtab-{tool.stem.replace('_', '-')}", "--help"], capture_output=True, text=True)
+        assert done.returncode == 0 and "usage:" in done.stdout.lower(), done
 
 
 GROUPS = (
     ((), [files_are_read_as_written, a_signal_leaves_nothing_behind, a_closed_pipe_is_silent, blocks_are_as_wide_as_the_limits_let_them]),
     (("python3-tqdm",), [signs_of_life]),
-    (("python3-numpy",), [random_graphs_answer_as_dijkstra, what_is_not_a_question_is_refused, a_program_that_fails_is_told_and_gone, threads_share_a_network]),
-    (("python3-numpy", "python3-scipy"), [roads_answer_as_scipy]),
-    (("python3-numpy", "python3-pandas"), [frames_and_features]),
     (
-        ("python3-numpy", "python3-scipy", "python3-shapely"),
+        ("python3-numpy",),
         [
-            trips_are_exact_between_places_on_roads, places_on_one_road_and_past_it, reach_is_where_its_nodes_are, commands_tell_trips_and_reach,
-            graphs_with_turns_have_no_roads,
-            reach_of_more_nodes_than_a_table_has,
+            random_graphs_answer_as_dijkstra, what_is_not_a_question_is_refused, a_program_that_fails_is_told_and_gone, runs_are_kept,
+            closing_ends_what_is_under_way, what_is_longer_than_a_pipe_holds, threads_share_a_network,
         ],
     ),
+    (("python3-numpy", "python3-scipy"), [roads_answer_as_scipy]),
+    (("python3-numpy", "python3-pandas"), [frames_and_features]),
     (("python3-numpy", "python3-pip", "python3-setuptools", "python3-wheel", "python3-venv"), [it_installs_without_a_network]),
 )
 

@@ -19,6 +19,7 @@ import time
 import urllib.parse
 
 from helpers import running
+from helpers.moods import STANDIN, mood
 from helpers.packages import PYTHON, run_checks
 from helpers.running import PROGRAM, ROOT
 from helpers.writing import write_graph
@@ -28,7 +29,6 @@ sys.path.insert(0, str(ROOT / "python"))
 import chtab  # noqa: E402
 from chtab import files  # noqa: E402
 
-STANDIN = ROOT / "tests" / "helpers" / "standin.py"
 COUNTRY = ROOT / "examples" / "liechtenstein"
 VADUZ, ESCHEN = [9.5209, 47.1410], [9.5450, 47.2200]
 # A metre along the equator, in degrees.
@@ -36,11 +36,10 @@ METRE = 1 / 111_195
 
 
 @contextlib.contextmanager
-def service(out=COUNTRY, *words, program=STANDIN, mood=""):
-    """A service on a free port: its process, host and port. It ends well, and leaves nothing behind."""
-    environment = os.environ | {"STANDIN": f"{mood} notes={os.getcwd()}/noted"}
+def service(out=COUNTRY, *words, program=PROGRAM):
+    """A service on a free port: its process, host and port. It ends well."""
     command = [PYTHON, ROOT / "tools" / "page.py", "--port", 0, "--program", program, *words, out]
-    child = subprocess.Popen(list(map(str, command)), stdout=subprocess.PIPE, stderr=open("told", "w"), text=True, env=environment)
+    child = subprocess.Popen(list(map(str, command)), stdout=subprocess.PIPE, stderr=open("told", "w"), text=True)
     try:
         address = urllib.parse.urlsplit(child.stdout.readline().strip())
         assert address.port, open("told").read()
@@ -49,9 +48,13 @@ def service(out=COUNTRY, *words, program=STANDIN, mood=""):
         child.terminate()
         status = child.wait(20)
     assert status in (0, -signal.SIGKILL), status
-    noted = [line.split()[0] for line in open("noted")] if os.path.exists("noted") else []
-    time.sleep(0.2 if status else 0)
-    assert not [number for number in noted if os.path.exists(f"/proc/{number}")], noted
+
+
+@contextlib.contextmanager
+def faulty_service(words, *more):
+    """The same over the stand-in in a mood. It leaves no run behind."""
+    with mood(words), service(COUNTRY, *more, program=STANDIN) as found:
+        yield found
 
 
 def ask(address, path, body=None, method=None):
@@ -70,7 +73,7 @@ def requests_are_answered():
     """Routes, tables and reach are those of the package; a tile is a picture."""
     import xml.etree.ElementTree
 
-    with service() as (_, address), chtab.Network.open(f"{COUNTRY}.gr", program=STANDIN) as network:
+    with service() as (_, address), chtab.Network.open(f"{COUNTRY}.gr", program=PROGRAM) as network:
         spots = network.snap(*zip(VADUZ, ESCHEN))
         [trip] = network.trip_routes(spots[:1], spots[1:])
         status, route = ask(address, "/api/route", {"from": VADUZ, "to": ESCHEN})
@@ -139,19 +142,20 @@ def memory_of(process):
     return 1024 * int(next(line.split()[1] for line in text.splitlines() if line.startswith("VmRSS")))
 
 
-def fifty_clients_at_once():
-    """No answer is wrong, none is lost, and memory is steady."""
+def fifty_clients_for_a_minute():
+    """No answer is wrong, none is lost, and memory is steady from half of the minute on."""
     draw = random.Random("fifty clients")
     coordinates = files.read_coordinates(f"{COUNTRY}.co")
     places = [coordinates.of(draw.choice(coordinates.known())) for _ in range(12)]
     with chtab.Network.open(f"{COUNTRY}.gr", program=PROGRAM) as network:
         spots = network.snap(*zip(*places))
         wanted = network.trip_table(spots, spots).tolist()
-    with service(COUNTRY, program=PROGRAM) as (child, address):
+    with service() as (child, address):
 
         def work(seed):
-            draw = random.Random(seed)
-            for _ in range(12):
+            """How many answers were right, or the first that was wrong."""
+            draw, count = random.Random(seed), 0
+            while time.monotonic() < until:
                 k, l = draw.randrange(12), draw.randrange(12)
                 if draw.random() < 0.5:
                     status, value = ask(address, "/api/route", {"from": places[k], "to": places[l]})
@@ -161,36 +165,38 @@ def fifty_clients_at_once():
                     found = value["weights"][0][0] if status == 200 else value
                 if found != wanted[k][l]:
                     return k, l, found, wanted[k][l]
-            return None
+                count += 1
+            return count
 
-        held = []
+        until = time.monotonic() + 60
         with concurrent.futures.ThreadPoolExecutor(50) as clients:
-            for turn in range(2):
-                wrong = list(filter(None, clients.map(work, range(50 * turn, 50 * turn + 50))))
-                assert not wrong, wrong[:3]
-                held.append(memory_of(child))
-        assert held[1] < 1.1 * held[0] + 5e6, held
+            working = [clients.submit(work, seed) for seed in range(50)]
+            time.sleep(30)
+            held = memory_of(child)
+            counts = [each.result() for each in working]
+        assert all(isinstance(count, int) and count for count in counts) and sum(counts) > 500, counts
+        assert memory_of(child) < 1.1 * held + 5e6, (memory_of(child), held)
 
 
 def a_full_queue_and_a_program_that_dies():
     """Where too many wait some are told to come again, and none is lost; a program that died is begun anew."""
-    with service(COUNTRY, "--waiting", "4", mood="slow=0.1") as (_, address), concurrent.futures.ThreadPoolExecutor(20) as clients:
+    with faulty_service("slow=0.1", "--waiting", "4") as (_, address), concurrent.futures.ThreadPoolExecutor(20) as clients:
         found = list(clients.map(lambda _: ask(address, "/api/route", {"from": VADUZ, "to": ESCHEN}), range(20)))
         count = [status for status, _ in found].count(200)
         assert 4 <= count < 20, found
         assert all(status == 200 or (status == 503 and "waiting" in value["error"]) for status, value in found), found
-    with service(mood="dies=9") as (_, address):
+    with faulty_service("dies=9") as (_, address):
         found = [ask(address, "/api/table", {"sources": [VADUZ], "targets": [ESCHEN]})[0] for _ in range(30)]
         assert set(found) == {200, 503} and found.count(503) <= 4, found
     assert "Traceback" not in open("told").read()
 
 
 def a_service_ends_well():
-    with service() as (child, address):
+    with faulty_service("") as (child, address):
         child.send_signal(signal.SIGINT)
         assert child.wait(20) == 0
     assert open("told").read() == ""
-    command = [PYTHON, ROOT / "tools" / "page.py", "--program", STANDIN, "none"]
+    command = [PYTHON, ROOT / "tools" / "page.py", "--program", PROGRAM, "none"]
     done = subprocess.run(list(map(str, command)), capture_output=True, text=True)
     assert (done.returncode, done.stderr.count("\n")) == (1, 1) and "none.gr" in done.stderr, done
 
@@ -291,7 +297,7 @@ def a_page_with_routes_and_reach():
     """Two clicks, both ways, a drag, reach and back, and a service that dies."""
     pathlib.Path("places.txt").write_text("9.5209 47.1410 Vaduz\n9.5450 47.2200 Eschen\n")
     with contextlib.ExitStack() as stack:
-        child, address = stack.enter_context(service(COUNTRY, "--places", "places.txt", "--title", "Liechtenstein", program=PROGRAM))
+        child, address = stack.enter_context(service(COUNTRY, "--places", "places.txt", "--title", "Liechtenstein"))
         network = stack.enter_context(chtab.Network.open(f"{COUNTRY}.gr", program=PROGRAM))
         page = stack.enter_context(Browser())
         page.show(address)
@@ -353,7 +359,7 @@ def a_page_where_there_is_no_way():
 SERVICE = "python3-aiohttp", "python3-numpy", "python3-scipy", "python3-shapely", "libjs-leaflet"
 GROUPS = (
     (SERVICE, [
-        requests_are_answered, faults_are_told_in_a_line, clients_that_go_away, fifty_clients_at_once, a_full_queue_and_a_program_that_dies,
+        requests_are_answered, faults_are_told_in_a_line, clients_that_go_away, fifty_clients_for_a_minute, a_full_queue_and_a_program_that_dies,
         a_service_ends_well,
     ]),
     ((*SERVICE, "python3-selenium", "chromium", "chromium-driver"), [a_page_with_routes_and_reach, a_page_where_there_is_no_way]),

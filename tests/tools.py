@@ -194,30 +194,27 @@ def tables_in_blocks():
 
 
 def blocks_by_saved_hierarchies(graph):
-    """One is built for all blocks where they outnumber the runs at a time; a given one is read; a limit is handed on."""
+    """No more runs than are wanted at a time make all blocks; a hierarchy that is given is read, and a limit is handed on."""
     program = pathlib.Path("noting")
     program.write_text(f'#!/bin/sh\necho "$*" >> "{os.getcwd()}/noted"\nexec "{PROGRAM}" "$@"\n')
     program.chmod(0o755)
     wanted = pathlib.Path("table.csv").read_text()
 
     def noted(*words):
-        """What the program was called for: with a saved hierarchy, with a limit, or to save."""
+        """How often the program was called to ask it, with a saved hierarchy, with a limit."""
         pathlib.Path("noted").unlink(missing_ok=True)
         tool("blocks", "--program", program.resolve(), "--side", "7", *words, graph, "from.ss", "to.ss", "again.csv")
         calls = pathlib.Path("noted").read_text().splitlines()
-        kinds = {"ask", "table"}, {"save"}, {"--saved"}, {"--within"}
-        return [sum(not kind.isdisjoint(call.split()) for call in calls) for kind in kinds]
+        return [sum(word in call.split() for call in calls) for word in ("ask", "--saved", "--within")]
 
     pathlib.Path("own.ch").write_text(run(PROGRAM, "save", graph))
-    keeps_runs = " ask " in run(PROGRAM, "--help")
-    for words, is_saved in ([], not keeps_runs), (["--saved", "own.ch"], True), (["--side", "9"], False):
-        runs, saves, by_saved, _ = noted("--processes", "2", *words)
-        assert 1 <= runs <= 2 if keeps_runs or words == ["--side", "9"] else runs == 4, (words, runs)
-        assert (saves, by_saved) == (is_saved and not words, is_saved * runs), (words, saves, by_saved)
+    for words, is_saved in ([], False), (["--saved", "own.ch"], True), (["--side", "2"], False):
+        runs, by_saved, within = noted("--processes", "2", *words)
+        assert 1 <= runs <= 2 and (by_saved, within) == (is_saved * runs, 0), (words, runs, by_saved, within)
         assert pathlib.Path("again.csv").read_text() == wanted, words
     limit = 1_000_000
-    runs, *others = noted("--processes", "4", "--within", limit)
-    assert others == [0, 0, runs] and (runs == 4 or keeps_runs), (runs, others)
+    runs, by_saved, within = noted("--processes", "4", "--within", limit)
+    assert 1 <= runs <= 4 and (by_saved, within) == (0, runs), (runs, by_saved, within)
     rows = [line.split(",") for line in wanted.splitlines()[1:]]
     cells = [[cell if int(cell) <= limit else "" for cell in row[1:]] for row in rows]
     assert [line.split(",")[1:] for line in pathlib.Path("again.csv").read_text().splitlines()[1:]] == cells

@@ -1,4 +1,5 @@
-"""Tables of any size, in blocks, by several runs of the program on this machine or on those of a Dask cluster."""
+"""Tables of any size, in blocks, by several runs of the program on this machine or on those of a Dask cluster. Each run is kept, and makes
+one block after the other."""
 import concurrent.futures
 import contextlib
 import os
@@ -7,7 +8,7 @@ import queue
 import tempfile
 import threading
 import zipfile
-from dataclasses import dataclass, replace
+from dataclasses import dataclass
 
 from chtab import engine, files
 from chtab.errors import ChtabError, ProgramFault
@@ -60,69 +61,52 @@ def cut(sources, targets, side=None):
 def made(running, block, within):
     """What the program writes for a block. It runs in any process, on any machine."""
     try:
-        text = running.rows(block.sources, block.targets, within)
+        return running.table(block.sources, block.targets, within)
     except ProgramFault as fault:
         raise RuntimeError(f"block of {block.name()}: status {fault.status}. {fault}") from None
-    rows = text.count(b"\n")
-    if rows != len(block.sources):
-        raise RuntimeError(f"block of {block.name()}: {rows} rows")
-    return text
 
 
 class Pool:
-    """Threads of this machine, each with a run of its own that is kept, or with runs of its own one after the other."""
+    """Threads of this machine, each with a run of its own that is kept."""
 
     as_completed = staticmethod(concurrent.futures.as_completed)
 
-    def __init__(self, setting, count):
-        self.setting = setting
-        self.engines, self.idle = [], queue.SimpleQueue()
-        self.lock = threading.Lock()
-        self.is_closed = False
+    def __init__(self, setting, within, count):
+        self.within = within
+        self.engines, self.idle = [engine.Engine(setting) for _ in range(count)], queue.SimpleQueue()
+        for running in self.engines:
+            self.idle.put(running)
         self.threads = concurrent.futures.ThreadPoolExecutor(count)
 
     def begin(self, block):
         return self.threads.submit(self.run, block)
 
     def run(self, block):
-        running = self.take()
+        running = self.idle.get()
         try:
-            return made(running, block, self.setting.within)
+            return made(running, block, self.within)
         finally:
             self.idle.put(running)
-
-    def take(self):
-        """An engine that no other thread uses."""
-        with contextlib.suppress(queue.Empty):
-            return self.idle.get_nowait()
-        with self.lock:
-            if self.is_closed:
-                raise Failed("the run was ended")
-            running = engine.open_engine(self.setting)
-            self.engines.append(running)
-        return running
 
     def __enter__(self):
         return self
 
     def __exit__(self, kind, *_):
         self.threads.shutdown(wait=kind is None, cancel_futures=True)
-        with self.lock:
-            self.is_closed = True
-            for running in self.engines:
-                running.close()
+        for running in self.engines:
+            running.close()
         self.threads.shutdown()
 
 
-def run_on_worker(block, setting):
-    """A block on a worker of Dask, by the engine that its thread keeps."""
+def run_on_worker(block, setting, within):
+    """A block on a worker of Dask, by the run that its thread keeps."""
     import distributed
 
     kept = distributed.get_worker().__dict__.setdefault("chtab_engines", {})
     key = threading.get_ident(), setting
     if key not in kept:
-        kept[key] = engine.open_engine(setting)
-    return made(kept[key], block, setting.within)
+        kept[key] = engine.Engine(setting)
+    return made(kept[key], block, within)
 
 
 def close_on_worker(dask_worker):
@@ -145,12 +129,12 @@ def send_package(client):
 class Cluster:
     """The same on the workers of a Dask scheduler."""
 
-    def __init__(self, setting, address):
+    def __init__(self, setting, within, address):
         try:
             import distributed
         except ImportError:
             raise Failed("--scheduler needs Dask (Debian's package python3-distributed)") from None
-        self.setting = setting
+        self.setting, self.within = setting, within
         self.as_completed = distributed.as_completed
         try:
             self.client = distributed.Client(address, timeout=PATIENCE)
@@ -166,7 +150,7 @@ class Cluster:
             raise
 
     def begin(self, block):
-        return self.client.submit(run_on_worker, block, self.setting, pure=False)
+        return self.client.submit(run_on_worker, block, self.setting, self.within, pure=False)
 
     def __enter__(self):
         return self
@@ -193,31 +177,22 @@ def compute(pool, blocks, folder):
 
 
 def rows(folder, sources, targets, height, width):
-    """The source and the cells of each row, in order, put together from the blocks' files."""
+    """The text of each row, its source and its cells, in order and put together from the blocks' files."""
     for row in range(0, len(sources), height):
         parts = [targets[column:column + width] for column in range(0, len(targets), width)]
         with contextlib.ExitStack() as stack:
             texts = [
-                files.read_rows(stack.enter_context(open(folder / f"{row}.{place * width}")), len(part))
+                files.read_row_texts(stack.enter_context(open(folder / f"{row}.{place * width}", "rb")), len(part))
                 for place, part in enumerate(parts)
             ]
-            for source in sources[row:row + height]:
+            for source in map(b"%d".__mod__, sources[row:row + height]):
                 found = [next(text) for text in texts]
                 if any(told != source for told, _ in found):
-                    raise Failed(f"the row of source {source} is not there")
-                yield source, [cell for _, cells in found for cell in cells]
+                    raise Failed(f"the row of source {source.decode()} is not there")
+                yield b" ".join([source, *(cells for _, cells in found)])
 
 
-def save(setting):
-    """Builds the hierarchy and saves it where the setting has it."""
-    with engine.RunEngine(setting) as running:
-        try:
-            running.save(setting.saved)
-        except ProgramFault as fault:
-            raise Failed(f"the hierarchy: status {fault.status}. {fault}") from None
-
-
-def make(setting, sources, targets, out, side=None, processes=None, scheduler=None):
+def make(setting, sources, targets, out, within=None, side=None, processes=1, scheduler=None):
     """Makes the table of these nodes in OUT (.csv or .npy), which is there once it is whole. The number of its blocks is answered."""
     out = pathlib.Path(out)
     if out.suffix not in (".csv", ".npy"):
@@ -227,17 +202,13 @@ def make(setting, sources, targets, out, side=None, processes=None, scheduler=No
     count = max(1, min(processes, len(blocks), -(-len(sources) * len(targets) // WORTH) if side is None else processes))
     with tempfile.TemporaryDirectory(prefix=f".{out.name}.", dir=out.parent) as kept:
         folder = pathlib.Path(kept)
-        runs = count if scheduler or engine.knows_ask(setting.program) else len(blocks)
-        if not setting.saved and not scheduler and runs > count:
-            setting = replace(setting, saved=str(folder / "saved"))
-            save(setting)
-        with Cluster(setting, scheduler) if scheduler else Pool(setting, count) as pool:
+        with Cluster(setting, within, scheduler) if scheduler else Pool(setting, within, count) as pool:
             compute(pool, blocks, folder)
         made_rows = rows(folder, sources, targets, height, width)
         whole = folder / "whole"
         if out.suffix == ".csv":
-            files.write_csv(whole, targets, made_rows)
+            files.write_csv_of_texts(whole, targets, made_rows)
         else:
-            files.write_npy(whole, len(sources), len(targets), made_rows)
+            files.write_npy_of_texts(whole, len(sources), len(targets), made_rows)
         os.replace(whole, out)
     return len(blocks)

@@ -14,9 +14,9 @@ class TooFar(ChtabError, ValueError):
 
 
 class ProgramFault(ChtabError, RuntimeError):
-    """The program ended before it had answered. The text has the program's own line, where it told one.
+    """The program ended before it had answered, or wrote what is no answer. The text has the program's own line, where it told one.
 
-    `status` is its exit status, or less than 0 the signal that ended it.
+    `status` is its exit status, less than 0 the signal that ended it, and 0 where it wrote what is no answer.
     """
 
     def __init__(self, text, status):

@@ -10,7 +10,7 @@
 | `.ss` | a list of nodes: sources or targets | `read_list` | `write_list` |
 | places | longitude, latitude and a name a line | `read_places` | |
 | text of `dist` | distances and routes | `read_answers` | |
-| text of `table` | a row for each source | `read_rows` | `write_csv`, `write_npy` |
+| text of `table` | a row for each source | `read_rows`, `read_row_texts` | `write_csv`, `write_csv_of_texts`, `write_npy_of_texts` |
 
 Nodes are numbered from 1, arcs by their order from 0. Columns of numbers are `array.array`s, which numpy takes without a copy.
 What is read may be a path, an open file or lines; what is written a path or an open file. A `FileFault` names the file.
@@ -30,8 +30,11 @@ from chtab.errors import FileFault
 
 # The weights' units that a graph's comment may name, each with its short name and how many of the weight make one.
 UNITS = {"milliseconds": ("min", 60_000), "metres": ("km", 1_000)}
-# A comment of coordinates: where trips to a node end, since turns are restricted there (docs/MAPS.md).
+# Lines that are formatted at once.
+ROWS_AT_ONCE = 1_000
+# Comments of coordinates, since turns are restricted there (docs/MAPS.md): where trips to a node end, and which node is another one too.
 END = re.compile(r"Trips to node (\d+) end at node (\d+)\.")
+COPY = re.compile(r"Node (\d+) is node (\d+), as some turns come to it\.")
 # What stands before each node that the command `nearest` finds.
 NOTE = re.compile(r"c (.*): node (\d+), [\d,]+ m away")
 
@@ -63,6 +66,11 @@ class Coordinates(NamedTuple):
     def ends(self):
         """Where trips end whose target is a node at which turns are restricted: {node: node}. All others end at their target."""
         return {int(found[1]): int(found[2]) for found in map(END.fullmatch, self.comments) if found}
+
+    def copies(self):
+        """The nodes that stand for another one, where turns are restricted: {node: that one}. Those where trips end are among them."""
+        found = {int(found[1]): int(found[2]) for found in map(COPY.fullmatch, self.comments) if found}
+        return found | {end: node for node, end in self.ends().items()}
 
     def known(self):
         """The nodes that have a place, in order."""
@@ -144,6 +152,13 @@ def write_comments(file, comments):
     file.writelines(f"c {comment}\n" for comment in comments)
 
 
+def write_rows(file, form, rows):
+    """A line of this form for each row of numbers; many are formatted at once, which takes half of the time."""
+    rows = iter(rows)
+    while some := list(itertools.islice(rows, ROWS_AT_ONCE)):
+        file.write(form * len(some) % tuple(itertools.chain.from_iterable(some)))
+
+
 # Graphs, coordinates and bends.
 
 
@@ -175,7 +190,7 @@ def write_graph(target, nodes, arcs, comments=()):
     with writing(target) as file:
         write_comments(file, comments)
         file.write(f"p sp {nodes} {len(arcs)}\n")
-        file.writelines(f"a {tail} {head} {weight}\n" for tail, head, weight in arcs)
+        write_rows(file, "a %d %d %d\n", arcs)
 
 
 def read_coordinates(source):
@@ -191,13 +206,15 @@ def read_coordinates(source):
     return Coordinates(longitudes, latitudes, comments_of(lines))
 
 
-def write_coordinates(target, places, comments=(), ends=()):
-    """The places of nodes 1, 2, ..: a list of (longitude, latitude) in degrees. `ends` has pairs as `Coordinates.ends` gives them."""
+def write_coordinates(target, places, comments=(), ends=(), copies=()):
+    """The places of nodes 1, 2, ..: a list of (longitude, latitude) in degrees. `ends` has pairs as `Coordinates.ends` gives them, and
+    `copies` the others of `Coordinates.copies`."""
     with writing(target) as file:
         write_comments(file, comments)
         write_comments(file, (f"Trips to node {node} end at node {end}." for node, end in ends))
+        write_comments(file, (f"Node {copy} is node {node}, as some turns come to it." for copy, node in copies))
         file.write(f"p aux sp co {len(places)}\n")
-        file.writelines(f"v {node} {round(x * 1e6)} {round(y * 1e6)}\n" for node, (x, y) in enumerate(places, 1))
+        write_rows(file, "v %d %d %d\n", ((node, round(x * 1e6), round(y * 1e6)) for node, (x, y) in enumerate(places, 1)))
 
 
 def read_bends(source):
@@ -214,8 +231,8 @@ def write_bends(target, bends, comments=()):
     with writing(target) as file:
         write_comments(file, comments)
         file.write(f"p aux sp bends {sum(map(len, bends.values()))}\n")
-        for arc, points in sorted(bends.items()):
-            file.writelines(f"b {arc + 1} {round(x * 1e6)} {round(y * 1e6)}\n" for x, y in points)
+        points = ((arc + 1, *place) for arc, places in sorted(bends.items()) for place in places)
+        write_rows(file, "b %d %d %d\n", ((arc, round(x * 1e6), round(y * 1e6)) for arc, x, y in points))
 
 
 # Names, queries, lists and places.
@@ -357,15 +374,33 @@ def write_csv(target, targets, rows):
         lines.writerows([source, *("" if cell is None else cell for cell in cells)] for source, cells in rows)
 
 
-def write_npy(target, height, width, rows):
-    """A matrix of 64-bit numbers as numpy reads it, -1 for None. `rows` gives (source, cells). The form of numpy, version 1.0: its head
-    is filled with blanks to a multiple of 64 bytes."""
+def read_row_texts(source, width):
+    """The rows of a text of `chtab table` as they stand there: (source, cells), both bytes, with a blank between two cells. Of large tables it
+    takes a part of the time that their numbers do."""
+    with reading(source, "rb") as file:
+        for line in file:
+            words = line.rstrip(b"\n").split(b" ", 2)
+            if words[0] != b"t" or line.count(b" ") != 1 + width:
+                raise FileFault(f"not a row of `chtab table` with {width} targets: {line[:60]}")
+            yield words[1], words[2]
+
+
+def write_csv_of_texts(target, targets, rows):
+    """What `write_csv` writes, of rows of text: the source and the cells, with a blank between two, and `-` for none."""
+    with writing(target, "wb") as file:
+        file.write(",".join(["source", *map(str, targets)]).encode() + b"\n")
+        file.writelines(row.replace(b" ", b",").replace(b"-", b"") + b"\n" for row in rows)
+
+
+def write_npy_of_texts(target, height, width, rows):
+    """A matrix of 64-bit numbers as numpy reads it, -1 for none, of such rows of text. The form of numpy, version 1.0: its head is filled with
+    blanks to a multiple of 64 bytes."""
     head = f"{{'descr': '<i8', 'fortran_order': False, 'shape': ({height}, {width}), }}"
     head += " " * (-(len(head) + 11) % 64) + "\n"
     with writing(target, "wb") as file:
         file.write(b"\x93NUMPY\x01\x00" + struct.pack("<H", len(head)) + head.encode())
-        for _, cells in rows:
-            numbers = array.array("q", (-1 if cell is None else cell for cell in cells))
+        for row in rows:
+            numbers = array.array("q", map(int, row.replace(b"-", b"-1").split()[1:]))
             if sys.byteorder == "big":
                 numbers.byteswap()
             file.write(numbers.tobytes())

@@ -8,6 +8,8 @@ Weights are whole numbers in the graph's unit, mostly milliseconds (`network.uni
 arrays of int64, as numpy, pandas and `blocks.py` have them, which a masked array or NaN would not, and no distance is below 0.
 """
 import collections.abc
+import itertools
+import math
 import os
 import threading
 from typing import NamedTuple
@@ -15,6 +17,7 @@ from typing import NamedTuple
 import numpy
 
 from chtab import blocks, engine, files, geojson, nearest
+from chtab.child import unasked
 from chtab.errors import ChtabError
 
 # Queries that are sent together.
@@ -73,7 +76,9 @@ class Trip(NamedTuple):
 
 
 class Network:
-    """Answers on one graph. A program that knows `chtab ask` is run once and kept; of any other each call is a run, by a saved hierarchy.
+    """Answers on one graph, by runs of `chtab ask` that are kept: one for distances and tables, one for routes, and one for the tables within
+    each limit, whose searches end at it. Limits up to the same power of two share a run. Each run loads the network when it is first
+    needed, and holds it; no more than four are kept, and of more the one that was not asked for longest is ended.
     Calls may come from several threads; `close`, or the end of a `with`, ends what runs."""
 
     def __init__(self, graph, running, coordinates, bends):
@@ -85,22 +90,26 @@ class Network:
         self.kept = {}
 
     @classmethod
-    def open(cls, graph, saved=None, *, coordinates=None, bends=None, program=None, workers=1, timeout=None):
+    def open(cls, graph, saved=None, *, coordinates=None, bends=None, program=None, workers=1, timeout=None, load=True):
         """The network of a graph (`.gr`), once it was read and its hierarchy built or, where `saved` names a file of `chtab save`, checked.
+        Each run does so for itself, which takes less than half the time by a saved hierarchy.
 
         `coordinates` and `bends` are the files of the nodes' places and of the points between them; without them those beside the graph
         are taken (`.co`, `.bends`), where they are there. `program` is the program chtab (that of this checkout, else the one on the path),
-        `workers` its threads, and `timeout` the seconds that it may take for a call, loading among it (None: any).
+        `workers` its threads, and `timeout` the seconds that it may take for an answer (None: any), loading not counted. Without `load` nothing
+        is loaded before it is asked for: that saves one who asks one kind of question the run for distances.
 
-        A graph or hierarchy that is refused is a `ProgramFault` with the program's own line; so is a program that dies.
+        A graph or hierarchy that is refused is a `ProgramFault` with the program's own line; so is a program that dies. A program that takes
+        too long is a `TimedOut`, and ended. The next call runs it again.
         """
         graph = os.path.abspath(graph)
-        setting = engine.Setting(engine.program_of(program), graph, None if saved is None else os.path.abspath(saved), None, workers, timeout)
         for path in filter(None, (graph, saved, coordinates, bends)):
             open(path, "rb").close()
-        running = engine.open_engine(setting)
+        saved = None if saved is None else os.path.abspath(saved)
+        running = engine.Engine(engine.Setting(engine.program_of(program), graph, saved, workers, timeout))
         try:
-            running.prepare()
+            if load:
+                running.load()
             base = os.path.splitext(graph)[0]
             return cls(graph, running, coordinates or beside(base + ".co"), bends or beside(base + ".bends"))
         except BaseException:
@@ -145,13 +154,10 @@ class Network:
 
     @property
     def roads(self):
-        """The roads between nodes, as `chtab.roads.Roads`. It needs shapely. Of a graph with turns, where a crossing has several nodes, there
-        are none."""
+        """The roads between nodes, as `chtab.roads.Roads`. It needs shapely."""
         def make():
             from chtab.roads import Roads
 
-            if self.coordinates.ends():
-                raise ChtabError("places are not taken to roads where turns are restricted (osm_to_gr.py --turns); ask from node to node")
             path = self.paths["bends"]
             return Roads(self.graph, self.coordinates, files.read_bends(path) if path else None)
 
@@ -188,9 +194,9 @@ class Network:
         found = numpy.empty(len(pairs), numpy.int64)
         for start in range(0, len(pairs), BATCH):
             part = pairs[start:start + BATCH]
-            rows = numbers(self.engine.answers(part.tolist()), 3)
+            rows = numbers(self.engine.distances(part.tolist()), 3)
             if not numpy.array_equal(rows[:, :2], part):
-                raise ChtabError("the program answered other queries than were asked")
+                raise unasked()
             found[start:start + BATCH] = rows[:, 2]
         return found
 
@@ -202,9 +208,9 @@ class Network:
             raise ValueError("a limit is from 0 to 2^60")
         table = numpy.empty((len(sources), len(targets)), numpy.int64)
         for block in blocks.cut(sources.tolist(), targets.tolist()):
-            rows = numbers(self.engine.rows(block.sources, block.targets, within), 1 + len(block.targets))
+            rows = numbers(self.engine.table(block.sources, block.targets, shared_limit(within)), 1 + len(block.targets))
             if rows[:, 0].tolist() != block.sources:
-                raise ChtabError("the program answered other sources than were asked")
+                raise unasked()
             table[block.row:block.row + len(block.sources), block.column:block.column + len(block.targets)] = rows[:, 1:]
         if within is not None:
             table[table > within] = NO_WALK
@@ -218,12 +224,14 @@ class Network:
         return pandas.DataFrame(self.table(sources, targets, within), sources, targets)
 
     def routes(self, pairs, targets=None):
-        """The routes of pairs of nodes, as `Routes`. Where the program is kept, the first call loads the network once more, for routes."""
+        """The routes of pairs of nodes, as `Routes`."""
         pairs = self.pairs(pairs, targets).tolist()
         found = []
         for start in range(0, len(pairs), BATCH):
-            text = self.engine.answers(pairs[start:start + BATCH], routes=True)
+            text = self.engine.routes(pairs[start:start + BATCH])
             found += files.read_answers(text.decode().splitlines())
+        if [[each.source, each.target] for each in found] != pairs:
+            raise unasked()
         return Routes(found, self)
 
     # Between places.
@@ -243,17 +251,17 @@ class Network:
             return self.roads.find(longitudes, latitudes, max_metres)
 
     def options_of(self, starts, ends):
-        """The ways between spots k of both: the weights (5, n) over each pair of ends and along one road, `FAR` where there is none; and the
-        pairs of nodes (4, n, 2)."""
-        ways = [(out, into) for out in (0, 1) for into in (0, 1)]
+        """The ways between spots k of both: the weights (m + 1, n) over each of m pairs of a node by which one leaves and one by which one
+        arrives, and last along one road, `FAR` where there is none; and the pairs of nodes (m, n, 2)."""
+        ways = list(itertools.product(range(starts.out_nodes.shape[1]), range(ends.in_nodes.shape[1])))
         pairs = numpy.stack([numpy.column_stack([starts.out_nodes[:, out], ends.in_nodes[:, into]]) for out, into in ways])
         parts = numpy.stack([starts.out_weights[:, out] + ends.in_weights[:, into] for out, into in ways])
-        weights = numpy.full((5, len(starts)), FAR)
+        weights = numpy.full((len(ways) + 1, len(starts)), FAR)
         is_there = (pairs > 0).all(axis=2)
         between = self.distances(pairs[is_there])
-        weights[:4][is_there] = numpy.where(between >= 0, between + parts[is_there], FAR)
+        weights[:-1][is_there] = numpy.where(between >= 0, between + parts[is_there], FAR)
         along = self.roads.along(starts, ends)
-        weights[4] = numpy.where(along >= 0, along, FAR)
+        weights[-1] = numpy.where(along >= 0, along, FAR)
         return weights, pairs
 
     def trips(self, starts, ends):
@@ -267,21 +275,20 @@ class Network:
         ins, in_place = numpy.unique(ends.in_nodes, return_inverse=True)
         nodes = numpy.full((len(outs), len(ins)), NO_WALK)
         nodes[numpy.ix_(outs > 0, ins > 0)] = self.table(outs[outs > 0], ins[ins > 0], within)
-        out_place, in_place = out_place.reshape(-1, 2), in_place.reshape(-1, 2)
+        out_place, in_place = out_place.reshape(starts.out_nodes.shape), in_place.reshape(ends.in_nodes.shape)
         best = self.roads.along(starts[:, None], ends[None, :])
         best[best < 0] = FAR
-        for out in (0, 1):
-            for into in (0, 1):
-                between = nodes[numpy.ix_(out_place[:, out], in_place[:, into])]
-                total = between + starts.out_weights[:, None, out] + ends.in_weights[None, :, into]
-                best = numpy.minimum(best, numpy.where(between >= 0, total, FAR))
+        for out, into in itertools.product(range(out_place.shape[1]), range(in_place.shape[1])):
+            between = nodes[numpy.ix_(out_place[:, out], in_place[:, into])]
+            total = between + starts.out_weights[:, None, out] + ends.in_weights[None, :, into]
+            best = numpy.minimum(best, numpy.where(between >= 0, total, FAR))
         return numpy.where(best <= (FAR - 1 if within is None else within), best, NO_WALK)
 
     def trip_routes(self, starts, ends):
         """The ways from spot k of `starts` to spot k of `ends`: a list of `Trip`."""
         weights, pairs = self.options_of(starts, ends)
         ways = weights.argmin(axis=0)
-        over = [place for place, way in enumerate(ways) if way < 4 and weights[way, place] < FAR]
+        over = [place for place, way in enumerate(ways) if way < len(pairs) and weights[way, place] < FAR]
         routes = dict(zip(over, self.routes([pairs[ways[place], place] for place in over])))
         return [
             self.trip(starts[place:place + 1], ends[place:place + 1], way, int(weights[way, place]), routes.get(place))
@@ -294,14 +301,15 @@ class Network:
 
         if weight == FAR:
             return Trip(None, None, None, [])
-        if way == 4:
+        if route is None:
             line, nodes = self.roads.stretch(start.roads[0], start.parts[0], end.parts[0]), []
         else:
-            nodes = route.nodes
-            line = self.roads.stretch(start.roads[0], start.parts[0], float(way // 2))
+            nodes, (out_width, in_width) = route.nodes, (start.out_nodes.shape[1], end.in_nodes.shape[1])
+            out, into = divmod(way, in_width)
+            line = self.roads.stretch(start.roads[0], start.parts[0], float(2 * out >= out_width))
             for tail, head, step in zip(nodes, nodes[1:], route.weights):
                 line += self.roads.arc_shape(tail, head, step)
-            line += self.roads.stretch(end.roads[0], float(way % 2), end.parts[0])
+            line += self.roads.stretch(end.roads[0], float(2 * into >= in_width), end.parts[0])
         line = [place for place, before in zip(line, [None, *line]) if place != before]
         return Trip(weight, sphere_length(line) if len(line) > 1 else 0.0, line, nodes)
 
@@ -326,7 +334,15 @@ def beside(path):
     return path if os.path.exists(path) else None
 
 
+def shared_limit(within):
+    """The limit of the run that makes tables within this one: the next power of two. What lies between is left out afterwards."""
+    return None if within is None else 1 << max(math.ceil(within) - 1, 0).bit_length()
+
+
 def numbers(text, width):
     """The numbers of the program's lines, a row for each, -1 for `-`."""
     text = text.translate(None, b"dt").replace(b"-", b"-1")
-    return numpy.fromstring(text, numpy.int64, sep=" ").reshape(-1, width)
+    try:
+        return numpy.fromstring(text, numpy.int64, sep=" ").reshape(-1, width)
+    except ValueError:
+        raise unasked() from None

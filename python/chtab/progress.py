@@ -2,35 +2,49 @@
 import sys
 import time
 
+# Seconds from one line to the next.
+SECONDS = 10.0
+# Of more things than so many the bar counts thousands and millions.
+MANY = 100_000
+
 
 class Progress:
-    """Counts what is done of `total` things (None: nobody knows how many). Nothing is told of what ends within `seconds`.
+    """Counts what is done of `total` things (None: nobody knows how many). Nothing is told of what ends within `seconds` (`SECONDS`), and
+    nothing at all where `is_told` is false.
 
         with Progress("blocks", 49, "blocks") as progress:
             progress.step()
     """
 
-    def __init__(self, name, total, things, seconds=10.0):
-        self.name, self.total, self.things, self.seconds = name, total, things, seconds
+    def __init__(self, name, total, things, seconds=None, is_told=True):
+        self.name, self.total, self.things, self.is_told = name, total, things, is_told
+        self.seconds = SECONDS if seconds is None else seconds
         self.done, self.begun = 0, time.monotonic()
         self.told = self.begun
-        self.bar = self.bar_of_tqdm() if sys.stderr.isatty() else None
+        self.bar = self.bar_of_tqdm() if is_told and sys.stderr.isatty() else None
 
     def bar_of_tqdm(self):
         try:
             import tqdm
         except ImportError:
             return None
-        return tqdm.tqdm(desc=self.name, total=self.total, unit=f" {self.things}", delay=1, leave=False)
+        is_scaled = self.total is None or self.total > MANY
+        return tqdm.tqdm(desc=self.name, total=self.total, unit=f" {self.things}", unit_scale=is_scaled, delay=1, leave=False)
 
     def step(self, count=1):
         """So many more are done."""
         self.done += count
         if self.bar is not None:
             self.bar.update(count)
-        elif time.monotonic() - self.told >= self.seconds:
+        elif self.is_told and time.monotonic() - self.told >= self.seconds:
             self.told = time.monotonic()
             print(self.line(), file=sys.stderr, flush=True)
+
+    def each(self, items):
+        """The items, each of which is counted once the next one is asked for."""
+        for item in items:
+            yield item
+            self.step()
 
     def line(self):
         spent = time.monotonic() - self.begun

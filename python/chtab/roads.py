@@ -1,10 +1,13 @@
 """Places on roads: each is taken to the nearest point of the nearest road, and leaves and arrives by the road's ends.
 
 A road is a line that one arc leads along, or two of opposite directions: from `first` to `last` with the weight `forward`, and back with
-`backward`. Lines are compared in Mercator's projection, which keeps angles, so that what is nearest there is nearest on the ground.
+`backward`. Where turns are restricted a crossing has several nodes, and several arcs lead along a road between them: which of these nodes one
+comes to says which turns are open. Lines are compared in Mercator's projection, which keeps angles, so that what is nearest there is
+nearest on the ground.
 """
 import warnings
 from dataclasses import dataclass
+from typing import NamedTuple
 
 import numpy
 import shapely
@@ -43,8 +46,9 @@ class Spots:
     """Places on roads, in arrays with an item for each place.
 
     `longitudes`, `latitudes` are the points on the roads in degrees, and `metres` says how far from the places these are. Spot k lies on road
-    `roads[k]` at the part `parts[k]` of it (0 at `first`, 1 at `last`). It leaves by the nodes `out_nodes[k]` (two, `NONE` where there
-    is none) at the weights `out_weights[k]`, and arrives by `in_nodes[k]` at `in_weights[k]`.
+    `roads[k]` at the part `parts[k]` of it (0 at `first`, 1 at `last`). It leaves by the nodes `out_nodes[k]` at the weights
+    `out_weights[k]`, and arrives by `in_nodes[k]` at `in_weights[k]`; `NONE` where there is none. The first half of each of these are nodes
+    of `first`, the second of `last`: one each, or several where turns are restricted.
     """
 
     longitudes: numpy.ndarray
@@ -65,42 +69,78 @@ class Spots:
         return Spots(*(column[which] for column in vars(self).values()))
 
 
+class Ways(NamedTuple):
+    """By which nodes roads are left, or come to, and the weights of the whole road: a row for each, in the order that `Spots` have."""
+
+    nodes: numpy.ndarray
+    weights: numpy.ndarray
+
+
+def ways_of(roads, sides, nodes, weights, count):
+    """The ways of so many roads. Given are, for each arc, its road, at which end of it (0 or 1) its node is, the node and the weight; of
+    arcs of one node the least weight counts."""
+    order = numpy.lexsort([weights, nodes, sides, roads])
+    keys = numpy.column_stack([roads, sides, nodes])[order]
+    is_new = numpy.append(True, (keys[1:] != keys[:-1]).any(axis=1))[:len(keys)]
+    keys, weights = keys[is_new], weights[order][is_new]
+    group = keys[:, 0] * 2 + keys[:, 1]
+    rank = numpy.arange(len(group)) - numpy.searchsorted(group, group)
+    width = int(rank.max(initial=0)) + 1
+    ways = Ways(*numpy.full((2, count, 2 * width), NONE))
+    for column, values in zip(ways, (keys[:, 2], weights)):
+        column[keys[:, 0], keys[:, 1] * width + rank] = values
+    return ways
+
+
 class Roads:
-    """The roads of a graph."""
+    """The roads of a graph. `firsts` and `lasts` are nodes where trips begin."""
 
     def __init__(self, graph, coordinates, bends=None):
         self.coordinates, self.bends = coordinates, bends or {}
-        tails, heads, weights = (numpy.array(column, numpy.int64) for column in (graph.tails, graph.heads, graph.weights))
-        columns = [self.straight(tails, heads, weights), self.bent(tails, heads, weights)]
-        self.firsts, self.lasts, self.forward, self.backward, self.shapes = map(numpy.concatenate, zip(*columns))
-        self.by_ends = None
-        self.tails, self.heads, self.weights = tails, heads, weights
+        self.tails, self.heads, self.weights = (numpy.array(column, numpy.int64) for column in (graph.tails, graph.heads, graph.weights))
+        self.ends = coordinates.ends()
         self.places = numpy.column_stack([coordinates.longitudes, coordinates.latitudes])
-        self.lines = self.tree = self.pieces = None
+        self.by_ends = self.lines = self.tree = self.pieces = None
+        crossing = numpy.arange(graph.nodes + 1)
+        for copy, node in coordinates.copies().items():
+            crossing[copy] = node
+        tails, heads = crossing[self.tails], crossing[self.heads]
+        # The road of each arc, NONE of one that leads along none, and whether it leads back.
+        self.road_of, self.is_back = numpy.full(len(tails), NONE), tails > heads
+        columns = [self.straight(tails, heads), self.bent(tails, heads)]
+        self.firsts, self.lasts, self.shapes = map(numpy.concatenate, zip(*columns))
+        self.find_ways()
 
-    def straight(self, tails, heads, weights):
-        """The roads of arcs without bends, each pair of nodes once: of parallel arcs the least weight."""
+    def straight(self, tails, heads):
+        """The roads of arcs without bends, each pair of crossings once."""
         kept = tails != heads
         kept[[arc for arc in self.bends if arc < len(kept)]] = False
-        tails, heads, weights = tails[kept], heads[kept], weights[kept]
-        ends = numpy.column_stack([numpy.minimum(tails, heads), numpy.maximum(tails, heads)])
-        keys, road = numpy.unique(ends[:, 0] << 32 | ends[:, 1], return_inverse=True)
-        least = numpy.full((2, len(keys)), numpy.iinfo(numpy.int64).max)
-        numpy.minimum.at(least, ((tails > heads).astype(int), road), weights)
-        least[least == numpy.iinfo(numpy.int64).max] = NONE
-        return keys >> 32, keys & 0xFFFFFFFF, *least, numpy.full(len(keys), NONE)
+        low, high = numpy.minimum(tails, heads)[kept], numpy.maximum(tails, heads)[kept]
+        keys, self.road_of[kept] = numpy.unique(low << 32 | high, return_inverse=True)
+        return keys >> 32, keys & 0xFFFFFFFF, numpy.full(len(keys), NONE)
 
-    def bent(self, tails, heads, weights):
+    def bent(self, tails, heads):
         """The roads of arcs with bends: both directions of the same bends are one. The last column is an arc that has them in order."""
-        roads = {}
+        roads, before = {}, self.road_of.max(initial=NONE) + 1
         for arc, bends in self.bends.items():
             tail, head = int(tails[arc]), int(heads[arc])
             is_back = tail > head or tail == head and bends > bends[::-1]
             key = (head, tail, *bends[::-1]) if is_back else (tail, head, *bends)
-            road = roads.setdefault(key, [key[0], key[1], NONE, NONE, arc if not is_back else -2 - arc])
-            place = 3 if is_back else 2
-            road[place] = int(weights[arc]) if road[place] == NONE else min(road[place], int(weights[arc]))
-        return numpy.array(list(roads.values()), numpy.int64).reshape(-1, 5).T
+            number, _ = roads.setdefault(key, (before + len(roads), arc if not is_back else -2 - arc))
+            self.road_of[arc], self.is_back[arc] = number, is_back
+        rows = [(first, last, shape) for (first, last, *_), (_, shape) in roads.items()]
+        return numpy.array(rows, numpy.int64).reshape(-1, 3).T
+
+    def find_ways(self):
+        """By which nodes each road is left and come to, and the least weights of both directions."""
+        kept = self.road_of != NONE
+        roads, is_back, weights = self.road_of[kept], self.is_back[kept], self.weights[kept]
+        self.out_ways = ways_of(roads, (~is_back).astype(int), self.heads[kept], weights, len(self))
+        self.in_ways = ways_of(roads, is_back.astype(int), self.tails[kept], weights, len(self))
+        least = numpy.full((2, len(self)), numpy.iinfo(numpy.int64).max)
+        numpy.minimum.at(least, (is_back.astype(int), roads), weights)
+        least[least == numpy.iinfo(numpy.int64).max] = NONE
+        self.forward, self.backward = least
 
     def shape(self, road):
         """The road's places in degrees, from its first node to its last."""
@@ -160,19 +200,22 @@ class Roads:
 
     def spots(self, longitudes, latitudes, metres, roads, parts):
         """The ways out of spots and into them, with their weights rounded."""
-        firsts, lasts, forward, backward = (column[roads] for column in (self.firsts, self.lasts, self.forward, self.backward))
-        is_first, is_last = parts == 0, parts == 1
+        at_node = numpy.flatnonzero((parts == 0) | (parts == 1))
+        begins = numpy.where(parts == 0, self.firsts[roads], self.lasts[roads])[at_node]
+        stops = numpy.array([self.ends.get(node, node) for node in begins.tolist()], numpy.int64)
 
-        def way(node, weight, part, is_here, is_elsewhere):
-            """A spot at a node uses this node alone, at no weight."""
-            is_open = (weight != NONE) & ~is_elsewhere | is_here
-            total = numpy.where(is_here, 0, numpy.round(part * weight)).astype(numpy.int64)
-            return numpy.where(is_open, node, NONE), numpy.where(is_open, total, NONE)
+        def ways(of_roads, nodes_there):
+            """A spot at a node uses the node alone where trips begin or end there, at no weight."""
+            nodes, weights = of_roads.nodes[roads], of_roads.weights[roads]
+            half = nodes.shape[1] // 2
+            part = numpy.repeat([parts, 1 - parts], half, axis=0).T
+            weights = numpy.where(nodes == NONE, NONE, numpy.round(part * weights).astype(numpy.int64))
+            nodes[at_node], weights[at_node] = NONE, NONE
+            column = numpy.where(parts[at_node] == 0, 0, half)
+            nodes[at_node, column], weights[at_node, column] = nodes_there, 0
+            return nodes, weights
 
-        out = way(firsts, backward, parts, is_first, is_last), way(lasts, forward, 1 - parts, is_last, is_first)
-        into = way(firsts, forward, parts, is_first, is_last), way(lasts, backward, 1 - parts, is_last, is_first)
-        columns = [numpy.column_stack(column) for ways in (out, into) for column in zip(*ways)]
-        return Spots(longitudes, latitudes, metres, roads, parts, *columns)
+        return Spots(longitudes, latitudes, metres, roads, parts, *ways(self.out_ways, begins), *ways(self.in_ways, stops))
 
     def along(self, starts, ends):
         """The weights from spots to others along the roads on which both lie, `NONE` where they don't, or no arc leads that way. The
@@ -195,7 +238,7 @@ class Roads:
         """The straight pieces of all arcs: their arcs, both ends in degrees (n, 4), and the parts of the arc at both ends (n, 2)."""
         if self.pieces is None:
             bent = sorted(self.bends)
-            straight = numpy.setdiff1d(numpy.arange(len(self.tails)), bent)
+            straight = numpy.setdiff1d(numpy.flatnonzero(self.road_of != NONE), bent)
             ends = numpy.hstack([self.places[self.tails[straight] - 1], self.places[self.heads[straight] - 1]])
             columns = [(straight, ends, numpy.tile([0.0, 1.0], (len(straight), 1)))]
             for arc in bent:

@@ -235,6 +235,24 @@ def forbidden(world, found):
     return never | {(a, b) for a, may in only.items() for b, arc in enumerate(found) if arc[0] == found[a][1] and b not in may}
 
 
+def trip(found, never, leaving, arriving):
+    """The least weight of a trip that begins on some arcs and ends on some, each with the part of it that lies behind (0 to 1): {arc: part}.
+    Infinite where there is none. Searched from arc to arc."""
+    best = {at: (1 - part) * found[at][2] for at, part in leaving.items()}
+    ends = [(arriving[at] - part) * found[at][2] for at, part in leaving.items() if part <= arriving.get(at, -1)]
+    todo = list(best)
+    while todo:
+        here = todo.pop(0)
+        for at, arc in enumerate(found):
+            if arc[0] == found[here][1] and (here, at) not in never:
+                if at in arriving:
+                    ends.append(best[here] + arriving[at] * arc[2])
+                if best[here] + arc[2] < best.get(at, math.inf):
+                    best[at] = best[here] + arc[2]
+                    todo.append(at)
+    return min(ends, default=math.inf)
+
+
 def distances(found, never, start):
     """The least weight of a trip from a node to each other one, in which no arc follows that may not: searched from arc to arc."""
     best = {at: arc[2] for at, arc in enumerate(found) if arc[0] == start}

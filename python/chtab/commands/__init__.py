@@ -3,6 +3,7 @@
 A fault is one line on standard error and status 1. Ctrl-C, SIGTERM and a closed pipe end a command as they end any other, by the
 signal and without a word; what the command had begun (children, files that are not whole) is cleared away first.
 """
+import argparse
 import importlib
 import os
 import signal
@@ -25,6 +26,16 @@ def end_by(number):
     os.kill(os.getpid(), number)
 
 
+def parser_of(name, about):
+    """The parser of a command, whose help has the name by which it was called: NAME.py in tools/, or chtab-NAME where it is installed."""
+    called = os.path.basename(sys.argv[0])
+    if called.startswith("chtab-"):
+        about = about.replace(f"tools/{name}.py", called).replace(f"{name}.py", called)
+    else:
+        called = f"{name}.py"
+    return argparse.ArgumentParser(called, description=about, formatter_class=argparse.RawDescriptionHelpFormatter)
+
+
 def add_network(parser):
     """The words of a command that opens a network and takes places to its roads."""
     parser.add_argument("--max-metres", type=float, default=1_000, metavar="M")
@@ -35,10 +46,10 @@ def add_network(parser):
 
 
 def open_network(words):
-    """The network of such words."""
+    """The network of such words, of which one kind of question is asked."""
     from chtab.network import Network
 
-    return Network.open(words.out + ".gr", words.saved, program=words.program, workers=words.workers)
+    return Network.open(words.out + ".gr", words.saved, program=words.program, workers=words.workers, load=False)
 
 
 def ask_for(needs):

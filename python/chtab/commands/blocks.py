@@ -10,24 +10,22 @@ table may be or, with --side, of K by K; each is made by chtab, and the cells ar
 
 Example:  tools/blocks.py --processes 2 examples/liechtenstein.gr from.ss to.ss table.csv
 
-At most P blocks are made at a time (as many as there are processors), each with W workers (1). A program that knows `chtab ask` is
-run once for each of them, and one that doesn't once for each block. A run reads the hierarchy of the graph from FILE, as `chtab save`
-wrote it, and checks it. Where no FILE is given and there are more than P runs, the hierarchy is built once and saved beside OUT for as
-long as that takes; else each run builds it.
+At most P blocks are made at a time (as many as there are processors), by as many runs of `chtab ask` that are kept, each with W workers
+(1). A run reads the hierarchy of the graph from FILE, as `chtab save` wrote it, and checks it; without FILE it builds it.
 
 With --scheduler the blocks go to a Dask scheduler (Debian's package python3-distributed) and its workers, on any number of machines, that
-all have GRAPH, FILE and the program CHTAB (that of this repository) at the same path; without FILE each run builds the hierarchy, since
-what is saved here is on this machine alone. Dask does a block again whose worker is lost.
+all have GRAPH, FILE and the program CHTAB (that of this repository) at the same path; each thread of them keeps a run. Dask does a block
+again whose worker is lost.
 Where a block fails it is told which, no more blocks are begun, and the status is 1. OUT is there once it is whole, and not before.
 """
-import argparse
+import logging
 import os
 
 from chtab import blocks, commands, engine, files
 
 
 def words_of(words):
-    parser = argparse.ArgumentParser("blocks.py", description=__doc__, formatter_class=argparse.RawDescriptionHelpFormatter)
+    parser = commands.parser_of("blocks", __doc__)
     parser.add_argument("--side", type=int)
     parser.add_argument("--processes", type=int, default=os.cpu_count())
     parser.add_argument("--scheduler")
@@ -46,10 +44,12 @@ def words_of(words):
 def main(words):
     words = words_of(words)
     saved = os.path.abspath(words.saved) if words.saved else None
-    program = engine.program_of(words.program)
-    setting = engine.Setting(program, os.path.abspath(words.graph), saved, words.within, words.workers)
+    setting = engine.Setting(engine.program_of(words.program), os.path.abspath(words.graph), saved, words.workers)
+    if words.scheduler:
+        # A client of Dask that is closed may leave a future of its own behind, of which asyncio would tell.
+        logging.getLogger("asyncio").setLevel(logging.CRITICAL)
     sources, targets = files.read_list(words.sources).tolist(), files.read_list(words.targets).tolist()
-    count = blocks.make(setting, sources, targets, words.out, words.side, words.processes, words.scheduler)
+    count = blocks.make(setting, sources, targets, words.out, words.within, words.side, words.processes, words.scheduler)
     print(f"{len(sources):,} by {len(targets):,} cells in {words.out}, from {count:,} blocks")
 
 

@@ -17,7 +17,6 @@ OUT.co is the coordinate file of tools/osm_to_gr.py or of the challenge, in mill
 least numbered is taken. The search goes by scipy's k-d tree where scipy is installed (Debian's package python3-scipy; it pays from
 a few hundred places on), and else, or with --plain, by a grid. From Python, `chtab.Network` also takes places to roads between nodes.
 """
-import argparse
 import sys
 
 from chtab import commands, files, nearest
@@ -29,7 +28,7 @@ MANY = 1_000
 
 
 def words_of(words):
-    parser = argparse.ArgumentParser("nearest.py", description=__doc__, formatter_class=argparse.RawDescriptionHelpFormatter)
+    parser = commands.parser_of("nearest", __doc__)
     kinds = parser.add_mutually_exclusive_group()
     kinds.add_argument("--queries", action="store_true")
     kinds.add_argument("--targets", action="store_true")

@@ -8,8 +8,8 @@ python3-pyosmium); - is standard input. It writes
   OUT.gr     the graph: arcs in the order of the map's ways, weights rounded to the nearest whole number
   OUT.co     the coordinates in the challenge's form: `v NODE X Y`, longitude and latitude times 1,000,000
   OUT.nodes  a line for each node, in order: OpenStreetMap's number of it; nodes are numbered by that
-  OUT.bends  with --bends: the points of each arc between its ends, `b ARC X Y`
-and tells on standard error what was left out, in one table, and nothing of it with --quiet.
+  OUT.bends  with --bends: the points of each arc between its ends, `b ARC X Y`; where there are none, an older file is taken away
+and tells on standard error how far it is, where it takes long, and in one table what was left out; nothing of that with --quiet.
 
 Example:  tools/osm_to_gr.py examples/liechtenstein.osm.bz2 liechtenstein
 
@@ -43,7 +43,7 @@ def part_of(word):
 
 
 def words_of(words):
-    parser = argparse.ArgumentParser("osm_to_gr.py", description=__doc__, formatter_class=argparse.RawDescriptionHelpFormatter)
+    parser = commands.parser_of("osm_to_gr", __doc__)
     parser.add_argument("--profile", choices=profiles.NAMES, default="car")
     parser.add_argument("--metric", choices=UNITS, default="time")
     parser.add_argument("--turns", action="store_true")
@@ -60,7 +60,7 @@ def words_of(words):
 def main(words):
     words = words_of(words)
     choices = converting.Choices(**{name: getattr(words, name) for name in converting.Choices._fields})
-    made, report = converting.convert(words.map, choices)
+    made, report = converting.convert(words.map, choices, is_told=not words.quiet)
     names = converting.write(words.out, made, converting.comments_of(words.map, choices), UNITS[words.metric])
     if not words.quiet:
         title = f"left out of {converting.name_of(words.map)}, for {profiles.profile(words.profile).people}"

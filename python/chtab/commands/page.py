@@ -1,7 +1,7 @@
 """Serves a network as a page to click on, and as a small JSON interface for programs (docs/SERVICE.md).
 
-  chtab-page [--saved FILE] [--places PLACES] [--title T] [--tiles URL] [--host H] [--port P] [--workers W] [--waiting N]
-             [--program CHTAB] OUT
+  page.py [--saved FILE] [--places PLACES] [--title T] [--tiles URL] [--host H] [--port P] [--workers W] [--waiting N]
+          [--program CHTAB] OUT
 
 OUT stands for OUT.gr, OUT.co and, where it is there, OUT.bends. The address is told on standard output, once the network was read and its
 hierarchy built or, with --saved, checked. The page is at http://127.0.0.1:8080/ unless H and P say otherwise (P 0: any free port);
@@ -12,8 +12,7 @@ whoever reaches that address may ask. Roads are drawn from the graph, so that no
 
 Example:  tools/page.py --places places.txt guide/roads
 
-It needs Debian's packages python3-aiohttp, python3-numpy, python3-scipy, python3-shapely and libjs-leaflet. Ctrl-C ends it. A graph with
-turns (osm_to_gr.py --turns) is refused.
+It needs Debian's packages python3-aiohttp, python3-numpy, python3-scipy, python3-shapely and libjs-leaflet. Ctrl-C ends it.
 """
 import argparse
 import logging
@@ -23,7 +22,7 @@ from chtab.errors import ChtabError
 
 
 def words_of(words):
-    parser = argparse.ArgumentParser("chtab-page", description=__doc__, formatter_class=argparse.RawDescriptionHelpFormatter)
+    parser = commands.parser_of("page", __doc__)
     parser.add_argument("--saved")
     parser.add_argument("--places")
     parser.add_argument("--title")

@@ -19,7 +19,6 @@ Weights are told in minutes or kilometres where a comment of OUT.gr says that th
 longer side of the map has P pixels (800); --title T sets a title. NAMES is a list or a query file that nearest.py wrote, or OUT.nodes:
 the legend has the names in place of the nodes' numbers. Words may stand in any order.
 """
-import argparse
 import sys
 
 from chtab import commands, files, picture
@@ -29,7 +28,7 @@ FILES = {"network": (), "routes": ("TEXT",), "reach": ("TARGETS.ss", "TEXT")}
 
 
 def words_of(words):
-    parser = argparse.ArgumentParser("picture.py", description=__doc__, formatter_class=argparse.RawDescriptionHelpFormatter)
+    parser = commands.parser_of("picture", __doc__)
     parser.add_argument("--size", type=int, default=800)
     parser.add_argument("--title", default="")
     parser.add_argument("--names", metavar="NAMES")

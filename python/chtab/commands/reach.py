@@ -11,7 +11,7 @@ metres of a stretch of road that is reached, or within a square of a grid where 
 Example:  echo "9.5209 47.1410 Vaduz" | tools/reach.py --limits 300000,600000 examples/liechtenstein > reach.geojson
 
 It needs Debian's packages python3-numpy and python3-shapely. From Python, `chtab.Network` does the same.
-A graph with turns (osm_to_gr.py --turns) is refused.
+Of a graph with turns (osm_to_gr.py --turns) the restrictions hold.
 """
 import argparse
 import itertools
@@ -30,7 +30,7 @@ def limits_of(word):
 
 
 def words_of(words):
-    parser = argparse.ArgumentParser("reach.py", description=__doc__, formatter_class=argparse.RawDescriptionHelpFormatter)
+    parser = commands.parser_of("reach", __doc__)
     parser.add_argument("--limits", type=limits_of, required=True, metavar="R,R..")
     commands.add_network(parser)
     parser.add_argument("place", metavar="PLACE", nargs="?")

@@ -13,14 +13,13 @@ OUT.nodes (OpenStreetMap's number of it).
 
 Example:  ./chtab dist --routes liechtenstein.gr trip.p2p | tools/to_geojson.py routes liechtenstein.co > trip.geojson
 """
-import argparse
 import sys
 
 from chtab import commands, files, geojson
 
 
 def words_of(words):
-    parser = argparse.ArgumentParser("to_geojson.py", description=__doc__, formatter_class=argparse.RawDescriptionHelpFormatter)
+    parser = commands.parser_of("to_geojson", __doc__)
     parser.add_argument("--names", metavar="NAMES")
     parser.add_argument("kind", choices=("routes", "table"))
     parser.add_argument("file", metavar="FILE")

@@ -14,9 +14,8 @@ refused, and nothing is written. The weights are in the graph's unit. To standar
 Example:  tools/trips.py examples/liechtenstein places.txt
 
 It needs Debian's packages python3-numpy and python3-shapely. From Python, `chtab.Network` does the same.
-A graph with turns (osm_to_gr.py --turns) is refused.
+Of a graph with turns (osm_to_gr.py --turns) the restrictions hold.
 """
-import argparse
 import csv
 import json
 import sys
@@ -25,7 +24,7 @@ from chtab import commands, files, geojson
 
 
 def words_of(words):
-    parser = argparse.ArgumentParser("trips.py", description=__doc__, formatter_class=argparse.RawDescriptionHelpFormatter)
+    parser = commands.parser_of("trips", __doc__)
     kinds = parser.add_mutually_exclusive_group()
     kinds.add_argument("--table", action="store_true")
     kinds.add_argument("--geojson", action="store_true")

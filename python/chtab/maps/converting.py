@@ -1,6 +1,7 @@
 """From a map to the files of a graph: reading, arcs, turns and parts in order, and the table of what was left out."""
 import contextlib
 import gc
+import itertools
 import os
 from typing import NamedTuple
 
@@ -9,6 +10,7 @@ from chtab.errors import FileFault
 from chtab.maps import network, parts, profiles, reading, restrictions, turns
 from chtab.maps.report import Report
 from chtab.maps.roads import Survey
+from chtab.progress import Progress
 
 SOURCE = (
     "Source: OpenStreetMap, https://www.openstreetmap.org/copyright",
@@ -29,13 +31,15 @@ class Choices(NamedTuple):
 
 
 class Numbered(NamedTuple):
-    """A network as its files have it: the nodes' names and places, arcs between nodes from 1 on, their bends, and the ends of trips."""
+    """A network as its files have it: the nodes' names and places, arcs between nodes from 1 on, their bends, the ends of trips, and the
+    copies of nodes."""
 
     names: list
     places: list
     arcs: list
     bends: dict
     ends: list
+    copies: list
 
 
 @contextlib.contextmanager
@@ -51,19 +55,23 @@ def uncollected():
 
 
 @uncollected()
-def convert(path, choices):
-    """Reads a map (`-` is standard input); what comes of it, and the report of what was left out. An empty map is a fault."""
+def convert(path, choices, is_told=False):
+    """Reads a map (`-` is standard input); what comes of it, and the report of what was left out. An empty map is a fault. How far it is
+    stands on standard error now and then, where that is wanted."""
     profile, report = profiles.profile(choices.profile), Report()
     survey = Survey(profile, report, choices.ferries)
-    reading.read_map(path, survey)
+    reading.read_map(path, survey, is_told)
     restricting = restrictions.read_all(survey.relations, profile, report) if choices.turns else []
-    made, nodes = network.network_of(survey, survey.closed_nodes(), choices.nodes == "all", choices.metric == "metres", choices.bends)
+    with Progress("roads", len(survey.roads), "roads", is_told=is_told) as progress:
+        made, nodes = network.network_of(
+            survey, survey.closed_nodes(), choices.nodes == "all", choices.metric == "metres", choices.bends, progress
+        )
     if not made.tails:
         raise FileFault(f"{name_of(path)}: the map has no road for {profile.people}")
     forbidden = restrictions.forbidden_turns(restricting, made, nodes, report)
     if forbidden:
         made = turns.split(made, forbidden)
-    return numbered(made, kept_of(made, choices.part, report), survey.places), report
+    return numbered(made, kept_of(made, choices.part, report)), report
 
 
 def kept_of(made, wanted, report):
@@ -81,19 +89,19 @@ def kept_of(made, wanted, report):
     return parts.kept_nodes(made, part, ranked[rank - 1][0])
 
 
-def numbered(made, kept, places):
+def numbered(made, kept):
     """The kept nodes by their names, those of one name in the order in which they came, numbered from 1."""
-    nodes = sorted((node for node, is_kept in enumerate(kept) if is_kept), key=made.names.__getitem__)
-    numbers = dict(zip(nodes, range(1, len(nodes) + 1)))
-    names = [made.names[node] for node in nodes]
-    arcs, bends = [], {}
-    for arc, (tail, head, weight) in enumerate(zip(made.tails, made.heads, made.weights)):
-        if kept[tail] and kept[head]:
-            if made.bends and made.bends[arc]:
-                bends[len(arcs)] = made.bends[arc]
-            arcs.append((numbers[tail], numbers[head], weight))
+    nodes = sorted(itertools.compress(range(len(kept)), kept), key=made.names.__getitem__)
+    numbers = [0] * len(kept)
+    for number, node in enumerate(nodes, 1):
+        numbers[node] = number
+    is_kept = [kept[tail] and kept[head] for tail, head in zip(made.tails, made.heads)]
+    columns = zip(made.tails, made.heads, made.weights)
+    arcs = [(numbers[tail], numbers[head], weight) for tail, head, weight in itertools.compress(columns, is_kept)]
+    bends = {arc: points for arc, points in enumerate(itertools.compress(made.bends or (), is_kept)) if points}
     ends = sorted((numbers[node], numbers[end]) for end, node in made.ends.items() if kept[end])
-    return Numbered(names, [places[name] for name in names], arcs, bends, ends)
+    copies = sorted((numbers[copy], numbers[node]) for copy, node in made.copies.items() if kept[copy] and kept[node])
+    return Numbered([made.names[node] for node in nodes], [made.places[node] for node in nodes], arcs, bends, ends, copies)
 
 
 def name_of(path):
@@ -108,14 +116,18 @@ def comments_of(path, choices):
 
 
 def write(out, made, comments, unit):
-    """Writes the files, none of which takes its name before all are whole; their names."""
+    """Writes the files, none of which takes its name before all are whole; their names. Bends of an earlier graph of this name are taken
+    away, since they would be taken for those of this one."""
     suffixes = ["gr", "co", "nodes"] + ["bends"] * bool(made.bends)
     names = [f"{out}.{suffix}" for suffix in suffixes]
     with contextlib.ExitStack() as stack:
         graph, coordinates, nodes, *bends = (stack.enter_context(files.whole(name)) for name in names)
         files.write_graph(graph, len(made.names), made.arcs, [*comments, f"Weights are {unit}."])
-        files.write_coordinates(coordinates, made.places, comments, made.ends)
+        files.write_coordinates(coordinates, made.places, comments, made.ends, made.copies)
         files.write_names(nodes, made.names)
         if bends:
             files.write_bends(bends[0], made.bends, comments)
+    if not made.bends:
+        with contextlib.suppress(FileNotFoundError):
+            os.unlink(f"{out}.bends")
     return names

@@ -1,21 +1,20 @@
 """Metres along roads: of great circles on a sphere of 6,371,008.8 metres, the mean radius of the earth."""
-import math
+from math import asin, cos, pi, radians, sin, sqrt
 
 from chtab.sphere import RADIUS
 
-HALF_DEGREE = math.radians(0.5)
-QUARTER_TURN = math.pi / 2
+HALF_DEGREE, DEGREE = radians(0.5), 2 * radians(0.5)
+QUARTER_TURN = pi / 2
 DIAMETER = 2 * RADIUS
 
 
-def metres_between(places):
-    """The metres from each of the places (longitude, latitude, in degrees) to the next, by the haversine formula."""
-    sin, cos, sqrt, asin, half = math.sin, math.cos, math.sqrt, math.asin, HALF_DEGREE
+def metres_between(longitudes, latitudes):
+    """The metres from each of the places, in degrees, to the next, by the haversine formula."""
     found = []
-    (x, y), *others = places
-    narrow = cos(2 * half * y)
-    for u, v in others:
-        up, across, after = sin((v - y) * half), sin((u - x) * half), cos(2 * half * v)
+    x, y = longitudes[0], latitudes[0]
+    narrow = cos(DEGREE * y)
+    for u, v in zip(longitudes[1:], latitudes[1:]):
+        up, across, after = sin((v - y) * HALF_DEGREE), sin((u - x) * HALF_DEGREE), cos(DEGREE * v)
         chord = sqrt(up * up + narrow * after * across * across)
         found.append(DIAMETER * (asin(chord) if chord < 1 else QUARTER_TURN))
         x, y, narrow = u, v, after

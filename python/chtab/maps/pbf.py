@@ -2,6 +2,7 @@
 
 https://osmcode.org/opl-file-format/
 """
+import math
 import re
 import subprocess
 import sys
@@ -9,38 +10,77 @@ import sys
 from chtab.errors import FileFault
 from chtab.maps import unpacking
 from chtab.maps.reading import Relation
-from chtab.maps.roads import ROAD_KEYS
+from chtab.maps.roads import NOWHERE, ROAD_KEYS
 
 # A member of a relation, and a character that stands by its number.
 MEMBER = re.compile(r"([nwr])(-?\d+)@([^,]*)")
 CHARACTER = re.compile(r"%([0-9a-f]+)%")
 KINDS = {"n": "node", "w": "way", "r": "relation"}
+# What stands in lines that are looked at. Of nodes: a barrier, or a number below 0, whose place is not looked up by pyosmium.
+NODE_MARKS = (b"barrier=", b"\nn-")
+OTHER_MARKS = (*(f"{key}=".encode() for key in ROAD_KEYS), b"type=restriction")
+# What stands for a node of a way that has no place.
+NO_PLACE = "xy"
+# Bytes of the text that are read at once.
+BLOCK = 1 << 18
+
+
+def texts_of(file):
+    """The text of a file in parts of whole lines, each with an end of a line also before its first."""
+    rest = b"\n"
+    while block := file.read(BLOCK):
+        end = block.rfind(b"\n") + 1
+        if end:
+            yield b"".join((rest, memoryview(block)[:end]))
+            rest = b"\n"
+        rest += block[end:]
+
+
+def nodes_and_others(text):
+    """The lines of nodes, which come before all others, and the others."""
+    if text.startswith(b"n", text.rindex(b"\n", 0, -1) + 1):
+        return text, b""
+    if not text.startswith(b"\nn"):
+        return b"", text
+    end = min(at for at in map(text.find, (b"\nw", b"\nr")) if at >= 0)
+    return text[:end + 1], text[end:]
+
+
+def lines_with(text, marks):
+    """The lines of a text that have one of these marks, in order. All others are passed over without being taken apart."""
+    starts = set()
+    for mark in marks:
+        at = text.find(mark)
+        while at >= 0:
+            starts.add(text.rindex(b"\n", 0, at + 1) + 1)
+            at = text.find(mark, text.index(b"\n", at + 1))
+    for start in sorted(starts):
+        yield text[start:text.index(b"\n", start)].decode("utf-8", "replace")
 
 
 def fields_of(line):
     """The fields of a line by their letters."""
-    return {field[:1]: field[1:] for field in line.rstrip("\n").split(" ")}
+    return {field[:1]: field[1:] for field in line.split(" ")}
 
 
 def plain(text):
     return CHARACTER.sub(lambda found: chr(int(found[1], 16)), text) if "%" in text else text
 
 
-def tags_of(fields, keys=None):
-    """The tags of these keys (None: all)."""
-    pairs = (item.partition("=") for item in fields["T"].split(",") if item)
-    return {plain(key): plain(value) for key, _, value in pairs if keys is None or key in keys}
+def tags_of(items):
+    """The tags of such items, `key=value`."""
+    pairs = (item.partition("=") for item in items if item)
+    return {plain(key): plain(value) for key, _, value in pairs}
 
 
 def nodes_of(text):
-    """The nodes of a way, `n1x9.5y47.1,n2x..`: their numbers, and the places of those that have one, as pairs (number, place)."""
+    """The nodes of a way, `n1x9.5y47.1,n2xy,..`: their numbers, longitudes and latitudes, as `NOWHERE` has them where there are none."""
     if not text:
-        return [], ()
-    parts = text.replace("n", "").replace("x", ",").replace("y", ",").split(",")
-    nodes = list(map(int, parts[::3]))
-    if "" not in parts:
-        return nodes, zip(nodes, zip(map(float, parts[1::3]), map(float, parts[2::3])))
-    return nodes, [(node, (float(x), float(y))) for node, x, y in zip(nodes, parts[1::3], parts[2::3]) if x]
+        return [], [], []
+    parts = text[1:].replace("x", "y").replace(",n", "y").split("y")
+    if NO_PLACE in text:
+        parts = [part or "nan" for part in parts]
+    return list(map(int, parts[::3])), list(map(float, parts[1::3])), list(map(float, parts[2::3]))
 
 
 class Lines:
@@ -48,57 +88,78 @@ class Lines:
 
     def __init__(self, survey):
         self.survey = survey
+        self.asked = re.compile(f",((?:{'|'.join(map(re.escape, survey.keys))})=[^,]*)")
+        # The verdict by the tags that are asked for, as they stand in the text, and the places of nodes with numbers below 0.
+        self.verdicts, self.places = {}, {}
 
-    def take(self, line):
-        if line[0] == "n":
+    def take(self, text):
+        """Takes a text as `texts_of` gives it."""
+        nodes, others = nodes_and_others(text)
+        for line in lines_with(nodes, NODE_MARKS):
             self.node(fields_of(line))
-        elif line[0] == "w":
-            if any(f"{key}=" in line for key in ROAD_KEYS):
-                self.way(fields_of(line))
-        elif "type=restriction" in line:
-            self.relation(fields_of(line))
+        for line in lines_with(others, OTHER_MARKS):
+            if line[0] == "w":
+                self.way(line)
+            else:
+                self.relation(fields_of(line))
 
     def node(self, fields):
-        """A node with a barrier, or with a number below 0: places of those are not looked up by pyosmium."""
-        number, tags = int(fields["n"]), tags_of(fields)
-        if fields["d"] == "D":
+        """A node with a barrier, or with a number below 0."""
+        number, tags = int(fields["n"]), tags_of(fields["T"].split(","))
+        if fields["d"] == "D" or not fields["x"]:
             return
-        if number < 0 and fields["x"]:
-            self.survey.places[number] = (float(fields["x"]), float(fields["y"]))
+        if number < 0:
+            self.places[number] = (float(fields["x"]), float(fields["y"]))
+            self.survey.lone_nodes.add(number)
         if "barrier" in tags:
             self.survey.add_barrier(number, tags)
 
-    def way(self, fields):
-        tags = tags_of(fields, self.survey.keys)
-        if not any(key in tags for key in ROAD_KEYS):
+    def verdict_on(self, items):
+        """The verdict on a way with these tags, None where it has none of `ROAD_KEYS`."""
+        if items not in self.verdicts:
+            tags = tags_of(items)
+            self.verdicts[items] = self.survey.verdict_on(tags) if any(key in tags for key in ROAD_KEYS) else None
+        return self.verdicts[items]
+
+    def way(self, line):
+        number, _, state, tags, nodes = line.split(" ")
+        verdict = self.verdict_on(tuple(self.asked.findall("," + tags[1:])))
+        if not verdict:
             return
-        if fields["d"] == "D":
+        if state == "dD":
             self.survey.report.note("deleted", "")
             return
-        rule = self.survey.rule_of(tags)
+        rule = self.survey.rule_by(verdict)
         if not rule:
             return
-        nodes, places = nodes_of(fields["N"])
-        self.survey.places.update(places)
-        self.survey.add_way(int(fields["w"]), rule, nodes)
+        numbers, longitudes, latitudes = nodes_of(nodes[1:])
+        if self.places and NO_PLACE in nodes:
+            self.place(numbers, longitudes, latitudes)
+        self.survey.add_way(int(number[1:]), rule, numbers, longitudes, latitudes)
+
+    def place(self, numbers, longitudes, latitudes):
+        """The places of nodes that pyosmium didn't look up."""
+        for at, number in enumerate(numbers):
+            if math.isnan(longitudes[at]):
+                longitudes[at], latitudes[at] = self.places.get(number, NOWHERE)
 
     def relation(self, fields):
-        tags = tags_of(fields)
+        tags = tags_of(fields["T"].split(","))
         if tags.get("type") == "restriction" and fields["d"] != "D":
             members = [(KINDS[kind], int(ref), plain(role)) for kind, ref, role in MEMBER.findall(fields["M"])]
             self.survey.relations.append(Relation(int(fields["r"]), tags, members))
 
 
-def read(path, name, survey):
-    """Reads a map into a survey, by a child that unpacks it."""
+def read(path, name, survey, progress):
+    """Reads a map into a survey, by a child that unpacks it. Its objects are counted."""
     lines = Lines(survey)
     command = [sys.executable, unpacking.__file__, path]
-    with subprocess.Popen(command, stdout=subprocess.PIPE, stderr=subprocess.PIPE, encoding="utf-8", errors="replace") as child:
+    with subprocess.Popen(command, stdout=subprocess.PIPE, stderr=subprocess.PIPE) as child:
         try:
-            for line in child.stdout:
-                if line[0] != "n" or "barrier=" in line or line[1] == "-":
-                    lines.take(line)
-            told = child.stderr.read().strip().splitlines()
+            for text in texts_of(child.stdout):
+                lines.take(text)
+                progress.step(text.count(b"\n") - 1)
+            told = child.stderr.read().decode("utf-8", "replace").strip().splitlines()
         except BaseException:
             child.kill()
             raise

@@ -16,6 +16,7 @@ from typing import NamedTuple
 
 from chtab.errors import FileFault
 from chtab.maps.roads import ROAD_KEYS
+from chtab.progress import Progress
 
 PACKED = {b"\x1f\x8b": gzip.open, b"BZh": bz2.open, b"\xfd7zXZ\x00": lzma.open}
 # What XML's parser says of a text that ends before its last element does.
@@ -56,17 +57,21 @@ def is_pbf(path):
         return file.read(15)[4:] == PBF
 
 
-def read_map(path, survey):
-    """Reads a map into a survey. `-` is standard input."""
+def read_map(path, survey, is_told=False):
+    """Reads a map into a survey, and tells how far it is where that is wanted. `-` is standard input."""
     name = "standard input" if path == "-" else os.path.basename(path)
     with lasting(path) as file:
         if is_pbf(file):
             from chtab.maps import pbf
 
-            pbf.read(file, name, survey)
+            with Progress("reading", None, "objects", is_told=is_told) as progress:
+                pbf.read(file, name, survey, progress)
         else:
-            for keeper in Ways, Nodes:
-                read_elements(file, name, keeper(survey))
+            with Progress("reading", 2 * os.path.getsize(file), "bytes", is_told=is_told) as progress:
+                read_elements(file, name, Ways(survey), progress)
+                nodes = Nodes(survey)
+                read_elements(file, name, nodes, progress)
+            survey.place_roads(nodes.places)
 
 
 class Ways:
@@ -81,7 +86,7 @@ class Ways:
         if is_deleted:
             self.survey.report.note("deleted", "")
             return
-        rule = self.survey.rule_of(tags)
+        rule = self.survey.rule_by(self.survey.verdict_on(tags))
         if rule:
             self.survey.add_way(number, rule, [int(node) for node in nodes])
 
@@ -94,8 +99,7 @@ class Nodes:
     """What the second reading keeps: the places of the roads' nodes, and barriers."""
 
     def __init__(self, survey):
-        self.survey = survey
-        self.wanted = {node for road in survey.roads for node in road.nodes}
+        self.survey, self.wanted, self.places = survey, set(survey.nodes()), {}
 
     def node(self, number, tags, place, is_deleted):
         if number not in self.wanted or is_deleted or None in place:
@@ -103,7 +107,7 @@ class Nodes:
         longitude, latitude = map(float, place)
         if not (-180 <= longitude <= 180 and -90 <= latitude <= 90):
             raise ValueError("a node has no place on the earth")
-        self.survey.places[number] = (longitude, latitude)
+        self.places[number] = (longitude, latitude)
         if "barrier" in tags:
             self.survey.add_barrier(number, tags)
 
@@ -139,23 +143,27 @@ class Elements:
             self.calls[name](int(head["id"]), self.tags, parts, is_deleted)
 
 
-def blocks_of(path):
-    """The bytes of a file, unpacked, block by block."""
-    with open(path, "rb") as file:
-        head = file.read(6)
-    opener = next((opener for magic, opener in PACKED.items() if head.startswith(magic)), open)
-    with opener(path, "rb") as file:
+def blocks_of(path, progress):
+    """The bytes of a file, unpacked, block by block. Counted are the bytes of the file itself."""
+    with open(path, "rb") as packed:
+        head = packed.read(6)
+        packed.seek(0)
+        file = next((opener(packed) for magic, opener in PACKED.items() if head.startswith(magic)), packed)
+        before = 0
         while block := file.read(BLOCK):
             yield block
+            at = packed.tell()
+            progress.step(at - before)
+            before = at
 
 
-def read_elements(path, name, keeper):
+def read_elements(path, name, keeper, progress):
     """Reads XML once, for what the keeper takes."""
     elements = Elements(keeper)
     parser = xml.parsers.expat.ParserCreate()
     parser.StartElementHandler, parser.EndElementHandler = elements.start, elements.end
     try:
-        for block in blocks_of(path):
+        for block in blocks_of(path, progress):
             parser.Parse(block, False)
         parser.Parse(b"", True)
     except (EOFError, zlib.error, lzma.LZMAError, gzip.BadGzipFile) as fault:

@@ -1,11 +1,16 @@
 """Which ways of a map are roads for one way of travelling, how fast, and in which direction."""
 import array
+import itertools
+import math
+import operator
 from typing import NamedTuple
 
 from chtab.maps import speeds, tags
 
 # The keys of which a way has at least one, where it may be a road or a ferry.
 ROAD_KEYS = ("highway", "route")
+# The place of a node that the map doesn't have.
+NOWHERE = (math.nan, math.nan)
 
 
 class Rule(NamedTuple):
@@ -18,11 +23,14 @@ class Rule(NamedTuple):
 
 
 class Road(NamedTuple):
-    """A way that is a road: its number in the map, its rule, and its nodes' numbers in order."""
+    """A way that is a road: its number in the map, its rule, and of its nodes, in order, the numbers, longitudes and latitudes. A node that
+    the map doesn't have is at `NOWHERE`."""
 
     number: int
     rule: Rule
     nodes: array.array
+    longitudes: array.array
+    latitudes: array.array
 
 
 class Verdict(NamedTuple):
@@ -91,41 +99,59 @@ def judged(way, profile, with_ferries=True):
 
 
 class Survey:
-    """What is read of a map: the roads, the places of their nodes, barriers, and the relations that restrict turns."""
+    """What is read of a map: the roads with the places of their nodes, barriers, and the relations that restrict turns."""
 
     def __init__(self, profile, report, with_ferries=True):
         self.profile, self.report, self.with_ferries = profile, report, with_ferries
-        self.roads, self.places, self.barriers, self.relations = [], {}, {}, []
+        self.roads, self.barriers, self.relations = [], {}, []
+        # Nodes on which no road need be, and whose barriers are told all the same.
+        self.lone_nodes = set()
         self.keys = profile.keys()
         self.barrier_keys = {"barrier", *profile.access.tags}
         self.verdicts = {}
 
-    def rule_of(self, way):
-        """The rule of a way with these tags; what it gives to note is counted."""
+    def verdict_on(self, way):
+        """The verdict on a way with these tags. Ways of which the same is asked have the same one."""
         asked = frozenset(item for item in way.items() if item[0] in self.keys)
-        verdict = self.verdicts.get(asked)
-        if verdict is None:
-            verdict = self.verdicts[asked] = judged(dict(asked), self.profile, self.with_ferries)
+        if asked not in self.verdicts:
+            self.verdicts[asked] = judged(dict(asked), self.profile, self.with_ferries)
+        return self.verdicts[asked]
+
+    def rule_by(self, verdict):
+        """The rule of a verdict; what it gives to note is counted."""
         self.report.note_all(verdict.notes)
         return verdict.rule
 
-    def add_way(self, number, rule, nodes):
-        """A road through these nodes; a node that follows on itself stands once."""
-        if any(map(int.__eq__, nodes, nodes[1:])):
-            nodes = [nodes[0], *(after for before, after in zip(nodes, nodes[1:]) if before != after)]
+    def add_way(self, number, rule, nodes, longitudes=(), latitudes=()):
+        """A road through these nodes, at these places where they are known by now; a node that follows on itself stands once."""
+        if any(map(operator.eq, nodes, nodes[1:])):
+            is_kept = [True, *map(operator.ne, nodes, nodes[1:])]
+            nodes, longitudes, latitudes = (list(itertools.compress(part, is_kept)) for part in (nodes, longitudes, latitudes))
         if len(nodes) < 2:
             self.report.note("short", "")
+            self.lone_nodes.update(nodes)
         else:
-            self.roads.append(Road(number, rule, array.array("q", nodes)))
+            self.roads.append(Road(number, rule, array.array("q", nodes), array.array("d", longitudes), array.array("d", latitudes)))
+
+    def place_roads(self, places):
+        """The places of the roads' nodes, {number: (longitude, latitude)}, where they were not known when the roads were added."""
+        for road in self.roads:
+            longitudes, latitudes = zip(*(places.get(node, NOWHERE) for node in road.nodes))
+            road.longitudes.extend(longitudes)
+            road.latitudes.extend(latitudes)
 
     def add_barrier(self, number, node):
         """The tags of a node with a barrier."""
         self.barriers[number] = {key: value for key, value in node.items() if key in self.barrier_keys}
 
+    def nodes(self):
+        """The nodes of the roads, one road after the other."""
+        return itertools.chain.from_iterable(road.nodes for road in self.roads)
+
     def closed_nodes(self):
         """The nodes of roads through which no way leads. They are noted, and so are kinds of barrier that are not known."""
         closed = set()
-        for number in sorted(self.barriers.keys() & self.places.keys()):
+        for number in sorted(set(self.barriers).intersection(itertools.chain(self.nodes(), self.lone_nodes))):
             notes, barrier = [], self.barriers[number]
             if tags.is_closed_barrier(barrier, self.profile.barriers, notes):
                 closed.add(number)

@@ -25,10 +25,10 @@ class Copies:
         for arc in sorted(forbidden):
             node = network.heads[arc]
             outs = [out for out in crossings[node].outs if out not in forbidden[arc]]
-            self.heads[arc] = network.add_node(network.names[node]) if outs else None
+            self.heads[arc] = network.add_copy(node) if outs else None
             for out in outs:
                 self.tails[out].append(self.heads[arc])
-        self.ends = {node: network.add_node(network.names[node]) for node in sorted(nodes)}
+        self.ends = {node: network.add_copy(node) for node in sorted(nodes)}
 
     def tails_of(self, arc, tail):
         return [tail, *self.tails.get(arc, ())]
@@ -44,8 +44,9 @@ def split(network, forbidden):
     """The network in which no walk has a forbidden turn; all of its arcs are arcs of this one, some of them several times."""
     copies = Copies(network, forbidden)
     made = Network(network.bends is not None)
-    made.names, made.ways = network.names, network.ways
+    made.names, made.places, made.ways = network.names, network.places, network.ways
     made.ends = {end: node for node, end in copies.ends.items()}
+    made.copies = {copy: network.heads[arc] for arc, copy in copies.heads.items() if copy is not None}
     for arc, (tail, head, weight, piece) in enumerate(zip(network.tails, network.heads, network.weights, network.pieces)):
         bends = None if network.bends is None else network.bends[arc]
         for start in copies.tails_of(arc, tail):

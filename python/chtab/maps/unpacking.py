@@ -1,8 +1,8 @@
 """Run as a program: writes a map of the form .osm.pbf to standard output as text, by pyosmium.
 
-The text has a line for each object (https://osmcode.org/opl-file-format/): first nodes, then ways, each of whose nodes has its place,
-then relations. All of that is done outside of Python, some ten times as fast as objects are shown to Python one by one, and in a
-process of its own beside the one that reads the text.
+The text has a line for each object (https://osmcode.org/opl-file-format/): first nodes, then ways, each of whose nodes has its place, and
+relations. All of that is done outside of Python, some ten times as fast as objects are shown to Python one by one, and in a process of
+its own beside the one that reads the text.
 """
 import sys
 
@@ -23,9 +23,9 @@ def main(path):
     places.ignore_errors()
     try:
         text = osmium.WriteHandler("-", BUFFER, FORM)
-        for kind in osmium.osm.NODE, osmium.osm.WAY:
-            osmium.apply(osmium.io.Reader(path, kind), places, text)
-        osmium.apply(osmium.io.Reader(path, osmium.osm.RELATION), text)
+        others = osmium.osm.osm_entity_bits(int(osmium.osm.WAY) | int(osmium.osm.RELATION))
+        for kinds in osmium.osm.NODE, others:
+            osmium.apply(osmium.io.Reader(path, kinds), places, text)
         text.close()
     except RuntimeError as fault:
         print(fault, file=sys.stderr)

@@ -1,0 +1,299 @@
+#!/usr/bin/python3
+"""Tests that what the documents name is there: links and their anchors, files, commits, the calls and clauses that carry what is proved,
+the scripts of all figures, and the text of planted bugs; that there is one version, and that nothing tells of the machine that it was
+written on.
+
+It reads files alone and needs no built program. The last line is 'N passed, N failed'.
+"""
+import functools
+import re
+import subprocess
+from pathlib import Path
+
+from helpers.running import ROOT, Count
+
+PAGES = (
+    ROOT / "README.md", ROOT / "CONTRIBUTING.md", *sorted((ROOT / "docs").glob("*.md")), ROOT / "examples" / "README.md",
+    ROOT / "bench" / "README.md", *sorted((ROOT / "python").glob("README*")),
+)
+PROVED, MEASUREMENTS = ROOT / "docs" / "PROVED.md", ROOT / "docs" / "MEASUREMENTS.md"
+MOST_LINES_OF_README = 150
+# A name of a file or folder with a slash; one without, of what a document is about; and the suffixes of text.
+PATH = re.compile(r"[\w.-]+(?:/[\w.-]+)+/?|[\w-]+/")
+FILE = re.compile(r"[\w-]+\.(?:antt|c|cpp|md|py|rs|rt|sh|toml)")
+# A name of the reader's own stands for it: a word in capitals, as NAME. What the documents' commands make, what is installed, and a unit.
+OF_THE_READER = re.compile(r"\b[A-Z]+(?:_[A-Z]+)*\b")
+ELSEWHERE = re.compile(r"guide/|lib/chtab|.*\bout/|km/h")
+# Inline code, and in it a name, alone or with `::`.
+CODE = re.compile(r"`([^`]+)`")
+NAME = re.compile(r"(?:\w+::)*\w+")
+# Words and places that no document, source or script has.
+STRANGE = re.compile(r"\b[s]essions?\b|\b[i]ssues? #?\d+|(?<![\w.$}/-])/(?:home|mnt|opt|root|tmp|work)/")
+DAY = re.compile(r"\b\d{1,2} (?:January|February|March|April|May|June|July|August|September|October|November|December) 20\d\d\b")
+
+
+def told(path):
+    return path.relative_to(ROOT)
+
+
+def prose(page):
+    """The text of a page without its blocks of code, a line for each line."""
+    lines, fenced = [], False
+    for line in page.read_text().splitlines():
+        fenced ^= line.startswith("```")
+        lines.append("" if fenced or line.startswith(("```", "    ")) else line)
+    return "\n".join(lines)
+
+
+@functools.cache
+def tracked():
+    """The files of the repository: those that git knows, or where there is no git all that are no products."""
+    listed = subprocess.run(["git", "ls-files", "-z", "--cached", "--others", "--exclude-standard"], cwd=ROOT, capture_output=True, text=True)
+    if listed.returncode == 0:
+        return [ROOT / name for name in listed.stdout.split("\0") if name and (ROOT / name).is_file()]
+    return [path for path in sorted(ROOT.glob("**/*")) if path.is_file() and not {"out", "__pycache__", ".git"} & set(path.parts)]
+
+
+# Links and names of files.
+
+
+@functools.cache
+def anchors(page):
+    """The anchors of a page's headings, as web pages of Markdown make them."""
+    heads = re.findall(r"^#+ +(.*)", prose(page), re.MULTILINE)
+    return {re.sub(r"[^\w\- ]", "", head.lower()).strip().replace(" ", "-") for head in heads}
+
+
+def check_links(tally, page):
+    for target in re.findall(r"\]\(([^)\s]+)\)", prose(page)):
+        if not re.match(r"[a-z]+:", target):
+            name, _, anchor = target.partition("#")
+            path = page.parent / name if name else page
+            tally.expect(path.exists() and (not anchor or anchor in anchors(path)), f"{told(page)}: the link {target} leads nowhere")
+
+
+def is_there(name, page):
+    """Whether a name leads to something from the page, the repository, its crates, or a folder that the page is about."""
+    crates = sorted((ROOT / "crates").glob("*/"))
+    bases = [page.parent, ROOT, ROOT / "crates", *crates, *(crate / "src" for crate in crates)]
+    return any((base / name).exists() for base in bases)
+
+
+def check_names(tally, page):
+    """What stands in code and looks like a path is there; so is a file of text that is named alone, somewhere."""
+    files = {path.name for path in tracked()}
+    for code in CODE.findall(prose(page)):
+        for word in code.split():
+            word = word.removeprefix("./")
+            if OF_THE_READER.search(word.removesuffix("README.md")) or ELSEWHERE.match(word):
+                continue
+            if PATH.fullmatch(word):
+                tally.expect(is_there(word, page), f"{told(page)}: {word} is not there")
+            elif FILE.fullmatch(word):
+                tally.expect(word in files, f"{told(page)}: there is no file {word}")
+
+
+@functools.cache
+def has_history():
+    """Whether git has all commits here."""
+    done = subprocess.run(["git", "rev-parse", "--is-shallow-repository"], cwd=ROOT, capture_output=True, text=True)
+    return done.stdout.strip() == "false"
+
+
+def check_commits(tally, page):
+    """The commits that a page names are of this history."""
+    for commit in set(re.findall(r"\bcommit ([0-9a-f]{7,})\b", page.read_text())) if has_history() else ():
+        done = subprocess.run(["git", "merge-base", "--is-ancestor", commit, "HEAD"], cwd=ROOT, capture_output=True)
+        tally.expect(done.returncode == 0, f"{told(page)}: commit {commit} is not of this history")
+
+
+# What is proved.
+
+
+class Crate:
+    """The functions of a crate with the clauses of each, and its other names."""
+
+    def __init__(self, folder):
+        self.files = {path.relative_to(folder / "src"): path.read_text() for path in sorted((folder / "src").glob("**/*.rt"))}
+        self.clauses, self.types, self.modules = {}, {}, {}
+        for path, text in self.files.items():
+            self.read(path, text)
+        specs = "\n".join(path.read_text() for path in (folder / "specs").glob("**/*.antt"))
+        self.defined = set(re.findall(r"^(?:abbrev )?pub (\w+)", specs, re.MULTILINE))
+        self.defined |= set(re.findall(r"^abbrev (?:pub )?(\w+)", specs, re.MULTILINE))
+        self.words = set(re.findall(r"\w+", "\n".join([*self.files.values(), specs])))
+
+    def read(self, path, text):
+        starts = [found.start() for found in re.finditer(r"^ *(?:pub )?(?:unsafe )?fn \w+", text, re.MULTILINE)] + [len(text)]
+        for start, end in zip(starts, starts[1:]):
+            name = re.search(r"fn (\w+)", text[start:end])[1]
+            self.clauses.setdefault(name, set()).update(re.findall(r"^ *ensures (\w+) \{", text[start:end], re.MULTILINE))
+        of_file = set(re.findall(r"^ *ensures (\w+) \{", text, re.MULTILINE))
+        of_file |= set(re.findall(r"^ *ghost (\w+) =", text, re.MULTILINE))
+        for name in re.findall(r"^(?:pub )?(?:struct|enum|trait) (\w+)", text, re.MULTILINE):
+            self.types.setdefault(name, set()).update(of_file)
+        for name in re.findall(r"^impl\b.* for (\w+)", text, re.MULTILINE):
+            self.types.setdefault(name, set()).update(of_file)
+        folder = "" if path.stem in ("lib", "main") else path.stem
+        self.modules.setdefault(folder, set()).update(of_file)
+
+    def of(self, call):
+        """The clauses of a call, by its last name: a function, a type (with all that its file has) or a module. None where there is none."""
+        name = call.split("::")[-1]
+        for known in self.clauses, self.types, self.modules:
+            if name in known:
+                return known[name]
+        return None
+
+    def has_path(self, call):
+        """Each name before the last is one of a module or a type."""
+        return all(part in self.modules or part in self.types for part in call.split("::")[:-1])
+
+
+def statements():
+    """The parts of docs/PROVED.md that each tell what is proved of some calls, as (crate, text, text of the calls, whether all names in
+    that are calls): the rows of its tables, and paragraphs with the lists below them."""
+    crate, columns = None, []
+    for block in re.split(r"\n\n(?!- )", PROVED.read_text().split("\n## Only tested")[0]):
+        if head := re.match(r"## `(\w+)`", block):
+            crate = head[1]
+        for row in re.findall(r"^\|(.*)\|$", block, re.MULTILINE):
+            cells = [cell.strip() for cell in row.split(" | ")]
+            if cells[0] in ("call", "crate"):
+                columns = cells
+            elif not cells[0].startswith("---"):
+                crate = cells[0].strip("`") if columns[0] == "crate" and cells[0] else crate
+                yield crate, row, cells[columns.index("call")] if "call" in columns else cells[-1], True
+        if crate and not block.startswith(("|", "#")):
+            yield crate, block, re.split(r"[,:]\s", block)[0] if "\n- " in block else block, "\n- " in block
+
+
+def bare(text):
+    """The text without what stands in brackets."""
+    return re.sub(r"\([^()]*\)", "", text)
+
+
+def check_proved(tally):
+    crates = {path.name: Crate(path) for path in sorted((ROOT / "crates").glob("*/")) if (path / "src").exists()}
+    listed = {"HANDLES", *re.findall(r"\w+", (ROOT / "crates.txt").read_text())}
+    for name, text, calls, are_calls in statements():
+        tally.expect(name in crates, f"PROVED.md: there is no crate {name}")
+        if name in crates:
+            check_statement(tally, crates[name], name, text, calls, are_calls)
+            for word in filter(NAME.fullmatch, CODE.findall(text)):
+                is_known = word in listed or any(word.split("::")[-1] in crate.words for crate in crates.values())
+                tally.expect(is_known, f"PROVED.md: nothing is named {word}")
+
+
+def check_statement(tally, crate, name, text, calls, are_calls):
+    """The calls that a statement names are there, and have the clauses that stand in brackets behind them, or anywhere in the statement."""
+    found = [call for call in CODE.findall(bare(calls)) if NAME.fullmatch(call)]
+    if are_calls:
+        for call in found:
+            tally.expect(crate.of(call) is not None and crate.has_path(call), f"PROVED.md: {name} has no call {call}")
+    clauses = set().union(*(crate.of(call) or () for call in found))
+    for call, inside in re.findall(r"`([\w:]+)` \((`[^()]*)\)", calls):
+        for clause in CODE.findall(inside):
+            tally.expect(clause in (crate.of(call) or ()), f"PROVED.md: {call} of {name} has no clause {clause}")
+    for inside in re.findall(r"\((`[^()]*)\)", text):
+        elsewhere = set().union(*crate.modules.values()) if " of " in inside else set()
+        for word in filter(NAME.fullmatch, CODE.findall(inside.split(" of ")[0])):
+            is_known = word in clauses or word in crate.defined or word in crate.types or word in elsewhere
+            tally.expect(is_known, f"PROVED.md: {name}: none of the calls that are named there has a clause {word}")
+
+
+# Planted bugs, figures, and what no file has.
+
+
+def pairs_of(edit):
+    """The pairs of an edit: file, text to be replaced, and its replacement."""
+    file = old = None
+    for line in edit.read_text().splitlines():
+        key, _, value = line.partition(": ") if ": " in line else (line.rstrip(":"), "", "")
+        if key == "file":
+            file = value.strip()
+        elif key == "old":
+            old = value
+        elif key == "new":
+            yield file, old, value
+
+
+def check_edit(tally, edit):
+    """The text that each pair replaces stands once in its file, as the pairs before have left it."""
+    texts = {}
+    for file, old, new in pairs_of(edit):
+        path = edit.parent.parent / (file or "")
+        name = f"{edit.parent.parent.name}/{edit.name}"
+        if not file or not old or not path.is_file():
+            tally.expect(False, f"{name}: no file, or nothing that is replaced")
+            return
+        text = texts.setdefault(file, path.read_text())
+        tally.expect(text.count(old) == 1, f"{name}: this stands {text.count(old)} times in {file}: {old.strip()}")
+        texts[file] = text.replace(old, new)
+
+
+def check_figures(tally):
+    """Each section of figures names its script, a day and a machine; each script that measures has a line in bench/README.md, and the
+    other way round."""
+    for section in MEASUREMENTS.read_text().split("\n## ")[1:]:
+        head = section.splitlines()[0]
+        scripts = re.findall(r"`(?:\./)?(bench/[\w.]+|check|chtab)\b", section)
+        tally.expect(scripts and all((ROOT / script).is_file() for script in scripts), f"MEASUREMENTS.md, {head}: no script, or one that is gone")
+        tally.expect(DAY.search(section) or NOT_MEASURED in section, f"MEASUREMENTS.md, {head}: no day")
+        tally.expect("GHz" in section or NOT_MEASURED in section, f"MEASUREMENTS.md, {head}: no machine")
+    told = set(re.findall(r"^\| `(\w+)` \|", (ROOT / "bench" / "README.md").read_text(), re.MULTILINE))
+    scripts = {path.name for path in (ROOT / "bench").iterdir() if path.is_file() and not path.suffix}
+    tally.expect(told == scripts, f"bench/README.md and the scripts of bench/ differ by {sorted(told ^ scripts)}")
+
+
+NOT_MEASURED = "Not measured yet"
+
+
+def check_versions(tally):
+    """The engine and the package have one version."""
+    version = re.search(r'^version = "(.*)"$', (ROOT / "python" / "pyproject.toml").read_text(), re.MULTILINE)[1]
+    tally.expect((ROOT / "VERSION").read_text().startswith(f"chtab {version}\n"), f"VERSION and python/pyproject.toml, {version}, differ")
+
+
+def check_parts(tally):
+    """Each test is a part of ./check, or is run by hand and told so, and has its row in ARCHITECTURE.md; what tests share is named there."""
+    check, page = (ROOT / "check").read_text(), (ROOT / "docs" / "ARCHITECTURE.md").read_text()
+    for test in sorted([*(ROOT / "tests").glob("*.py"), *(ROOT / "tests").glob("*.sh")]):
+        rows = [line for line in page.splitlines() if line.startswith("|") and f"`{test.name}`" in line]
+        is_run = re.search(rf"^part tests/{re.escape(test.name)}\b", check, re.MULTILINE) or any("by hand" in row for row in rows)
+        tally.expect(rows and (is_run or test.name == "packages.sh"), f"tests/{test.name} is no part of ./check, or has no row in ARCHITECTURE.md")
+    for path in sorted([*(ROOT / "tests" / "oracles").glob("[!_]*.*"), *(ROOT / "tests" / "helpers").glob("[!_]*.*")]):
+        tally.expect(f"`{path.name}`" in page, f"ARCHITECTURE.md does not name {told(path)}")
+
+
+def check_text(tally, path):
+    """A file of text has none of the strange words."""
+    try:
+        text = path.read_text()
+    except UnicodeDecodeError:
+        return
+    found = STRANGE.search(text)
+    tally.expect(not found, f"{told(path)} has `{found and found[0]}`")
+
+
+def main():
+    tally = Count()
+    for page in PAGES:
+        check_links(tally, page)
+        check_names(tally, page)
+        check_commits(tally, page)
+    check_proved(tally)
+    for edit in sorted(ROOT.glob("crates/*/must-fail/*.edit")):
+        check_edit(tally, edit)
+    check_figures(tally)
+    check_versions(tally)
+    check_parts(tally)
+    for path in tracked():
+        check_text(tally, path)
+    lines = len((ROOT / "README.md").read_text().splitlines())
+    tally.expect(lines <= MOST_LINES_OF_README, f"README.md has {lines} lines")
+    tally.finish()
+
+
+if __name__ == "__main__":
+    main()

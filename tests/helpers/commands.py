@@ -1,0 +1,23 @@
+"""For the tests of the Python package: its commands, and calls that have to fail."""
+import subprocess
+
+from helpers.packages import PYTHON
+from helpers.running import ROOT
+
+
+def raises(kind, call, *words, told=""):
+    """The fault of this kind that a call raises, and that tells so."""
+    try:
+        call(*words)
+    except kind as fault:
+        assert told in str(fault), fault
+        return fault
+    raise AssertionError(f"{call} raised nothing")
+
+
+def command(name, *words, text="", status=0):
+    """What a command of tools/ writes to standard output, or with another status to standard error."""
+    words = [PYTHON, ROOT / "tools" / f"{name}.py", *words]
+    done = subprocess.run(list(map(str, words)), input=text, capture_output=True, text=True)
+    assert done.returncode == status and bool(done.stderr) == bool(status), done
+    return done.stderr if status else done.stdout
