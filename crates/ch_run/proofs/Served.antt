@@ -1,8 +1,7 @@
 -- Requests that are read and answered as they come.
-use Rattle.std.proofs.Common.{◌≡◌, ℕ, ◌<◌, ◌==◌, Bool, true, false, not, ◌&&◌, List, [], ◌∷◌, ◌++◌, length, take, drop, Option, Some, None, Result, Ok, Err, inl, inr, refl, sym, ap, ◌∙◌, subst, append_assoc}
+use Rattle.std.proofs.Common.{◌≡◌, ℕ, ◌<◌, ◌==◌, Bool, true, false, not, ◌&&◌, List, [], ◌∷◌, ◌++◌, length, take, Option, Some, None, Result, Ok, Err, inl, inr, refl, sym, ap, ◌∙◌, subst, append_assoc}
 use Rattle.std.specs.Prelude.{IfErr, IsErrAnd, IsNone, map, is_ok, is_err, if◌then◌else◌}
 use Rattle.std.proofs.lemmas.Bool.{eqb-true}
-use Rattle.std.proofs.Math.Seq.{take-append_seam}
 use Rattle.std.proofs.lemmas.List.{append-nil}
 use Rattle.ch_read.specs.declared.request.Request.{Request}
 use Rattle.ch_read.specs.declared.request.Request.TheVariants.{Query, Table as TableOf}
@@ -172,10 +171,6 @@ read_refused E (Some start) (Some old) (Some new) read left buffer e h k = (h.0,
 all_given : (old new : Option (List ℕ)) (read left : List ℕ) → HasRead old new read left → left ≡ [] → HasGiven old new read
 all_given None new read left h none = h
 all_given (Some old) new read left h none = (h.0 ∙ ap (λ xs. read ++ xs) none ∙ append-nil read, h.1 ∙ ap (λ (xs : List ℕ). Some xs) none)
-
--- a buffer holds what was written into all of it
-pub written_back : (size : ℕ) (new old : List ℕ) → size ≡ length new → take size (new ++ drop (length new) old) ≡ new
-written_back size new old is = rw is (take-append_seam new (drop (length new) old))
 
 -- bytes that are fed come first
 fed_ahead : (s : Standing) (bytes more : List ℕ) → ahead s (bytes ++ more) ≡ ahead (fed s bytes) more

@@ -49,17 +49,58 @@ pub(crate) fn serve<R: Threads + Sync, J: Input, O: Output, G: Gate>(
 {
     let mut buffer = Vec::from_elem(alloc, 0, ROOM)?;
     let mut scratch = Scratch::new(alloc, checked.hierarchy.nodes())?;
+    serve_in(
+        rt,
+        alloc,
+        checked,
+        &mut buffer,
+        &mut scratch,
+        requests,
+        output,
+        options,
+        plan,
+        gate,
+    )
+}
+
+/// The same in the room that the caller made: for what is read at once, and for the queries of one worker.
+fn serve_in<R: Threads + Sync, J: Input, O: Output, G: Gate>(
+    rt: &R,
+    alloc: Global,
+    checked: &Checked,
+    buffer: &mut [u8],
+    scratch: &mut Scratch,
+    requests: &mut J,
+    output: &mut O,
+    options: &Options,
+    plan: &Plan,
+    gate: &G,
+) -> Result<(), RunFault>
+    requires limits { IsWithinLimits checked.now.graph }
+    requires kept { IsKept checked.now.graph checked.now.hierarchy }
+    requires buffer { 0 < length buffer.old }
+    requires scratch { scratch.old ≡ nodes_of checked.now.hierarchy }
+    requires requests { CanCountOneMore (J.failed requests.old) }
+    requires failures { CanCountOneMore (O.failed output.old) }
+    requires zeros { CanCountOneMore (O.idle output.old) }
+    ensures served { Serves (IsRequestText options.now checked.now.graph (λ H. H ≡ checked.now.hierarchy)) checked.now.graph.nodes
+        (reading J.left requests.old requests.new) (O.taken output.old) (O.taken output.new) result }
+    ensures own { IfErr result IsOfServing }
+    ensures device { (result ≡ Err (RunFault.Device Which.Requests)) ↔ (J.failed requests.old < J.failed requests.new) }
+    ensures once { CountsAtMostOne (J.failed requests.old) (J.failed requests.new) }
+    ensures counts { CountsWrites (O.failed output.old) (O.failed output.new) (O.idle output.old) (O.idle output.new) result }
+{
     let mut reader = RequestReader::new(alloc, checked.graph.nodes());
     let mut written = 0;
     for _ in 0..u64::MAX {
-        let count = read_once(requests, &mut buffer)?;
+        let count = read_once(requests, buffer)?;
         let ended = count == 0;
         reader.feed(&buffer[..count])?;
         answer_whole(
             rt,
             alloc,
             checked,
-            &mut scratch,
+            scratch,
             &mut reader,
             ended,
             output,

@@ -1,14 +1,14 @@
-use Rattle.std.proofs.Common.{◌≡◌, ◌<◌, vec_len}
+use Rattle.std.proofs.Common.{◌≡◌, ◌<◌, length}
 use Rattle.ch_hierarchy.specs.Hierarchy.{nodes_of}
 use Rattle.ch_run.specs.Ask.{IsRequestText}
 use Rattle.ch_run.specs.Run.{reading}
 use Rattle.ch_run.proofs.Served.{HasServed}
-use Rattle.ch_run.proofs.run.serving.serve.Given as goal
+use Rattle.ch_run.proofs.run.serving.serve_in.Given as goal
 
 -- all that was whole in what was read is answered, and no call of a device has failed
 abbrev pub invariant-loop : goal.invariant-loop
 invariant-loop g l = record {
-  room : 0 < vec_len l.buffer;
+  room : 0 < length l.buffer;
   scratch : l.scratch ≡ nodes_of l.checked.hierarchy;
   served : HasServed (IsRequestText l.options l.checked.graph (λ H. H ≡ l.checked.hierarchy)) l.checked.graph.nodes
       (reading g.J.Input.left l.initial.requests l.requests) (g.O.Output.taken l.initial.output) (g.O.Output.taken l.output) l.written l.reader;

@@ -1,0 +1,104 @@
+use Rattle.std.proofs.Common.{◌≡◌, ◌<◌, ◌==◌, length, refl, ◌∙◌, subst, arith}
+use Rattle.std.specs.Prelude.{IsErrAnd}
+use Rattle.std.proofs.lemmas.Bool.{eq-eqb, ne_eqb}
+use Rattle.ch_run.specs.Ask.{IsRequestText}
+use Rattle.ch_run.specs.Run.{reading}
+use Rattle.ch_run.specs.declared.fault.RunFault.{RunFault}
+use Rattle.ch_run.specs.declared.fault.RunFault.TheVariants.{Device, Memory}
+use Rattle.ch_run.specs.declared.fault.Which.TheVariants.{Requests}
+use Rattle.ch_run.proofs.Counted.{counted_passed, counted_well}
+use Rattle.ch_run.proofs.Served.{fed_done, fed_more, fed_refused, fed_served, own_fault, own_passed, passes_end, served_long, served_none, served_refused, served_unfed}
+use Rattle.ch_run.proofs.run.serving.serve_in.Goals as goal
+
+pub loop-init : goal.loop-init
+loop-init g c =
+    let P = IsRequestText c.args.options.now c.args.checked.now.graph (λ H. H ≡ c.args.checked.now.hierarchy) in
+    let n = c.args.checked.now.graph.nodes in
+    record {
+      room = c.requires.buffer;
+      scratch = c.requires.scratch;
+      served = rw (c.new-reader.ensures, c.nodes.ensures) (served_none P n (g.J.Input.left c.args.requests.now) (g.O.Output.taken c.args.output.now));
+      reads = refl;
+      failed = refl;
+      idle = refl;
+    }
+
+pub loop-preserved : goal.loop-preserved
+loop-preserved g c =
+    let P = IsRequestText c.args.options.now c.args.checked.now.graph (λ H. H ≡ c.args.checked.now.hierarchy) in
+    let n = c.args.checked.now.graph.nodes in
+    let room : 0 < length c.read_once.new.buffer = (let some = c.loop.invariant.room in omega arith) in
+    let had = fed_more P n RunFault (g.J.Input.left c.args.requests.now) (g.J.Input.left c.loop.requests) (g.J.Input.left c.read_once.new.requests) (g.O.Output.taken c.args.output.now) (g.O.Output.taken c.loop.output)
+    c.loop.written c.loop.reader c.feed.new.self c.read_once.new.buffer _ c.in_ok-count.count c.in_ok-feed.ensures.fed refl c.loop.invariant.served c.in_ok-count.ensures.bytes room in
+    let answered = c.in_ok-answer_whole.ensures.answered in
+    let same = counted_well _ _ _ _ c.in_ok-answer_whole.ensures.counts in
+    record {
+      room = room;
+      scratch = c.in_ok-answer_whole.ensures.scratch ∙ c.loop.invariant.scratch;
+      served = fed_served P n (reading g.J.Input.left c.args.requests.now c.read_once.new.requests) _ _ _ _ _ c.feed.new.self c.answer_whole.new.reader answered.0 (c.in_ok-count.count == 0) (ne_eqb c.in_ok-count.count 0 c.if-ended.false) had answered.1 answered.2
+          c.in_ok-answer_whole.ensures.used_up c.in_ok-answer_whole.ensures.nodes;
+      reads = c.in_ok-count.ensures.failures ∙ (let so_far = c.loop.invariant.reads in omega arith);
+      failed = same.0 ∙ c.loop.invariant.failed;
+      idle = same.1 ∙ c.loop.invariant.idle;
+    }
+
+pub returns-in_err-count-clause-served : goal.returns-in_err-count-clause-served
+returns-in_err-count-clause-served g c =
+    let P = IsRequestText c.args.options.now c.args.checked.now.graph (λ H. H ≡ c.args.checked.now.hierarchy) in
+    let n = c.args.checked.now.graph.nodes in
+    let r = c.from_residual.result in
+    let is = subst (λ (e : RunFault). IsErrAnd r (λ y. y ≡ e)) c.in_err-count.ensures.own c.from_residual.ensures.1 in
+    passes_end P n (reading g.J.Input.left c.args.requests.now c.read_once.new.requests) _ _ r (Device Requests) is
+    (served_refused P n RunFault (g.J.Input.left c.args.requests.now) (g.J.Input.left c.loop.requests) (g.J.Input.left c.read_once.new.requests) (g.O.Output.taken c.args.output.now) (g.O.Output.taken c.loop.output)
+    c.loop.written c.loop.reader c.read_once.new.buffer c.in_err-count.field-0.0 c.loop.invariant.served c.in_err-count.ensures.bytes)
+
+pub returns-in_err-feed-clause-served : goal.returns-in_err-feed-clause-served
+returns-in_err-feed-clause-served g c =
+    let P = IsRequestText c.args.options.now c.args.checked.now.graph (λ H. H ≡ c.args.checked.now.hierarchy) in
+    let n = c.args.checked.now.graph.nodes in
+    let room : 0 < length c.read_once.new.buffer = (let some = c.loop.invariant.room in omega arith) in
+    passes_end P n (reading g.J.Input.left c.args.requests.now c.read_once.new.requests) _ _ c.from_residual-in_err-feed.result Memory c.from_residual-in_err-feed.ensures.1
+    (served_unfed P n RunFault (g.J.Input.left c.args.requests.now) (g.J.Input.left c.loop.requests) (g.J.Input.left c.read_once.new.requests) (g.O.Output.taken c.args.output.now) (g.O.Output.taken c.loop.output)
+    c.loop.written c.loop.reader c.read_once.new.buffer c.in_ok-count.count c.loop.invariant.served c.in_ok-count.ensures.bytes room)
+
+pub returns-in_err-answer_whole-clause-served : goal.returns-in_err-answer_whole-clause-served
+returns-in_err-answer_whole-clause-served g c =
+    let P = IsRequestText c.args.options.now c.args.checked.now.graph (λ H. H ≡ c.args.checked.now.hierarchy) in
+    let n = c.args.checked.now.graph.nodes in
+    let room : 0 < length c.read_once.new.buffer = (let some = c.loop.invariant.room in omega arith) in
+    let had = fed_more P n RunFault (g.J.Input.left c.args.requests.now) (g.J.Input.left c.loop.requests) (g.J.Input.left c.read_once.new.requests) (g.O.Output.taken c.args.output.now) (g.O.Output.taken c.loop.output)
+    c.loop.written c.loop.reader c.feed.new.self c.read_once.new.buffer _ c.in_ok-count.count c.in_ok-feed.ensures.fed refl c.loop.invariant.served c.in_ok-count.ensures.bytes room in
+    let answered = c.in_err-answer_whole.ensures.answered in
+    let e = c.in_err-answer_whole.field-0.0 in
+    passes_end P n (reading g.J.Input.left c.args.requests.now c.read_once.new.requests) _ _ c.from_residual-in_err-answer_whole.result e c.from_residual-in_err-answer_whole.ensures.1
+    (fed_refused P n (reading g.J.Input.left c.args.requests.now c.read_once.new.requests) (g.O.Output.taken c.args.output.now) (g.O.Output.taken c.loop.output) (g.O.Output.taken c.answer_whole.new.output) c.loop.written c.answer_whole.new.written
+    c.feed.new.self c.answer_whole.new.reader answered.0 (c.in_ok-count.count == 0) e had answered.1 answered.2)
+
+pub returns-in_err-answer_whole-clause-own : goal.returns-in_err-answer_whole-clause-own
+returns-in_err-answer_whole-clause-own g c =
+    let answered = c.in_err-answer_whole.ensures.answered in
+    let e = c.in_err-answer_whole.field-0.0 in
+    own_passed c.from_residual-in_err-answer_whole.result e c.from_residual-in_err-answer_whole.ensures.1
+    (own_fault (c.in_ok-count.count == 0) c.feed.new.self c.answer_whole.new.reader answered.0 e answered.1)
+
+pub returns-in_err-answer_whole-clause-counts : goal.returns-in_err-answer_whole-clause-counts
+returns-in_err-answer_whole-clause-counts g c =
+    counted_passed _ _ _ _ _ _ c.in_err-answer_whole.field-0.0 c.from_residual-in_err-answer_whole.result c.from_residual-in_err-answer_whole.ensures.1
+    c.loop.invariant.failed c.loop.invariant.idle c.in_err-answer_whole.ensures.counts
+
+pub returns-then-ended-clause-served : goal.returns-then-ended-clause-served
+returns-then-ended-clause-served g c =
+    let P = IsRequestText c.args.options.now c.args.checked.now.graph (λ H. H ≡ c.args.checked.now.hierarchy) in
+    let n = c.args.checked.now.graph.nodes in
+    let room : 0 < length c.read_once.new.buffer = (let some = c.loop.invariant.room in omega arith) in
+    let had = fed_more P n RunFault (g.J.Input.left c.args.requests.now) (g.J.Input.left c.loop.requests) (g.J.Input.left c.read_once.new.requests) (g.O.Output.taken c.args.output.now) (g.O.Output.taken c.loop.output)
+    c.loop.written c.loop.reader c.feed.new.self c.read_once.new.buffer _ c.in_ok-count.count c.in_ok-feed.ensures.fed refl c.loop.invariant.served c.in_ok-count.ensures.bytes room in
+    let answered = c.in_ok-answer_whole.ensures.answered in
+    fed_done P n (reading g.J.Input.left c.args.requests.now c.read_once.new.requests) _ _ _ _ _ c.feed.new.self c.answer_whole.new.reader answered.0 (c.in_ok-count.count == 0) (eq-eqb c.in_ok-count.count 0 c.if-ended.true) had answered.1 answered.2
+    c.in_ok-answer_whole.ensures.used_up
+
+pub returns-clause-served : goal.returns-clause-served
+returns-clause-served g c =
+    let P = IsRequestText c.args.options.now c.args.checked.now.graph (λ H. H ≡ c.args.checked.now.hierarchy) in
+    let n = c.args.checked.now.graph.nodes in
+    served_long P n (reading g.J.Input.left c.args.requests.now c.loop.requests) _ _ c.loop.written c.loop.reader c.loop.invariant.served
