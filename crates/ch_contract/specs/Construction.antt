@@ -1,24 +1,24 @@
 -- A hierarchy under construction.
-use Rattle.std.specs.Prelude.{◌≡◌, ◌<◌, ◌≤◌, ℕ, length, slice_index, All}
+use Rattle.std.specs.Prelude.{◌≡◌, ◌≤◌, ℕ, length, slice_index}
 use Rattle.ch_graph.specs.declared.limits.TheConstants.{MOST_NODES}
-use Rattle.ch_graph.specs.Rows.{values_of}
+use Rattle.ch_hierarchy.specs.Rows.{row}
 use Rattle.ch_contract.specs.declared.construction.Construction.{Construction}
 use Rattle.ch_contract.specs.Progress.{Progress}
 use Rattle.ch_contract.specs.Remaining.{legs_of}
 use Rattle.ch_contract.specs.Rooms.{IsReady}
 
--- what it has come to: the rows are made of pairs of a node and one of its legs
+-- what it has come to: the rows are the legs that were set aside
 abbrev pub progress_of : Construction → Progress
-progress_of c = record { legs = legs_of c.remaining; keys = c.waiting; depth = λ x. slice_index c.depths.items x; levels = c.levels.items; up = λ x. values_of x c.ups.items; down = λ x. values_of x c.downs.items; contracted = c.contracted }
+progress_of c = record { legs = legs_of c.remaining; keys = c.waiting; depth = λ x. slice_index c.depths.items x; levels = c.levels.items; up = λ x. row c.remaining.ups x; down = λ x. row c.remaining.downs x; contracted = c.contracted }
 
--- there is a key, a depth and a level for each node, and the rows are those of nodes
+-- there is a key, a depth, a level and a row of each side for each node
 pub record IsSized (c : Construction) : Type 0 where
   pub nodes : c.remaining.nodes ≤ MOST_NODES
   pub keys : length c.waiting ≡ c.remaining.nodes
   pub depths : length c.depths.items ≡ c.remaining.nodes
   pub levels : length c.levels.items ≡ c.remaining.nodes
-  pub ups : All (λ p. p.0 < c.remaining.nodes) c.ups.items
-  pub downs : All (λ p. p.0 < c.remaining.nodes) c.downs.items
+  pub ups : length c.remaining.ups ≡ c.remaining.nodes
+  pub downs : length c.remaining.downs ≡ c.remaining.nodes
 
 -- its room is ready to judge nodes with the legs that are left
 abbrev pub IsJudging : ℕ → Construction → Type 0

@@ -1,5 +1,5 @@
 -- What the contraction of one node after the other has come to.
-use Rattle.std.specs.Prelude.{◌≡◌, ◌≢◌, ℕ, ◌+◌, ◌<◌, true, false, List, [], ◌++◌, length, slice_set, Option, Some, None, ℤ}
+use Rattle.std.specs.Prelude.{◌≡◌, ◌≢◌, ℕ, ◌+◌, ◌<◌, true, false, List, length, slice_set, Option, Some, None, ℤ}
 use Rattle.ch_queue.specs.Queue.{key_of}
 use Rattle.ch_graph.specs.Graph.{Network}
 use Rattle.ch_hierarchy.specs.declared.leg.Leg.{Leg}
@@ -38,7 +38,6 @@ pub record IsOpen (by : OrderBy) (g : Network) (h : ℕ) (p : Progress) : Type 0
   pub size : length p.keys ≡ g.nodes
   pub priorities : (x : ℕ) → x < g.nodes → HasPriority (IsPriorityBy by g.nodes h (opening g) p.depth) p.keys x
   pub depths : (x : ℕ) → p.depth x ≡ 0
-  pub rows : (x : ℕ) → (p.up x ≡ []) × (p.down x ≡ [])
   pub contracted : p.contracted ≡ 0
 
 -- v is contracted: its rows are put in, its level is the number of contracted nodes, it leaves the queue, and its neighbours alone have new depths and priorities
@@ -46,8 +45,8 @@ pub record IsStep (by : OrderBy) (n h : ℕ) (before : Progress) (v : ℕ) (afte
   pub legs : Contracts n h before.legs v after.legs
   pub contracted : after.contracted ≡ before.contracted + 1
   pub levels : after.levels ≡ slice_set before.levels v after.contracted
-  pub up : (row : List Leg) × AreLegsFrom before.legs v row × (after.up v ≡ before.up v ++ row)
-  pub down : (row : List Leg) × AreLegsTo before.legs v row × (after.down v ≡ before.down v ++ row)
+  pub up : AreLegsFrom before.legs v (after.up v)
+  pub down : AreLegsTo before.legs v (after.down v)
   pub rows : (x : ℕ) → x ≢ v → (after.up x ≡ before.up x) × (after.down x ≡ before.down x)
   pub size : length after.keys ≡ length before.keys
   pub taken : key_of after.keys v ≡ None

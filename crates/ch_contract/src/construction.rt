@@ -8,10 +8,10 @@ ghost use Rattle.ch_hierarchy.specs.Kept.{IsKept};
 use crate::measure::OrderBy;
 use crate::order::{deepen, neighbours};
 use crate::priority::{PriorityJob, opening_queue};
-use crate::remaining::Remaining;
+use crate::remaining::{BothRows, Remaining};
 use crate::room::Room;
-use ch_graph::{Graph, Rows};
-use ch_hierarchy::{Hierarchy, Leg};
+use ch_graph::Graph;
+use ch_hierarchy::Hierarchy;
 use ch_queue::KeyQueue;
 use ch_work::{Gate, Plan};
 use std::alloc::{AllocError, Global};
@@ -66,7 +66,7 @@ pub fn build_by<R: Threads + Sync, G: Gate>(
     while let Some(node) = construction.next() {
         construction = construction.contract(rt, alloc, node, hops, by, plan, gate)?;
     }
-    construction.finish(alloc)
+    construction.finish()
 }
 
 /// A hierarchy of which some nodes are contracted.
@@ -82,10 +82,6 @@ struct Construction {
     depths: Vec<u32>,
     /// The level of each contracted node.
     levels: Vec<u32>,
-    /// Each contracted node with each leg from it.
-    ups: Vec<(u32, Leg)>,
-    /// Each contracted node with each leg to it.
-    downs: Vec<(u32, Leg)>,
     /// How many nodes are contracted.
     contracted: u32,
 }
@@ -136,8 +132,6 @@ impl Construction {
             waiting,
             depths,
             levels,
-            ups: Vec::new(alloc),
-            downs: Vec::new(alloc),
             contracted: 0,
         })
     }
@@ -174,10 +168,13 @@ impl Construction {
         ensures ready { IfOk result (IsJudging hops) }
     {
         let remaining = self.remaining;
-        let (remaining, removed) = self.room.contract(alloc, remaining, node, hops)?;
-        self.remaining = remaining;
+        self.remaining = self.room.contract(alloc, remaining, node, hops)?;
         let _ = self.waiting.remove(node);
-        let neighbours = neighbours(alloc, removed.up.as_slice(), removed.down.as_slice())?;
+        let neighbours = neighbours(
+            alloc,
+            self.remaining.up_legs(node),
+            self.remaining.down_legs(node),
+        )?;
         deepen(&mut self.depths, neighbours.as_slice(), node);
         let job = PriorityJob {
             remaining: &self.remaining,
@@ -196,13 +193,11 @@ impl Construction {
         )?;
         self.contracted += 1;
         self.levels[node as usize] = self.contracted;
-        push_row(&mut self.ups, node, removed.up.as_slice())?;
-        push_row(&mut self.downs, node, removed.down.as_slice())?;
         Ok(self)
     }
 
     /// The hierarchy, once every node is contracted. What it doesn't need is freed before its rows are made.
-    fn finish(self, alloc: Global) -> Result<Hierarchy, AllocError>
+    fn finish(self) -> Result<Hierarchy, AllocError>
         requires sizes { IsSized self }
         requires levelled { (H : LevelsAndLegs) → AreAll self.remaining.nodes (progress_of self) H → IsLevelled H }
         ensures { IfOk result (AreAll self.remaining.nodes (progress_of self)) }
@@ -213,29 +208,12 @@ impl Construction {
             waiting,
             depths,
             levels,
-            ups,
-            downs,
             contracted: _,
         } = self;
-        let nodes = remaining.nodes();
-        drop(remaining);
         drop(room);
         drop(waiting);
         drop(depths);
-        let up_rows = Rows::build(alloc, nodes, ups.as_slice())?;
-        drop(ups);
-        let down_rows = Rows::build(alloc, nodes, downs.as_slice())?;
-        drop(downs);
-        Ok(Hierarchy::from_rows(levels, up_rows, down_rows))
+        let BothRows { ups, downs } = remaining.into_rows()?;
+        Ok(Hierarchy::from_rows(levels, ups, downs))
     }
-}
-
-/// Puts the legs of a node behind those of other nodes.
-fn push_row(rows: &mut Vec<(u32, Leg)>, node: u32, legs: &[Leg]) -> Result<(), AllocError>
-    ensures { OnOk result (rows.new.items ≡ rows.old.items ++ map (λ l. (node, l)) legs.now) }
-{
-    for leg in legs {
-        rows.push((node, *leg))?;
-    }
-    Ok(())
 }

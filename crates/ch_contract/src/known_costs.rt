@@ -107,11 +107,11 @@ impl<K: HeldCost> KnownCosts<K> {
         front: &[Step<K>],
         wanted: Wanted,
     ) -> Result<(), AllocError>
-        requires size { length self.old.costs.items ≡ length lists.now }
-        requires nodes { All (λ f. f.node < length lists.now) front.now }
-        requires room { All (λ f. IsRoomFor K.limit (length lists.now) (row lists.now f.node) (chain_start_of K.cost f)) front.now }
+        requires size { length self.old.costs.items ≡ length lists.now.rows }
+        requires nodes { All (λ f. f.node < length lists.now.rows) front.now }
+        requires room { All (λ f. IsRoomFor K.limit (length lists.now.rows) (row lists.now.rows f.node) (chain_start_of K.cost f)) front.now }
         requires most { IsHeld K.limit wanted.most }
-        ensures { OnOk result (Lowers (IsOneMoreOf lists.now (map (chain_start_of K.cost) front.now) wanted) (known_of K.cost self.old) (known_of K.cost self.new)) }
+        ensures { OnOk result (Lowers (IsOneMoreOf lists.now.rows (map (chain_start_of K.cost) front.now) wanted) (known_of K.cost self.old) (known_of K.cost self.new)) }
     {
         for step in front {
             self.spread(lists.at(step.node), *step, wanted)?;

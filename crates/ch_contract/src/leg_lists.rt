@@ -1,83 +1,96 @@
-//! The legs of each node, in a short list for each.
-ghost use Rattle.std.specs.Prelude.{◌≡◌, ℕ, ◌<◌, ◌≤◌, ◌==◌, if◌then◌else◌, [], length, All, AllPairs, IfOk, OnOk, Some, None, option_map, find, replicate, slice_index_or, slice_set};
+//! The legs of each node, in a list for each.
+ghost use Rattle.std.specs.Prelude.{◌≡◌, ℕ, ◌+◌, ◌<◌, ◌≤◌, ◌==◌, if◌then◌else◌, [], length, All, AllPairs, IfOk, OnOk, Some, None, option_map, find, replicate, slice_index_or, slice_set};
+ghost use Rattle.ch_graph.specs.declared.limits.TheConstants.{MOST_NODES};
 ghost use Rattle.ch_hierarchy.specs.declared.leg.Leg.{Leg};
 ghost use Rattle.ch_contract.specs.Contraction.{IsPairBefore};
 ghost use Rattle.ch_hierarchy.specs.Rows.{row, IsRow};
 ghost use Rattle.ch_contract.specs.LegRows.{row_leg, label_of};
-ghost use Rattle.ch_contract.specs.LegLists.{AreRows, HaveAll, IsSet, AreOverridden, legs_from, legs_into, lighter_arc};
+ghost use Rattle.ch_contract.specs.LegLists.{AreRows, HaveAll, IsEdited, IsReplaced, IsSet, AreOverridden, legs_from, legs_into, lighter_arc};
 
 use crate::shortcut::Shortcut;
-use ch_graph::Cost;
+use ch_graph::{Cost, Rows};
 use ch_hierarchy::Leg;
-use smallvec::SmallVec;
+use ch_lists::Lists;
 use std::alloc::{AllocError, Global};
 use std::marker::Model;
 
-/// How many legs stand in the list of a node itself. Longer lists keep theirs apart.
-const FEW: usize = 4;
-
-/// The legs of one node, in order of the other node.
-type LegList = SmallVec<Leg, FEW>;
-
-/// A list of legs for each node.
+/// A list of legs for each node, and one more for each, of those that it had when it was contracted. All legs stand in one
+/// array: a node that is contracted leaves its legs where they are.
 #[derive(Drop)]
 pub(crate) struct LegLists {
-    lists: Vec<LegList>,
+    nodes: u32,
+    /// The list of each node, and behind all of them those that were set aside.
+    lists: Lists<Leg>,
 }
 
 impl Model for LegLists {
-    ghost use Rattle.std.specs.Prelude.{List, map};
-    ghost use Rattle.ch_hierarchy.specs.declared.leg.Leg.{Leg};
+    ghost use Rattle.std.specs.Prelude.{◌≡◌, ◌+◌, ◌≤◌, length, take, drop};
+    ghost use Rattle.ch_graph.specs.declared.limits.TheConstants.{MOST_NODES};
+    ghost use Rattle.ch_contract.specs.LegLists.{NodeLegs};
 
-    ghost Value = { List (List Leg) };
+    ghost Value = { NodeLegs };
 
-    ghost view = { λ s. map (λ v. v.items) s.lists.items };
+    ghost view = { λ s. record { rows = take s.nodes s.lists; aside = drop s.nodes s.lists } };
+
+    ghost invariant = { λ s. (length s.lists ≡ s.nodes + s.nodes) × (s.nodes ≤ MOST_NODES) };
 }
 
 impl LegLists {
-    /// An empty list for each of so many nodes.
-    pub(crate) fn new(alloc: Global, nodes: u32) -> Result<LegLists, AllocError>
-        ensures { IfOk result (λ lists. lists ≡ replicate nodes []) }
+    /// Empty lists for so many nodes. There are two rooms for each node: how many legs its list takes before it has to move,
+    /// and behind those of all nodes how many the one that is set aside takes.
+    pub(crate) fn new(alloc: Global, nodes: u32, rooms: &[u32]) -> Result<LegLists, AllocError>
+        requires nodes { nodes ≤ MOST_NODES }
+        requires rooms { length rooms.now ≡ nodes + nodes }
+        ensures { IfOk result (λ lists. lists ≡ record { rows = replicate nodes []; aside = replicate nodes [] }) }
     {
-        let mut lists = Vec::with_capacity(alloc, nodes as usize)?;
-        for _ in 0..nodes {
-            lists.push(SmallVec::new(alloc))?;
-        }
-        Ok(LegLists { lists })
+        let lists = Lists::with_rooms(alloc, rooms, Leg::default())?;
+        Ok(LegLists { nodes, lists })
     }
 
     /// The legs of a node.
+    #[inline]
     pub(crate) fn at(&self, node: u32) -> &[Leg]
-        requires { node < length self.now }
-        ensures { result.now ≡ row self.now node }
+        requires { node < length self.now.rows }
+        ensures { result.now ≡ row self.now.rows node }
     {
-        self.lists[node as usize].as_slice()
+        self.lists.at(node)
+    }
+
+    /// The legs that were set aside at a node.
+    pub(crate) fn aside(&self, node: u32) -> &[Leg]
+        requires { node < length self.now.rows }
+        ensures { result.now ≡ row self.now.aside node }
+    {
+        self.lists.at(self.nodes + node)
     }
 
     /// Takes the leg of `node` at `other` out, where there is one.
     pub(crate) fn take(&mut self, node: u32, other: u32)
-        requires node { node < length self.old }
-        requires rows { AreRows self.old }
-        ensures { IsSet node other None self.old self.new }
+        requires node { node < length self.old.rows }
+        requires rows { AreRows self.old.rows }
+        ensures legs { IsSet node other None self.old.rows self.new.rows }
+        ensures aside { self.new.aside ≡ self.old.aside }
     {
-        take_leg(&mut self.lists[node as usize], other);
+        take_leg(&mut self.lists, node, other);
     }
 
     /// Puts the leg in among those of `node`, in place of one at its node.
     pub(crate) fn put(&mut self, node: u32, leg: Leg) -> Result<(), AllocError>
-        requires node { node < length self.old }
-        requires rows { AreRows self.old }
-        ensures { OnOk result (IsSet node leg.node (Some (label_of leg)) self.old self.new) }
+        requires node { node < length self.old.rows }
+        requires rows { AreRows self.old.rows }
+        ensures legs { OnOk result (IsSet node leg.node (Some (label_of leg)) self.old.rows self.new.rows) }
+        ensures aside { OnOk result (self.new.aside ≡ self.old.aside) }
     {
-        put_leg(&mut self.lists[node as usize], leg)?;
+        put_leg(&mut self.lists, node, leg)?;
         Ok(())
     }
 
     /// Puts an arc in as the leg of `node` at `other`, or the weight of the leg there where that is less.
     pub(crate) fn put_arc(&mut self, node: u32, other: u32, weight: u64) -> Result<(), AllocError>
-        requires node { node < length self.old }
-        requires rows { AreRows self.old }
-        ensures { OnOk result (IsSet node other (Some (lighter_arc weight (row_leg (row self.old node) other))) self.old self.new) }
+        requires node { node < length self.old.rows }
+        requires rows { AreRows self.old.rows }
+        ensures legs { OnOk result (IsSet node other (Some (lighter_arc weight (row_leg (row self.old.rows node) other))) self.old.rows self.new.rows) }
+        ensures aside { OnOk result (self.new.aside ≡ self.old.aside) }
     {
         let weight = match weight_at(self.at(node), other) {
             Some(least) => weight.min(least),
@@ -94,24 +107,46 @@ impl LegLists {
 
     /// Takes the legs at `v` out of the lists of these nodes, among which are all that have one.
     pub(crate) fn take_from(&mut self, v: u32, others: &[Leg])
-        requires rows { AreRows self.old }
-        requires nodes { All (λ l. l.node < length self.old) others.now }
-        requires covers { HaveAll self.old v others.now }
-        ensures size { length self.new ≡ length self.old }
-        ensures rows { AreRows self.new }
-        ensures legs { (x y : ℕ) → row_leg (row self.new x) y ≡ (if v == y then None else row_leg (row self.old x) y) }
+        requires rows { AreRows self.old.rows }
+        requires nodes { All (λ l. l.node < length self.old.rows) others.now }
+        requires covers { HaveAll self.old.rows v others.now }
+        ensures size { length self.new.rows ≡ length self.old.rows }
+        ensures rows { AreRows self.new.rows }
+        ensures legs { (x y : ℕ) → row_leg (row self.new.rows x) y ≡ (if v == y then None else row_leg (row self.old.rows x) y) }
+        ensures aside { self.new.aside ≡ self.old.aside }
     {
         for leg in others {
             self.take(leg.node, v);
         }
     }
 
-    /// Takes all legs of a node out, and frees what its list kept apart.
-    pub(crate) fn clear_at(&mut self, alloc: Global, node: u32)
-        requires { node < length self.old }
-        ensures { self.new ≡ slice_set self.old node [] }
+    /// Sets the legs of a node aside, which leaves it none.
+    pub(crate) fn set_aside(&mut self, node: u32)
+        requires { node < length self.old.rows }
+        ensures rows { self.new.rows ≡ slice_set self.old.rows node [] }
+        ensures aside { IsReplaced node (row self.old.rows node) self.old.aside self.new.aside }
     {
-        self.lists[node as usize] = SmallVec::new(alloc);
+        self.lists.hand_over(node, self.nodes + node);
+    }
+
+    /// The legs that were set aside, a row for each node.
+    pub(crate) fn aside_rows(&self, alloc: Global) -> Result<Rows<Leg>, AllocError>
+        ensures { IfOk result (λ rows. rows ≡ self.now.aside) }
+    {
+        let mut rows = Rows::with_room(alloc, self.nodes, self.count_aside())?;
+        for node in 0..self.nodes {
+            rows.push(self.lists.at(self.nodes + node))?;
+        }
+        Ok(rows)
+    }
+
+    /// How many legs were set aside.
+    fn count_aside(&self) -> usize {
+        let mut count = 0usize;
+        for node in 0..self.nodes {
+            count = count.saturating_add(self.lists.at(self.nodes + node).len());
+        }
+        count
     }
 }
 
@@ -123,13 +158,14 @@ pub(crate) fn put_shortcuts(
     v: u32,
     shortcuts: &[Shortcut],
 ) -> Result<(), AllocError>
-    requires from { All (λ s. s.from < length outs.old) shortcuts.now }
-    requires to { All (λ s. s.to < length ins.old) shortcuts.now }
-    requires out_rows { AreRows outs.old }
-    requires in_rows { AreRows ins.old }
+    requires from { All (λ s. s.from < length outs.old.rows) shortcuts.now }
+    requires to { All (λ s. s.to < length ins.old.rows) shortcuts.now }
+    requires out_rows { AreRows outs.old.rows }
+    requires in_rows { AreRows ins.old.rows }
     requires ordered { AllPairs IsPairBefore shortcuts.now }
-    ensures outs { OnOk result (AreOverridden legs_from v shortcuts.now outs.old outs.new) }
-    ensures ins { OnOk result (AreOverridden legs_into v shortcuts.now ins.old ins.new) }
+    ensures outs { OnOk result (AreOverridden legs_from v shortcuts.now outs.old.rows outs.new.rows) }
+    ensures ins { OnOk result (AreOverridden legs_into v shortcuts.now ins.old.rows ins.new.rows) }
+    ensures aside { OnOk result ((outs.new.aside ≡ outs.old.aside) × (ins.new.aside ≡ ins.old.aside)) }
 {
     for shortcut in shortcuts {
         outs.put(shortcut.from, leg_of(shortcut.to, *shortcut, v))?;
@@ -173,36 +209,46 @@ fn place_of(list: &[Leg], node: u32) -> usize
     list.len()
 }
 
-/// Takes the leg at this node out, where there is one.
-fn take_leg(list: &mut LegList, node: u32)
-    requires { IsRow list.old.items }
-    ensures row { IsRow list.new.items }
-    ensures legs { (x : ℕ) → row_leg list.new.items x ≡ (if node == x then None else row_leg list.old.items x) }
+/// Takes the leg of a list at this node out, where there is one.
+fn take_leg(lists: &mut Lists<Leg>, list: u32, node: u32)
+    requires list { list < length lists.old }
+    requires row { IsRow (row lists.old list) }
+    ensures edited { IsEdited list lists.old lists.new }
+    ensures row { IsRow (row lists.new list) }
+    ensures legs { (x : ℕ) → row_leg (row lists.new list) x ≡ (if node == x then None else row_leg (row lists.old list) x) }
 {
-    let place = place_of(list.as_slice(), node);
-    if place < list.len() && list.as_slice()[place].node == node {
-        let _leg = list.remove(place);
+    let legs = lists.at(list);
+    let place = place_of(legs, node);
+    if place < legs.len() && legs[place].node == node {
+        lists.remove(list, place);
     }
 }
 
 /// Puts the leg in at its node, where the list has none at that node.
-fn insert_leg(list: &mut LegList, leg: Leg) -> Result<(), AllocError>
-    requires row { IsRow list.old.items }
-    requires free { row_leg list.old.items leg.node ≡ None }
-    ensures row { OnOk result (IsRow list.new.items) }
-    ensures legs { OnOk result ((x : ℕ) → row_leg list.new.items x ≡ (if leg.node == x then Some (label_of leg) else row_leg list.old.items x)) }
+fn insert_leg(lists: &mut Lists<Leg>, list: u32, leg: Leg) -> Result<(), AllocError>
+    requires list { list < length lists.old }
+    requires row { IsRow (row lists.old list) }
+    requires free { row_leg (row lists.old list) leg.node ≡ None }
+    ensures size { length lists.new ≡ length lists.old }
+    ensures edited { OnOk result (IsEdited list lists.old lists.new) }
+    ensures row { OnOk result (IsRow (row lists.new list)) }
+    ensures legs { OnOk result ((x : ℕ) → row_leg (row lists.new list) x ≡ (if leg.node == x then Some (label_of leg) else row_leg (row lists.old list) x)) }
 {
-    let place = place_of(list.as_slice(), leg.node);
-    list.insert(place, leg)?;
+    let place = place_of(lists.at(list), leg.node);
+    lists.insert(list, place, leg)?;
     Ok(())
 }
 
 /// Puts the leg in at its node, in place of one that is there.
-fn put_leg(list: &mut LegList, leg: Leg) -> Result<(), AllocError>
-    requires { IsRow list.old.items }
-    ensures row { OnOk result (IsRow list.new.items) }
-    ensures legs { OnOk result ((x : ℕ) → row_leg list.new.items x ≡ (if leg.node == x then Some (label_of leg) else row_leg list.old.items x)) }
+fn put_leg(lists: &mut Lists<Leg>, list: u32, leg: Leg) -> Result<(), AllocError>
+    requires list { list < length lists.old }
+    requires row { IsRow (row lists.old list) }
+    ensures size { length lists.new ≡ length lists.old }
+    ensures edited { OnOk result (IsEdited list lists.old lists.new) }
+    ensures row { OnOk result (IsRow (row lists.new list)) }
+    ensures legs { OnOk result ((x : ℕ) → row_leg (row lists.new list) x ≡ (if leg.node == x then Some (label_of leg) else row_leg (row lists.old list) x)) }
 {
-    take_leg(list, leg.node);
-    insert_leg(list, leg)
+    take_leg(lists, list, leg.node);
+    insert_leg(lists, list, leg)?;
+    Ok(())
 }

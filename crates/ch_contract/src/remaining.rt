@@ -7,18 +7,20 @@ mod opening;
 mod shortcuts;
 mod witnesses;
 
-ghost use Rattle.std.specs.Prelude.{◌≡◌, ◌<◌, ◌≤◌, IsTrue};
+ghost use Rattle.std.specs.Prelude.{◌≡◌, ◌<◌, ◌≤◌, IsTrue, IfOk};
 ghost use Rattle.ch_graph.specs.declared.limits.TheConstants.{MOST_NODES};
 ghost use Rattle.ch_contract.specs.declared.held_cost.TheConstants.{MOST_LIGHT};
+ghost use Rattle.ch_hierarchy.specs.Rows.{row};
 ghost use Rattle.ch_contract.specs.Legs.{AreLegsWithin};
 ghost use Rattle.ch_contract.specs.LegRows.{AreLegsFrom, AreLegsTo};
 ghost use Rattle.ch_contract.specs.KnownCosts.{AreLegsUpTo};
 ghost use Rattle.ch_contract.specs.Remaining.{legs_of};
 
 use crate::leg_lists::LegLists;
+use ch_graph::Rows;
 use ch_hierarchy::Leg;
 pub use contraction::Removed;
-use std::alloc::Global;
+use std::alloc::{AllocError, Global};
 use std::marker::Model;
 
 /// The legs among the nodes that are not contracted yet: at most one from each node to each other node.
@@ -46,9 +48,9 @@ impl Model for Remaining {
 
     ghost Value = { RemainingLegs };
 
-    ghost view = { λ r. record { nodes = r.nodes; rows = r.outs } };
+    ghost view = { λ r. record { nodes = r.nodes; rows = r.outs.rows; ups = r.outs.aside; downs = r.ins.aside } };
 
-    ghost invariant = { λ r. IsWithinLimits r.nodes r.outs r.ins × (IsTrue r.light → AreLegsUpTo MOST_LIGHT (legs_from r.outs)) };
+    ghost invariant = { λ r. IsWithinLimits r.nodes r.outs.rows r.ins.rows × (IsTrue r.light → AreLegsUpTo MOST_LIGHT (legs_from r.outs.rows)) };
 }
 
 impl Remaining {
@@ -83,4 +85,46 @@ impl Remaining {
     {
         self.ins.at(v)
     }
+
+    /// The legs from `v` when it was contracted.
+    pub(crate) fn up_legs(&self, v: u32) -> &[Leg]
+        requires { v < self.now.nodes }
+        ensures { result.now ≡ row self.now.ups v }
+    {
+        self.outs.aside(v)
+    }
+
+    /// The legs to `v` when it was contracted.
+    pub(crate) fn down_legs(&self, v: u32) -> &[Leg]
+        requires { v < self.now.nodes }
+        ensures { result.now ≡ row self.now.downs v }
+    {
+        self.ins.aside(v)
+    }
+
+    /// The legs from each node when it was contracted, and those to it. What they were copied from is freed before the next
+    /// are.
+    pub(crate) fn into_rows(self) -> Result<BothRows, AllocError>
+        ensures up { IfOk result (λ r. r.ups ≡ self.ups) }
+        ensures down { IfOk result (λ r. r.downs ≡ self.downs) }
+    {
+        let Remaining {
+            nodes: _,
+            outs,
+            ins,
+            light: _,
+            alloc,
+        } = self;
+        let ups = outs.aside_rows(alloc)?;
+        drop(outs);
+        let downs = ins.aside_rows(alloc)?;
+        Ok(BothRows { ups, downs })
+    }
+}
+
+/// The rows of a hierarchy: the legs from each node to higher ones, and those from higher ones to it.
+#[derive(Drop)]
+pub(crate) struct BothRows {
+    pub(crate) ups: Rows<Leg>,
+    pub(crate) downs: Rows<Leg>,
 }

@@ -1,14 +1,13 @@
 //! The room in which nodes are judged.
 ghost use Rattle.std.specs.Prelude.{◌≡◌, ℕ, ◌<◌, ◌++◌, ◌∷◌, [], length, IfOk, IfSome, OnOk, slice_index};
-ghost use Rattle.ch_contract.specs.Legs.{Legs, IsHopBound};
+ghost use Rattle.ch_contract.specs.Legs.{Legs, IsHopBound, turned_legs};
 ghost use Rattle.ch_contract.specs.Contraction.{Contracts};
-ghost use Rattle.ch_contract.specs.LegRows.{AreLegsFrom, AreLegsTo};
 ghost use Rattle.ch_contract.specs.Measures.{IsMeasure};
-ghost use Rattle.ch_contract.specs.Remaining.{legs_of};
+ghost use Rattle.ch_contract.specs.Remaining.{legs_of, IsSetAside};
 ghost use Rattle.ch_contract.specs.Rooms.{AreIdle};
 
 use crate::measure::Measure;
-use crate::remaining::{Remaining, Removed};
+use crate::remaining::Remaining;
 use crate::shortcut::Shortcut;
 use crate::witness_searches::WitnessSearches;
 use std::alloc::{AllocError, Global};
@@ -78,15 +77,15 @@ impl Room {
         remaining: Remaining,
         node: u32,
         hops: u32,
-    ) -> Result<(Remaining, Removed), AllocError>
+    ) -> Result<Remaining, AllocError>
         requires node { node < remaining.nodes }
         requires hops { IsHopBound hops }
         requires ready { IsReady remaining.nodes hops (legs_of remaining) self.old }
-        ensures nodes { IfOk result (λ r. r.0.nodes ≡ remaining.nodes) }
-        ensures legs { IfOk result (λ r. Contracts remaining.nodes hops (legs_of remaining) node (legs_of r.0)) }
-        ensures up { IfOk result (λ r. AreLegsFrom (legs_of remaining) node r.1.up.items) }
-        ensures down { IfOk result (λ r. AreLegsTo (legs_of remaining) node r.1.down.items) }
-        ensures ready { IfOk result (λ r. IsReady r.0.nodes hops (legs_of r.0) self.new) }
+        ensures nodes { IfOk result (λ r. r.nodes ≡ remaining.nodes) }
+        ensures legs { IfOk result (λ r. Contracts remaining.nodes hops (legs_of remaining) node (legs_of r)) }
+        ensures up { IfOk result (λ r. IsSetAside (legs_of remaining) node remaining.ups r.ups) }
+        ensures down { IfOk result (λ r. IsSetAside (turned_legs (legs_of remaining)) node remaining.downs r.downs) }
+        ensures ready { IfOk result (λ r. IsReady r.nodes hops (legs_of r) self.new) }
     {
         let place = self.place_of(alloc, &remaining, node, hops)?;
         let contracted = remaining.contract_with(node, self.shortcuts(place))?;

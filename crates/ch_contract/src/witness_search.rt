@@ -81,17 +81,17 @@ impl<K: HeldCost> WitnessSearch<K> {
         wanted: Wanted,
         rounds: u32,
     ) -> Result<(), AllocError>
-        requires clean { IsClean (length lists.now) (known_of K.cost self.old.known) }
-        requires rows { AreRows lists.now }
-        requires limits { AreLegsWithin (length lists.now) (legs_into lists.now) }
-        requires light { AreLegsUpTo K.limit (legs_into lists.now) }
-        requires nodes { length lists.now ≤ MOST_NODES }
-        requires end { (wanted.end < length lists.now) × (wanted.end ≢ wanted.avoided) }
+        requires clean { IsClean (length lists.now.rows) (known_of K.cost self.old.known) }
+        requires rows { AreRows lists.now.rows }
+        requires limits { AreLegsWithin (length lists.now.rows) (legs_into lists.now.rows) }
+        requires light { AreLegsUpTo K.limit (legs_into lists.now.rows) }
+        requires nodes { length lists.now.rows ≤ MOST_NODES }
+        requires end { (wanted.end < length lists.now.rows) × (wanted.end ≢ wanted.avoided) }
         requires most { IsHeld K.limit wanted.most }
         requires rounds { rounds ≤ MOST_HOPS }
-        ensures least { OnOk result (AreLeastCosts (legs_into lists.now) wanted rounds (known_of K.cost self.new.known)) }
+        ensures least { OnOk result (AreLeastCosts (legs_into lists.now.rows) wanted rounds (known_of K.cost self.new.known)) }
         ensures touched { OnOk result (AreTouched (known_of K.cost self.new.known)) }
-        ensures size { OnOk result (length (known_of K.cost self.new.known).costs ≡ length lists.now) }
+        ensures size { OnOk result (length (known_of K.cost self.new.known).costs ≡ length lists.now.rows) }
     {
         self.known.next.clear();
         let none = K::of(Cost { weight: 0, arcs: 0 });
@@ -116,12 +116,12 @@ impl<K: HeldCost> WitnessSearch<K> {
         most: Cost,
         hops: u32,
     ) -> bool
-        requires start { start < length lists.now }
-        requires size { length self.now.known.costs.items ≡ length lists.now }
-        requires limits { AreListsWithin K.limit (length lists.now) lists.now }
+        requires start { start < length lists.now.rows }
+        requires size { length self.now.known.costs.items ≡ length lists.now.rows }
+        requires limits { AreListsWithin K.limit (length lists.now.rows) lists.now.rows }
         requires small { AreSmall K.limit (known_of K.cost self.now.known) }
         requires most { IsHeld K.limit most }
-        ensures { IsTrue result ↔ IsMet (known_of K.cost self.now.known) lists.now avoided start most hops }
+        ensures { IsTrue result ↔ IsMet (known_of K.cost self.now.known) lists.now.rows avoided start most hops }
     {
         let most = K::of(most);
         for leg in lists.at(start) {
@@ -135,12 +135,12 @@ impl<K: HeldCost> WitnessSearch<K> {
     /// Whether a known chain after this leg, or after this leg and one more, costs at most `most`.
     #[inline]
     fn meets_at(&self, lists: &LegLists, leg: Leg, most: K, hops: u32) -> bool
-        requires leg { IsLegLight K.limit (length lists.now) leg }
-        requires size { length self.now.known.costs.items ≡ length lists.now }
-        requires limits { AreListsWithin K.limit (length lists.now) lists.now }
+        requires leg { IsLegLight K.limit (length lists.now.rows) leg }
+        requires size { length self.now.known.costs.items ≡ length lists.now.rows }
+        requires limits { AreListsWithin K.limit (length lists.now.rows) lists.now.rows }
         requires small { AreSmall K.limit (known_of K.cost self.now.known) }
         requires most { IsHeld K.limit (K.cost most) }
-        ensures { IsTrue result ↔ IsMetAt (known_of K.cost self.now.known) lists.now leg (K.cost most) hops }
+        ensures { IsTrue result ↔ IsMetAt (known_of K.cost self.now.known) lists.now.rows leg (K.cost most) hops }
     {
         let first = K::of(leg.cost);
         first.is_at_most(most)

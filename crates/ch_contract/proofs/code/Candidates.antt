@@ -93,10 +93,10 @@ module _ (n : ℕ) (outs ins : List (List Leg)) (within : IsWithinLimits n outs 
   leg_ends u v a e = (within.legs u v (label_of a) e).ends
 
   -- what a search has learned
-  pub known_after : (s : Wanted) (hops k : ℕ) (h : Known) (o : Result (Unit {0}) AllocError) → k ≡ hops - 2 →
-      OnOk o (length h.costs ≡ length outs) → OnOk o (AreLeastCosts (legs_into outs) s k h) → OnOk o (IsKnown (record { nodes = n; rows = outs }) s hops h)
-  known_after s hops k h (Ok x) e size least = record { size = size ∙ within.sizes.0; least = subst (λ j. AreLeastCosts (legs_into outs) s j h) e least }
-  known_after s hops k h (Err x) e size least = least
+  pub known_after : (ups downs : List (List Leg)) (s : Wanted) (hops k : ℕ) (h : Known) (o : Result (Unit {0}) AllocError) → k ≡ hops - 2 →
+      OnOk o (length h.costs ≡ length outs) → OnOk o (AreLeastCosts (legs_into outs) s k h) → OnOk o (IsKnown (record { nodes = n; rows = outs; ups = ups; downs = downs }) s hops h)
+  known_after ups downs s hops k h (Ok x) e size least = record { size = size ∙ within.sizes.0; least = subst (λ j. AreLeastCosts (legs_into outs) s j h) e least }
+  known_after ups downs s hops k h (Err x) e size least = least
 
 -- a candidate of a list is one of a longer list
 more_candidate : (n : ℕ) (first l : Leg) (up : List Leg) (most : Cost) → ((k : Leg) × Contains up k × IsCandidate n first k × (most ≡ cost_sum first.cost k.cost)) →

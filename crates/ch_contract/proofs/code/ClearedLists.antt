@@ -1,13 +1,13 @@
 -- The lists that a contraction leaves.
-use Rattle.std.proofs.Common.{◌≡◌, ℕ, ◌<◌, Bool, true, false, List, [], length, set, None, All, Contains, refl, sym, ◌∙◌, ap, subst, arith, inl, inr}
-use Rattle.std.specs.Prelude.{◌⊎◌, ◌≢◌, ◌==◌, ◌||◌, if◌then◌else◌}
+use Rattle.std.proofs.Common.{◌≡◌, ℕ, ◌<◌, Bool, true, false, List, [], length, set, Option, None, All, Contains, refl, sym, ◌∙◌, ap, subst, arith, inl, inr}
+use Rattle.std.specs.Prelude.{◌≢◌, ◌==◌, ◌||◌, if◌then◌else◌}
 use Rattle.std.proofs.lemmas.Bool.{cases_eq, eqb-true, eqb-false}
 use Rattle.std.proofs.lemmas.Bool.Decides.{nat_tests}
 use Rattle.std.proofs.lemmas.List.{length-set, get_or-set_same, get_or-set_other}
 use Rattle.std.proofs.lemmas.List.Elements.{All-from_get_or, Contains-get_or}
 use Rattle.ch_hierarchy.specs.declared.leg.Leg.{Leg}
 use Rattle.ch_contract.specs.declared.shortcut.Shortcut.{Shortcut}
-use Rattle.ch_contract.specs.Legs.{SameLegs}
+use Rattle.ch_contract.specs.Legs.{Label, SameLegs}
 use Rattle.ch_contract.specs.Contraction.{AreShortcuts, legs_after_contraction}
 use Rattle.ch_hierarchy.specs.Rows.{row, IsRow}
 use Rattle.ch_contract.specs.LegRows.{row_leg, label_of}
@@ -30,28 +30,50 @@ pub record AreCleared (v : ℕ) (old new : List (List Leg)) : Type 0 where
   pub rows : AreRows new
   pub legs : (x y : ℕ) → row_leg (row new x) y ≡ (if x == v || y == v then None else row_leg (row old x) y)
 
-pub cleared : (v : ℕ) (old mid new : List (List Leg)) → v < length old → length mid ≡ length old → AreRows mid →
-    ((x y : ℕ) → row_leg (row mid x) y ≡ (if v == y then None else row_leg (row old x) y)) → new ≡ set mid v [] → AreCleared v old new
-cleared v old mid new inside size rows taken is = record {
-  size = ap length is ∙ length-set mid v [] ∙ size;
-  rows = λ x. rows_at x (cases_eq x v);
-  legs = λ x y. legs_at x y (x == v) (y == v) refl refl;
-}
-  where
-    here : (x : ℕ) → x ≡ v → row new x ≡ []
-    here x e = ap (row new) e ∙ ap (λ z. row z v) is ∙ get_or-set_same mid v [] [] (omega arith)
+-- the row of v is empty once it is set aside, and the others stay
+module _ (v : ℕ) (old mid : List (List Leg)) (inside : v < length old) (is : mid ≡ set old v []) where
+  -- that of v
+  pub aside_here : (x : ℕ) → x ≡ v → row mid x ≡ []
+  aside_here x e = ap (row mid) e ∙ ap (λ z. row z v) is ∙ get_or-set_same old v [] [] inside
 
-    there : (x : ℕ) → x ≢ v → row new x ≡ row mid x
-    there x ne = ap (λ z. row z x) is ∙ get_or-set_other mid v x [] [] ne
+  -- those of the others
+  pub aside_there : (x : ℕ) → x ≢ v → row mid x ≡ row old x
+  aside_there x ne = ap (λ z. row z x) is ∙ get_or-set_other old v x [] [] ne
 
-    rows_at : (x : ℕ) → (x ≡ v) ⊎ (x ≢ v) → IsRow (row new x)
-    rows_at x (inl e) = subst IsRow (sym (here x e)) (λ i j d less lt. absurd (omega arith))
-    rows_at x (inr ne) = subst IsRow (sym (there x ne)) (rows x)
+  -- all are in order
+  pub aside_rows : AreRows old → AreRows mid
+  aside_rows rows x = elim (cases_eq x v) [
+    | inl e ↦ subst IsRow (sym (aside_here x e)) (λ i j d less lt. absurd (omega arith))
+    | inr ne ↦ subst IsRow (sym (aside_there x ne)) (rows x)
+  ]
 
-    legs_at : (x y : ℕ) (p q : Bool) → (x == v) ≡ p → (y == v) ≡ q → row_leg (row new x) y ≡ (if p || q then None else row_leg (row old x) y)
-    legs_at x y true q e f = ap (λ z. row_leg z y) (here x (eqb-true x v e))
-    legs_at x y false true e f = let same : (v == y) ≡ true = grind (arith, nat_tests) in ap (λ z. row_leg z y) (there x (eqb-false x v e)) ∙ taken x y ∙ rw same refl
-    legs_at x y false false e f = let differs : (v == y) ≡ false = grind (arith, nat_tests) in ap (λ z. row_leg z y) (there x (eqb-false x v e)) ∙ taken x y ∙ rw differs refl
+  -- as many as before
+  pub aside_size : length mid ≡ length old
+  aside_size = ap length is ∙ length-set old v []
+
+  -- the nodes that have a leg at v are among those that had one
+  pub aside_all : (others : List Leg) → HaveAll old v others → HaveAll mid v others
+  aside_all others all x m e = elim (cases_eq x v) [
+    | inl same ↦ absurd (let none = sym e ∙ ap (λ z. row_leg z v) (aside_here x same) in cc)
+    | inr ne ↦ all x m (sym (ap (λ z. row_leg z v) (aside_there x ne)) ∙ e)
+  ]
+
+  -- with the legs at v taken out of all lists, no leg touches v
+  pub cleared : (new : List (List Leg)) → AreWithout v mid new → AreCleared v old new
+  cleared new w = record {
+    size = w.size ∙ aside_size;
+    rows = w.rows;
+    legs = λ x y. legs_at x y (x == v) (y == v) refl refl;
+  }
+    where
+      legs_at : (x y : ℕ) (p q : Bool) → (x == v) ≡ p → (y == v) ≡ q → row_leg (row new x) y ≡ (if p || q then None else row_leg (row old x) y)
+      legs_at x y p true e f = let same : (v == y) ≡ true = grind (arith, nat_tests) in w.legs x y ∙ rw same (at p)
+        where
+          at : (b : Bool) → ◌≡◌ {A = Option Label} None (if b || true then None else row_leg (row old x) y)
+          at true = refl
+          at false = refl
+      legs_at x y true false e f = let differs : (v == y) ≡ false = grind (arith, nat_tests) in w.legs x y ∙ rw differs (ap (λ z. row_leg z y) (aside_here x (eqb-true x v e)))
+      legs_at x y false false e f = let differs : (v == y) ≡ false = grind (arith, nat_tests) in w.legs x y ∙ rw differs (ap (λ z. row_leg z y) (aside_there x (eqb-false x v e)))
 
 module _ (n : ℕ) (outs ins : List (List Leg)) (within : IsWithinLimits n outs ins) (v : ℕ) where
   -- the nodes with a leg at v are those of the legs on the other side
@@ -117,13 +139,13 @@ module _ (n : ℕ) (outs ins : List (List Leg)) (within : IsWithinLimits n outs 
 
 -- what a contraction does to both sides, call after call
 pub contraction_leaves : (n : ℕ) (outs ins : List (List Leg)) → IsWithinLimits n outs ins → (v : ℕ) → v < n → (h : ℕ) (list : List Shortcut) →
-    AreShortcuts n h (legs_from outs) v list → (taken_outs taken_ins mid_outs mid_ins new_outs new_ins : List (List Leg)) →
-    AreWithout v outs taken_outs → AreWithout v ins taken_ins → mid_outs ≡ set taken_outs v [] → mid_ins ≡ set taken_ins v [] →
-    AreOverridden legs_from v list mid_outs new_outs → AreOverridden legs_into v list mid_ins new_ins →
+    AreShortcuts n h (legs_from outs) v list → (mid_outs mid_ins taken_outs taken_ins new_outs new_ins : List (List Leg)) →
+    mid_outs ≡ set outs v [] → mid_ins ≡ set ins v [] → AreWithout v mid_outs taken_outs → AreWithout v mid_ins taken_ins →
+    AreOverridden legs_from v list taken_outs new_outs → AreOverridden legs_into v list taken_ins new_ins →
     IsWithinLimits n new_outs new_ins × SameLegs (legs_from new_outs) (legs_after_contraction (legs_from outs) v list)
-contraction_leaves n outs ins within v inside h list are taken_outs taken_ins mid_outs mid_ins new_outs new_ins a b e f put put_turned =
-    let from = cleared v outs taken_outs mid_outs (omega (arith, within.sizes.0)) a.size a.rows a.legs e in
-    let into = cleared v ins taken_ins mid_ins (omega (arith, within.sizes.1)) b.size b.rows b.legs f in (
-      within_after n outs ins within v h list are mid_outs mid_ins new_outs new_ins from into put put_turned,
-      outs_after n outs ins within v h list are mid_outs mid_ins new_outs new_ins from into put put_turned,
+contraction_leaves n outs ins within v inside h list are mid_outs mid_ins taken_outs taken_ins new_outs new_ins e f a b put put_turned =
+    let from = cleared v outs mid_outs (omega (arith, within.sizes.0)) e taken_outs a in
+    let into = cleared v ins mid_ins (omega (arith, within.sizes.1)) f taken_ins b in (
+      within_after n outs ins within v h list are taken_outs taken_ins new_outs new_ins from into put put_turned,
+      outs_after n outs ins within v h list are taken_outs taken_ins new_outs new_ins from into put put_turned,
     )

@@ -1,28 +1,27 @@
 -- What opening a construction, one step of it and its end give, from what their calls give.
-use Rattle.std.proofs.Common.{◌≡◌, ℕ, Bool, true, false, cond, not, map, refl, ◌+◌, ◌*◌, ◌<◌, ◌≤◌, List, [], ◌∷◌, ◌++◌, length, get_or, Option, Some, None, sym, ◌∙◌, ap, subst, arith, inl, inr, replicate, Contains, length-append, length-set, get_or-set_same, get_or-set_other}
-use Rattle.std.specs.Prelude.{◌≢◌, ◌==◌, slice_set, All, filter, is_some, ◌||◌, if◌then◌else◌, slice_index, max, ℤ, ◌<ℤ◌}
+use Rattle.std.proofs.Common.{◌≡◌, ℕ, Bool, true, false, not, map, refl, ◌+◌, ◌*◌, ◌<◌, ◌≤◌, List, length, get_or, Option, Some, None, sym, ◌∙◌, ap, subst, arith, inl, inr, replicate, Contains, length-append, length-set, get_or-set_same, get_or-set_other}
+use Rattle.std.specs.Prelude.{slice_set, All, filter, is_some, ◌||◌, if◌then◌else◌, slice_index, max, ℤ, ◌<ℤ◌}
 use Rattle.std.specs.Ordering.{is_gt, int_cmp, MatchOrdering}
 use Rattle.std.specs.declared.cmp.Ordering.{Ordering}
 use Rattle.std.specs.declared.cmp.Ordering.TheVariants.{Less, Equal, Greater}
 use Rattle.std.specs.Cmp.{int_ranks}
 use Rattle.std.proofs.lemmas.Int.{ints}
 use Rattle.std.proofs.lemmas.Bool.{true≢false, cases_lt}
-use Rattle.std.proofs.lemmas.Bool.Decides.{nat_tests}
-use Rattle.std.proofs.lemmas.List.{length-map, append-nil, map-append, get_or-replicate, get_or_past, length-replicate}
+use Rattle.std.proofs.lemmas.List.{length-map, get_or-replicate, get_or_past, length-replicate}
 use Rattle.std.proofs.lemmas.List.Filters.{length-filter_both}
-use Rattle.std.proofs.lemmas.List.Elements.{Contains-get_or, filter-append, All-append, All-cons, All-nil}
+use Rattle.std.proofs.lemmas.List.Elements.{Contains-get_or}
 use Rattle.ch_queue.specs.Queue.{IsLeastEntry, ComesFirst}
 use Rattle.ch_graph.specs.Graph.{Network}
-use Rattle.ch_graph.specs.Rows.{values_of, AreRowsOf}
+use Rattle.ch_hierarchy.specs.Rows.{row}
 use Rattle.ch_hierarchy.specs.declared.leg.Leg.{Leg}
 use Rattle.ch_contract.specs.declared.measure.OrderBy.{OrderBy}
 use Rattle.ch_contract.specs.declared.construction.Construction.{Construction}
-use Rattle.ch_contract.specs.Legs.{Label, Legs, SameLegs, AreLegsWithin, opening}
+use Rattle.ch_contract.specs.Legs.{Label, Legs, SameLegs, AreLegsWithin, opening, turned_legs}
 use Rattle.ch_contract.specs.Contraction.{Contracts, IsPriorityBy}
 use Rattle.ch_contract.specs.Order.{are_neighbours, next_depth, IsContractedBefore}
 use Rattle.ch_contract.specs.LegRows.{AreLegsFrom, AreLegsTo}
 use Rattle.ch_hierarchy.specs.Hierarchy.{LevelsAndLegs}
-use Rattle.ch_contract.specs.Remaining.{legs_of}
+use Rattle.ch_contract.specs.Remaining.{legs_of, IsSetAside}
 use Rattle.ch_contract.specs.Progress.{IsNext, IsOpen, IsStep, AreAll}
 use Rattle.ch_contract.specs.Priorities.{ArePriorities, AreRefreshed, has_node, neighbours_in}
 use Rattle.ch_contract.specs.Measures.{IsPriorityIn, AreDeepened}
@@ -30,58 +29,6 @@ use Rattle.ch_contract.specs.Construction.{progress_of, IsSized}
 use Rattle.ch_contract.proofs.theory.OneOrder.{one_map}
 use Rattle.ch_contract.proofs.theory.Counts.{rows_touching, count_most}
 use Rattle.ch_contract.proofs.code.Neighbours.{neighbour_listed, not_listed, neighbour_within}
-
--- the values of a list of pairs of one key
-values_same : {X : Type 0} (v x : ℕ) (values : List X) → values_of x (map (λ a. (v, a)) values) ≡ (if v == x then values else [])
-values_same {X = X} v x [] = at (v == x)
-  where
-    none : List X
-    none = []
-
-    at : (b : Bool) → none ≡ cond b none none
-    at true = refl
-    at false = refl
-values_same {X = X} v x (a ∷ values) = at (v == x) (values_same v x values)
-  where
-    none : List X
-    none = []
-
-    pair : X → ℕ × X
-    pair b = (v, b)
-
-    rest : List (ℕ × X)
-    rest = filter (λ (p : ℕ × X). p.0 == x) (map pair values)
-
-    second : ℕ × X → X
-    second p = p.1
-
-    at : (b : Bool) → map second rest ≡ cond b values none → map second (cond b ((v, a) ∷ rest) rest) ≡ cond b (a ∷ values) none
-    at true e = ap (λ l. a ∷ l) e
-    at false e = e
-
--- the values of pairs that stand one behind the other
-values_append : {X : Type 0} (x : ℕ) (pairs more : List (ℕ × X)) → values_of x (pairs ++ more) ≡ values_of x pairs ++ values_of x more
-values_append x pairs more = ap (map (λ p. p.1)) (filter-append (λ p. p.0 == x) pairs more) ∙ map-append (λ p. p.1) (filter (λ p. p.0 == x) pairs) (filter (λ p. p.0 == x) more)
-
--- the row of v grows by what is put in
-pub row_grows : {X : Type 0} (v : ℕ) (pairs after : List (ℕ × X)) (values : List X) → after ≡ pairs ++ map (λ a. (v, a)) values → values_of v after ≡ values_of v pairs ++ values
-row_grows v pairs after values e =
-    let same : (v == v) ≡ true = grind (arith, nat_tests) in
-    ap (values_of v) e ∙ values_append v pairs (map (λ a. (v, a)) values) ∙ ap (λ l. values_of v pairs ++ l) (values_same v v values ∙ ap (λ b. if b then values else []) same)
-
--- the other rows stay
-pub row_stays : {X : Type 0} (v x : ℕ) (pairs after : List (ℕ × X)) (values : List X) → after ≡ pairs ++ map (λ a. (v, a)) values → x ≢ v → values_of x after ≡ values_of x pairs
-row_stays v x pairs after values e ne =
-    let other : (v == x) ≡ false = grind (arith, nat_tests) in
-    ap (values_of x) e ∙ values_append x pairs (map (λ a. (v, a)) values) ∙ ap (λ l. values_of x pairs ++ l) (values_same v x values ∙ ap (λ b. if b then values else []) other) ∙ append-nil (values_of x pairs)
-
--- pairs of one key below n
-pairs_below : {X : Type 0} (n v : ℕ) (values : List X) → v < n → All (λ (p : ℕ × X). p.0 < n) (map (λ a. (v, a)) values)
-pairs_below {X = X} n v [] lt = All-nil (λ (p : ℕ × X). p.0 < n)
-pairs_below {X = X} n v (a ∷ values) lt = All-cons (λ (p : ℕ × X). p.0 < n) (v, a) (map (λ b. (v, b)) values) lt (pairs_below n v values lt)
-
-pub rows_below : {X : Type 0} (n v : ℕ) (pairs after : List (ℕ × X)) (values : List X) → after ≡ pairs ++ map (λ a. (v, a)) values → v < n → All (λ (p : ℕ × X). p.0 < n) pairs → All (λ (p : ℕ × X). p.0 < n) after
-rows_below {X = X} n v pairs after values e lt all = subst (All (λ (p : ℕ × X). p.0 < n)) (sym e) (All-append (λ (p : ℕ × X). p.0 < n) pairs (map (λ a. (v, a)) values) all (pairs_below n v values lt))
 
 -- of two entries of a queue of numbers the first has the lesser number, and of equal ones the lesser id
 first_of : (p : ℤ) (v : ℕ) (q : ℤ) (x : ℕ) → ComesFirst int_cmp (p, v) (q, x) → IsContractedBefore p v q x
@@ -105,8 +52,8 @@ zeros n x = elim (cases_lt x n) [
 
 -- a construction of which no node is contracted
 pub opened : (by : OrderBy) (g : Network) (h : ℕ) (c : Construction) → SameLegs (legs_of c.remaining) (opening g) → c.remaining.nodes ≡ g.nodes → AreLegsWithin c.remaining.nodes (legs_of c.remaining) → ArePriorities (IsPriorityIn by c.remaining h c.depths.items) c.remaining.nodes c.waiting → ((x : ℕ) → slice_index c.depths.items x ≡ 0) →
-    c.ups.items ≡ [] → c.downs.items ≡ [] → c.contracted ≡ 0 → IsOpen by g h (progress_of c)
-opened by g h c same nodes limits priorities depths ups downs contracted =
+    c.contracted ≡ 0 → IsOpen by g h (progress_of c)
+opened by g h c same nodes limits priorities depths contracted =
     let legs = one_map (legs_of c.remaining) (opening g) same in
     let deep : ℕ → ℕ = λ x. slice_index c.depths.items x in
     let all = subst (λ n. ArePriorities (IsPriorityBy by n h (opening g) deep) n c.waiting) nodes (subst (λ (M : Legs). ArePriorities (IsPriorityBy by c.remaining.nodes h M deep) c.remaining.nodes c.waiting) legs priorities) in
@@ -116,22 +63,19 @@ opened by g h c same nodes limits priorities depths ups downs contracted =
       size = all.size;
       priorities = all.each;
       depths = depths;
-      rows = λ x. (ap (values_of x) ups, ap (values_of x) downs);
       contracted = contracted;
     }
 
 -- the parts of a construction after v is contracted
-pub record IsStepped (by : OrderBy) (h : ℕ) (before : Construction) (v : ℕ) (up down : List Leg) (after : Construction) : Type 0 where
+pub record IsStepped (by : OrderBy) (h : ℕ) (before : Construction) (v : ℕ) (after : Construction) : Type 0 where
   pub nodes : after.remaining.nodes ≡ before.remaining.nodes
   pub legs : Contracts before.remaining.nodes h (legs_of before.remaining) v (legs_of after.remaining)
-  pub from : AreLegsFrom (legs_of before.remaining) v up
-  pub to : AreLegsTo (legs_of before.remaining) v down
-  pub deeper : AreDeepened (neighbours_in up down) (slice_index before.depths.items v + 1) before.depths.items after.depths.items
-  pub refreshed : AreRefreshed (IsPriorityIn by after.remaining h after.depths.items) (neighbours_in up down) (slice_set before.waiting v None) after.waiting
+  pub up : IsSetAside (legs_of before.remaining) v before.remaining.ups after.remaining.ups
+  pub down : IsSetAside (turned_legs (legs_of before.remaining)) v before.remaining.downs after.remaining.downs
+  pub deeper : AreDeepened (neighbours_in (row after.remaining.ups v) (row after.remaining.downs v)) (slice_index before.depths.items v + 1) before.depths.items after.depths.items
+  pub refreshed : AreRefreshed (IsPriorityIn by after.remaining h after.depths.items) (neighbours_in (row after.remaining.ups v) (row after.remaining.downs v)) (slice_set before.waiting v None) after.waiting
   pub contracted : after.contracted ≡ before.contracted + 1
   pub levels : after.levels.items ≡ slice_set before.levels.items v after.contracted
-  pub ups : after.ups.items ≡ before.ups.items ++ map (λ l. (v, l)) up
-  pub downs : after.downs.items ≡ before.downs.items ++ map (λ l. (v, l)) down
 
 -- a node is no neighbour of its own
 not_own : (n : ℕ) (L : Legs) (v : ℕ) → AreLegsWithin n L → are_neighbours L v v ≡ false
@@ -151,46 +95,47 @@ deeper_by L v up down before after from to d x = at (are_neighbours L v x) refl
     at false e = rw e (d.kept x (not_listed L v up down from to x e))
 
 -- so it is one step on
-pub stepped : (by : OrderBy) (h : ℕ) (before : Construction) (v : ℕ) (up down : List Leg) (after : Construction) → v < before.remaining.nodes → AreLegsWithin before.remaining.nodes (legs_of before.remaining) → IsSized before → IsStepped by h before v up down after →
+pub stepped : (by : OrderBy) (h : ℕ) (before : Construction) (v : ℕ) (after : Construction) → v < before.remaining.nodes → AreLegsWithin before.remaining.nodes (legs_of before.remaining) → IsSized before → IsStepped by h before v after →
     IsStep by before.remaining.nodes h (progress_of before) v (progress_of after)
-stepped by h before v up down after node within sizes s =
+stepped by h before v after node within sizes s =
     let L = legs_of before.remaining in
+    let up = row after.remaining.ups v in
+    let down = row after.remaining.downs v in
     let deep : ℕ → ℕ = λ x. slice_index after.depths.items x in
     let anew = subst (λ n. AreRefreshed (IsPriorityBy by n h (legs_of after.remaining) deep) (neighbours_in up down) (slice_set before.waiting v None) after.waiting) s.nodes s.refreshed in
     record {
       legs = s.legs;
       contracted = s.contracted;
-      depths = deeper_by L v up down before.depths.items after.depths.items s.from s.to s.deeper;
+      depths = deeper_by L v up down before.depths.items after.depths.items s.up.legs s.down.legs s.deeper;
       levels = s.levels;
-      up = (up, s.from, row_grows v before.ups.items after.ups.items up s.ups);
-      down = (down, s.to, row_grows v before.downs.items after.downs.items down s.downs);
-      rows = λ x ne. (row_stays v x before.ups.items after.ups.items up s.ups ne, row_stays v x before.downs.items after.downs.items down s.downs ne);
+      up = s.up.legs;
+      down = s.down.legs;
+      rows = λ x ne. (s.up.kept x ne, s.down.kept x ne);
       size = anew.size ∙ length-set before.waiting v None;
-      taken = anew.kept v (not_listed L v up down s.from s.to v (not_own before.remaining.nodes L v within)) ∙ get_or-set_same before.waiting v None None (let size = sizes.keys in omega arith);
-      anew = λ x e. anew.anew x (neighbour_listed L v up down s.from s.to x e);
-      kept = λ x ne e. anew.kept x (not_listed L v up down s.from s.to x e) ∙ get_or-set_other before.waiting v x None None ne;
+      taken = anew.kept v (not_listed L v up down s.up.legs s.down.legs v (not_own before.remaining.nodes L v within)) ∙ get_or-set_same before.waiting v None None (let size = sizes.keys in omega arith);
+      anew = λ x e. anew.anew x (neighbour_listed L v up down s.up.legs s.down.legs x e);
+      kept = λ x ne e. anew.kept x (not_listed L v up down s.up.legs s.down.legs x e) ∙ get_or-set_other before.waiting v x None None ne;
     }
 
 -- and keeps its sizes
-pub sized_still : (by : OrderBy) (h : ℕ) (before : Construction) (v : ℕ) (up down : List Leg) (after : Construction) → v < before.remaining.nodes → IsSized before → IsStepped by h before v up down after → IsSized after
-sized_still by h before v up down after node sizes s =
+pub sized_still : (by : OrderBy) (h : ℕ) (before : Construction) (v : ℕ) (after : Construction) → IsSized before → IsStepped by h before v after → IsSized after
+sized_still by h before v after sizes s =
     let nodes = s.nodes in
-    let here : v < after.remaining.nodes = omega arith in
     record {
       nodes = let count = sizes.nodes in omega arith;
       keys = s.refreshed.size ∙ length-set before.waiting v None ∙ sizes.keys ∙ sym nodes;
       depths = s.deeper.size ∙ sizes.depths ∙ sym nodes;
       levels = ap length s.levels ∙ length-set before.levels.items v after.contracted ∙ sizes.levels ∙ sym nodes;
-      ups = rows_below after.remaining.nodes v before.ups.items after.ups.items up s.ups here (subst (λ n. All (λ p. p.0 < n) before.ups.items) (sym nodes) sizes.ups);
-      downs = rows_below after.remaining.nodes v before.downs.items after.downs.items down s.downs here (subst (λ n. All (λ p. p.0 < n) before.downs.items) (sym nodes) sizes.downs);
+      ups = s.up.size ∙ sizes.ups ∙ sym nodes;
+      downs = s.down.size ∙ sizes.downs ∙ sym nodes;
     }
 
--- the rows of all nodes, made of the pairs
-pub all_rows : (c : Construction) (H : LevelsAndLegs) → IsSized c → H.level ≡ c.levels.items → AreRowsOf c.remaining.nodes c.ups.items H.up → AreRowsOf c.remaining.nodes c.downs.items H.down → AreAll c.remaining.nodes (progress_of c) H
-all_rows c H sizes level ups downs = record {
+-- the levels and rows of all nodes
+pub all_rows : (c : Construction) (H : LevelsAndLegs) → IsSized c → H.level ≡ c.levels.items → H.up ≡ c.remaining.ups → H.down ≡ c.remaining.downs → AreAll c.remaining.nodes (progress_of c) H
+all_rows c H sizes level up down = record {
   level = level;
-  sizes = (sizes.levels, ups.count, downs.count);
-  rows = λ x lt. (ups.each x lt, downs.each x lt);
+  sizes = (sizes.levels, ap length up ∙ sizes.ups, ap length down ∙ sizes.downs);
+  rows = λ x lt. (ap (λ l. row l x) up, ap (λ l. row l x) down);
 }
 
 -- the neighbours are nodes

@@ -1,6 +1,6 @@
 -- One list of many is changed.
-use Rattle.std.proofs.Common.{◌≡◌, ℕ, ◌+◌, ◌<◌, Bool, true, false, List, [], ◌∷◌, ◌++◌, length, set, get_or, take, Option, Some, None, Contains, inl, inr, refl, sym, ◌∙◌, ap, subst, arith}
-use Rattle.std.specs.Prelude.{map, ◌⊎◌, ◌≢◌, ◌==◌, ◌&&◌, if◌then◌else◌, AllPairs}
+use Rattle.std.proofs.Common.{◌≡◌, ℕ, ◌+◌, ◌<◌, Bool, true, false, List, [], ◌∷◌, ◌++◌, length, set, get_or, take, drop, Option, Some, None, Contains, inl, inr, refl, sym, ◌∙◌, ap, subst, arith}
+use Rattle.std.specs.Prelude.{◌⊎◌, ◌≢◌, ◌==◌, ◌&&◌, if◌then◌else◌, AllPairs}
 use Rattle.std.proofs.lemmas.Bool.{cases_eq, eqb-true, eqb-false}
 use Rattle.std.proofs.lemmas.Bool.Decides.{nat_tests}
 use Rattle.std.proofs.lemmas.List.Elements.{Contains-push_cases}
@@ -8,30 +8,12 @@ use Rattle.ch_contract.specs.Legs.{Label, Legs}
 use Rattle.ch_contract.specs.Contraction.{IsPairBefore, shortcut_label}
 use Rattle.ch_contract.specs.declared.shortcut.Shortcut.{Shortcut}
 use Rattle.ch_contract.proofs.code.Puts.{next_shortcut}
-use Rattle.ch_contract.specs.LegLists.{AreRows, IsAmong, HaveAll, IsSet, AreTaken, AreOverridden, legs_from, legs_into}
-use Rattle.std.proofs.lemmas.List.{get_or-set_same, get_or-set_other, get_or-map, map-set, length-map, length-set}
-use Rattle.smallvec.specs.SmallVec.{SmallVec}
+use Rattle.ch_contract.specs.LegLists.{AreRows, IsAmong, HaveAll, IsEdited, IsSet, AreTaken, AreOverridden, legs_from, legs_into}
+use Rattle.std.proofs.Math.Seq.{take-set-lt}
+use Rattle.std.proofs.lemmas.List.{get_or-set_other, get_or-take, drop-set-lt, length-set, length-take}
 use Rattle.ch_hierarchy.specs.declared.leg.Leg.{Leg}
 use Rattle.ch_hierarchy.specs.Rows.{row, IsRow}
 use Rattle.ch_contract.specs.LegRows.{row_leg}
-
-abbrev pub rows_of : List (SmallVec Leg) → List (List Leg)
-rows_of lists = map (λ v. v.items) lists
-
--- the row of a node is what its list holds
-pub row_of : (lists : List (SmallVec Leg)) (x : ℕ) (d : SmallVec Leg) → x < length lists → row (rows_of lists) x ≡ (get_or lists x d).items
-row_of lists x d lt = get_or-map (λ (v : SmallVec Leg). v.items) lists x d [] lt
-
--- and it alone is changed with it
-pub rows_set : (lists : List (SmallVec Leg)) (x : ℕ) (v : SmallVec Leg) → x < length lists →
-    (row (rows_of (set lists x v)) x ≡ v.items) × (rows_of (set lists x v) ≡ set (rows_of lists) x (row (rows_of (set lists x v)) x))
-rows_set lists x v lt = (here, whole ∙ ap (set (rows_of lists) x) (sym here))
-  where
-    whole : rows_of (set lists x v) ≡ set (rows_of lists) x v.items
-    whole = map-set (λ (w : SmallVec Leg). w.items) lists x v
-
-    here : row (rows_of (set lists x v)) x ≡ v.items
-    here = ap (λ z. row z x) whole ∙ get_or-set_same (rows_of lists) x v.items [] (omega (arith, length-map lists (λ (w : SmallVec Leg). w.items)))
 
 -- the list of one node is changed at one other node
 pub set_row : (node other : ℕ) (label : Option Label) (old new : List (List Leg)) → node < length old → AreRows old →
@@ -54,24 +36,34 @@ set_row node other label old new inside rows is row_is legs = record {
     legs_at x y true e = let same = eqb-true node x e in subst (λ z. row_leg (row new z) y ≡ (if other == y then label else row_leg (row old z) y)) same (legs y)
     legs_at x y false e = let ne = eqb-false node x e in ap (λ z. row_leg z y) (elsewhere x (λ same. ne (sym same)))
 
--- the list of a node, as it is lent to be changed, is its row
-pub lent_row : (xs : List (SmallVec Leg)) (lists : List (List Leg)) (node : ℕ) (lent : SmallVec Leg) → lent ≡ get_or xs node lent → rows_of xs ≡ lists → node < length lists →
-    (node < length xs) × (lent.items ≡ row lists node)
-lent_row xs lists node lent is view inside =
-    let within : node < length xs = omega (arith, inside, length-map xs (λ (v : SmallVec Leg). v.items), ap length view) in
-    (within, ap (λ (v : SmallVec Leg). v.items) is ∙ sym (row_of xs node lent within) ∙ ap (λ z. row z node) view)
+-- of some lists the first n are those of nodes, of which one is looked at
+module _ (n node : ℕ) (all rows : List (List Leg)) (are : take n all ≡ rows) (inside : node < length rows) where
+  below : node < n
+  below = omega (arith, ap length are, length-take n all, inside)
 
--- and a change of it at one node changes the leg there
-pub lent_set : (xs : List (SmallVec Leg)) (lists : List (List Leg)) (node other : ℕ) (label : Option Label) (lent new : SmallVec Leg) → lent ≡ get_or xs node lent → rows_of xs ≡ lists →
-    node < length lists → AreRows lists → IsRow new.items → ((x : ℕ) → row_leg new.items x ≡ (if other == x then label else row_leg lent.items x)) →
-    IsSet node other label lists (rows_of (set xs node new))
-lent_set xs lists node other label lent new same view inside rows row_is legs =
-    let old = lent_row xs lists node lent same view inside in
-    let is = rows_set xs node new old.0 in
-    set_row node other label lists (rows_of (set xs node new)) inside rows
-    (subst (λ z. rows_of (set xs node new) ≡ set z node (row (rows_of (set xs node new)) node)) view is.1)
-    (subst IsRow (sym is.0) row_is)
-    (λ x. ap (λ z. row_leg z x) is.0 ∙ legs x ∙ ap (λ z. if other == x then label else row_leg z x) old.1)
+  -- the list of the node is there
+  pub list_within : node < length all
+  list_within = omega (arith, ap length are, length-take n all, inside)
+
+  -- and it is the row of the node
+  pub list_row : row all node ≡ row rows node
+  list_row = sym (get_or-take n all node [] below) ∙ ap (λ l. row l node) are
+
+  module _ (new : List (List Leg)) (edited : IsEdited node all new) where
+    here : row (take n new) node ≡ row new node
+    here = get_or-take n new node [] below
+
+    -- where it is edited, the lists behind those of nodes stay
+    pub edited_aside : drop n new ≡ drop n all
+    edited_aside = ap (drop n) edited ∙ drop-set-lt n all node (row new node) below
+
+    -- and where it is edited at one other node, the leg there is set
+    pub edited_set : (other : ℕ) (label : Option Label) → AreRows rows → IsRow (row new node) → ((y : ℕ) → row_leg (row new node) y ≡ (if other == y then label else row_leg (row all node) y)) → IsSet node other label rows (take n new)
+    edited_set other label ordered is legs =
+        set_row node other label rows (take n new) inside ordered
+        (ap (take n) edited ∙ take-set-lt n all node (row new node) below ∙ ap (λ l. set l node (row new node)) are ∙ ap (set rows node) (sym here))
+        (subst IsRow (sym here) is)
+        (λ y. ap (λ l. row_leg l y) here ∙ legs y ∙ ap (λ l. if other == y then label else row_leg l y) list_row)
 
 -- there the leg is new
 pub set_here : (node other : ℕ) (label : Option Label) (old new : List (List Leg)) → IsSet node other label old new → row_leg (row new node) other ≡ label

@@ -3,7 +3,7 @@ use Rattle.std.proofs.Common.{◌≡◌, ℕ, ◌+◌, ◌<◌, List, [], ◌∷
 use Rattle.std.specs.Prelude.{◌≢◌, slice_index, slice_set}
 use Rattle.std.proofs.lemmas.Bool.{cases_eq}
 use Rattle.std.proofs.lemmas.List.{length_push}
-use Rattle.std.proofs.lemmas.List.Elements.{Contains-append_left, Contains-push, Contains-get_or}
+use Rattle.std.proofs.lemmas.List.Elements.{Contains-get_or}
 use Rattle.ch_hierarchy.specs.declared.leg.Leg.{Leg}
 use Rattle.ch_contract.specs.Legs.{Legs}
 use Rattle.ch_contract.proofs.theory.OrderSteps.{then_legs, more, legs_more, before, here, agree, now}
@@ -12,10 +12,9 @@ use Rattle.ch_contract.proofs.theory.OrderSteps.{then_legs, more, legs_more, bef
 abbrev pub AreLevels : List ℕ → List ℕ → Type 0
 AreLevels order levels = (i : ℕ) → i < length order → slice_index levels (slice_index order i) ≡ i + 1
 
--- each contracted node has the row of its step, and the nodes that are left have none; R says of which legs a row of a node is
-pub record AreRowsBy (R : Legs → ℕ → List Leg → Type 0) (order : List ℕ) (L : ℕ → Legs) (rows : ℕ → List Leg) : Type 0 where
-  pub each : (i : ℕ) → i < length order → R (L i) (slice_index order i) (rows (slice_index order i))
-  pub none : (x : ℕ) → (Contains order x → ⊥) → rows x ≡ []
+-- each contracted node has the row of its step; R says of which legs a row of a node is
+abbrev pub AreRowsBy : (Legs → ℕ → List Leg → Type 0) → List ℕ → (ℕ → Legs) → (ℕ → List Leg) → Type 0
+AreRowsBy R order L rows = (i : ℕ) → i < length order → R (L i) (slice_index order i) (rows (slice_index order i))
 
 module _ (order : List ℕ) (v : ℕ) (left : Contains order v → ⊥) where
   -- the next node is none of the earlier ones
@@ -34,23 +33,15 @@ module _ (order : List ℕ) (v : ℕ) (left : Contains order v → ⊥) where
   ]
 
   -- one more node has its row
-  pub rows_more : (R : Legs → ℕ → List Leg → Type 0) (L : ℕ → Legs) (M : Legs) (rows after : ℕ → List Leg) (r : List Leg) → R (L (length order)) v r → after v ≡ rows v ++ r → ((x : ℕ) → x ≢ v → after x ≡ rows x) → AreRowsBy R order L rows → AreRowsBy R (order ++ v ∷ []) (then_legs (length order) L M) after
-  rows_more R L M rows after r is new same are = record {
-    each = λ i lt. elim (cases_eq i (length order)) [
-      | inl last ↦
-          let one = subst (R (L (length order)) v) (sym mine) is in
-          let two = subst (λ (N : Legs). R N v (after v)) (sym (now order L v M)) one in
-          subst (λ z. R (legs_more order L v M z) (slice_index (more order L v M) z) (after (slice_index (more order L v M) z))) (sym last) (subst (λ z. R (legs_more order L v M (length order)) z (after z)) (sym (here order L v M)) two)
-      | inr ne ↦
-          let size = length_push order v in
-          let below : i < length order = omega arith in
-          let one = subst (R (L i) (slice_index order i)) (sym (same (slice_index order i) (apart i below))) (are.each i below) in
-          let two = subst (λ (N : Legs). R N (slice_index order i) (after (slice_index order i))) ((agree order L v M).legs i (omega arith)) one in
-          subst (λ z. R (legs_more order L v M i) z (after z)) (before order L v M i below) two
-    ];
-    none = λ x away.
-        same x (λ e. away (subst (Contains (order ++ v ∷ [])) (sym e) (Contains-push order v))) ∙ are.none x (λ has. away (Contains-append_left order (v ∷ []) x has));
-  }
-    where
-      mine : after v ≡ r
-      mine = new ∙ ap (λ l. l ++ r) (are.none v left)
+  pub rows_more : (R : Legs → ℕ → List Leg → Type 0) (L : ℕ → Legs) (M : Legs) (rows after : ℕ → List Leg) → R (L (length order)) v (after v) → ((x : ℕ) → x ≢ v → after x ≡ rows x) → AreRowsBy R order L rows → AreRowsBy R (order ++ v ∷ []) (then_legs (length order) L M) after
+  rows_more R L M rows after is same are i lt = elim (cases_eq i (length order)) [
+    | inl last ↦
+        let two = subst (λ (N : Legs). R N v (after v)) (sym (now order L v M)) is in
+        subst (λ z. R (legs_more order L v M z) (slice_index (more order L v M) z) (after (slice_index (more order L v M) z))) (sym last) (subst (λ z. R (legs_more order L v M (length order)) z (after z)) (sym (here order L v M)) two)
+    | inr ne ↦
+        let size = length_push order v in
+        let below : i < length order = omega arith in
+        let one = subst (R (L i) (slice_index order i)) (sym (same (slice_index order i) (apart i below))) (are i below) in
+        let two = subst (λ (N : Legs). R N (slice_index order i) (after (slice_index order i))) ((agree order L v M).legs i (omega arith)) one in
+        subst (λ z. R (legs_more order L v M i) z (after z)) (before order L v M i below) two
+  ]

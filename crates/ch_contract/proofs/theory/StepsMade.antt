@@ -57,8 +57,8 @@ steps_at_start by g h p size o = record {
       left = λ x lt away. let r = o.priorities x lt in (r.0, r.1, (0, record { within = omega arith; touched = λ first. absurd (omega arith); later = λ k le below. absurd (omega arith) }, subst (λ (f : ℕ → ℕ). IsPriorityBy by g.nodes h (opening g) f x r.0) (λ t y. o.depths y t) r.2));
       taken = λ x has. absurd (let lt = has.1 in omega arith);
     };
-    up = record { each = λ i lt. absurd (omega arith); none = λ x away. (o.rows x).0 };
-    down = record { each = λ i lt. absurd (omega arith); none = λ x away. (o.rows x).1 };
+    up = λ i lt. absurd (omega arith);
+    down = λ i lt. absurd (omega arith);
   };
 }
 
@@ -102,8 +102,8 @@ module _ (by : OrderBy) (g : Network) (h : ℕ) (order : List ℕ) (L : ℕ → 
             (subst (λ (M : Legs). (x : ℕ) → are_neighbours M v x ≡ true → HasPriority (IsPriorityBy by g.nodes h q.legs q.depth) q.keys x) same s.anew)
             (subst (λ (M : Legs). (x : ℕ) → x ≢ v → are_neighbours M v x ≡ false → key_of q.keys x ≡ key_of p.keys x) same s.kept)
             none_earlier;
-        up = rows_more order v left AreLegsFrom L q.legs p.up q.up s.up.0 (subst (λ (M : Legs). AreLegsFrom M v s.up.0) same s.up.1) s.up.2 (λ x ne. (s.rows x ne).0) u.up;
-        down = rows_more order v left AreLegsTo L q.legs p.down q.down s.down.0 (subst (λ (M : Legs). AreLegsTo M v s.down.0) same s.down.1) s.down.2 (λ x ne. (s.rows x ne).1) u.down;
+        up = rows_more order v left AreLegsFrom L q.legs p.up q.up (subst (λ (M : Legs). AreLegsFrom M v (q.up v)) same s.up) (λ x ne. (s.rows x ne).0) u.up;
+        down = rows_more order v left AreLegsTo L q.legs p.down q.down (subst (λ (M : Legs). AreLegsTo M v (q.down v)) same s.down) (λ x ne. (s.rows x ne).1) u.down;
       }
 
 -- at the end the levels and rows are a hierarchy by the rules
@@ -119,8 +119,8 @@ after_all by g h order L p u none H all =
       contracted = contracted;
       sizes = (ap length all.level ∙ all.sizes.0, all.sizes.1, all.sizes.2);
       level = λ i lt. ap (λ l. slice_index l (slice_index order i)) all.level ∙ u.levels i (omega arith);
-      up = λ i lt. subst (AreLegsFrom (L i) (slice_index order i)) (sym (all.rows (slice_index order i) (node i lt)).0) (u.up.each i (omega arith));
-      down = λ i lt. subst (AreLegsTo (L i) (slice_index order i)) (sym (all.rows (slice_index order i) (node i lt)).1) (u.down.each i (omega arith));
+      up = λ i lt. subst (AreLegsFrom (L i) (slice_index order i)) (sym (all.rows (slice_index order i) (node i lt)).0) (u.up i (omega arith));
+      down = λ i lt. subst (AreLegsTo (L i) (slice_index order i)) (sym (all.rows (slice_index order i) (node i lt)).1) (u.down i (omega arith));
     }
 
 -- one more step goes on

@@ -1,9 +1,9 @@
 //! The contraction of one node.
 ghost use Rattle.std.specs.Prelude.{◌≡◌, ℕ, ◌<◌, IfOk};
-ghost use Rattle.ch_contract.specs.Legs.{SameLegs, IsHopBound};
+ghost use Rattle.ch_contract.specs.Legs.{SameLegs, IsHopBound, turned_legs};
 ghost use Rattle.ch_contract.specs.Contraction.{AreShortcuts, Contracts, legs_after_contraction};
 ghost use Rattle.ch_contract.specs.LegRows.{AreLegsFrom, AreLegsTo};
-ghost use Rattle.ch_contract.specs.Remaining.{legs_of};
+ghost use Rattle.ch_contract.specs.Remaining.{legs_of, IsSetAside};
 
 use crate::leg_lists::put_shortcuts;
 use crate::remaining::Remaining;
@@ -37,24 +37,25 @@ impl Remaining {
         ensures down { IfOk result (λ r. AreLegsTo (legs_of self) v r.1.down.items) }
     {
         let shortcuts = self.shortcuts(v, hops)?;
-        self.contract_with(v, shortcuts.as_slice())
+        let up = Vec::from_slice(self.alloc, self.out_legs(v))?;
+        let down = Vec::from_slice(self.alloc, self.in_legs(v))?;
+        let remaining = self.contract_with(v, shortcuts.as_slice())?;
+        Ok((remaining, Removed { up, down }))
     }
 
-    /// Takes `v` out with all legs that touch it, and puts these shortcuts in, which are those of `v`.
+    /// Takes `v` out with all legs that touch it, sets its own aside, and puts these shortcuts in, which are those of `v`.
     pub(crate) fn contract_with(
         self,
         v: u32,
         shortcuts: &[Shortcut],
-    ) -> Result<(Remaining, Removed), AllocError>
+    ) -> Result<Remaining, AllocError>
         requires node { v < self.nodes }
         requires shortcuts { (h : ℕ) × AreShortcuts self.nodes h (legs_of self) v shortcuts.now }
-        ensures nodes { IfOk result (λ r. r.0.nodes ≡ self.nodes) }
-        ensures legs { IfOk result (λ r. SameLegs (legs_of r.0) (legs_after_contraction (legs_of self) v shortcuts.now)) }
-        ensures up { IfOk result (λ r. AreLegsFrom (legs_of self) v r.1.up.items) }
-        ensures down { IfOk result (λ r. AreLegsTo (legs_of self) v r.1.down.items) }
+        ensures nodes { IfOk result (λ r. r.nodes ≡ self.nodes) }
+        ensures legs { IfOk result (λ r. SameLegs (legs_of r) (legs_after_contraction (legs_of self) v shortcuts.now)) }
+        ensures up { IfOk result (λ r. IsSetAside (legs_of self) v self.ups r.ups) }
+        ensures down { IfOk result (λ r. IsSetAside (turned_legs (legs_of self)) v self.downs r.downs) }
     {
-        let up = Vec::from_slice(self.alloc, self.outs.at(v))?;
-        let down = Vec::from_slice(self.alloc, self.ins.at(v))?;
         let Remaining {
             nodes,
             mut outs,
@@ -62,18 +63,17 @@ impl Remaining {
             light,
             alloc,
         } = self;
-        outs.take_from(v, down.as_slice());
-        ins.take_from(v, up.as_slice());
-        outs.clear_at(alloc, v);
-        ins.clear_at(alloc, v);
+        outs.set_aside(v);
+        ins.set_aside(v);
+        outs.take_from(v, ins.aside(v));
+        ins.take_from(v, outs.aside(v));
         put_shortcuts(&mut outs, &mut ins, v, shortcuts)?;
-        let remaining = Remaining {
+        Ok(Remaining {
             nodes,
             outs,
             ins,
             light: light && are_light(shortcuts),
             alloc,
-        };
-        Ok((remaining, Removed { up, down }))
+        })
     }
 }

@@ -1,4 +1,4 @@
-use Rattle.std.proofs.Common.{Some, arith, get_or, subst}
+use Rattle.std.proofs.Common.{Some, arith, get_or, refl, ◌∙◌, subst}
 use Rattle.ch_hierarchy.specs.declared.leg.Leg.{Leg}
 use Rattle.ch_contract.specs.LegRows.{label_of}
 use Rattle.ch_contract.specs.LegLists.{IsSet, legs_from, legs_into}
@@ -6,7 +6,7 @@ use Rattle.ch_contract.proofs.code.ListEdits.{overridden_none, overridden_from, 
 use Rattle.ch_contract.proofs.leg_lists.put_shortcuts.Goals as goal
 
 pub loop-shortcut-init : goal.loop-shortcut-init
-loop-shortcut-init c = (overridden_none legs_from c.args.v c.args.outs.now c.requires.out_rows, overridden_none legs_into c.args.v c.args.ins.now c.requires.in_rows)
+loop-shortcut-init c = (overridden_none legs_from c.args.v c.args.outs.now.rows c.requires.out_rows, overridden_none legs_into c.args.v c.args.ins.now.rows c.requires.in_rows, (refl, refl))
 
 pub put-requires : goal.put-requires
 put-requires c =
@@ -23,8 +23,9 @@ loop-shortcut-preserved c =
     let list = c.args.shortcuts.now in
     let i = c.loop-shortcut.shortcut-index in
     let s = get_or list i no_shortcut in
-    let from = subst (λ (l : Leg). IsSet s.from l.node (Some (label_of l)) c.loop-shortcut.outs c.put.new.self) c.leg_of.ensures c.in_ok-put.ensures in
-    let to = subst (λ (l : Leg). IsSet s.to l.node (Some (label_of l)) c.loop-shortcut.ins c.put-in-loop-shortcut.new.self) c.leg_of-in-loop-shortcut.ensures c.in_ok-put-2.ensures in (
-      overridden_from c.args.v list i no_shortcut c.args.outs.now c.loop-shortcut.outs c.put.new.self c.loop-shortcut-test.true c.requires.ordered c.loop-shortcut.invariant.0 from,
-      overridden_into c.args.v list i no_shortcut c.args.ins.now c.loop-shortcut.ins c.put-in-loop-shortcut.new.self c.loop-shortcut-test.true c.requires.ordered c.loop-shortcut.invariant.1 to,
+    let from = subst (λ (l : Leg). IsSet s.from l.node (Some (label_of l)) c.loop-shortcut.outs.rows c.put.new.self.rows) c.leg_of.ensures c.in_ok-put.ensures.legs in
+    let to = subst (λ (l : Leg). IsSet s.to l.node (Some (label_of l)) c.loop-shortcut.ins.rows c.put-in-loop-shortcut.new.self.rows) c.leg_of-in-loop-shortcut.ensures c.in_ok-put-2.ensures.legs in (
+      overridden_from c.args.v list i no_shortcut c.args.outs.now.rows c.loop-shortcut.outs.rows c.put.new.self.rows c.loop-shortcut-test.true c.requires.ordered c.loop-shortcut.invariant.0 from,
+      overridden_into c.args.v list i no_shortcut c.args.ins.now.rows c.loop-shortcut.ins.rows c.put-in-loop-shortcut.new.self.rows c.loop-shortcut-test.true c.requires.ordered c.loop-shortcut.invariant.1 to,
+      (c.in_ok-put.ensures.aside ∙ c.loop-shortcut.invariant.2.0, c.in_ok-put-2.ensures.aside ∙ c.loop-shortcut.invariant.2.1),
     )

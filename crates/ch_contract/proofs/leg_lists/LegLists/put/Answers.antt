@@ -1,13 +1,22 @@
-use Rattle.std.proofs.Common.{Some, sym, subst}
-use Rattle.ch_contract.specs.LegRows.{label_of}
+use Rattle.std.proofs.Common.{Some, sym, ◌∙◌, ap, subst}
 use Rattle.ch_hierarchy.specs.Rows.{IsRow}
-use Rattle.ch_contract.proofs.code.ListEdits.{lent_row, lent_set}
+use Rattle.ch_contract.specs.LegRows.{label_of}
+use Rattle.ch_contract.specs.LegLists.{NodeLegs}
+use Rattle.ch_contract.proofs.code.ListEdits.{list_within, list_row, edited_aside, edited_set}
 use Rattle.ch_contract.proofs.leg_lists.LegLists.put.Goals as goal
 
 pub put_leg-requires : goal.put_leg-requires
 put_leg-requires c =
-    let old = lent_row c.self.inside.lists.items c.args.self.now c.args.node c.index_mut.result.now c.index_mut.ensures.value c.self.view_is c.requires.node in
-    subst IsRow (sym old.1) (c.requires.rows c.args.node)
+    let rows = ap (λ (m : NodeLegs). m.rows) c.self.view_is in
+    record {
+      list = list_within _ _ _ _ rows c.requires.node;
+      row = subst IsRow (sym (list_row _ _ _ _ rows c.requires.node)) (c.requires.rows c.args.node);
+    }
 
 pub returns : goal.returns
-returns c = lent_set c.self.inside.lists.items c.args.self.now c.args.node c.args.leg.node (Some (label_of c.args.leg)) c.index_mut.result.now c.put_leg.new.list c.index_mut.ensures.value c.self.view_is c.requires.node c.requires.rows c.in_ok-put_leg.ensures.row c.in_ok-put_leg.ensures.legs
+returns c =
+    let rows = ap (λ (m : NodeLegs). m.rows) c.self.view_is in
+    record {
+      legs = edited_set _ _ _ _ rows c.requires.node _ c.in_ok-put_leg.ensures.edited c.args.leg.node (Some (label_of c.args.leg)) c.requires.rows c.in_ok-put_leg.ensures.row c.in_ok-put_leg.ensures.legs;
+      aside = edited_aside _ _ _ _ rows c.requires.node _ c.in_ok-put_leg.ensures.edited ∙ ap (λ (m : NodeLegs). m.aside) c.self.view_is;
+    }

@@ -9,4 +9,4 @@ pub returns : goal.returns
 unfolding legs_of
 returns c =
     subst (λ m. AreLegsTo (legs_from m.rows) c.args.v c.at.result.now) c.self.view_is
-    (subst (AreLegsTo (legs_from c.self.inside.outs) c.args.v) (sym c.at.ensures) (to_rows _ _ _ c.self.invariant.0 c.args.v))
+    (subst (AreLegsTo (legs_from c.self.inside.outs.rows) c.args.v) (sym c.at.ensures) (to_rows _ _ _ c.self.invariant.0 c.args.v))

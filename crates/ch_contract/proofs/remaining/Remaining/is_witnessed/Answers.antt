@@ -15,8 +15,8 @@ pub meets-requires : goal.meets-requires
 unfolding legs_of
 meets-requires g c =
     let n = c.self.inside.nodes in
-    let outs = c.self.inside.outs in
-    let ins = c.self.inside.ins in
+    let outs = c.self.inside.outs.rows in
+    let ins = c.self.inside.ins.rows in
     let nodes = ap (λ (m : RemainingLegs). m.nodes) c.self.view_is in
     let known = subst (λ (m : RemainingLegs). IsKnown m c.args.wanted c.args.hops (known_of g.K.HeldCost.cost c.args.search.now.known)) (sym c.self.view_is) c.requires.known in
     let count = c.self.invariant.0.sizes.1 in
@@ -34,8 +34,8 @@ pub returns : goal.returns
 unfolding legs_of
 returns g c =
     let n = c.self.inside.nodes in
-    let outs = c.self.inside.outs in
-    let ins = c.self.inside.ins in
+    let outs = c.self.inside.outs.rows in
+    let ins = c.self.inside.ins.rows in
     let known = subst (λ (m : RemainingLegs). IsKnown m c.args.wanted c.args.hops (known_of g.K.HeldCost.cost c.args.search.now.known)) (sym c.self.view_is) c.requires.known in
     let held = c.requires.cost.0 in
     let met = met_witness n outs ins c.self.invariant.0 c.args.wanted c.args.hops (known_of g.K.HeldCost.cost c.args.search.now.known) c.args.w c.args.cost known.least (held.weight, omega (arith, held.arcs)) c.requires.cost.1 c.requires.hops.0 c.requires.apart.0 c.requires.apart.1 in

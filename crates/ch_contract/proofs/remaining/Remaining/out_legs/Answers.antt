@@ -9,4 +9,4 @@ pub returns : goal.returns
 unfolding legs_of
 returns c =
     subst (λ m. AreLegsFrom (legs_from m.rows) c.args.v c.at.result.now) c.self.view_is
-    (subst (AreLegsFrom (legs_from c.self.inside.outs) c.args.v) (sym c.at.ensures) (from_rows _ _ _ c.self.invariant.0 c.args.v))
+    (subst (AreLegsFrom (legs_from c.self.inside.outs.rows) c.args.v) (sym c.at.ensures) (from_rows _ _ _ c.self.invariant.0 c.args.v))

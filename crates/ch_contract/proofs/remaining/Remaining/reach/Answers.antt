@@ -14,8 +14,8 @@ pub reach-requires : goal.reach-requires
 unfolding legs_of
 reach-requires g c =
     let n = c.self.inside.nodes in
-    let outs = c.self.inside.outs in
-    let ins = c.self.inside.ins in
+    let outs = c.self.inside.outs.rows in
+    let ins = c.self.inside.ins.rows in
     let count = c.self.invariant.0.sizes.0 in
     let nodes = ap (λ (m : RemainingLegs). m.nodes) c.self.view_is in
     record {
@@ -32,10 +32,10 @@ reach-requires g c =
 pub returns : goal.returns
 returns g c =
     let n = c.self.inside.nodes in
-    let outs = c.self.inside.outs in
-    let ins = c.self.inside.ins in
+    let outs = c.self.inside.outs.rows in
+    let ins = c.self.inside.ins.rows in
     record {
       known = subst (λ (m : RemainingLegs). OnOk c.reach.result (IsKnown m c.args.wanted c.args.hops (known_of g.K.HeldCost.cost c.reach.new.self.known))) c.self.view_is
-          (known_after n outs ins c.self.invariant.0 c.args.wanted c.args.hops c.saturating_sub.result (known_of g.K.HeldCost.cost c.reach.new.self.known) c.reach.result c.saturating_sub.ensures c.reach.ensures.size c.reach.ensures.least);
+          (known_after n outs ins c.self.invariant.0 c.self.inside.outs.aside c.self.inside.ins.aside c.args.wanted c.args.hops c.saturating_sub.result (known_of g.K.HeldCost.cost c.reach.new.self.known) c.reach.result c.saturating_sub.ensures c.reach.ensures.size c.reach.ensures.least);
       touched = c.reach.ensures.touched;
     }

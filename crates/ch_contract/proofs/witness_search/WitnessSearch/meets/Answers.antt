@@ -16,7 +16,7 @@ loop-leg-preserved g c k among off met =
       | inl early ↦ c.loop-leg.invariant k early off met
       | inr here ↦ elim c.else-leg-avoided.branch [
         | else-leg-avoided-via-then-leg-avoided+else-meets_at w ↦
-            let yes : w.meets_at.result ≡ true = w.meets_at.ensures.1 (subst (λ z. IsMetAt (known_of g.K.HeldCost.cost c.args.self.now.known) c.args.lists.now (get_or legs i no_leg) z c.args.hops) (sym c.of-most.ensures) (subst (λ (z : Leg). IsMetAt (known_of g.K.HeldCost.cost c.args.self.now.known) c.args.lists.now z c.args.most c.args.hops) (sym here) met)) in cc
+            let yes : w.meets_at.result ≡ true = w.meets_at.ensures.1 (subst (λ z. IsMetAt (known_of g.K.HeldCost.cost c.args.self.now.known) c.args.lists.now.rows (get_or legs i no_leg) z c.args.hops) (sym c.of-most.ensures) (subst (λ (z : Leg). IsMetAt (known_of g.K.HeldCost.cost c.args.self.now.known) c.args.lists.now.rows z c.args.most c.args.hops) (sym here) met)) in cc
         | else-leg-avoided-via-else-leg-avoided w ↦ off (ap (λ (z : Leg). z.node) (sym here) ∙ w.if-leg-avoided.false)
       ]
     ]
@@ -28,7 +28,7 @@ returns-then-meets_at g c =
     let i = c.loop-leg.leg-index in
     let l = get_or legs i no_leg in
     let among = subst (λ z. Contains z l) c.at-leg-items.ensures (Contains-get_or legs i no_leg c.loop-leg-test.true) in
-    let met = subst (λ z. IsMetAt known c.args.lists.now l z c.args.hops) c.of-most.ensures (c.meets_at.ensures.0 c.if-meets_at.true) in
+    let met = subst (λ z. IsMetAt known c.args.lists.now.rows l z c.args.hops) c.of-most.ensures (c.meets_at.ensures.0 c.if-meets_at.true) in
     ((λ t. (l, among, c.if-leg-avoided.true, met)), λ m. refl)
 
 pub returns : goal.returns

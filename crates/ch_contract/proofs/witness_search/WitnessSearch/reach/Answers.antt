@@ -22,13 +22,13 @@ loop-round-init g c =
     let first = subst (λ z. Lowers (IsOnlyWhere true end none) z new) c.reserve.ensures.known c.lower.ensures.lowers in
     let only = lowers_as (IsOnlyWhere true end none) (IsOnly end none) start new (λ x d m. m.1) (λ x d m. (refl, m)) first in
     let low = subst (λ z. Lowers (IsOnly end z) start new) c.of-none.ensures only in
-    rounds_start (length c.args.lists.now) (legs_into c.args.lists.now) c.args.wanted _ (known_of cost c.lower.new.self) c.requires.end.1 (most.weight, omega (arith, most.arcs)) c.requires.end.0 (record { size = clean.size; rest = clean.rest; touched = clean.touched }) (ap (map (chain_start_of cost)) c.clear.ensures.items) low
+    rounds_start (length c.args.lists.now.rows) (legs_into c.args.lists.now.rows) c.args.wanted _ (known_of cost c.lower.new.self) c.requires.end.1 (most.weight, omega (arith, most.arcs)) c.requires.end.0 (record { size = clean.size; rest = clean.rest; touched = clean.touched }) (ap (map (chain_start_of cost)) c.clear.ensures.items) low
 
 pub spread_all-requires : goal.spread_all-requires
 spread_all-requires g c =
     let cost = g.K.HeldCost.cost in
     let limit = g.K.HeldCost.limit in
-    let lists = c.args.lists.now in
+    let lists = c.args.lists.now.rows in
     let n = length lists in
     let u = c.loop-round.invariant in
     let front = c.as_slice.ensures.value ∙ ap (λ v. v.items) c.swap.ensures.x_after in
@@ -45,7 +45,7 @@ spread_all-requires g c =
 pub loop-round-preserved : goal.loop-round-preserved
 loop-round-preserved g c =
     let cost = g.K.HeldCost.cost in
-    let lists = c.args.lists.now in
+    let lists = c.args.lists.now.rows in
     let front = ap (map (chain_start_of cost)) (c.as_slice.ensures.value ∙ ap (λ v. v.items) c.swap.ensures.x_after) in
     let before = known_of cost c.loop-round.self.known in
     let mid = known_of cost (record { costs = c.loop-round.self.known.costs; touched = c.loop-round.self.known.touched; next = c.clear-in-loop-round.new.self }) in
@@ -56,4 +56,4 @@ loop-round-preserved g c =
 pub returns-clause-least : goal.returns-clause-least
 returns-clause-least g c =
     let rounds : c.loop-round._round ≡ c.args.rounds = omega (arith, c.loop-round-test.false, c.loop-round.auto._round-end) in
-    subst (λ k. AreLeastCosts (legs_into c.args.lists.now) c.args.wanted k (known_of g.K.HeldCost.cost c.loop-round.self.known)) rounds c.loop-round.invariant.least
+    subst (λ k. AreLeastCosts (legs_into c.args.lists.now.rows) c.args.wanted k (known_of g.K.HeldCost.cost c.loop-round.self.known)) rounds c.loop-round.invariant.least
