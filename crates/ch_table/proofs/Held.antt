@@ -18,61 +18,62 @@ held_within lists v x h = elim (cases_lt v (length lists)) [
   | inr past ↦ absurd (contains_none x (subst (λ l. Contains l x) (get_or_past lists v [] past) h))
 ]
 
-module _ (lists : List (List (ℕ × ℕ))) where
+module _ (item : ℕ → ℕ) (lists : List (List (ℕ × ℕ))) where
   -- no lists, no entries
-  pub entries_of_none : AreEntriesOf lists 0 []
+  pub entries_of_none : AreEntriesOf item lists 0 []
   entries_of_none = record {
-    sound = λ v j x h. absurd (contains_none (v, (j, x)) h);
+    sound = λ q j x h. absurd (contains_none (q, (j, x)) h);
     whole = λ v j x lt h. absurd (omega arith);
   }
 
   -- one list more
-  pub entries_of_more : (k : ℕ) (entries : List (ℕ × (ℕ × ℕ))) → AreEntriesOf lists k entries → AreEntriesOf lists (k + 1) (entries ++ map (entry_of k) (slice_index_or lists k []))
+  pub entries_of_more : (k : ℕ) (entries : List (ℕ × (ℕ × ℕ))) → AreEntriesOf item lists k entries → AreEntriesOf item lists (k + 1) (entries ++ map (entry_of item k) (slice_index_or lists k []))
   entries_of_more k entries h =
       let next = slice_index_or lists k [] in record {
-        sound = λ v j x c. elim (Contains-append_cases entries (map (entry_of k) next) (v, (j, x)) c) [
-          | inl before ↦ let r = h.sound v j x before in let lt = r.0 in (omega arith, r.1)
+        sound = λ q j x c. elim (Contains-append_cases entries (map (entry_of item k) next) (q, (j, x)) c) [
+          | inl before ↦ let r = h.sound q j x before in let lt = r.0 in (omega arith, r.1, r.2, r.3)
           | inr now ↦
-              let r = contains_map_of (entry_of k) next (v, (j, x)) now in
+              let r = contains_map_of (entry_of item k) next (q, (j, x)) now in
               let place : k ≡ j = ap (λ (e : ℕ × (ℕ × ℕ)). e.1.0) r.2 in
-              let pair : r.0 ≡ (v, x) = ap (λ (e : ℕ × (ℕ × ℕ)). (e.0, e.1.1)) r.2 in
-              (omega arith, subst (λ q. Contains (slice_index_or lists q []) (v, x)) place (subst (Contains next) pair r.1))
+              let weight : r.0.1 ≡ x = ap (λ (e : ℕ × (ℕ × ℕ)). e.1.1) r.2 in
+              let here = subst (λ w. Contains next (r.0.0, w)) weight r.1 in
+              (omega arith, r.0.0, subst (λ p. Contains (slice_index_or lists p []) (r.0.0, x)) place here, ap (λ (e : ℕ × (ℕ × ℕ)). e.0) r.2)
         ];
         whole = λ v j x lt c. elim (cases_lt j k) [
-          | inl before ↦ Contains-append_left entries (map (entry_of k) next) (v, (j, x)) (h.whole v j x before c)
+          | inl before ↦ Contains-append_left entries (map (entry_of item k) next) (item v, (j, x)) (h.whole v j x before c)
           | inr now ↦
               let e : j ≡ k = omega arith in
-              let here = subst (λ q. Contains (slice_index_or lists q []) (v, x)) e c in
-              Contains-append_right entries (map (entry_of k) next) (v, (j, x))
-              (subst (λ q. Contains (map (entry_of k) next) (v, (q, x))) (sym e) (contains_map (entry_of k) next (v, x) here))
+              let here = subst (λ p. Contains (slice_index_or lists p []) (v, x)) e c in
+              Contains-append_right entries (map (entry_of item k) next) (item v, (j, x))
+              (subst (λ p. Contains (map (entry_of item k) next) (item v, (p, x))) (sym e) (contains_map (entry_of item k) next (v, x) here))
         ];
       }
 
-  module _ (n : ℕ) (entries : List (ℕ × (ℕ × ℕ))) (h : AreEntriesOf lists (length lists) entries) (below : All (λ list. All (λ pair. pair.0 < n) list) lists) where
-    -- each entry is of the bucket of a node
-    entry_below : (v j x : ℕ) → j < length lists → Contains (slice_index_or lists j []) (v, x) → v < n
-    entry_below v j x lt c = All-contains (λ (pair : ℕ × ℕ). pair.0 < n) (slice_index_or lists j []) (v, x) (below j [] lt) c
+  module _ (n : ℕ) (entries : List (ℕ × (ℕ × ℕ))) (h : AreEntriesOf item lists (length lists) entries) (below : All (λ list. All (λ pair. item pair.0 < n) list) lists) where
+    -- the nodes of the lists have items
+    entry_below : (v j x : ℕ) → j < length lists → Contains (slice_index_or lists j []) (v, x) → item v < n
+    entry_below v j x lt c = All-contains (λ (pair : ℕ × ℕ). item pair.0 < n) (slice_index_or lists j []) (v, x) (below j [] lt) c
 
-    -- so are all
+    -- so each entry is of the bucket of an item
     pub keys_within : All (λ e. e.0 < n) entries
     keys_within k d lt =
         let e = get_or entries k d in
         let r = h.sound e.0 e.1.0 e.1.1 (Contains-get_or entries k d lt) in
-        entry_below e.0 e.1.0 e.1.1 r.0 r.1
+        subst (λ q. q < n) r.3 (entry_below r.1 e.1.0 e.1.1 r.0 r.2)
 
     -- the rows that the entries make hold the lists
-    pub hold_lists : (buckets : List (List (ℕ × ℕ))) → AreRowsOf n entries buckets → HoldLists n lists buckets
+    pub hold_lists : (buckets : List (List (ℕ × ℕ))) → AreRowsOf n entries buckets → HoldLists n item lists buckets
     hold_lists buckets made = record {
       count = made.count;
-      sound = λ v j x c.
+      sound = λ q j x c.
           let size = made.count in
-          let lt : v < n = (let within = held_within buckets v (j, x) c in omega arith) in
-          let here = subst (λ l. Contains l (j, x)) (made.each v lt) c in
-          let r = contains_map_of (λ (e : ℕ × (ℕ × ℕ)). e.1) (filter (λ e. e.0 == v) entries) (j, x) here in
-          let s = contains_filter_of (λ e. e.0 == v) entries r.0 r.1 in
-          let is : r.0 ≡ (v, (j, x)) = λ i. (eqb-true _ _ s.1 i, r.2 i) in
-          h.sound v j x (subst (Contains entries) is s.0);
-      whole = λ v j x lt c. subst (λ l. Contains l (j, x)) (sym (made.each v (entry_below v j x lt c)))
-          (contains_map (λ (e : ℕ × (ℕ × ℕ)). e.1) (filter (λ e. e.0 == v) entries) (v, (j, x))
-          (contains_filter (λ e. e.0 == v) entries (v, (j, x)) (h.whole v j x lt c) (let e : v ≡ v = refl in grind (arith, nat_tests))));
+          let lt : q < n = (let within = held_within buckets q (j, x) c in omega arith) in
+          let here = subst (λ l. Contains l (j, x)) (made.each q lt) c in
+          let r = contains_map_of (λ (e : ℕ × (ℕ × ℕ)). e.1) (filter (λ e. e.0 == q) entries) (j, x) here in
+          let s = contains_filter_of (λ e. e.0 == q) entries r.0 r.1 in
+          let is : r.0 ≡ (q, (j, x)) = λ i. (eqb-true _ _ s.1 i, r.2 i) in
+          h.sound q j x (subst (Contains entries) is s.0);
+      whole = λ v j x lt c. subst (λ l. Contains l (j, x)) (sym (made.each (item v) (entry_below v j x lt c)))
+          (contains_map (λ (e : ℕ × (ℕ × ℕ)). e.1) (filter (λ e. e.0 == item v) entries) (item v, (j, x))
+          (contains_filter (λ e. e.0 == item v) entries (item v, (j, x)) (h.whole v j x lt c) (let e : item v ≡ item v = refl in grind (arith, nat_tests))));
     }

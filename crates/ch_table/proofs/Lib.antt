@@ -1,3 +1,4 @@
+pub mod Deals
 pub mod Entries
 pub mod Held
 pub mod Owing

@@ -1,4 +1,4 @@
--- What the nodes owe, entry by entry and node by node.
+-- What the nodes of items owe, entry by entry and item by item.
 use Rattle.std.proofs.Common.{◌≡◌, ℕ, ◌+◌, ◌*◌, ◌<◌, ◌≤◌, Option, List, [], ◌∷◌, ◌++◌, Contains, take, get_or, sym, ap, subst, arith, inl, inr}
 use Rattle.std.specs.Prelude.{All}
 use Rattle.std.proofs.lemmas.List.Elements.{Contains-append_left, Contains-push, Contains-push_cases}
@@ -39,13 +39,13 @@ row_more limit first weight i targets entry is u v w =
     (λ cell x o. (entry.0, entry.1, subst (λ l. Contains l entry) (sym is) (Contains-push (take i targets) entry), o.0, o.1, o.2))
 
 -- without entries of sources nothing is owed
-pub node_none : (limit : Option ℕ) (columns : ℕ) (targets : List (ℕ × ℕ)) (v : Known) → HasPaid (IsOwedBy limit columns [] targets) v v
-node_none limit columns targets v = paid_none (IsOwedBy limit columns [] targets) v (λ cell x o. contains_none (o.0, o.1) o.2)
+pub item_none : (limit : Option ℕ) (columns : ℕ) (targets : List (ℕ × ℕ)) (v : Known) → HasPaid (IsOwedBy limit columns [] targets) v v
+item_none limit columns targets v = paid_none (IsOwedBy limit columns [] targets) v (λ cell x o. contains_none (o.0, o.1) o.2)
 
 -- one entry more, and its row
-pub node_more : (limit : Option ℕ) (columns i : ℕ) (sources targets : List (ℕ × ℕ)) (entry : ℕ × ℕ) → take (i + 1) sources ≡ take i sources ++ entry ∷ [] → (u v w : Known) →
+pub item_more : (limit : Option ℕ) (columns i : ℕ) (sources targets : List (ℕ × ℕ)) (entry : ℕ × ℕ) → take (i + 1) sources ≡ take i sources ++ entry ∷ [] → (u v w : Known) →
     HasPaid (IsOwedBy limit columns (take i sources) targets) u v → HasPaid (IsOwedInRow limit (entry.0 * columns) entry.1 targets) v w → HasPaid (IsOwedBy limit columns (take (i + 1) sources) targets) u w
-node_more limit columns i sources targets entry is u v w =
+item_more limit columns i sources targets entry is u v w =
     paid_then (IsOwedBy limit columns (take i sources) targets) (IsOwedInRow limit (entry.0 * columns) entry.1 targets) (IsOwedBy limit columns (take (i + 1) sources) targets) u v w
     (λ cell x o. elim (Contains-push_cases (take i sources) entry (o.0, o.1) (subst (λ l. Contains l (o.0, o.1)) is o.2)) [
       | inl before ↦ inl (o.0, o.1, before, o.3)
@@ -54,20 +54,20 @@ node_more limit columns i sources targets entry is u v w =
     (λ cell x o. (o.0, o.1, subst (λ l. Contains l (o.0, o.1)) (sym is) (Contains-append_left (take i sources) (entry ∷ []) (o.0, o.1) o.2), o.3))
     (λ cell x o. (entry.0, entry.1, subst (λ l. Contains l entry) (sym is) (Contains-push (take i sources) entry), o))
 
--- no nodes owe nothing
-pub nodes_none : (S : BothSides) (from : ℕ) (v : Known) → HasPaid (IsOwedAmong S from from) v v
-nodes_none S from v = paid_none (IsOwedAmong S from from) v (λ cell x o. let a = o.1 in let b = o.2 in omega arith)
+-- no items owe nothing
+pub items_none : (S : BothSides) (from : ℕ) (v : Known) → HasPaid (IsOwedAmong S from from) v v
+items_none S from v = paid_none (IsOwedAmong S from from) v (λ cell x o. let a = o.1 in let b = o.2 in omega arith)
 
--- one node more
-pub nodes_more : (S : BothSides) (from node : ℕ) → from ≤ node → (u v w : Known) → HasPaid (IsOwedAmong S from node) u v → HasPaid (IsOwedAt S node) v w → HasPaid (IsOwedAmong S from (node + 1)) u w
-nodes_more S from node low u v w =
-    paid_then (IsOwedAmong S from node) (IsOwedAt S node) (IsOwedAmong S from (node + 1)) u v w
-    (λ cell x o. elim (cases_lt o.0 node) [
+-- one item more
+pub items_more : (S : BothSides) (from item : ℕ) → from ≤ item → (u v w : Known) → HasPaid (IsOwedAmong S from item) u v → HasPaid (IsOwedAt S item) v w → HasPaid (IsOwedAmong S from (item + 1)) u w
+items_more S from item low u v w =
+    paid_then (IsOwedAmong S from item) (IsOwedAt S item) (IsOwedAmong S from (item + 1)) u v w
+    (λ cell x o. elim (cases_lt o.0 item) [
       | inl before ↦ inl (o.0, o.1, before, o.3)
-      | inr past ↦ let e : o.0 ≡ node = (let b = o.2 in omega arith) in inr (subst (λ q. IsOwedAt S q cell x) e o.3)
+      | inr past ↦ let e : o.0 ≡ item = (let b = o.2 in omega arith) in inr (subst (λ q. IsOwedAt S q cell x) e o.3)
     ])
     (λ cell x o. (o.0, o.1, (let b = o.2 in omega arith), o.3))
-    (λ cell x o. (node, low, omega arith, o))
+    (λ cell x o. (item, low, omega arith, o))
 
 -- the cells of a source's row are those of the board, and the weights those of paths
 pub row_cells : (S : BothSides) (cells i : ℕ) (targets : List (ℕ × ℕ)) → i < S.rows → cells ≡ S.rows * S.columns → All (IsEntryAmong S.columns) targets → All (λ entry. (i * S.columns + entry.0 < cells) × (entry.1 ≤ MOST_WEIGHT)) targets

@@ -20,14 +20,14 @@ pub record AreBuckets (rows : List (List Leg)) (limit : Option ℕ) (nodes : Lis
   pub count : length buckets ≡ length rows
   pub each : (v : ℕ) → IsBucket rows limit nodes v (slice_index_or buckets v [])
 
--- a bucket for each of n nodes: that of v has (j, x) exactly where list j has (v, x)
-pub record HoldLists (n : ℕ) (lists : List (List (ℕ × ℕ))) (buckets : List (List (ℕ × ℕ))) : Type 0 where
+-- a bucket for each of n items: that of q has (j, x) exactly where list j has (v, x) for a node v whose item is q
+pub record HoldLists (n : ℕ) (item : ℕ → ℕ) (lists : List (List (ℕ × ℕ))) (buckets : List (List (ℕ × ℕ))) : Type 0 where
   pub count : length buckets ≡ n
-  pub sound : (v j x : ℕ) → Contains (slice_index_or buckets v []) (j, x) → (j < length lists) × Contains (slice_index_or lists j []) (v, x)
-  pub whole : (v j x : ℕ) → j < length lists → Contains (slice_index_or lists j []) (v, x) → Contains (slice_index_or buckets v []) (j, x)
+  pub sound : (q j x : ℕ) → Contains (slice_index_or buckets q []) (j, x) → (j < length lists) × (v : ℕ) × Contains (slice_index_or lists j []) (v, x) × (item v ≡ q)
+  pub whole : (v j x : ℕ) → j < length lists → Contains (slice_index_or lists j []) (v, x) → Contains (slice_index_or buckets (item v) []) (j, x)
 
--- entries of paths, with all that lie on a least way, where the weight is within the limit: the buckets hold a search space of each of the nodes
-pub record HoldSearchSpaces (H : LevelsAndLegs) (side : Side) (limit : Option ℕ) (nodes : List ℕ) (buckets : List (List (ℕ × ℕ))) : Type 0 where
+-- entries of paths, with all that lie on a least way, where the weight is within the limit: the buckets hold a search space of each of the nodes, each entry at its node's item
+pub record HoldSearchSpaces (H : LevelsAndLegs) (side : Side) (limit : Option ℕ) (item : ℕ → ℕ) (nodes : List ℕ) (buckets : List (List (ℕ × ℕ))) : Type 0 where
   pub spaces : List (List (ℕ × ℕ))
   pub each : AllZip (IsSearchSpace H side limit) nodes spaces
-  pub held : HoldLists (nodes_of H) spaces buckets
+  pub held : HoldLists (nodes_of H) item spaces buckets

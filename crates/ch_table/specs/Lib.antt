@@ -1,4 +1,5 @@
 pub mod Buckets
+pub mod Dealing
 pub mod Entries
 pub mod Sums
 pub mod Table

@@ -1,4 +1,4 @@
--- What the nodes owe to the cells of a table: the sums within a limit of what their two buckets hold.
+-- What the nodes owe to the cells of a table: the sums within a limit of what their two buckets hold. Each node is an item.
 use Rattle.std.specs.Prelude.{◌≡◌, ℕ, ◌+◌, ◌*◌, ◌<◌, ◌≤◌, List, [], length, slice_index_or, Contains, All, Option}
 use Rattle.ch_graph.specs.declared.limits.TheConstants.{MOST_WEIGHT}
 use Rattle.ch_hierarchy.specs.Hierarchy.{LevelsAndLegs}
@@ -19,17 +19,17 @@ pub record BothSides : Type 0 where
 abbrev pub IsEntryAmong : ℕ → ℕ × ℕ → Type 0
 IsEntryAmong places entry = (entry.0 < places) × (entry.1 ≤ MOST_WEIGHT)
 
--- the buckets are of the same nodes, and each entry of a row or a column
+-- the buckets are of the same items, and each entry of a row or a column
 pub record AreWithin (S : BothSides) : Type 0 where
-  pub nodes : length S.downs ≡ length S.ups
-  pub ups : (v : ℕ) → All (IsEntryAmong S.rows) (slice_index_or S.ups v [])
-  pub downs : (v : ℕ) → All (IsEntryAmong S.columns) (slice_index_or S.downs v [])
+  pub items : length S.downs ≡ length S.ups
+  pub ups : (q : ℕ) → All (IsEntryAmong S.rows) (slice_index_or S.ups q [])
+  pub downs : (q : ℕ) → All (IsEntryAmong S.columns) (slice_index_or S.downs q [])
   pub cells : S.rows * S.columns ≤ MOST_CELLS
 
--- the buckets hold search spaces of these sources, going up, and of these targets, going down
-pub record AreSidesOf (H : LevelsAndLegs) (most : Option ℕ) (sources targets : List ℕ) (S : BothSides) : Type 0 where
-  pub rise : HoldSearchSpaces H Up most sources S.ups
-  pub fall : HoldSearchSpaces H Down most targets S.downs
+-- the buckets hold search spaces of these sources, going up, and of these targets, going down; a node has one item on both sides
+pub record AreSidesOf (H : LevelsAndLegs) (most : Option ℕ) (item : ℕ → ℕ) (sources targets : List ℕ) (S : BothSides) : Type 0 where
+  pub rise : HoldSearchSpaces H Up most item sources S.ups
+  pub fall : HoldSearchSpaces H Down most item targets S.downs
   pub rows : S.rows ≡ length sources
   pub columns : S.columns ≡ length targets
   pub limit : S.limit ≡ most
@@ -42,10 +42,10 @@ IsOwedInRow limit first weight targets cell x = (j b : ℕ) × Contains targets 
 abbrev pub IsOwedBy : Option ℕ → ℕ → List (ℕ × ℕ) → List (ℕ × ℕ) → ℕ → ℕ → Type 0
 IsOwedBy limit columns sources targets cell x = (i a : ℕ) × Contains sources (i, a) × IsOwedInRow limit (i * columns) a targets cell x
 
--- what node v owes
+-- what the node of item q owes
 abbrev pub IsOwedAt : BothSides → ℕ → ℕ → ℕ → Type 0
-IsOwedAt S v = IsOwedBy S.limit S.columns (slice_index_or S.ups v []) (slice_index_or S.downs v [])
+IsOwedAt S q = IsOwedBy S.limit S.columns (slice_index_or S.ups q []) (slice_index_or S.downs q [])
 
--- what the nodes from one number up to another owe
+-- what the nodes of the items from one number up to another owe
 abbrev pub IsOwedAmong : BothSides → ℕ → ℕ → ℕ → ℕ → Type 0
-IsOwedAmong S from to cell x = (v : ℕ) × (from ≤ v) × (v < to) × IsOwedAt S v cell x
+IsOwedAmong S from to cell x = (q : ℕ) × (from ≤ q) × (q < to) × IsOwedAt S q cell x

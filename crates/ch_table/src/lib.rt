@@ -11,6 +11,7 @@
 
 mod buckets;
 mod cells;
+mod dealing;
 mod many_to_many;
 mod spaces;
 mod sums;

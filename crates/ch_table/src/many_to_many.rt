@@ -20,8 +20,9 @@ use std::thread::Threads;
 /// Each target is searched from once, down its paths to higher nodes, and leaves its weight in the bucket of
 /// each node that it reaches; so is each source, up (Knopp, Sanders, Schultes, Schulz and Wagner 2007). At each
 /// node the entries of sources and those of targets owe their sums to the cells, which all workers share. The
-/// workers share the targets, then the sources, then the nodes. With a limit a search ends where the least weight
-/// that is left is more, and no greater sum is owed.
+/// workers share the targets, then the sources, then the nodes, of which each piece has its share of the high ones and
+/// does them last. With a limit a search ends where the least weight that is left is more, and no greater sum is
+/// owed.
 ///
 /// # Errors
 /// `AllocError` where there is no memory.

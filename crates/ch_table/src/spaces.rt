@@ -4,8 +4,10 @@ ghost use Rattle.ch_graph.specs.declared.limits.TheConstants.{MOST_LISTED};
 ghost use Rattle.ch_hierarchy.specs.Hierarchy.{nodes_of};
 ghost use Rattle.ch_query.specs.Distance.{IsKeptForSome};
 ghost use Rattle.ch_table.specs.Buckets.{HoldSearchSpaces};
+ghost use Rattle.ch_table.specs.Dealing.{item_in, IsDealOf};
 
 use crate::buckets::Buckets;
+use crate::dealing::Dealing;
 use ch_hierarchy::Hierarchy;
 use ch_query::{Scratch, Side, search_space};
 use ch_work::{Gate, ListJob, Plan, run_list};
@@ -13,12 +15,13 @@ use std::alloc::{AllocError, Global};
 use std::marker::Model;
 use std::thread::Threads;
 
-/// The buckets that hold the search spaces of these nodes in this direction, within the limit. The workers share
-/// the nodes.
+/// The buckets that hold the search spaces of these nodes in this direction, within the limit, by the items of what is
+/// reached. The workers share the nodes.
 pub(crate) fn search_spaces<R: Threads + Sync, G: Gate>(
     rt: &R,
     alloc: Global,
     hierarchy: &Hierarchy,
+    dealing: &Dealing,
     nodes: &[u32],
     side: Side,
     within: Option<u64>,
@@ -28,7 +31,8 @@ pub(crate) fn search_spaces<R: Threads + Sync, G: Gate>(
     requires kept { IsKeptForSome hierarchy.now }
     requires nodes { All (λ x. x < nodes_of hierarchy.now) nodes.now }
     requires count { length nodes.now ≤ MOST_LISTED }
-    ensures { IfOk result (HoldSearchSpaces hierarchy.now side within nodes.now) }
+    requires dealing { IsDealOf hierarchy.now dealing.now }
+    ensures { IfOk result (HoldSearchSpaces hierarchy.now side within (item_in hierarchy.now dealing.now) nodes.now) }
 {
     let searches = Searches {
         hierarchy,
@@ -36,7 +40,9 @@ pub(crate) fn search_spaces<R: Threads + Sync, G: Gate>(
         within,
     };
     let spaces = run_list(rt, alloc, nodes, plan, gate, &searches)?;
-    Buckets::of_lists(alloc, hierarchy.nodes(), &spaces)
+    // The getter tells the proof that legs lead to nodes.
+    let _ = hierarchy.nodes();
+    Buckets::of_lists(alloc, hierarchy, dealing, spaces)
 }
 
 /// Searches from nodes, in one direction, within a limit.

@@ -4,12 +4,14 @@ ghost use Rattle.ch_graph.specs.declared.limits.TheConstants.{MOST_LISTED, MOST_
 ghost use Rattle.ch_hierarchy.specs.Hierarchy.{nodes_of};
 ghost use Rattle.ch_query.specs.Distance.{IsKeptForSome};
 ghost use Rattle.ch_query.specs.Limits.{IsWithin};
+ghost use Rattle.ch_table.specs.Dealing.{item_in, deal_of};
 ghost use Rattle.ch_table.specs.Sums.{AreSidesOf, IsOwedInRow, IsOwedAt};
 ghost use Rattle.ch_work.specs.declared.limits.TheConstants.{MOST_CELLS, MOST_OFFER};
 ghost use Rattle.ch_work.specs.Owed.{HasPaid};
 ghost use Rattle.ch_work.specs.Passes.{view_of, size_of, IsPassOf};
 
 use crate::buckets::Buckets;
+use crate::dealing::Dealing;
 use crate::spaces::search_spaces;
 use ch_hierarchy::Hierarchy;
 use ch_query::Side;
@@ -18,8 +20,8 @@ use std::alloc::{AllocError, Global};
 use std::marker::Model;
 use std::thread::Threads;
 
-/// The sums within the limit of what the nodes' buckets hold, for each source and target that meet at a node.
-/// Cell `i * columns + j` is that of source i and target j.
+/// The sums within the limit of what the nodes' buckets hold, for each source and target that meet at a node. Nodes are
+/// items as they are dealt. Cell `i * columns + j` is that of source i and target j.
 #[derive(Drop)]
 pub(crate) struct Sums {
     sources: Buckets,
@@ -56,15 +58,16 @@ impl CellJob for Sums {
         from: u32,
         to: u32,
     ) -> Result<(), AllocError> {
-        for node in from..to {
-            self.pay_node(board, pass, node);
+        for item in from..to {
+            self.pay_item(board, pass, item);
         }
         Ok(())
     }
 }
 
 impl Sums {
-    /// What nodes owe to the cells of these sources and targets. The workers share the targets, then the sources.
+    /// What nodes owe to the cells of these sources and targets, dealt over pieces as the plan cuts them. The workers
+    /// share the targets, then the sources.
     pub(crate) fn search<R: Threads + Sync, G: Gate>(
         rt: &R,
         alloc: Global,
@@ -80,19 +83,31 @@ impl Sums {
         requires targets { All (λ t. t < nodes_of hierarchy.now) targets.now }
         requires lists { (length sources.now ≤ MOST_LISTED) × (length targets.now ≤ MOST_LISTED) }
         requires cells { length sources.now * length targets.now ≤ MOST_CELLS }
-        ensures { IfOk result (AreSidesOf hierarchy.now within sources.now targets.now) }
+        ensures { IfOk result (AreSidesOf hierarchy.now within (item_in hierarchy.now (deal_of hierarchy.now plan.now.piece)) sources.now targets.now) }
     {
+        let dealing = Dealing::new(hierarchy.nodes(), plan.piece());
         let downs = search_spaces(
             rt,
             alloc,
             hierarchy,
+            &dealing,
             targets,
             Side::Down,
             within,
             plan,
             gate,
         )?;
-        let ups = search_spaces(rt, alloc, hierarchy, sources, Side::Up, within, plan, gate)?;
+        let ups = search_spaces(
+            rt,
+            alloc,
+            hierarchy,
+            &dealing,
+            sources,
+            Side::Up,
+            within,
+            plan,
+            gate,
+        )?;
         Ok(Sums {
             sources: ups,
             targets: downs,
@@ -102,16 +117,16 @@ impl Sums {
         })
     }
 
-    /// Pays what a node owes, row after row.
-    fn pay_node(&self, board: &Board, pass: &mut Pass, node: u32)
-        requires node { node < length self.now.ups }
+    /// Pays what the node of an item owes, row after row.
+    fn pay_item(&self, board: &Board, pass: &mut Pass, item: u32)
+        requires item { item < length self.now.ups }
         requires board { IsPassOf board.now pass.old }
         requires cells { (size_of board.now).cells ≡ self.now.rows * self.now.columns }
         ensures board { IsPassOf board.now pass.new }
-        ensures paid { HasPaid (IsOwedAt self.now node) (view_of pass.old) (view_of pass.new) }
+        ensures paid { HasPaid (IsOwedAt self.now item) (view_of pass.old) (view_of pass.new) }
     {
-        let targets = self.targets.at(node);
-        for (source, weight) in self.sources.at(node) {
+        let targets = self.targets.at(item);
+        for (source, weight) in self.sources.at(item) {
             let first = *source * self.columns;
             pay_row(board, pass, first, *weight, targets, self.within);
         }

@@ -174,7 +174,7 @@ fn make<R: Threads + Abort + Sync, G: Gate>(
 /// Expects the same table at several plans.
 fn expect<R: Threads + Abort + Sync>(rt: &R, alloc: Global, example: &Example) -> Result<(), Fail> {
     for workers in [1, 2, 64] {
-        for piece in [1, 1000] {
+        for piece in [1, 2, 1000] {
             let plan = Plan::new(workers, piece, 1);
             let found = make(rt, alloc, example, &plan, &Open)?;
             expect_rows(rt, &found, example.rows);

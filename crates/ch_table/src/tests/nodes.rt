@@ -13,27 +13,28 @@ use std::alloc::{AllocError, Global};
 use std::test::Fail;
 use std::thread::Threads;
 
-/// The cells to which only this node pays what it owes by these sums.
+/// The cells to which only the node of this item pays what it owes by these sums.
 fn owed_by(
     alloc: Global,
     sums: &Sums,
     cells: u32,
-    node: u32,
+    item: u32,
 ) -> Result<Vec<Option<u64>>, AllocError>
     requires cells { cells ≡ sums.now.rows * sums.now.columns }
     requires most { cells ≤ MOST_CELLS }
-    requires node { (node < length sums.now.ups) × (node < MOST_NODES) }
+    requires item { (item < length sums.now.ups) × (item < MOST_NODES) }
 {
     let (board, mut passes) = Board::new(alloc, 0, cells, 1)?;
     let Some(mut pass) = passes.pop() else {
         return Err(AllocError);
     };
-    sums.piece(alloc, &board, &mut pass, node, node + 1)?;
+    sums.piece(alloc, &board, &mut pass, item, item + 1)?;
     passes.push(pass)?;
     board.close(passes)
 }
 
-/// The cells of these lists to which only this node pays.
+/// The cells of these lists to which only the node of this item pays, where all nodes are in one piece: then items go
+/// from the lowest node on.
 fn owed_at<R: Threads + Sync>(
     rt: &R,
     alloc: Global,
@@ -41,18 +42,18 @@ fn owed_at<R: Threads + Sync>(
     sources: &[u32],
     targets: &[u32],
     within: Option<u64>,
-    node: u32,
+    item: u32,
 ) -> Result<Vec<Option<u64>>, AllocError>
     requires kept { IsKeptForSome hierarchy.now }
     requires sources { All (λ s. s < nodes_of hierarchy.now) sources.now }
     requires targets { All (λ t. t < nodes_of hierarchy.now) targets.now }
     requires lists { (length sources.now ≤ 64) × (length targets.now ≤ 64) }
-    requires node { node < nodes_of hierarchy.now }
+    requires item { item < nodes_of hierarchy.now }
 {
-    let plan = Plan::new(1, 1, 64);
+    let plan = Plan::new(1, 64, 64);
     let sums = Sums::search(rt, alloc, hierarchy, sources, targets, within, &plan, &Open)?;
     let cells = sources.len() as u32 * targets.len() as u32;
-    owed_by(alloc, &sums, cells, node)
+    owed_by(alloc, &sums, cells, item)
 }
 
 #[test]

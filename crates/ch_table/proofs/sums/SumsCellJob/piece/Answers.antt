@@ -1,16 +1,16 @@
 use Rattle.std.proofs.Common.{rules, ◌≤◌}
 use Rattle.ch_work.specs.Passes.{view_of}
-use Rattle.ch_table.proofs.Owing.{nodes_none, nodes_more}
+use Rattle.ch_table.proofs.Owing.{items_none, items_more}
 use Rattle.ch_table.proofs.sums.SumsCellJob.piece.Goals as goal
 
-pub loop-node-init : goal.loop-node-init
-loop-node-init c = (search rules, nodes_none c.args.self.now c.args.from (view_of c.args.pass.now))
+pub loop-item-init : goal.loop-item-init
+loop-item-init c = (search rules, items_none c.args.self.now c.args.from (view_of c.args.pass.now))
 
-pub loop-node-preserved : goal.loop-node-preserved
-loop-node-preserved c =
+pub loop-item-preserved : goal.loop-item-preserved
+loop-item-preserved c =
     let a = c.args in
-    let node = c.loop-node.node in
-    let low : a.from ≤ node = search rules in (
-      c.pay_node.ensures.board,
-      nodes_more a.self.now a.from node low (view_of a.pass.now) (view_of c.loop-node.pass) (view_of c.pay_node.new.pass) c.loop-node.invariant.1 c.pay_node.ensures.paid,
+    let item = c.loop-item.item in
+    let low : a.from ≤ item = search rules in (
+      c.pay_item.ensures.board,
+      items_more a.self.now a.from item low (view_of a.pass.now) (view_of c.loop-item.pass) (view_of c.pay_item.new.pass) c.loop-item.invariant.1 c.pay_item.ensures.paid,
     )

@@ -5,8 +5,8 @@ use Rattle.std.proofs.lemmas.List.Elements.{All-get_or}
 use Rattle.ch_work.specs.Owed.{HasPaid}
 use Rattle.ch_work.specs.Passes.{view_of, size_of}
 use Rattle.ch_table.specs.Sums.{BothSides, IsEntryAmong, IsOwedBy}
-use Rattle.ch_table.proofs.Owing.{row_cells, node_more}
-use Rattle.ch_table.proofs.sums.Sums.pay_node.Goals as goal
+use Rattle.ch_table.proofs.Owing.{row_cells, item_more}
+use Rattle.ch_table.proofs.sums.Sums.pay_item.Goals as goal
 
 pub pay_row-requires-clause-targets : goal.pay_row-requires-clause-targets
 pay_row-requires-clause-targets c =
@@ -16,8 +16,8 @@ pay_row-requires-clause-targets c =
     let targets = c.at-targets.result.now in
     let i = c.loop-source.source-index in
     let size = c.requires.cells ∙ sym (ap (λ (s : BothSides). s.rows * s.columns) c.self.view_is) in
-    let all = subst (All (IsEntryAmong S.rows)) (sym c.at-source-items.ensures) (c.self.invariant.ups c.args.node) in
-    let those = subst (All (IsEntryAmong S.columns)) (sym c.at-targets.ensures) (c.self.invariant.downs c.args.node) in
+    let all = subst (All (IsEntryAmong S.rows)) (sym c.at-source-items.ensures) (c.self.invariant.ups c.args.item) in
+    let those = subst (All (IsEntryAmong S.columns)) (sym c.at-targets.ensures) (c.self.invariant.downs c.args.item) in
     let row = (All-get_or (IsEntryAmong S.rows) sources i (0, 0) c.loop-source-test.true all).0 in
     row_cells S (size_of c.args.board.now).cells (get_or sources i (0, 0)).0 targets row size those
 
@@ -35,11 +35,11 @@ loop-source-preserved c =
     let w = view_of c.pay_row.new.pass in
     let same = ap (λ (s : BothSides). s.columns) c.self.view_is in
     let same_limit = ap (λ (s : BothSides). s.limit) c.self.view_is in
-    let those = c.at-source-items.ensures ∙ ap (λ (s : BothSides). slice_index_or s.ups a.node []) c.self.view_is in
-    let these = c.at-targets.ensures ∙ ap (λ (s : BothSides). slice_index_or s.downs a.node []) c.self.view_is in
+    let those = c.at-source-items.ensures ∙ ap (λ (s : BothSides). slice_index_or s.ups a.item []) c.self.view_is in
+    let these = c.at-targets.ensures ∙ ap (λ (s : BothSides). slice_index_or s.downs a.item []) c.self.view_is in
     let Before : Option ℕ × ℕ × List (ℕ × ℕ) × List (ℕ × ℕ) → Type 0 = λ t. HasPaid (IsOwedBy t.0 t.1 (take i t.2) t.3) u v in
     let After : Option ℕ × ℕ × List (ℕ × ℕ) × List (ℕ × ℕ) → Type 0 = λ t. HasPaid (IsOwedBy t.0 t.1 (take (i + 1) t.2) t.3) u w in
     let before : HasPaid (IsOwedBy limit columns (take i sources) targets) u v = subst Before (λ k. (sym same_limit k, sym same k, sym those k, sym these k)) c.loop-source.invariant.1 in
     let step = take_more sources i (0, 0) c.loop-source-test.true in
-    let after = node_more limit columns i sources targets (get_or sources i (0, 0)) step u v w before c.pay_row.ensures.paid in
+    let after = item_more limit columns i sources targets (get_or sources i (0, 0)) step u v w before c.pay_row.ensures.paid in
     (c.pay_row.ensures.board, subst After (λ k. (same_limit k, same k, those k, these k)) after)
