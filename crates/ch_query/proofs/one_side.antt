@@ -4,6 +4,7 @@ pub mod LeastPaths
 pub mod Steps
 pub mod Parents
 pub mod Touched
+pub mod Labelled
 pub mod Expanding
 pub mod Popping
 pub mod Stalling

@@ -1,6 +1,5 @@
 -- Two searches that look for a way up and down within a bound.
 use Rattle.std.specs.Prelude.{◌≡◌, ◌≢◌, ℕ, ◌<◌, Contains, Bool, true, false, List, Option, Some}
-use Rattle.ch_graph.specs.declared.limits.TheConstants.{MOST_WEIGHT}
 use Rattle.ch_graph.specs.declared.cost.Cost.{Cost}
 use Rattle.ch_graph.specs.Cost.{IsAtMost, IsBelow, cost_sum, cost_at}
 use Rattle.ch_hierarchy.specs.Hierarchy.{LevelsAndLegs, nodes_of}
@@ -10,6 +9,7 @@ use Rattle.ch_hierarchy.specs.Rows.{row}
 use Rattle.ch_query.specs.declared.search.Search.{Search}
 use Rattle.ch_query.specs.declared.covering.Shown.{Shown}
 use Rattle.ch_query.specs.declared.covering.Shown.TheVariants.{Connected, Settled, Past}
+use Rattle.ch_query.specs.Limits.{IsMost}
 use Rattle.ch_query.specs.Search.{IsSettled, IsUpwardCost}
 use Rattle.ch_query.specs.Side.{rows_of}
 use Rattle.ch_query.specs.Underway.{IsUnderway}
@@ -43,10 +43,10 @@ abbrev pub AreConnected : LevelsAndLegs → Search → Search → Cost → Type 
 AreConnected H x y most =
     (v : ℕ) × (a b : Cost) × IsUpwardCost (rows_of H x.side) x.source v a × IsUpwardCost (rows_of H y.side) y.source v b × IsAtMost (cost_sum a b) most
 
--- two searches underway within the limits alone that stall nowhere, and each node that both settled costs more than this together
+-- two searches underway for paths that weigh no more than this, which stall nowhere, and each node that both settled costs more than this together
 pub record AreApart (H : LevelsAndLegs) (x y : Search) (most : Cost) : Type 0 where
   pub here : IsUnderway H x
   pub there : IsUnderway H y
   pub stalls : (x.stalls ≡ false) × (y.stalls ≡ false)
-  pub limits : (x.most ≡ MOST_WEIGHT) × (y.most ≡ MOST_WEIGHT)
-  pub apart : (v : ℕ) (a b : Cost) → IsSettled x.costs.items x.queue v a → IsSettled y.costs.items y.queue v b → IsBelow most (cost_sum a b)
+  pub limits : IsMost (Some most.weight) x.most × IsMost (Some most.weight) y.most
+  pub apart : (v : ℕ) (a b : Cost) → IsSettled x.costs x.queue v a → IsSettled y.costs y.queue v b → IsBelow most (cost_sum a b)

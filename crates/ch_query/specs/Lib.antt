@@ -1,6 +1,7 @@
 pub mod Values
 pub mod Distance
 pub mod Limits
+pub mod Labels
 pub mod Search
 pub mod Parents
 pub mod Side

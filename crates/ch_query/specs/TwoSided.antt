@@ -18,6 +18,10 @@ IsSeen best_up queue_up best_down queue_down least =
 abbrev pub IsFound : LevelsAndLegs → ℕ → ℕ → Option (Cost × ℕ) → Type 0
 IsFound H s t least = (e : Cost × ℕ) → least ≡ Some e → (a b : Cost) × IsUpwardCost H.up s e.1 a × IsUpwardCost H.down t e.1 b × (cost_sum a b ≡ e.0)
 
+-- for each key of the second queue the first has one that is no more
+abbrev pub LeadsKeys : List (Option Cost) → List (Option Cost) → Type 0
+LeadsKeys first second = (v : ℕ) (d : Cost) → cost_at second v ≡ Some d → (u : ℕ) × (c : Cost) × (cost_at first u ≡ Some c) × IsAtMost c d
+
 -- each key that is left is more than what is known
 abbrev pub IsPast : List (Option Cost) → Option (Cost × ℕ) → Type 0
 IsPast queue least = (v : ℕ) (d : Cost) → cost_at queue v ≡ Some d → (e : Cost × ℕ) × (least ≡ Some e) × IsBelow e.0 d

@@ -10,7 +10,7 @@ ghost use Rattle.ch_query.specs.declared.covering.Shown.TheVariants as Shown;
 ghost use Rattle.ch_query.specs.Underway.{count_unsettled_in, IsSameSearch, IsUnderway, IsClean};
 ghost use Rattle.ch_query.specs.Covering.{is_connected, is_settled, IsPastCost, AreConnected, AreApart};
 
-use crate::search::{Search, is_below};
+use crate::search::{Search, is_below, most_within};
 use ch_graph::Cost;
 use ch_hierarchy::Hierarchy;
 use ch_queue::KeyQueue;
@@ -61,10 +61,10 @@ fn connects(hierarchy: &Hierarchy, there: &Search, node: u32, cost: Cost, most: 
     requires there { IsUnderway hierarchy.now there.now }
     requires node { node < nodes_of hierarchy.now }
     requires cost { (cost.weight ≤ MOST_WEIGHT) × (cost.arcs ≤ MOST_PATH_ARCS) }
-    ensures connected { result ≡ true → (d : CostOf) × (cost_at there.now.costs.items node ≡ Some d) × IsAtMost (cost_sum cost d) most }
-    ensures apart { result ≡ false → (d : CostOf) → cost_at there.now.costs.items node ≡ Some d → IsBelow most (cost_sum cost d) }
+    ensures connected { result ≡ true → (d : CostOf) × (cost_at there.now.costs node ≡ Some d) × IsAtMost (cost_sum cost d) most }
+    ensures apart { result ≡ false → (d : CostOf) → cost_at there.now.costs node ≡ Some d → IsBelow most (cost_sum cost d) }
 {
-    match there.costs[node as usize] {
+    match there.costs.get(node) {
         Some(known) => !is_below(most, cost.plus(known)),
         None => false,
     }
@@ -84,7 +84,7 @@ fn connects_by_leg(
     ensures { result ≡ true → AreConnected hierarchy.now here.now there.now most }
 {
     for leg in here.side.legs(hierarchy, node) {
-        if let Some(cost) = here.costs[leg.node as usize] {
+        if let Some(cost) = here.costs.get(leg.node) {
             if connects(hierarchy, there, leg.node, cost, most) {
                 return true;
             }
@@ -100,7 +100,6 @@ fn advance(hierarchy: &Hierarchy, here: &mut Search, there: &Search, most: Cost)
     ensures underway { IsUnderway hierarchy.now here.new }
     ensures connected { is_connected result ≡ true → AreConnected hierarchy.now here.new there.now most }
     ensures apart { is_connected result ≡ false → AreApart hierarchy.now here.new there.now most }
-    ensures fewer { count_unsettled_in here.new ≤ count_unsettled_in here.old }
     ensures settled { is_settled result ≡ true → count_unsettled_in here.new < count_unsettled_in here.old }
     ensures past { result ≡ Shown.Past → (here.new ≡ here.old) × IsPastCost here.old.queue most }
 {
@@ -120,7 +119,7 @@ fn advance(hierarchy: &Hierarchy, here: &mut Search, there: &Search, most: Cost)
     Shown::Settled
 }
 
-/// Lets each side settle one node.
+/// Lets the side with the least key settle one node.
 fn step(hierarchy: &Hierarchy, up: &mut Search, down: &mut Search, most: Cost) -> Shown
     requires apart { AreApart hierarchy.now up.old down.old most }
     ensures up { IsSameSearch up.old up.new × IsUnderway hierarchy.now up.new }
@@ -129,20 +128,15 @@ fn step(hierarchy: &Hierarchy, up: &mut Search, down: &mut Search, most: Cost) -
     ensures settled { is_settled result ≡ true → AreApart hierarchy.now up.new down.new most × (count_unsettled_in up.new + count_unsettled_in down.new < count_unsettled_in up.old + count_unsettled_in down.old) }
     ensures past { result ≡ Shown.Past → AreApart hierarchy.now up.new down.new most × IsPastCost up.new.queue most × IsPastCost down.new.queue most }
 {
-    match advance(hierarchy, up, down, most) {
-        Shown::Connected => Shown::Connected,
-        Shown::Settled => {
-            if advance(hierarchy, down, up, most).is_connected() {
-                return Shown::Connected;
-            }
-            Shown::Settled
-        }
-        Shown::Past => advance(hierarchy, down, up, most),
+    if up.leads(down) {
+        advance(hierarchy, up, down, most)
+    } else {
+        advance(hierarchy, down, up, most)
     }
 }
 
-/// Whether going up from `start` to some node and down from there to `end` costs at most `most`. It
-/// settles no node that costs more, and none once a way is found.
+/// Whether going up from `start` to some node and down from there to `end` costs at most `most`. It takes
+/// no leg to what weighs more, settles no node that costs more, and none once a way is found.
 pub(crate) fn meets_within(
     hierarchy: &Hierarchy,
     up: &mut Search,
@@ -159,8 +153,9 @@ pub(crate) fn meets_within(
     ensures up { IsClean (nodes_of hierarchy.now) up.new × (up.new.side ≡ Up) }
     ensures down { IsClean (nodes_of hierarchy.now) down.new × (down.new.side ≡ Down) }
 {
-    up.begin(hierarchy, start, false);
-    down.begin(hierarchy, end, false);
+    let heaviest = most_within(Some(most.weight));
+    up.begin_up_to(hierarchy, start, false, heaviest);
+    down.begin_up_to(hierarchy, end, false, heaviest);
     let mut shown = Shown::Settled;
     while shown.is_settled() {
         shown = step(hierarchy, up, down, most);

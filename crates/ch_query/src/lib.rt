@@ -18,6 +18,7 @@ mod checking;
 mod covering;
 mod descent;
 mod founding;
+mod labels;
 pub mod laws;
 mod legs;
 mod lower;

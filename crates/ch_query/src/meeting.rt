@@ -38,9 +38,9 @@ fn met(
     requires there { IsUnderway hierarchy.now there.now }
     requires node { node < nodes_of hierarchy.now }
     requires cost { (cost.weight ≤ MOST_WEIGHT) × (cost.arcs ≤ MOST_PATH_ARCS) }
-    ensures { IsLeastAfter (cost_at there.now.costs.items node) node cost least result }
+    ensures { IsLeastAfter (cost_at there.now.costs node) node cost least result }
 {
-    match there.costs[node as usize] {
+    match there.costs.get(node) {
         Some(known) => first(least, cost.plus(known), node),
         None => least,
     }
@@ -81,7 +81,8 @@ fn advance(
     true
 }
 
-/// Lets each side settle one node, and says whether one did.
+/// Lets the side with the least key settle one node, and says whether it did. Where that key is past the least sum,
+/// so are all of both sides.
 fn step(
     hierarchy: &Hierarchy,
     up: &mut Search,
@@ -95,9 +96,11 @@ fn step(
     ensures less { result ≡ true → count_unsettled_in up.new + count_unsettled_in down.new < count_unsettled_in up.old + count_unsettled_in down.old }
     ensures stopped { result ≡ false → IsPast up.new.queue least.new × IsPast down.new.queue least.new }
 {
-    let rising = advance(hierarchy, up, down, least);
-    let falling = advance(hierarchy, down, up, least);
-    rising || falling
+    if up.leads(down) {
+        advance(hierarchy, up, down, least)
+    } else {
+        advance(hierarchy, down, up, least)
+    }
 }
 
 /// The least sum of a path up from `start` and one down to `end`, with the least numbered node of those

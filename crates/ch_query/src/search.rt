@@ -4,9 +4,11 @@ ghost use Rattle.ch_graph.specs.declared.limits.TheConstants.{MOST_WEIGHT};
 ghost use Rattle.ch_graph.specs.Cost.{IsBelow};
 ghost use Rattle.ch_hierarchy.specs.Hierarchy.{nodes_of};
 ghost use Rattle.ch_query.specs.Limits.{IsMost};
+ghost use Rattle.ch_query.specs.TwoSided.{LeadsKeys};
 ghost use Rattle.ch_query.specs.Underway.{idle_of, count_unsettled_in, IsTouched, IsRoom, RelaxesIn, IsSameSearch, IsUnderway, IsExpandingAt, KeepsSettled, IsClean};
 ghost use Rattle.ch_query.specs.Meeting.{IsFresh};
 
+use crate::labels::Labels;
 use crate::side::Side;
 use ch_graph::Cost;
 use ch_graph::limits::MOST_WEIGHT;
@@ -26,7 +28,7 @@ pub(crate) struct Search {
     /// farther away gets a key.
     pub(crate) most: u64,
     /// By node: the least cost known of a path from the source to it.
-    pub(crate) costs: Vec<Option<Cost>>,
+    pub(crate) costs: Labels,
     /// The nodes that are reached and not settled, by cost.
     pub(crate) queue: KeyQueue<Cost>,
     /// The nodes that have a cost, each once.
@@ -41,7 +43,7 @@ impl Search {
         ensures clean { IfOk result (λ x. IsClean nodes x) }
         ensures side { IfOk result (λ x. x.side ≡ side) }
     {
-        let costs = vec![in alloc; None; nodes as usize]?;
+        let costs = Labels::new(alloc, nodes)?;
         let queue = KeyQueue::new(alloc, nodes)?;
         let touched = Vec::with_capacity(alloc, nodes as usize)?;
         let parents = vec![in alloc; 0; nodes as usize]?;
@@ -100,37 +102,38 @@ impl Search {
 
     /// Writes what is known of a node that is not settled.
     fn reach(&mut self, node: u32, cost: Cost, parent: u32)
-        requires node { node < length self.old.costs.items }
+        requires node { node < length self.old.costs }
+        requires weight { cost.weight ≤ MOST_WEIGHT }
         requires room { IsRoom self.old }
-        ensures costs { self.new.costs.items ≡ slice_set self.old.costs.items node (Some cost) }
+        ensures costs { self.new.costs ≡ slice_set self.old.costs node (Some cost) }
         ensures queue { self.new.queue ≡ slice_set self.old.queue node (Some cost) }
         ensures parents { self.new.parents.items ≡ slice_set self.old.parents.items node parent }
-        ensures touched { IsTouched self.new.costs.items self.new.touched }
+        ensures touched { IsTouched self.new.costs self.new.touched }
         ensures same { IsSameSearch self.old self.new }
     {
-        if self.costs[node as usize].is_none() {
+        if self.costs.get(node).is_none() {
             self.touched.push_reserved(node);
         }
-        self.costs[node as usize] = Some(cost);
+        self.costs.set(node, cost);
         self.queue.set(node, cost);
         self.parents[node as usize] = parent;
     }
 
     /// Takes a leg of `node`, which was settled at `cost`.
     fn relax(&mut self, node: u32, cost: Cost, leg: Leg)
-        requires node { leg.node < length self.old.costs.items }
+        requires node { leg.node < length self.old.costs }
         requires room { IsRoom self.old }
         requires weights { (cost.weight ≤ MOST_WEIGHT) × (leg.cost.weight ≤ MOST_WEIGHT) }
         requires arcs { cost.arcs + leg.cost.arcs < 2 ^ 64 }
         ensures relaxes { RelaxesIn self.old node cost leg self.new }
-        ensures touched { IsTouched self.new.costs.items self.new.touched }
+        ensures touched { IsTouched self.new.costs self.new.touched }
         ensures same { IsSameSearch self.old self.new }
     {
         let sum = cost.plus(leg.cost);
         if sum.weight > self.most {
             return;
         }
-        if let Some(known) = self.costs[leg.node as usize] {
+        if let Some(known) = self.costs.get(leg.node) {
             if known < sum {
                 return;
             }
@@ -165,7 +168,7 @@ impl Search {
         ensures { result ≡ true → idle_of hierarchy.now self.now node cost }
     {
         for leg in self.side.other().legs(hierarchy, node) {
-            if let Some(known) = self.costs[leg.node as usize] {
+            if let Some(known) = self.costs.get(leg.node) {
                 if is_below(known.plus(leg.cost), cost) {
                     return true;
                 }
@@ -192,15 +195,28 @@ impl Search {
         true
     }
 
+    /// Whether this side is to settle next: it has the least key of both, or neither has one. Of equal keys this
+    /// side's leads.
+    pub(crate) fn leads(&self, other: &Search) -> bool
+        ensures here { result ≡ true → LeadsKeys self.now.queue other.now.queue }
+        ensures there { result ≡ false → LeadsKeys other.now.queue self.now.queue }
+    {
+        match (self.queue.least(), other.queue.least()) {
+            (Some((here, _)), Some((there, _))) => !is_below(there, here),
+            (None, Some(_)) => false,
+            (_, None) => true,
+        }
+    }
+
     /// Takes all that is known away, in as many steps as nodes were touched.
     pub(crate) fn clean(&mut self)
         requires room { IsRoom self.old }
-        ensures clean { IsClean (length self.old.costs.items) self.new }
+        ensures clean { IsClean (length self.old.costs) self.new }
         ensures side { self.new.side ≡ self.old.side }
     {
         self.queue.clear();
         while let Some(node) = self.touched.pop() {
-            self.costs[node as usize] = None;
+            self.costs.clear(node);
         }
     }
 }

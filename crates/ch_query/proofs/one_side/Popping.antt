@@ -1,5 +1,5 @@
 -- The least node leaves the queue.
-use Rattle.std.proofs.Common.{◌≡◌, ℕ, ◌+◌, ◌<◌, false, List, length, Option, Some, None, sym, ◌∙◌, ap, subst, arith, set, inl, inr}
+use Rattle.std.proofs.Common.{◌≡◌, ◌↔◌, IsTrue, ℕ, ◌+◌, ◌<◌, Bool, true, false, not, List, length, Option, Some, None, refl, sym, ◌∙◌, ap, subst, arith, set, inl, inr}
 use Rattle.std.specs.Ordering.{is_gt, MatchOrdering}
 use Rattle.std.specs.declared.cmp.Ordering.{Ordering}
 use Rattle.std.specs.declared.cmp.Ordering.TheVariants.{Less, Equal, Greater}
@@ -8,12 +8,13 @@ use Rattle.std.proofs.lemmas.List.{get_or_past}
 use Rattle.std.proofs.lemmas.Option.{none-some}
 use Rattle.ch_graph.specs.declared.cost.Cost.{Cost}
 use Rattle.ch_graph.specs.Cost.{IsAtMost, IsBelow, cost_cmp, cost_at}
-use Rattle.ch_graph.proofs.CostOrder.{IsAtMost_refl, IsBelow-IsAtMost, cost_cmp_tells}
+use Rattle.ch_graph.proofs.CostOrder.{IsAtMost_refl, IsAtMost_trans, IsAtMost_or_IsBelow, IsBelow-IsAtMost, cost_cmp_tells}
 use Rattle.ch_hierarchy.specs.Hierarchy.{LevelsAndLegs}
 use Rattle.ch_queue.specs.Queue.{IsLeastEntry}
 use Rattle.ch_query.specs.declared.search.Search.{Search}
 use Rattle.ch_query.specs.Search.{IsLeastKey, IsExpanding, OrNode, count_unsettled}
 use Rattle.ch_query.specs.Parents.{AreParents}
+use Rattle.ch_query.specs.TwoSided.{LeadsKeys}
 use Rattle.ch_query.specs.Underway.{idle_of, count_unsettled_in, IsSameSearch, IsUnderway, IsExpandingAt}
 use Rattle.ch_query.specs.Side.{rows_of}
 use Rattle.ch_query.proofs.one_side.Steps.{popped, popped_falls}
@@ -34,6 +35,19 @@ least_key queue e l = record { has = l.has; least = λ x d k. at_most_by e.0 d (
 pub key_within : (queue : List (Option Cost)) (v : ℕ) (c : Cost) → cost_at queue v ≡ Some c → v < length queue
 key_within queue v c e = elim (cases_lt v (length queue)) [ inl lt ↦ lt | inr ge ↦ absurd (none-some _ (sym (get_or_past queue v None ge) ∙ e)) ]
 
+-- a queue whose least key is no more than another's leads it
+leads_by : (first second : List (Option Cost)) (a b : Cost × ℕ) → IsLeastEntry cost_cmp first a → IsLeastEntry cost_cmp second b → IsAtMost a.0 b.0 → LeadsKeys first second
+leads_by first second a b l k le v d h = (a.1, a.0, l.has, IsAtMost_trans a.0 b.0 d le ((least_key second b k).least v d h))
+
+-- of two queues with keys the one that the test of their least keys names leads
+pub leads_as_told : (first second : List (Option Cost)) (a b : Cost × ℕ) → IsLeastEntry cost_cmp first a → IsLeastEntry cost_cmp second b → (told : Bool) → IsTrue told ↔ IsBelow b.0 a.0 →
+    (not told ≡ true → LeadsKeys first second) × (not told ≡ false → LeadsKeys second first)
+leads_as_told first second a b l k true i = (λ e. absurd (false≢true e), λ _. leads_by second first b a k l (IsBelow-IsAtMost b.0 a.0 (i.0 refl)))
+leads_as_told first second a b l k false i = (
+  λ _. elim (IsAtMost_or_IsBelow a.0 b.0) [ inl le ↦ leads_by first second a b l k le | inr less ↦ absurd (false≢true (i.1 less)) ],
+  λ e. absurd (false≢true (sym e)),
+)
+
 -- the search with another queue
 abbrev pub with_queue : Search → List (Option Cost) → Search
 with_queue x q = record x { queue = q }
@@ -53,13 +67,13 @@ module _ (H : LevelsAndLegs) (x : Search) (q : List (Option Cost)) (v : ℕ) (c 
   pop_expands = record {
     levelled = u.levelled;
     within = (let a = within in let b = u.search.sizes.1 in let d = rows_size H u.levelled x.side in omega arith);
-    search = subst (λ r. IsExpanding x.most (rows_of H x.side) x.source (OrNode (idle_of H x) v) x.costs.items r v c) (sym e)
+    search = subst (λ r. IsExpanding x.most (rows_of H x.side) x.source (OrNode (idle_of H x) v) x.costs r v c) (sym e)
         (popped _ _ _ _ _ u.search v c l.has l.least within);
-    parents = subst (λ r. AreParents x.most (rows_of H x.side) x.source (OrNode (idle_of H x) v) x.costs.items r x.parents.items) (sym e)
+    parents = subst (λ r. AreParents x.most (rows_of H x.side) x.source (OrNode (idle_of H x) v) x.costs r x.parents.items) (sym e)
         (popped_parents _ _ _ _ _ _ u.search u.parents v c l.has l.least within);
     touched = u.touched;
   }
 
   -- one node fewer is not settled
   pub pop_falls : count_unsettled_in (with_queue x q) + 1 ≡ count_unsettled_in x
-  pop_falls = ap (λ r. count_unsettled x.costs.items r + 1) e ∙ popped_falls _ _ _ _ _ u.search v c l.has l.least within
+  pop_falls = ap (λ r. count_unsettled x.costs r + 1) e ∙ popped_falls _ _ _ _ _ u.search v c l.has l.least within

@@ -1,9 +1,9 @@
 -- The list of the nodes that have a cost.
-use Rattle.std.proofs.Common.{◌≡◌, ℕ, ◌+◌, ◌<◌, ◌≤◌, Bool, true, false, cond, List, [], ◌∷◌, ◌++◌, length, Contains, Option, Some, None, refl, sym, ◌∙◌, ap, subst, arith, get_or, get_or-set_same, get_or-set_other, set, length-set, inl, inr, vec_len, Vec, length-append, replicate}
+use Rattle.std.proofs.Common.{◌≡◌, ℕ, ◌+◌, ◌<◌, ◌≤◌, Bool, true, false, cond, List, [], ◌∷◌, ◌++◌, length, Contains, Option, Some, None, refl, sym, ◌∙◌, ap, subst, arith, get_or-set_same, get_or-set_other, set, length-set, inl, inr, vec_len, Vec, length-append, replicate}
 use Rattle.std.specs.Prelude.{◌≢◌, AllPairs, vec_capacity, is_some}
 use Rattle.std.specs.declared.alloc.Global.{Global}
 use Rattle.std.proofs.lemmas.Bool.{cases_eq, cases_lt, false≢true}
-use Rattle.std.proofs.lemmas.List.{get_or_default, get_or_past, get_or-replicate, length-replicate, get_or_append_left, get_or_push}
+use Rattle.std.proofs.lemmas.List.{get_or_past, get_or-replicate, length-replicate, get_or_append_left, get_or_push}
 use Rattle.std.proofs.lemmas.List.Elements.{Contains-append_left, Contains-push, Contains-push_cases, Contains-get_or}
 use Rattle.std.proofs.lemmas.List.Quantifiers.{all_pairs_push}
 use Rattle.std.proofs.lemmas.List.Sums.{sum_by-set, count_by-le-length}
@@ -81,10 +81,6 @@ none_known n v = elim (cases_lt v n) [
   | inl lt ↦ get_or-replicate {A = Option Cost} n v None None lt
   | inr ge ↦ get_or_past (replicate n None) v None (let size = length-replicate {A = Option Cost} n None in omega arith)
 ]
-
--- a cost that the program read
-pub read : (costs : List (Option Cost)) (i : ℕ) (r : Option Cost) → i < length costs → r ≡ get_or costs i r → r ≡ cost_at costs i
-read costs i r within e = e ∙ get_or_default costs i r None within
 
 -- the last touched node is cleaned
 module _ (best : List (Option Cost)) (touched touched' : Vec ℕ Global) (t : IsTouched best touched) (w : ℕ) (items : touched.items ≡ touched'.items ++ w ∷ [])

@@ -17,15 +17,17 @@ use Rattle.ch_query.specs.declared.side.Side.TheVariants.{Up, Down}
 use Rattle.ch_query.specs.declared.search.Search.{Search}
 use Rattle.ch_query.specs.declared.covering.Shown.{Shown}
 use Rattle.ch_query.specs.declared.covering.Shown.TheVariants.{Connected, Settled, Past}
+use Rattle.ch_query.specs.Limits.{IsMost}
 use Rattle.ch_query.specs.Search.{IsSettled, IsUpwardCost, IsLeastKey}
 use Rattle.ch_query.specs.Side.{rows_of}
+use Rattle.ch_query.specs.TwoSided.{LeadsKeys}
 use Rattle.ch_query.specs.Underway.{IsUnderway, IsSameSearch, KeepsSettled}
 use Rattle.ch_hierarchy.specs.Kept.{MeetsWithin}
 use Rattle.ch_query.specs.Covering.{is_connected, is_settled, IsPastCost, AreConnected, AreApart}
 use Rattle.ch_query.proofs.one_side.End.{settled_least}
 use Rattle.ch_query.proofs.one_side.Expanding.{leg_up, level_small, rows_size}
 use Rattle.ch_query.proofs.one_side.LeastPaths.{decided}
-use Rattle.ch_query.proofs.one_side.PathLaws.{then_below}
+use Rattle.ch_query.proofs.one_side.PathLaws.{below_then, then_below}
 use Rattle.ch_query.proofs.one_side.Popping.{with_queue, key_within}
 use Rattle.ch_query.proofs.one_side.Spreads.{never_idle}
 use Rattle.ch_query.proofs.one_side.Steps.{popped_settled}
@@ -56,11 +58,25 @@ apart_swapped H x y most m = record {
 pub connected_swapped : (H : LevelsAndLegs) (x y : Search) (most : Cost) → AreConnected H x y most → AreConnected H y x most
 connected_swapped H x y most j = (j.0, j.2, j.1, j.4, j.3, subst (λ q. IsAtMost q most) (cost_sum_comm j.1 j.2) j.5)
 
+-- where the queue that leads is past the bound, so is the other
+past_both_cost : (first second : List (Option Cost)) (most : Cost) → LeadsKeys first second → IsPastCost first most → IsPastCost second most
+past_both_cost first second most leads past v d k = let l = leads v d k in below_then most l.1 d (past l.0 l.1 l.2) l.3
+
+-- so where the side that leads stops, both are past it
+pub both_past_cost : (x x' y : Search) (most : Cost) → LeadsKeys x.queue y.queue → (x' ≡ x) × IsPastCost x.queue most → IsPastCost x'.queue most × IsPastCost y.queue most
+both_past_cost x x' y most leads s = (subst (λ (z : Search). IsPastCost z.queue most) (sym s.0) s.1, past_both_cost x.queue y.queue most leads s.1)
+
+-- a step that settled a node has connected nothing
+pub settled_apart : (shown : Shown) → is_settled shown ≡ true → is_connected shown ≡ false
+settled_apart Connected e = absurd (false≢true e)
+settled_apart Settled e = refl
+settled_apart Past e = refl
+
 -- one side settles v at cost c, and takes its legs
 module _ (H : LevelsAndLegs) (x y : Search) (most : Cost) (m : AreApart H x y most) (q : List (Option Cost)) (v : ℕ) (c : Cost)
     (l : IsLeastKey x.queue v c) (e : q ≡ set x.queue v None) (z : Search) (u : IsUnderway H z) (same : IsSameSearch (with_queue x q) z) (settled : KeepsSettled (with_queue x q) z) where
   -- v is known at c here
-  known : cost_at x.costs.items v ≡ Some c
+  known : cost_at x.costs v ≡ Some c
   known = m.here.search.queued v c l.has
 
   -- a path to v costs c
@@ -68,20 +84,20 @@ module _ (H : LevelsAndLegs) (x y : Search) (most : Cost) (m : AreApart H x y mo
   here_at = subst (λ s. IsUpwardCost (rows_of H z.side) s v c) (sym same.source) (subst (λ s. IsUpwardCost (rows_of H s) x.source v c) (sym same.side) (m.here.search.sound v c known))
 
   -- where the other side knows v within the bound, they are connected
-  pub connected_at : (d : Cost) → cost_at y.costs.items v ≡ Some d → IsAtMost (cost_sum c d) most → AreConnected H z y most
+  pub connected_at : (d : Cost) → cost_at y.costs v ≡ Some d → IsAtMost (cost_sum c d) most → AreConnected H z y most
   connected_at d at le = (v, c, d, here_at, m.there.search.sound v d at, le)
 
   -- where it doesn't, they stay apart
-  pub still_apart : ((d : Cost) → cost_at y.costs.items v ≡ Some d → IsBelow most (cost_sum c d)) → AreApart H z y most
+  pub still_apart : ((d : Cost) → cost_at y.costs v ≡ Some d → IsBelow most (cost_sum c d)) → AreApart H z y most
   still_apart above = record {
     here = u;
     there = m.there;
     stalls = (same.stalls ∙ m.stalls.0, m.stalls.1);
-    limits = (same.most ∙ m.limits.0, m.limits.1);
+    limits = (subst (IsMost (Some most.weight)) (sym same.most) m.limits.0, m.limits.1);
     apart = λ w a b h k. elim (popped_settled _ _ _ _ _ m.here.search v c l.has l.least (key_within x.queue v c l.has) w a
-        (subst (λ r. IsSettled x.costs.items r w a) e (settled w a h))) [
+        (subst (λ r. IsSettled x.costs r w a) e (settled w a h))) [
           | inl was ↦ m.apart w a b was k
-          | inr is ↦ subst (λ r. IsBelow most (cost_sum r b)) (sym is.1) (above b (ap (cost_at y.costs.items) (sym is.0) ∙ k.0))
+          | inr is ↦ subst (λ r. IsBelow most (cost_sum r b)) (sym is.1) (above b (ap (cost_at y.costs) (sym is.0) ∙ k.0))
         ];
   }
 
@@ -124,12 +140,12 @@ connected_covers H k x y s t most up down xs yt j =
     meeting_within H k s t j.0 j.1 j.2 most a b j.5
 
 -- a node that a search would reach within the bound is settled, where all that is left is above it
-settled_within : (H : LevelsAndLegs) (x : Search) (most : Cost) (side : Side) (s m : ℕ) (a : Cost) → IsUnderway H x → x.stalls ≡ false → x.most ≡ MOST_WEIGHT → IsPastCost x.queue most → x.side ≡ side → x.source ≡ s →
-    IsLeastUpwardPath (rows_of H side) s m a → IsAtMost a most → IsSettled x.costs.items x.queue m a
+settled_within : (H : LevelsAndLegs) (x : Search) (most : Cost) (side : Side) (s m : ℕ) (a : Cost) → IsUnderway H x → x.stalls ≡ false → IsMost (Some most.weight) x.most → IsPastCost x.queue most → x.side ≡ side → x.source ≡ s →
+    IsLeastUpwardPath (rows_of H side) s m a → IsAtMost a most → IsSettled x.costs x.queue m a
 settled_within H x most side s m a u off all past is from least le =
     let is_there = subst (λ q. IsLeastUpwardPath (rows_of H q) s m a) (sym is) least in
     let there = subst (λ q. IsLeastUpwardPath (rows_of H x.side) q m a) (sym from) is_there in
-    settled_least (rows_of H x.side) x.source _ x.costs.items x.queue u.search m a (let light = there.weight in omega arith) (λ w d k. then_below a most d le (past w d k))
+    settled_least (rows_of H x.side) x.source _ x.costs x.queue u.search m a (all.whole a.weight least.weight le.0) (λ w d k. then_below a most d le (past w d k))
     (λ w e legs idle p q. never_idle H x off w e idle) there
 
 -- where all that is left on both sides is above the bound, and they are apart, there is no way within it
@@ -147,7 +163,7 @@ apart_covers H x y s t most up down xs yt m px py w =
 
 -- a leg of v that is read leads to one of the nodes
 pub own_leg : (H : LevelsAndLegs) (x : Search) (v : ℕ) (legs : List Leg) (i : ℕ) (d : Leg) → IsUnderway H x → legs ≡ row (rows_of H x.side) v → i < length legs →
-    ((get_or legs i d).node < nodes_of H) × ((get_or legs i d).node < length x.costs.items)
+    ((get_or legs i d).node < nodes_of H) × ((get_or legs i d).node < length x.costs)
 own_leg H x v legs i d u e lt =
     let has = subst (λ xs. Contains xs (get_or legs i d)) e (Contains-get_or legs i d lt) in
     let node = (leg_up H u.levelled x.side v (get_or legs i d) has).node in

@@ -1,22 +1,22 @@
 -- One side of two searches settles a node.
-use Rattle.std.proofs.Common.{get_or, ◌≡◌, ℕ, ◌+◌, ◌^◌, ◌<◌, ◌≤◌, List, length, Option, Some, None, refl, sym, ◌∙◌, ap, subst, arith, set, inl, inr}
+use Rattle.std.proofs.Common.{◌≡◌, ℕ, ◌+◌, ◌^◌, ◌<◌, ◌≤◌, List, Option, Some, None, refl, sym, ◌∙◌, ap, subst, arith, set, inl, inr}
 use Rattle.std.proofs.lemmas.Option.{same_Some, none-some}
 use Rattle.ch_graph.specs.declared.limits.TheConstants.{MOST_WEIGHT, MOST_PATH_ARCS}
 use Rattle.ch_graph.specs.declared.cost.Cost.{Cost}
 use Rattle.ch_graph.specs.Cost.{IsAtMost, cost_sum, cost_at}
-use Rattle.ch_hierarchy.specs.Hierarchy.{LevelsAndLegs, nodes_of}
+use Rattle.ch_hierarchy.specs.Hierarchy.{LevelsAndLegs}
 use Rattle.ch_graph.proofs.CostOrder.{IsAtMost_refl, IsAtMost_trans, IsAtMost_antisymm}
 use Rattle.ch_query.specs.declared.search.Search.{Search}
 use Rattle.ch_query.specs.Search.{IsSettled, IsLeastKey, IsUpwardCost}
-use Rattle.ch_query.specs.TwoSided.{MeetsFirst, IsSeen}
+use Rattle.ch_query.specs.TwoSided.{MeetsFirst, IsSeen, LeadsKeys, IsPast}
 use Rattle.ch_query.specs.Underway.{IsSameSearch, IsUnderway, KeepsSettled}
 use Rattle.ch_query.specs.Side.{rows_of}
 use Rattle.ch_query.specs.Meeting.{IsLeastAfter, IsFoundBy, AreMeeting}
 use Rattle.ch_graph.proofs.CostSums.{cost_sum_comm}
 use Rattle.ch_query.proofs.one_side.Steps.{popped_settled}
-use Rattle.ch_query.proofs.one_side.Expanding.{reached_arcs, rows_size}
+use Rattle.ch_query.proofs.one_side.Expanding.{reached_arcs}
+use Rattle.ch_query.proofs.one_side.PathLaws.{below_then}
 use Rattle.ch_query.proofs.one_side.Popping.{with_queue, key_within}
-use Rattle.ch_query.proofs.one_side.Touched.{read}
 
 -- what comes before what comes before a third comes before it
 pub first_trans : (a b c : Cost × ℕ) → MeetsFirst a b → MeetsFirst b c → MeetsFirst a c
@@ -41,12 +41,22 @@ swapped H x y least m = record {
   found = λ e is. let f = m.found e is in (f.1, f.0, f.3, f.2, cost_sum_comm f.1 f.0 ∙ f.4);
 }
 
+-- where the queue that leads is past the least sum, so is the other
+past_both : (first second : List (Option Cost)) (least : Option (Cost × ℕ)) → LeadsKeys first second → IsPast first least → IsPast second least
+past_both first second least leads past v d k = let l = leads v d k in let p = past l.0 l.1 l.2 in (p.0, p.1, below_then p.0.0 l.1 d p.2 l.3)
+
+-- so where the side that leads stops, both are past it
+pub both_stopped : (x x' y : Search) (least least' : Option (Cost × ℕ)) → LeadsKeys x.queue y.queue → (x' ≡ x) × (least' ≡ least) × IsPast x.queue least → IsPast x'.queue least' × IsPast y.queue least'
+both_stopped x x' y least least' leads s =
+    let past : IsPast x.queue least' = subst (IsPast x.queue) (sym s.1) s.2 in
+    (subst (λ (z : Search). IsPast z.queue least') (sym s.0) past, past_both x.queue y.queue least' leads past)
+
 -- one side settles v at cost c
 module _ (H : LevelsAndLegs) (x y : Search) (least : Option (Cost × ℕ)) (m : AreMeeting H x y least) (q : List (Option Cost)) (v : ℕ) (c : Cost)
     (l : IsLeastKey x.queue v c) (e : q ≡ set x.queue v None)
-    (least' : Option (Cost × ℕ)) (met : IsLeastAfter (cost_at y.costs.items v) v c least least') where
+    (least' : Option (Cost × ℕ)) (met : IsLeastAfter (cost_at y.costs v) v c least least') where
   -- v is known at c here
-  known : cost_at x.costs.items v ≡ Some c
+  known : cost_at x.costs v ≡ Some c
   known = m.here.search.queued v c l.has
 
   -- what was known is covered
@@ -60,19 +70,19 @@ module _ (H : LevelsAndLegs) (x y : Search) (least : Option (Cost × ℕ)) (m : 
   gains (Some d) b e' is = subst (λ r. (f : Cost × ℕ) × (least' ≡ Some f) × MeetsFirst f (cost_sum c r, v)) (same_Some _ _ e') is.covers_new
 
   -- so are all sums of nodes that both settled
-  seen : IsSeen x.costs.items q y.costs.items y.queue least'
-  seen w a b h k = elim (popped_settled _ _ _ _ _ m.here.search v c l.has l.least (key_within x.queue v c l.has) w a (subst (λ r. IsSettled x.costs.items r w a) e h)) [
+  seen : IsSeen x.costs q y.costs y.queue least'
+  seen w a b h k = elim (popped_settled _ _ _ _ _ m.here.search v c l.has l.least (key_within x.queue v c l.has) w a (subst (λ r. IsSettled x.costs r w a) e h)) [
     | inl was ↦
         let old = m.seen w a b was k in
         let new = keeps _ met old.0 old.1 in
         (new.0, new.1, first_trans new.0 old.0 (cost_sum a b, w) new.2 old.2)
     | inr is ↦
-        let r = gains _ b (ap (cost_at y.costs.items) (sym is.0) ∙ k.0) met in
+        let r = gains _ b (ap (cost_at y.costs) (sym is.0) ∙ k.0) met in
         (r.0, r.1, subst (λ z. MeetsFirst r.0 (cost_sum a b, z)) (sym is.0) (subst (λ z. MeetsFirst r.0 (cost_sum z b, v)) (sym is.1) r.2))
   ]
 
   -- what is known now is the sum of two paths
-  found_at : (o : Option Cost) → cost_at y.costs.items v ≡ o → IsLeastAfter o v c least least' → IsFoundBy H x y least'
+  found_at : (o : Option Cost) → cost_at y.costs v ≡ o → IsLeastAfter o v c least least' → IsFoundBy H x y least'
   found_at None at is f e' = m.found f (sym is ∙ e')
   found_at (Some d) at is f e' = elim is.chosen [
     | inl new ↦
@@ -96,15 +106,9 @@ module _ (H : LevelsAndLegs) (x y : Search) (least : Option (Cost × ℕ)) (m : 
   }
 
 -- a known cost is within the limits
-pub known_arcs : (H : LevelsAndLegs) (x : Search) (v : ℕ) (c : Cost) → IsUnderway H x → cost_at x.costs.items v ≡ Some c → (c.weight ≤ MOST_WEIGHT) × (c.arcs ≤ MOST_PATH_ARCS)
+pub known_arcs : (H : LevelsAndLegs) (x : Search) (v : ℕ) (c : Cost) → IsUnderway H x → cost_at x.costs v ≡ Some c → (c.weight ≤ MOST_WEIGHT) × (c.arcs ≤ MOST_PATH_ARCS)
 known_arcs H x v c u known = let r = u.search.sound v c known in (r.weight, reached_arcs H u.levelled x.side x.source v c r)
 
--- so what both sides know of a node has room for its sum, where the program reads what the other side knows
-pub both_arcs : (H : LevelsAndLegs) (y : Search) (v : ℕ) (c d : Cost) (r : Option Cost) → IsUnderway H y → v < nodes_of H → c.arcs ≤ MOST_PATH_ARCS →
-    r ≡ get_or y.costs.items v r → r ≡ Some d → c.arcs + d.arcs < 2 ^ 64
-both_arcs H y v c d r u within few is known =
-    let size = u.search.sizes.0 in
-    let rows = rows_size H u.levelled y.side in
-    let lt : v < length y.costs.items = omega arith in
-    let there = (known_arcs H y v d u (sym (read y.costs.items v r lt is) ∙ known)).1 in
-    omega arith
+-- so what both sides know of a node has room for its sum
+pub both_arcs : (H : LevelsAndLegs) (y : Search) (v : ℕ) (c d : Cost) → IsUnderway H y → c.arcs ≤ MOST_PATH_ARCS → cost_at y.costs v ≡ Some d → c.arcs + d.arcs < 2 ^ 64
+both_arcs H y v c d u few known = let there = (known_arcs H y v d u known).1 in omega arith

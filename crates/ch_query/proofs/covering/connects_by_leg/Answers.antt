@@ -1,17 +1,13 @@
-use Rattle.std.proofs.Common.{arith, refl, sym, ◌∙◌}
+use Rattle.std.proofs.Common.{refl, sym}
 use Rattle.ch_hierarchy.proofs.theory.NoLeg.{no_leg}
 use Rattle.ch_query.proofs.two_sides.ConnectedSearches.{own_leg}
 use Rattle.ch_query.proofs.two_sides.MeetingSteps.{known_arcs}
-use Rattle.ch_query.proofs.one_side.Touched.{read}
 use Rattle.ch_query.proofs.covering.connects_by_leg.Goals as goal
 
-pub index-requires : goal.index-requires
-index-requires c =
+pub get-requires : goal.get-requires
+get-requires c =
     let a = c.args in
-    let leg = own_leg a.hierarchy.now a.here.now a.node _ c.loop-leg.leg-index no_leg c.requires.here c.legs-leg-items.ensures.row c.loop-leg-test.true in
-    let within = leg.1 in
-    let ok = a.here.now.costs.ok in
-    omega arith
+    (own_leg a.hierarchy.now a.here.now a.node _ c.loop-leg.leg-index no_leg c.requires.here c.legs-leg-items.ensures.row c.loop-leg-test.true).1
 
 pub connects-requires-clause-node : goal.connects-requires-clause-node
 connects-requires-clause-node c =
@@ -21,13 +17,11 @@ connects-requires-clause-node c =
 pub connects-requires-clause-cost : goal.connects-requires-clause-cost
 connects-requires-clause-cost c =
     let a = c.args in
-    let leg = own_leg a.hierarchy.now a.here.now a.node _ c.loop-leg.leg-index no_leg c.requires.here c.legs-leg-items.ensures.row c.loop-leg-test.true in
-    known_arcs a.hierarchy.now a.here.now _ c.in-Some.cost c.requires.here (sym (read _ _ _ leg.1 c.index.ensures) ∙ c.in-Some.is)
+    known_arcs a.hierarchy.now a.here.now _ c.in-Some.cost c.requires.here (sym c.in-Some.ensures)
 
 pub returns-then-connects : goal.returns-then-connects
 returns-then-connects c =
     let a = c.args in
-    let leg = own_leg a.hierarchy.now a.here.now a.node _ c.loop-leg.leg-index no_leg c.requires.here c.legs-leg-items.ensures.row c.loop-leg-test.true in
-    let known = sym (read _ _ _ leg.1 c.index.ensures) ∙ c.in-Some.is in
+    let known = sym c.in-Some.ensures in
     let there = c.if-connects.ensures.connected refl in
     λ _. (_, c.in-Some.cost, there.0, c.requires.here.search.sound _ _ known, c.requires.there.search.sound _ _ there.1, there.2)

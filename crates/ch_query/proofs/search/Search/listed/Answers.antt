@@ -1,30 +1,28 @@
-use Rattle.std.proofs.Common.{get_or, ◌∙◌, ap, arith}
+use Rattle.std.proofs.Common.{◌∙◌, ap, arith}
 use Rattle.std.specs.Prelude.{vec_capacity}
-use Rattle.ch_query.proofs.one_side.Touched.{some_within, read}
+use Rattle.ch_query.proofs.one_side.Touched.{some_within}
 use Rattle.ch_query.proofs.one_side.Spreads.{item_known, listed_step, unknown}
 use Rattle.ch_query.proofs.search.Search.listed.Goals as goal
 use Rattle.ch_query.proofs.search.Search.listed.Goals.{in-Some, in_default}
 
-pub index-requires : goal.index-requires
-index-requires c =
+pub get-requires : goal.get-requires
+get-requires c =
     let me = c.args.self.now in
     let nodes = c.deref-node-items in
-    let known = item_known me.costs.items me.touched nodes.result.now c.loop-node.node-index c.requires.touched nodes.ensures.value c.loop-node-test.true in
-    let lt = some_within me.costs.items _ known in
-    let ok = me.costs.ok in
-    omega arith
+    let known = item_known me.costs me.touched nodes.result.now c.loop-node.node-index c.requires.touched nodes.ensures.value c.loop-node-test.true in
+    some_within me.costs _ known
 
 pub loop-node-preserved : goal.loop-node-preserved
 loop-node-preserved c =
     let me = c.args.self.now in
     let nodes = c.deref-node-items in
-    let known = item_known me.costs.items me.touched nodes.result.now c.loop-node.node-index c.requires.touched nodes.ensures.value c.loop-node-test.true in
-    let cost = read me.costs.items (get_or nodes.result.now c.loop-node.node-index 0) c.index.result.now (some_within _ _ known) c.index.ensures in
-    elim c.match-index.branch [
+    let known = item_known me.costs me.touched nodes.result.now c.loop-node.node-index c.requires.touched nodes.ensures.value c.loop-node-test.true in
+    let cost = c.get.ensures in
+    elim c.match-get.branch [
       | in-Some w ↦ (
         listed_step _ _ _ _ _ _ _ _ nodes.ensures.value c.loop-node-test.true cost w.in-Some.is c.loop-node.invariant.0
             (ap (λ v. v.items) w.list-is ∙ w.push_reserved.ensures.items),
         (let a = c.loop-node.invariant.1 in let b = w.push_reserved.ensures.capacity in let d = ap vec_capacity w.list-is in omega arith),
       )
-      | in_default w ↦ absurd (unknown _ c.index.result.now cost known w.in_default.not-Some)
+      | in_default w ↦ absurd (unknown _ c.get.result cost known w.in_default.not-Some)
     ]

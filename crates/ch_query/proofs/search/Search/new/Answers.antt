@@ -1,5 +1,7 @@
-use Rattle.std.proofs.Common.{rules, arith, ◌≡◌, replicate, None, ap, sym, ◌∙◌}
+use Rattle.std.proofs.Common.{rules, arith, ◌≡◌, length, replicate, Option, None, ap, sym, ◌∙◌}
 use Rattle.std.proofs.lemmas.Option.{none-some}
+use Rattle.std.proofs.lemmas.List.{length-replicate}
+use Rattle.ch_graph.specs.declared.cost.Cost.{Cost}
 use Rattle.ch_graph.specs.Cost.{cost_at}
 use Rattle.ch_query.proofs.one_side.Touched.{none_known, untouched}
 use Rattle.ch_query.proofs.search.Search.new.Goals as goal
@@ -7,10 +9,13 @@ use Rattle.ch_query.proofs.search.Search.new.Goals as goal
 pub returns-clause-clean : goal.returns-clause-clean
 returns-clause-clean c =
     let t = c.in_ok-touched.ensures in
-    let costs : c.in_ok-costs.costs.items ≡ replicate c.args.nodes None = search rules in
+    let costs : c.in_ok-costs.costs ≡ replicate c.args.nodes None = c.in_ok-costs.ensures in
+    let size : length c.in_ok-costs.costs ≡ c.args.nodes = ap length costs ∙ length-replicate {A = Option Cost} c.args.nodes None in
+    let keys : length c.in_ok-queue.queue ≡ c.args.nodes = ap length c.in_ok-queue.ensures ∙ length-replicate {A = Option Cost} c.args.nodes None in
+    let parents : length c.in_ok-parents.parents.items ≡ c.args.nodes = search rules in
     record {
-      nodes = search rules;
-      room = record { queue = search rules; parents = search rules; touched = untouched c.args.nodes _ _ costs t.items t.len t.capacity; most = omega arith };
+      nodes = size;
+      room = record { queue = keys ∙ sym size; parents = parents ∙ sym size; touched = untouched c.args.nodes _ _ costs t.items t.len t.capacity; most = omega arith };
       queue = λ v k e. none-some k (sym (ap (λ q. cost_at q v) c.in_ok-queue.ensures ∙ none_known c.args.nodes v) ∙ e);
       nothing = t.len;
     }
