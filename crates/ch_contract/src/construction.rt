@@ -66,7 +66,7 @@ pub fn build_by<R: Threads + Sync, G: Gate>(
     while let Some(node) = construction.next() {
         construction = construction.contract(rt, alloc, node, hops, by, plan, gate)?;
     }
-    construction.finish()
+    Ok(construction.finish())
 }
 
 /// A hierarchy of which some nodes are contracted.
@@ -196,11 +196,11 @@ impl Construction {
         Ok(self)
     }
 
-    /// The hierarchy, once every node is contracted. What it doesn't need is freed before its rows are made.
-    fn finish(self) -> Result<Hierarchy, AllocError>
+    /// The hierarchy, once every node is contracted. What it doesn't need is freed first.
+    fn finish(self) -> Hierarchy
         requires sizes { IsSized self }
         requires levelled { (H : LevelsAndLegs) → AreAll self.remaining.nodes (progress_of self) H → IsLevelled H }
-        ensures { IfOk result (AreAll self.remaining.nodes (progress_of self)) }
+        ensures { AreAll self.remaining.nodes (progress_of self) result }
     {
         let Construction {
             remaining,
@@ -213,7 +213,7 @@ impl Construction {
         drop(room);
         drop(waiting);
         drop(depths);
-        let BothRows { ups, downs } = remaining.into_rows()?;
-        Ok(Hierarchy::from_rows(levels, ups, downs))
+        let BothRows { ups, downs } = remaining.into_rows();
+        Hierarchy::from_rows(levels, ups, downs)
     }
 }

@@ -8,7 +8,7 @@ ghost use Rattle.ch_contract.specs.LegRows.{row_leg, label_of};
 ghost use Rattle.ch_contract.specs.LegLists.{AreRows, HaveAll, IsEdited, IsReplaced, IsSet, AreOverridden, legs_from, legs_into, lighter_arc};
 
 use crate::shortcut::Shortcut;
-use ch_graph::{Cost, Rows};
+use ch_graph::Cost;
 use ch_hierarchy::Leg;
 use ch_lists::Lists;
 use std::alloc::{AllocError, Global};
@@ -129,24 +129,11 @@ impl LegLists {
         self.lists.hand_over(node, self.nodes + node);
     }
 
-    /// The legs that were set aside, a row for each node.
-    pub(crate) fn aside_rows(&self, alloc: Global) -> Result<Rows<Leg>, AllocError>
-        ensures { IfOk result (λ rows. rows ≡ self.now.aside) }
+    /// The lists that were set aside, one for each node.
+    pub(crate) fn into_aside(self) -> Lists<Leg>
+        ensures { result ≡ self.aside }
     {
-        let mut rows = Rows::with_room(alloc, self.nodes, self.count_aside())?;
-        for node in 0..self.nodes {
-            rows.push(self.lists.at(self.nodes + node))?;
-        }
-        Ok(rows)
-    }
-
-    /// How many legs were set aside.
-    fn count_aside(&self) -> usize {
-        let mut count = 0usize;
-        for node in 0..self.nodes {
-            count = count.saturating_add(self.lists.at(self.nodes + node).len());
-        }
-        count
+        self.lists.skip(self.nodes)
     }
 }
 

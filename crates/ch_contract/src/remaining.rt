@@ -7,7 +7,7 @@ mod opening;
 mod shortcuts;
 mod witnesses;
 
-ghost use Rattle.std.specs.Prelude.{◌≡◌, ◌<◌, ◌≤◌, IsTrue, IfOk};
+ghost use Rattle.std.specs.Prelude.{◌≡◌, ◌<◌, ◌≤◌, IsTrue};
 ghost use Rattle.ch_graph.specs.declared.limits.TheConstants.{MOST_NODES};
 ghost use Rattle.ch_contract.specs.declared.held_cost.TheConstants.{MOST_LIGHT};
 ghost use Rattle.ch_hierarchy.specs.Rows.{row};
@@ -17,8 +17,8 @@ ghost use Rattle.ch_contract.specs.KnownCosts.{AreLegsUpTo};
 ghost use Rattle.ch_contract.specs.Remaining.{legs_of};
 
 use crate::leg_lists::LegLists;
-use ch_graph::Rows;
 use ch_hierarchy::Leg;
+use ch_lists::Lists;
 pub use contraction::Removed;
 use std::alloc::{AllocError, Global};
 use std::marker::Model;
@@ -102,29 +102,21 @@ impl Remaining {
         self.ins.aside(v)
     }
 
-    /// The legs from each node when it was contracted, and those to it. What they were copied from is freed before the next
-    /// are.
-    pub(crate) fn into_rows(self) -> Result<BothRows, AllocError>
-        ensures up { IfOk result (λ r. r.ups ≡ self.ups) }
-        ensures down { IfOk result (λ r. r.downs ≡ self.downs) }
+    /// The legs from each node when it was contracted, and those to it. No leg is copied.
+    pub(crate) fn into_rows(self) -> BothRows
+        ensures up { result.ups ≡ self.ups }
+        ensures down { result.downs ≡ self.downs }
     {
-        let Remaining {
-            nodes: _,
-            outs,
-            ins,
-            light: _,
-            alloc,
-        } = self;
-        let ups = outs.aside_rows(alloc)?;
-        drop(outs);
-        let downs = ins.aside_rows(alloc)?;
-        Ok(BothRows { ups, downs })
+        BothRows {
+            ups: self.outs.into_aside(),
+            downs: self.ins.into_aside(),
+        }
     }
 }
 
 /// The rows of a hierarchy: the legs from each node to higher ones, and those from higher ones to it.
 #[derive(Drop)]
 pub(crate) struct BothRows {
-    pub(crate) ups: Rows<Leg>,
-    pub(crate) downs: Rows<Leg>,
+    pub(crate) ups: Lists<Leg>,
+    pub(crate) downs: Lists<Leg>,
 }

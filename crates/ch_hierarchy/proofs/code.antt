@@ -4,3 +4,4 @@ pub mod Doubled
 pub mod OrderLevels
 pub mod PairFaults
 pub mod PlacedRows
+pub mod PushedRows

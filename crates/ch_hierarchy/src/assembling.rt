@@ -12,7 +12,7 @@ use crate::doubles::first_twin;
 use crate::fault::{CheckError, CheckFault};
 use crate::hierarchy::Hierarchy;
 use crate::placing::{PlacedLegs, place_legs};
-use crate::sorting::leg_rows;
+use crate::sorting::leg_lists;
 use ch_graph::limits::MOST_WEIGHT;
 use ch_graph::{Graph, Saved, SavedLeg};
 use std::alloc::{AllocError, Global};
@@ -41,8 +41,8 @@ pub fn assemble(alloc: Global, graph: &Graph, saved: &Saved) -> Result<Hierarchy
     if let Some(place) = first_past_bounds(nodes, legs) {
         return Err(CheckError::Fault(CheckFault::Bound(place)));
     }
-    let ups = leg_rows(alloc, nodes, legs, pairs.ups.as_slice())?;
-    let downs = leg_rows(alloc, nodes, legs, pairs.downs.as_slice())?;
+    let ups = leg_lists(alloc, nodes, legs, pairs.ups.as_slice())?;
+    let downs = leg_lists(alloc, nodes, legs, pairs.downs.as_slice())?;
     Ok(Hierarchy::from_rows(levels, ups, downs))
 }
 

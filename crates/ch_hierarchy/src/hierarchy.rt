@@ -4,7 +4,7 @@ ghost use Rattle.ch_hierarchy.specs.Rows.{row};
 ghost use Rattle.ch_hierarchy.specs.Hierarchy.{nodes_of, IsLevelled};
 
 use crate::leg::Leg;
-use ch_graph::Rows;
+use ch_lists::Lists;
 use std::marker::Model;
 
 /// A contraction hierarchy: each node has a level, from 1 to the number of nodes, and legs to and from
@@ -12,8 +12,9 @@ use std::marker::Model;
 #[derive(Drop)]
 pub struct Hierarchy {
     levels: Vec<u32>,
-    ups: Rows<Leg>,
-    downs: Rows<Leg>,
+    /// A list of legs for each node.
+    ups: Lists<Leg>,
+    downs: Lists<Leg>,
 }
 
 impl Model for Hierarchy {
@@ -28,7 +29,7 @@ impl Model for Hierarchy {
 
 impl Hierarchy {
     /// The hierarchy of these levels and rows.
-    pub fn from_rows(levels: Vec<u32>, ups: Rows<Leg>, downs: Rows<Leg>) -> Hierarchy
+    pub fn from_rows(levels: Vec<u32>, ups: Lists<Leg>, downs: Lists<Leg>) -> Hierarchy
         requires { IsLevelled (record { level = levels.items; up = ups; down = downs }) }
         ensures { result ≡ record { level = levels.items; up = ups; down = downs } }
     {
@@ -58,7 +59,7 @@ impl Hierarchy {
         ensures row { result.now ≡ row self.now.up v }
         ensures levelled { IsLevelled self.now }
     {
-        self.ups.row(v)
+        self.ups.at(v)
     }
 
     /// The legs from higher nodes to `v`, ordered by node.
@@ -67,6 +68,6 @@ impl Hierarchy {
         ensures row { result.now ≡ row self.now.down v }
         ensures levelled { IsLevelled self.now }
     {
-        self.downs.row(v)
+        self.downs.at(v)
     }
 }

@@ -1,7 +1,7 @@
 //! Contraction hierarchies (Geisberger, Sanders, Schultes and Delling 2008), whoever made them: levels, legs, what
 //! makes them right for a graph, and saved ones.
 //!
-//! It stands on ch_graph. Proved of it: in a hierarchy that is kept for a graph, of any origin, going up and then
+//! It stands on ch_graph and ch_lists. Proved of it: in a hierarchy that is kept for a graph, of any origin, going up and then
 //! down costs least what a walk costs least ([`laws::kept`]); [`assemble`] makes the one hierarchy that a saved
 //! order and legs name, or tells their first fault ([`laws::saved`]).
 #![tactic(auto)]

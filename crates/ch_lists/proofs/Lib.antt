@@ -4,3 +4,4 @@ pub mod Edited
 pub mod Changed
 pub mod Read
 pub mod Handed
+pub mod Skipped

@@ -1,5 +1,5 @@
 //! Lists of values in one array.
-ghost use Rattle.std.specs.Prelude.{◌≡◌, ◌≢◌, ◌^◌, ◌<◌, ◌≤◌, [], length, replicate, IfOk, OnOk, OnErr, slice_index_or, slice_set};
+ghost use Rattle.std.specs.Prelude.{◌≡◌, ◌≢◌, ◌^◌, ◌<◌, ◌≤◌, [], drop, length, replicate, IfOk, OnOk, OnErr, slice_index_or, slice_set};
 ghost use Rattle.std.specs.List.{insert, remove};
 
 use crate::place::{self, Place};
@@ -11,7 +11,7 @@ use std::marker::Model;
 ///
 /// A list that has filled its room moves behind all others, to a room for half as many values more and two,
 /// and its old room stays unused. An insert or a removal moves the values behind it in the list by one; the
-/// other methods, but `with_rooms`, take O(1) steps.
+/// other methods, but `with_rooms` and `skip`, take O(1) steps.
 #[derive(Drop)]
 pub struct Lists<T: Copy> {
     values: Vec<T>,
@@ -104,5 +104,17 @@ impl<T: Copy> Lists<T> {
         let place = self.places[from as usize];
         self.places[from as usize] = place::NOWHERE;
         self.places[to as usize] = place;
+    }
+    /// The lists but for the first `count`, numbered from 0 anew. No value is copied, and the room of the lists that are
+    /// left out stays unused. It takes a step for each list.
+    pub fn skip(self, count: u32) -> Lists<T>
+        requires { count ≤ length self }
+        ensures { result ≡ drop count self }
+    {
+        let Lists { values, mut places } = self;
+        places.copy_within(count as usize.., 0);
+        places.truncate(places.len() - count as usize);
+        places.shrink_to_fit();
+        Lists { values, places }
     }
 }

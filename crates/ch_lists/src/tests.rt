@@ -29,6 +29,21 @@ fn inserts_removes_and_hands_over(rt: HostRuntime) -> Result<(), Fail> {
 }
 
 #[test]
+fn skips_the_first(rt: HostRuntime) -> Result<(), Fail> {
+    let mut lists = Lists::with_rooms(rt.alloc(), &[1, 1, 0], 'a')?;
+    lists.insert(0, 0, 'b')?;
+    lists.insert(2, 0, 'c')?;
+    let mut rest = lists.skip(1);
+    assert_eq!(rt; rest.list_count(), 2);
+    rest.insert(0, 0, 'd')?;
+    rest.insert(1, 1, 'e')?;
+    assert_eq!(rt; rest.at(0), ['d'].as_slice());
+    assert_eq!(rt; rest.at(1), ['c', 'e'].as_slice());
+    assert_eq!(rt; rest.skip(2).list_count(), 0);
+    Ok(())
+}
+
+#[test]
 fn holds_no_lists(rt: HostRuntime) -> Result<(), Fail> {
     let lists = Lists::with_rooms(rt.alloc(), &[], 0u64)?;
     assert_eq!(rt; lists.list_count(), 0);

@@ -31,8 +31,8 @@ returns-in-Some-first_past_bounds c =
     (no_pair_fault c.nodes-nodes.result c.as_slice.result.now c.as_slice-2.result.now found.0 are c.as_slice-legs.result.now _ _ c.in_ok-pairs.ensures.pairs) c.in-Some-first_past_bounds.place c.in-Some-first_past_bounds.ensures) in
     record { value = both.0; fault = both.1 }
 
-pub leg_rows-requires : goal.leg_rows-requires
-leg_rows-requires c =
+pub leg_lists-requires : goal.leg_lists-requires
+leg_lists-requires c =
     let pairs = c.in_ok-pairs.ensures.pairs in
     let side = side_below c.nodes-nodes.result from_of to_of c.as_slice-2.result.now c.as_slice-legs.result.now _ pairs.up (λ l k. let j = pairs.joins l k in (j.0, j.1)) in
     record {
@@ -40,8 +40,8 @@ leg_rows-requires c =
       places = λ e h. (side e (subst (λ q. Contains q e) c.as_slice-3.ensures.value h)).1;
     }
 
-pub leg_rows-requires-2 : goal.leg_rows-requires-2
-leg_rows-requires-2 c =
+pub leg_lists-requires-2 : goal.leg_lists-requires-2
+leg_lists-requires-2 c =
     let pairs = c.in_ok-pairs.ensures.pairs in
     let side = side_below c.nodes-nodes.result to_of from_of c.as_slice-2.result.now c.as_slice-legs.result.now _ pairs.down (λ l k. let j = pairs.joins l k in (j.1, j.0)) in
     record {
