@@ -42,6 +42,7 @@ pub fn assemble(alloc: Global, graph: &Graph, saved: &Saved) -> Result<Hierarchy
         return Err(CheckError::Fault(CheckFault::Bound(place)));
     }
     let ups = leg_lists(alloc, nodes, legs, pairs.ups.as_slice())?;
+    drop(pairs.ups);
     let downs = leg_lists(alloc, nodes, legs, pairs.downs.as_slice())?;
     Ok(Hierarchy::from_rows(levels, ups, downs))
 }

@@ -1,13 +1,12 @@
 -- The least place of a double.
-use Rattle.std.proofs.Common.{◌≡◌, ℕ, ◌+◌, ◌<◌, ◌≤◌, ◌⊎◌, inl, inr, List, [], length, get_or, Option, Some, None, refl, sym, ◌∙◌, ap, subst, arith}
-use Rattle.std.proofs.lemmas.Bool.{cases_lt}
-use Rattle.std.proofs.lemmas.Option.{same_Some, none-some}
-use Rattle.std.proofs.lemmas.List.{get_or_default}
-use Rattle.ch_hierarchy.specs.declared.placing.Placed.{Placed}
-use Rattle.std.specs.Prelude.{AllPairs, Contains, ◌-◌}
+use Rattle.std.proofs.Common.{◌≡◌, ℕ, ◌+◌, ◌<◌, ◌≤◌, ◌⊎◌, inl, inr, List, [], length, set, get_or, replicate, Option, refl, sym, ◌∙◌, ap, subst, arith}
+use Rattle.std.specs.Prelude.{AllPairs, Contains, slice_index}
+use Rattle.std.proofs.lemmas.Bool.{cases_eq, cases_lt}
+use Rattle.std.proofs.lemmas.List.{get_or_default, length-set, length-replicate, get_or-set_same, get_or-set_other, get_or-replicate}
 use Rattle.std.proofs.lemmas.List.Elements.{Contains-get_or}
-use Rattle.ch_hierarchy.specs.Sorting.{AreInOrder, AreSorted}
-use Rattle.ch_hierarchy.specs.Doubles.{IsLessened, IsTwin, IsDouble, IsDoubleIn}
+use Rattle.ch_hierarchy.specs.declared.placing.Placed.{Placed}
+use Rattle.ch_hierarchy.specs.Sorting.{AreInOrder, AreSorted, IsPlacedBelow}
+use Rattle.ch_hierarchy.specs.Doubles.{IsLessened, IsTwin}
 
 -- nothing new
 pub lessened_none : (D : ℕ → Type 0) (known : Option ℕ) → ((q : ℕ) → D q → ⊥) → IsLessened D known known
@@ -28,90 +27,9 @@ lessened_twice D E F a b c x y split left right = record {
   ];
 }
 
--- the doubles among the first i entries
-abbrev pub IsDoubleBelow : List Placed → ℕ → ℕ → Type 0
-IsDoubleBelow row i p =
-    (j : ℕ) × (d : Placed) × (j + 1 < i) × (j + 1 < length row) × ((get_or row j d).higher ≡ (get_or row (j + 1) d).higher) × ((get_or row (j + 1) d).place ≡ p)
-
--- the higher node of the entry before place i
-abbrev pub IsBefore : List Placed → ℕ → Option ℕ → Type 0
-IsBefore row i before = ((i ≡ 0) × (before ≡ None)) ⊎ ((j : ℕ) × (i ≡ j + 1) × ((d : Placed) → before ≡ Some (get_or row j d).higher))
-
--- the doubles of the first n rows
-abbrev pub IsDoubleInFirst : List (List Placed) → ℕ → ℕ → Type 0
-IsDoubleInFirst rows n p = (v : ℕ) × (v < n) × (v < length rows) × IsDouble (get_or rows v []) p
-
--- one row more
-pub row_more : (rows : List (List Placed)) (n : ℕ) (a b c : Option ℕ) → n < length rows → IsLessened (IsDoubleInFirst rows n) a b → IsLessened (IsDouble (get_or rows n [])) b c → IsLessened (IsDoubleInFirst rows (n + 1)) a c
-row_more rows n a b c lt x y = lessened_twice (IsDoubleInFirst rows n) (IsDouble (get_or rows n [])) (IsDoubleInFirst rows (n + 1)) a b c x y
-    (λ q f. elim (cases_lt f.0 n) [
-      | inl less ↦ inl (f.0, less, f.2, f.3)
-      | inr ge ↦ (let less = f.1 in let same : f.0 ≡ n = omega arith in inr (subst (λ k. IsDouble (get_or rows k []) q) same f.3))
-    ])
-    (λ q d. (d.0, (let less = d.1 in omega arith), d.2, d.3))
-    (λ q d. (n, omega arith, lt, d))
-
--- all rows
-pub rows_all : (rows : List (List Placed)) (n : ℕ) (a b : Option ℕ) → length rows ≤ n → IsLessened (IsDoubleInFirst rows n) a b → IsLessened (IsDoubleIn rows) a b
-rows_all rows n a b le x = record {
-  is = λ p e. elim (x.is p e) [ inl known ↦ inl known | inr d ↦ inr (d.0, d.2, d.3) ];
-  covers_known = x.covers_known;
-  covers_new = λ q d. x.covers_new q (d.0, (let lt = d.1 in omega arith), d.1, d.2);
-}
-
--- one entry more, which is a double
-pub entry_double : (row : List Placed) (i : ℕ) (before : Option ℕ) (a b c : Option ℕ) (e : Placed) → i < length row → IsBefore row i before → before ≡ Some (get_or row i e).higher →
-    IsLessened (IsDoubleBelow row i) a b → IsLessened (λ q. q ≡ (get_or row i e).place) b c → IsLessened (IsDoubleBelow row (i + 1)) a c
-entry_double row i before a b c e lt was same x y = lessened_twice (IsDoubleBelow row i) (λ q. q ≡ (get_or row i e).place) (IsDoubleBelow row (i + 1)) a b c x y
-    (λ q f. elim (cases_lt (f.0 + 1) i) [
-      | inl less ↦ inl (f.0, f.1, less, f.3, f.4, f.5)
-      | inr ge ↦ (let less = f.2 in let here : f.0 + 1 ≡ i = omega arith in
-          inr (sym f.5 ∙ ap (λ (k : Placed). k.place) (ap (λ k. get_or row k f.1) here ∙ get_or_default row i f.1 e lt)))
-    ])
-    (λ q d. (d.0, d.1, (let less = d.2 in omega arith), d.3, d.4, d.5))
-    (λ q is. new q is was)
-  where
-    new : (q : ℕ) → q ≡ (get_or row i e).place → IsBefore row i before → IsDoubleBelow row (i + 1) q
-    new q is (inl first) = absurd (none-some _ (sym first.1 ∙ same))
-    new q is (inr prior) =
-        let at : prior.0 + 1 ≡ i = sym prior.1 in (
-          prior.0,
-          e,
-          omega arith,
-          subst (λ k. k < length row) (sym at) lt,
-          same_Some _ _ (sym (prior.2 e) ∙ same) ∙ ap (λ k. (get_or row k e).higher) (sym at),
-          ap (λ k. (get_or row k e).place) at ∙ sym is,
-        )
-
--- one entry more, which is none
-pub entry_single : (row : List Placed) (i : ℕ) (before : Option ℕ) (a b : Option ℕ) (e : Placed) → i < length row → IsBefore row i before → (before ≡ Some (get_or row i e).higher → ⊥) →
-    IsLessened (IsDoubleBelow row i) a b → IsLessened (IsDoubleBelow row (i + 1)) a b
-entry_single row i before a b e lt was other x = record {
-  is = λ p h. elim (x.is p h) [ inl known ↦ inl known | inr d ↦ inr (d.0, d.1, (let less = d.2 in omega arith), d.3, d.4, d.5) ];
-  covers_known = x.covers_known;
-  covers_new = λ q f. elim (cases_lt (f.0 + 1) i) [
-    | inl less ↦ x.covers_new q (f.0, f.1, less, f.3, f.4, f.5)
-    | inr ge ↦ (let less = f.2 in let here : f.0 + 1 ≡ i = omega arith in absurd (differ f.0 f.1 here f.4 was))
-  ];
-}
-  where
-    differ : (j : ℕ) (d : Placed) → j + 1 ≡ i → (get_or row j d).higher ≡ (get_or row (j + 1) d).higher → IsBefore row i before → ⊥
-    differ j d here twin (inl first) = (let z = first.0 in absurd (omega arith))
-    differ j d here twin (inr prior) =
-        let same : prior.0 ≡ j = (let p = prior.1 in omega arith) in
-        other (prior.2 d ∙ ap Some (ap (λ k. (get_or row k d).higher) same ∙ twin ∙ ap (λ (k : Placed). k.higher) (ap (λ k. get_or row k d) here ∙ get_or_default row i d e lt)))
-
--- after an entry it is the one before
-pub before_next : (row : List Placed) (i : ℕ) (e : Placed) → i < length row → IsBefore row (i + 1) (Some (get_or row i e).higher)
-before_next row i e lt = inr (i, refl, λ d. ap Some (ap (λ (k : Placed). k.higher) (get_or_default row i e d lt)))
-
--- all entries
-pub entries_all : (row : List Placed) (i : ℕ) (a b : Option ℕ) → length row ≤ i → IsLessened (IsDoubleBelow row i) a b → IsLessened (IsDouble row) a b
-entries_all row i a b le x = record {
-  is = λ p e. elim (x.is p e) [ inl known ↦ inl known | inr d ↦ inr (d.0, d.1, d.3, d.4, d.5) ];
-  covers_known = x.covers_known;
-  covers_new = λ q d. x.covers_new q (d.0, d.1, (let lt = d.2 in omega arith), d.2, d.3, d.4);
-}
+-- two neighbours of the row have one higher node, and the later has place p
+abbrev pub IsDouble : List Placed → ℕ → Type 0
+IsDouble row p = (i : ℕ) × (d : Placed) × (i + 1 < length row) × ((get_or row i d).higher ≡ (get_or row (i + 1) d).higher) × ((get_or row (i + 1) d).place ≡ p)
 
 -- a row by higher node and then by place
 module _ (row : List Placed) (sorted : AreInOrder row) where
@@ -143,34 +61,6 @@ module _ (row : List Placed) (sorted : AreInOrder row) where
     h.4,
   )
 
-  -- and where there is one it is a double
-  pub before_double : (a b : Placed) → Contains row a → Contains row b → a.higher ≡ b.higher → a.place < b.place → IsDouble row b.place
-  before_double a b h k same less = at k.0 k.1 (sym (get_or_default row k.0 b a k.1) ∙ k.2)
-    where
-      at : (j : ℕ) → j < length row → get_or row j a ≡ b → IsDouble row b.place
-      at j lt is = elim (cases_lt h.0 j) [
-        | inl before ↦
-            let prior : ℕ = j - 1 in
-            let next : prior + 1 ≡ j = omega arith in
-            let low = no_fall h.0 prior a (omega arith) (omega arith) in
-            let high = no_fall prior j a (omega arith) lt in
-            let first = ap (λ (q : Placed). q.higher) h.2 in
-            let last = ap (λ (q : Placed). q.higher) is in (
-              prior,
-              a,
-              omega arith,
-              subst (λ q. (get_or row prior a).higher ≡ (get_or row q a).higher) (sym next) (omega arith),
-              ap (λ q. (get_or row q a).place) next ∙ ap (λ (q : Placed). q.place) is,
-            )
-        | inr after ↦ absurd (elim (cases_lt j h.0) [
-          | inl less' ↦ elim (sorted j h.0 a less' h.1) [
-            | inl rise ↦ (let x = ap (λ (q : Placed). q.higher) is in let y = ap (λ (q : Placed). q.higher) h.2 in omega arith)
-            | inr later ↦ (let x = ap (λ (q : Placed). q.place) is in let y = ap (λ (q : Placed). q.place) h.2 in let z = later.1 in omega arith)
-          ]
-          | inr ge ↦ (let one : j ≡ h.0 = omega arith in let x = ap (λ (q : Placed). q.place) (sym is ∙ ap (λ q. get_or row q a) one ∙ h.2) in omega arith)
-        ])
-      ]
-
 -- the rows by lower node of entries in order
 module _ (n : ℕ) (entries : List Placed) (rows : List (List Placed)) (sorted : AreSorted n entries rows) where
   -- a double is a twin
@@ -181,20 +71,167 @@ module _ (n : ℕ) (entries : List Placed) (rows : List (List Placed)) (sorted :
       let b = (sorted.each v t.1 lt).0 t.3 in
       (t.0, t.1, a.0, b.0, a.1 ∙ sym b.1, t.4, t.5, t.6)
 
-  -- and a twin is a double
-  double_of_twin : ((e : Placed) → Contains entries e → e.lower < n) → (p : ℕ) → IsTwin entries p → IsDoubleIn rows p
-  double_of_twin below p t =
-      let v = t.1.lower in
-      let lt = below t.1 t.3 in
-      let row = get_or rows v [] in
-      let a = (sorted.each v t.0 lt).1 (t.2, t.4) in
-      let b = (sorted.each v t.1 lt).1 (t.3, refl) in
-      (v, (let c = sorted.count in omega arith), subst (IsDouble row) t.7 (before_double row (sorted.order v lt) t.0 t.1 a b t.5 t.6))
+-- the entry at place p has the two nodes of an entry before it, among the first i
+abbrev pub IsTwinBelow : List Placed → ℕ → ℕ → Type 0
+IsTwinBelow entries i p =
+    (j k : ℕ) × (d : Placed) × (j < k) × (k < i) × (k < length entries) × ((get_or entries j d).lower ≡ (get_or entries k d).lower) × ((get_or entries j d).higher ≡ (get_or entries k d).higher) × ((get_or entries k d).place ≡ p)
 
-  -- so the least of the ones is the least of the others
-  pub twins_lessened : ((e : Placed) → Contains entries e → e.lower < n) → (known result : Option ℕ) → IsLessened (IsDoubleIn rows) known result → IsLessened (IsTwin entries) known result
-  twins_lessened below known result l = record {
-    is = λ p e. elim (l.is p e) [ inl was ↦ inl was | inr d ↦ inr (twin_of_double d.0 p (let lt = d.1 in let c = sorted.count in omega arith) d.2) ];
-    covers_known = l.covers_known;
-    covers_new = λ q t. l.covers_new q (double_of_twin below q t);
+-- of the first i entries one has these two nodes
+abbrev pub IsMet : List Placed → ℕ → ℕ → ℕ → Type 0
+IsMet entries i lower higher = (j : ℕ) × (d : Placed) × (j < i) × (j < length entries) × ((get_or entries j d).lower ≡ lower) × ((get_or entries j d).higher ≡ higher)
+
+-- the higher node of the last of the first i entries of each lower node, and n where there is none
+pub record AreLast (n : ℕ) (entries : List Placed) (i : ℕ) (last : List ℕ) : Type 0 where
+  pub size : length last ≡ n
+  pub met : (v : ℕ) → v < n → slice_index last v < n → IsMet entries i v (slice_index last v)
+  pub most : (v h : ℕ) → v < n → IsMet entries i v h → (slice_index last v < n) × (h ≤ slice_index last v)
+
+-- entries by higher node and then by place
+module _ (n : ℕ) (entries : List Placed) (order : AreInOrder entries) (below : (e : Placed) → Contains entries e → IsPlacedBelow n e) where
+  -- none before the first
+  pub none_met : (last : List ℕ) → last ≡ replicate n n → AreLast n entries 0 last
+  none_met last is = record {
+    size = ap length is ∙ length-replicate n n;
+    met = λ v lt less. (let at = ap (λ l. slice_index l v) is ∙ get_or-replicate n v n 0 lt in absurd (omega arith));
+    most = λ v h lt m. absurd (let less = m.2 in omega arith);
   }
+
+  module _ (i : ℕ) (last : List ℕ) (e : Placed) (within : i < length entries) (are : AreLast n entries i last) where
+    nodes : IsPlacedBelow n (get_or entries i e)
+    nodes = below (get_or entries i e) (Contains-get_or entries i e within)
+
+    -- the higher node that is at the lower one is that of an earlier entry
+    pub met_before : slice_index last (get_or entries i e).lower ≡ (get_or entries i e).higher → IsMet entries i (get_or entries i e).lower (get_or entries i e).higher
+    met_before same = (let b = nodes in subst (IsMet entries i (get_or entries i e).lower) same (are.met (get_or entries i e).lower b.0 (let h = b.1 in omega arith)))
+
+    -- where it is another, no earlier entry has both nodes
+    pub none_before : (slice_index last (get_or entries i e).lower ≡ (get_or entries i e).higher → ⊥) → IsMet entries i (get_or entries i e).lower (get_or entries i e).higher → ⊥
+    none_before other m =
+        let b = nodes in
+        let top = are.most (get_or entries i e).lower (get_or entries i e).higher b.0 m in
+        let k = are.met (get_or entries i e).lower b.0 top.0 in
+        let fall = no_fall entries order k.0 i k.1 (let lt = k.2 in omega arith) within in
+        let here = ap (λ (q : Placed). q.higher) (get_or_default entries i k.1 e within) in
+        let high = k.5 in
+        let low = top.1 in
+        other (omega arith)
+
+    -- one entry more
+    pub next_last : AreLast n entries (i + 1) (set last (get_or entries i e).lower (get_or entries i e).higher)
+    next_last = record {
+      size = length-set last (get_or entries i e).lower (get_or entries i e).higher ∙ are.size;
+      met = λ v lt less. met v lt less (cases_eq v (get_or entries i e).lower);
+      most = λ v h lt m. most v h lt m (cases_eq v (get_or entries i e).lower);
+    }
+      where
+        same_at : (v : ℕ) → v ≡ (get_or entries i e).lower → slice_index (set last (get_or entries i e).lower (get_or entries i e).higher) v ≡ (get_or entries i e).higher
+        same_at v is = ap (slice_index (set last (get_or entries i e).lower (get_or entries i e).higher)) is ∙ get_or-set_same last (get_or entries i e).lower (get_or entries i e).higher 0 (let b = nodes in let low = b.0 in omega (arith, are.size, low))
+
+        other_at : (v : ℕ) → (v ≡ (get_or entries i e).lower → ⊥) → slice_index (set last (get_or entries i e).lower (get_or entries i e).higher) v ≡ slice_index last v
+        other_at v ne = get_or-set_other last (get_or entries i e).lower v (get_or entries i e).higher 0 ne
+
+        met : (v : ℕ) → v < n → slice_index (set last (get_or entries i e).lower (get_or entries i e).higher) v < n → (v ≡ (get_or entries i e).lower) ⊎ (v ≡ (get_or entries i e).lower → ⊥) →
+            IsMet entries (i + 1) v (slice_index (set last (get_or entries i e).lower (get_or entries i e).higher) v)
+        met v lt less (inl is) = (i, e, omega arith, within, sym is, sym (same_at v is))
+        met v lt less (inr ne) = (let at = other_at v ne in let k = are.met v lt (omega arith) in (k.0, k.1, (let low = k.2 in omega arith), k.3, k.4, k.5 ∙ sym at))
+
+        most : (v h : ℕ) → v < n → IsMet entries (i + 1) v h → (v ≡ (get_or entries i e).lower) ⊎ (v ≡ (get_or entries i e).lower → ⊥) →
+            (slice_index (set last (get_or entries i e).lower (get_or entries i e).higher) v < n) × (h ≤ slice_index (set last (get_or entries i e).lower (get_or entries i e).higher) v)
+        most v h lt m (inl is) =
+            let at = same_at v is in
+            let b = nodes in
+            let high = b.1 in
+            let fall = no_fall entries order m.0 i m.1 (let low = m.2 in omega arith) within in
+            let here = ap (λ (q : Placed). q.higher) (get_or_default entries i m.1 e within) in
+            let it = m.5 in
+            (omega arith, omega arith)
+        most v h lt m (inr ne) = (let at = other_at v ne in let t = are.most v h lt (before m ne) in let a = t.0 in let b = t.1 in (omega arith, omega arith))
+          where
+            before : IsMet entries (i + 1) v h → (v ≡ (get_or entries i e).lower → ⊥) → IsMet entries i v h
+            before q ne = elim (cases_lt q.0 i) [
+              | inl less ↦ (q.0, q.1, less, q.3, q.4, q.5)
+              | inr ge ↦ absurd (let low = q.2 in let same : q.0 ≡ i = omega arith in ne (sym q.4 ∙ ap (λ k. (get_or entries k q.1).lower) same ∙ ap (λ (z : Placed). z.lower) (get_or_default entries i q.1 e within)))
+            ]
+
+    -- a twin more
+    pub twin_met : (a b c : Option ℕ) → IsMet entries i (get_or entries i e).lower (get_or entries i e).higher → IsLessened (IsTwinBelow entries i) a b → IsLessened (λ q. q ≡ (get_or entries i e).place) b c → IsLessened (IsTwinBelow entries (i + 1)) a c
+    twin_met a b c m p q = lessened_twice (IsTwinBelow entries i) (λ r. r ≡ (get_or entries i e).place) (IsTwinBelow entries (i + 1)) a b c p q
+        (λ r t. elim (cases_lt t.1 i) [
+          | inl less ↦ inl (t.0, t.1, t.2, t.3, less, t.5, t.6, t.7, t.8)
+          | inr ge ↦ (let low = t.4 in let same : t.1 ≡ i = omega arith in inr (sym t.8 ∙ ap (λ (z : Placed). z.place) (ap (λ k. get_or entries k t.2) same ∙ get_or_default entries i t.2 e within)))
+        ])
+        (λ r t. (t.0, t.1, t.2, t.3, (let low = t.4 in omega arith), t.5, t.6, t.7, t.8))
+        (λ r is. (m.0, i, e, m.2, omega arith, within, ap (λ (z : Placed). z.lower) (get_or_default entries m.0 e m.1 m.3) ∙ m.4, ap (λ (z : Placed). z.higher) (get_or_default entries m.0 e m.1 m.3) ∙ m.5, sym is))
+
+    -- no twin more
+    pub none_more : (a b : Option ℕ) → (IsMet entries i (get_or entries i e).lower (get_or entries i e).higher → ⊥) → IsLessened (IsTwinBelow entries i) a b → IsLessened (IsTwinBelow entries (i + 1)) a b
+    none_more a b none p = record {
+      is = λ r k. elim (p.is r k) [ inl was ↦ inl was | inr t ↦ inr (t.0, t.1, t.2, t.3, (let low = t.4 in omega arith), t.5, t.6, t.7, t.8) ];
+      covers_known = p.covers_known;
+      covers_new = λ r t. elim (cases_lt t.1 i) [
+        | inl less ↦ p.covers_new r (t.0, t.1, t.2, t.3, less, t.5, t.6, t.7, t.8)
+        | inr ge ↦ (
+            let low = t.4 in
+            let same : t.1 ≡ i = omega arith in
+            let here = ap (λ k. get_or entries k t.2) same ∙ get_or_default entries i t.2 e within in
+            let first = t.3 in
+            absurd (none (t.0, t.2, omega arith, omega arith, t.6 ∙ ap (λ (z : Placed). z.lower) here, t.7 ∙ ap (λ (z : Placed). z.higher) here)))
+      ];
+    }
+
+  -- all entries
+  pub twins_all : (i : ℕ) (a b : Option ℕ) → length entries ≤ i → IsLessened (IsTwinBelow entries i) a b → IsLessened (IsTwin entries) a b
+  twins_all i a b le p = record {
+    is = λ r k. elim (p.is r k) [ inl was ↦ inl was | inr t ↦ inr (twin r t) ];
+    covers_known = p.covers_known;
+    covers_new = λ r t. p.covers_new r (placed r t);
+  }
+    where
+      twin : (r : ℕ) → IsTwinBelow entries i r → IsTwin entries r
+      twin r t = (
+        get_or entries t.0 t.2,
+        get_or entries t.1 t.2,
+        Contains-get_or entries t.0 t.2 (let a = t.3 in let b = t.5 in omega arith),
+        Contains-get_or entries t.1 t.2 t.5,
+        t.6,
+        t.7,
+        elim (order t.0 t.1 t.2 t.3 t.5) [ inl rise ↦ (let same = t.7 in absurd (omega arith)) | inr same ↦ same.1 ],
+        t.8,
+      )
+
+      placed : (r : ℕ) → IsTwin entries r → IsTwinBelow entries i r
+      placed r t =
+          let a = t.2 in
+          let b = t.3 in
+          let first : get_or entries a.0 t.0 ≡ t.0 = a.2 in
+          let second : get_or entries b.0 t.0 ≡ t.1 = get_or_default entries b.0 t.0 t.1 b.1 ∙ b.2 in
+          let low = b.1 in (
+            a.0,
+            b.0,
+            t.0,
+            earlier a.0 b.0 a.1 b.1 first second,
+            omega arith,
+            b.1,
+            ap (λ (z : Placed). z.lower) first ∙ t.4 ∙ sym (ap (λ (z : Placed). z.lower) second),
+            ap (λ (z : Placed). z.higher) first ∙ t.5 ∙ sym (ap (λ (z : Placed). z.higher) second),
+            ap (λ (z : Placed). z.place) second ∙ t.7,
+          )
+        where
+          earlier : (j k : ℕ) → j < length entries → k < length entries → get_or entries j t.0 ≡ t.0 → get_or entries k t.0 ≡ t.1 → j < k
+          earlier j k low high first second = elim (cases_lt j k) [
+            | inl less ↦ less
+            | inr ge ↦ absurd (
+                let f = ap (λ (z : Placed). z.place) first in
+                let s = ap (λ (z : Placed). z.place) second in
+                let fh = ap (λ (z : Placed). z.higher) first in
+                let sh = ap (λ (z : Placed). z.higher) second in
+                let hs = t.5 in
+                let ps = t.6 in
+                elim (cases_lt k j) [
+                  | inl less ↦ elim (order k j t.0 less low) [
+                    | inl rise ↦ omega arith
+                    | inr same ↦ (let later = same.1 in omega arith)
+                  ]
+                  | inr le ↦ (let one : j ≡ k = omega arith in let at = ap (λ q. (get_or entries q t.0).place) one in omega arith)
+                ])
+          ]

@@ -21,12 +21,11 @@ use Rattle.ch_hierarchy.specs.Kept.{IsLeg}
 use Rattle.ch_hierarchy.specs.Saved.{IsOrderOf, AreLevelsOf, NamesHierarchy, NamesFor, IsWithinBounds}
 use Rattle.ch_hierarchy.specs.Sorting.{lower_of, AreSorted}
 use Rattle.ch_graph.specs.Sorting.{with_key}
-use Rattle.ch_hierarchy.specs.Doubles.{IsDouble}
 use Rattle.ch_hierarchy.specs.Placing.{no_saved_leg, from_of, to_of, ArePlaced, leg_of, keyed_leg}
 use Rattle.ch_hierarchy.specs.Assembling.{IsSide, ArePairs}
 use Rattle.ch_hierarchy.proofs.theory.SavedLevels.{sized, levels_are, one_is_higher, in_row_below}
 use Rattle.ch_hierarchy.proofs.code.SortedPlaces.{sorted_rows}
-use Rattle.ch_hierarchy.proofs.code.Doubled.{strict, twin_of_double}
+use Rattle.ch_hierarchy.proofs.code.Doubled.{IsDouble, strict, twin_of_double}
 use Rattle.ch_hierarchy.proofs.code.PairFaults.{pairs_once}
 
 -- the rows of one direction

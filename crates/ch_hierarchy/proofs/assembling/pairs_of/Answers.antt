@@ -27,15 +27,15 @@ sorted-requires-clause-below_down c = placed_below to_of from_of c.args.levels.n
 
 pub first_twin-requires-clause-below : goal.first_twin-requires-clause-below
 first_twin-requires-clause-below c = λ e h.
-    (placed_below from_of to_of c.args.levels.now _ c.args.n _ c.in_ok-placed.ensures.up.0 (λ l k.
+    placed_below from_of to_of c.args.levels.now _ c.args.n _ c.in_ok-placed.ensures.up.0 (λ l k.
     let joins = fair_joins c.args.n c.args.legs.now c.first_not_joining-faulty.result _ c.first_not_joining-faulty.ensures c.unwrap_or-end.ensures l k in
-    (joins.0, joins.1)) e ((c.in_ok-pairs.ensures.0.each e).0 (subst (λ q. Contains q e) c.as_slice.ensures.value h))).0
+    (joins.0, joins.1)) e ((c.in_ok-pairs.ensures.0.each e).0 (subst (λ q. Contains q e) c.as_slice.ensures.value h))
 
 pub first_twin-requires-2-clause-below : goal.first_twin-requires-2-clause-below
 first_twin-requires-2-clause-below c = λ e h.
-    (placed_below to_of from_of c.args.levels.now _ c.args.n _ c.in_ok-placed.ensures.down.0 (λ l k.
+    placed_below to_of from_of c.args.levels.now _ c.args.n _ c.in_ok-placed.ensures.down.0 (λ l k.
     let joins = fair_joins c.args.n c.args.legs.now c.first_not_joining-faulty.result _ c.first_not_joining-faulty.ensures c.unwrap_or-end.ensures l k in
-    (joins.1, joins.0)) e ((c.in_ok-pairs.ensures.1.each e).0 (subst (λ q. Contains q e) c.as_slice-2.ensures.value h))).0
+    (joins.1, joins.0)) e ((c.in_ok-pairs.ensures.1.each e).0 (subst (λ q. Contains q e) c.as_slice-2.ensures.value h))
 
 pub returns-in-Some-clause-fault : goal.returns-in-Some-clause-fault
 returns-in-Some-clause-fault c = λ f e.
@@ -53,8 +53,8 @@ returns-in-Some-clause-fault c = λ f e.
           c.in-Some.place c.in-Some.is,
     )
 
-pub returns-clause-pairs : goal.returns-clause-pairs
-returns-clause-pairs c =
+pub returns-in-None-clause-pairs : goal.returns-in-None-clause-pairs
+returns-in-None-clause-pairs c =
     let levels = c.args.levels.now in
     let legs = c.args.legs.now in
     let faulty = c.first_not_joining-faulty.result in
