@@ -1,11 +1,12 @@
 //! Whether a saved hierarchy, of any origin, is right for a graph.
-ghost use Rattle.std.specs.Prelude.{IfOk, MatchOption};
+ghost use Rattle.std.specs.Prelude.{All, IfOk, MatchOption};
 ghost use Rattle.ch_hierarchy.specs.declared.fault.CheckFault.{CheckFault as AnyFault};
 ghost use Rattle.ch_hierarchy.specs.declared.fault.CheckFault.TheVariants as CheckFault;
 ghost use Rattle.ch_hierarchy.specs.declared.fault.CheckError.TheVariants as CheckError;
 ghost use Rattle.ch_hierarchy.specs.Kept.{IsKept};
 ghost use Rattle.ch_hierarchy.specs.Saved.{IsFaultless, IsFirstFault, NamesFor, NamesKept, AnswersWhere};
-ghost use Rattle.ch_query.specs.Checking.{IsOkWhere};
+ghost use Rattle.ch_hierarchy.specs.Assembling.{IsFirstFailing};
+ghost use Rattle.ch_query.specs.Checking.{IsArcIfBase, IsOkWhere};
 
 use crate::founding::{first_false_shortcut, first_unserved, first_without_arc};
 use crate::lower::first_uncovered;
@@ -17,7 +18,8 @@ use std::alloc::{AllocError, Global};
 /// The hierarchy that a saved one names, where it is right for the graph: its distances and routes are
 /// then those of the graph, whoever made it. Its levels and legs are those of the argument.
 ///
-/// After [`assemble`] it looks for each leg's arc or two legs, and for each arc's leg. Then it searches from
+/// Before [`assemble`] it looks for the arc of each leg that has no middle, while there is no hierarchy beside the rows of
+/// arcs; after it for the two legs of each other leg, and for each arc's leg. Then it searches from
 /// both ends of each two legs through a lower node, unless a leg costs no more than they do. It takes a
 /// number of steps that is linear in the number of nodes, arcs and legs, but for a logarithm, and what these
 /// searches take.
@@ -29,27 +31,31 @@ pub fn check(alloc: Global, graph: &Graph, saved: &Saved) -> Result<Hierarchy, C
     ensures hierarchy { IfOk result (NamesKept graph.now saved.now) }
     ensures fault { (f : AnyFault) → AnswersWhere result (Err (CheckError.Fault f)) (IsFirstFault graph.now saved.now f) }
 {
+    let baseless = first_without_arc(alloc, graph, saved.legs.as_slice())?;
     let hierarchy = assemble(alloc, graph, saved)?;
-    match first_late_fault(alloc, graph, saved, &hierarchy)? {
+    match first_late_fault(alloc, graph, saved, &hierarchy, baseless)? {
         Some(fault) => Err(CheckError::Fault(fault)),
         None => Ok(hierarchy),
     }
 }
 
-/// The first fault of the hierarchy that is named, as it stands beside the graph.
+/// The first fault of the hierarchy that is named, as it stands beside the graph. The place of the first leg without a
+/// middle that is no arc of the graph is known.
 fn first_late_fault(
     alloc: Global,
     graph: &Graph,
     saved: &Saved,
     hierarchy: &Hierarchy,
+    baseless: Option<usize>,
 ) -> Result<Option<CheckFault>, AllocError>
-    requires { NamesFor graph.now saved.now hierarchy.now }
+    requires named { NamesFor graph.now saved.now hierarchy.now }
+    requires bases { MatchOption baseless (All (IsArcIfBase graph.now) saved.now.legs) (IsFirstFailing (IsArcIfBase graph.now) saved.now.legs) }
     ensures { IfOk result (λ found. MatchOption found (IsKept graph.now hierarchy.now) (IsFirstFault graph.now saved.now)) }
 {
-    let legs = saved.legs.as_slice();
-    if let Some(place) = first_without_arc(alloc, graph, legs)? {
+    if let Some(place) = baseless {
         return Ok(Some(CheckFault::Base(place)));
     }
+    let legs = saved.legs.as_slice();
     if let Some(place) = first_false_shortcut(hierarchy, legs) {
         return Ok(Some(CheckFault::Middle(place)));
     }

@@ -1,8 +1,7 @@
 //! What the legs of a saved hierarchy stand for, and the legs of a graph's arcs.
 ghost use Rattle.std.specs.Prelude.{◌<◌, ◌↔◌, All, Contains, IfOk, IsTrue, MatchOption};
 ghost use Rattle.ch_graph.specs.declared.arc.InArc.{InArc as AnyArc};
-ghost use Rattle.ch_graph.specs.declared.saved.SavedLeg.{SavedLeg as LegOfFile};
-ghost use Rattle.ch_graph.specs.Graph.{Network};
+ghost use Rattle.ch_graph.specs.Graph.{Network, IsWithinLimits};
 ghost use Rattle.ch_hierarchy.specs.Hierarchy.{nodes_of};
 ghost use Rattle.ch_hierarchy.specs.Assembling.{IsFirstFailing};
 ghost use Rattle.ch_query.specs.Checking.{AreArcRows, IsArcIfBase, IsSumOver, IsSumIfShortcut, IsServed};
@@ -19,9 +18,10 @@ pub(crate) fn first_without_arc(
     graph: &Graph,
     legs: &[SavedLeg],
 ) -> Result<Option<usize>, AllocError>
-    requires { (l : LegOfFile) → Contains legs.now l → l.from < graph.now.nodes }
     ensures { IfOk result (λ found. MatchOption found (All (IsArcIfBase graph.now) legs.now) (IsFirstFailing (IsArcIfBase graph.now) legs.now)) }
 {
+    // The getter tells the proof that the graph keeps the limits.
+    let _ = graph.arcs();
     let rows = arc_rows(alloc, graph)?;
     for (place, leg) in legs.iter().enumerate() {
         if !is_arc_if_base(&rows, *leg) {
@@ -33,11 +33,18 @@ pub(crate) fn first_without_arc(
 
 /// Whether the leg has a middle, or is an arc of the graph that has these rows.
 fn is_arc_if_base(rows: &Rows<InArc>, leg: SavedLeg) -> bool
-    requires { (g : Network) × AreArcRows g rows.now × (leg.from < g.nodes) }
-    ensures { (g : Network) → AreArcRows g rows.now → leg.from < g.nodes → (IsTrue result ↔ IsArcIfBase g leg) }
+    requires { (g : Network) × AreArcRows g rows.now }
+    ensures { (g : Network) → IsWithinLimits g → AreArcRows g rows.now → (IsTrue result ↔ IsArcIfBase g leg) }
 {
-    leg.middle.is_some()
-        || leg.cost.arcs == 1 && has_arc(rows.row(leg.from), leg.to, leg.cost.weight)
+    leg.middle.is_some() || leg.cost.arcs == 1 && is_arc(rows, leg)
+}
+
+/// Whether an arc of the graph that has these rows leads between the nodes of the leg, at its weight.
+fn is_arc(rows: &Rows<InArc>, leg: SavedLeg) -> bool
+    requires { (g : Network) × AreArcRows g rows.now }
+    ensures { (g : Network) → IsWithinLimits g → AreArcRows g rows.now → (IsTrue result ↔ Contains g.arcs (record { from = leg.from; to = leg.to; weight = leg.cost.weight })) }
+{
+    leg.from < rows.row_count() && has_arc(rows.row(leg.from), leg.to, leg.cost.weight)
 }
 
 /// The place of the first leg with a middle that isn't the two legs of this.

@@ -13,15 +13,14 @@ use Rattle.ch_hierarchy.specs.declared.fault.CheckFault.TheVariants.{Base, Middl
 use Rattle.ch_hierarchy.specs.declared.fault.CheckError.{CheckError}
 use Rattle.ch_hierarchy.specs.declared.fault.CheckError.TheVariants.{Fault, NoMemory}
 use Rattle.ch_hierarchy.specs.Hierarchy.{LevelsAndLegs, nodes_of}
-use Rattle.ch_hierarchy.specs.Kept.{IsLeg, IsFounded, HasLegWithin, IsCovered, IsKept}
+use Rattle.ch_hierarchy.specs.Kept.{IsFounded, HasLegWithin, IsCovered, IsKept}
 use Rattle.ch_hierarchy.specs.Assembling.{IsFirstFailing}
 use Rattle.ch_hierarchy.specs.Saved.{NamesFor, HasFault, IsFaultless, IsFirstFault}
 use Rattle.ch_hierarchy.proofs.theory.OneSaved.{one_saved}
 use Rattle.ch_hierarchy.proofs.theory.SavedFaults.{HasNoneBelow, none_more, first_at, none_early, no_fault, Checks}
-use Rattle.ch_query.specs.declared.side.Side.TheVariants.{Up, Down}
+use Rattle.ch_query.specs.declared.side.Side.TheVariants.{Down}
 use Rattle.ch_query.specs.Checking.{IsOkWhere, IsArcIfBase, IsSumIfShortcut, IsServed}
 use Rattle.ch_query.specs.Covering.{IsFirstUncovered}
-use Rattle.ch_query.proofs.one_side.Expanding.{leg_up}
 use Rattle.ch_query.proofs.faults.FirstFailing.{held_at}
 use Rattle.ch_query.proofs.routing.Rows.{has_row}
 
@@ -120,14 +119,6 @@ module _ (g : Network) (s : OrderAndLegs) (H : LevelsAndLegs) (named : NamesFor 
           arcs = λ a has apart. All-contains (IsServed H) g.arcs a served has apart;
           covered = λ v a b ha hb apart. covered v (has_row H named.0.levelled Down v a ha) a b ha hb apart;
         }
-
--- the legs of a file lead between nodes
-pub starts_within : (g : Network) (s : OrderAndLegs) (H : LevelsAndLegs) → NamesFor g s H → (l : SavedLeg) → Contains s.legs l → l.from < g.nodes
-starts_within g s H named l has = at ((named.0.legs l.from l.to l.cost l.middle).1 has)
-  where
-    at : IsLeg H l.from l.to l.cost l.middle → l.from < g.nodes
-    at (x, cost, middle, inl (here, node)) = subst (λ n. l.from < n) named.1 (has_row H named.0.levelled Up l.from x here)
-    at (x, cost, middle, inr (here, node)) = subst (λ n. l.from < n) named.1 (subst (λ q. q < nodes_of H) node (leg_up H named.0.levelled Down l.to x here).node)
 
 -- the ends of an arc are nodes
 pub arc_ends_within : (g : Network) (H : LevelsAndLegs) → IsWithinLimits g → nodes_of H ≡ g.nodes → (a : InArc) → Contains g.arcs a → (a.from < nodes_of H) × (a.to < nodes_of H)

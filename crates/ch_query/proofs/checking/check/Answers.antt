@@ -1,22 +1,30 @@
-use Rattle.std.proofs.Common.{refl}
-use Rattle.std.specs.Prelude.{Ok}
+use Rattle.std.proofs.Common.{refl, ◌∙◌, ap, subst}
+use Rattle.std.specs.Prelude.{All, MatchOption, Ok}
+use Rattle.ch_graph.specs.Saved.{OrderAndLegs}
+use Rattle.ch_hierarchy.specs.Assembling.{IsFirstFailing}
+use Rattle.ch_query.specs.Checking.{IsArcIfBase}
 use Rattle.ch_hierarchy.proofs.theory.SavedFaults.{checks_value, checks_refused}
 use Rattle.ch_query.proofs.faults.Checked.{accepted_by}
 use Rattle.ch_query.proofs.checking.check.Goals as goal
 
 pub returns-in_err-hierarchy-clause-accepted : goal.returns-in_err-hierarchy-clause-accepted
 returns-in_err-hierarchy-clause-accepted c =
-    accepted_by c.args.graph.now c.args.saved.now c.from_residual.result
-    (checks_refused c.args.graph.now c.args.saved.now c.from_residual.result c.in_err-hierarchy.field-0.0 c.from_residual.ensures.1
+    accepted_by c.args.graph.now c.args.saved.now c.from_residual-in_err-hierarchy.result
+    (checks_refused c.args.graph.now c.args.saved.now c.from_residual-in_err-hierarchy.result c.in_err-hierarchy.field-0.0 c.from_residual-in_err-hierarchy.ensures.1
     (c.in_err-hierarchy.ensures.value, c.in_err-hierarchy.ensures.fault))
 
 pub returns-in_err-hierarchy-clause-fault : goal.returns-in_err-hierarchy-clause-fault
 returns-in_err-hierarchy-clause-fault c =
-    (checks_refused c.args.graph.now c.args.saved.now c.from_residual.result c.in_err-hierarchy.field-0.0 c.from_residual.ensures.1
+    (checks_refused c.args.graph.now c.args.saved.now c.from_residual-in_err-hierarchy.result c.in_err-hierarchy.field-0.0 c.from_residual-in_err-hierarchy.ensures.1
     (c.in_err-hierarchy.ensures.value, c.in_err-hierarchy.ensures.fault)).1
 
 pub first_late_fault-requires : goal.first_late_fault-requires
-first_late_fault-requires c = (c.in_ok-hierarchy.ensures.value c.in_ok-hierarchy.hierarchy).0 refl
+first_late_fault-requires c =
+    let is = c.as_slice.ensures.value ∙ ap (λ (q : OrderAndLegs). q.legs) c.saved.view_is in
+    record {
+      named = (c.in_ok-hierarchy.ensures.value c.in_ok-hierarchy.hierarchy).0 refl;
+      bases = subst (λ q. MatchOption c.in_ok-baseless.baseless (All (IsArcIfBase c.args.graph.now) q) (IsFirstFailing (IsArcIfBase c.args.graph.now) q)) is c.in_ok-baseless.ensures;
+    }
 
 pub returns-in-None-clause-accepted : goal.returns-in-None-clause-accepted
 returns-in-None-clause-accepted c =
