@@ -49,4 +49,4 @@ pub record AreApart (H : LevelsAndLegs) (x y : Search) (most : Cost) : Type 0 wh
   pub there : IsUnderway H y
   pub stalls : (x.stalls ≡ false) × (y.stalls ≡ false)
   pub limits : IsMost (Some most.weight) x.most × IsMost (Some most.weight) y.most
-  pub apart : (v : ℕ) (a b : Cost) → IsSettled x.costs x.queue v a → IsSettled y.costs y.queue v b → IsBelow most (cost_sum a b)
+  pub apart : (v : ℕ) (a b : Cost) → IsSettled x.labels.costs x.queue v a → IsSettled y.labels.costs y.queue v b → IsBelow most (cost_sum a b)

@@ -17,7 +17,7 @@ use Rattle.ch_query.specs.Routes.{DescentStep, IsDescent}
 -- the search reached m at the least cost c, stalled on no path to it of that cost, and has taken all nodes up to that cost out of its queue
 pub record HasReached (H : LevelsAndLegs) (x : Search) (m : ℕ) (c : Cost) : Type 0 where
   pub underway : IsUnderway H x
-  pub known : cost_at x.costs m ≡ Some c
+  pub known : cost_at x.labels.costs m ≡ Some c
   pub least : IsLeastUpwardPath (rows_of H x.side) x.source m c
   pub past : (v : ℕ) (d : Cost) → cost_at x.queue v ≡ Some d → IsBelow c d
   pub avoids : AvoidsIdle (rows_of H x.side) (idle_of H x) m c

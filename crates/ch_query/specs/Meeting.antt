@@ -32,9 +32,9 @@ pub record AreMeeting (H : LevelsAndLegs) (x y : Search) (least : Option (Cost �
   pub there : IsUnderway H y
   pub stalls : (x.stalls ≡ true) × (y.stalls ≡ true)
   pub most : (x.most ≡ MOST_WEIGHT) × (y.most ≡ MOST_WEIGHT)
-  pub seen : IsSeen x.costs x.queue y.costs y.queue least
+  pub seen : IsSeen x.labels.costs x.queue y.labels.costs y.queue least
   pub found : IsFoundBy H x y least
 
 -- no node is settled yet
 abbrev pub IsFresh : Search → Type 0
-IsFresh x = (v : ℕ) (c : Cost) → IsSettled x.costs x.queue v c → ⊥
+IsFresh x = (v : ℕ) (c : Cost) → IsSettled x.labels.costs x.queue v c → ⊥

@@ -28,14 +28,14 @@ pub record IsTouched (best : List (Option Cost)) (touched : Vec ℕ Global) : Ty
 
 -- the lists are for the same nodes, the touched ones are known, and paths may weigh no more than the limits let them
 pub record IsRoom (x : Search) : Type 0 where
-  pub queue : length x.queue ≡ length x.costs
-  pub parents : length x.parents.items ≡ length x.costs
-  pub touched : IsTouched x.costs x.touched
+  pub queue : length x.queue ≡ length x.labels.costs
+  pub parents : length x.labels.parents ≡ length x.labels.costs
+  pub touched : IsTouched x.labels.costs x.touched
   pub most : x.most ≤ MOST_WEIGHT
 
 -- how many nodes are not settled
 abbrev pub count_unsettled_in : Search → ℕ
-count_unsettled_in x = count_unsettled x.costs x.queue
+count_unsettled_in x = count_unsettled x.labels.costs x.queue
 
 -- of the same direction and source and for paths of as much weight, and both stall or neither does
 pub record IsSameSearch (x y : Search) : Type 0 where
@@ -51,23 +51,23 @@ idle_of H x v c = IsStalled (rows_of H x.side) (back_of H x.side x.stalls) x.sou
 -- a search between two nodes
 pub record IsUnderway (H : LevelsAndLegs) (x : Search) : Type 0 where
   pub levelled : IsLevelled H
-  pub search : IsSearch x.most (rows_of H x.side) x.source (idle_of H x) x.costs x.queue
-  pub parents : AreParents x.most (rows_of H x.side) x.source (idle_of H x) x.costs x.queue x.parents.items
-  pub touched : IsTouched x.costs x.touched
+  pub search : IsSearch x.most (rows_of H x.side) x.source (idle_of H x) x.labels.costs x.queue
+  pub parents : AreParents x.most (rows_of H x.side) x.source (idle_of H x) x.labels.costs x.queue x.labels.parents
+  pub touched : IsTouched x.labels.costs x.touched
 
 -- a search that takes the legs of v, which was settled last, at cost c
 pub record IsExpandingAt (H : LevelsAndLegs) (x : Search) (v : ℕ) (c : Cost) : Type 0 where
   pub levelled : IsLevelled H
   pub within : v < nodes_of H
-  pub search : IsExpanding x.most (rows_of H x.side) x.source (OrNode (idle_of H x) v) x.costs x.queue v c
-  pub parents : AreParents x.most (rows_of H x.side) x.source (OrNode (idle_of H x) v) x.costs x.queue x.parents.items
-  pub touched : IsTouched x.costs x.touched
+  pub search : IsExpanding x.most (rows_of H x.side) x.source (OrNode (idle_of H x) v) x.labels.costs x.queue v c
+  pub parents : AreParents x.most (rows_of H x.side) x.source (OrNode (idle_of H x) v) x.labels.costs x.queue x.labels.parents
+  pub touched : IsTouched x.labels.costs x.touched
 
 -- nodes that are settled, each once, and among them all that need to be expanded
 pub record AreUnstalled (H : LevelsAndLegs) (x : Search) (nodes : List ℕ) : Type 0 where
   pub distinct : AllPairs ◌≢◌ nodes
-  pub settled : (v : ℕ) → Contains nodes v → (c : Cost) × IsSettled x.costs x.queue v c
-  pub whole : (v : ℕ) (c : Cost) → IsSettled x.costs x.queue v c → idle_of H x v c ⊎ Contains nodes v
+  pub settled : (v : ℕ) → Contains nodes v → (c : Cost) × IsSettled x.labels.costs x.queue v c
+  pub whole : (v : ℕ) (c : Cost) → IsSettled x.labels.costs x.queue v c → idle_of H x v c ⊎ Contains nodes v
 
 -- the nodes with the weights of what they are known to cost, in order of node
 pub record AreWeights (best : List (Option Cost)) (nodes : List ℕ) (list : List (ℕ × ℕ)) : Type 0 where
@@ -77,24 +77,24 @@ pub record AreWeights (best : List (Option Cost)) (nodes : List ℕ) (list : Lis
 
 -- what taking a leg of v, settled at cost c, changes
 abbrev pub RelaxesIn : Search → ℕ → Cost → Leg → Search → Type 0
-RelaxesIn x v c l y = Relaxes x.most x.costs x.queue x.parents.items v c l y.costs y.queue y.parents.items
+RelaxesIn x v c l y = Relaxes x.most x.labels.costs x.queue x.labels.parents v c l y.labels.costs y.queue y.labels.parents
 
 -- what is settled in y was settled in x, at the same cost
 abbrev pub KeepsSettled : Search → Search → Type 0
-KeepsSettled x y = (v : ℕ) (c : Cost) → IsSettled y.costs y.queue v c → IsSettled x.costs x.queue v c
+KeepsSettled x y = (v : ℕ) (c : Cost) → IsSettled y.labels.costs y.queue v c → IsSettled x.labels.costs x.queue v c
 
 -- y is what x became when these legs of v were taken
 pub record IsPartlyExpanded (H : LevelsAndLegs) (x y : Search) (v : ℕ) (c : Cost) (legs : List Leg) : Type 0 where
   pub same : IsSameSearch x y
   pub expanding : IsExpandingAt H y v c
-  pub relaxed : (l : Leg) → Contains legs l → IsRelaxedFrom y.most y.costs c l × IsNoEarlier y.most y.costs y.parents.items v c l
+  pub relaxed : (l : Leg) → Contains legs l → IsRelaxedFrom y.most y.labels.costs c l × IsNoEarlier y.most y.labels.costs y.labels.parents v c l
   pub settled : KeepsSettled x y
   pub stays : KeepsSettled y x
   pub measure : count_unsettled_in y ≡ count_unsettled_in x
 
 -- a search for n nodes in which nothing is left of an earlier one
 pub record IsClean (n : ℕ) (x : Search) : Type 0 where
-  pub nodes : length x.costs ≡ n
+  pub nodes : length x.labels.costs ≡ n
   pub room : IsRoom x
   pub queue : IsEmpty x.queue
   pub nothing : vec_len x.touched ≡ 0

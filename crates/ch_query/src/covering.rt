@@ -61,10 +61,10 @@ fn connects(hierarchy: &Hierarchy, there: &Search, node: u32, cost: Cost, most: 
     requires there { IsUnderway hierarchy.now there.now }
     requires node { node < nodes_of hierarchy.now }
     requires cost { (cost.weight ≤ MOST_WEIGHT) × (cost.arcs ≤ MOST_PATH_ARCS) }
-    ensures connected { result ≡ true → (d : CostOf) × (cost_at there.now.costs node ≡ Some d) × IsAtMost (cost_sum cost d) most }
-    ensures apart { result ≡ false → (d : CostOf) → cost_at there.now.costs node ≡ Some d → IsBelow most (cost_sum cost d) }
+    ensures connected { result ≡ true → (d : CostOf) × (cost_at there.now.labels.costs node ≡ Some d) × IsAtMost (cost_sum cost d) most }
+    ensures apart { result ≡ false → (d : CostOf) → cost_at there.now.labels.costs node ≡ Some d → IsBelow most (cost_sum cost d) }
 {
-    match there.costs.get(node) {
+    match there.labels.get(node) {
         Some(known) => !is_below(most, cost.plus(known)),
         None => false,
     }
@@ -84,7 +84,7 @@ fn connects_by_leg(
     ensures { result ≡ true → AreConnected hierarchy.now here.now there.now most }
 {
     for leg in here.side.legs(hierarchy, node) {
-        if let Some(cost) = here.costs.get(leg.node) {
+        if let Some(cost) = here.labels.get(leg.node) {
             if connects(hierarchy, there, leg.node, cost, most) {
                 return true;
             }

@@ -34,7 +34,7 @@ pub(crate) fn descend(
 {
     let mut node = meet;
     while node != search.source {
-        let parent = search.parents[node as usize];
+        let parent = search.labels.parent(node);
         let leg = leg_at(search.side.legs(hierarchy, parent), node);
         pending.push_reserved(directed(search.side, parent, leg));
         node = parent;

@@ -1,5 +1,5 @@
-//! The costs known of the nodes that a search reached.
-ghost use Rattle.std.specs.Prelude.{◌≡◌, ◌<◌, ◌≤◌, length, replicate, slice_set, Some, None, IfOk};
+//! What a search knows of each node: a cost, if it is reached, and a parent.
+ghost use Rattle.std.specs.Prelude.{◌≡◌, ◌^◌, ◌<◌, ◌≤◌, length, replicate, slice_index, slice_set, Some, None, IfOk};
 ghost use Rattle.ch_graph.specs.declared.limits.TheConstants.{MOST_WEIGHT};
 ghost use Rattle.ch_graph.specs.Cost.{cost_at};
 
@@ -10,67 +10,128 @@ use std::marker::Model;
 /// The weight of a label that stands for no cost. No path weighs as much.
 pub(crate) const NO_WEIGHT: u64 = u64::MAX;
 
+/// The arcs from which on their multiples stand apart. Paths of so many arcs are rare, but within the limits.
+pub(crate) const MANY: u64 = 1 << 31;
+
+/// What is known of a node, in 16 bytes.
+#[derive(Clone, Copy)]
+pub(crate) struct Label {
+    /// The weight of the node's cost, or [`NO_WEIGHT`] where it is not reached.
+    weight: u64,
+    /// The arcs of the node's cost below [`MANY`]. Of more arcs it has what is left beyond the multiples that stand apart, which is
+    /// at least [`MANY`] and less than twice that.
+    arcs: u32,
+    parent: u32,
+}
+
 /// The label of a node that is not reached.
-const UNREACHED: Cost = Cost {
+const UNREACHED: Label = Label {
     weight: NO_WEIGHT,
     arcs: 0,
+    parent: 0,
 };
 
-/// For each of so many nodes a cost or none, which contracts see as such. A label takes 16 bytes, where an
-/// `Option` of a cost takes 24.
+/// For each of so many nodes a cost or none, and a parent, which contracts see as two lists. The parent of a node that is not reached
+/// is whatever it was last.
 #[derive(Drop)]
 pub(crate) struct Labels {
-    labels: Vec<Cost>,
+    labels: Vec<Label>,
+    /// By node whose label has [`MANY`] arcs or more: how many times [`MANY`] is to be added to them.
+    multiples: Vec<u32>,
 }
 
 impl Model for Labels {
-    ghost use Rattle.std.specs.Prelude.{List, Option, map};
-    ghost use Rattle.ch_graph.specs.declared.cost.Cost.{Cost};
-    ghost use Rattle.ch_query.specs.Labels.{cost_of};
+    ghost use Rattle.std.specs.Prelude.{◌≡◌, length, map};
+    ghost use Rattle.std.specs.List.{zip};
+    ghost use Rattle.ch_query.specs.declared.labels.Label.{Label};
+    ghost use Rattle.ch_query.specs.Labels.{CostsAndParents, cost_of};
 
-    ghost Value = { List (Option Cost) };
+    ghost Value = { CostsAndParents };
 
-    ghost view = { λ l. map cost_of l.labels.items };
+    ghost view = { λ l. record { costs = map cost_of (zip l.labels.items l.multiples.items); parents = map (λ (k : Label). k.parent) l.labels.items } };
+
+    ghost invariant = { λ l. length l.multiples.items ≡ length l.labels.items };
 }
 
 impl Labels {
     /// Labels of so many nodes, none of which is reached.
     pub(crate) fn new(alloc: Global, nodes: u32) -> Result<Labels, AllocError>
-        ensures { IfOk result (λ costs. costs ≡ replicate nodes None) }
+        ensures { IfOk result (λ labels. labels ≡ record { costs = replicate nodes None; parents = replicate nodes 0 }) }
     {
         let labels = vec![in alloc; UNREACHED; nodes as usize]?;
-        Ok(Labels { labels })
+        let multiples = vec![in alloc; 0; nodes as usize]?;
+        Ok(Labels { labels, multiples })
     }
 
     /// The cost of `node`, if it is reached.
     #[inline]
     pub(crate) fn get(&self, node: u32) -> Option<Cost>
-        requires { node < length self.now }
-        ensures { result ≡ cost_at self.now node }
+        requires { node < length self.now.costs }
+        ensures { result ≡ cost_at self.now.costs node }
     {
         let label = self.labels[node as usize];
         if label.weight == NO_WEIGHT {
             return None;
         }
-        Some(label)
+        let weight = label.weight;
+        let arcs = label.arcs as u64;
+        if arcs < MANY {
+            return Some(Cost { weight, arcs });
+        }
+        let multiple = self.multiples[node as usize] as u64;
+        Some(Cost {
+            weight,
+            arcs: arcs + multiple * MANY,
+        })
     }
 
-    /// Gives `node` this cost.
+    /// The parent of `node`.
     #[inline]
-    pub(crate) fn set(&mut self, node: u32, cost: Cost)
-        requires node { node < length self.old }
-        requires weight { cost.weight ≤ MOST_WEIGHT }
-        ensures { self.new ≡ slice_set self.old node (Some cost) }
+    pub(crate) fn parent(&self, node: u32) -> u32
+        requires { node < length self.now.parents }
+        ensures { result ≡ slice_index self.now.parents node }
     {
-        self.labels[node as usize] = cost;
+        self.labels[node as usize].parent
+    }
+
+    /// Gives `node` this cost and this parent.
+    #[inline]
+    pub(crate) fn set(&mut self, node: u32, cost: Cost, parent: u32)
+        requires node { node < length self.old.costs }
+        requires weight { cost.weight ≤ MOST_WEIGHT }
+        requires arcs { cost.arcs < 2 ^ 63 }
+        ensures costs { self.new.costs ≡ slice_set self.old.costs node (Some cost) }
+        ensures parents { self.new.parents ≡ slice_set self.old.parents node parent }
+    {
+        let mut arcs = cost.arcs;
+        if arcs >= MANY {
+            self.multiples[node as usize] = (arcs / MANY - 1) as u32;
+            arcs = MANY + arcs % MANY;
+        }
+        self.labels[node as usize] = Label {
+            weight: cost.weight,
+            arcs: arcs as u32,
+            parent,
+        };
+    }
+
+    /// Gives `node` this parent.
+    #[inline]
+    pub(crate) fn set_parent(&mut self, node: u32, parent: u32)
+        requires { node < length self.old.parents }
+        ensures costs { self.new.costs ≡ self.old.costs }
+        ensures parents { self.new.parents ≡ slice_set self.old.parents node parent }
+    {
+        self.labels[node as usize].parent = parent;
     }
 
     /// Takes the cost of `node` away.
     #[inline]
     pub(crate) fn clear(&mut self, node: u32)
-        requires { node < length self.old }
-        ensures { self.new ≡ slice_set self.old node None }
+        requires { node < length self.old.costs }
+        ensures costs { self.new.costs ≡ slice_set self.old.costs node None }
+        ensures parents { self.new.parents ≡ self.old.parents }
     {
-        self.labels[node as usize] = UNREACHED;
+        self.labels[node as usize].weight = NO_WEIGHT;
     }
 }

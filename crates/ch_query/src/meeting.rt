@@ -38,9 +38,9 @@ fn met(
     requires there { IsUnderway hierarchy.now there.now }
     requires node { node < nodes_of hierarchy.now }
     requires cost { (cost.weight ≤ MOST_WEIGHT) × (cost.arcs ≤ MOST_PATH_ARCS) }
-    ensures { IsLeastAfter (cost_at there.now.costs node) node cost least result }
+    ensures { IsLeastAfter (cost_at there.now.labels.costs node) node cost least result }
 {
-    match there.costs.get(node) {
+    match there.labels.get(node) {
         Some(known) => first(least, cost.plus(known), node),
         None => least,
     }

@@ -80,8 +80,8 @@ pub fn route(
 /// Leaves both sides as the next query wants them.
 fn clean(up: &mut Search, down: &mut Search)
     requires rooms { IsRoom up.old × IsRoom down.old }
-    ensures up { IsClean (length up.old.costs) up.new × (up.new.side ≡ up.old.side) }
-    ensures down { IsClean (length down.old.costs) down.new × (down.new.side ≡ down.old.side) }
+    ensures up { IsClean (length up.old.labels.costs) up.new × (up.new.side ≡ up.old.side) }
+    ensures down { IsClean (length down.old.labels.costs) down.new × (down.new.side ≡ down.old.side) }
 {
     up.clean();
     down.clean();

@@ -21,9 +21,9 @@ impl Model for Scratch {
 
     ghost Value = { ℕ };
 
-    ghost view = { λ s. length s.up.costs };
+    ghost view = { λ s. length s.up.labels.costs };
 
-    ghost invariant = { λ s. IsScratch (length s.up.costs) s.up s.down };
+    ghost invariant = { λ s. IsScratch (length s.up.labels.costs) s.up s.down };
 }
 
 impl Scratch {

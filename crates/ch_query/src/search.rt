@@ -27,14 +27,12 @@ pub(crate) struct Search {
     /// The most that a path may weigh. A leg that would make it weigh more is not taken, so no node that is
     /// farther away gets a key.
     pub(crate) most: u64,
-    /// By node: the least cost known of a path from the source to it.
-    pub(crate) costs: Labels,
+    /// By node: the least cost known of a path from the source to it, and the least numbered node before it on a path of that cost.
+    pub(crate) labels: Labels,
     /// The nodes that are reached and not settled, by cost.
     pub(crate) queue: KeyQueue<Cost>,
     /// The nodes that have a cost, each once.
     pub(crate) touched: Vec<u32>,
-    /// By node that is reached: the least numbered node before it on a path of its cost.
-    pub(crate) parents: Vec<u32>,
 }
 
 impl Search {
@@ -43,19 +41,17 @@ impl Search {
         ensures clean { IfOk result (λ x. IsClean nodes x) }
         ensures side { IfOk result (λ x. x.side ≡ side) }
     {
-        let costs = Labels::new(alloc, nodes)?;
+        let labels = Labels::new(alloc, nodes)?;
         let queue = KeyQueue::new(alloc, nodes)?;
         let touched = Vec::with_capacity(alloc, nodes as usize)?;
-        let parents = vec![in alloc; 0; nodes as usize]?;
         Ok(Search {
             side,
             source: 0,
             stalls: false,
             most: MOST_WEIGHT,
-            costs,
+            labels,
             queue,
             touched,
-            parents,
         })
     }
 
@@ -102,44 +98,44 @@ impl Search {
 
     /// Writes what is known of a node that is not settled.
     fn reach(&mut self, node: u32, cost: Cost, parent: u32)
-        requires node { node < length self.old.costs }
+        requires node { node < length self.old.labels.costs }
         requires weight { cost.weight ≤ MOST_WEIGHT }
+        requires arcs { cost.arcs < 2 ^ 63 }
         requires room { IsRoom self.old }
-        ensures costs { self.new.costs ≡ slice_set self.old.costs node (Some cost) }
+        ensures costs { self.new.labels.costs ≡ slice_set self.old.labels.costs node (Some cost) }
         ensures queue { self.new.queue ≡ slice_set self.old.queue node (Some cost) }
-        ensures parents { self.new.parents.items ≡ slice_set self.old.parents.items node parent }
-        ensures touched { IsTouched self.new.costs self.new.touched }
+        ensures parents { self.new.labels.parents ≡ slice_set self.old.labels.parents node parent }
+        ensures touched { IsTouched self.new.labels.costs self.new.touched }
         ensures same { IsSameSearch self.old self.new }
     {
-        if self.costs.get(node).is_none() {
+        if self.labels.get(node).is_none() {
             self.touched.push_reserved(node);
         }
-        self.costs.set(node, cost);
+        self.labels.set(node, cost, parent);
         self.queue.set(node, cost);
-        self.parents[node as usize] = parent;
     }
 
     /// Takes a leg of `node`, which was settled at `cost`.
     fn relax(&mut self, node: u32, cost: Cost, leg: Leg)
-        requires node { leg.node < length self.old.costs }
+        requires node { leg.node < length self.old.labels.costs }
         requires room { IsRoom self.old }
         requires weights { (cost.weight ≤ MOST_WEIGHT) × (leg.cost.weight ≤ MOST_WEIGHT) }
-        requires arcs { cost.arcs + leg.cost.arcs < 2 ^ 64 }
+        requires arcs { cost.arcs + leg.cost.arcs < 2 ^ 63 }
         ensures relaxes { RelaxesIn self.old node cost leg self.new }
-        ensures touched { IsTouched self.new.costs self.new.touched }
+        ensures touched { IsTouched self.new.labels.costs self.new.touched }
         ensures same { IsSameSearch self.old self.new }
     {
         let sum = cost.plus(leg.cost);
         if sum.weight > self.most {
             return;
         }
-        if let Some(known) = self.costs.get(leg.node) {
+        if let Some(known) = self.labels.get(leg.node) {
             if known < sum {
                 return;
             }
             if known == sum {
-                if node < self.parents[leg.node as usize] {
-                    self.parents[leg.node as usize] = node;
+                if node < self.labels.parent(leg.node) {
+                    self.labels.set_parent(leg.node, node);
                 }
                 return;
             }
@@ -168,7 +164,7 @@ impl Search {
         ensures { result ≡ true → idle_of hierarchy.now self.now node cost }
     {
         for leg in self.side.other().legs(hierarchy, node) {
-            if let Some(known) = self.costs.get(leg.node) {
+            if let Some(known) = self.labels.get(leg.node) {
                 if is_below(known.plus(leg.cost), cost) {
                     return true;
                 }
@@ -211,12 +207,12 @@ impl Search {
     /// Takes all that is known away, in as many steps as nodes were touched.
     pub(crate) fn clean(&mut self)
         requires room { IsRoom self.old }
-        ensures clean { IsClean (length self.old.costs) self.new }
+        ensures clean { IsClean (length self.old.labels.costs) self.new }
         ensures side { self.new.side ≡ self.old.side }
     {
         self.queue.clear();
         while let Some(node) = self.touched.pop() {
-            self.costs.clear(node);
+            self.labels.clear(node);
         }
     }
 }

@@ -42,12 +42,12 @@ impl Search {
     /// The nodes with the weights of what they cost.
     fn weights(&self, alloc: Global, nodes: &[u32]) -> Result<Vec<(u32, u64)>, AllocError>
         requires order { AllPairs (λ a b. a < b) nodes.now }
-        requires known { (v : ℕ) → Contains nodes.now v → is_some (cost_at self.now.costs v) ≡ true }
-        ensures { IfOk result (λ list. AreWeights self.now.costs nodes.now list.items) }
+        requires known { (v : ℕ) → Contains nodes.now v → is_some (cost_at self.now.labels.costs v) ≡ true }
+        ensures { IfOk result (λ list. AreWeights self.now.labels.costs nodes.now list.items) }
     {
         let mut list = Vec::with_capacity(alloc, nodes.len())?;
         for node in nodes {
-            if let Some(cost) = self.costs.get(*node) {
+            if let Some(cost) = self.labels.get(*node) {
                 list.push_reserved((*node, cost.weight));
             }
         }

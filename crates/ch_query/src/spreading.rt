@@ -28,12 +28,12 @@ impl Search {
 
     /// The touched nodes with their costs.
     fn listed(&self, alloc: Global) -> Result<Vec<(u32, Cost)>, AllocError>
-        requires touched { IsTouched self.now.costs self.now.touched }
-        ensures { IfOk result (λ list. list.items ≡ map (entry self.now.costs) self.now.touched.items) }
+        requires touched { IsTouched self.now.labels.costs self.now.touched }
+        ensures { IfOk result (λ list. list.items ≡ map (entry self.now.labels.costs) self.now.touched.items) }
     {
         let mut list = Vec::with_capacity(alloc, self.touched.len())?;
         for node in &self.touched {
-            if let Some(cost) = self.costs.get(*node) {
+            if let Some(cost) = self.labels.get(*node) {
                 list.push_reserved((*node, cost));
             }
         }

@@ -77,16 +77,16 @@ ParentsOf : LevelsAndLegs → ℕ → Side → ℕ → Bool → List (Option Cos
 ParentsOf H most side s stalls best queue parents v = AreParents most (rows_of H side) s (OrNode (IsStalled (rows_of H side) (back_of H side stalls) s) v) best queue parents
 
 -- it is asked of equal parts too
-moved_parents : (H : LevelsAndLegs) (y z : Search) (best queue : List (Option Cost)) (parents : List ℕ) (v : ℕ) → IsSameSearch y z → z.costs ≡ best →
-    z.queue ≡ queue → z.parents.items ≡ parents → ParentsOf H y.most y.side y.source y.stalls best queue parents v →
-    ParentsOf H z.most z.side z.source z.stalls z.costs z.queue z.parents.items v
+moved_parents : (H : LevelsAndLegs) (y z : Search) (best queue : List (Option Cost)) (parents : List ℕ) (v : ℕ) → IsSameSearch y z → z.labels.costs ≡ best →
+    z.queue ≡ queue → z.labels.parents ≡ parents → ParentsOf H y.most y.side y.source y.stalls best queue parents v →
+    ParentsOf H z.most z.side z.source z.stalls z.labels.costs z.queue z.labels.parents v
 moved_parents H y z best queue parents v same e f g x =
-    subst (λ q. ParentsOf H q z.side z.source z.stalls z.costs z.queue z.parents.items v) (sym same.most)
-    (subst (λ q. ParentsOf H y.most z.side z.source q z.costs z.queue z.parents.items v) (sym same.stalls)
-    (subst (λ q. ParentsOf H y.most z.side q y.stalls z.costs z.queue z.parents.items v) (sym same.source)
-    (subst (λ q. ParentsOf H y.most q y.source y.stalls z.costs z.queue z.parents.items v) (sym same.side)
-    (subst (λ q. ParentsOf H y.most y.side y.source y.stalls q z.queue z.parents.items v) (sym e)
-    (subst (λ q. ParentsOf H y.most y.side y.source y.stalls best q z.parents.items v) (sym f)
+    subst (λ q. ParentsOf H q z.side z.source z.stalls z.labels.costs z.queue z.labels.parents v) (sym same.most)
+    (subst (λ q. ParentsOf H y.most z.side z.source q z.labels.costs z.queue z.labels.parents v) (sym same.stalls)
+    (subst (λ q. ParentsOf H y.most z.side q y.stalls z.labels.costs z.queue z.labels.parents v) (sym same.source)
+    (subst (λ q. ParentsOf H y.most q y.source y.stalls z.labels.costs z.queue z.labels.parents v) (sym same.side)
+    (subst (λ q. ParentsOf H y.most y.side y.source y.stalls q z.queue z.labels.parents v) (sym e)
+    (subst (λ q. ParentsOf H y.most y.side y.source y.stalls best q z.labels.parents v) (sym f)
     (subst (λ q. ParentsOf H y.most y.side y.source y.stalls best queue q v) (sym g) x))))))
 
 -- what stays the same twice stays the same
@@ -94,17 +94,17 @@ pub same_then : (x y z : Search) → IsSameSearch x y → IsSameSearch y z → I
 same_then x y z a b = record { side = b.side ∙ a.side; source = b.source ∙ a.source; stalls = b.stalls ∙ a.stalls; most = b.most ∙ a.most }
 
 -- a leg that is taken by one of two equal searches is taken by the other
-still_relaxed : (y z : Search) (c : Cost) (v : ℕ) (k : Leg) (best : List (Option Cost)) → IsSameSearch y z → z.costs ≡ best →
-    IsRelaxedFrom y.most best c k × IsNoEarlier y.most best z.parents.items v c k → IsRelaxedFrom z.most z.costs c k × IsNoEarlier z.most z.costs z.parents.items v c k
+still_relaxed : (y z : Search) (c : Cost) (v : ℕ) (k : Leg) (best : List (Option Cost)) → IsSameSearch y z → z.labels.costs ≡ best →
+    IsRelaxedFrom y.most best c k × IsNoEarlier y.most best z.labels.parents v c k → IsRelaxedFrom z.most z.labels.costs c k × IsNoEarlier z.most z.labels.costs z.labels.parents v c k
 still_relaxed y z c v k best same e r =
-    subst (λ most. IsRelaxedFrom most z.costs c k × IsNoEarlier most z.costs z.parents.items v c k) (sym same.most)
-    (subst (λ q. IsRelaxedFrom y.most q c k × IsNoEarlier y.most q z.parents.items v c k) (sym e) r)
+    subst (λ most. IsRelaxedFrom most z.labels.costs c k × IsNoEarlier most z.labels.costs z.labels.parents v c k) (sym same.most)
+    (subst (λ q. IsRelaxedFrom y.most q c k × IsNoEarlier y.most q z.labels.parents v c k) (sym e) r)
 
 -- the leg shows nothing cheaper
-module _ (H : LevelsAndLegs) (x y z : Search) (v : ℕ) (c : Cost) (legs : List Leg) (l : Leg) (p : IsPartlyExpanded H x y v c legs) (e : z.costs ≡ y.costs)
-    (f : z.queue ≡ y.queue) (t : IsTouched z.costs z.touched) (same : IsSameSearch y z)
-    (parents : AreParents y.most (rows_of H y.side) y.source (OrNode (idle_of H y) v) y.costs y.queue z.parents.items)
-    (relaxed : (k : Leg) → Contains (legs ++ l ∷ []) k → IsRelaxedFrom y.most y.costs c k × IsNoEarlier y.most y.costs z.parents.items v c k) where
+module _ (H : LevelsAndLegs) (x y z : Search) (v : ℕ) (c : Cost) (legs : List Leg) (l : Leg) (p : IsPartlyExpanded H x y v c legs) (e : z.labels.costs ≡ y.labels.costs)
+    (f : z.queue ≡ y.queue) (t : IsTouched z.labels.costs z.touched) (same : IsSameSearch y z)
+    (parents : AreParents y.most (rows_of H y.side) y.source (OrNode (idle_of H y) v) y.labels.costs y.queue z.labels.parents)
+    (relaxed : (k : Leg) → Contains (legs ++ l ∷ []) k → IsRelaxedFrom y.most y.labels.costs c k × IsNoEarlier y.most y.labels.costs z.labels.parents v c k) where
   -- then one leg more is taken
   partly_same : IsPartlyExpanded H x z v c (legs ++ l ∷ [])
   unfolding ExpandingOf ParentsOf
@@ -113,36 +113,36 @@ module _ (H : LevelsAndLegs) (x y z : Search) (v : ℕ) (c : Cost) (legs : List 
     expanding = record {
       levelled = p.expanding.levelled;
       within = p.expanding.within;
-      search = moved H y z z.costs z.queue v c same
-          (subst (λ q. ExpandingOf H y.most y.side y.source y.stalls z.costs q v c) (sym f)
+      search = moved H y z z.labels.costs z.queue v c same
+          (subst (λ q. ExpandingOf H y.most y.side y.source y.stalls z.labels.costs q v c) (sym f)
           (subst (λ q. ExpandingOf H y.most y.side y.source y.stalls q y.queue v c) (sym e) p.expanding.search));
-      parents = moved_parents H y z y.costs y.queue z.parents.items v same e f refl parents;
+      parents = moved_parents H y z y.labels.costs y.queue z.labels.parents v same e f refl parents;
       touched = t;
     };
-    relaxed = λ k of. still_relaxed y z c v k y.costs same e (relaxed k of);
+    relaxed = λ k of. still_relaxed y z c v k y.labels.costs same e (relaxed k of);
     settled = λ w d k. p.settled w d (sym (ap (λ q. cost_at q w) e) ∙ k.0, sym (ap (λ q. cost_at q w) f) ∙ k.1);
     stays = λ w d k. let s = p.stays w d k in (ap (λ q. cost_at q w) e ∙ s.0, ap (λ q. cost_at q w) f ∙ s.1);
-    measure = ap (λ q. count_unsettled q z.queue) e ∙ ap (count_unsettled y.costs) f ∙ p.measure;
+    measure = ap (λ q. count_unsettled q z.queue) e ∙ ap (count_unsettled y.labels.costs) f ∙ p.measure;
   }
 
 -- one leg more is taken
 pub partly_more : (H : LevelsAndLegs) (x y z : Search) (v : ℕ) (c : Cost) (legs : List Leg) (l : Leg) → IsPartlyExpanded H x y v c legs →
-    Contains (row (rows_of H y.side) v) l → l.node < length y.costs → RelaxesIn y v c l z → IsTouched z.costs z.touched →
+    Contains (row (rows_of H y.side) v) l → l.node < length y.labels.costs → RelaxesIn y v c l z → IsTouched z.labels.costs z.touched →
     IsSameSearch y z → IsPartlyExpanded H x z v c (legs ++ l ∷ [])
 unfolding ExpandingOf ParentsOf
 partly_more H x y z v c legs l p has within (inl (e, f, is, inl (early, g))) t same =
     partly_same H x y z v c legs l p e f t same
-    (subst (λ q. AreParents y.most (rows_of H y.side) y.source (OrNode (idle_of H y) v) y.costs y.queue q) (sym g) p.expanding.parents)
+    (subst (λ q. AreParents y.most (rows_of H y.side) y.source (OrNode (idle_of H y) v) y.labels.costs y.queue q) (sym g) p.expanding.parents)
     (λ k of. elim (Contains-push_cases legs l k of) [
-      | inl old ↦ ((p.relaxed k old).0, subst (λ q. IsNoEarlier y.most y.costs q v c k) (sym g) (p.relaxed k old).1)
-      | inr new ↦ subst (λ m. IsRelaxedFrom y.most y.costs c m × IsNoEarlier y.most y.costs z.parents.items v c m) new
-          (is, subst (λ q. IsNoEarlier y.most y.costs q v c l) (sym g) early)
+      | inl old ↦ ((p.relaxed k old).0, subst (λ q. IsNoEarlier y.most y.labels.costs q v c k) (sym g) (p.relaxed k old).1)
+      | inr new ↦ subst (λ m. IsRelaxedFrom y.most y.labels.costs c m × IsNoEarlier y.most y.labels.costs z.labels.parents v c m) new
+          (is, subst (λ q. IsNoEarlier y.most y.labels.costs q v c l) (sym g) early)
     ])
 partly_more H x y z v c legs l p has within (inl (e, f, is, inr (equal, lt, g))) t same =
     let here = p.expanding.search.here in
     let old_parents = p.expanding.parents in
     partly_same H x y z v c legs l p e f t same
-    (subst (λ q. AreParents y.most (rows_of H y.side) y.source (OrNode (idle_of H y) v) y.costs y.queue q) (sym g)
+    (subst (λ q. AreParents y.most (rows_of H y.side) y.source (OrNode (idle_of H y) v) y.labels.costs y.queue q) (sym g)
     (equal_parents _ _ _ _ _ _ v c here old_parents l has within equal lt))
     (λ k of. elim (Contains-push_cases legs l k of) [
       | inl old ↦ (
@@ -153,7 +153,7 @@ partly_more H x y z v c legs l p has within (inl (e, f, is, inr (equal, lt, g)))
             let i = ap (λ q. slice_index q k.node) g in
             omega arith,
       )
-      | inr new ↦ subst (λ m. IsRelaxedFrom y.most y.costs c m × IsNoEarlier y.most y.costs z.parents.items v c m) new (
+      | inr new ↦ subst (λ m. IsRelaxedFrom y.most y.labels.costs c m × IsNoEarlier y.most y.labels.costs z.labels.parents v c m) new (
         is,
         λ low at.
             let d = equal_here _ _ _ _ _ _ v c here old_parents l has within equal lt in
@@ -164,16 +164,16 @@ partly_more H x y z v c legs l p has within (inl (e, f, is, inr (equal, lt, g)))
 partly_more H x y z v c legs l p has within (inr (light, lower, e, f, g)) t same =
     let s = p.expanding.search in
     let a = p.expanding.parents in
-    let best = set y.costs l.node (Some (cost_sum c l.cost)) in
+    let best = set y.labels.costs l.node (Some (cost_sum c l.cost)) in
     let queue = set y.queue l.node (Some (cost_sum c l.cost)) in
-    let parents = set y.parents.items l.node v in
+    let parents = set y.labels.parents l.node v in
     record {
       same = same_then x y z p.same same;
       expanding = record {
         levelled = p.expanding.levelled;
         within = p.expanding.within;
-        search = moved H y z z.costs z.queue v c same
-            (subst (λ q. ExpandingOf H y.most y.side y.source y.stalls z.costs q v c) (sym f)
+        search = moved H y z z.labels.costs z.queue v c same
+            (subst (λ q. ExpandingOf H y.most y.side y.source y.stalls z.labels.costs q v c) (sym f)
             (subst (λ q. ExpandingOf H y.most y.side y.source y.stalls q queue v c) (sym e) (lowered _ _ _ _ _ v c s l has light lower)));
         parents = moved_parents H y z best queue parents v same e f g (lowered_parents _ _ _ _ _ _ v c s a l has light lower);
         touched = t;
@@ -221,7 +221,7 @@ leg_read H x y v c legs items i d p e lt = subst (λ xs. Contains xs (get_or ite
 -- its node is there, and its sum does not overflow
 pub leg_bounds : (H : LevelsAndLegs) (x y : Search) (v : ℕ) (c : Cost) (legs : List Leg) (l : Leg) → IsPartlyExpanded H x y v c legs →
     Contains (row (rows_of H y.side) v) l →
-    (l.node < length y.costs) × (c.weight ≤ MOST_WEIGHT) × (l.cost.weight ≤ MOST_WEIGHT) × (c.arcs + l.cost.arcs < 2 ^ 64)
+    (l.node < length y.labels.costs) × (c.weight ≤ MOST_WEIGHT) × (l.cost.weight ≤ MOST_WEIGHT) × (c.arcs + l.cost.arcs < 2 ^ 63)
 leg_bounds H x y v c legs l p has =
     let k = p.expanding.levelled in
     let u = leg_up H k y.side v l has in
@@ -237,7 +237,7 @@ leg_bounds H x y v c legs l p has =
 -- the leg that the program reads is taken
 pub partly_step : (H : LevelsAndLegs) (x y z : Search) (v : ℕ) (c : Cost) (items : List Leg) (i : ℕ) (d : Leg) → IsPartlyExpanded H x y v c (take i items) →
     items ≡ row (rows_of H x.side) v → i < length items →
-    RelaxesIn y v c (get_or items i d) z → IsTouched z.costs z.touched → IsSameSearch y z → IsPartlyExpanded H x z v c (take (i + 1) items)
+    RelaxesIn y v c (get_or items i d) z → IsTouched z.labels.costs z.touched → IsSameSearch y z → IsPartlyExpanded H x z v c (take (i + 1) items)
 partly_step H x y z v c items i d p e lt r t same =
     let has = leg_read H x y v c (take i items) items i d p e lt in
     subst (IsPartlyExpanded H x z v c) (sym (take_more items i d lt))

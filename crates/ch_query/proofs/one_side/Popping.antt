@@ -67,13 +67,13 @@ module _ (H : LevelsAndLegs) (x : Search) (q : List (Option Cost)) (v : ℕ) (c 
   pop_expands = record {
     levelled = u.levelled;
     within = (let a = within in let b = u.search.sizes.1 in let d = rows_size H u.levelled x.side in omega arith);
-    search = subst (λ r. IsExpanding x.most (rows_of H x.side) x.source (OrNode (idle_of H x) v) x.costs r v c) (sym e)
+    search = subst (λ r. IsExpanding x.most (rows_of H x.side) x.source (OrNode (idle_of H x) v) x.labels.costs r v c) (sym e)
         (popped _ _ _ _ _ u.search v c l.has l.least within);
-    parents = subst (λ r. AreParents x.most (rows_of H x.side) x.source (OrNode (idle_of H x) v) x.costs r x.parents.items) (sym e)
+    parents = subst (λ r. AreParents x.most (rows_of H x.side) x.source (OrNode (idle_of H x) v) x.labels.costs r x.labels.parents) (sym e)
         (popped_parents _ _ _ _ _ _ u.search u.parents v c l.has l.least within);
     touched = u.touched;
   }
 
   -- one node fewer is not settled
   pub pop_falls : count_unsettled_in (with_queue x q) + 1 ≡ count_unsettled_in x
-  pop_falls = ap (λ r. count_unsettled x.costs r + 1) e ∙ popped_falls _ _ _ _ _ u.search v c l.has l.least within
+  pop_falls = ap (λ r. count_unsettled x.labels.costs r + 1) e ∙ popped_falls _ _ _ _ _ u.search v c l.has l.least within

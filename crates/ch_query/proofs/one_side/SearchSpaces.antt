@@ -43,16 +43,16 @@ module _ (H : LevelsAndLegs) (x : Search) (nodes : List ℕ) (a : AreUnstalled H
     (l : IsLeastKey x.queue v c) (e : q ≡ set x.queue v None) (z : Search) (same : IsSameSearch (with_queue x q) z) (settled : KeepsSettled (with_queue x q) z)
     (stays : KeepsSettled z (with_queue x q)) where
   -- what was settled is so now
-  remains : (w : ℕ) (d : Cost) → IsSettled x.costs x.queue w d → IsSettled z.costs z.queue w d
-  remains w d h = stays w d (subst (λ r. IsSettled x.costs r w d) (sym e) (popped_stays _ _ _ _ _ u.search v c l.has l.least (key_within x.queue v c l.has) w d h))
+  remains : (w : ℕ) (d : Cost) → IsSettled x.labels.costs x.queue w d → IsSettled z.labels.costs z.queue w d
+  remains w d h = stays w d (subst (λ r. IsSettled x.labels.costs r w d) (sym e) (popped_stays _ _ _ _ _ u.search v c l.has l.least (key_within x.queue v c l.has) w d h))
 
   -- and so is v
-  here : IsSettled z.costs z.queue v c
-  here = stays v c (subst (λ r. IsSettled x.costs r v c) (sym e) (popped_here _ _ _ _ _ u.search v c l.has l.least (key_within x.queue v c l.has)))
+  here : IsSettled z.labels.costs z.queue v c
+  here = stays v c (subst (λ r. IsSettled x.labels.costs r v c) (sym e) (popped_here _ _ _ _ _ u.search v c l.has l.least (key_within x.queue v c l.has)))
 
   -- no other node is
-  was : (w : ℕ) (d : Cost) → IsSettled z.costs z.queue w d → IsSettled x.costs x.queue w d ⊎ ((w ≡ v) × (d ≡ c))
-  was w d h = popped_settled _ _ _ _ _ u.search v c l.has l.least (key_within x.queue v c l.has) w d (subst (λ r. IsSettled x.costs r w d) e (settled w d h))
+  was : (w : ℕ) (d : Cost) → IsSettled z.labels.costs z.queue w d → IsSettled x.labels.costs x.queue w d ⊎ ((w ≡ v) × (d ≡ c))
+  was w d h = popped_settled _ _ _ _ _ u.search v c l.has l.least (key_within x.queue v c l.has) w d (subst (λ r. IsSettled x.labels.costs r w d) e (settled w d h))
 
   -- what was idle is so now
   still_idle : (w : ℕ) (d : Cost) → idle_of H x w d → idle_of H z w d
@@ -77,7 +77,7 @@ module _ (H : LevelsAndLegs) (x : Search) (nodes : List ℕ) (a : AreUnstalled H
         none-some _ (sym s.1.1 ∙ ap (cost_at x.queue) is ∙ l.has));
     settled = λ w h. elim (Contains-push_cases nodes v w h) [
       | inl old ↦ (let s = a.settled w old in (s.0, remains w s.0 s.1))
-      | inr is ↦ subst (λ r. (d : Cost) × IsSettled z.costs z.queue r d) is (c, here)
+      | inr is ↦ subst (λ r. (d : Cost) × IsSettled z.labels.costs z.queue r d) is (c, here)
     ];
     whole = λ w d h. elim (was w d h) [
       | inl old ↦ elim (a.whole w d old) [ inl i ↦ inl (still_idle w d i) | inr has ↦ inr (Contains-append_left nodes (v ∷ []) w has) ]
@@ -139,11 +139,11 @@ module _ (best : List (Option Cost)) (nodes : List ℕ) (rises : AllPairs (λ a 
 module _ (H : LevelsAndLegs) (k : IsKeptForSome H) (x : Search) (u : IsUnderway H x) (on : x.stalls ≡ true) (done : IsEmpty x.queue) (limit : Option ℕ)
     (most : IsMost limit x.most) (nodes sorted : List ℕ) (a : AreUnstalled H x nodes) (p : IsPermutation nodes sorted) where
   -- the nodes at which it did not stall have costs
-  pub unstalled_known : (v : ℕ) → Contains sorted v → is_some (cost_at x.costs v) ≡ true
+  pub unstalled_known : (v : ℕ) → Contains sorted v → is_some (cost_at x.labels.costs v) ≡ true
   unstalled_known v h = let s = a.settled v (Contains-permutation sorted nodes v (IsPermutation-sym nodes sorted p) h) in ap is_some s.1.0
 
   -- with their weights they are the search space
-  space_is : (list : List (ℕ × ℕ)) → AreWeights x.costs sorted list → IsSearchSpace H x.side limit x.source list
+  space_is : (list : List (ℕ × ℕ)) → AreWeights x.labels.costs sorted list → IsSearchSpace H x.side limit x.source list
   space_is list w = record {
     order = w.order;
     sound = λ v y h. let s = w.sound v y h in ((s.1, u.search.sound v s.1 s.2, s.3), subst (IsWithin limit) s.3 (most.sound s.1.weight (u.search.light v s.1 s.2)));
@@ -157,5 +157,5 @@ module _ (H : LevelsAndLegs) (k : IsKeptForSome H) (x : Search) (u : IsUnderway 
   }
 
   -- by the source and the side with which it began
-  pub space_of : (s : ℕ) (side : Side) → x.source ≡ s → x.side ≡ side → (list : List (ℕ × ℕ)) → AreWeights x.costs sorted list → IsSearchSpace H side limit s list
+  pub space_of : (s : ℕ) (side : Side) → x.source ≡ s → x.side ≡ side → (list : List (ℕ × ℕ)) → AreWeights x.labels.costs sorted list → IsSearchSpace H side limit s list
   space_of s side source is list w = subst (λ q. IsSearchSpace H q limit s list) is (subst (λ q. IsSearchSpace H x.side limit q list) source (space_is list w))

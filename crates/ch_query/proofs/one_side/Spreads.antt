@@ -55,7 +55,7 @@ sorted_underway H x sorted u p order len capacity = record {
   levelled = u.levelled;
   search = u.search;
   parents = u.parents;
-  touched = touched_sorted x.costs x.touched sorted u.touched p order len capacity;
+  touched = touched_sorted x.labels.costs x.touched sorted u.touched p order len capacity;
 }
 
 -- a search underway has room
@@ -78,17 +78,17 @@ never_idle H x off v c idle = none_in_row v idle.leg (subst (λ b. Contains (row
 -- a search that ended without stalling, and its touched nodes in order
 module _ (H : LevelsAndLegs) (x : Search) (u : IsUnderway H x) (off : x.stalls ≡ false) (done : IsEmpty x.queue) (limit : Option ℕ) (most : IsMost limit x.most)
     (nodes : List ℕ) (rises : AllPairs (λ a b. a < b) nodes)
-    (reached : (v : ℕ) → Contains nodes v → is_some (cost_at x.costs v) ≡ true) (all : (v : ℕ) → is_some (cost_at x.costs v) ≡ true → Contains nodes v) where
+    (reached : (v : ℕ) → Contains nodes v → is_some (cost_at x.labels.costs v) ≡ true) (all : (v : ℕ) → is_some (cost_at x.labels.costs v) ≡ true → Contains nodes v) where
   -- an entry of the list, by its place
-  at : (i : ℕ) (d : ℕ × Cost) → i < length nodes → get_or (map (entry x.costs) nodes) i d ≡ entry x.costs (get_or nodes i 0)
-  at i d lt = get_or-map (entry x.costs) nodes i 0 d lt
+  at : (i : ℕ) (d : ℕ × Cost) → i < length nodes → get_or (map (entry x.labels.costs) nodes) i d ≡ entry x.labels.costs (get_or nodes i 0)
+  at i d lt = get_or-map (entry x.labels.costs) nodes i 0 d lt
 
   -- as many entries as nodes
-  size : length (map (entry x.costs) nodes) ≡ length nodes
-  size = length-map nodes (entry x.costs)
+  size : length (map (entry x.labels.costs) nodes) ≡ length nodes
+  size = length-map nodes (entry x.labels.costs)
 
   -- the nodes with their costs are all that is reached
-  pub spread_is : IsSpread (rows_of H x.side) limit x.source (map (entry x.costs) nodes)
+  pub spread_is : IsSpread (rows_of H x.side) limit x.source (map (entry x.labels.costs) nodes)
   spread_is = record {
     order = λ i j d lt within.
         let n = size in
@@ -101,31 +101,31 @@ module _ (H : LevelsAndLegs) (x : Search) (u : IsUnderway H x) (off : x.stalls �
     sound = λ v c h.
         let n = size in
         let low : h.0 < length nodes = (let lt = h.1 in omega arith) in
-        let is : entry x.costs (get_or nodes h.0 0) ≡ (v, c) = sym (at h.0 (v, c) low) ∙ h.2 in
+        let is : entry x.labels.costs (get_or nodes h.0 0) ≡ (v, c) = sym (at h.0 (v, c) low) ∙ h.2 in
         let node : get_or nodes h.0 0 ≡ v = ap (λ (e : ℕ × Cost). e.0) is in
         let has : Contains nodes v = subst (Contains nodes) node (Contains-get_or nodes h.0 0 low) in
-        let cost : unwrap_or (cost_at x.costs v) no_cost ≡ c = ap (λ q. unwrap_or (cost_at x.costs q) no_cost) (sym node) ∙ ap (λ (e : ℕ × Cost). e.1) is in
-        let known : cost_at x.costs v ≡ Some c = some_known _ (reached v has) ∙ ap Some cost in
+        let cost : unwrap_or (cost_at x.labels.costs v) no_cost ≡ c = ap (λ q. unwrap_or (cost_at x.labels.costs q) no_cost) (sym node) ∙ ap (λ (e : ℕ × Cost). e.1) is in
+        let known : cost_at x.labels.costs v ≡ Some c = some_known _ (reached v has) ∙ ap Some cost in
         (known_least _ _ _ _ _ u.search (never_idle H x off) done v c known, most.sound c.weight (u.search.light v c known));
     whole = λ v c h low.
         let n = size in
         let known = least_known _ _ _ _ _ u.search (never_idle H x off) done v c h (most.whole c.weight h.weight low) in
         let has = all v (ap is_some known) in
-        let low : has.0 < length (map (entry x.costs) nodes) = (let lt = has.1 in omega arith) in
+        let low : has.0 < length (map (entry x.labels.costs) nodes) = (let lt = has.1 in omega arith) in
         let node : get_or nodes has.0 0 ≡ v = sym (get_or_default nodes has.0 v 0 has.1) ∙ has.2 in
-        (has.0, low, at has.0 (v, c) has.1 ∙ ap (entry x.costs) node ∙ (λ i. (v, ap (λ q. unwrap_or q no_cost) known i)));
+        (has.0, low, at has.0 (v, c) has.1 ∙ ap (entry x.labels.costs) node ∙ (λ i. (v, ap (λ q. unwrap_or q no_cost) known i)));
   }
 
 -- the nodes of a search that ended without stalling, once they are sorted
 pub spread_of : (H : LevelsAndLegs) (x : Search) (sorted : Vec ℕ Global) (s : ℕ) (side : Side) (limit : Option ℕ) → IsMost limit x.most → IsUnderway H x → x.stalls ≡ false → x.source ≡ s → x.side ≡ side → IsEmpty x.queue →
     IsPermutation x.touched.items sorted.items → IsSorted nat_cmp sorted.items →
-    IsSpread (rows_of H side) limit s (map (entry x.costs) sorted.items)
+    IsSpread (rows_of H side) limit s (map (entry x.labels.costs) sorted.items)
 spread_of H x sorted s side limit most u off source is done p order =
     let spread = spread_is H x u off done limit most sorted.items (sorted_rises x.touched.items sorted.items u.touched.distinct p order)
     (λ v h. u.touched.reached v (Contains-permutation sorted.items x.touched.items v (IsPermutation-sym x.touched.items sorted.items p) h))
     (λ v k. Contains-permutation x.touched.items sorted.items v p (u.touched.listed v k)) in
-    let from_source = subst (λ q. IsSpread (rows_of H x.side) limit q (map (entry x.costs) sorted.items)) source spread in
-    subst (λ q. IsSpread (rows_of H q) limit s (map (entry x.costs) sorted.items)) is from_source
+    let from_source = subst (λ q. IsSpread (rows_of H x.side) limit q (map (entry x.labels.costs) sorted.items)) source spread in
+    subst (λ q. IsSpread (rows_of H q) limit s (map (entry x.labels.costs) sorted.items)) is from_source
 
 -- a touched node that is listed has a cost
 pub item_known : (best : List (Option Cost)) (touched : Vec ℕ Global) (items : List ℕ) (i : ℕ) → IsTouched best touched → items ≡ touched.items → i < length items →

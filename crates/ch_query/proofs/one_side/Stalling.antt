@@ -18,7 +18,7 @@ use Rattle.ch_query.proofs.one_side.Expanding.{leg_up, rows_size, reached_arcs}
 -- a leg that the stall test reads leads to a node
 pub record IsBackLeg (H : LevelsAndLegs) (x : Search) (v : ℕ) (l : Leg) : Type 0 where
   pub has : Contains (row (rows_of H (other x.side)) v) l
-  pub within : l.node < length x.costs
+  pub within : l.node < length x.labels.costs
 
 module _ (H : LevelsAndLegs) (x : Search) (v : ℕ) (c : Cost) (u : IsExpandingAt H x v c) where
   -- the test reads such legs
@@ -31,7 +31,7 @@ module _ (H : LevelsAndLegs) (x : Search) (v : ℕ) (c : Cost) (u : IsExpandingA
       record { has = has; within = omega arith }
 
   -- their sums do not overflow
-  pub back_sum : (l : Leg) (e : Cost) → IsBackLeg H x v l → cost_at x.costs l.node ≡ Some e → (e.weight + l.cost.weight ≤ MOST_SUM) × (e.arcs + l.cost.arcs < 2 ^ 64)
+  pub back_sum : (l : Leg) (e : Cost) → IsBackLeg H x v l → cost_at x.labels.costs l.node ≡ Some e → (e.weight + l.cost.weight ≤ MOST_SUM) × (e.arcs + l.cost.arcs < 2 ^ 64)
   back_sum l e b known =
       let up = leg_up H u.levelled (other x.side) v l b.has in
       let r = u.search.search.sound l.node e known in
@@ -43,7 +43,7 @@ module _ (H : LevelsAndLegs) (x : Search) (v : ℕ) (c : Cost) (u : IsExpandingA
       (omega arith, omega arith)
 
   -- a sum that is less than c lets v be idle
-  pub stalls_idle : (l : Leg) (e : Cost) → x.stalls ≡ true → IsBackLeg H x v l → cost_at x.costs l.node ≡ Some e → IsBelow (cost_sum e l.cost) c → idle_of H x v c
+  pub stalls_idle : (l : Leg) (e : Cost) → x.stalls ≡ true → IsBackLeg H x v l → cost_at x.labels.costs l.node ≡ Some e → IsBelow (cost_sum e l.cost) c → idle_of H x v c
   stalls_idle l e on b known below = record {
     leg = l;
     has = subst (λ s. Contains (row (back_of H x.side s) v) l) (sym on) b.has;

@@ -99,7 +99,7 @@ module _ (H : LevelsAndLegs) (k : IsKeptForSome H) (x : Search) (u : IsUnderway 
   tight_not_idle idle = avoids m a [] idle refl (subst (λ q. IsAtMost q a) (sym (cost_sum-no_cost a)) (IsAtMost_refl a))
 
   -- once each key that is left is more, the node is settled at that cost
-  pub tight_settled : a.weight ≤ x.most → IsPastCost x.queue a → IsSettled x.costs x.queue m a
+  pub tight_settled : a.weight ≤ x.most → IsPastCost x.queue a → IsSettled x.labels.costs x.queue m a
   tight_settled low past = settled_least _ _ _ _ _ u.search m a low past avoids (tight_least H x.side x.source m a tight)
 
   -- so the search has reached it

@@ -1,8 +1,8 @@
 -- The way back, step by step.
-use Rattle.std.proofs.Common.{◌≡◌, ℕ, ◌+◌, ◌<◌, ◌≤◌, List, [], ◌∷◌, ◌++◌, map, length, Contains, Some, refl, sym, ◌∙◌, ap, subst, arith, get_or, inl, inr, Vec, vec_len}
+use Rattle.std.proofs.Common.{◌≡◌, ℕ, ◌+◌, ◌<◌, ◌≤◌, List, [], ◌∷◌, ◌++◌, map, length, Contains, Some, refl, sym, ◌∙◌, ap, subst, arith, inl, inr, Vec, vec_len}
 use Rattle.std.specs.Prelude.{◌≢◌, slice_index, vec_capacity, is_some}
 use Rattle.std.specs.declared.alloc.Global.{Global}
-use Rattle.std.proofs.lemmas.List.{append_assoc, append-nil, map_push, get_or_default}
+use Rattle.std.proofs.lemmas.List.{append_assoc, append-nil, map_push}
 use Rattle.ch_graph.specs.declared.cost.Cost.{Cost}
 use Rattle.ch_graph.specs.Cost.{IsAtMost, cost_sum, cost_at}
 use Rattle.ch_graph.proofs.CostOrder.{IsAtMost_refl}
@@ -31,7 +31,7 @@ use Rattle.ch_query.proofs.one_side.Touched.{some_within}
 -- the chosen steps from m back to x were appended, and x lies on a least path to m
 pub record IsPartlyTraced (H : LevelsAndLegs) (y : Search) (m x : ℕ) (c : Cost) (old : List PendingLeg) (new : Vec PendingLeg Global) : Type 0 where
   pub cost : Cost
-  pub known : cost_at y.costs x ≡ Some cost
+  pub known : cost_at y.labels.costs x ≡ Some cost
   pub least : IsLeastUpwardPath (rows_of H y.side) y.source x cost
   pub tail : List Leg
   pub path : IsUpwardPath (rows_of H y.side) x m tail
@@ -74,20 +74,20 @@ module _ (H : LevelsAndLegs) (k : IsKeptForSome H) (y : Search) (m x : ℕ) (c :
   tracing_ends is = record { steps = t.done; descent = subst (IsDescent (rows_of H y.side) y.source m) (append-nil t.done) (t.descent [] is); pushed = t.pushed }
 
   -- the node has a parent
-  pub node_within : x < length y.parents.items
-  node_within = let size = r.underway.parents.size in let lt = some_within y.costs x (ap is_some t.known) in omega arith
+  pub node_within : x < length y.labels.parents
+  node_within = let size = r.underway.parents.size in let lt = some_within y.labels.costs x (ap is_some t.known) in omega arith
 
   module _ (ne : x ≢ y.source) where
     light : c.weight ≤ y.most
     light = r.underway.search.light m c r.known
 
-    of : IsParent (rows_of H y.side) y.costs y.queue x t.cost (slice_index y.parents.items x)
+    of : IsParent (rows_of H y.side) y.labels.costs y.queue x t.cost (slice_index y.labels.parents x)
     of = parent _ _ _ _ _ _ r.underway.search r.underway.parents m c light r.past r.avoids x ne t.cost t.known t.least t.tail t.path t.cheap
 
-    module _ (p : ℕ) (read : p ≡ get_or y.parents.items x p) where
+    module _ (p : ℕ) (read : p ≡ slice_index y.labels.parents x) where
       -- the number that was read
-      is : slice_index y.parents.items x ≡ p
-      is = sym (get_or_default y.parents.items x p 0 node_within) ∙ sym read
+      is : slice_index y.labels.parents x ≡ p
+      is = sym read
 
       -- it has the leg
       has : Contains (row (rows_of H y.side) p) of.leg
@@ -153,7 +153,7 @@ module _ (H : LevelsAndLegs) (k : IsKeptForSome H) (y : Search) (m x : ℕ) (c :
             let step : DescentStep = record { low = p; leg = l } in
             record {
               cost = of.cost;
-              known = ap (cost_at y.costs) (sym is) ∙ of.settled.0;
+              known = ap (cost_at y.labels.costs) (sym is) ∙ of.settled.0;
               least = least;
               tail = l ∷ t.tail;
               path = (l_has, subst (λ q. IsUpwardPath (rows_of H y.side) q m t.tail) (sym found.1) t.path);

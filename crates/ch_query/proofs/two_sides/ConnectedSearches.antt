@@ -76,7 +76,7 @@ settled_apart Past e = refl
 module _ (H : LevelsAndLegs) (x y : Search) (most : Cost) (m : AreApart H x y most) (q : List (Option Cost)) (v : ℕ) (c : Cost)
     (l : IsLeastKey x.queue v c) (e : q ≡ set x.queue v None) (z : Search) (u : IsUnderway H z) (same : IsSameSearch (with_queue x q) z) (settled : KeepsSettled (with_queue x q) z) where
   -- v is known at c here
-  known : cost_at x.costs v ≡ Some c
+  known : cost_at x.labels.costs v ≡ Some c
   known = m.here.search.queued v c l.has
 
   -- a path to v costs c
@@ -84,20 +84,20 @@ module _ (H : LevelsAndLegs) (x y : Search) (most : Cost) (m : AreApart H x y mo
   here_at = subst (λ s. IsUpwardCost (rows_of H z.side) s v c) (sym same.source) (subst (λ s. IsUpwardCost (rows_of H s) x.source v c) (sym same.side) (m.here.search.sound v c known))
 
   -- where the other side knows v within the bound, they are connected
-  pub connected_at : (d : Cost) → cost_at y.costs v ≡ Some d → IsAtMost (cost_sum c d) most → AreConnected H z y most
+  pub connected_at : (d : Cost) → cost_at y.labels.costs v ≡ Some d → IsAtMost (cost_sum c d) most → AreConnected H z y most
   connected_at d at le = (v, c, d, here_at, m.there.search.sound v d at, le)
 
   -- where it doesn't, they stay apart
-  pub still_apart : ((d : Cost) → cost_at y.costs v ≡ Some d → IsBelow most (cost_sum c d)) → AreApart H z y most
+  pub still_apart : ((d : Cost) → cost_at y.labels.costs v ≡ Some d → IsBelow most (cost_sum c d)) → AreApart H z y most
   still_apart above = record {
     here = u;
     there = m.there;
     stalls = (same.stalls ∙ m.stalls.0, m.stalls.1);
     limits = (subst (IsMost (Some most.weight)) (sym same.most) m.limits.0, m.limits.1);
     apart = λ w a b h k. elim (popped_settled _ _ _ _ _ m.here.search v c l.has l.least (key_within x.queue v c l.has) w a
-        (subst (λ r. IsSettled x.costs r w a) e (settled w a h))) [
+        (subst (λ r. IsSettled x.labels.costs r w a) e (settled w a h))) [
           | inl was ↦ m.apart w a b was k
-          | inr is ↦ subst (λ r. IsBelow most (cost_sum r b)) (sym is.1) (above b (ap (cost_at y.costs) (sym is.0) ∙ k.0))
+          | inr is ↦ subst (λ r. IsBelow most (cost_sum r b)) (sym is.1) (above b (ap (cost_at y.labels.costs) (sym is.0) ∙ k.0))
         ];
   }
 
@@ -141,11 +141,11 @@ connected_covers H k x y s t most up down xs yt j =
 
 -- a node that a search would reach within the bound is settled, where all that is left is above it
 settled_within : (H : LevelsAndLegs) (x : Search) (most : Cost) (side : Side) (s m : ℕ) (a : Cost) → IsUnderway H x → x.stalls ≡ false → IsMost (Some most.weight) x.most → IsPastCost x.queue most → x.side ≡ side → x.source ≡ s →
-    IsLeastUpwardPath (rows_of H side) s m a → IsAtMost a most → IsSettled x.costs x.queue m a
+    IsLeastUpwardPath (rows_of H side) s m a → IsAtMost a most → IsSettled x.labels.costs x.queue m a
 settled_within H x most side s m a u off all past is from least le =
     let is_there = subst (λ q. IsLeastUpwardPath (rows_of H q) s m a) (sym is) least in
     let there = subst (λ q. IsLeastUpwardPath (rows_of H x.side) q m a) (sym from) is_there in
-    settled_least (rows_of H x.side) x.source _ x.costs x.queue u.search m a (all.whole a.weight least.weight le.0) (λ w d k. then_below a most d le (past w d k))
+    settled_least (rows_of H x.side) x.source _ x.labels.costs x.queue u.search m a (all.whole a.weight least.weight le.0) (λ w d k. then_below a most d le (past w d k))
     (λ w e legs idle p q. never_idle H x off w e idle) there
 
 -- where all that is left on both sides is above the bound, and they are apart, there is no way within it
@@ -163,7 +163,7 @@ apart_covers H x y s t most up down xs yt m px py w =
 
 -- a leg of v that is read leads to one of the nodes
 pub own_leg : (H : LevelsAndLegs) (x : Search) (v : ℕ) (legs : List Leg) (i : ℕ) (d : Leg) → IsUnderway H x → legs ≡ row (rows_of H x.side) v → i < length legs →
-    ((get_or legs i d).node < nodes_of H) × ((get_or legs i d).node < length x.costs)
+    ((get_or legs i d).node < nodes_of H) × ((get_or legs i d).node < length x.labels.costs)
 own_leg H x v legs i d u e lt =
     let has = subst (λ xs. Contains xs (get_or legs i d)) e (Contains-get_or legs i d lt) in
     let node = (leg_up H u.levelled x.side v (get_or legs i d) has).node in

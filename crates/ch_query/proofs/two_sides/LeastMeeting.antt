@@ -29,7 +29,7 @@ use Rattle.ch_query.proofs.one_side.PathLaws.{then_below}
 use Rattle.ch_query.proofs.one_side.TightNodes.{sum_walk, tight_up, tight_down, tight_reached}
 
 -- a node that was reached is settled
-reached_settled : (H : LevelsAndLegs) (x : Search) (m : ℕ) (a : Cost) → HasReached H x m a → IsSettled x.costs x.queue m a
+reached_settled : (H : LevelsAndLegs) (x : Search) (m : ℕ) (a : Cost) → HasReached H x m a → IsSettled x.labels.costs x.queue m a
 reached_settled H x m a r = settled _ _ _ _ _ r.underway.search m a (r.underway.search.light m a r.known) r.past r.avoids m a r.known (IsAtMost_refl a)
 
 module _ (H : LevelsAndLegs) (k : IsKeptForSome H) (x y : Search) (least : Option (Cost × ℕ)) (meeting : AreMeeting H x y least) (up : x.side ≡ Up) (down : y.side ≡ Down)

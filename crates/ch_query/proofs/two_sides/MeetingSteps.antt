@@ -54,9 +54,9 @@ both_stopped x x' y least least' leads s =
 -- one side settles v at cost c
 module _ (H : LevelsAndLegs) (x y : Search) (least : Option (Cost × ℕ)) (m : AreMeeting H x y least) (q : List (Option Cost)) (v : ℕ) (c : Cost)
     (l : IsLeastKey x.queue v c) (e : q ≡ set x.queue v None)
-    (least' : Option (Cost × ℕ)) (met : IsLeastAfter (cost_at y.costs v) v c least least') where
+    (least' : Option (Cost × ℕ)) (met : IsLeastAfter (cost_at y.labels.costs v) v c least least') where
   -- v is known at c here
-  known : cost_at x.costs v ≡ Some c
+  known : cost_at x.labels.costs v ≡ Some c
   known = m.here.search.queued v c l.has
 
   -- what was known is covered
@@ -70,19 +70,19 @@ module _ (H : LevelsAndLegs) (x y : Search) (least : Option (Cost × ℕ)) (m : 
   gains (Some d) b e' is = subst (λ r. (f : Cost × ℕ) × (least' ≡ Some f) × MeetsFirst f (cost_sum c r, v)) (same_Some _ _ e') is.covers_new
 
   -- so are all sums of nodes that both settled
-  seen : IsSeen x.costs q y.costs y.queue least'
-  seen w a b h k = elim (popped_settled _ _ _ _ _ m.here.search v c l.has l.least (key_within x.queue v c l.has) w a (subst (λ r. IsSettled x.costs r w a) e h)) [
+  seen : IsSeen x.labels.costs q y.labels.costs y.queue least'
+  seen w a b h k = elim (popped_settled _ _ _ _ _ m.here.search v c l.has l.least (key_within x.queue v c l.has) w a (subst (λ r. IsSettled x.labels.costs r w a) e h)) [
     | inl was ↦
         let old = m.seen w a b was k in
         let new = keeps _ met old.0 old.1 in
         (new.0, new.1, first_trans new.0 old.0 (cost_sum a b, w) new.2 old.2)
     | inr is ↦
-        let r = gains _ b (ap (cost_at y.costs) (sym is.0) ∙ k.0) met in
+        let r = gains _ b (ap (cost_at y.labels.costs) (sym is.0) ∙ k.0) met in
         (r.0, r.1, subst (λ z. MeetsFirst r.0 (cost_sum a b, z)) (sym is.0) (subst (λ z. MeetsFirst r.0 (cost_sum z b, v)) (sym is.1) r.2))
   ]
 
   -- what is known now is the sum of two paths
-  found_at : (o : Option Cost) → cost_at y.costs v ≡ o → IsLeastAfter o v c least least' → IsFoundBy H x y least'
+  found_at : (o : Option Cost) → cost_at y.labels.costs v ≡ o → IsLeastAfter o v c least least' → IsFoundBy H x y least'
   found_at None at is f e' = m.found f (sym is ∙ e')
   found_at (Some d) at is f e' = elim is.chosen [
     | inl new ↦
@@ -106,9 +106,9 @@ module _ (H : LevelsAndLegs) (x y : Search) (least : Option (Cost × ℕ)) (m : 
   }
 
 -- a known cost is within the limits
-pub known_arcs : (H : LevelsAndLegs) (x : Search) (v : ℕ) (c : Cost) → IsUnderway H x → cost_at x.costs v ≡ Some c → (c.weight ≤ MOST_WEIGHT) × (c.arcs ≤ MOST_PATH_ARCS)
+pub known_arcs : (H : LevelsAndLegs) (x : Search) (v : ℕ) (c : Cost) → IsUnderway H x → cost_at x.labels.costs v ≡ Some c → (c.weight ≤ MOST_WEIGHT) × (c.arcs ≤ MOST_PATH_ARCS)
 known_arcs H x v c u known = let r = u.search.sound v c known in (r.weight, reached_arcs H u.levelled x.side x.source v c r)
 
 -- so what both sides know of a node has room for its sum
-pub both_arcs : (H : LevelsAndLegs) (y : Search) (v : ℕ) (c d : Cost) → IsUnderway H y → c.arcs ≤ MOST_PATH_ARCS → cost_at y.costs v ≡ Some d → c.arcs + d.arcs < 2 ^ 64
+pub both_arcs : (H : LevelsAndLegs) (y : Search) (v : ℕ) (c d : Cost) → IsUnderway H y → c.arcs ≤ MOST_PATH_ARCS → cost_at y.labels.costs v ≡ Some d → c.arcs + d.arcs < 2 ^ 64
 both_arcs H y v c d u few known = let there = (known_arcs H y v d u known).1 in omega arith

@@ -10,25 +10,25 @@ loop-node-init c =
 pub legs-requires : goal.legs-requires
 legs-requires c =
     let t = c.loop-node.invariant.traced in
-    parent_within c.args.hierarchy.now c.requires.kept _ _ _ t.0 t.1 _ _ t.2 c.loop-node-test.true c.index-parent.result.now c.index-parent.ensures
+    parent_within c.args.hierarchy.now c.requires.kept _ _ _ t.0 t.1 _ _ t.2 c.loop-node-test.true c.parent-parent.result c.parent-parent.ensures
 
 pub leg_at-leg-requires : goal.leg_at-leg-requires
 leg_at-leg-requires c =
     let t = c.loop-node.invariant.traced in
-    let has = parent_has c.args.hierarchy.now c.requires.kept _ _ _ t.0 t.1 _ _ t.2 c.loop-node-test.true c.index-parent.result.now c.index-parent.ensures
+    let has = parent_has c.args.hierarchy.now c.requires.kept _ _ _ t.0 t.1 _ _ t.2 c.loop-node-test.true c.parent-parent.result c.parent-parent.ensures
     c.legs.result.now c.legs.ensures.row in
     record { order = has.0; has = has.1 }
 
 pub push_reserved-requires : goal.push_reserved-requires
 push_reserved-requires c =
     let t = c.loop-node.invariant.traced in
-    room_for_leg c.args.hierarchy.now c.requires.kept _ _ _ t.0 t.1 _ _ t.2 c.loop-node-test.true c.index-parent.result.now c.index-parent.ensures
+    room_for_leg c.args.hierarchy.now c.requires.kept _ _ _ t.0 t.1 _ _ t.2 c.loop-node-test.true c.parent-parent.result c.parent-parent.ensures
     c.leg_at-leg.result c.legs.result.now c.legs.ensures.row c.leg_at-leg.ensures
 
 pub loop-node-smaller : goal.loop-node-smaller
 loop-node-smaller c =
     let t = c.loop-node.invariant.traced in
-    parent_lower c.args.hierarchy.now c.requires.kept _ _ _ t.0 t.1 _ _ t.2 c.loop-node-test.true c.index-parent.result.now c.index-parent.ensures
+    parent_lower c.args.hierarchy.now c.requires.kept _ _ _ t.0 t.1 _ _ t.2 c.loop-node-test.true c.parent-parent.result c.parent-parent.ensures
     c.leg_at-leg.result c.legs.result.now c.legs.ensures.row c.leg_at-leg.ensures
 
 pub loop-node-preserved : goal.loop-node-preserved
@@ -41,7 +41,7 @@ loop-node-preserved c =
       traced = (
         t.0,
         t.1,
-        tracing_step c.args.hierarchy.now c.requires.kept _ _ _ t.0 t.1 _ _ t.2 c.loop-node-test.true c.index-parent.result.now c.index-parent.ensures
+        tracing_step c.args.hierarchy.now c.requires.kept _ _ _ t.0 t.1 _ _ t.2 c.loop-node-test.true c.parent-parent.result c.parent-parent.ensures
             c.leg_at-leg.result c.legs.result.now c.legs.ensures.row c.leg_at-leg.ensures c.push_reserved.new.self
             (pushed.items ∙ ap (λ p. c.loop-node.pending.items ++ p ∷ []) same) pushed.len pushed.capacity,
       );

@@ -10,12 +10,12 @@ pub loop-node-preserved : goal.loop-node-preserved
 loop-node-preserved c =
     let i = c.loop-node.invariant in
     let e = c.in-Some.ensures in
-    let size = ap length c.clear-in-Some.ensures ∙ length-set c.loop-node.self.costs c.in-Some.node _ in
+    let size = ap length c.clear-in-Some.ensures.costs ∙ length-set c.loop-node.self.labels.costs c.in-Some.node _ in
     record {
       room = record {
         queue = i.room.queue ∙ sym size;
-        parents = i.room.parents ∙ sym size;
-        touched = subst (λ costs. IsTouched costs c.pop.new.self) (sym c.clear-in-Some.ensures) (touched_less _ _ c.pop.new.self i.room.touched c.in-Some.node e.items e.cases e.capacity);
+        parents = ap length c.clear-in-Some.ensures.parents ∙ i.room.parents ∙ sym size;
+        touched = subst (λ costs. IsTouched costs c.pop.new.self) (sym c.clear-in-Some.ensures.costs) (touched_less _ _ c.pop.new.self i.room.touched c.in-Some.node e.items e.cases e.capacity);
         most = i.room.most;
       };
       empty = i.empty;

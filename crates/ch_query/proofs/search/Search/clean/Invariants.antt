@@ -7,7 +7,7 @@ abbrev pub invariant-loop-node : goal.invariant-loop-node
 invariant-loop-node l = record {
   room : IsRoom l.self;
   empty : IsEmpty l.self.queue;
-  nodes : length l.self.costs ≡ length l.fn.self.costs;
+  nodes : length l.self.labels.costs ≡ length l.fn.self.labels.costs;
   side : l.self.side ≡ l.fn.self.side;
 }
 

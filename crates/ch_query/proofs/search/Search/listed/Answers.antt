@@ -9,14 +9,14 @@ pub get-requires : goal.get-requires
 get-requires c =
     let me = c.args.self.now in
     let nodes = c.deref-node-items in
-    let known = item_known me.costs me.touched nodes.result.now c.loop-node.node-index c.requires.touched nodes.ensures.value c.loop-node-test.true in
-    some_within me.costs _ known
+    let known = item_known me.labels.costs me.touched nodes.result.now c.loop-node.node-index c.requires.touched nodes.ensures.value c.loop-node-test.true in
+    some_within me.labels.costs _ known
 
 pub loop-node-preserved : goal.loop-node-preserved
 loop-node-preserved c =
     let me = c.args.self.now in
     let nodes = c.deref-node-items in
-    let known = item_known me.costs me.touched nodes.result.now c.loop-node.node-index c.requires.touched nodes.ensures.value c.loop-node-test.true in
+    let known = item_known me.labels.costs me.touched nodes.result.now c.loop-node.node-index c.requires.touched nodes.ensures.value c.loop-node-test.true in
     let cost = c.get.ensures in
     elim c.match-get.branch [
       | in-Some w ↦ (

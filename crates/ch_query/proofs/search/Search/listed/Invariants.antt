@@ -4,4 +4,4 @@ use Rattle.ch_query.specs.Spread.{entry}
 use Rattle.ch_query.proofs.search.Search.listed.Given as goal
 
 abbrev pub invariant-loop-node : goal.invariant-loop-node
-invariant-loop-node l = (l.list.items ≡ map (entry l.self.costs) (take l.node-index l.self.touched.items)) × (length l.self.touched.items ≤ vec_capacity l.list)
+invariant-loop-node l = (l.list.items ≡ map (entry l.self.labels.costs) (take l.node-index l.self.touched.items)) × (length l.self.touched.items ≤ vec_capacity l.list)

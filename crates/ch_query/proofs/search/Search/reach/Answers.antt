@@ -13,12 +13,12 @@ pub returns-clause-touched : goal.returns-clause-touched
 returns-clause-touched c =
     let known = sym (ap is_some c.get.ensures) in
     let now = c.if-is_none.self in
-    let touched : IsTouched (set now.costs c.args.node (Some c.args.cost)) now.touched =
+    let touched : IsTouched (set now.labels.costs c.args.node (Some c.args.cost)) now.touched =
     elim c.if-is_none.branch [
-      | then-is_none w ↦ subst (λ (q : Search). IsTouched (set q.costs c.args.node (Some c.args.cost)) q.touched) (sym w.self-is)
+      | then-is_none w ↦ subst (λ (q : Search). IsTouched (set q.labels.costs c.args.node (Some c.args.cost)) q.touched) (sym w.self-is)
           (touched_more _ _ c.requires.room.touched _ c.requires.node c.args.cost w.push_reserved.new.self
           (known ∙ w.if-is_none.ensures) w.push_reserved.ensures.items w.push_reserved.ensures.len w.push_reserved.ensures.capacity)
-      | else-is_none w ↦ subst (λ (q : Search). IsTouched (set q.costs c.args.node (Some c.args.cost)) q.touched) (sym w.self-is)
+      | else-is_none w ↦ subst (λ (q : Search). IsTouched (set q.labels.costs c.args.node (Some c.args.cost)) q.touched) (sym w.self-is)
           (touched_same _ _ c.requires.room.touched _ c.requires.node c.args.cost (known ∙ w.if-is_none.ensures))
     ] in
-    subst (λ costs. IsTouched costs now.touched) (sym c.set.ensures) touched
+    subst (λ costs. IsTouched costs now.touched) (sym c.set.ensures.costs) touched

@@ -26,4 +26,4 @@ returns-clause-space c =
     IfOk-weaker _ _ _ (λ (list : Vec (ℕ × ℕ) Global) w. space_of c.args.hierarchy.now c.requires.kept me end.underway (end.same.stalls ∙ c.requires.stalls) end.done c.args.within
     (subst (IsMost c.args.within) (sym end.same.most) c.requires.most) _ _ end.unstalled
     c.sort_unstable.ensures.permutation _ _ end.same.source end.same.side list.items
-    (subst (λ nodes. AreWeights me.costs nodes list.items) c.deref.ensures.value w)) c.weights.ensures
+    (subst (λ nodes. AreWeights me.labels.costs nodes list.items) c.deref.ensures.value w)) c.weights.ensures

@@ -11,11 +11,11 @@ pub get-requires : goal.get-requires
 get-requires c =
     let me = c.args.self.now in
     let v = get_or c.args.nodes.now c.loop-node.node-index 0 in
-    some_within me.costs v (c.requires.known v (Contains-get_or c.args.nodes.now c.loop-node.node-index 0 c.loop-node-test.true))
+    some_within me.labels.costs v (c.requires.known v (Contains-get_or c.args.nodes.now c.loop-node.node-index 0 c.loop-node-test.true))
 
 pub loop-node-preserved : goal.loop-node-preserved
 loop-node-preserved c =
-    let best = c.args.self.now.costs in
+    let best = c.args.self.now.labels.costs in
     let nodes = c.args.nodes.now in
     let i = c.loop-node.node-index in
     let v = get_or nodes i 0 in

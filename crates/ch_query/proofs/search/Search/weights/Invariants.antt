@@ -5,7 +5,7 @@ use Rattle.ch_query.proofs.search.Search.weights.Given as goal
 
 abbrev pub invariant-loop-node : goal.invariant-loop-node
 invariant-loop-node l = record {
-  weights : AreWeights l.self.costs (take l.node-index l.nodes) l.list.items;
+  weights : AreWeights l.self.labels.costs (take l.node-index l.nodes) l.list.items;
   count : vec_len l.list ≤ l.node-index;
   room : length l.nodes ≤ vec_capacity l.list;
 }
