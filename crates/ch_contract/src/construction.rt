@@ -66,7 +66,7 @@ pub fn build_by<R: Threads + Sync, G: Gate>(
     while let Some(node) = construction.next() {
         construction = construction.contract(rt, alloc, node, hops, by, plan, gate)?;
     }
-    Ok(construction.finish())
+    construction.finish()
 }
 
 /// A hierarchy of which some nodes are contracted.
@@ -197,10 +197,10 @@ impl Construction {
     }
 
     /// The hierarchy, once every node is contracted. What it doesn't need is freed first.
-    fn finish(self) -> Hierarchy
+    fn finish(self) -> Result<Hierarchy, AllocError>
         requires sizes { IsSized self }
         requires levelled { (H : LevelsAndLegs) → AreAll self.remaining.nodes (progress_of self) H → IsLevelled H }
-        ensures { AreAll self.remaining.nodes (progress_of self) result }
+        ensures { IfOk result (AreAll self.remaining.nodes (progress_of self)) }
     {
         let Construction {
             remaining,
@@ -213,7 +213,7 @@ impl Construction {
         drop(room);
         drop(waiting);
         drop(depths);
-        let BothRows { ups, downs } = remaining.into_rows();
-        Hierarchy::from_rows(levels, ups, downs)
+        let BothRows { ups, downs } = remaining.into_rows()?;
+        Ok(Hierarchy::from_rows(levels, ups, downs))
     }
 }

@@ -129,11 +129,13 @@ impl LegLists {
         self.lists.hand_over(node, self.nodes + node);
     }
 
-    /// The lists that were set aside, one for each node.
-    pub(crate) fn into_aside(self) -> Lists<Leg>
-        ensures { result ≡ self.aside }
+    /// The lists that were set aside, one for each node. They are moved together, and what is left of their array is given back.
+    pub(crate) fn into_aside(self) -> Result<Lists<Leg>, AllocError>
+        ensures { IfOk result (λ lists. lists ≡ self.aside) }
     {
-        self.lists.skip(self.nodes)
+        let mut aside = self.lists.skip(self.nodes);
+        aside.pack()?;
+        Ok(aside)
     }
 }
 

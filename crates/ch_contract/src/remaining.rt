@@ -102,15 +102,14 @@ impl Remaining {
         self.ins.aside(v)
     }
 
-    /// The legs from each node when it was contracted, and those to it. No leg is copied.
-    pub(crate) fn into_rows(self) -> BothRows
-        ensures up { result.ups ≡ self.ups }
-        ensures down { result.downs ≡ self.downs }
+    /// The legs from each node when it was contracted, and those to it. They stay in the arrays in which they are.
+    pub(crate) fn into_rows(self) -> Result<BothRows, AllocError>
+        ensures up { IfOk result (λ r. r.ups ≡ self.ups) }
+        ensures down { IfOk result (λ r. r.downs ≡ self.downs) }
     {
-        BothRows {
-            ups: self.outs.into_aside(),
-            downs: self.ins.into_aside(),
-        }
+        let ups = self.outs.into_aside()?;
+        let downs = self.ins.into_aside()?;
+        Ok(BothRows { ups, downs })
     }
 }
 

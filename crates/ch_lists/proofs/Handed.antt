@@ -1,20 +1,13 @@
 -- A list that is handed over takes its place along.
-use Rattle.std.proofs.Common.{◌≡◌, ◌≢◌, ℕ, inl, List, [], set, get_or, Some, ap, arith, sym, ◌∙◌}
+use Rattle.std.proofs.Common.{◌≡◌, ◌≢◌, ℕ, List, [], set, get_or, Some, ap, arith, sym, ◌∙◌}
 use Rattle.std.specs.List.{slice_get}
 use Rattle.std.proofs.lemmas.List.{map-set, set_comm}
 use Rattle.std.proofs.Math.Logic.{⊎_elim}
 use Rattle.ch_lists.specs.declared.place.Place.{Place}
-use Rattle.ch_lists.specs.Places.{values_at, lists_at, AreApart, ArePlaces}
+use Rattle.ch_lists.specs.Places.{values_at, lists_at, ArePlaces}
+use Rattle.ch_lists.specs.Packing.{nowhere}
 use Rattle.ch_lists.proofs.Found.{found}
-use Rattle.ch_lists.proofs.Placed.{set_places, apart_back, apart_from}
-
--- the place of an empty list
-abbrev nowhere : Place
-nowhere = record { start = 0; len = 0; room = 0 }
-
--- the place of an empty list is apart from all others
-apart_nowhere : (p : Place) → AreApart nowhere p
-apart_nowhere p = inl (omega arith)
+use Rattle.ch_lists.proofs.Placed.{set_places, apart_back, apart_from, apart_nowhere}
 
 -- the places after one was handed over
 pub handed_places : (places : List Place) (size from to : ℕ) (p : Place) → ArePlaces places size → slice_get places from ≡ Some p → from ≢ to → ArePlaces (set (set places from nowhere) to p) size

@@ -1,5 +1,9 @@
 pub mod Found
 pub mod Placed
+pub mod Taken
+pub mod Listed
+pub mod Closed
+pub mod Moved
 pub mod Edited
 pub mod Changed
 pub mod Read

@@ -6,6 +6,7 @@ use Rattle.std.proofs.lemmas.Option.{slice_get-get_or}
 use Rattle.std.proofs.Math.Logic.{⊎_elim}
 use Rattle.ch_lists.specs.declared.place.Place.{Place}
 use Rattle.ch_lists.specs.Places.{values_at, lists_at, AreApart, ArePlaces, AreEmptyPlaces}
+use Rattle.ch_lists.specs.Packing.{nowhere}
 use Rattle.ch_lists.proofs.Found.{found, found_push}
 
 -- apart is apart the other way round
@@ -15,6 +16,10 @@ apart_back p q are = ⊎_elim inr inl are
 -- equal places are apart from the same places
 pub apart_from : (p q r : Place) → p ≡ q → AreApart q r → AreApart p r
 apart_from p q r same are = subst (λ (s : Place). AreApart s r) (sym same) are
+
+-- the place of an empty list without room is apart from all others
+pub apart_nowhere : (p : Place) → AreApart nowhere p
+apart_nowhere p = inl (omega arith)
 
 -- another place for a list, apart from those of the others
 pub set_places : (places : List Place) (i size larger : ℕ) (now : Place) → ArePlaces places size → size ≤ larger → larger < 2 ^ 32 → now.len ≤ now.room → now.start + now.room ≤ larger

@@ -4,10 +4,11 @@
 //! no memory of its own, so an empty one without room takes 12 bytes. The crate stands on std alone.
 //!
 //! Proved for every type of values: the lists are those that the calls say, each list as it would be alone, and
-//! a call that finds no memory leaves them as they were. Only `with_rooms` and `insert` take memory.
+//! a call that finds no memory leaves them as they were. Only `with_rooms`, `insert` and `pack` take memory.
 #![tactic(auto)]
 
 mod lists;
+mod packing;
 mod place;
 #[cfg(test)]
 mod tests;

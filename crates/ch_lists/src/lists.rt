@@ -1,7 +1,8 @@
 //! Lists of values in one array.
 ghost use Rattle.std.specs.Prelude.{◌≡◌, ◌≢◌, ◌^◌, ◌<◌, ◌≤◌, [], drop, length, replicate, IfOk, OnOk, OnErr, slice_index_or, slice_set};
-ghost use Rattle.std.specs.List.{insert, remove};
+ghost use Rattle.std.specs.List.{insert, remove, sum_by};
 
+use crate::packing;
 use crate::place::{self, Place};
 use std::alloc::{AllocError, Global};
 use std::marker::Model;
@@ -10,8 +11,8 @@ use std::marker::Model;
 /// of its own, so a list is lent as a slice, and has no memory of its own.
 ///
 /// A list that has filled its room moves behind all others, to a room for half as many values more and two,
-/// and its old room stays unused. An insert or a removal moves the values behind it in the list by one; the
-/// other methods, but `with_rooms` and `skip`, take O(1) steps.
+/// and its old room stays unused until [`Lists::pack`]. An insert or a removal moves the values behind it in the
+/// list by one; the other methods, but `with_rooms`, `skip` and `pack`, take O(1) steps.
 #[derive(Drop)]
 pub struct Lists<T: Copy> {
     values: Vec<T>,
@@ -54,6 +55,15 @@ impl<T: Copy> Lists<T> {
         self.places.len() as u32
     }
 
+    /// How many values the array has room for: those of all lists, and those of unused room. What is unused stays
+    /// until `pack`.
+    pub fn room(&self) -> usize
+        ensures holds { sum_by length self.now ≤ result }
+        ensures small { result < 2 ^ 32 }
+    {
+        self.values.len()
+    }
+
     /// The values of a list, whose number is below that of the lists.
     #[inline]
     pub fn at(&self, list: u32) -> &[T]
@@ -93,6 +103,19 @@ impl<T: Copy> Lists<T> {
         self.places[list as usize] = new;
     }
 
+    /// Moves the values of all lists together, in the order in which they stand, and gives back what is left of the
+    /// array. No list has room for one more value then, so the next insert into it moves it.
+    ///
+    /// It takes O(n log n + v) steps for n lists of v values together, and 8 bytes for each list while it runs.
+    ///
+    /// # Errors
+    /// `AllocError` where there is no memory for the order in which the lists stand.
+    pub fn pack(&mut self) -> Result<(), AllocError>
+        ensures { self.new ≡ self.old }
+    {
+        packing::pack(&mut self.values, &mut self.places)
+    }
+
     /// Hands the values of the list `from` over to the list `to`, which loses those that it had, and leaves `from`
     /// empty. No value is copied.
     pub fn hand_over(&mut self, from: u32, to: u32)
@@ -105,6 +128,7 @@ impl<T: Copy> Lists<T> {
         self.places[from as usize] = place::NOWHERE;
         self.places[to as usize] = place;
     }
+
     /// The lists but for the first `count`, numbered from 0 anew. No value is copied, and the room of the lists that are
     /// left out stays unused. It takes a step for each list.
     pub fn skip(self, count: u32) -> Lists<T>

@@ -1,6 +1,8 @@
 //! What no clause says: worked lists, that calls succeed with ample memory, and what a refusal leaves.
 ghost use Rattle.std.specs.Prelude.{◌≡◌, ◌≢◌, ◌^◌, ◌<◌, length, vec_len, IfOk};
 
+mod packing;
+
 use crate::Lists;
 use std::alloc::{AllocError, Global};
 use std::mem;

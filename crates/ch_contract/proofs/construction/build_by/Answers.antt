@@ -1,4 +1,5 @@
 use Rattle.std.proofs.Common.{sym, ◌∙◌, subst, arith}
+use Rattle.std.proofs.lemmas.Result.{IfOk-weaker}
 use Rattle.ch_contract.specs.Legs.{AreLegsWithin}
 use Rattle.ch_contract.specs.Progress.{IsStep, AreAll}
 use Rattle.ch_contract.specs.Construction.{progress_of}
@@ -49,7 +50,8 @@ finish-requires-clause-levelled g c H all =
 pub returns-clause-hierarchy : goal.returns-clause-hierarchy
 returns-clause-hierarchy g c =
     let i = c.loop-node.invariant in
-    steps_at_end _ _ _ _ i.2 c.in_default.ensures _ (subst (λ n. AreAll n (progress_of c.loop-node.construction) c.finish.result) i.1 c.finish.ensures)
+    IfOk-weaker c.finish.result _ _ (λ H all. steps_at_end _ _ _ _ i.2 c.in_default.ensures H (subst (λ n. AreAll n (progress_of c.loop-node.construction) H) i.1 all)) c.finish.ensures
 
 pub returns-clause-kept : goal.returns-clause-kept
-returns-clause-kept g c = hierarchies_kept c.args.by c.args.graph.now c.args.hops c.finish.result c.arcs.ensures.limits c.requires.hops (returns-clause-hierarchy g c)
+returns-clause-kept g c =
+    IfOk-weaker c.finish.result _ _ (λ H is. hierarchies_kept c.args.by c.args.graph.now c.args.hops H c.arcs.ensures.limits c.requires.hops is) (returns-clause-hierarchy g c)

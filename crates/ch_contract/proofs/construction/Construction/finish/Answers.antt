@@ -3,4 +3,4 @@ use Rattle.ch_contract.proofs.code.ConstructionCalls.{all_rows}
 use Rattle.ch_contract.proofs.construction.Construction.finish.Goals as goal
 
 pub from_rows-requires : goal.from_rows-requires
-from_rows-requires c = c.requires.levelled _ (all_rows c.args.self _ c.requires.sizes refl c.into_rows-ups.ensures.up c.into_rows-ups.ensures.down)
+from_rows-requires c = c.requires.levelled _ (all_rows c.args.self _ c.requires.sizes refl c.in_ok-ups.ensures.up c.in_ok-ups.ensures.down)

@@ -1,0 +1,10 @@
+use Rattle.std.proofs.Common.{◌≤◌, length, vec_len, vec_capacity}
+use Rattle.ch_lists.specs.Packing.{AreListed}
+use Rattle.ch_lists.proofs.packing.listed.Given as goal
+
+abbrev pub invariant-loop-list : goal.invariant-loop-list
+invariant-loop-list l = record {
+  room : length l.places ≤ vec_capacity l.entries;
+  few : vec_len l.entries ≤ l.list;
+  listed : AreListed l.places l.list l.entries.items;
+}
