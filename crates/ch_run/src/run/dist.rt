@@ -73,38 +73,40 @@ pub fn run_dist<R: Threads + Sync, I: Input, J: Input, O: Output, G: Gate>(
 {
     let graph = graph_from(alloc, graph)?;
     let queries = queries_from(alloc, queries, &graph)?;
-    let text = text_of(rt, alloc, &graph, &queries, options, plan, gate)?;
+    let text = text_of(rt, alloc, graph, &queries, options, plan, gate)?;
     write_text(output, &text)
 }
 
-/// The text that answers the queries, by the way that the options name.
+/// The text that answers the queries, by the way that the options name. The graph is dropped once its hierarchy is built, so
+/// that its memory serves the answers.
 fn text_of<R: Threads + Sync, G: Gate>(
     rt: &R,
     alloc: Global,
-    graph: &Graph,
+    graph: Graph,
     queries: &[(u32, u32)],
     options: &Options,
     plan: &Plan,
     gate: &G,
 ) -> Result<Vec<u8>, AllocError>
-    requires queries { AreQueries graph.now.nodes queries.now }
+    requires queries { AreQueries graph.nodes queries.now }
     requires count { length queries.now ≤ MOST_QUERIES }
     requires hops { IsHopBound options.now.hops }
-    ensures { IfOk result (λ text. IsText options.now graph.now queries.now text.items) }
+    ensures { IfOk result (λ text. IsText options.now graph queries.now text.items) }
 {
     if options.plain {
-        return plain_text(alloc, graph, queries);
+        return plain_text(alloc, &graph, queries);
     }
     let routes = options.routes;
     let hierarchy = build_by(
         rt,
         alloc,
-        graph,
+        &graph,
         options.hops,
         order_for(options),
         plan,
         gate,
     )?;
+    drop(graph);
     answers_by(rt, alloc, &hierarchy, queries, routes, plan, gate)
 }
 

@@ -62,6 +62,7 @@ pub fn run_save<R: Threads + Sync, I: Input, O: Output, G: Gate>(
 {
     let graph = graph_from(alloc, graph)?;
     let hierarchy = build_by(rt, alloc, &graph, options.hops, options.order, plan, gate)?;
+    drop(graph);
     let text = save_text(alloc, &hierarchy)?;
     write_text(output, &text)
 }

@@ -88,25 +88,26 @@ pub fn run_table<R: Threads + Sync, I: Input, J: Input, L: Input, O: Output, G: 
 {
     let graph = graph_from(alloc, graph)?;
     let lists = lists_from(alloc, sources, targets, &graph)?;
-    let text = table_of(rt, alloc, &graph, &lists, options, plan, gate)?;
+    let text = table_of(rt, alloc, graph, &lists, options, plan, gate)?;
     write_text(output, &text)
 }
 
-/// The text of the table of these lists, by the hierarchy that is built for it.
+/// The text of the table of these lists, by the hierarchy that is built for it. The graph is dropped once it is.
 fn table_of<R: Threads + Sync, G: Gate>(
     rt: &R,
     alloc: Global,
-    graph: &Graph,
+    graph: Graph,
     lists: &Lists,
     options: &Options,
     plan: &Plan,
     gate: &G,
 ) -> Result<Vec<u8>, AllocError>
     requires hops { IsHopBound options.now.hops }
-    requires lists { AreLists graph.now.nodes lists.now.sources.items lists.now.targets.items }
-    ensures { IfOk result (λ text. IsTableText graph.now options.now.within lists.now.sources.items lists.now.targets.items text.items) }
+    requires lists { AreLists graph.nodes lists.now.sources.items lists.now.targets.items }
+    ensures { IfOk result (λ text. IsTableText graph options.now.within lists.now.sources.items lists.now.targets.items text.items) }
 {
-    let hierarchy = build_by(rt, alloc, graph, options.hops, OrderBy::Depth, plan, gate)?;
+    let hierarchy = build_by(rt, alloc, &graph, options.hops, OrderBy::Depth, plan, gate)?;
+    drop(graph);
     table_by(
         rt,
         alloc,

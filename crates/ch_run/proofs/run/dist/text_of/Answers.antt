@@ -8,7 +8,7 @@ use Rattle.ch_run.proofs.run.dist.text_of.Goals as goal
 pub returns : goal.returns
 returns g c =
     let options = c.args.options.now in
-    let network = c.args.graph.now in
+    let network = c.args.graph in
     IfOk-weaker c.answers_by.result _ _ (λ text by.
     subst (λ (plain : Bool). IsTextBy (not plain && options.routes) network (IsHierarchyBy options.order network options.hops) c.args.queries.now text.items) (sym c.if-options.false)
     (text_in options.routes options.order c.order_for.result network options.hops c.in_ok-hierarchy.hierarchy c.order_for.ensures c.in_ok-hierarchy.ensures.hierarchy c.args.queries.now text.items
