@@ -1,4 +1,5 @@
 """For the measurements: inputs from a fixed seed, and runs of the built program with their time and memory."""
+import contextlib
 import datetime
 import os
 import pathlib
@@ -60,13 +61,14 @@ class Used(typing.NamedTuple):
     processor: float
 
 
-def used(*command, refused=False, output=os.devnull):
+def used(*command, refused=False, output=os.devnull, told=None):
     """The seconds, the megabytes at the peak and the seconds of all processors of one run, which ends well or by refusing a file. What it
-    prints goes to a file, or nowhere."""
-    told = subprocess.DEVNULL if refused else None
-    with open(output, "wb") as file:
+    prints goes to a file, or nowhere; what it tells goes to a file, if one is named, and of a refusal nowhere."""
+    with contextlib.ExitStack() as files:
+        printed_to = files.enter_context(open(output, "wb"))
+        told_to = files.enter_context(open(told, "wb")) if told else subprocess.DEVNULL if refused else None
         start = time.perf_counter()
-        process = subprocess.Popen([str(word) for word in command], stdout=file, stderr=told)
+        process = subprocess.Popen([str(word) for word in command], stdout=printed_to, stderr=told_to)
         _, status, usage = os.wait4(process.pid, 0)
         seconds = time.perf_counter() - start
     if os.waitstatus_to_exitcode(status) != refused:
