@@ -4,8 +4,9 @@
 //! pieces are. A [`Job`] makes a value of each piece, a [`RoomJob`] does so in a room that each worker makes
 //! once, and a [`ListJob`] makes a value of each item of a list. [`run_pieces`], [`run_pieces_with_rooms`] and
 //! [`run_list`] have workers do them: each claims the next piece from a [`Board`], and calls a [`Gate`] before
-//! it does it. The pieces of a [`CellJob`] owe weights to the cells of such a board, and [`run_cells`] gives the
-//! least weight that is owed to each.
+//! it does it. The crates above tell the gate of each [`Stage`] of a run, so that it may show how far that is.
+//! The pieces of a [`CellJob`] owe weights to the cells of such a board, and [`run_cells`] gives the least weight
+//! that is owed to each.
 //!
 //! Proved of it: a plan gives back what it was made of, and keeps the [`limits`]; the values of a job stand in the
 //! order of its pieces or items, whichever the plan is and whoever made them; a room is lent clean to each piece;
@@ -32,7 +33,7 @@ mod work;
 
 pub use board::{Board, Known, Pass, Size};
 pub use cells::{CellJob, run_cells};
-pub use gate::{Gate, Open};
+pub use gate::{Gate, Open, Stage};
 pub use job::{Job, RoomJob};
 pub use list_job::{ListJob, run_list, run_list_in_room};
 pub use lists::{joined, length_of};

@@ -1,5 +1,6 @@
 //! How work is cut.
 ghost use Rattle.std.specs.Prelude.{◌≡◌};
+ghost use Rattle.ch_work.specs.Pieces.{pieces_of};
 ghost use Rattle.ch_work.specs.Plan.{IsWithinLimits};
 
 use std::marker::Model;
@@ -54,6 +55,14 @@ impl Plan {
         self.piece
     }
 
+    /// How many pieces so many items are cut into.
+    pub fn pieces(&self, items: u32) -> u32
+        ensures { result ≡ pieces_of items self.now.piece }
+    {
+        let Plan { piece, .. } = *self;
+        items.div_ceil(piece)
+    }
+
     /// From how many neighbours on those of a contracted node are cut into pieces.
     pub fn wide(&self) -> u32
         ensures { result ≡ self.now.wide }
@@ -73,5 +82,13 @@ mod tests {
             (plan.workers(), plan.piece(), plan.wide()),
             (64, 1_048_576, 0)
         );
+    }
+
+    #[test]
+    fn the_last_piece_may_have_fewer_items(rt: HostRuntime) {
+        let plan = Plan::new(1, 3, 64);
+        for (items, pieces) in [(0, 0), (1, 1), (3, 1), (4, 2), (u32::MAX, 1_431_655_765)] {
+            assert_eq!(rt; plan.pieces(items), pieces);
+        }
     }
 }
