@@ -174,5 +174,21 @@ fn refused_in_turn(rt: HostRuntime) -> Result<(), Fail> {
     for node in 1..4 {
         assert_eq!(rt; rows.row(node), [0].as_slice());
     }
+    let mut pushed = again!(Rows::with_room(alloc, 0, 0));
+    again!(pushed.push(&[7u64, 8]));
+    assert_eq!(rt; pushed.row(0), [7, 8].as_slice());
+    Ok(())
+}
+
+#[test]
+fn rows_are_pushed_one_behind_the_other(rt: HostRuntime) -> Result<(), Fail> {
+    let mut rows = Rows::with_room(rt.alloc(), 3, 3)?;
+    rows.push(&[1u64, 2])?;
+    rows.push(&[])?;
+    rows.push(&[3])?;
+    assert_eq!(rt; rows.row_count(), 3);
+    assert_eq!(rt; rows.row(0), [1, 2].as_slice());
+    assert_eq!(rt; rows.row(1).len(), 0);
+    assert_eq!(rt; rows.row(2), [3].as_slice());
     Ok(())
 }
