@@ -5,3 +5,4 @@ pub mod OrderLevels
 pub mod PairFaults
 pub mod PlacedRows
 pub mod PushedRows
+pub mod Ranked

@@ -13,6 +13,10 @@ pub record LevelsAndLegs : Type 0 where
 abbrev pub nodes_of : LevelsAndLegs → ℕ
 nodes_of H = length H.level
 
+-- from 1 to their number, each once
+abbrev pub AreLevels : List ℕ → Type 0
+AreLevels levels = All (λ l. (1 ≤ l) × (l ≤ length levels)) levels × AllPairs ◌≢◌ levels
+
 -- a leg of node v leads to a higher node or comes from one, and is within the limits
 pub record IsLegUp (H : LevelsAndLegs) (v : ℕ) (l : Leg) : Type 0 where
   pub node : l.node < nodes_of H
@@ -26,6 +30,6 @@ AreLegsUp H rows = (length rows ≡ nodes_of H) × ((v : ℕ) → IsRow (row row
 -- levels from 1 to the number of nodes, each once, and legs to higher nodes, one for a pair
 pub record IsLevelled (H : LevelsAndLegs) : Type 0 where
   pub count : nodes_of H ≤ MOST_NODES
-  pub levels : All (λ l. (1 ≤ l) × (l ≤ nodes_of H)) H.level × AllPairs ◌≢◌ H.level
+  pub levels : AreLevels H.level
   pub up : AreLegsUp H H.up
   pub down : AreLegsUp H H.down

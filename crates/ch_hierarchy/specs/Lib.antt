@@ -1,5 +1,6 @@
 pub mod Rows
 pub mod Hierarchy
+pub mod Ranked
 pub mod Paths
 pub mod Kept
 pub mod Saved

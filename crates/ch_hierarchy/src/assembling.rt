@@ -44,7 +44,8 @@ pub fn assemble(alloc: Global, graph: &Graph, saved: &Saved) -> Result<Hierarchy
     let ups = leg_lists(alloc, nodes, legs, pairs.ups.as_slice())?;
     drop(pairs.ups);
     let downs = leg_lists(alloc, nodes, legs, pairs.downs.as_slice())?;
-    Ok(Hierarchy::from_rows(levels, ups, downs))
+    drop(pairs.downs);
+    Ok(Hierarchy::from_rows(alloc, levels, ups, downs)?)
 }
 
 /// The level of each node, where the order has each node below `n` once.

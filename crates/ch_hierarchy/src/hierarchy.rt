@@ -1,39 +1,65 @@
 //! Levels, and the legs to higher nodes and from them.
-ghost use Rattle.std.specs.Prelude.{◌≡◌, ◌<◌, slice_index};
+ghost use Rattle.std.specs.Prelude.{◌≡◌, ◌<◌, ℕ, IfOk, map, slice_index};
 ghost use Rattle.ch_hierarchy.specs.Rows.{row};
 ghost use Rattle.ch_hierarchy.specs.Hierarchy.{nodes_of, IsLevelled};
+ghost use Rattle.ch_hierarchy.specs.Ranked.{rank_of, ranked_leg};
 
 use crate::leg::Leg;
+use crate::ranked::{RankedLeg, nodes_by_rank, ranked_rows};
+use ch_graph::Rows;
 use ch_lists::Lists;
+use std::alloc::{AllocError, Global};
 use std::marker::Model;
 
 /// A contraction hierarchy: each node has a level, from 1 to the number of nodes, and legs to and from
-/// nodes of higher levels.
+/// nodes of higher levels. Searches find the legs by rank, which is how many nodes are higher.
 #[derive(Drop)]
 pub struct Hierarchy {
     levels: Vec<u32>,
     /// A list of legs for each node.
     ups: Lists<Leg>,
     downs: Lists<Leg>,
+    /// The node of each rank.
+    nodes: Vec<u32>,
+    /// The legs up of each rank's node, and then its legs down.
+    ranked: Rows<RankedLeg>,
 }
 
 impl Model for Hierarchy {
     ghost use Rattle.ch_hierarchy.specs.Hierarchy.{LevelsAndLegs, IsLevelled};
+    ghost use Rattle.ch_hierarchy.specs.Ranked.{AreRanked};
 
     ghost Value = { LevelsAndLegs };
 
     ghost view = { λ h. record { level = h.levels.items; up = h.ups; down = h.downs } };
 
-    ghost invariant = { λ h. IsLevelled (record { level = h.levels.items; up = h.ups; down = h.downs }) };
+    ghost invariant = { λ h. IsLevelled (record { level = h.levels.items; up = h.ups; down = h.downs })
+        × AreRanked (record { level = h.levels.items; up = h.ups; down = h.downs }) h.nodes.items h.ranked };
 }
 
 impl Hierarchy {
-    /// The hierarchy of these levels and rows.
-    pub fn from_rows(levels: Vec<u32>, ups: Lists<Leg>, downs: Lists<Leg>) -> Hierarchy
+    /// The hierarchy of these levels and rows. It takes the steps and the memory to write each leg by rank once.
+    ///
+    /// # Errors
+    /// `AllocError` where there is no memory for the nodes by rank or the ranked legs.
+    pub fn from_rows(
+        alloc: Global,
+        levels: Vec<u32>,
+        ups: Lists<Leg>,
+        downs: Lists<Leg>,
+    ) -> Result<Hierarchy, AllocError>
         requires { IsLevelled (record { level = levels.items; up = ups; down = downs }) }
-        ensures { result ≡ record { level = levels.items; up = ups; down = downs } }
+        ensures { IfOk result (λ h. h ≡ record { level = levels.items; up = ups; down = downs }) }
     {
-        Hierarchy { levels, ups, downs }
+        let nodes = nodes_by_rank(alloc, levels.as_slice())?;
+        let ranked = ranked_rows(alloc, levels.as_slice(), nodes.as_slice(), &ups, &downs)?;
+        Ok(Hierarchy {
+            levels,
+            ups,
+            downs,
+            nodes,
+            ranked,
+        })
     }
 
     /// The number of nodes, at most [`MOST_NODES`](ch_graph::limits::MOST_NODES).
@@ -69,5 +95,45 @@ impl Hierarchy {
         ensures levelled { IsLevelled self.now }
     {
         self.downs.at(v)
+    }
+
+    /// How many nodes are higher than `v`.
+    pub fn rank(&self, v: u32) -> u32
+        requires { v < nodes_of self.now }
+        ensures rank { result ≡ rank_of self.now v }
+        ensures within { result < nodes_of self.now }
+        ensures levelled { IsLevelled self.now }
+    {
+        self.nodes() - self.level(v)
+    }
+
+    /// The node of this rank.
+    pub fn node_at(&self, rank: u32) -> u32
+        requires { rank < nodes_of self.now }
+        ensures node { result < nodes_of self.now }
+        ensures rank { rank_of self.now result ≡ rank }
+        ensures levelled { IsLevelled self.now }
+    {
+        self.nodes[rank as usize]
+    }
+
+    /// The legs from the node of this rank to higher nodes, in the order of `up`.
+    #[inline]
+    pub fn ranked_up(&self, rank: u32) -> &[RankedLeg]
+        requires { rank < nodes_of self.now }
+        ensures row { (v : ℕ) → v < nodes_of self.now → rank_of self.now v ≡ rank → result.now ≡ map (ranked_leg self.now) (row self.now.up v) }
+        ensures levelled { IsLevelled self.now }
+    {
+        self.ranked.row(2 * rank)
+    }
+
+    /// The legs from higher nodes to the node of this rank, in the order of `down`.
+    #[inline]
+    pub fn ranked_down(&self, rank: u32) -> &[RankedLeg]
+        requires { rank < nodes_of self.now }
+        ensures row { (v : ℕ) → v < nodes_of self.now → rank_of self.now v ≡ rank → result.now ≡ map (ranked_leg self.now) (row self.now.down v) }
+        ensures levelled { IsLevelled self.now }
+    {
+        self.ranked.row(2 * rank + 1)
     }
 }

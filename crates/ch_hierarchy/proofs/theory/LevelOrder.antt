@@ -5,23 +5,27 @@ use Rattle.std.proofs.lemmas.Bool.{cases_lt}
 use Rattle.std.proofs.lemmas.List.{ext_get_or, get_or_default, get_or_append_left, get_or_push, length_push}
 use Rattle.std.proofs.lemmas.List.Elements.{All-cons, All-contains}
 use Rattle.ch_graph.proofs.Lists.{contains_cons, pairs_cons}
-use Rattle.ch_hierarchy.specs.Hierarchy.{LevelsAndLegs, nodes_of, IsLevelled}
+use Rattle.ch_hierarchy.specs.Hierarchy.{LevelsAndLegs, nodes_of, AreLevels, IsLevelled}
 use Rattle.ch_hierarchy.specs.Saved.{AreLevelsOf}
 use Rattle.ch_hierarchy.specs.Written.{IsByLevel}
 use Rattle.ch_hierarchy.proofs.theory.Ordered.{every_number}
 use Rattle.ch_hierarchy.proofs.theory.SavedLevels.{level_of, order_of}
 
+-- each level is a node's, by the levels
+pub node_of_level : (levels : List ℕ) → AreLevels levels → (i : ℕ) → i < length levels → (v : ℕ) × (v < length levels) × (slice_index levels v ≡ i + 1)
+node_of_level levels are i lt =
+    let n : ℕ = length levels in
+    let apart : (y : ℕ) → Contains levels y → 0 ≢ y = λ y c e. (let l = (All-contains (λ l. (1 ≤ l) × (l ≤ n)) levels y are.0 c).0 in omega arith) in
+    let below : All (λ l. l < n + 1) (0 ∷ levels) = All-cons (λ l. l < n + 1) 0 levels (omega arith) (λ k d within. let l = (are.0 k d within).1 in omega arith) in
+    elim (contains_cons 0 (i + 1) levels (every_number (0 ∷ levels) (n + 1) (i + 1) (omega arith) below (pairs_cons ◌≢◌ 0 levels apart are.1) (omega arith))) [
+      | inl e ↦ absurd (omega arith)
+      | inr there ↦ (there.0, there.1, sym (get_or_default levels there.0 (i + 1) 0 there.1) ∙ there.2)
+    ]
+
 module _ (H : LevelsAndLegs) where
   -- each level is a node's
   pub node_at : IsLevelled H → (i : ℕ) → i < nodes_of H → (v : ℕ) × (v < nodes_of H) × (slice_index H.level v ≡ i + 1)
-  node_at is i lt =
-      let n : ℕ = nodes_of H in
-      let apart : (y : ℕ) → Contains H.level y → 0 ≢ y = λ y c e. (let l = (All-contains (λ l. (1 ≤ l) × (l ≤ n)) H.level y is.levels.0 c).0 in omega arith) in
-      let below : All (λ l. l < n + 1) (0 ∷ H.level) = All-cons (λ l. l < n + 1) 0 H.level (omega arith) (λ k d within. let l = (is.levels.0 k d within).1 in omega arith) in
-      elim (contains_cons 0 (i + 1) H.level (every_number (0 ∷ H.level) (n + 1) (i + 1) (omega arith) below (pairs_cons ◌≢◌ 0 H.level apart is.levels.1) (omega arith))) [
-        | inl e ↦ absurd (omega arith)
-        | inr there ↦ (there.0, there.1, sym (get_or_default H.level there.0 (i + 1) 0 there.1) ∙ there.2)
-      ]
+  node_at is = node_of_level H.level is.levels
 
   -- these are the nodes of the first k levels, in order
   record AreFirst (k : ℕ) (nodes : List ℕ) : Type 0 where

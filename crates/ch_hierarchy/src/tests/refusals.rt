@@ -3,7 +3,7 @@
 ghost use Rattle.std.specs.Prelude.{◌≡◌, ◌<◌};
 ghost use Rattle.ch_hierarchy.specs.Hierarchy.{nodes_of};
 
-use crate::{CheckError, Hierarchy, Leg, assemble};
+use crate::{CheckError, Hierarchy, Leg, RankedLeg, assemble};
 use ch_graph::{Cost, Graph, InArc, Saved, SavedLeg};
 use std::alloc::{AllocError, Global};
 use std::process::Abort;
@@ -67,14 +67,46 @@ fn expect_node(
     assert_eq!(rt; hierarchy.down(node), down);
 }
 
+/// A leg by rank that stands for so many arcs.
+fn ranked(rank: u32, arcs: u32) -> RankedLeg {
+    RankedLeg {
+        rank,
+        arcs,
+        weight: u64::from(arcs),
+    }
+}
+
+/// This is the node of this rank, and has these legs by rank.
+fn expect_ranked(
+    rt: &impl Abort,
+    hierarchy: &Hierarchy,
+    rank: u32,
+    node: u32,
+    up: &[RankedLeg],
+    down: &[RankedLeg],
+)
+    requires rank { rank < nodes_of hierarchy.now }
+    requires node { node < nodes_of hierarchy.now }
+{
+    assert_eq!(rt; hierarchy.rank(node), rank);
+    assert_eq!(rt; hierarchy.node_at(rank), node);
+    assert_eq!(rt; hierarchy.ranked_up(rank), up);
+    assert_eq!(rt; hierarchy.ranked_down(rank), down);
+}
+
 fn expect_ring(rt: &impl Abort, hierarchy: &Hierarchy) {
     assert!(rt; hierarchy.nodes() == 5);
+    assert_eq!(rt; ranked(0, 3).cost(), cost(3));
     for node in 0..4u32 {
         let next = [leg(node + 1, 1, None)];
         let last = [leg(4, u64::from(node) + 1, node.checked_sub(1))];
         expect_node(rt, hierarchy, node, node + 1, &next, &last);
+        let next = [ranked(3 - node, 1)];
+        let last = [ranked(0, node + 1)];
+        expect_ranked(rt, hierarchy, 4 - node, node, &next, &last);
     }
     expect_node(rt, hierarchy, 4, 5, &[], &[]);
+    expect_ranked(rt, hierarchy, 0, 4, &[], &[]);
 }
 
 /// The hierarchy of the ring as a file holds it.

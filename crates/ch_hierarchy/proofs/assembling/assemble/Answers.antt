@@ -63,6 +63,6 @@ from_rows-requires c = (named (goal.at.from_rows-requires c).In_ok-downs).0.leve
 
 pub returns : goal.returns
 returns c =
-    let names = subst (NamesFor c.args.graph.now c.args.saved.now) (sym c.from_rows.ensures) (named (goal.at.returns c).In_ok-downs) in
-    let both = assembles_value c.args.graph.now c.args.saved.now c.from_rows.result names in
+    let names = subst (NamesFor c.args.graph.now c.args.saved.now) (sym c.in_ok-from_rows.ensures) (named (goal.at.returns c).In_ok-downs) in
+    let both = assembles_value c.args.graph.now c.args.saved.now c.in_ok-from_rows.field-0 names in
     record { value = both.0; fault = both.1 }
