@@ -5,7 +5,10 @@ pub mod Steps
 pub mod Parents
 pub mod Touched
 pub mod Labelled
+pub mod ByNode
 pub mod Expanding
+pub mod RankedLegs
+pub mod Beginning
 pub mod Popping
 pub mod Stalling
 pub mod End

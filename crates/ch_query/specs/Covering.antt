@@ -11,6 +11,7 @@ use Rattle.ch_query.specs.declared.covering.Shown.{Shown}
 use Rattle.ch_query.specs.declared.covering.Shown.TheVariants.{Connected, Settled, Past}
 use Rattle.ch_query.specs.Limits.{IsMost}
 use Rattle.ch_query.specs.Search.{IsSettled, IsUpwardCost}
+use Rattle.ch_query.specs.ByNode.{costs_of, keys_of}
 use Rattle.ch_query.specs.Side.{rows_of}
 use Rattle.ch_query.specs.Underway.{IsUnderway}
 
@@ -49,4 +50,4 @@ pub record AreApart (H : LevelsAndLegs) (x y : Search) (most : Cost) : Type 0 wh
   pub there : IsUnderway H y
   pub stalls : (x.stalls ≡ false) × (y.stalls ≡ false)
   pub limits : IsMost (Some most.weight) x.most × IsMost (Some most.weight) y.most
-  pub apart : (v : ℕ) (a b : Cost) → IsSettled x.labels.costs x.queue v a → IsSettled y.labels.costs y.queue v b → IsBelow most (cost_sum a b)
+  pub apart : (v : ℕ) (a b : Cost) → IsSettled (costs_of H x) (keys_of H x) v a → IsSettled (costs_of H y) (keys_of H y) v b → IsBelow most (cost_sum a b)

@@ -11,15 +11,16 @@ use Rattle.ch_query.specs.declared.search.Search.{Search}
 use Rattle.ch_query.specs.declared.unpacking.PendingLeg.{PendingLeg}
 use Rattle.ch_query.specs.Search.{AvoidsIdle}
 use Rattle.ch_query.specs.Underway.{idle_of, IsUnderway}
+use Rattle.ch_query.specs.ByNode.{costs_of, keys_of}
 use Rattle.ch_query.specs.Side.{rows_of}
 use Rattle.ch_query.specs.Routes.{DescentStep, IsDescent}
 
 -- the search reached m at the least cost c, stalled on no path to it of that cost, and has taken all nodes up to that cost out of its queue
 pub record HasReached (H : LevelsAndLegs) (x : Search) (m : ℕ) (c : Cost) : Type 0 where
   pub underway : IsUnderway H x
-  pub known : cost_at x.labels.costs m ≡ Some c
+  pub known : cost_at (costs_of H x) m ≡ Some c
   pub least : IsLeastUpwardPath (rows_of H x.side) x.source m c
-  pub past : (v : ℕ) (d : Cost) → cost_at x.queue v ≡ Some d → IsBelow c d
+  pub past : (v : ℕ) (d : Cost) → cost_at (keys_of H x) v ≡ Some d → IsBelow c d
   pub avoids : AvoidsIdle (rows_of H x.side) (idle_of H x) m c
 
 -- and there is room for as many pending legs as c has arcs

@@ -5,6 +5,7 @@ pub mod Labels
 pub mod Search
 pub mod Parents
 pub mod Side
+pub mod ByNode
 pub mod Underway
 pub mod TwoSided
 pub mod Meeting

@@ -8,6 +8,7 @@ use Rattle.ch_query.specs.declared.search.Search.{Search}
 use Rattle.ch_query.specs.Search.{IsSettled, IsUpwardCost}
 use Rattle.ch_query.specs.TwoSided.{MeetsFirst, IsSeen}
 use Rattle.ch_query.specs.Underway.{IsUnderway}
+use Rattle.ch_query.specs.ByNode.{costs_of, keys_of}
 use Rattle.ch_query.specs.Side.{rows_of}
 
 -- the first of the two
@@ -32,9 +33,9 @@ pub record AreMeeting (H : LevelsAndLegs) (x y : Search) (least : Option (Cost �
   pub there : IsUnderway H y
   pub stalls : (x.stalls ≡ true) × (y.stalls ≡ true)
   pub most : (x.most ≡ MOST_WEIGHT) × (y.most ≡ MOST_WEIGHT)
-  pub seen : IsSeen x.labels.costs x.queue y.labels.costs y.queue least
+  pub seen : IsSeen (costs_of H x) (keys_of H x) (costs_of H y) (keys_of H y) least
   pub found : IsFoundBy H x y least
 
 -- no node is settled yet
-abbrev pub IsFresh : Search → Type 0
-IsFresh x = (v : ℕ) (c : Cost) → IsSettled x.labels.costs x.queue v c → ⊥
+abbrev pub IsFresh : LevelsAndLegs → Search → Type 0
+IsFresh H x = (v : ℕ) (c : Cost) → IsSettled (costs_of H x) (keys_of H x) v c → ⊥

@@ -1,5 +1,5 @@
 -- One side of a query, as the program keeps it.
-use Rattle.std.specs.Prelude.{◌≡◌, ◌≢◌, ℕ, ◌<◌, ◌≤◌, ◌⊎◌, Bool, true, false, List, [], length, AllPairs, Contains, Option, Some, is_some, Vec, vec_len, vec_capacity}
+use Rattle.std.specs.Prelude.{◌≡◌, ◌≢◌, ℕ, ◌<◌, ◌≤◌, ◌⊎◌, Bool, true, false, List, [], length, AllPairs, Contains, Option, Some, None, is_some, Vec, vec_len, vec_capacity}
 use Rattle.std.specs.List.{count_by}
 use Rattle.std.specs.declared.alloc.Global.{Global}
 use Rattle.ch_graph.specs.declared.limits.TheConstants.{MOST_WEIGHT}
@@ -8,6 +8,8 @@ use Rattle.ch_hierarchy.specs.declared.leg.Leg.{Leg}
 use Rattle.ch_hierarchy.specs.Hierarchy.{LevelsAndLegs, nodes_of, IsLevelled}
 use Rattle.ch_query.specs.declared.side.Side.{Side}
 use Rattle.ch_query.specs.declared.search.Search.{Search}
+use Rattle.ch_hierarchy.specs.declared.ranked.RankedLeg.{RankedLeg}
+use Rattle.ch_query.specs.ByNode.{costs_of, keys_of, parents_of}
 use Rattle.ch_query.specs.Side.{rows_of, other}
 use Rattle.ch_query.specs.Parents.{AreParents, IsNoEarlier}
 use Rattle.ch_graph.specs.Cost.{cost_at}
@@ -33,9 +35,13 @@ pub record IsRoom (x : Search) : Type 0 where
   pub touched : IsTouched x.labels.costs x.touched
   pub most : x.most ≤ MOST_WEIGHT
 
+-- the lists of the search are for so many nodes
+abbrev pub IsSized : ℕ → Search → Type 0
+IsSized n x = (length x.labels.costs ≡ n) × (length x.queue ≡ n) × (length x.labels.parents ≡ n)
+
 -- how many nodes are not settled
-abbrev pub count_unsettled_in : Search → ℕ
-count_unsettled_in x = count_unsettled x.labels.costs x.queue
+abbrev pub count_unsettled_in : LevelsAndLegs → Search → ℕ
+count_unsettled_in H x = count_unsettled (costs_of H x) (keys_of H x)
 
 -- of the same direction and source and for paths of as much weight, and both stall or neither does
 pub record IsSameSearch (x y : Search) : Type 0 where
@@ -51,23 +57,25 @@ idle_of H x v c = IsStalled (rows_of H x.side) (back_of H x.side x.stalls) x.sou
 -- a search between two nodes
 pub record IsUnderway (H : LevelsAndLegs) (x : Search) : Type 0 where
   pub levelled : IsLevelled H
-  pub search : IsSearch x.most (rows_of H x.side) x.source (idle_of H x) x.labels.costs x.queue
-  pub parents : AreParents x.most (rows_of H x.side) x.source (idle_of H x) x.labels.costs x.queue x.labels.parents
+  pub sizes : IsSized (nodes_of H) x
+  pub search : IsSearch x.most (rows_of H x.side) x.source (idle_of H x) (costs_of H x) (keys_of H x)
+  pub parents : AreParents x.most (rows_of H x.side) x.source (idle_of H x) (costs_of H x) (keys_of H x) (parents_of H x)
   pub touched : IsTouched x.labels.costs x.touched
 
 -- a search that takes the legs of v, which was settled last, at cost c
 pub record IsExpandingAt (H : LevelsAndLegs) (x : Search) (v : ℕ) (c : Cost) : Type 0 where
   pub levelled : IsLevelled H
+  pub sizes : IsSized (nodes_of H) x
   pub within : v < nodes_of H
-  pub search : IsExpanding x.most (rows_of H x.side) x.source (OrNode (idle_of H x) v) x.labels.costs x.queue v c
-  pub parents : AreParents x.most (rows_of H x.side) x.source (OrNode (idle_of H x) v) x.labels.costs x.queue x.labels.parents
+  pub search : IsExpanding x.most (rows_of H x.side) x.source (OrNode (idle_of H x) v) (costs_of H x) (keys_of H x) v c
+  pub parents : AreParents x.most (rows_of H x.side) x.source (OrNode (idle_of H x) v) (costs_of H x) (keys_of H x) (parents_of H x)
   pub touched : IsTouched x.labels.costs x.touched
 
 -- nodes that are settled, each once, and among them all that need to be expanded
 pub record AreUnstalled (H : LevelsAndLegs) (x : Search) (nodes : List ℕ) : Type 0 where
   pub distinct : AllPairs ◌≢◌ nodes
-  pub settled : (v : ℕ) → Contains nodes v → (c : Cost) × IsSettled x.labels.costs x.queue v c
-  pub whole : (v : ℕ) (c : Cost) → IsSettled x.labels.costs x.queue v c → idle_of H x v c ⊎ Contains nodes v
+  pub settled : (v : ℕ) → Contains nodes v → (c : Cost) × IsSettled (costs_of H x) (keys_of H x) v c
+  pub whole : (v : ℕ) (c : Cost) → IsSettled (costs_of H x) (keys_of H x) v c → idle_of H x v c ⊎ Contains nodes v
 
 -- the nodes with the weights of what they are known to cost, in order of node
 pub record AreWeights (best : List (Option Cost)) (nodes : List ℕ) (list : List (ℕ × ℕ)) : Type 0 where
@@ -75,22 +83,30 @@ pub record AreWeights (best : List (Option Cost)) (nodes : List ℕ) (list : Lis
   pub sound : (v w : ℕ) → Contains list (v, w) → Contains nodes v × (c : Cost) × (cost_at best v ≡ Some c) × (c.weight ≡ w)
   pub whole : (v : ℕ) (c : Cost) → Contains nodes v → cost_at best v ≡ Some c → Contains list (v, c.weight)
 
+-- the leg to a node of this number, which is its rank here
+abbrev pub leg_of_ranked : RankedLeg → Leg
+leg_of_ranked r = record { node = r.rank; cost = record { weight = r.weight; arcs = r.arcs }; middle = None }
+
+-- what taking a leg of v, settled at cost c, changes of the lists by rank
+abbrev pub RelaxesByRank : Search → ℕ → Cost → RankedLeg → Search → Type 0
+RelaxesByRank x v c r y = Relaxes x.most x.labels.costs x.queue x.labels.parents v c (leg_of_ranked r) y.labels.costs y.queue y.labels.parents
+
 -- what taking a leg of v, settled at cost c, changes
-abbrev pub RelaxesIn : Search → ℕ → Cost → Leg → Search → Type 0
-RelaxesIn x v c l y = Relaxes x.most x.labels.costs x.queue x.labels.parents v c l y.labels.costs y.queue y.labels.parents
+abbrev pub RelaxesIn : LevelsAndLegs → Search → ℕ → Cost → Leg → Search → Type 0
+RelaxesIn H x v c l y = Relaxes x.most (costs_of H x) (keys_of H x) (parents_of H x) v c l (costs_of H y) (keys_of H y) (parents_of H y)
 
 -- what is settled in y was settled in x, at the same cost
-abbrev pub KeepsSettled : Search → Search → Type 0
-KeepsSettled x y = (v : ℕ) (c : Cost) → IsSettled y.labels.costs y.queue v c → IsSettled x.labels.costs x.queue v c
+abbrev pub KeepsSettled : LevelsAndLegs → Search → Search → Type 0
+KeepsSettled H x y = (v : ℕ) (c : Cost) → IsSettled (costs_of H y) (keys_of H y) v c → IsSettled (costs_of H x) (keys_of H x) v c
 
 -- y is what x became when these legs of v were taken
 pub record IsPartlyExpanded (H : LevelsAndLegs) (x y : Search) (v : ℕ) (c : Cost) (legs : List Leg) : Type 0 where
   pub same : IsSameSearch x y
   pub expanding : IsExpandingAt H y v c
-  pub relaxed : (l : Leg) → Contains legs l → IsRelaxedFrom y.most y.labels.costs c l × IsNoEarlier y.most y.labels.costs y.labels.parents v c l
-  pub settled : KeepsSettled x y
-  pub stays : KeepsSettled y x
-  pub measure : count_unsettled_in y ≡ count_unsettled_in x
+  pub relaxed : (l : Leg) → Contains legs l → IsRelaxedFrom y.most (costs_of H y) c l × IsNoEarlier y.most (costs_of H y) (parents_of H y) v c l
+  pub settled : KeepsSettled H x y
+  pub stays : KeepsSettled H y x
+  pub measure : count_unsettled_in H y ≡ count_unsettled_in H x
 
 -- a search for n nodes in which nothing is left of an earlier one
 pub record IsClean (n : ℕ) (x : Search) : Type 0 where

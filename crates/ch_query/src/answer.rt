@@ -10,7 +10,7 @@ use crate::query::{distance, route};
 use crate::scratch::Scratch;
 use ch_graph::InArc;
 use ch_hierarchy::Hierarchy;
-use ch_work::{Gate, ListJob, Plan, run_list, run_list_in_room};
+use ch_work::{Gate, ListJob, Plan, Stage, run_list, run_list_in_room};
 use std::alloc::{AllocError, Global};
 use std::marker::Model;
 use std::thread::Threads;
@@ -57,6 +57,7 @@ pub fn answer_all<R: Threads + Sync, G: Gate>(
     ensures { IfOk result (λ answers. AllZip (IsReply hierarchy.now routes) queries.now answers.items) }
 {
     let job = QueryJob { hierarchy, routes };
+    gate.watch(Stage::Answering, 0, plan.pieces(queries.len() as u32));
     run_list(rt, alloc, queries, plan, gate, &job)
 }
 
@@ -82,6 +83,7 @@ pub fn answer_all_in<G: Gate>(
     ensures scratch { OnOk result (scratch.new ≡ scratch.old) }
 {
     let job = QueryJob { hierarchy, routes };
+    gate.watch(Stage::Answering, 0, plan.pieces(queries.len() as u32));
     run_list_in_room(alloc, queries, plan, gate, scratch, &job)
 }
 

@@ -13,6 +13,7 @@ use crate::lower::first_uncovered;
 use crate::scratch::Scratch;
 use ch_graph::{Graph, Saved};
 use ch_hierarchy::{CheckError, CheckFault, Hierarchy, assemble};
+use ch_work::{Gate, Open, Stage};
 use std::alloc::{AllocError, Global};
 
 /// The hierarchy that a saved one names, where it is right for the graph: its distances and routes are
@@ -31,9 +32,27 @@ pub fn check(alloc: Global, graph: &Graph, saved: &Saved) -> Result<Hierarchy, C
     ensures hierarchy { IfOk result (NamesKept graph.now saved.now) }
     ensures fault { (f : AnyFault) → AnswersWhere result (Err (CheckError.Fault f)) (IsFirstFault graph.now saved.now f) }
 {
+    check_watched(alloc, graph, saved, &Open)
+}
+
+/// As [`check`], and the gate is told how far it is. The gate changes nothing of the answer.
+///
+/// # Errors
+/// The first fault of all seven kinds, or `NoMemory`; what was lent is as before.
+pub fn check_watched<G: Gate>(
+    alloc: Global,
+    graph: &Graph,
+    saved: &Saved,
+    gate: &G,
+) -> Result<Hierarchy, CheckError>
+    ensures accepted { IsOkWhere result (IsFaultless graph.now saved.now) }
+    ensures hierarchy { IfOk result (NamesKept graph.now saved.now) }
+    ensures fault { (f : AnyFault) → AnswersWhere result (Err (CheckError.Fault f)) (IsFirstFault graph.now saved.now f) }
+{
+    gate.watch(Stage::Checking, 0, graph.nodes());
     let baseless = first_without_arc(alloc, graph, saved.legs.as_slice())?;
     let hierarchy = assemble(alloc, graph, saved)?;
-    match first_late_fault(alloc, graph, saved, &hierarchy, baseless)? {
+    match first_late_fault(alloc, graph, saved, &hierarchy, baseless, gate)? {
         Some(fault) => Err(CheckError::Fault(fault)),
         None => Ok(hierarchy),
     }
@@ -41,12 +60,13 @@ pub fn check(alloc: Global, graph: &Graph, saved: &Saved) -> Result<Hierarchy, C
 
 /// The first fault of the hierarchy that is named, as it stands beside the graph. The place of the first leg without a
 /// middle that is no arc of the graph is known.
-fn first_late_fault(
+fn first_late_fault<G: Gate>(
     alloc: Global,
     graph: &Graph,
     saved: &Saved,
     hierarchy: &Hierarchy,
     baseless: Option<usize>,
+    gate: &G,
 ) -> Result<Option<CheckFault>, AllocError>
     requires named { NamesFor graph.now saved.now hierarchy.now }
     requires bases { MatchOption baseless (All (IsArcIfBase graph.now) saved.now.legs) (IsFirstFailing (IsArcIfBase graph.now) saved.now.legs) }
@@ -63,7 +83,7 @@ fn first_late_fault(
         return Ok(Some(CheckFault::Arc(place)));
     }
     let mut scratch = Scratch::new(alloc, hierarchy.nodes())?;
-    match first_uncovered(hierarchy, &mut scratch) {
+    match first_uncovered(hierarchy, &mut scratch, gate) {
         Some(node) => Ok(Some(CheckFault::Lower(node))),
         None => Ok(None),
     }

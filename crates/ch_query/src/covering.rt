@@ -7,6 +7,7 @@ ghost use Rattle.ch_hierarchy.specs.Hierarchy.{nodes_of};
 ghost use Rattle.ch_hierarchy.specs.Kept.{MeetsWithin};
 ghost use Rattle.ch_query.specs.declared.side.Side.TheVariants.{Up, Down};
 ghost use Rattle.ch_query.specs.declared.covering.Shown.TheVariants as Shown;
+ghost use Rattle.ch_query.specs.ByNode.{IsSomeRank};
 ghost use Rattle.ch_query.specs.Underway.{count_unsettled_in, IsSameSearch, IsUnderway, IsClean};
 ghost use Rattle.ch_query.specs.Covering.{is_connected, is_settled, IsPastCost, AreConnected, AreApart};
 
@@ -56,36 +57,36 @@ fn is_past(queue: &KeyQueue<Cost>, most: Cost) -> bool
     }
 }
 
-/// Whether `cost` at `node` here and what is known there are within the bound.
-fn connects(hierarchy: &Hierarchy, there: &Search, node: u32, cost: Cost, most: Cost) -> bool
+/// Whether `cost` at the node of this rank here and what is known there are within the bound.
+fn connects(hierarchy: &Hierarchy, there: &Search, rank: u32, cost: Cost, most: Cost) -> bool
     requires there { IsUnderway hierarchy.now there.now }
-    requires node { node < nodes_of hierarchy.now }
+    requires rank { IsSomeRank hierarchy.now rank }
     requires cost { (cost.weight ≤ MOST_WEIGHT) × (cost.arcs ≤ MOST_PATH_ARCS) }
-    ensures connected { result ≡ true → (d : CostOf) × (cost_at there.now.labels.costs node ≡ Some d) × IsAtMost (cost_sum cost d) most }
-    ensures apart { result ≡ false → (d : CostOf) → cost_at there.now.labels.costs node ≡ Some d → IsBelow most (cost_sum cost d) }
+    ensures connected { result ≡ true → (d : CostOf) × (cost_at there.now.labels.costs rank ≡ Some d) × IsAtMost (cost_sum cost d) most }
+    ensures apart { result ≡ false → (d : CostOf) → cost_at there.now.labels.costs rank ≡ Some d → IsBelow most (cost_sum cost d) }
 {
-    match there.labels.get(node) {
+    match there.labels.get(rank) {
         Some(known) => !is_below(most, cost.plus(known)),
         None => false,
     }
 }
 
-/// Whether a leg of `node`, whose legs were taken, leads to a node that both reach within the bound.
+/// Whether a leg of the node of this rank, whose legs were taken, leads to a node that both reach within the bound.
 fn connects_by_leg(
     hierarchy: &Hierarchy,
     here: &Search,
     there: &Search,
-    node: u32,
+    rank: u32,
     most: Cost,
 ) -> bool
     requires here { IsUnderway hierarchy.now here.now }
     requires there { IsUnderway hierarchy.now there.now }
-    requires node { node < nodes_of hierarchy.now }
+    requires rank { IsSomeRank hierarchy.now rank }
     ensures { result ≡ true → AreConnected hierarchy.now here.now there.now most }
 {
-    for leg in here.side.legs(hierarchy, node) {
-        if let Some(cost) = here.labels.get(leg.node) {
-            if connects(hierarchy, there, leg.node, cost, most) {
+    for leg in here.side.ranked_legs(hierarchy, rank) {
+        if let Some(cost) = here.labels.get(leg.rank) {
+            if connects(hierarchy, there, leg.rank, cost, most) {
                 return true;
             }
         }
@@ -100,20 +101,20 @@ fn advance(hierarchy: &Hierarchy, here: &mut Search, there: &Search, most: Cost)
     ensures underway { IsUnderway hierarchy.now here.new }
     ensures connected { is_connected result ≡ true → AreConnected hierarchy.now here.new there.now most }
     ensures apart { is_connected result ≡ false → AreApart hierarchy.now here.new there.now most }
-    ensures settled { is_settled result ≡ true → count_unsettled_in here.new < count_unsettled_in here.old }
+    ensures settled { is_settled result ≡ true → count_unsettled_in hierarchy.now here.new < count_unsettled_in hierarchy.now here.old }
     ensures past { result ≡ Shown.Past → (here.new ≡ here.old) × IsPastCost here.old.queue most }
 {
     if is_past(&here.queue, most) {
         return Shown::Past;
     }
-    let Some((cost, node)) = here.queue.pop() else {
+    let Some((cost, rank)) = here.queue.pop() else {
         return Shown::Past;
     };
-    here.settle(hierarchy, node, cost);
-    if connects(hierarchy, there, node, cost, most) {
+    here.settle(hierarchy, hierarchy.node_at(rank), rank, cost);
+    if connects(hierarchy, there, rank, cost, most) {
         return Shown::Connected;
     }
-    if connects_by_leg(hierarchy, here, there, node, most) {
+    if connects_by_leg(hierarchy, here, there, rank, most) {
         return Shown::Connected;
     }
     Shown::Settled
@@ -125,7 +126,7 @@ fn step(hierarchy: &Hierarchy, up: &mut Search, down: &mut Search, most: Cost) -
     ensures up { IsSameSearch up.old up.new × IsUnderway hierarchy.now up.new }
     ensures down { IsSameSearch down.old down.new × IsUnderway hierarchy.now down.new }
     ensures connected { is_connected result ≡ true → AreConnected hierarchy.now up.new down.new most }
-    ensures settled { is_settled result ≡ true → AreApart hierarchy.now up.new down.new most × (count_unsettled_in up.new + count_unsettled_in down.new < count_unsettled_in up.old + count_unsettled_in down.old) }
+    ensures settled { is_settled result ≡ true → AreApart hierarchy.now up.new down.new most × (count_unsettled_in hierarchy.now up.new + count_unsettled_in hierarchy.now down.new < count_unsettled_in hierarchy.now up.old + count_unsettled_in hierarchy.now down.old) }
     ensures past { result ≡ Shown.Past → AreApart hierarchy.now up.new down.new most × IsPastCost up.new.queue most × IsPastCost down.new.queue most }
 {
     if up.leads(down) {

@@ -34,7 +34,7 @@ pub(crate) fn descend(
 {
     let mut node = meet;
     while node != search.source {
-        let parent = search.labels.parent(node);
+        let parent = search.labels.parent(hierarchy.rank(node));
         let leg = leg_at(search.side.legs(hierarchy, parent), node);
         pending.push_reserved(directed(search.side, parent, leg));
         node = parent;

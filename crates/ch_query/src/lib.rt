@@ -9,7 +9,8 @@
 //! hierarchy with levels; [`search_space`] lists those of them over which distances lead, for tables, on
 //! every hierarchy that is right for a graph. [`answer_all`] gives the answers to many queries in their order,
 //! however a plan cuts them among workers. [`check`] accepts a saved hierarchy, whoever made it, exactly where
-//! it is right for the graph, and else tells its first fault.
+//! it is right for the graph, and else tells its first fault; [`check_watched`] is the same for a gate that is told how far
+//! it is.
 #![tactic(auto)]
 
 mod answer;
@@ -33,7 +34,7 @@ mod spreading;
 mod unpacking;
 
 pub use answer::{Answer, answer_all, answer_all_in};
-pub use checking::check;
+pub use checking::{check, check_watched};
 pub use query::{distance, route};
 pub use routes::Route;
 pub use scratch::Scratch;

@@ -10,6 +10,7 @@ use crate::legs::is_leg_within;
 use crate::scratch::Scratch;
 use ch_graph::Cost;
 use ch_hierarchy::{Hierarchy, Leg};
+use ch_work::{Gate, Stage};
 
 /// Whether going from `start` up and down to `end` costs at most `most`. Mostly a leg shows it.
 fn is_pair_covered(
@@ -76,13 +77,19 @@ fn is_covered(hierarchy: &Hierarchy, scratch: &mut Scratch, node: u32) -> bool
 }
 
 /// The least numbered node through which some pair of legs, between nodes that differ, costs less than
-/// every way up and down between these nodes; `None` where there is no such node.
-pub(crate) fn first_uncovered(hierarchy: &Hierarchy, scratch: &mut Scratch) -> Option<u32>
+/// every way up and down between these nodes; `None` where there is no such node. The gate is told how many nodes are
+/// checked.
+pub(crate) fn first_uncovered<G: Gate>(
+    hierarchy: &Hierarchy,
+    scratch: &mut Scratch,
+    gate: &G,
+) -> Option<u32>
     requires scratch { scratch.old ≡ nodes_of hierarchy.now }
     ensures first { MatchOption result ((v : ℕ) → v < nodes_of hierarchy.now → IsCovered hierarchy.now v) (IsFirstUncovered hierarchy.now) }
     ensures scratch { scratch.new ≡ scratch.old }
 {
     for node in 0..hierarchy.nodes() {
+        gate.watch(Stage::Checking, node, hierarchy.nodes());
         if !is_covered(hierarchy, scratch, node) {
             return Some(node);
         }

@@ -6,6 +6,8 @@ ghost use Rattle.ch_hierarchy.specs.Paths.{IsMeet, NeverMeets};
 ghost use Rattle.ch_query.specs.declared.side.Side.TheVariants.{Up, Down};
 ghost use Rattle.ch_query.specs.Distance.{IsKeptForSome};
 ghost use Rattle.ch_graph.specs.Cost.{cost_at};
+ghost use Rattle.ch_hierarchy.specs.Ranked.{rank_of};
+ghost use Rattle.ch_query.specs.ByNode.{costs_of};
 ghost use Rattle.ch_query.specs.Underway.{count_unsettled_in, IsSameSearch, IsUnderway, IsClean};
 ghost use Rattle.ch_query.specs.TwoSided.{IsPast};
 ghost use Rattle.ch_query.specs.Meeting.{IsLeastAfter, IsFirst, AreMeeting};
@@ -27,20 +29,22 @@ fn first(least: Option<(Cost, u32)>, cost: Cost, node: u32) -> Option<(Cost, u32
     Some((cost, node))
 }
 
-/// The least sum, now that one side settles `node` at `cost`.
+/// The least sum, now that one side settles `node`, of this rank, at `cost`.
 fn met(
     hierarchy: &Hierarchy,
     there: &Search,
     node: u32,
+    rank: u32,
     cost: Cost,
     least: Option<(Cost, u32)>,
 ) -> Option<(Cost, u32)>
     requires there { IsUnderway hierarchy.now there.now }
     requires node { node < nodes_of hierarchy.now }
+    requires rank { rank ≡ rank_of hierarchy.now node }
     requires cost { (cost.weight ≤ MOST_WEIGHT) × (cost.arcs ≤ MOST_PATH_ARCS) }
-    ensures { IsLeastAfter (cost_at there.now.labels.costs node) node cost least result }
+    ensures { IsLeastAfter (cost_at (costs_of hierarchy.now there.now) node) node cost least result }
 {
-    match there.labels.get(node) {
+    match there.labels.get(rank) {
         Some(known) => first(least, cost.plus(known), node),
         None => least,
     }
@@ -67,17 +71,18 @@ fn advance(
     requires meeting { AreMeeting hierarchy.now here.old there.now least.old }
     ensures meeting { AreMeeting hierarchy.now here.new there.now least.new }
     ensures same { IsSameSearch here.old here.new }
-    ensures less { result ≡ true → count_unsettled_in here.new < count_unsettled_in here.old }
+    ensures less { result ≡ true → count_unsettled_in hierarchy.now here.new < count_unsettled_in hierarchy.now here.old }
     ensures stopped { result ≡ false → (here.new ≡ here.old) × (least.new ≡ least.old) × IsPast here.old.queue least.old }
 {
     if is_past(&here.queue, *least) {
         return false;
     }
-    let Some((cost, node)) = here.queue.pop() else {
+    let Some((cost, rank)) = here.queue.pop() else {
         return false;
     };
-    *least = met(hierarchy, there, node, cost, *least);
-    here.settle(hierarchy, node, cost);
+    let node = hierarchy.node_at(rank);
+    *least = met(hierarchy, there, node, rank, cost, *least);
+    here.settle(hierarchy, node, rank, cost);
     true
 }
 
@@ -93,7 +98,7 @@ fn step(
     ensures meeting { AreMeeting hierarchy.now up.new down.new least.new }
     ensures up { IsSameSearch up.old up.new }
     ensures down { IsSameSearch down.old down.new }
-    ensures less { result ≡ true → count_unsettled_in up.new + count_unsettled_in down.new < count_unsettled_in up.old + count_unsettled_in down.old }
+    ensures less { result ≡ true → count_unsettled_in hierarchy.now up.new + count_unsettled_in hierarchy.now down.new < count_unsettled_in hierarchy.now up.old + count_unsettled_in hierarchy.now down.old }
     ensures stopped { result ≡ false → IsPast up.new.queue least.new × IsPast down.new.queue least.new }
 {
     if up.leads(down) {

@@ -5,14 +5,15 @@ ghost use Rattle.ch_graph.specs.Cost.{IsBelow};
 ghost use Rattle.ch_hierarchy.specs.Hierarchy.{nodes_of};
 ghost use Rattle.ch_query.specs.Limits.{IsMost};
 ghost use Rattle.ch_query.specs.TwoSided.{LeadsKeys};
-ghost use Rattle.ch_query.specs.Underway.{idle_of, count_unsettled_in, IsTouched, IsRoom, RelaxesIn, IsSameSearch, IsUnderway, IsExpandingAt, KeepsSettled, IsClean};
+ghost use Rattle.ch_hierarchy.specs.Ranked.{rank_of};
+ghost use Rattle.ch_query.specs.Underway.{idle_of, count_unsettled_in, IsTouched, IsRoom, RelaxesByRank, IsSameSearch, IsUnderway, IsExpandingAt, KeepsSettled, IsClean};
 ghost use Rattle.ch_query.specs.Meeting.{IsFresh};
 
 use crate::labels::Labels;
 use crate::side::Side;
 use ch_graph::Cost;
 use ch_graph::limits::MOST_WEIGHT;
-use ch_hierarchy::{Hierarchy, Leg};
+use ch_hierarchy::{Hierarchy, RankedLeg};
 use ch_queue::KeyQueue;
 use std::alloc::{AllocError, Global};
 
@@ -27,11 +28,12 @@ pub(crate) struct Search {
     /// The most that a path may weigh. A leg that would make it weigh more is not taken, so no node that is
     /// farther away gets a key.
     pub(crate) most: u64,
-    /// By node: the least cost known of a path from the source to it, and the least numbered node before it on a path of that cost.
+    /// By rank of a node: the least cost known of a path from the source to it, and the least numbered node before it on a path of
+    /// that cost. High nodes, which most searches reach, so stand together.
     pub(crate) labels: Labels,
-    /// The nodes that are reached and not settled, by cost.
+    /// The ranks of the nodes that are reached and not settled, by cost.
     pub(crate) queue: KeyQueue<Cost>,
-    /// The nodes that have a cost, each once.
+    /// The ranks of the nodes that have a cost, each once.
     pub(crate) touched: Vec<u32>,
 }
 
@@ -64,7 +66,7 @@ impl Search {
         ensures source { self.new.source ≡ source }
         ensures stalls { self.new.stalls ≡ stalls }
         ensures most { self.new.most ≡ MOST_WEIGHT }
-        ensures fresh { IsFresh self.new }
+        ensures fresh { IsFresh hierarchy.now self.new }
     {
         self.begin_up_to(hierarchy, source, stalls, MOST_WEIGHT);
     }
@@ -85,87 +87,87 @@ impl Search {
         ensures source { self.new.source ≡ source }
         ensures stalls { self.new.stalls ≡ stalls }
         ensures most { self.new.most ≡ most }
-        ensures fresh { IsFresh self.new }
+        ensures fresh { IsFresh hierarchy.now self.new }
     {
-        // The getter tells the proof that the hierarchy has levels.
-        let _ = hierarchy.nodes();
         self.source = source;
         self.stalls = stalls;
         self.most = most;
         let nothing = Cost { weight: 0, arcs: 0 };
-        self.reach(source, nothing, source);
+        self.reach(hierarchy.rank(source), nothing, source);
     }
 
-    /// Writes what is known of a node that is not settled.
-    fn reach(&mut self, node: u32, cost: Cost, parent: u32)
-        requires node { node < length self.old.labels.costs }
+    /// Writes what is known of the node of this rank, which is not settled.
+    fn reach(&mut self, rank: u32, cost: Cost, parent: u32)
+        requires rank { rank < length self.old.labels.costs }
         requires weight { cost.weight ≤ MOST_WEIGHT }
         requires arcs { cost.arcs < 2 ^ 63 }
         requires room { IsRoom self.old }
-        ensures costs { self.new.labels.costs ≡ slice_set self.old.labels.costs node (Some cost) }
-        ensures queue { self.new.queue ≡ slice_set self.old.queue node (Some cost) }
-        ensures parents { self.new.labels.parents ≡ slice_set self.old.labels.parents node parent }
+        ensures costs { self.new.labels.costs ≡ slice_set self.old.labels.costs rank (Some cost) }
+        ensures queue { self.new.queue ≡ slice_set self.old.queue rank (Some cost) }
+        ensures parents { self.new.labels.parents ≡ slice_set self.old.labels.parents rank parent }
         ensures touched { IsTouched self.new.labels.costs self.new.touched }
         ensures same { IsSameSearch self.old self.new }
     {
-        if self.labels.get(node).is_none() {
-            self.touched.push_reserved(node);
+        if self.labels.get(rank).is_none() {
+            self.touched.push_reserved(rank);
         }
-        self.labels.set(node, cost, parent);
-        self.queue.set(node, cost);
+        self.labels.set(rank, cost, parent);
+        self.queue.set(rank, cost);
     }
 
     /// Takes a leg of `node`, which was settled at `cost`.
-    fn relax(&mut self, node: u32, cost: Cost, leg: Leg)
-        requires node { leg.node < length self.old.labels.costs }
+    fn relax(&mut self, node: u32, cost: Cost, leg: RankedLeg)
+        requires rank { leg.rank < length self.old.labels.costs }
         requires room { IsRoom self.old }
-        requires weights { (cost.weight ≤ MOST_WEIGHT) × (leg.cost.weight ≤ MOST_WEIGHT) }
-        requires arcs { cost.arcs + leg.cost.arcs < 2 ^ 63 }
-        ensures relaxes { RelaxesIn self.old node cost leg self.new }
+        requires weights { (cost.weight ≤ MOST_WEIGHT) × (leg.weight ≤ MOST_WEIGHT) }
+        requires arcs { cost.arcs + leg.arcs < 2 ^ 63 }
+        ensures relaxes { RelaxesByRank self.old node cost leg self.new }
         ensures touched { IsTouched self.new.labels.costs self.new.touched }
         ensures same { IsSameSearch self.old self.new }
     {
-        let sum = cost.plus(leg.cost);
+        let sum = cost.plus(leg.cost());
         if sum.weight > self.most {
             return;
         }
-        if let Some(known) = self.labels.get(leg.node) {
+        if let Some(known) = self.labels.get(leg.rank) {
             if known < sum {
                 return;
             }
             if known == sum {
-                if node < self.labels.parent(leg.node) {
-                    self.labels.set_parent(leg.node, node);
+                if node < self.labels.parent(leg.rank) {
+                    self.labels.set_parent(leg.rank, node);
                 }
                 return;
             }
         }
-        self.reach(leg.node, sum, node);
+        self.reach(leg.rank, sum, node);
     }
 
     /// Takes each leg of the node that was settled last.
-    fn expand(&mut self, hierarchy: &Hierarchy, node: u32, cost: Cost)
+    fn expand(&mut self, hierarchy: &Hierarchy, node: u32, rank: u32, cost: Cost)
         requires expanding { IsExpandingAt hierarchy.now self.old node cost }
+        requires rank { rank ≡ rank_of hierarchy.now node }
         ensures underway { IsUnderway hierarchy.now self.new }
         ensures same { IsSameSearch self.old self.new }
-        ensures settled { KeepsSettled self.old self.new }
-        ensures stays { KeepsSettled self.new self.old }
-        ensures measure { count_unsettled_in self.new ≡ count_unsettled_in self.old }
+        ensures settled { KeepsSettled hierarchy.now self.old self.new }
+        ensures stays { KeepsSettled hierarchy.now self.new self.old }
+        ensures measure { count_unsettled_in hierarchy.now self.new ≡ count_unsettled_in hierarchy.now self.old }
     {
-        for leg in self.side.legs(hierarchy, node) {
+        for leg in self.side.ranked_legs(hierarchy, rank) {
             self.relax(node, cost, *leg);
         }
     }
 
-    /// Whether a leg from a higher node shows a way to `node` that costs less than `cost`.
-    fn is_stalled(&self, hierarchy: &Hierarchy, node: u32, cost: Cost) -> bool
+    /// Whether a leg from a higher node shows a way to `node`, of this rank, that costs less than `cost`.
+    fn is_stalled(&self, hierarchy: &Hierarchy, node: u32, rank: u32, cost: Cost) -> bool
         requires expanding { IsExpandingAt hierarchy.now self.now node cost }
+        requires rank { rank ≡ rank_of hierarchy.now node }
         requires stalls { self.now.stalls ≡ true }
         ensures { result ≡ true → idle_of hierarchy.now self.now node cost }
     {
-        for leg in self.side.other().legs(hierarchy, node) {
-            if let Some(known) = self.labels.get(leg.node) {
-                if is_below(known.plus(leg.cost), cost) {
+        for leg in self.side.other().ranked_legs(hierarchy, rank) {
+            if let Some(known) = self.labels.get(leg.rank) {
+                if is_below(known.plus(leg.cost()), cost) {
                     return true;
                 }
             }
@@ -175,19 +177,20 @@ impl Search {
 
     /// Takes the legs of the node that was settled last, unless the search stalls at it, and says whether it
     /// did.
-    pub(crate) fn settle(&mut self, hierarchy: &Hierarchy, node: u32, cost: Cost) -> bool
+    pub(crate) fn settle(&mut self, hierarchy: &Hierarchy, node: u32, rank: u32, cost: Cost) -> bool
         requires expanding { IsExpandingAt hierarchy.now self.old node cost }
+        requires rank { rank ≡ rank_of hierarchy.now node }
         ensures underway { IsUnderway hierarchy.now self.new }
         ensures same { IsSameSearch self.old self.new }
-        ensures settled { KeepsSettled self.old self.new }
-        ensures stays { KeepsSettled self.new self.old }
-        ensures measure { count_unsettled_in self.new ≡ count_unsettled_in self.old }
+        ensures settled { KeepsSettled hierarchy.now self.old self.new }
+        ensures stays { KeepsSettled hierarchy.now self.new self.old }
+        ensures measure { count_unsettled_in hierarchy.now self.new ≡ count_unsettled_in hierarchy.now self.old }
         ensures stalled { result ≡ false → idle_of hierarchy.now self.new node cost }
     {
-        if self.stalls && self.is_stalled(hierarchy, node, cost) {
+        if self.stalls && self.is_stalled(hierarchy, node, rank, cost) {
             return false;
         }
-        self.expand(hierarchy, node, cost);
+        self.expand(hierarchy, node, rank, cost);
         true
     }
 
@@ -211,8 +214,8 @@ impl Search {
         ensures side { self.new.side ≡ self.old.side }
     {
         self.queue.clear();
-        while let Some(node) = self.touched.pop() {
-            self.labels.clear(node);
+        while let Some(rank) = self.touched.pop() {
+            self.labels.clear(rank);
         }
     }
 }

@@ -1,10 +1,11 @@
 //! The two directions of a search.
-ghost use Rattle.std.specs.Prelude.{◌≡◌, ◌<◌};
+ghost use Rattle.std.specs.Prelude.{◌≡◌, ◌<◌, ℕ, map};
 ghost use Rattle.ch_hierarchy.specs.Rows.{row};
 ghost use Rattle.ch_hierarchy.specs.Hierarchy.{nodes_of, IsLevelled};
+ghost use Rattle.ch_hierarchy.specs.Ranked.{rank_of, ranked_leg};
 ghost use Rattle.ch_query.specs.Side.{rows_of, other};
 
-use ch_hierarchy::{Hierarchy, Leg};
+use ch_hierarchy::{Hierarchy, Leg, RankedLeg};
 
 /// A direction of search along legs to higher nodes.
 #[derive(Clone, Copy, Debug, PartialEq, Eq)]
@@ -35,6 +36,18 @@ impl Side {
         match self {
             Side::Up => hierarchy.up(node),
             Side::Down => hierarchy.down(node),
+        }
+    }
+
+    /// The legs of the node of this rank in this direction, by the ranks of their nodes.
+    pub(crate) fn ranked_legs(self, hierarchy: &Hierarchy, rank: u32) -> &[RankedLeg]
+        requires { rank < nodes_of hierarchy.now }
+        ensures row { (v : ℕ) → v < nodes_of hierarchy.now → rank_of hierarchy.now v ≡ rank → result.now ≡ map (ranked_leg hierarchy.now) (row (rows_of hierarchy.now self) v) }
+        ensures levelled { IsLevelled hierarchy.now }
+    {
+        match self {
+            Side::Up => hierarchy.ranked_up(rank),
+            Side::Down => hierarchy.ranked_down(rank),
         }
     }
 }

@@ -7,7 +7,8 @@ ghost use Rattle.ch_query.specs.Limits.{IsMost};
 ghost use Rattle.ch_query.specs.Meeting.{IsFresh};
 ghost use Rattle.ch_query.specs.Search.{IsEmpty};
 ghost use Rattle.ch_query.specs.SearchSpace.{IsSearchSpace};
-ghost use Rattle.ch_query.specs.Underway.{AreUnstalled, AreWeights, IsSameSearch, IsUnderway, IsClean};
+ghost use Rattle.ch_query.specs.ByNode.{costs_of};
+ghost use Rattle.ch_query.specs.Underway.{IsSized, AreUnstalled, AreWeights, IsSameSearch, IsUnderway, IsClean};
 
 use crate::scratch::Scratch;
 use crate::search::{Search, most_within};
@@ -24,15 +25,16 @@ impl Search {
         hierarchy: &Hierarchy,
     ) -> Result<Vec<u32>, AllocError>
         requires underway { IsUnderway hierarchy.now self.old }
-        requires fresh { IsFresh self.old }
+        requires fresh { IsFresh hierarchy.now self.old }
         ensures underway { IsUnderway hierarchy.now self.new }
         ensures same { IsSameSearch self.old self.new }
         ensures done { OnOk result (IsEmpty self.new.queue) }
         ensures unstalled { IfOk result (λ nodes. AreUnstalled hierarchy.now self.new nodes.items) }
     {
         let mut nodes = Vec::new(alloc);
-        while let Some((cost, node)) = self.queue.pop() {
-            if self.settle(hierarchy, node, cost) {
+        while let Some((cost, rank)) = self.queue.pop() {
+            let node = hierarchy.node_at(rank);
+            if self.settle(hierarchy, node, rank, cost) {
                 nodes.push(node)?;
             }
         }
@@ -40,14 +42,20 @@ impl Search {
     }
 
     /// The nodes with the weights of what they cost.
-    fn weights(&self, alloc: Global, nodes: &[u32]) -> Result<Vec<(u32, u64)>, AllocError>
+    fn weights(
+        &self,
+        alloc: Global,
+        hierarchy: &Hierarchy,
+        nodes: &[u32],
+    ) -> Result<Vec<(u32, u64)>, AllocError>
+        requires sizes { IsSized (nodes_of hierarchy.now) self.now }
         requires order { AllPairs (λ a b. a < b) nodes.now }
-        requires known { (v : ℕ) → Contains nodes.now v → is_some (cost_at self.now.labels.costs v) ≡ true }
-        ensures { IfOk result (λ list. AreWeights self.now.labels.costs nodes.now list.items) }
+        requires known { (v : ℕ) → Contains nodes.now v → is_some (cost_at (costs_of hierarchy.now self.now) v) ≡ true }
+        ensures { IfOk result (λ list. AreWeights (costs_of hierarchy.now self.now) nodes.now list.items) }
     {
         let mut list = Vec::with_capacity(alloc, nodes.len())?;
         for node in nodes {
-            if let Some(cost) = self.labels.get(*node) {
+            if let Some(cost) = self.labels.get(hierarchy.rank(*node)) {
                 list.push_reserved((*node, cost.weight));
             }
         }
@@ -63,7 +71,7 @@ impl Search {
     ) -> Result<Vec<(u32, u64)>, AllocError>
         requires kept { IsKeptForSome hierarchy.now }
         requires underway { IsUnderway hierarchy.now self.old }
-        requires fresh { IsFresh self.old }
+        requires fresh { IsFresh hierarchy.now self.old }
         requires stalls { self.old.stalls ≡ true }
         requires most { IsMost within self.old.most }
         ensures space { IfOk result (λ list. IsSearchSpace hierarchy.now self.old.side within self.old.source list.items) }
@@ -72,7 +80,7 @@ impl Search {
     {
         let mut nodes = self.explore_unstalled(alloc, hierarchy)?;
         nodes.sort_unstable();
-        self.weights(alloc, &nodes)
+        self.weights(alloc, hierarchy, &nodes)
     }
 
     /// The search space of a node within the limit. The search is clean afterwards, also where there is no

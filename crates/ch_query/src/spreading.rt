@@ -1,10 +1,11 @@
 //! Searches without an end.
-ghost use Rattle.std.specs.Prelude.{◌≡◌, ◌<◌, IfOk, map};
+ghost use Rattle.std.specs.Prelude.{◌≡◌, ◌<◌, ℕ, List, IfOk, map};
 ghost use Rattle.ch_hierarchy.specs.Hierarchy.{nodes_of};
 ghost use Rattle.ch_query.specs.Search.{IsEmpty};
-ghost use Rattle.ch_query.specs.Underway.{IsTouched, IsSameSearch, IsUnderway, IsClean};
+ghost use Rattle.ch_query.specs.ByNode.{costs_of};
+ghost use Rattle.ch_query.specs.Underway.{IsSameSearch, IsUnderway, IsClean};
 ghost use Rattle.ch_query.specs.Side.{rows_of};
-ghost use Rattle.ch_query.specs.Spread.{IsSpread, entry};
+ghost use Rattle.ch_query.specs.Spread.{IsSpread, AreReached, entry};
 
 use crate::scratch::Scratch;
 use crate::search::{Search, most_within};
@@ -21,19 +22,33 @@ impl Search {
         ensures done { IsEmpty self.new.queue }
         ensures same { IsSameSearch self.old self.new }
     {
-        while let Some((cost, node)) = self.queue.pop() {
-            self.settle(hierarchy, node, cost);
+        while let Some((cost, rank)) = self.queue.pop() {
+            self.settle(hierarchy, hierarchy.node_at(rank), rank, cost);
         }
     }
 
-    /// The touched nodes with their costs.
-    fn listed(&self, alloc: Global) -> Result<Vec<(u32, Cost)>, AllocError>
-        requires touched { IsTouched self.now.labels.costs self.now.touched }
-        ensures { IfOk result (λ list. list.items ≡ map (entry self.now.labels.costs) self.now.touched.items) }
+    /// The touched nodes, in order.
+    fn touched_nodes(&self, alloc: Global, hierarchy: &Hierarchy) -> Result<Vec<u32>, AllocError>
+        requires underway { IsUnderway hierarchy.now self.now }
+        ensures { IfOk result (λ nodes. AreReached (costs_of hierarchy.now self.now) nodes.items) }
     {
-        let mut list = Vec::with_capacity(alloc, self.touched.len())?;
-        for node in &self.touched {
-            if let Some(cost) = self.labels.get(*node) {
+        let mut nodes = Vec::with_capacity(alloc, self.touched.len())?;
+        for rank in &self.touched {
+            nodes.push_reserved(hierarchy.node_at(*rank));
+        }
+        nodes.sort_unstable();
+        Ok(nodes)
+    }
+
+    /// The touched nodes with their costs, in order of node.
+    fn listed(&self, alloc: Global, hierarchy: &Hierarchy) -> Result<Vec<(u32, Cost)>, AllocError>
+        requires underway { IsUnderway hierarchy.now self.now }
+        ensures { IfOk result (λ list. (nodes : List ℕ) × AreReached (costs_of hierarchy.now self.now) nodes × (list.items ≡ map (entry (costs_of hierarchy.now self.now)) nodes)) }
+    {
+        let nodes = self.touched_nodes(alloc, hierarchy)?;
+        let mut list = Vec::with_capacity(alloc, nodes.len())?;
+        for node in &nodes {
+            if let Some(cost) = self.labels.get(hierarchy.rank(*node)) {
                 list.push_reserved((*node, cost));
             }
         }
@@ -57,8 +72,7 @@ impl Search {
     {
         self.begin_up_to(hierarchy, source, false, most_within(within));
         self.explore(hierarchy);
-        self.touched.sort_unstable();
-        let list = self.listed(alloc);
+        let list = self.listed(alloc, hierarchy);
         self.clean();
         list
     }

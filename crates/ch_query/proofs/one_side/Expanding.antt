@@ -1,9 +1,9 @@
 -- One leg after the other.
-use Rattle.std.proofs.Common.{◌≡◌, ℕ, ◌+◌, ◌*◌, ◌^◌, ◌<◌, ◌≤◌, Bool, List, [], ◌∷◌, ◌++◌, length, Contains, take, Option, Some, refl, sym, ◌∙◌, ap, subst, arith, get_or, set, inl, inr}
+use Rattle.std.proofs.Common.{◌≡◌, ℕ, ◌+◌, ◌*◌, ◌^◌, ◌<◌, ◌≤◌, Bool, List, [], ◌∷◌, ◌++◌, length, Contains, Option, Some, refl, sym, ◌∙◌, ap, subst, arith, set, inl, inr}
 use Rattle.std.specs.Prelude.{slice_index}
 use Rattle.std.proofs.lemmas.Bool.{cases_lt}
-use Rattle.std.proofs.lemmas.List.{get_or_past, take_more}
-use Rattle.std.proofs.lemmas.List.Elements.{All-contains, Contains-push_cases, Contains-get_or, All-get_or}
+use Rattle.std.proofs.lemmas.List.{get_or_past}
+use Rattle.std.proofs.lemmas.List.Elements.{All-contains, Contains-push_cases, All-get_or}
 use Rattle.std.proofs.Math.Nat.{mul-le-mul_left}
 use Rattle.ch_graph.specs.declared.limits.TheConstants.{MOST_NODES, MOST_WEIGHT, MOST_PATH_ARCS}
 use Rattle.ch_graph.specs.declared.cost.Cost.{Cost}
@@ -14,11 +14,12 @@ use Rattle.ch_hierarchy.specs.Rows.{row}
 use Rattle.ch_hierarchy.specs.Hierarchy.{LevelsAndLegs, nodes_of, IsLevelled, IsLegUp}
 use Rattle.ch_hierarchy.specs.Paths.{path_cost}
 use Rattle.ch_hierarchy.proofs.theory.LegPaths.{path_cost-cons}
+use Rattle.ch_query.specs.ByNode.{costs_of, keys_of, parents_of}
 use Rattle.ch_query.specs.declared.side.Side.{Side}
 use Rattle.ch_query.specs.declared.side.Side.TheVariants.{Up, Down}
 use Rattle.ch_query.specs.declared.search.Search.{Search}
 use Rattle.ch_query.specs.Search.{IsRelaxedFrom, IsUpwardCost, IsExpanding, OrNode, IsStalled, count_unsettled}
-use Rattle.ch_query.specs.Underway.{back_of, IsTouched, RelaxesIn, IsSameSearch, idle_of, IsUnderway, IsExpandingAt, IsPartlyExpanded}
+use Rattle.ch_query.specs.Underway.{back_of, IsSized, IsTouched, RelaxesIn, IsSameSearch, idle_of, IsUnderway, IsExpandingAt, IsPartlyExpanded}
 use Rattle.ch_query.specs.Side.{rows_of}
 use Rattle.ch_query.specs.Parents.{AreParents, IsNoEarlier}
 use Rattle.ch_query.proofs.one_side.Parents.{lowered_parents, lowered_no_earlier, lowered_itself, equal_parents, equal_falls, equal_here, finish_parents}
@@ -77,16 +78,16 @@ ParentsOf : LevelsAndLegs → ℕ → Side → ℕ → Bool → List (Option Cos
 ParentsOf H most side s stalls best queue parents v = AreParents most (rows_of H side) s (OrNode (IsStalled (rows_of H side) (back_of H side stalls) s) v) best queue parents
 
 -- it is asked of equal parts too
-moved_parents : (H : LevelsAndLegs) (y z : Search) (best queue : List (Option Cost)) (parents : List ℕ) (v : ℕ) → IsSameSearch y z → z.labels.costs ≡ best →
-    z.queue ≡ queue → z.labels.parents ≡ parents → ParentsOf H y.most y.side y.source y.stalls best queue parents v →
-    ParentsOf H z.most z.side z.source z.stalls z.labels.costs z.queue z.labels.parents v
+moved_parents : (H : LevelsAndLegs) (y z : Search) (best queue : List (Option Cost)) (parents : List ℕ) (v : ℕ) → IsSameSearch y z → (costs_of H z) ≡ best →
+    (keys_of H z) ≡ queue → (parents_of H z) ≡ parents → ParentsOf H y.most y.side y.source y.stalls best queue parents v →
+    ParentsOf H z.most z.side z.source z.stalls (costs_of H z) (keys_of H z) (parents_of H z) v
 moved_parents H y z best queue parents v same e f g x =
-    subst (λ q. ParentsOf H q z.side z.source z.stalls z.labels.costs z.queue z.labels.parents v) (sym same.most)
-    (subst (λ q. ParentsOf H y.most z.side z.source q z.labels.costs z.queue z.labels.parents v) (sym same.stalls)
-    (subst (λ q. ParentsOf H y.most z.side q y.stalls z.labels.costs z.queue z.labels.parents v) (sym same.source)
-    (subst (λ q. ParentsOf H y.most q y.source y.stalls z.labels.costs z.queue z.labels.parents v) (sym same.side)
-    (subst (λ q. ParentsOf H y.most y.side y.source y.stalls q z.queue z.labels.parents v) (sym e)
-    (subst (λ q. ParentsOf H y.most y.side y.source y.stalls best q z.labels.parents v) (sym f)
+    subst (λ q. ParentsOf H q z.side z.source z.stalls (costs_of H z) (keys_of H z) (parents_of H z) v) (sym same.most)
+    (subst (λ q. ParentsOf H y.most z.side z.source q (costs_of H z) (keys_of H z) (parents_of H z) v) (sym same.stalls)
+    (subst (λ q. ParentsOf H y.most z.side q y.stalls (costs_of H z) (keys_of H z) (parents_of H z) v) (sym same.source)
+    (subst (λ q. ParentsOf H y.most q y.source y.stalls (costs_of H z) (keys_of H z) (parents_of H z) v) (sym same.side)
+    (subst (λ q. ParentsOf H y.most y.side y.source y.stalls q (keys_of H z) (parents_of H z) v) (sym e)
+    (subst (λ q. ParentsOf H y.most y.side y.source y.stalls best q (parents_of H z) v) (sym f)
     (subst (λ q. ParentsOf H y.most y.side y.source y.stalls best queue q v) (sym g) x))))))
 
 -- what stays the same twice stays the same
@@ -94,17 +95,17 @@ pub same_then : (x y z : Search) → IsSameSearch x y → IsSameSearch y z → I
 same_then x y z a b = record { side = b.side ∙ a.side; source = b.source ∙ a.source; stalls = b.stalls ∙ a.stalls; most = b.most ∙ a.most }
 
 -- a leg that is taken by one of two equal searches is taken by the other
-still_relaxed : (y z : Search) (c : Cost) (v : ℕ) (k : Leg) (best : List (Option Cost)) → IsSameSearch y z → z.labels.costs ≡ best →
-    IsRelaxedFrom y.most best c k × IsNoEarlier y.most best z.labels.parents v c k → IsRelaxedFrom z.most z.labels.costs c k × IsNoEarlier z.most z.labels.costs z.labels.parents v c k
-still_relaxed y z c v k best same e r =
-    subst (λ most. IsRelaxedFrom most z.labels.costs c k × IsNoEarlier most z.labels.costs z.labels.parents v c k) (sym same.most)
-    (subst (λ q. IsRelaxedFrom y.most q c k × IsNoEarlier y.most q z.labels.parents v c k) (sym e) r)
+still_relaxed : (H : LevelsAndLegs) (y z : Search) (c : Cost) (v : ℕ) (k : Leg) (best : List (Option Cost)) → IsSameSearch y z → (costs_of H z) ≡ best →
+    IsRelaxedFrom y.most best c k × IsNoEarlier y.most best (parents_of H z) v c k → IsRelaxedFrom z.most (costs_of H z) c k × IsNoEarlier z.most (costs_of H z) (parents_of H z) v c k
+still_relaxed H y z c v k best same e r =
+    subst (λ most. IsRelaxedFrom most (costs_of H z) c k × IsNoEarlier most (costs_of H z) (parents_of H z) v c k) (sym same.most)
+    (subst (λ q. IsRelaxedFrom y.most q c k × IsNoEarlier y.most q (parents_of H z) v c k) (sym e) r)
 
 -- the leg shows nothing cheaper
-module _ (H : LevelsAndLegs) (x y z : Search) (v : ℕ) (c : Cost) (legs : List Leg) (l : Leg) (p : IsPartlyExpanded H x y v c legs) (e : z.labels.costs ≡ y.labels.costs)
-    (f : z.queue ≡ y.queue) (t : IsTouched z.labels.costs z.touched) (same : IsSameSearch y z)
-    (parents : AreParents y.most (rows_of H y.side) y.source (OrNode (idle_of H y) v) y.labels.costs y.queue z.labels.parents)
-    (relaxed : (k : Leg) → Contains (legs ++ l ∷ []) k → IsRelaxedFrom y.most y.labels.costs c k × IsNoEarlier y.most y.labels.costs z.labels.parents v c k) where
+module _ (H : LevelsAndLegs) (x y z : Search) (v : ℕ) (c : Cost) (legs : List Leg) (l : Leg) (p : IsPartlyExpanded H x y v c legs) (e : (costs_of H z) ≡ (costs_of H y))
+    (f : (keys_of H z) ≡ (keys_of H y)) (sized : IsSized (nodes_of H) z) (t : IsTouched z.labels.costs z.touched) (same : IsSameSearch y z)
+    (parents : AreParents y.most (rows_of H y.side) y.source (OrNode (idle_of H y) v) (costs_of H y) (keys_of H y) (parents_of H z))
+    (relaxed : (k : Leg) → Contains (legs ++ l ∷ []) k → IsRelaxedFrom y.most (costs_of H y) c k × IsNoEarlier y.most (costs_of H y) (parents_of H z) v c k) where
   -- then one leg more is taken
   partly_same : IsPartlyExpanded H x z v c (legs ++ l ∷ [])
   unfolding ExpandingOf ParentsOf
@@ -112,37 +113,38 @@ module _ (H : LevelsAndLegs) (x y z : Search) (v : ℕ) (c : Cost) (legs : List 
     same = same_then x y z p.same same;
     expanding = record {
       levelled = p.expanding.levelled;
+      sizes = sized;
       within = p.expanding.within;
-      search = moved H y z z.labels.costs z.queue v c same
-          (subst (λ q. ExpandingOf H y.most y.side y.source y.stalls z.labels.costs q v c) (sym f)
-          (subst (λ q. ExpandingOf H y.most y.side y.source y.stalls q y.queue v c) (sym e) p.expanding.search));
-      parents = moved_parents H y z y.labels.costs y.queue z.labels.parents v same e f refl parents;
+      search = moved H y z (costs_of H z) (keys_of H z) v c same
+          (subst (λ q. ExpandingOf H y.most y.side y.source y.stalls (costs_of H z) q v c) (sym f)
+          (subst (λ q. ExpandingOf H y.most y.side y.source y.stalls q (keys_of H y) v c) (sym e) p.expanding.search));
+      parents = moved_parents H y z (costs_of H y) (keys_of H y) (parents_of H z) v same e f refl parents;
       touched = t;
     };
-    relaxed = λ k of. still_relaxed y z c v k y.labels.costs same e (relaxed k of);
+    relaxed = λ k of. still_relaxed H y z c v k (costs_of H y) same e (relaxed k of);
     settled = λ w d k. p.settled w d (sym (ap (λ q. cost_at q w) e) ∙ k.0, sym (ap (λ q. cost_at q w) f) ∙ k.1);
     stays = λ w d k. let s = p.stays w d k in (ap (λ q. cost_at q w) e ∙ s.0, ap (λ q. cost_at q w) f ∙ s.1);
-    measure = ap (λ q. count_unsettled q z.queue) e ∙ ap (count_unsettled y.labels.costs) f ∙ p.measure;
+    measure = ap (λ q. count_unsettled q (keys_of H z)) e ∙ ap (count_unsettled (costs_of H y)) f ∙ p.measure;
   }
 
 -- one leg more is taken
 pub partly_more : (H : LevelsAndLegs) (x y z : Search) (v : ℕ) (c : Cost) (legs : List Leg) (l : Leg) → IsPartlyExpanded H x y v c legs →
-    Contains (row (rows_of H y.side) v) l → l.node < length y.labels.costs → RelaxesIn y v c l z → IsTouched z.labels.costs z.touched →
+    Contains (row (rows_of H y.side) v) l → l.node < length (costs_of H y) → RelaxesIn H y v c l z → IsSized (nodes_of H) z → IsTouched z.labels.costs z.touched →
     IsSameSearch y z → IsPartlyExpanded H x z v c (legs ++ l ∷ [])
 unfolding ExpandingOf ParentsOf
-partly_more H x y z v c legs l p has within (inl (e, f, is, inl (early, g))) t same =
-    partly_same H x y z v c legs l p e f t same
-    (subst (λ q. AreParents y.most (rows_of H y.side) y.source (OrNode (idle_of H y) v) y.labels.costs y.queue q) (sym g) p.expanding.parents)
+partly_more H x y z v c legs l p has within (inl (e, f, is, inl (early, g))) sized t same =
+    partly_same H x y z v c legs l p e f sized t same
+    (subst (λ q. AreParents y.most (rows_of H y.side) y.source (OrNode (idle_of H y) v) (costs_of H y) (keys_of H y) q) (sym g) p.expanding.parents)
     (λ k of. elim (Contains-push_cases legs l k of) [
-      | inl old ↦ ((p.relaxed k old).0, subst (λ q. IsNoEarlier y.most y.labels.costs q v c k) (sym g) (p.relaxed k old).1)
-      | inr new ↦ subst (λ m. IsRelaxedFrom y.most y.labels.costs c m × IsNoEarlier y.most y.labels.costs z.labels.parents v c m) new
-          (is, subst (λ q. IsNoEarlier y.most y.labels.costs q v c l) (sym g) early)
+      | inl old ↦ ((p.relaxed k old).0, subst (λ q. IsNoEarlier y.most (costs_of H y) q v c k) (sym g) (p.relaxed k old).1)
+      | inr new ↦ subst (λ m. IsRelaxedFrom y.most (costs_of H y) c m × IsNoEarlier y.most (costs_of H y) (parents_of H z) v c m) new
+          (is, subst (λ q. IsNoEarlier y.most (costs_of H y) q v c l) (sym g) early)
     ])
-partly_more H x y z v c legs l p has within (inl (e, f, is, inr (equal, lt, g))) t same =
+partly_more H x y z v c legs l p has within (inl (e, f, is, inr (equal, lt, g))) sized t same =
     let here = p.expanding.search.here in
     let old_parents = p.expanding.parents in
-    partly_same H x y z v c legs l p e f t same
-    (subst (λ q. AreParents y.most (rows_of H y.side) y.source (OrNode (idle_of H y) v) y.labels.costs y.queue q) (sym g)
+    partly_same H x y z v c legs l p e f sized t same
+    (subst (λ q. AreParents y.most (rows_of H y.side) y.source (OrNode (idle_of H y) v) (costs_of H y) (keys_of H y) q) (sym g)
     (equal_parents _ _ _ _ _ _ v c here old_parents l has within equal lt))
     (λ k of. elim (Contains-push_cases legs l k of) [
       | inl old ↦ (
@@ -153,7 +155,7 @@ partly_more H x y z v c legs l p has within (inl (e, f, is, inr (equal, lt, g)))
             let i = ap (λ q. slice_index q k.node) g in
             omega arith,
       )
-      | inr new ↦ subst (λ m. IsRelaxedFrom y.most y.labels.costs c m × IsNoEarlier y.most y.labels.costs z.labels.parents v c m) new (
+      | inr new ↦ subst (λ m. IsRelaxedFrom y.most (costs_of H y) c m × IsNoEarlier y.most (costs_of H y) (parents_of H z) v c m) new (
         is,
         λ low at.
             let d = equal_here _ _ _ _ _ _ v c here old_parents l has within equal lt in
@@ -161,25 +163,26 @@ partly_more H x y z v c legs l p has within (inl (e, f, is, inr (equal, lt, g)))
             omega arith,
       )
     ])
-partly_more H x y z v c legs l p has within (inr (light, lower, e, f, g)) t same =
+partly_more H x y z v c legs l p has within (inr (light, lower, e, f, g)) sized t same =
     let s = p.expanding.search in
     let a = p.expanding.parents in
-    let best = set y.labels.costs l.node (Some (cost_sum c l.cost)) in
-    let queue = set y.queue l.node (Some (cost_sum c l.cost)) in
-    let parents = set y.labels.parents l.node v in
+    let best = set (costs_of H y) l.node (Some (cost_sum c l.cost)) in
+    let queue = set (keys_of H y) l.node (Some (cost_sum c l.cost)) in
+    let parents = set (parents_of H y) l.node v in
     record {
       same = same_then x y z p.same same;
       expanding = record {
         levelled = p.expanding.levelled;
+        sizes = sized;
         within = p.expanding.within;
-        search = moved H y z z.labels.costs z.queue v c same
-            (subst (λ q. ExpandingOf H y.most y.side y.source y.stalls z.labels.costs q v c) (sym f)
+        search = moved H y z (costs_of H z) (keys_of H z) v c same
+            (subst (λ q. ExpandingOf H y.most y.side y.source y.stalls (costs_of H z) q v c) (sym f)
             (subst (λ q. ExpandingOf H y.most y.side y.source y.stalls q queue v c) (sym e) (lowered _ _ _ _ _ v c s l has light lower)));
         parents = moved_parents H y z best queue parents v same e f g (lowered_parents _ _ _ _ _ _ v c s a l has light lower);
         touched = t;
       };
       relaxed = λ k of.
-          still_relaxed y z c v k best same e (subst (λ q. IsRelaxedFrom y.most best c k × IsNoEarlier y.most best q v c k) (sym g)
+          still_relaxed H y z c v k best same e (subst (λ q. IsRelaxedFrom y.most best c k × IsNoEarlier y.most best q v c k) (sym g)
           (elim (Contains-push_cases legs l k of) [
             | inl old ↦ (lowered_keeps _ _ _ _ _ v c s l has light lower c k (p.relaxed k old).0, lowered_no_earlier _ _ _ _ _ _ v c s a l has light lower k (p.relaxed k old).1)
             | inr is ↦ subst (λ m. IsRelaxedFrom y.most best c m × IsNoEarlier y.most best parents v c m) is
@@ -187,7 +190,7 @@ partly_more H x y z v c legs l p has within (inr (light, lower, e, f, g)) t same
           ]));
       settled = λ w d k. p.settled w d (lowered_settled _ _ _ _ _ v c s l has light lower w d (sym (ap (λ q. cost_at q w) e) ∙ k.0, sym (ap (λ q. cost_at q w) f) ∙ k.1));
       stays = λ w d k. let r = lowered_stays _ _ _ _ _ v c s l has light lower w d (p.stays w d k) in (ap (λ q. cost_at q w) e ∙ r.0, ap (λ q. cost_at q w) f ∙ r.1);
-      measure = ap (λ q. count_unsettled q z.queue) e ∙ ap (count_unsettled best) f ∙ lowered_counts _ _ _ _ _ v c s l has light lower ∙ p.measure;
+      measure = ap (λ q. count_unsettled q (keys_of H z)) e ∙ ap (count_unsettled best) f ∙ lowered_counts _ _ _ _ _ v c s l has light lower ∙ p.measure;
     }
 
 -- no leg is taken yet
@@ -208,20 +211,16 @@ partly_whole H x y v c legs p e =
     let whole : (l : Leg) → Contains (row (rows_of H y.side) v) l → Contains legs l = λ l of. subst (λ xs. Contains xs l) (ap (λ q. row (rows_of H q) v) p.same.side ∙ sym e) of in
     record {
       levelled = p.expanding.levelled;
+      sizes = p.expanding.sizes;
       search = expanded _ _ _ _ _ v c p.expanding.search (λ l of. (p.relaxed l (whole l of)).0);
       parents = finish_parents _ _ _ _ _ _ v c p.expanding.search.here p.expanding.parents (inr (λ l of. (p.relaxed l (whole l of)).1));
       touched = p.expanding.touched;
     }
 
--- the leg that the program reads
-pub leg_read : (H : LevelsAndLegs) (x y : Search) (v : ℕ) (c : Cost) (legs items : List Leg) (i : ℕ) (d : Leg) → IsPartlyExpanded H x y v c legs →
-    items ≡ row (rows_of H x.side) v → i < length items → Contains (row (rows_of H y.side) v) (get_or items i d)
-leg_read H x y v c legs items i d p e lt = subst (λ xs. Contains xs (get_or items i d)) (e ∙ ap (λ q. row (rows_of H q) v) (sym p.same.side)) (Contains-get_or items i d lt)
-
 -- its node is there, and its sum does not overflow
 pub leg_bounds : (H : LevelsAndLegs) (x y : Search) (v : ℕ) (c : Cost) (legs : List Leg) (l : Leg) → IsPartlyExpanded H x y v c legs →
     Contains (row (rows_of H y.side) v) l →
-    (l.node < length y.labels.costs) × (c.weight ≤ MOST_WEIGHT) × (l.cost.weight ≤ MOST_WEIGHT) × (c.arcs + l.cost.arcs < 2 ^ 63)
+    (l.node < length (costs_of H y)) × (c.weight ≤ MOST_WEIGHT) × (l.cost.weight ≤ MOST_WEIGHT) × (c.arcs + l.cost.arcs < 2 ^ 63)
 leg_bounds H x y v c legs l p has =
     let k = p.expanding.levelled in
     let u = leg_up H k y.side v l has in
@@ -233,12 +232,3 @@ leg_bounds H x y v c legs l p has =
     let here = p.expanding.search.search.sound v c p.expanding.search.here.0 in
     let most = reached_arcs H k y.side y.source v c here in
     (omega arith, here.weight, u.weight, omega arith)
-
--- the leg that the program reads is taken
-pub partly_step : (H : LevelsAndLegs) (x y z : Search) (v : ℕ) (c : Cost) (items : List Leg) (i : ℕ) (d : Leg) → IsPartlyExpanded H x y v c (take i items) →
-    items ≡ row (rows_of H x.side) v → i < length items →
-    RelaxesIn y v c (get_or items i d) z → IsTouched z.labels.costs z.touched → IsSameSearch y z → IsPartlyExpanded H x z v c (take (i + 1) items)
-partly_step H x y z v c items i d p e lt r t same =
-    let has = leg_read H x y v c (take i items) items i d p e lt in
-    subst (IsPartlyExpanded H x z v c) (sym (take_more items i d lt))
-    (partly_more H x y z v c (take i items) (get_or items i d) p has (leg_bounds H x y v c (take i items) (get_or items i d) p has).0 r t same)

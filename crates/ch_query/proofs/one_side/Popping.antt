@@ -1,5 +1,5 @@
 -- The least node leaves the queue.
-use Rattle.std.proofs.Common.{◌≡◌, ◌↔◌, IsTrue, ℕ, ◌+◌, ◌<◌, Bool, true, false, not, List, length, Option, Some, None, refl, sym, ◌∙◌, ap, subst, arith, set, inl, inr}
+use Rattle.std.proofs.Common.{◌≡◌, ◌↔◌, IsTrue, ℕ, ◌+◌, ◌<◌, Bool, true, false, not, List, length, Option, Some, None, refl, sym, ◌∙◌, ap, subst, arith, set, length-set, inl, inr}
 use Rattle.std.specs.Ordering.{is_gt, MatchOrdering}
 use Rattle.std.specs.declared.cmp.Ordering.{Ordering}
 use Rattle.std.specs.declared.cmp.Ordering.TheVariants.{Less, Equal, Greater}
@@ -9,17 +9,20 @@ use Rattle.std.proofs.lemmas.Option.{none-some}
 use Rattle.ch_graph.specs.declared.cost.Cost.{Cost}
 use Rattle.ch_graph.specs.Cost.{IsAtMost, IsBelow, cost_cmp, cost_at}
 use Rattle.ch_graph.proofs.CostOrder.{IsAtMost_refl, IsAtMost_trans, IsAtMost_or_IsBelow, IsBelow-IsAtMost, cost_cmp_tells}
-use Rattle.ch_hierarchy.specs.Hierarchy.{LevelsAndLegs}
+use Rattle.ch_hierarchy.specs.Hierarchy.{LevelsAndLegs, nodes_of}
 use Rattle.ch_queue.specs.Queue.{IsLeastEntry}
+use Rattle.ch_hierarchy.specs.Ranked.{rank_of}
+use Rattle.ch_query.specs.ByNode.{by_node, costs_of, keys_of, parents_of}
 use Rattle.ch_query.specs.declared.search.Search.{Search}
 use Rattle.ch_query.specs.Search.{IsLeastKey, IsExpanding, OrNode, count_unsettled}
 use Rattle.ch_query.specs.Parents.{AreParents}
 use Rattle.ch_query.specs.TwoSided.{LeadsKeys}
 use Rattle.ch_query.specs.Underway.{idle_of, count_unsettled_in, IsSameSearch, IsUnderway, IsExpandingAt}
 use Rattle.ch_query.specs.Side.{rows_of}
+use Rattle.ch_query.proofs.one_side.ByNode.{by_node-size, by_node-at, by_node-set, by_node-some}
 use Rattle.ch_query.proofs.one_side.Steps.{popped, popped_falls}
 use Rattle.ch_query.proofs.one_side.Parents.{popped_parents}
-use Rattle.ch_query.proofs.one_side.Expanding.{rows_size, same_then}
+use Rattle.ch_query.proofs.one_side.Expanding.{same_then}
 
 -- what comparing two costs tells, where the first is not greater
 at_most_by : (a b : Cost) (o : Ordering) → MatchOrdering o (IsBelow a b) (a ≡ b) (IsBelow b a) → is_gt o ≡ false → IsAtMost a b
@@ -56,24 +59,47 @@ with_queue x q = record x { queue = q }
 pub same_on : (x y z : Search) (q : List (Option Cost)) → IsSameSearch x y → IsSameSearch (with_queue y q) z → IsSameSearch x z
 same_on x y z q a b = same_then x (with_queue y q) z (record { side = a.side; source = a.source; stalls = a.stalls; most = a.most }) b
 
+-- a rank with a key is one of the ranks
+pub key_rank : (H : LevelsAndLegs) (x : Search) (rank : ℕ) (c : Cost) → IsUnderway H x → IsLeastEntry cost_cmp x.queue (c, rank) → rank < nodes_of H
+key_rank H x rank c u l = let lt = key_within x.queue rank c l.has in let size = u.sizes.1 in omega arith
+
+-- v is a node of least key, and q is the queue without it
+pub record IsPopped (H : LevelsAndLegs) (x : Search) (q : List (Option Cost)) (v : ℕ) (c : Cost) : Type 0 where
+  pub key : IsLeastKey (keys_of H x) v c
+  pub size : length q ≡ length x.queue
+  pub rest : keys_of H (with_queue x q) ≡ set (keys_of H x) v None
+
+-- the node of the rank that leaves the queue is such a node
+pub popped_at : (H : LevelsAndLegs) (x : Search) (q : List (Option Cost)) (v rank : ℕ) (c : Cost) → IsUnderway H x → v < nodes_of H → rank_of H v ≡ rank →
+    IsLeastEntry cost_cmp x.queue (c, rank) → q ≡ set x.queue rank None → IsPopped H x q v c
+popped_at H x q v rank c u within at l e = record {
+  key = record {
+    has = by_node-at H x.queue None None v within ∙ ap (cost_at x.queue) at ∙ l.has;
+    least = λ w d known. (least_key x.queue (c, rank) l).least (rank_of H w) d (by_node-some H x.queue w d known).1;
+  };
+  size = ap length e ∙ length-set x.queue rank None;
+  rest = ap (λ r. by_node H r None) (e ∙ ap (λ r. set x.queue r None) (sym at)) ∙ by_node-set H u.levelled x.queue None None v u.sizes.1 within;
+}
+
 -- a search underway whose least node leaves the queue
-module _ (H : LevelsAndLegs) (x : Search) (q : List (Option Cost)) (v : ℕ) (c : Cost) (u : IsUnderway H x) (l : IsLeastKey x.queue v c) (e : q ≡ set x.queue v None) where
+module _ (H : LevelsAndLegs) (x : Search) (q : List (Option Cost)) (v : ℕ) (c : Cost) (u : IsUnderway H x) (p : IsPopped H x q v c) where
   -- the node is there
-  within : v < length x.queue
-  within = key_within x.queue v c l.has
+  within : v < length (keys_of H x)
+  within = key_within (keys_of H x) v c p.key.has
 
   -- the legs of the node are to be taken next
   pub pop_expands : IsExpandingAt H (with_queue x q) v c
   pop_expands = record {
     levelled = u.levelled;
-    within = (let a = within in let b = u.search.sizes.1 in let d = rows_size H u.levelled x.side in omega arith);
-    search = subst (λ r. IsExpanding x.most (rows_of H x.side) x.source (OrNode (idle_of H x) v) x.labels.costs r v c) (sym e)
-        (popped _ _ _ _ _ u.search v c l.has l.least within);
-    parents = subst (λ r. AreParents x.most (rows_of H x.side) x.source (OrNode (idle_of H x) v) x.labels.costs r x.labels.parents) (sym e)
-        (popped_parents _ _ _ _ _ _ u.search u.parents v c l.has l.least within);
+    sizes = (u.sizes.0, p.size ∙ u.sizes.1, u.sizes.2);
+    within = (let a = within in let b = by_node-size H x.queue None in omega arith);
+    search = subst (λ r. IsExpanding x.most (rows_of H x.side) x.source (OrNode (idle_of H x) v) (costs_of H x) r v c) (sym p.rest)
+        (popped _ _ _ _ _ u.search v c p.key.has p.key.least within);
+    parents = subst (λ r. AreParents x.most (rows_of H x.side) x.source (OrNode (idle_of H x) v) (costs_of H x) r (parents_of H x)) (sym p.rest)
+        (popped_parents _ _ _ _ _ _ u.search u.parents v c p.key.has p.key.least within);
     touched = u.touched;
   }
 
   -- one node fewer is not settled
-  pub pop_falls : count_unsettled_in (with_queue x q) + 1 ≡ count_unsettled_in x
-  pop_falls = ap (λ r. count_unsettled x.labels.costs r + 1) e ∙ popped_falls _ _ _ _ _ u.search v c l.has l.least within
+  pub pop_falls : count_unsettled_in H (with_queue x q) + 1 ≡ count_unsettled_in H x
+  pop_falls = ap (λ r. count_unsettled (costs_of H x) r + 1) p.rest ∙ popped_falls _ _ _ _ _ u.search v c p.key.has p.key.least within

@@ -10,6 +10,7 @@ use Rattle.std.proofs.lemmas.List.Quantifiers.{all_pairs_push}
 use Rattle.ch_graph.specs.declared.cost.Cost.{Cost}
 use Rattle.ch_graph.specs.Cost.{cost_at}
 use Rattle.ch_hierarchy.specs.Hierarchy.{LevelsAndLegs}
+use Rattle.ch_query.specs.ByNode.{costs_of, keys_of}
 use Rattle.ch_query.specs.declared.side.Side.{Side}
 use Rattle.ch_query.specs.declared.search.Search.{Search}
 use Rattle.ch_query.specs.Distance.{IsKeptForSome}
@@ -20,11 +21,12 @@ use Rattle.ch_query.specs.SearchSpace.{IsSearchSpace}
 use Rattle.ch_query.specs.Side.{rows_of}
 use Rattle.ch_query.specs.Underway.{back_of, idle_of, IsSameSearch, IsUnderway, KeepsSettled, AreUnstalled, AreWeights}
 use Rattle.ch_query.proofs.one_side.Popping.{with_queue, key_within}
+use Rattle.ch_query.proofs.one_side.Spreads.{empty_by_node}
 use Rattle.ch_query.proofs.one_side.Steps.{popped_settled, popped_stays, popped_here}
 use Rattle.ch_query.proofs.one_side.TightNodes.{tight_least, tight_not_idle, tight_settled}
 
 -- no node is settled yet
-pub unstalled_none : (H : LevelsAndLegs) (x : Search) → IsFresh x → AreUnstalled H x []
+pub unstalled_none : (H : LevelsAndLegs) (x : Search) → IsFresh H x → AreUnstalled H x []
 unstalled_none H x fresh = record {
   distinct = λ i j d lt within. absurd (omega arith);
   settled = λ v h. absurd (let lt = h.1 in omega arith);
@@ -40,19 +42,19 @@ idle_by H side side' stalls stalls' s s' v c a b d idle =
 
 -- x settles v at cost c, and z is what it is then
 module _ (H : LevelsAndLegs) (x : Search) (nodes : List ℕ) (a : AreUnstalled H x nodes) (u : IsUnderway H x) (q : List (Option Cost)) (v : ℕ) (c : Cost)
-    (l : IsLeastKey x.queue v c) (e : q ≡ set x.queue v None) (z : Search) (same : IsSameSearch (with_queue x q) z) (settled : KeepsSettled (with_queue x q) z)
-    (stays : KeepsSettled z (with_queue x q)) where
+    (l : IsLeastKey (keys_of H x) v c) (e : keys_of H (with_queue x q) ≡ set (keys_of H x) v None) (z : Search) (same : IsSameSearch (with_queue x q) z) (settled : KeepsSettled H (with_queue x q) z)
+    (stays : KeepsSettled H z (with_queue x q)) where
   -- what was settled is so now
-  remains : (w : ℕ) (d : Cost) → IsSettled x.labels.costs x.queue w d → IsSettled z.labels.costs z.queue w d
-  remains w d h = stays w d (subst (λ r. IsSettled x.labels.costs r w d) (sym e) (popped_stays _ _ _ _ _ u.search v c l.has l.least (key_within x.queue v c l.has) w d h))
+  remains : (w : ℕ) (d : Cost) → IsSettled (costs_of H x) (keys_of H x) w d → IsSettled (costs_of H z) (keys_of H z) w d
+  remains w d h = stays w d (subst (λ r. IsSettled (costs_of H x) r w d) (sym e) (popped_stays _ _ _ _ _ u.search v c l.has l.least (key_within (keys_of H x) v c l.has) w d h))
 
   -- and so is v
-  here : IsSettled z.labels.costs z.queue v c
-  here = stays v c (subst (λ r. IsSettled x.labels.costs r v c) (sym e) (popped_here _ _ _ _ _ u.search v c l.has l.least (key_within x.queue v c l.has)))
+  here : IsSettled (costs_of H z) (keys_of H z) v c
+  here = stays v c (subst (λ r. IsSettled (costs_of H x) r v c) (sym e) (popped_here _ _ _ _ _ u.search v c l.has l.least (key_within (keys_of H x) v c l.has)))
 
   -- no other node is
-  was : (w : ℕ) (d : Cost) → IsSettled z.labels.costs z.queue w d → IsSettled x.labels.costs x.queue w d ⊎ ((w ≡ v) × (d ≡ c))
-  was w d h = popped_settled _ _ _ _ _ u.search v c l.has l.least (key_within x.queue v c l.has) w d (subst (λ r. IsSettled x.labels.costs r w d) e (settled w d h))
+  was : (w : ℕ) (d : Cost) → IsSettled (costs_of H z) (keys_of H z) w d → IsSettled (costs_of H x) (keys_of H x) w d ⊎ ((w ≡ v) × (d ≡ c))
+  was w d h = popped_settled _ _ _ _ _ u.search v c l.has l.least (key_within (keys_of H x) v c l.has) w d (subst (λ r. IsSettled (costs_of H x) r w d) e (settled w d h))
 
   -- what was idle is so now
   still_idle : (w : ℕ) (d : Cost) → idle_of H x w d → idle_of H z w d
@@ -74,10 +76,10 @@ module _ (H : LevelsAndLegs) (x : Search) (nodes : List ℕ) (a : AreUnstalled H
   unstalled_grows nodes' grown = subst (AreUnstalled H z) (sym grown) (record {
     distinct = all_pairs_push ◌≢◌ nodes v a.distinct (λ k d lt is.
         let s = a.settled (get_or nodes k d) (Contains-get_or nodes k d lt) in
-        none-some _ (sym s.1.1 ∙ ap (cost_at x.queue) is ∙ l.has));
+        none-some _ (sym s.1.1 ∙ ap (cost_at (keys_of H x)) is ∙ l.has));
     settled = λ w h. elim (Contains-push_cases nodes v w h) [
       | inl old ↦ (let s = a.settled w old in (s.0, remains w s.0 s.1))
-      | inr is ↦ subst (λ r. (d : Cost) × IsSettled z.labels.costs z.queue r d) is (c, here)
+      | inr is ↦ subst (λ r. (d : Cost) × IsSettled (costs_of H z) (keys_of H z) r d) is (c, here)
     ];
     whole = λ w d h. elim (was w d h) [
       | inl old ↦ elim (a.whole w d old) [ inl i ↦ inl (still_idle w d i) | inr has ↦ inr (Contains-append_left nodes (v ∷ []) w has) ]
@@ -139,17 +141,17 @@ module _ (best : List (Option Cost)) (nodes : List ℕ) (rises : AllPairs (λ a 
 module _ (H : LevelsAndLegs) (k : IsKeptForSome H) (x : Search) (u : IsUnderway H x) (on : x.stalls ≡ true) (done : IsEmpty x.queue) (limit : Option ℕ)
     (most : IsMost limit x.most) (nodes sorted : List ℕ) (a : AreUnstalled H x nodes) (p : IsPermutation nodes sorted) where
   -- the nodes at which it did not stall have costs
-  pub unstalled_known : (v : ℕ) → Contains sorted v → is_some (cost_at x.labels.costs v) ≡ true
+  pub unstalled_known : (v : ℕ) → Contains sorted v → is_some (cost_at (costs_of H x) v) ≡ true
   unstalled_known v h = let s = a.settled v (Contains-permutation sorted nodes v (IsPermutation-sym nodes sorted p) h) in ap is_some s.1.0
 
   -- with their weights they are the search space
-  space_is : (list : List (ℕ × ℕ)) → AreWeights x.labels.costs sorted list → IsSearchSpace H x.side limit x.source list
+  space_is : (list : List (ℕ × ℕ)) → AreWeights (costs_of H x) sorted list → IsSearchSpace H x.side limit x.source list
   space_is list w = record {
     order = w.order;
     sound = λ v y h. let s = w.sound v y h in ((s.1, u.search.sound v s.1 s.2, s.3), subst (IsWithin limit) s.3 (most.sound s.1.weight (u.search.light v s.1 s.2)));
     whole = λ v c tight within.
         let low = most.whole c.weight (tight_least H x.side x.source v c tight).weight within in
-        let settled = tight_settled H k x u on v c tight low (λ w d key. absurd (done w d key)) in
+        let settled = tight_settled H k x u on v c tight low (λ w d key. absurd (empty_by_node H x done w d key)) in
         elim (a.whole v c settled) [
           | inl idle ↦ absurd (tight_not_idle H k x u on v c tight idle)
           | inr has ↦ w.whole v c (Contains-permutation nodes sorted v p has) settled.0
@@ -157,5 +159,5 @@ module _ (H : LevelsAndLegs) (k : IsKeptForSome H) (x : Search) (u : IsUnderway 
   }
 
   -- by the source and the side with which it began
-  pub space_of : (s : ℕ) (side : Side) → x.source ≡ s → x.side ≡ side → (list : List (ℕ × ℕ)) → AreWeights x.labels.costs sorted list → IsSearchSpace H side limit s list
+  pub space_of : (s : ℕ) (side : Side) → x.source ≡ s → x.side ≡ side → (list : List (ℕ × ℕ)) → AreWeights (costs_of H x) sorted list → IsSearchSpace H side limit s list
   space_of s side source is list w = subst (λ q. IsSearchSpace H q limit s list) is (subst (λ q. IsSearchSpace H x.side limit q list) source (space_is list w))

@@ -1,30 +1,35 @@
 -- A search without a target, and the list of what it reached.
 use Rattle.std.proofs.Common.{◌≡◌, ℕ, ◌+◌, ◌<◌, true, false, List, [], ◌∷◌, ◌++◌}
-use Rattle.std.proofs.Common.{length, Contains, take, map, Option, Some, None, refl, sym, ◌∙◌, ap, subst, arith, get_or, vec_len, Vec}
-use Rattle.std.specs.Prelude.{◌≢◌, AllPairs, vec_capacity, is_some, unwrap_or, eqb}
-use Rattle.std.specs.declared.alloc.Global.{Global}
+use Rattle.std.proofs.Common.{length, Contains, take, map, Option, Some, None, refl, sym, ◌∙◌, ap, subst, arith, get_or, inl, inr}
+use Rattle.std.specs.Prelude.{◌≢◌, AllPairs, is_some, unwrap_or, eqb}
 use Rattle.std.specs.List.{IsDistinct}
 use Rattle.std.specs.List.Sorted.{IsPermutation, IsSorted}
 use Rattle.std.specs.Ordering.{nat_cmp}
 use Rattle.std.proofs.lemmas.Bool.{false≢true}
 use Rattle.std.proofs.lemmas.List.{take_more, map_push, get_or-map, length-map, get_or_default}
-use Rattle.std.proofs.lemmas.List.Elements.{Contains-get_or}
+use Rattle.std.proofs.lemmas.List.Elements.{Contains-get_or, Contains-push_cases}
 use Rattle.std.proofs.lemmas.List.Sorted.{Contains-permutation, IsPermutation-sym, IsNonDecreasingBy-from_sort}
 use Rattle.std.proofs.lemmas.Map.Keys.{IsDistinct-from_apart, IsDistinct-IsPermutation, IsStrictlyIncreasing-from_distinct}
 use Rattle.std.proofs.lemmas.List.Kept.{AllPairs-from_increasing}
 use Rattle.ch_graph.specs.declared.cost.Cost.{Cost}
 use Rattle.ch_graph.specs.Cost.{no_cost, cost_at}
+use Rattle.ch_graph.proofs.Lists.{contains_map, contains_map_of}
 use Rattle.ch_graph.proofs.Numbers.{not_eqb, eqb_flips}
 use Rattle.ch_hierarchy.specs.declared.leg.Leg.{Leg}
-use Rattle.ch_hierarchy.specs.Hierarchy.{LevelsAndLegs}
+use Rattle.ch_hierarchy.specs.Hierarchy.{LevelsAndLegs, nodes_of, IsLevelled}
 use Rattle.ch_hierarchy.specs.Rows.{row}
+use Rattle.ch_hierarchy.proofs.code.Ranked.{rank_one}
+use Rattle.ch_query.specs.ByNode.{costs_of, keys_of}
 use Rattle.ch_query.specs.declared.side.Side.{Side}
 use Rattle.ch_query.specs.declared.search.Search.{Search}
 use Rattle.ch_query.specs.Limits.{IsMost}
 use Rattle.ch_query.specs.Search.{IsEmpty}
-use Rattle.ch_query.specs.Underway.{back_of, IsTouched, IsRoom, idle_of, IsUnderway}
+use Rattle.ch_hierarchy.specs.Ranked.{rank_of}
+use Rattle.ch_query.specs.Underway.{back_of, IsSized, IsTouched, IsRoom, idle_of, IsUnderway}
 use Rattle.ch_query.specs.Side.{rows_of}
-use Rattle.ch_query.specs.Spread.{IsSpread, entry}
+use Rattle.ch_query.specs.Spread.{IsSpread, AreReached, entry}
+use Rattle.ch_query.proofs.one_side.ByNode.{by_node-at, by_node-some}
+use Rattle.ch_query.proofs.one_side.Touched.{some_within}
 use Rattle.ch_query.proofs.one_side.End.{known_least, least_known}
 
 -- numbers that differ rise once they are sorted
@@ -33,34 +38,9 @@ sorted_rises xs ys distinct p sorted =
     let d : IsDistinct eqb xs = IsDistinct-from_apart eqb xs (λ i j e lt within. not_eqb _ _ (distinct i j e lt within)) in
     AllPairs-from_increasing ys (IsStrictlyIncreasing-from_distinct ys (IsNonDecreasingBy-from_sort (λ x. x) ys sorted) (IsDistinct-IsPermutation eqb eqb_flips xs ys p d))
 
--- the touched nodes stay those once they are sorted
-pub touched_sorted : (best : List (Option Cost)) (xs ys : Vec ℕ Global) → IsTouched best xs → IsPermutation xs.items ys.items → IsSorted nat_cmp ys.items →
-    vec_len ys ≡ vec_len xs → vec_capacity ys ≡ vec_capacity xs → IsTouched best ys
-touched_sorted best xs ys t p sorted len capacity = record {
-  room = (let r = t.room in omega arith);
-  count = len ∙ t.count;
-  reached = λ v h. t.reached v (Contains-permutation ys.items xs.items v (IsPermutation-sym xs.items ys.items p) h);
-  listed = λ v k. Contains-permutation xs.items ys.items v p (t.listed v k);
-  distinct = λ i j d lt within. let rise = sorted_rises xs.items ys.items t.distinct p sorted i j d lt within in λ same. let e = same in omega arith;
-}
-
--- the search with its touched nodes in another order
-abbrev pub with_touched : Search → Vec ℕ Global → Search
-with_touched x touched = record x { touched = touched }
-
--- a search goes on with its touched nodes sorted
-pub sorted_underway : (H : LevelsAndLegs) (x : Search) (sorted : Vec ℕ Global) → IsUnderway H x → IsPermutation x.touched.items sorted.items → IsSorted nat_cmp sorted.items →
-    vec_len sorted ≡ vec_len x.touched → vec_capacity sorted ≡ vec_capacity x.touched → IsUnderway H (with_touched x sorted)
-sorted_underway H x sorted u p order len capacity = record {
-  levelled = u.levelled;
-  search = u.search;
-  parents = u.parents;
-  touched = touched_sorted x.labels.costs x.touched sorted u.touched p order len capacity;
-}
-
 -- a search underway has room
 pub underway_room : (H : LevelsAndLegs) (x : Search) → IsUnderway H x → IsRoom x
-underway_room H x u = record { queue = u.search.sizes.1 ∙ sym u.search.sizes.0; parents = u.parents.size; touched = u.touched; most = u.search.limits }
+underway_room H x u = record { queue = u.sizes.1 ∙ sym u.sizes.0; parents = u.sizes.2 ∙ sym u.sizes.0; touched = u.touched; most = u.search.limits }
 
 -- a known cost is the one that is listed
 some_known : (o : Option Cost) → is_some o ≡ true → o ≡ Some (unwrap_or o no_cost)
@@ -76,19 +56,19 @@ pub never_idle : (H : LevelsAndLegs) (x : Search) → x.stalls ≡ false → (v 
 never_idle H x off v c idle = none_in_row v idle.leg (subst (λ b. Contains (row (back_of H x.side b) v) idle.leg) off idle.has)
 
 -- a search that ended without stalling, and its touched nodes in order
-module _ (H : LevelsAndLegs) (x : Search) (u : IsUnderway H x) (off : x.stalls ≡ false) (done : IsEmpty x.queue) (limit : Option ℕ) (most : IsMost limit x.most)
+module _ (H : LevelsAndLegs) (x : Search) (u : IsUnderway H x) (off : x.stalls ≡ false) (done : IsEmpty (keys_of H x)) (limit : Option ℕ) (most : IsMost limit x.most)
     (nodes : List ℕ) (rises : AllPairs (λ a b. a < b) nodes)
-    (reached : (v : ℕ) → Contains nodes v → is_some (cost_at x.labels.costs v) ≡ true) (all : (v : ℕ) → is_some (cost_at x.labels.costs v) ≡ true → Contains nodes v) where
+    (reached : (v : ℕ) → Contains nodes v → is_some (cost_at (costs_of H x) v) ≡ true) (all : (v : ℕ) → is_some (cost_at (costs_of H x) v) ≡ true → Contains nodes v) where
   -- an entry of the list, by its place
-  at : (i : ℕ) (d : ℕ × Cost) → i < length nodes → get_or (map (entry x.labels.costs) nodes) i d ≡ entry x.labels.costs (get_or nodes i 0)
-  at i d lt = get_or-map (entry x.labels.costs) nodes i 0 d lt
+  at : (i : ℕ) (d : ℕ × Cost) → i < length nodes → get_or (map (entry (costs_of H x)) nodes) i d ≡ entry (costs_of H x) (get_or nodes i 0)
+  at i d lt = get_or-map (entry (costs_of H x)) nodes i 0 d lt
 
   -- as many entries as nodes
-  size : length (map (entry x.labels.costs) nodes) ≡ length nodes
-  size = length-map nodes (entry x.labels.costs)
+  size : length (map (entry (costs_of H x)) nodes) ≡ length nodes
+  size = length-map nodes (entry (costs_of H x))
 
   -- the nodes with their costs are all that is reached
-  pub spread_is : IsSpread (rows_of H x.side) limit x.source (map (entry x.labels.costs) nodes)
+  pub spread_is : IsSpread (rows_of H x.side) limit x.source (map (entry (costs_of H x)) nodes)
   spread_is = record {
     order = λ i j d lt within.
         let n = size in
@@ -101,36 +81,95 @@ module _ (H : LevelsAndLegs) (x : Search) (u : IsUnderway H x) (off : x.stalls �
     sound = λ v c h.
         let n = size in
         let low : h.0 < length nodes = (let lt = h.1 in omega arith) in
-        let is : entry x.labels.costs (get_or nodes h.0 0) ≡ (v, c) = sym (at h.0 (v, c) low) ∙ h.2 in
+        let is : entry (costs_of H x) (get_or nodes h.0 0) ≡ (v, c) = sym (at h.0 (v, c) low) ∙ h.2 in
         let node : get_or nodes h.0 0 ≡ v = ap (λ (e : ℕ × Cost). e.0) is in
         let has : Contains nodes v = subst (Contains nodes) node (Contains-get_or nodes h.0 0 low) in
-        let cost : unwrap_or (cost_at x.labels.costs v) no_cost ≡ c = ap (λ q. unwrap_or (cost_at x.labels.costs q) no_cost) (sym node) ∙ ap (λ (e : ℕ × Cost). e.1) is in
-        let known : cost_at x.labels.costs v ≡ Some c = some_known _ (reached v has) ∙ ap Some cost in
+        let cost : unwrap_or (cost_at (costs_of H x) v) no_cost ≡ c = ap (λ q. unwrap_or (cost_at (costs_of H x) q) no_cost) (sym node) ∙ ap (λ (e : ℕ × Cost). e.1) is in
+        let known : cost_at (costs_of H x) v ≡ Some c = some_known _ (reached v has) ∙ ap Some cost in
         (known_least _ _ _ _ _ u.search (never_idle H x off) done v c known, most.sound c.weight (u.search.light v c known));
     whole = λ v c h low.
         let n = size in
         let known = least_known _ _ _ _ _ u.search (never_idle H x off) done v c h (most.whole c.weight h.weight low) in
         let has = all v (ap is_some known) in
-        let low : has.0 < length (map (entry x.labels.costs) nodes) = (let lt = has.1 in omega arith) in
+        let low : has.0 < length (map (entry (costs_of H x)) nodes) = (let lt = has.1 in omega arith) in
         let node : get_or nodes has.0 0 ≡ v = sym (get_or_default nodes has.0 v 0 has.1) ∙ has.2 in
-        (has.0, low, at has.0 (v, c) has.1 ∙ ap (entry x.labels.costs) node ∙ (λ i. (v, ap (λ q. unwrap_or q no_cost) known i)));
+        (has.0, low, at has.0 (v, c) has.1 ∙ ap (entry (costs_of H x)) node ∙ (λ i. (v, ap (λ q. unwrap_or q no_cost) known i)));
   }
 
--- the nodes of a search that ended without stalling, once they are sorted
-pub spread_of : (H : LevelsAndLegs) (x : Search) (sorted : Vec ℕ Global) (s : ℕ) (side : Side) (limit : Option ℕ) → IsMost limit x.most → IsUnderway H x → x.stalls ≡ false → x.source ≡ s → x.side ≡ side → IsEmpty x.queue →
-    IsPermutation x.touched.items sorted.items → IsSorted nat_cmp sorted.items →
-    IsSpread (rows_of H side) limit s (map (entry x.labels.costs) sorted.items)
-spread_of H x sorted s side limit most u off source is done p order =
-    let spread = spread_is H x u off done limit most sorted.items (sorted_rises x.touched.items sorted.items u.touched.distinct p order)
-    (λ v h. u.touched.reached v (Contains-permutation sorted.items x.touched.items v (IsPermutation-sym x.touched.items sorted.items p) h))
-    (λ v k. Contains-permutation x.touched.items sorted.items v p (u.touched.listed v k)) in
-    let from_source = subst (λ q. IsSpread (rows_of H x.side) limit q (map (entry x.labels.costs) sorted.items)) source spread in
-    subst (λ q. IsSpread (rows_of H q) limit s (map (entry x.labels.costs) sorted.items)) is from_source
+-- a queue that is empty by rank is so by node
+pub empty_by_node : (H : LevelsAndLegs) (x : Search) → IsEmpty x.queue → IsEmpty (keys_of H x)
+empty_by_node H x done v c e = done (rank_of H v) c (by_node-some H x.queue v c e).1
 
--- a touched node that is listed has a cost
-pub item_known : (best : List (Option Cost)) (touched : Vec ℕ Global) (items : List ℕ) (i : ℕ) → IsTouched best touched → items ≡ touched.items → i < length items →
-    is_some (cost_at best (get_or items i 0)) ≡ true
-item_known best touched items i t e lt = t.reached (get_or items i 0) (subst (λ xs. Contains xs (get_or items i 0)) e (Contains-get_or items i 0 lt))
+-- what a search that ended without stalling has reached
+pub spread_of : (H : LevelsAndLegs) (x : Search) (nodes : List ℕ) (s : ℕ) (side : Side) (limit : Option ℕ) → IsMost limit x.most → IsUnderway H x → x.stalls ≡ false → x.source ≡ s → x.side ≡ side →
+    IsEmpty x.queue → AreReached (costs_of H x) nodes → IsSpread (rows_of H side) limit s (map (entry (costs_of H x)) nodes)
+spread_of H x nodes s side limit most u off source is done a =
+    let spread = spread_is H x u off (empty_by_node H x done) limit most nodes a.order a.sound a.whole in
+    let from_source = subst (λ q. IsSpread (rows_of H x.side) limit q (map (entry (costs_of H x)) nodes)) source spread in
+    subst (λ q. IsSpread (rows_of H q) limit s (map (entry (costs_of H x)) nodes)) is from_source
+
+-- the touched nodes are those that are reached, once they are sorted
+module _ (H : LevelsAndLegs) (k : IsLevelled H) (x : Search) (t : IsTouched x.labels.costs x.touched) (nodes sorted : List ℕ) (ranks : map (rank_of H) nodes ≡ x.touched.items)
+    (within : (v : ℕ) → Contains nodes v → v < nodes_of H) (p : IsPermutation nodes sorted) (order : IsSorted nat_cmp sorted) where
+  -- each has a rank of its own
+  apart : AllPairs ◌≢◌ nodes
+  apart i j d lt low same =
+      let size = length-map nodes (rank_of H) in
+      let rank : (n : ℕ) → n < length nodes → get_or x.touched.items n (rank_of H d) ≡ rank_of H (get_or nodes n d) =
+          λ n less. ap (λ q. get_or q n (rank_of H d)) (sym ranks) ∙ get_or-map (rank_of H) nodes n d (rank_of H d) less in
+      let long = ap length ranks in
+      t.distinct i j (rank_of H d) lt (omega arith) (rank i (omega arith) ∙ ap (rank_of H) same ∙ sym (rank j low))
+
+  pub touched_reached : AreReached (costs_of H x) sorted
+  touched_reached = record {
+    order = sorted_rises nodes sorted apart p order;
+    sound = λ v h.
+        let has = Contains-permutation sorted nodes v (IsPermutation-sym nodes sorted p) h in
+        ap is_some (by_node-at H x.labels.costs None None v (within v has))
+        ∙ t.reached (rank_of H v) (subst (λ q. Contains q (rank_of H v)) ranks (contains_map (rank_of H) nodes v has));
+    whole = λ v e.
+        let known = some_known _ e in
+        let there = by_node-some H x.labels.costs v _ known in
+        let listed = t.listed (rank_of H v) (ap is_some there.1) in
+        let of = contains_map_of (rank_of H) nodes (rank_of H v) (subst (λ q. Contains q (rank_of H v)) (sym ranks) listed) in
+        Contains-permutation nodes sorted v p (subst (Contains nodes) (rank_one H k of.0 v (within of.0 of.1) there.0 of.2) of.1);
+  }
+
+-- a rank that is touched is one of the ranks
+pub item_rank : (H : LevelsAndLegs) (x : Search) (items : List ℕ) (i : ℕ) → IsSized (nodes_of H) x → IsTouched x.labels.costs x.touched → items ≡ x.touched.items → i < length items →
+    get_or items i 0 < nodes_of H
+item_rank H x items i s t e lt =
+    let known = t.reached (get_or items i 0) (subst (λ q. Contains q (get_or items i 0)) e (Contains-get_or items i 0 lt)) in
+    let within = some_within x.labels.costs (get_or items i 0) known in
+    let size = s.0 in
+    omega arith
+
+-- one node more has its rank
+pub ranks_more : (H : LevelsAndLegs) (touched items nodes new : List ℕ) (i v : ℕ) → items ≡ touched → i < length items → map (rank_of H) nodes ≡ take i touched →
+    rank_of H v ≡ get_or items i 0 → new ≡ nodes ++ v ∷ [] → map (rank_of H) new ≡ take (i + 1) touched
+ranks_more H touched items nodes new i v e lt was at is =
+    ap (map (rank_of H)) is ∙ map_push (rank_of H) nodes v ∙ ap (λ q. q ++ rank_of H v ∷ []) was ∙ ap (λ q. take i touched ++ q ∷ []) (at ∙ ap (λ q. get_or q i 0) e)
+    ∙ sym (take_more touched i 0 (subst (λ q. i < length q) e lt))
+
+-- and is one of the nodes
+pub within_more : (H : LevelsAndLegs) (nodes new : List ℕ) (v : ℕ) → ((w : ℕ) → Contains nodes w → w < nodes_of H) → v < nodes_of H → new ≡ nodes ++ v ∷ [] →
+    (w : ℕ) → Contains new w → w < nodes_of H
+within_more H nodes new v was lt is w h = elim (Contains-push_cases nodes v w (subst (λ q. Contains q w) is h)) [
+  | inl old ↦ was w old
+  | inr same ↦ subst (λ q. q < nodes_of H) same lt
+]
+
+-- a node that is read of those that are reached is reached
+pub node_known : (best : List (Option Cost)) (nodes items : List ℕ) (i : ℕ) → AreReached best nodes → items ≡ nodes → i < length items → is_some (cost_at best (get_or items i 0)) ≡ true
+node_known best nodes items i a e lt = a.sound (get_or items i 0) (subst (λ q. Contains q (get_or items i 0)) e (Contains-get_or items i 0 lt))
+
+-- a reached node is one of the nodes
+pub reached_within : (H : LevelsAndLegs) (x : Search) (v : ℕ) → is_some (cost_at (costs_of H x) v) ≡ true → v < nodes_of H
+reached_within H x v e = (by_node-some H x.labels.costs v _ (some_known _ e)).0
+
+-- the cost that is read at its rank is its own
+pub read_cost : (H : LevelsAndLegs) (x : Search) (v rank : ℕ) (r : Option Cost) → is_some (cost_at (costs_of H x) v) ≡ true → rank ≡ rank_of H v → r ≡ cost_at x.labels.costs rank → r ≡ cost_at (costs_of H x) v
+read_cost H x v rank r known at read = read ∙ ap (cost_at x.labels.costs) at ∙ sym (by_node-at H x.labels.costs None None v (reached_within H x v known))
 
 -- so its cost is not missing
 pub unknown : (o r : Option Cost) → r ≡ o → is_some o ≡ true → ((c : Cost) → r ≡ Some c → ⊥) → ⊥

@@ -1,15 +1,22 @@
 -- A node to which a higher node shows a cheaper way is left unexpanded.
-use Rattle.std.proofs.Common.{◌≡◌, ℕ, ◌+◌, ◌^◌, ◌<◌, ◌≤◌, true, List, length, Contains, Some, sym, ◌∙◌, ap, subst, arith, get_or, inl}
+use Rattle.std.proofs.Common.{◌≡◌, ℕ, ◌+◌, ◌^◌, ◌<◌, ◌≤◌, true, List, length, map, Contains, Some, None, refl, sym, ◌∙◌, ap, subst, arith, get_or, inl}
+use Rattle.std.proofs.lemmas.List.{get_or-map, length-map}
 use Rattle.ch_graph.specs.declared.limits.TheConstants.{MOST_SUM}
 use Rattle.ch_graph.specs.declared.cost.Cost.{Cost}
 use Rattle.ch_graph.specs.Cost.{IsBelow, cost_sum, cost_at}
 use Rattle.ch_hierarchy.specs.declared.leg.Leg.{Leg}
 use Rattle.ch_hierarchy.specs.Rows.{row}
-use Rattle.ch_hierarchy.specs.Hierarchy.{LevelsAndLegs}
+use Rattle.ch_hierarchy.specs.Hierarchy.{LevelsAndLegs, nodes_of}
+use Rattle.ch_hierarchy.proofs.theory.NoLeg.{no_leg}
+use Rattle.ch_hierarchy.proofs.code.Ranked.{rank_below}
+use Rattle.ch_query.specs.ByNode.{costs_of}
+use Rattle.ch_hierarchy.specs.declared.ranked.RankedLeg.{RankedLeg}
+use Rattle.ch_hierarchy.specs.Ranked.{ranked_leg}
 use Rattle.ch_query.specs.declared.side.Side.{Side}
 use Rattle.ch_query.specs.declared.search.Search.{Search}
 use Rattle.ch_query.specs.Underway.{back_of, idle_of, IsUnderway, IsExpandingAt}
 use Rattle.ch_query.specs.Side.{rows_of, other}
+use Rattle.ch_query.proofs.one_side.ByNode.{by_node-size, by_node-at}
 use Rattle.ch_query.proofs.one_side.Steps.{stalled}
 use Rattle.ch_query.proofs.one_side.Parents.{finish_parents}
 use Rattle.std.proofs.lemmas.List.Elements.{Contains-get_or}
@@ -18,7 +25,7 @@ use Rattle.ch_query.proofs.one_side.Expanding.{leg_up, rows_size, reached_arcs}
 -- a leg that the stall test reads leads to a node
 pub record IsBackLeg (H : LevelsAndLegs) (x : Search) (v : ℕ) (l : Leg) : Type 0 where
   pub has : Contains (row (rows_of H (other x.side)) v) l
-  pub within : l.node < length x.labels.costs
+  pub within : l.node < length (costs_of H x)
 
 module _ (H : LevelsAndLegs) (x : Search) (v : ℕ) (c : Cost) (u : IsExpandingAt H x v c) where
   -- the test reads such legs
@@ -31,7 +38,7 @@ module _ (H : LevelsAndLegs) (x : Search) (v : ℕ) (c : Cost) (u : IsExpandingA
       record { has = has; within = omega arith }
 
   -- their sums do not overflow
-  pub back_sum : (l : Leg) (e : Cost) → IsBackLeg H x v l → cost_at x.labels.costs l.node ≡ Some e → (e.weight + l.cost.weight ≤ MOST_SUM) × (e.arcs + l.cost.arcs < 2 ^ 64)
+  pub back_sum : (l : Leg) (e : Cost) → IsBackLeg H x v l → cost_at (costs_of H x) l.node ≡ Some e → (e.weight + l.cost.weight ≤ MOST_SUM) × (e.arcs + l.cost.arcs < 2 ^ 64)
   back_sum l e b known =
       let up = leg_up H u.levelled (other x.side) v l b.has in
       let r = u.search.search.sound l.node e known in
@@ -43,7 +50,7 @@ module _ (H : LevelsAndLegs) (x : Search) (v : ℕ) (c : Cost) (u : IsExpandingA
       (omega arith, omega arith)
 
   -- a sum that is less than c lets v be idle
-  pub stalls_idle : (l : Leg) (e : Cost) → x.stalls ≡ true → IsBackLeg H x v l → cost_at x.labels.costs l.node ≡ Some e → IsBelow (cost_sum e l.cost) c → idle_of H x v c
+  pub stalls_idle : (l : Leg) (e : Cost) → x.stalls ≡ true → IsBackLeg H x v l → cost_at (costs_of H x) l.node ≡ Some e → IsBelow (cost_sum e l.cost) c → idle_of H x v c
   stalls_idle l e on b known below = record {
     leg = l;
     has = subst (λ s. Contains (row (back_of H x.side s) v) l) (sym on) b.has;
@@ -56,7 +63,47 @@ module _ (H : LevelsAndLegs) (x : Search) (v : ℕ) (c : Cost) (u : IsExpandingA
   pub stalled_underway : idle_of H x v c → IsUnderway H x
   stalled_underway idle = record {
     levelled = u.levelled;
+    sizes = u.sizes;
     search = stalled _ _ _ _ _ v c u.search idle;
     parents = finish_parents _ _ _ _ _ _ v c u.search.here u.parents (inl idle);
     touched = u.touched;
   }
+
+  -- the test reads the leg at place i by rank
+  module _ (side : Side) (items : List RankedLeg) (i : ℕ) (d : RankedLeg) (turned : side ≡ other x.side) (e : items ≡ map (ranked_leg H) (row (rows_of H side) v)) (lt : i < length items) where
+    low : i < length (row (rows_of H side) v)
+    low = (let size = ap length e ∙ length-map (row (rows_of H side) v) (ranked_leg H) in omega arith)
+
+    -- which is one of these
+    here : Leg
+    here = get_or (row (rows_of H side) v) i no_leg
+
+    back : IsBackLeg H x v here
+    unfolding here
+    back = back_leg side (row (rows_of H side) v) i no_leg turned refl low
+
+    is : get_or items i d ≡ ranked_leg H here
+    unfolding here
+    is = ap (λ q. get_or q i d) e ∙ get_or-map (ranked_leg H) (row (rows_of H side) v) i no_leg d low
+
+    within : here.node < nodes_of H
+    within = (let b = back.within in let size = by_node-size H x.labels.costs None in omega arith)
+
+    pub stall_rank : (get_or items i d).rank < length x.labels.costs
+    stall_rank = subst (λ (q : RankedLeg). q.rank < length x.labels.costs) (sym is) (let r = rank_below H u.levelled here.node within in let s = u.sizes.0 in omega arith)
+
+    -- a cost that stands at its rank is known of its node
+    known_there : (a : Cost) → cost_at x.labels.costs (get_or items i d).rank ≡ Some a → cost_at (costs_of H x) here.node ≡ Some a
+    known_there a known = by_node-at H x.labels.costs None None here.node within ∙ ap (λ (q : RankedLeg). cost_at x.labels.costs q.rank) (sym is) ∙ known
+
+    -- their sum does not overflow
+    pub stall_sum : (a cost : Cost) → cost_at x.labels.costs (get_or items i d).rank ≡ Some a → cost ≡ record { weight = (get_or items i d).weight; arcs = (get_or items i d).arcs } →
+        (a.weight + cost.weight ≤ MOST_SUM) × (a.arcs + cost.arcs < 2 ^ 64)
+    stall_sum a cost known same = subst (λ (q : Cost). (a.weight + q.weight ≤ MOST_SUM) × (a.arcs + q.arcs < 2 ^ 64))
+        (sym (same ∙ ap (λ (q : RankedLeg). record { weight = q.weight; arcs = q.arcs }) is)) (back_sum here a back (known_there a known))
+
+    -- a sum that is less than c lets v be idle
+    pub stall_idle : (a cost : Cost) → x.stalls ≡ true → cost_at x.labels.costs (get_or items i d).rank ≡ Some a →
+        cost ≡ record { weight = (get_or items i d).weight; arcs = (get_or items i d).arcs } → IsBelow (cost_sum a cost) c → idle_of H x v c
+    stall_idle a cost on known same below = stalls_idle here a on back (known_there a known)
+        (subst (λ q. IsBelow (cost_sum a q) c) (same ∙ ap (λ (q : RankedLeg). record { weight = q.weight; arcs = q.arcs }) is) below)

@@ -14,6 +14,7 @@ use Rattle.ch_hierarchy.specs.KeptLaws.{IsLeastMeeting}
 use Rattle.ch_hierarchy.specs.Turned.{turned_graph, turned_hierarchy}
 use Rattle.ch_hierarchy.proofs.theory.KeptWalks.{kept_has_walks, meetings_are_distances}
 use Rattle.ch_hierarchy.proofs.theory.Turned.{walk_turned, turned_limits, turned_meeting, turned_kept}
+use Rattle.ch_query.specs.ByNode.{costs_of, keys_of}
 use Rattle.ch_query.specs.declared.side.Side.{Side}
 use Rattle.ch_query.specs.declared.side.Side.TheVariants.{Up, Down}
 use Rattle.ch_query.specs.declared.search.Search.{Search}
@@ -99,11 +100,11 @@ module _ (H : LevelsAndLegs) (k : IsKeptForSome H) (x : Search) (u : IsUnderway 
   tight_not_idle idle = avoids m a [] idle refl (subst (λ q. IsAtMost q a) (sym (cost_sum-no_cost a)) (IsAtMost_refl a))
 
   -- once each key that is left is more, the node is settled at that cost
-  pub tight_settled : a.weight ≤ x.most → IsPastCost x.queue a → IsSettled x.labels.costs x.queue m a
+  pub tight_settled : a.weight ≤ x.most → IsPastCost (keys_of H x) a → IsSettled (costs_of H x) (keys_of H x) m a
   tight_settled low past = settled_least _ _ _ _ _ u.search m a low past avoids (tight_least H x.side x.source m a tight)
 
   -- so the search has reached it
-  pub tight_reached : x.most ≡ MOST_WEIGHT → IsPastCost x.queue a → HasReached H x m a
+  pub tight_reached : x.most ≡ MOST_WEIGHT → IsPastCost (keys_of H x) a → HasReached H x m a
   tight_reached most past =
       let least = tight_least H x.side x.source m a tight in
       record { underway = u; known = (tight_settled (let light = least.weight in omega arith) past).0; least = least; past = past; avoids = avoids }

@@ -1,6 +1,6 @@
 -- The way back, step by step.
-use Rattle.std.proofs.Common.{◌≡◌, ℕ, ◌+◌, ◌<◌, ◌≤◌, List, [], ◌∷◌, ◌++◌, map, length, Contains, Some, refl, sym, ◌∙◌, ap, subst, arith, inl, inr, Vec, vec_len}
-use Rattle.std.specs.Prelude.{◌≢◌, slice_index, vec_capacity, is_some}
+use Rattle.std.proofs.Common.{◌≡◌, ℕ, ◌+◌, ◌<◌, ◌≤◌, List, [], ◌∷◌, ◌++◌, map, Contains, Some, refl, sym, ◌∙◌, ap, subst, arith, inl, inr, Vec, vec_len}
+use Rattle.std.specs.Prelude.{◌≢◌, slice_index, vec_capacity}
 use Rattle.std.specs.declared.alloc.Global.{Global}
 use Rattle.std.proofs.lemmas.List.{append_assoc, append-nil, map_push}
 use Rattle.ch_graph.specs.declared.cost.Cost.{Cost}
@@ -12,6 +12,8 @@ use Rattle.ch_hierarchy.specs.Rows.{row, IsRow}
 use Rattle.ch_hierarchy.specs.Hierarchy.{LevelsAndLegs, nodes_of}
 use Rattle.ch_hierarchy.specs.Paths.{IsUpwardPath, path_cost, IsLeastUpwardPath}
 use Rattle.ch_hierarchy.proofs.theory.LegPaths.{path_cost-cons}
+use Rattle.ch_hierarchy.specs.Ranked.{rank_of}
+use Rattle.ch_query.specs.ByNode.{costs_of, keys_of, parents_of}
 use Rattle.ch_query.specs.declared.side.Side.{Side}
 use Rattle.ch_query.specs.declared.side.Side.TheVariants.{Up, Down}
 use Rattle.ch_query.specs.declared.search.Search.{Search}
@@ -26,12 +28,12 @@ use Rattle.ch_query.proofs.one_side.Expanding.{leg_up}
 use Rattle.ch_query.proofs.one_side.Parents.{parent, parent_least, chosen}
 use Rattle.ch_query.proofs.routing.PendingLegs.{pending_has_arc}
 use Rattle.ch_query.proofs.routing.Rows.{row_one, rows_ordered, has_row}
-use Rattle.ch_query.proofs.one_side.Touched.{some_within}
+use Rattle.ch_query.proofs.one_side.ByNode.{by_node-at, by_node-some}
 
 -- the chosen steps from m back to x were appended, and x lies on a least path to m
 pub record IsPartlyTraced (H : LevelsAndLegs) (y : Search) (m x : ℕ) (c : Cost) (old : List PendingLeg) (new : Vec PendingLeg Global) : Type 0 where
   pub cost : Cost
-  pub known : cost_at y.labels.costs x ≡ Some cost
+  pub known : cost_at (costs_of H y) x ≡ Some cost
   pub least : IsLeastUpwardPath (rows_of H y.side) y.source x cost
   pub tail : List Leg
   pub path : IsUpwardPath (rows_of H y.side) x m tail
@@ -73,20 +75,24 @@ module _ (H : LevelsAndLegs) (k : IsKeptForSome H) (y : Search) (m x : ℕ) (c :
   pub tracing_ends : x ≡ y.source → IsTraced H y m old pending.items
   tracing_ends is = record { steps = t.done; descent = subst (IsDescent (rows_of H y.side) y.source m) (append-nil t.done) (t.descent [] is); pushed = t.pushed }
 
-  -- the node has a parent
-  pub node_within : x < length y.labels.parents
-  node_within = let size = r.underway.parents.size in let lt = some_within y.labels.costs x (ap is_some t.known) in omega arith
+  -- the node is there
+  pub node_at_within : x < nodes_of H
+  node_at_within = (by_node-some H y.labels.costs x t.cost t.known).0
+
+  -- what is read at its rank is its parent
+  pub read_parent : (rank p : ℕ) → rank ≡ rank_of H x → p ≡ slice_index y.labels.parents rank → p ≡ slice_index (parents_of H y) x
+  read_parent rank p at read = read ∙ ap (slice_index y.labels.parents) at ∙ sym (by_node-at H y.labels.parents 0 0 x node_at_within)
 
   module _ (ne : x ≢ y.source) where
     light : c.weight ≤ y.most
     light = r.underway.search.light m c r.known
 
-    of : IsParent (rows_of H y.side) y.labels.costs y.queue x t.cost (slice_index y.labels.parents x)
+    of : IsParent (rows_of H y.side) (costs_of H y) (keys_of H y) x t.cost (slice_index (parents_of H y) x)
     of = parent _ _ _ _ _ _ r.underway.search r.underway.parents m c light r.past r.avoids x ne t.cost t.known t.least t.tail t.path t.cheap
 
-    module _ (p : ℕ) (read : p ≡ slice_index y.labels.parents x) where
+    module _ (p : ℕ) (read : p ≡ slice_index (parents_of H y) x) where
       -- the number that was read
-      is : slice_index y.labels.parents x ≡ p
+      is : slice_index (parents_of H y) x ≡ p
       is = sym read
 
       -- it has the leg
@@ -153,7 +159,7 @@ module _ (H : LevelsAndLegs) (k : IsKeptForSome H) (y : Search) (m x : ℕ) (c :
             let step : DescentStep = record { low = p; leg = l } in
             record {
               cost = of.cost;
-              known = ap (cost_at y.labels.costs) (sym is) ∙ of.settled.0;
+              known = ap (cost_at (costs_of H y)) (sym is) ∙ of.settled.0;
               least = least;
               tail = l ∷ t.tail;
               path = (l_has, subst (λ q. IsUpwardPath (rows_of H y.side) q m t.tail) (sym found.1) t.path);

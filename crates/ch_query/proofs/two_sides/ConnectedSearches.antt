@@ -1,7 +1,8 @@
 -- Two searches that look for a way up and down within a bound.
-use Rattle.std.proofs.Common.{get_or, ◌≡◌, ℕ, ◌+◌, ◌<◌, ◌≤◌, false, List, [], ◌∷◌, length, Contains, Option, Some, None, refl, sym, ◌∙◌, ap, subst, arith, set, inl, inr}
+use Rattle.std.proofs.Common.{get_or, ◌≡◌, ℕ, ◌+◌, ◌<◌, ◌≤◌, false, List, [], ◌∷◌, length, map, Option, Some, None, refl, sym, ◌∙◌, ap, subst, arith, set, inl, inr}
 use Rattle.std.specs.Prelude.{slice_index, true}
 use Rattle.std.proofs.lemmas.Bool.{false≢true}
+use Rattle.std.proofs.lemmas.List.{get_or-map, length-map}
 use Rattle.std.proofs.lemmas.List.Elements.{Contains-get_or}
 use Rattle.ch_graph.specs.declared.limits.TheConstants.{MOST_WEIGHT}
 use Rattle.ch_graph.specs.declared.cost.Cost.{Cost}
@@ -11,7 +12,11 @@ use Rattle.ch_graph.proofs.CostSums.{cost_sum_comm, IsAtMost-cost_sum, IsAtMost-
 use Rattle.ch_hierarchy.specs.declared.leg.Leg.{Leg}
 use Rattle.ch_hierarchy.specs.Hierarchy.{LevelsAndLegs, nodes_of, IsLevelled}
 use Rattle.ch_hierarchy.specs.Rows.{row}
+use Rattle.ch_hierarchy.proofs.theory.NoLeg.{no_leg}
 use Rattle.ch_hierarchy.specs.Paths.{IsUpwardPath, path_cost, IsLeastUpwardPath}
+use Rattle.ch_hierarchy.specs.Ranked.{rank_of, ranked_leg}
+use Rattle.ch_query.specs.ByNode.{IsSomeRank, costs_of, keys_of}
+use Rattle.ch_hierarchy.specs.declared.ranked.RankedLeg.{RankedLeg}
 use Rattle.ch_query.specs.declared.side.Side.{Side}
 use Rattle.ch_query.specs.declared.side.Side.TheVariants.{Up, Down}
 use Rattle.ch_query.specs.declared.search.Search.{Search}
@@ -25,7 +30,8 @@ use Rattle.ch_query.specs.Underway.{IsUnderway, IsSameSearch, KeepsSettled}
 use Rattle.ch_hierarchy.specs.Kept.{MeetsWithin}
 use Rattle.ch_query.specs.Covering.{is_connected, is_settled, IsPastCost, AreConnected, AreApart}
 use Rattle.ch_query.proofs.one_side.End.{settled_least}
-use Rattle.ch_query.proofs.one_side.Expanding.{leg_up, level_small, rows_size}
+use Rattle.ch_query.proofs.one_side.ByNode.{by_node-some}
+use Rattle.ch_query.proofs.one_side.Expanding.{leg_up, level_small}
 use Rattle.ch_query.proofs.one_side.LeastPaths.{decided}
 use Rattle.ch_query.proofs.one_side.PathLaws.{below_then, then_below}
 use Rattle.ch_query.proofs.one_side.Popping.{with_queue, key_within}
@@ -66,6 +72,10 @@ past_both_cost first second most leads past v d k = let l = leads v d k in below
 pub both_past_cost : (x x' y : Search) (most : Cost) → LeadsKeys x.queue y.queue → (x' ≡ x) × IsPastCost x.queue most → IsPastCost x'.queue most × IsPastCost y.queue most
 both_past_cost x x' y most leads s = (subst (λ (z : Search). IsPastCost z.queue most) (sym s.0) s.1, past_both_cost x.queue y.queue most leads s.1)
 
+-- a queue that is past the bound by rank is so by node
+past_cost_by_node : (H : LevelsAndLegs) (x : Search) (most : Cost) → IsPastCost x.queue most → IsPastCost (keys_of H x) most
+past_cost_by_node H x most past v d e = past (rank_of H v) d (by_node-some H x.queue v d e).1
+
 -- a step that settled a node has connected nothing
 pub settled_apart : (shown : Shown) → is_settled shown ≡ true → is_connected shown ≡ false
 settled_apart Connected e = absurd (false≢true e)
@@ -74,9 +84,9 @@ settled_apart Past e = refl
 
 -- one side settles v at cost c, and takes its legs
 module _ (H : LevelsAndLegs) (x y : Search) (most : Cost) (m : AreApart H x y most) (q : List (Option Cost)) (v : ℕ) (c : Cost)
-    (l : IsLeastKey x.queue v c) (e : q ≡ set x.queue v None) (z : Search) (u : IsUnderway H z) (same : IsSameSearch (with_queue x q) z) (settled : KeepsSettled (with_queue x q) z) where
+    (l : IsLeastKey (keys_of H x) v c) (e : keys_of H (with_queue x q) ≡ set (keys_of H x) v None) (z : Search) (u : IsUnderway H z) (same : IsSameSearch (with_queue x q) z) (settled : KeepsSettled H (with_queue x q) z) where
   -- v is known at c here
-  known : cost_at x.labels.costs v ≡ Some c
+  known : cost_at (costs_of H x) v ≡ Some c
   known = m.here.search.queued v c l.has
 
   -- a path to v costs c
@@ -84,20 +94,20 @@ module _ (H : LevelsAndLegs) (x y : Search) (most : Cost) (m : AreApart H x y mo
   here_at = subst (λ s. IsUpwardCost (rows_of H z.side) s v c) (sym same.source) (subst (λ s. IsUpwardCost (rows_of H s) x.source v c) (sym same.side) (m.here.search.sound v c known))
 
   -- where the other side knows v within the bound, they are connected
-  pub connected_at : (d : Cost) → cost_at y.labels.costs v ≡ Some d → IsAtMost (cost_sum c d) most → AreConnected H z y most
+  pub connected_at : (d : Cost) → cost_at (costs_of H y) v ≡ Some d → IsAtMost (cost_sum c d) most → AreConnected H z y most
   connected_at d at le = (v, c, d, here_at, m.there.search.sound v d at, le)
 
   -- where it doesn't, they stay apart
-  pub still_apart : ((d : Cost) → cost_at y.labels.costs v ≡ Some d → IsBelow most (cost_sum c d)) → AreApart H z y most
+  pub still_apart : ((d : Cost) → cost_at (costs_of H y) v ≡ Some d → IsBelow most (cost_sum c d)) → AreApart H z y most
   still_apart above = record {
     here = u;
     there = m.there;
     stalls = (same.stalls ∙ m.stalls.0, m.stalls.1);
     limits = (subst (IsMost (Some most.weight)) (sym same.most) m.limits.0, m.limits.1);
-    apart = λ w a b h k. elim (popped_settled _ _ _ _ _ m.here.search v c l.has l.least (key_within x.queue v c l.has) w a
-        (subst (λ r. IsSettled x.labels.costs r w a) e (settled w a h))) [
+    apart = λ w a b h k. elim (popped_settled _ _ _ _ _ m.here.search v c l.has l.least (key_within (keys_of H x) v c l.has) w a
+        (subst (λ r. IsSettled (costs_of H x) r w a) e (settled w a h))) [
           | inl was ↦ m.apart w a b was k
-          | inr is ↦ subst (λ r. IsBelow most (cost_sum r b)) (sym is.1) (above b (ap (cost_at y.labels.costs) (sym is.0) ∙ k.0))
+          | inr is ↦ subst (λ r. IsBelow most (cost_sum r b)) (sym is.1) (above b (ap (cost_at (costs_of H y)) (sym is.0) ∙ k.0))
         ];
   }
 
@@ -140,17 +150,17 @@ connected_covers H k x y s t most up down xs yt j =
     meeting_within H k s t j.0 j.1 j.2 most a b j.5
 
 -- a node that a search would reach within the bound is settled, where all that is left is above it
-settled_within : (H : LevelsAndLegs) (x : Search) (most : Cost) (side : Side) (s m : ℕ) (a : Cost) → IsUnderway H x → x.stalls ≡ false → IsMost (Some most.weight) x.most → IsPastCost x.queue most → x.side ≡ side → x.source ≡ s →
-    IsLeastUpwardPath (rows_of H side) s m a → IsAtMost a most → IsSettled x.labels.costs x.queue m a
+settled_within : (H : LevelsAndLegs) (x : Search) (most : Cost) (side : Side) (s m : ℕ) (a : Cost) → IsUnderway H x → x.stalls ≡ false → IsMost (Some most.weight) x.most → IsPastCost (keys_of H x) most → x.side ≡ side → x.source ≡ s →
+    IsLeastUpwardPath (rows_of H side) s m a → IsAtMost a most → IsSettled (costs_of H x) (keys_of H x) m a
 settled_within H x most side s m a u off all past is from least le =
     let is_there = subst (λ q. IsLeastUpwardPath (rows_of H q) s m a) (sym is) least in
     let there = subst (λ q. IsLeastUpwardPath (rows_of H x.side) q m a) (sym from) is_there in
-    settled_least (rows_of H x.side) x.source _ x.labels.costs x.queue u.search m a (all.whole a.weight least.weight le.0) (λ w d k. then_below a most d le (past w d k))
+    settled_least (rows_of H x.side) x.source _ (costs_of H x) (keys_of H x) u.search m a (all.whole a.weight least.weight le.0) (λ w d k. then_below a most d le (past w d k))
     (λ w e legs idle p q. never_idle H x off w e idle) there
 
 -- where all that is left on both sides is above the bound, and they are apart, there is no way within it
 pub apart_covers : (H : LevelsAndLegs) (x y : Search) (s t : ℕ) (most : Cost) → x.side ≡ Up → y.side ≡ Down → x.source ≡ s → y.source ≡ t →
-    AreApart H x y most → IsPastCost x.queue most → IsPastCost y.queue most → MeetsWithin H s t most → ⊥
+    AreApart H x y most → IsPastCost (keys_of H x) most → IsPastCost (keys_of H y) most → MeetsWithin H s t most → ⊥
 apart_covers H x y s t most up down xs yt m px py w =
     let a = w.2.0 in
     let b = w.2.1 in
@@ -161,15 +171,24 @@ apart_covers H x y s t most up down xs yt m px py w =
     let there = settled_within H y most Down t w.0 b m.there m.stalls.1 m.limits.1 py down yt w.2.3 (IsAtMost_trans b (cost_sum a b) most right sum) in
     IsBelow_not most (cost_sum a b) (m.apart w.0 a b here there) sum
 
--- a leg of v that is read leads to one of the nodes
-pub own_leg : (H : LevelsAndLegs) (x : Search) (v : ℕ) (legs : List Leg) (i : ℕ) (d : Leg) → IsUnderway H x → legs ≡ row (rows_of H x.side) v → i < length legs →
-    ((get_or legs i d).node < nodes_of H) × ((get_or legs i d).node < length x.labels.costs)
-own_leg H x v legs i d u e lt =
-    let has = subst (λ xs. Contains xs (get_or legs i d)) e (Contains-get_or legs i d lt) in
-    let node = (leg_up H u.levelled x.side v (get_or legs i d) has).node in
-    let size = u.search.sizes.0 in
-    let rows = rows_size H u.levelled x.side in
-    (node, omega arith)
+-- the leg of v at place i is read by rank
+module _ (H : LevelsAndLegs) (x : Search) (v : ℕ) (items : List RankedLeg) (i : ℕ) (d : RankedLeg) (u : IsUnderway H x) (e : items ≡ map (ranked_leg H) (row (rows_of H x.side) v)) (lt : i < length items) where
+  low : i < length (row (rows_of H x.side) v)
+  low = (let size = ap length e ∙ length-map (row (rows_of H x.side) v) (ranked_leg H) in omega arith)
+
+  -- its node
+  node : ℕ
+  node = (get_or (row (rows_of H x.side) v) i no_leg).node
+
+  -- is one of the nodes
+  within : node < nodes_of H
+  unfolding node
+  within = (leg_up H u.levelled x.side v (get_or (row (rows_of H x.side) v) i no_leg) (Contains-get_or (row (rows_of H x.side) v) i no_leg low)).node
+
+  -- and has the rank that is read
+  pub own_rank : IsSomeRank H (get_or items i d).rank
+  unfolding node
+  own_rank = (node, within, ap (λ (q : RankedLeg). q.rank) (ap (λ q. get_or q i d) e ∙ get_or-map (ranked_leg H) (row (rows_of H x.side) v) i no_leg d low))
 
 -- what the loop shows at its end
 pub shown_covers : (H : LevelsAndLegs) → IsLevelled H → (x y : Search) (s t : ℕ) (most : Cost) (shown : Shown) → x.side ≡ Up → y.side ≡ Down → x.source ≡ s → y.source ≡ t →
@@ -177,7 +196,7 @@ pub shown_covers : (H : LevelsAndLegs) → IsLevelled H → (x y : Search) (s t 
 shown_covers H k x y s t most Connected up down xs yt is end = (λ _. connected_covers H k x y s t most up down xs yt is, λ _. refl)
 shown_covers H k x y s t most Settled up down xs yt is end = absurd (false≢true (sym end))
 shown_covers H k x y s t most Past up down xs yt is end =
-    let never = apart_covers H x y s t most up down xs yt is.0 is.1 is.2 in
+    let never = apart_covers H x y s t most up down xs yt is.0 (past_cost_by_node H x most is.1) (past_cost_by_node H y most is.2) in
     (λ e. absurd (false≢true e), λ w. absurd (never w))
 
 -- a step's answers, in one

@@ -14,6 +14,7 @@ use Rattle.ch_hierarchy.specs.Hierarchy.{LevelsAndLegs}
 use Rattle.ch_hierarchy.specs.Paths.{IsMeeting, IsMeet, NeverMeets}
 use Rattle.ch_hierarchy.specs.KeptLaws.{IsLeastMeeting, MeetingsAreDistances}
 use Rattle.ch_hierarchy.proofs.theory.KeptWalks.{meetings_are_distances}
+use Rattle.ch_query.specs.ByNode.{costs_of, keys_of}
 use Rattle.ch_query.specs.declared.side.Side.TheVariants.{Up, Down}
 use Rattle.ch_query.specs.declared.search.Search.{Search}
 use Rattle.ch_query.specs.Covering.{IsPastCost}
@@ -26,10 +27,11 @@ use Rattle.ch_query.specs.Side.{rows_of}
 use Rattle.ch_query.specs.TwoSided.{IsFound, IsPast}
 use Rattle.ch_query.proofs.one_side.End.{least_reached, settled}
 use Rattle.ch_query.proofs.one_side.PathLaws.{then_below}
+use Rattle.ch_query.proofs.two_sides.MeetingSteps.{past_by_node}
 use Rattle.ch_query.proofs.one_side.TightNodes.{sum_walk, tight_up, tight_down, tight_reached}
 
 -- a node that was reached is settled
-reached_settled : (H : LevelsAndLegs) (x : Search) (m : ℕ) (a : Cost) → HasReached H x m a → IsSettled x.labels.costs x.queue m a
+reached_settled : (H : LevelsAndLegs) (x : Search) (m : ℕ) (a : Cost) → HasReached H x m a → IsSettled (costs_of H x) (keys_of H x) m a
 reached_settled H x m a r = settled _ _ _ _ _ r.underway.search m a (r.underway.search.light m a r.known) r.past r.avoids m a r.known (IsAtMost_refl a)
 
 module _ (H : LevelsAndLegs) (k : IsKeptForSome H) (x y : Search) (least : Option (Cost × ℕ)) (meeting : AreMeeting H x y least) (up : x.side ≡ Up) (down : y.side ≡ Down)
@@ -67,8 +69,8 @@ module _ (H : LevelsAndLegs) (k : IsKeptForSome H) (x y : Search) (least : Optio
         let tight' = subst (λ q. IsTight H q y.source m b) (sym down) (tight_down H k x.source y.source m a b c h from to sum) in
         let low = subst (IsAtMost a) sum (IsAtMost-cost_sum_self a b) in
         let low' = subst (IsAtMost b) (cost_sum_comm b a ∙ sum) (IsAtMost-cost_sum_self b a) in (
-          tight_reached H k x meeting.here meeting.stalls.0 m a tight meeting.most.0 (above x.queue past_here a low),
-          tight_reached H k y meeting.there meeting.stalls.1 m b tight' meeting.most.1 (above y.queue past_there b low'),
+          tight_reached H k x meeting.here meeting.stalls.0 m a tight meeting.most.0 (above (keys_of H x) (past_by_node H x least past_here) a low),
+          tight_reached H k y meeting.there meeting.stalls.1 m b tight' meeting.most.1 (above (keys_of H y) (past_by_node H y least past_there) b low'),
         )
 
     -- so c is known, at a node no later than that of any least meeting

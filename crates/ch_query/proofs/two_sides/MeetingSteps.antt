@@ -1,11 +1,14 @@
 -- One side of two searches settles a node.
-use Rattle.std.proofs.Common.{◌≡◌, ℕ, ◌+◌, ◌^◌, ◌<◌, ◌≤◌, List, Option, Some, None, refl, sym, ◌∙◌, ap, subst, arith, set, inl, inr}
+use Rattle.std.proofs.Common.{◌≡◌, ℕ, ◌+◌, ◌^◌, ◌<◌, ◌≤◌, List, length, Option, Some, None, refl, sym, ◌∙◌, ap, subst, arith, set, inl, inr}
 use Rattle.std.proofs.lemmas.Option.{same_Some, none-some}
 use Rattle.ch_graph.specs.declared.limits.TheConstants.{MOST_WEIGHT, MOST_PATH_ARCS}
 use Rattle.ch_graph.specs.declared.cost.Cost.{Cost}
 use Rattle.ch_graph.specs.Cost.{IsAtMost, cost_sum, cost_at}
-use Rattle.ch_hierarchy.specs.Hierarchy.{LevelsAndLegs}
+use Rattle.ch_hierarchy.specs.Hierarchy.{LevelsAndLegs, nodes_of}
 use Rattle.ch_graph.proofs.CostOrder.{IsAtMost_refl, IsAtMost_trans, IsAtMost_antisymm}
+use Rattle.ch_hierarchy.specs.Ranked.{rank_of}
+use Rattle.ch_hierarchy.proofs.code.Ranked.{rank_below}
+use Rattle.ch_query.specs.ByNode.{IsSomeRank, costs_of, keys_of}
 use Rattle.ch_query.specs.declared.search.Search.{Search}
 use Rattle.ch_query.specs.Search.{IsSettled, IsLeastKey, IsUpwardCost}
 use Rattle.ch_query.specs.TwoSided.{MeetsFirst, IsSeen, LeadsKeys, IsPast}
@@ -13,6 +16,7 @@ use Rattle.ch_query.specs.Underway.{IsSameSearch, IsUnderway, KeepsSettled}
 use Rattle.ch_query.specs.Side.{rows_of}
 use Rattle.ch_query.specs.Meeting.{IsLeastAfter, IsFoundBy, AreMeeting}
 use Rattle.ch_graph.proofs.CostSums.{cost_sum_comm}
+use Rattle.ch_query.proofs.one_side.ByNode.{by_node-at, by_node-some}
 use Rattle.ch_query.proofs.one_side.Steps.{popped_settled}
 use Rattle.ch_query.proofs.one_side.Expanding.{reached_arcs}
 use Rattle.ch_query.proofs.one_side.PathLaws.{below_then}
@@ -51,12 +55,16 @@ both_stopped x x' y least least' leads s =
     let past : IsPast x.queue least' = subst (IsPast x.queue) (sym s.1) s.2 in
     (subst (λ (z : Search). IsPast z.queue least') (sym s.0) past, past_both x.queue y.queue least' leads past)
 
+-- a queue that is past the least sum by rank is so by node
+pub past_by_node : (H : LevelsAndLegs) (x : Search) (least : Option (Cost × ℕ)) → IsPast x.queue least → IsPast (keys_of H x) least
+past_by_node H x least past v d e = past (rank_of H v) d (by_node-some H x.queue v d e).1
+
 -- one side settles v at cost c
 module _ (H : LevelsAndLegs) (x y : Search) (least : Option (Cost × ℕ)) (m : AreMeeting H x y least) (q : List (Option Cost)) (v : ℕ) (c : Cost)
-    (l : IsLeastKey x.queue v c) (e : q ≡ set x.queue v None)
-    (least' : Option (Cost × ℕ)) (met : IsLeastAfter (cost_at y.labels.costs v) v c least least') where
+    (l : IsLeastKey (keys_of H x) v c) (e : keys_of H (with_queue x q) ≡ set (keys_of H x) v None)
+    (least' : Option (Cost × ℕ)) (met : IsLeastAfter (cost_at (costs_of H y) v) v c least least') where
   -- v is known at c here
-  known : cost_at x.labels.costs v ≡ Some c
+  known : cost_at (costs_of H x) v ≡ Some c
   known = m.here.search.queued v c l.has
 
   -- what was known is covered
@@ -70,19 +78,19 @@ module _ (H : LevelsAndLegs) (x y : Search) (least : Option (Cost × ℕ)) (m : 
   gains (Some d) b e' is = subst (λ r. (f : Cost × ℕ) × (least' ≡ Some f) × MeetsFirst f (cost_sum c r, v)) (same_Some _ _ e') is.covers_new
 
   -- so are all sums of nodes that both settled
-  seen : IsSeen x.labels.costs q y.labels.costs y.queue least'
-  seen w a b h k = elim (popped_settled _ _ _ _ _ m.here.search v c l.has l.least (key_within x.queue v c l.has) w a (subst (λ r. IsSettled x.labels.costs r w a) e h)) [
+  seen : IsSeen (costs_of H x) (keys_of H (with_queue x q)) (costs_of H y) (keys_of H y) least'
+  seen w a b h k = elim (popped_settled _ _ _ _ _ m.here.search v c l.has l.least (key_within (keys_of H x) v c l.has) w a (subst (λ r. IsSettled (costs_of H x) r w a) e h)) [
     | inl was ↦
         let old = m.seen w a b was k in
         let new = keeps _ met old.0 old.1 in
         (new.0, new.1, first_trans new.0 old.0 (cost_sum a b, w) new.2 old.2)
     | inr is ↦
-        let r = gains _ b (ap (cost_at y.labels.costs) (sym is.0) ∙ k.0) met in
+        let r = gains _ b (ap (cost_at (costs_of H y)) (sym is.0) ∙ k.0) met in
         (r.0, r.1, subst (λ z. MeetsFirst r.0 (cost_sum a b, z)) (sym is.0) (subst (λ z. MeetsFirst r.0 (cost_sum z b, v)) (sym is.1) r.2))
   ]
 
   -- what is known now is the sum of two paths
-  found_at : (o : Option Cost) → cost_at y.labels.costs v ≡ o → IsLeastAfter o v c least least' → IsFoundBy H x y least'
+  found_at : (o : Option Cost) → cost_at (costs_of H y) v ≡ o → IsLeastAfter o v c least least' → IsFoundBy H x y least'
   found_at None at is f e' = m.found f (sym is ∙ e')
   found_at (Some d) at is f e' = elim is.chosen [
     | inl new ↦
@@ -93,7 +101,7 @@ module _ (H : LevelsAndLegs) (x y : Search) (least : Option (Cost × ℕ)) (m : 
   ]
 
   -- after the node's legs are done, or it is left idle
-  pub met_then : (z : Search) → IsUnderway H z → IsSameSearch (with_queue x q) z → KeepsSettled (with_queue x q) z → AreMeeting H z y least'
+  pub met_then : (z : Search) → IsUnderway H z → IsSameSearch (with_queue x q) z → KeepsSettled H (with_queue x q) z → AreMeeting H z y least'
   met_then z u same settled = record {
     here = u;
     there = m.there;
@@ -106,9 +114,21 @@ module _ (H : LevelsAndLegs) (x y : Search) (least : Option (Cost × ℕ)) (m : 
   }
 
 -- a known cost is within the limits
-pub known_arcs : (H : LevelsAndLegs) (x : Search) (v : ℕ) (c : Cost) → IsUnderway H x → cost_at x.labels.costs v ≡ Some c → (c.weight ≤ MOST_WEIGHT) × (c.arcs ≤ MOST_PATH_ARCS)
+pub known_arcs : (H : LevelsAndLegs) (x : Search) (v : ℕ) (c : Cost) → IsUnderway H x → cost_at (costs_of H x) v ≡ Some c → (c.weight ≤ MOST_WEIGHT) × (c.arcs ≤ MOST_PATH_ARCS)
 known_arcs H x v c u known = let r = u.search.sound v c known in (r.weight, reached_arcs H u.levelled x.side x.source v c r)
 
 -- so what both sides know of a node has room for its sum
-pub both_arcs : (H : LevelsAndLegs) (y : Search) (v : ℕ) (c d : Cost) → IsUnderway H y → c.arcs ≤ MOST_PATH_ARCS → cost_at y.labels.costs v ≡ Some d → c.arcs + d.arcs < 2 ^ 64
+pub both_arcs : (H : LevelsAndLegs) (y : Search) (v : ℕ) (c d : Cost) → IsUnderway H y → c.arcs ≤ MOST_PATH_ARCS → cost_at (costs_of H y) v ≡ Some d → c.arcs + d.arcs < 2 ^ 64
 both_arcs H y v c d u few known = let there = (known_arcs H y v d u known).1 in omega arith
+
+-- a rank is below the length of a search's lists
+pub rank_in_labels : (H : LevelsAndLegs) (x : Search) (rank : ℕ) → IsUnderway H x → IsSomeRank H rank → rank < length x.labels.costs
+rank_in_labels H x rank u r = let within = rank_below H u.levelled r.0 r.1 in let is = r.2 in let size = u.sizes.0 in omega arith
+
+-- a cost that stands at a rank is known of its node
+pub known_at : (H : LevelsAndLegs) (x : Search) (rank : ℕ) (c : Cost) (r : IsSomeRank H rank) → cost_at x.labels.costs rank ≡ Some c → cost_at (costs_of H x) r.0 ≡ Some c
+known_at H x rank c r known = by_node-at H x.labels.costs None None r.0 r.1 ∙ ap (cost_at x.labels.costs) (sym r.2) ∙ known
+
+-- and the other way round
+pub at_rank : (H : LevelsAndLegs) (x : Search) (v rank : ℕ) (c : Cost) → v < nodes_of H → rank_of H v ≡ rank → cost_at (costs_of H x) v ≡ Some c → cost_at x.labels.costs rank ≡ Some c
+at_rank H x v rank c within is known = ap (cost_at x.labels.costs) (sym is) ∙ sym (by_node-at H x.labels.costs None None v within) ∙ known

@@ -6,17 +6,17 @@ use Rattle.ch_query.proofs.faults.Checked.{base_first, middle_first, arc_first, 
 use Rattle.ch_query.proofs.checking.first_late_fault.Goals as goal
 
 pub returns-in-Some : goal.returns-in-Some
-returns-in-Some c = base_first c.args.graph.now c.args.saved.now c.args.hierarchy.now c.requires.named c.in-Some.place (rw c.in-Some.is at c.requires.bases)
+returns-in-Some g c = base_first c.args.graph.now c.args.saved.now c.args.hierarchy.now c.requires.named c.in-Some.place (rw c.in-Some.is at c.requires.bases)
 
 pub returns-in-Some-first_false_shortcut : goal.returns-in-Some-first_false_shortcut
-returns-in-Some-first_false_shortcut c =
+returns-in-Some-first_false_shortcut g c =
     let is = c.as_slice-legs.ensures.value ∙ ap (λ (q : OrderAndLegs). q.legs) c.saved.view_is in
     let bases = rw c.in_default.is at c.requires.bases in
     middle_first c.args.graph.now c.args.saved.now c.args.hierarchy.now c.requires.named bases c.in-Some-first_false_shortcut.place
     (subst (λ q. IsFirstFailing (IsSumIfShortcut c.args.hierarchy.now) q c.in-Some-first_false_shortcut.place) is c.in-Some-first_false_shortcut.ensures)
 
 pub returns-in-Some-first_unserved : goal.returns-in-Some-first_unserved
-returns-in-Some-first_unserved c =
+returns-in-Some-first_unserved g c =
     let is = c.as_slice-legs.ensures.value ∙ ap (λ (q : OrderAndLegs). q.legs) c.saved.view_is in
     let bases = rw c.in_default.is at c.requires.bases in
     let sums = subst (All (IsSumIfShortcut c.args.hierarchy.now)) is c.in_default-first_false_shortcut.ensures in
@@ -24,7 +24,7 @@ returns-in-Some-first_unserved c =
     (subst (λ q. IsFirstFailing (IsServed c.args.hierarchy.now) q c.in-Some-first_unserved.place) c.arcs.ensures.arcs c.in-Some-first_unserved.ensures)
 
 pub returns-in-Some-first_uncovered : goal.returns-in-Some-first_uncovered
-returns-in-Some-first_uncovered c =
+returns-in-Some-first_uncovered g c =
     let is = c.as_slice-legs.ensures.value ∙ ap (λ (q : OrderAndLegs). q.legs) c.saved.view_is in
     let bases = rw c.in_default.is at c.requires.bases in
     let sums = subst (All (IsSumIfShortcut c.args.hierarchy.now)) is c.in_default-first_false_shortcut.ensures in
@@ -32,7 +32,7 @@ returns-in-Some-first_uncovered c =
     lower_first c.args.graph.now c.args.saved.now c.args.hierarchy.now c.requires.named bases sums served c.in-Some-first_uncovered.node c.in-Some-first_uncovered.ensures.first
 
 pub returns : goal.returns
-returns c =
+returns g c =
     let is = c.as_slice-legs.ensures.value ∙ ap (λ (q : OrderAndLegs). q.legs) c.saved.view_is in
     let bases = rw c.in_default.is at c.requires.bases in
     let sums = subst (All (IsSumIfShortcut c.args.hierarchy.now)) is c.in_default-first_false_shortcut.ensures in

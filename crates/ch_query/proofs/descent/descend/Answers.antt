@@ -1,5 +1,5 @@
-use Rattle.std.proofs.Common.{◌∙◌, refl, ap, ◌++◌, ◌∷◌, []}
-use Rattle.ch_query.proofs.routing.DescentSteps.{tracing_starts, tracing_ends, parent_within, parent_has, parent_lower, room_for_leg, tracing_step}
+use Rattle.std.proofs.Common.{◌∙◌, refl, ap, ◌++◌, ◌∷◌, [], arith}
+use Rattle.ch_query.proofs.routing.DescentSteps.{node_at_within, read_parent, tracing_starts, tracing_ends, parent_within, parent_has, parent_lower, room_for_leg, tracing_step}
 use Rattle.ch_query.proofs.descent.descend.Goals as goal
 
 pub loop-node-init : goal.loop-node-init
@@ -7,28 +7,40 @@ loop-node-init c =
     let r = c.requires.reached in
     record { traced = (r.0, r.1, tracing_starts c.args.hierarchy.now c.args.search.now c.args.meet c.args.pending.now r); capacity = refl }
 
+pub rank-requires : goal.rank-requires
+rank-requires c =
+    let t = c.loop-node.invariant.traced in
+    node_at_within c.args.hierarchy.now c.requires.kept _ _ _ t.0 t.1 _ _ t.2
+
+pub parent-parent-requires : goal.parent-parent-requires
+parent-parent-requires c =
+    let t = c.loop-node.invariant.traced in
+    let within = c.rank.ensures.within in
+    let size = t.1.underway.sizes.2 in
+    omega arith
+
 pub legs-requires : goal.legs-requires
 legs-requires c =
     let t = c.loop-node.invariant.traced in
-    parent_within c.args.hierarchy.now c.requires.kept _ _ _ t.0 t.1 _ _ t.2 c.loop-node-test.true c.parent-parent.result c.parent-parent.ensures
+    parent_within c.args.hierarchy.now c.requires.kept _ _ _ t.0 t.1 _ _ t.2 c.loop-node-test.true c.parent-parent.result (read_parent c.args.hierarchy.now c.requires.kept _ _ _ t.0 t.1 _ _ t.2 _ _ c.rank.ensures.rank c.parent-parent.ensures)
 
 pub leg_at-leg-requires : goal.leg_at-leg-requires
 leg_at-leg-requires c =
     let t = c.loop-node.invariant.traced in
-    let has = parent_has c.args.hierarchy.now c.requires.kept _ _ _ t.0 t.1 _ _ t.2 c.loop-node-test.true c.parent-parent.result c.parent-parent.ensures
+    let has = parent_has c.args.hierarchy.now c.requires.kept _ _ _ t.0 t.1 _ _ t.2 c.loop-node-test.true c.parent-parent.result (read_parent c.args.hierarchy.now c.requires.kept _ _ _ t.0 t.1 _ _ t.2 _ _ c.rank.ensures.rank c.parent-parent.ensures)
     c.legs.result.now c.legs.ensures.row in
     record { order = has.0; has = has.1 }
 
 pub push_reserved-requires : goal.push_reserved-requires
 push_reserved-requires c =
     let t = c.loop-node.invariant.traced in
-    room_for_leg c.args.hierarchy.now c.requires.kept _ _ _ t.0 t.1 _ _ t.2 c.loop-node-test.true c.parent-parent.result c.parent-parent.ensures
+    room_for_leg c.args.hierarchy.now c.requires.kept _ _ _ t.0 t.1 _ _ t.2 c.loop-node-test.true c.parent-parent.result (read_parent c.args.hierarchy.now c.requires.kept _ _ _ t.0 t.1 _ _ t.2 _ _ c.rank.ensures.rank c.parent-parent.ensures)
     c.leg_at-leg.result c.legs.result.now c.legs.ensures.row c.leg_at-leg.ensures
 
 pub loop-node-smaller : goal.loop-node-smaller
 loop-node-smaller c =
     let t = c.loop-node.invariant.traced in
-    parent_lower c.args.hierarchy.now c.requires.kept _ _ _ t.0 t.1 _ _ t.2 c.loop-node-test.true c.parent-parent.result c.parent-parent.ensures
+    parent_lower c.args.hierarchy.now c.requires.kept _ _ _ t.0 t.1 _ _ t.2 c.loop-node-test.true c.parent-parent.result (read_parent c.args.hierarchy.now c.requires.kept _ _ _ t.0 t.1 _ _ t.2 _ _ c.rank.ensures.rank c.parent-parent.ensures)
     c.leg_at-leg.result c.legs.result.now c.legs.ensures.row c.leg_at-leg.ensures
 
 pub loop-node-preserved : goal.loop-node-preserved
@@ -41,7 +53,7 @@ loop-node-preserved c =
       traced = (
         t.0,
         t.1,
-        tracing_step c.args.hierarchy.now c.requires.kept _ _ _ t.0 t.1 _ _ t.2 c.loop-node-test.true c.parent-parent.result c.parent-parent.ensures
+        tracing_step c.args.hierarchy.now c.requires.kept _ _ _ t.0 t.1 _ _ t.2 c.loop-node-test.true c.parent-parent.result (read_parent c.args.hierarchy.now c.requires.kept _ _ _ t.0 t.1 _ _ t.2 _ _ c.rank.ensures.rank c.parent-parent.ensures)
             c.leg_at-leg.result c.legs.result.now c.legs.ensures.row c.leg_at-leg.ensures c.push_reserved.new.self
             (pushed.items ∙ ap (λ p. c.loop-node.pending.items ++ p ∷ []) same) pushed.len pushed.capacity,
       );

@@ -12,4 +12,4 @@ invariant-loop l = record {
 }
 
 abbrev pub decreases-loop : goal.decreases-loop
-decreases-loop l = count_unsettled_in l.up + count_unsettled_in l.down
+decreases-loop l = count_unsettled_in l.hierarchy l.up + count_unsettled_in l.hierarchy l.down

@@ -1,20 +1,23 @@
-use Rattle.std.proofs.Common.{◌∙◌, take_all}
-use Rattle.ch_query.proofs.one_side.Expanding.{leg_read, leg_bounds, partly_step, partly_whole}
+use Rattle.std.proofs.Common.{sym}
+use Rattle.ch_query.proofs.one_side.Expanding.{partly_whole}
+use Rattle.ch_query.proofs.one_side.RankedLegs.{read_rank, read_weights, read_arcs, ranked_step, read_all}
 use Rattle.ch_query.proofs.search.Search.expand.Goals as goal
 
-pub relax-requires-clause-node : goal.relax-requires-clause-node
-relax-requires-clause-node c = (leg_bounds _ _ _ _ _ _ _ c.loop-leg.invariant (leg_read _ _ _ _ _ _ _ _ _ c.loop-leg.invariant c.legs-leg-items.ensures.row c.loop-leg-test.true)).0
+pub relax-requires-clause-rank : goal.relax-requires-clause-rank
+relax-requires-clause-rank c = read_rank _ _ _ _ _ _ _ _ c.loop-leg.invariant (c.ranked_legs-leg-items.ensures.row _ c.requires.expanding.within (sym c.requires.rank)) c.loop-leg-test.true
 
 pub relax-requires-clause-weights : goal.relax-requires-clause-weights
-relax-requires-clause-weights c =
-    let b = leg_bounds _ _ _ _ _ _ _ c.loop-leg.invariant (leg_read _ _ _ _ _ _ _ _ _ c.loop-leg.invariant c.legs-leg-items.ensures.row c.loop-leg-test.true) in
-    (b.1, b.2)
+relax-requires-clause-weights c = read_weights _ _ _ _ _ _ _ _ c.loop-leg.invariant (c.ranked_legs-leg-items.ensures.row _ c.requires.expanding.within (sym c.requires.rank)) c.loop-leg-test.true
 
 pub relax-requires-clause-arcs : goal.relax-requires-clause-arcs
-relax-requires-clause-arcs c = (leg_bounds _ _ _ _ _ _ _ c.loop-leg.invariant (leg_read _ _ _ _ _ _ _ _ _ c.loop-leg.invariant c.legs-leg-items.ensures.row c.loop-leg-test.true)).3
+relax-requires-clause-arcs c = read_arcs _ _ _ _ _ _ _ _ c.loop-leg.invariant (c.ranked_legs-leg-items.ensures.row _ c.requires.expanding.within (sym c.requires.rank)) c.loop-leg-test.true
 
 pub loop-leg-preserved : goal.loop-leg-preserved
-loop-leg-preserved c = partly_step _ _ _ _ _ _ _ _ _ c.loop-leg.invariant c.legs-leg-items.ensures.row c.loop-leg-test.true c.relax.ensures.relaxes c.relax.ensures.touched c.relax.ensures.same
+loop-leg-preserved c =
+    let row = c.ranked_legs-leg-items.ensures.row _ c.requires.expanding.within (sym c.requires.rank) in
+    ranked_step _ _ _ _ _ _ _ _ c.loop-leg.invariant row c.loop-leg-test.true _ c.relax.ensures.relaxes c.relax.ensures.touched c.relax.ensures.same
 
 pub returns-clause-underway : goal.returns-clause-underway
-returns-clause-underway c = partly_whole _ _ _ _ _ _ c.loop-leg.invariant (take_all _ _ c.loop-leg-test.false ∙ c.legs-leg-items.ensures.row)
+returns-clause-underway c =
+    let row = c.ranked_legs-leg-items.ensures.row _ c.requires.expanding.within (sym c.requires.rank) in
+    partly_whole _ _ _ _ _ _ c.loop-leg.invariant (read_all c.args.hierarchy.now _ _ _ row c.loop-leg-test.false)

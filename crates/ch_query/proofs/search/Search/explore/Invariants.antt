@@ -5,4 +5,4 @@ abbrev pub invariant-loop-cost : goal.invariant-loop-cost
 invariant-loop-cost l = IsUnderway l.hierarchy l.self × IsSameSearch l.fn.self l.self
 
 abbrev pub decreases-loop-cost : goal.decreases-loop-cost
-decreases-loop-cost l = count_unsettled_in l.self
+decreases-loop-cost l = count_unsettled_in l.hierarchy l.self

@@ -9,4 +9,4 @@ invariant-loop-cost l = record {
 }
 
 abbrev pub decreases-loop-cost : goal.decreases-loop-cost
-decreases-loop-cost l = count_unsettled_in l.self
+decreases-loop-cost l = count_unsettled_in l.hierarchy l.self

@@ -3,6 +3,7 @@ use Rattle.std.specs.Prelude.{AllPairs}
 use Rattle.std.specs.declared.alloc.Global.{Global}
 use Rattle.std.proofs.lemmas.Result.{IfOk-weaker}
 use Rattle.ch_query.specs.Limits.{IsMost}
+use Rattle.ch_query.specs.ByNode.{costs_of}
 use Rattle.ch_query.specs.Underway.{AreWeights}
 use Rattle.ch_query.proofs.one_side.Spreads.{sorted_rises}
 use Rattle.ch_query.proofs.one_side.SearchSpaces.{unstalled_known, space_of}
@@ -13,6 +14,7 @@ weights-requires c =
     let end = c.in_ok-nodes.ensures in
     let sorted = c.sort_unstable.ensures in
     record {
+      sizes = end.underway.sizes;
       order = subst (AllPairs (λ a b. a < b)) (sym c.deref.ensures.value) (sorted_rises _ _ end.unstalled.distinct sorted.permutation sorted.sorted);
       known = λ v h. unstalled_known c.args.hierarchy.now c.requires.kept _ end.underway (end.same.stalls ∙ c.requires.stalls) end.done c.args.within
           (subst (IsMost c.args.within) (sym end.same.most) c.requires.most) _ _ end.unstalled sorted.permutation v
@@ -26,4 +28,4 @@ returns-clause-space c =
     IfOk-weaker _ _ _ (λ (list : Vec (ℕ × ℕ) Global) w. space_of c.args.hierarchy.now c.requires.kept me end.underway (end.same.stalls ∙ c.requires.stalls) end.done c.args.within
     (subst (IsMost c.args.within) (sym end.same.most) c.requires.most) _ _ end.unstalled
     c.sort_unstable.ensures.permutation _ _ end.same.source end.same.side list.items
-    (subst (λ nodes. AreWeights me.labels.costs nodes list.items) c.deref.ensures.value w)) c.weights.ensures
+    (subst (λ nodes. AreWeights (costs_of c.args.hierarchy.now me) nodes list.items) c.deref.ensures.value w)) c.weights.ensures

@@ -1,26 +1,32 @@
 use Rattle.std.proofs.Common.{◌∙◌, get_or, refl, sym, ap, arith, vec_len}
 use Rattle.std.specs.Prelude.{vec_capacity}
 use Rattle.std.proofs.lemmas.List.Elements.{Contains-get_or}
-use Rattle.ch_query.proofs.one_side.Touched.{some_within}
-use Rattle.ch_query.proofs.one_side.Spreads.{unknown}
+use Rattle.ch_query.specs.ByNode.{costs_of}
+use Rattle.ch_query.proofs.one_side.Spreads.{unknown, reached_within, read_cost}
 use Rattle.ch_query.proofs.one_side.SearchSpaces.{weights_more}
 use Rattle.ch_query.proofs.search.Search.weights.Goals as goal
 use Rattle.ch_query.proofs.search.Search.weights.Goals.{in-Some, in_default}
 
+pub rank-requires : goal.rank-requires
+rank-requires c =
+    let v = get_or c.args.nodes.now c.loop-node.node-index 0 in
+    reached_within c.args.hierarchy.now c.args.self.now v (c.requires.known v (Contains-get_or c.args.nodes.now c.loop-node.node-index 0 c.loop-node-test.true))
+
 pub get-requires : goal.get-requires
 get-requires c =
-    let me = c.args.self.now in
-    let v = get_or c.args.nodes.now c.loop-node.node-index 0 in
-    some_within me.labels.costs v (c.requires.known v (Contains-get_or c.args.nodes.now c.loop-node.node-index 0 c.loop-node-test.true))
+    let within = c.rank.ensures.within in
+    let size = c.requires.sizes.0 in
+    omega arith
 
 pub loop-node-preserved : goal.loop-node-preserved
 loop-node-preserved c =
-    let best = c.args.self.now.labels.costs in
+    let H = c.args.hierarchy.now in
+    let best = costs_of H c.args.self.now in
     let nodes = c.args.nodes.now in
     let i = c.loop-node.node-index in
     let v = get_or nodes i 0 in
     let known = c.requires.known v (Contains-get_or nodes i 0 c.loop-node-test.true) in
-    let cost = c.get.ensures in
+    let cost = read_cost H c.args.self.now v _ _ known c.rank.ensures.rank c.get.ensures in
     let before = c.loop-node.invariant in
     let few = before.count in
     let room = before.room in
