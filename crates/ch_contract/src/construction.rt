@@ -13,7 +13,7 @@ use crate::room::Room;
 use ch_graph::Graph;
 use ch_hierarchy::Hierarchy;
 use ch_queue::KeyQueue;
-use ch_work::{Gate, Plan};
+use ch_work::{Gate, Plan, Stage};
 use std::alloc::{AllocError, Global};
 use std::thread::Threads;
 
@@ -23,7 +23,8 @@ use std::thread::Threads;
 ///
 /// Workers share the opening priorities, and those of a step's neighbours where there are at least
 /// `plan.wide()` of them, each batch a job of its own (see [`run_pieces`](ch_work::run_pieces)): they
-/// pass the gate with the numbers of its pieces. The plan and the gate change nothing of the hierarchy.
+/// pass the gate with the numbers of its pieces. The gate is told how many nodes are contracted, one after the
+/// other. The plan and the gate change nothing of the hierarchy.
 ///
 /// # Errors
 /// `AllocError` where the call or any piece was refused memory, once all workers are joined. What was made is
@@ -64,6 +65,7 @@ pub fn build_by<R: Threads + Sync, G: Gate>(
     let _ = graph.arcs();
     let mut construction = Construction::open(rt, alloc, graph, hops, by, plan, gate)?;
     while let Some(node) = construction.next() {
+        gate.watch(Stage::Building, construction.contracted, graph.nodes());
         construction = construction.contract(rt, alloc, node, hops, by, plan, gate)?;
     }
     construction.finish()
@@ -214,6 +216,6 @@ impl Construction {
         drop(waiting);
         drop(depths);
         let BothRows { ups, downs } = remaining.into_rows()?;
-        Ok(Hierarchy::from_rows(levels, ups, downs))
+        Hierarchy::from_rows(*levels.allocator(), levels, ups, downs)
     }
 }

@@ -11,7 +11,7 @@ use crate::measure::OrderBy;
 use crate::remaining::Remaining;
 use crate::room::Room;
 use ch_queue::KeyQueue;
-use ch_work::{Gate, ListJob, Plan, run_list};
+use ch_work::{Gate, ListJob, Plan, Stage, run_list};
 use std::alloc::{AllocError, Global};
 use std::thread::Threads;
 
@@ -37,6 +37,7 @@ pub(crate) fn opening_queue<R: Threads + Sync, G: Gate>(
         hops,
         by,
     };
+    gate.watch(Stage::Ranking, 0, plan.pieces(remaining.nodes()));
     let priorities = run_list(rt, alloc, nodes.as_slice(), plan, gate, &job)?;
     let mut waiting = KeyQueue::new(alloc, remaining.nodes())?;
     job.set_all(nodes.as_slice(), priorities.as_slice(), &mut waiting);

@@ -25,4 +25,6 @@ pub struct Line {
     pub saved: Option<String>,
     pub options: Options,
     pub plan: Plan,
+    /// Whether it is to be told how far the run is. It changes nothing of what is written to the output.
+    pub progress: bool,
 }

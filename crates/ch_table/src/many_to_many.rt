@@ -10,7 +10,7 @@ ghost use Rattle.ch_work.specs.declared.limits.TheConstants.{MOST_CELLS};
 use crate::cells::Table;
 use crate::sums::Sums;
 use ch_hierarchy::Hierarchy;
-use ch_work::{Gate, Plan, run_cells};
+use ch_work::{Gate, Plan, Stage, run_cells};
 use std::alloc::{AllocError, Global};
 use std::thread::Threads;
 
@@ -49,6 +49,7 @@ pub fn table<R: Threads + Sync, G: Gate>(
     let nodes = hierarchy.nodes();
     // The getter tells the proof that a piece has an item.
     let _ = plan.piece();
+    gate.watch(Stage::Answering, 0, plan.pieces(nodes));
     let cells = run_cells(rt, alloc, nodes, rows * columns, plan, gate, &sums)?;
     Ok(Table {
         cells,

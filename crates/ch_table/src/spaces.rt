@@ -10,7 +10,7 @@ use crate::buckets::Buckets;
 use crate::dealing::Dealing;
 use ch_hierarchy::Hierarchy;
 use ch_query::{Scratch, Side, search_space};
-use ch_work::{Gate, ListJob, Plan, run_list};
+use ch_work::{Gate, ListJob, Plan, Stage, run_list};
 use std::alloc::{AllocError, Global};
 use std::marker::Model;
 use std::thread::Threads;
@@ -39,6 +39,7 @@ pub(crate) fn search_spaces<R: Threads + Sync, G: Gate>(
         side,
         within,
     };
+    gate.watch(Stage::Searching, 0, plan.pieces(nodes.len() as u32));
     let spaces = run_list(rt, alloc, nodes, plan, gate, &searches)?;
     // The getter tells the proof that legs lead to nodes.
     let _ = hierarchy.nodes();

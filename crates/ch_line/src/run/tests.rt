@@ -81,6 +81,7 @@ fn line_of(
             within: None,
         },
         plan: Plan::new(1, 64, 64),
+        progress: false,
     })
 }
 

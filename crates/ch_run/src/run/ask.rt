@@ -15,7 +15,7 @@ use super::serving::serve;
 use crate::device::{Input, Output};
 use crate::fault::{RunFault, Which};
 use crate::options::Options;
-use crate::plan::{Gate, Plan};
+use crate::plan::{Gate, Plan, Stage};
 use ch_contract::build_by;
 use std::alloc::Global;
 use std::thread::Threads;
@@ -67,6 +67,7 @@ pub fn run_ask<R: Threads + Sync, I: Input, J: Input, O: Output, G: Gate>(
     ensures requests_once { CountsAtMostOne (J.failed requests.old) (J.failed requests.new) }
     ensures output_once { CountsAtMostOneOf (O.failed output.old) (O.failed output.new) (O.idle output.old) (O.idle output.new) }
 {
+    gate.watch(Stage::Reading, 0, 1);
     let graph = graph_from(alloc, graph)?;
     let order = order_for(options);
     let hierarchy = build_by(rt, alloc, &graph, options.hops, order, plan, gate)?;
@@ -127,6 +128,6 @@ pub fn run_ask_saved<R: Threads + Sync, I: Input, S: Input, J: Input, O: Output,
     ensures saved_unread { (saved.new ≡ saved.old)
         ⊎ (GoesPast Which.Graph result × AcceptsGraph (reading I.left graph.old graph.new)) }
 {
-    let checked = checked_from(alloc, graph, saved)?;
+    let checked = checked_from(alloc, graph, saved, gate)?;
     serve(rt, alloc, &checked, requests, output, options, plan, gate)
 }

@@ -201,7 +201,7 @@ fn queries_text<R: Threads + Sync, G: Gate>(
         return Ok(Vec::new(alloc));
     }
     if options.plain {
-        return plain_text(alloc, &checked.graph, queries);
+        return plain_text(alloc, &checked.graph, queries, gate);
     }
     let routes = options.routes;
     answers_in(

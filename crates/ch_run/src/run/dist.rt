@@ -14,7 +14,7 @@ use super::texts::{answers_by, plain_text};
 use crate::device::{Input, Output};
 use crate::fault::{RunFault, Which};
 use crate::options::{Options, OrderBy};
-use crate::plan::{Gate, Plan};
+use crate::plan::{Gate, Plan, Stage};
 use ch_contract::build_by;
 use ch_graph::Graph;
 use std::alloc::{AllocError, Global};
@@ -71,6 +71,7 @@ pub fn run_dist<R: Threads + Sync, I: Input, J: Input, O: Output, G: Gate>(
     ensures unwritten { (output.new ≡ output.old)
         ⊎ (IfErr result IsWrite × AcceptsQueries (reading I.left graph.old graph.new) (reading J.left queries.old queries.new)) }
 {
+    gate.watch(Stage::Reading, 0, 1);
     let graph = graph_from(alloc, graph)?;
     let queries = queries_from(alloc, queries, &graph)?;
     let text = text_of(rt, alloc, graph, &queries, options, plan, gate)?;
@@ -94,7 +95,7 @@ fn text_of<R: Threads + Sync, G: Gate>(
     ensures { IfOk result (λ text. IsText options.now graph queries.now text.items) }
 {
     if options.plain {
-        return plain_text(alloc, &graph, queries);
+        return plain_text(alloc, &graph, queries, gate);
     }
     let routes = options.routes;
     let hierarchy = build_by(

@@ -88,7 +88,7 @@ pub fn run_dist_saved<R: Threads + Sync, I: Input, S: Input, J: Input, O: Output
         ⊎ (IfErr result IsWrite
         × AcceptsQueriesFrom (reading I.left graph.old graph.new) (reading S.left saved.old saved.new) (reading J.left queries.old queries.new)) }
 {
-    let checked = checked_from(alloc, graph, saved)?;
+    let checked = checked_from(alloc, graph, saved, gate)?;
     let queries = queries_from(alloc, queries, &checked.graph)?;
     let text = text_by(rt, alloc, &checked, &queries, options, plan, gate)?;
     write_text(output, &text)
@@ -111,7 +111,7 @@ fn text_by<R: Threads + Sync, G: Gate>(
     ensures { IfOk result (λ text. IsTextBy (writes_routes options.now) checked.now.graph (λ H. H ≡ checked.now.hierarchy) queries.now text.items) }
 {
     if options.plain {
-        return plain_text(alloc, &checked.graph, queries);
+        return plain_text(alloc, &checked.graph, queries, gate);
     }
     let routes = options.routes;
     answers_by(rt, alloc, &checked.hierarchy, queries, routes, plan, gate)

@@ -11,7 +11,7 @@ use super::output::write_text;
 use crate::device::{Input, Output};
 use crate::fault::{RunFault, Which};
 use crate::options::Options;
-use crate::plan::{Gate, Plan};
+use crate::plan::{Gate, Plan, Stage};
 use crate::save_text::save_text;
 use ch_contract::build_by;
 use std::alloc::Global;
@@ -60,6 +60,7 @@ pub fn run_save<R: Threads + Sync, I: Input, O: Output, G: Gate>(
     ensures unwritten { (output.new ≡ output.old)
         ⊎ (IfErr result IsWrite × AcceptsGraph (reading I.left graph.old graph.new)) }
 {
+    gate.watch(Stage::Reading, 0, 1);
     let graph = graph_from(alloc, graph)?;
     let hierarchy = build_by(rt, alloc, &graph, options.hops, options.order, plan, gate)?;
     drop(graph);

@@ -14,7 +14,7 @@ use super::texts::table_by;
 use crate::device::{Input, Output};
 use crate::fault::{RunFault, Which};
 use crate::options::Options;
-use crate::plan::{Gate, Plan};
+use crate::plan::{Gate, Plan, Stage};
 use ch_contract::{OrderBy, build_by};
 use ch_graph::Graph;
 use std::alloc::{AllocError, Global};
@@ -86,6 +86,7 @@ pub fn run_table<R: Threads + Sync, I: Input, J: Input, L: Input, O: Output, G: 
         ⊎ (IfErr result IsWrite
         × AcceptsLists (reading I.left graph.old graph.new) (reading J.left sources.old sources.new) (reading L.left targets.old targets.new)) }
 {
+    gate.watch(Stage::Reading, 0, 1);
     let graph = graph_from(alloc, graph)?;
     let lists = lists_from(alloc, sources, targets, &graph)?;
     let text = table_of(rt, alloc, graph, &lists, options, plan, gate)?;

@@ -101,7 +101,7 @@ pub fn run_table_saved<
         ⊎ (IfErr result IsWrite
         × AcceptsListsFrom (reading I.left graph.old graph.new) (reading S.left saved.old saved.new) (reading J.left sources.old sources.new) (reading L.left targets.old targets.new)) }
 {
-    let checked = checked_from(alloc, graph, saved)?;
+    let checked = checked_from(alloc, graph, saved, gate)?;
     let lists = lists_from(alloc, sources, targets, &checked.graph)?;
     let text = table_by(
         rt,

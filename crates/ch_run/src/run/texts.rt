@@ -11,7 +11,7 @@ ghost use Rattle.ch_run.specs.Text.{AnswersShortly, IsDistanceText, IsTextBy};
 ghost use Rattle.ch_run.specs.TableText.{IsTableText};
 ghost use Rattle.ch_run.specs.Lists.{AreLists};
 
-use crate::plan::{Gate, Plan};
+use crate::plan::{Gate, Plan, Stage};
 use crate::text::{answers_text, table_text};
 use ch_contract::Hierarchy;
 use ch_graph::{Graph, plain_distance};
@@ -88,29 +88,34 @@ fn replies_in<R: Threads + Sync, G: Gate>(
 }
 
 /// The text that answers the queries by rounds over all arcs, without a hierarchy and without routes.
-pub(crate) fn plain_text(
+pub(crate) fn plain_text<G: Gate>(
     alloc: Global,
     graph: &Graph,
     queries: &[(u32, u32)],
+    gate: &G,
 ) -> Result<Vec<u8>, AllocError>
-    requires { AreQueries graph.now.nodes queries.now }
+    requires queries { AreQueries graph.now.nodes queries.now }
+    requires count { length queries.now ≤ MOST_QUERIES }
     ensures { IfOk result (λ text. IsDistanceText graph.now queries.now text.items) }
 {
-    let answers = plain_answers(alloc, graph, queries)?;
+    let answers = plain_answers(alloc, graph, queries, gate)?;
     answers_text(alloc, &answers)
 }
 
 /// The answers to the queries in order, each by its plain distance.
-fn plain_answers(
+fn plain_answers<G: Gate>(
     alloc: Global,
     graph: &Graph,
     queries: &[(u32, u32)],
+    gate: &G,
 ) -> Result<Vec<Answer>, AllocError>
-    requires { AreQueries graph.now.nodes queries.now }
+    requires queries { AreQueries graph.now.nodes queries.now }
+    requires count { length queries.now ≤ MOST_QUERIES }
     ensures { IfOk result (λ answers. AllZip (AnswersShortly graph.now) queries.now answers.items) }
 {
     let mut answers = Vec::with_capacity(alloc, queries.len())?;
-    for (from, to) in queries {
+    for (place, (from, to)) in queries.iter().enumerate() {
+        gate.watch(Stage::Answering, place as u32, queries.len() as u32);
         let weight = plain_distance(alloc, graph, *from, *to)?;
         answers.push(Answer {
             from: *from,

@@ -30,6 +30,6 @@ returns g c =
     let n = c.args.remaining.now.nodes in
     let P = IsPriorityIn c.args.by c.args.remaining.now c.args.hops c.args.depths.now in
     let numbers = c.as_slice-2.ensures.value ∙ (c.in_ok-nodes.ensures ∙ ap (range_with_len 0) c.nodes.ensures.nodes) in
-    let size : length c.in_ok-waiting.waiting ≡ n = ap length c.in_ok-waiting.ensures ∙ length-replicate _ None ∙ c.nodes-2.ensures.nodes in
+    let size : length c.in_ok-waiting.waiting ≡ n = ap length c.in_ok-waiting.ensures ∙ length-replicate _ None ∙ c.nodes-3.ensures.nodes in
     all_refreshed P n c.in_ok-waiting.waiting c.set_all.new.waiting size
     (subst (λ (l : List ℕ). AreRefreshed P l c.in_ok-waiting.waiting c.set_all.new.waiting) numbers c.set_all.ensures)

@@ -3,5 +3,5 @@ use Rattle.std.specs.List.{AllZip}
 use Rattle.ch_run.specs.Text.{AnswersShortly}
 use Rattle.ch_run.proofs.run.texts.plain_answers.Given as goal
 
-abbrev pub invariant-loop-from : goal.invariant-loop-from
-invariant-loop-from l = AllZip (AnswersShortly l.graph) (take l.from-index l.queries) l.answers.items
+abbrev pub invariant-loop-place : goal.invariant-loop-place
+invariant-loop-place g l = AllZip (AnswersShortly l.graph) (take l.place l.queries) l.answers.items
