@@ -358,6 +358,35 @@ expect_left "a hierarchy to a reader that goes away" "$("$root/chtab" save "$lg"
 { echo 'p aux sp p2p 50000'; cat long.txt; } >long.p2p
 expect_left "distances to a reader that goes away" "d 1 3 9" dist "$g" long.p2p
 
+# expect_progress NAME LINE WORD..: with --progress the program writes what it writes without, and each line of the errors has this form.
+expect_progress() {
+  local name=$1 line=$2
+  shift 2
+  "$root/chtab" "$@" >plain.txt 2>err.txt <requests.txt
+  compare "$name, no progress" "" "$(cat err.txt)"
+  "$root/chtab" "$@" --progress >out.txt 2>err.txt <requests.txt
+  compare "$name with progress, status" 0 "$?"
+  compare "$name with progress, standard output" "$(cksum <plain.txt)" "$(cksum <out.txt)"
+  compare "$name with progress, first line" "$line" "$(sed -n 1p err.txt)"
+  compare "$name with progress, other lines" "" "$(grep -vE '^chtab: [a-z ]+, [0-9,]+ of [0-9,]+ [a-z]+(, about [0-9]+ [a-z]+ left)?$' err.txt)"
+  "$root/chtab" "$@" --progress >out.txt 2>/dev/full <requests.txt
+  compare "$name with progress that is refused, status" 0 "$?"
+  compare "$name with progress that is refused, standard output" "$(cksum <plain.txt)" "$(cksum <out.txt)"
+  "$root/chtab" "$@" --progress >out.txt 2>&- <requests.txt
+  compare "$name with closed errors, status" 0 "$?"
+  compare "$name with closed errors, standard output" "$(cksum <plain.txt)" "$(cksum <out.txt)"
+}
+
+reads="chtab: reading, 0 of 1 files"
+expect_progress "dist" "$reads" dist --workers 2 "$lg" fifty.p2p
+expect_progress "dist, plain" "$reads" dist --plain "$g" "$q"
+expect_progress "table" "$reads" table "$lg" from.ss to.ss
+expect_progress "save" "$reads" save "$lg"
+expect_progress "ask" "$reads" ask "$g"
+expect_progress "dist, saved" "chtab: reading, 0 of 2 files" dist --saved "$ch" "$g" "$q"
+expect "a fault after progress" 1 "" "$reads
+chtab: graph line 1: bad problem line" save --progress bad.txt
+
 expect_words "help" 0 out "chtab dist" --help
 expect_words "help of dist" 0 out "GRAPH" dist --help
 expect_words "an unknown option" 2 err "--fast" dist --fast "$g" "$q"

@@ -63,20 +63,28 @@ within_rule = limit_rule (codes "within") MOST_WITHIN
 abbrev pub saved_rule : Rule
 saved_rule = option_rule (codes "saved")
 
--- the options of a tool beside its numbers
+-- `[--progress]`
+abbrev pub progress_rule : Rule
+progress_rule = flag_rule (codes "progress")
+
+-- the options of a tool beside those that each tool reads
 abbrev pub own_rules : Tool → List Rule
 own_rules Dist = flag_rule (codes "plain") ∷ routes_rule ∷ deep_rule ∷ saved_rule ∷ []
 own_rules Table = within_rule ∷ saved_rule ∷ []
 own_rules Save = deep_rule ∷ []
 own_rules Ask = routes_rule ∷ deep_rule ∷ within_rule ∷ saved_rule ∷ []
 
--- `[--workers N] [--piece K] [--hops H]`, which each tool reads
+-- `[--workers N] [--piece K] [--hops H]`
 abbrev pub number_rules : List Rule
 number_rules = number_rule (codes "workers") MOST_WORKERS (codes "1") ∷ number_rule (codes "piece") MOST_PIECE (codes "64") ∷ number_rule (codes "hops") MOST_HOPS (codes "5") ∷ []
 
--- the words after a tool's name: its own options, its numbers and its files
+-- the numbers and `[--progress]`, which each tool reads
+abbrev pub shared_rules : List Rule
+shared_rules = number_rules ++ progress_rule ∷ []
+
+-- the words after a tool's name: its own options, those that each tool reads, and its files
 abbrev pub form_of : Tool → App
-form_of tool = fold with_rule (new_app (name_of tool)) (own_rules tool ++ number_rules ++ map file_rule (file_names tool))
+form_of tool = fold with_rule (new_app (name_of tool)) (own_rules tool ++ shared_rules ++ map file_rule (file_names tool))
 
 -- the program's own words, before its tools are added
 abbrev pub program_form : App
@@ -139,6 +147,7 @@ pub record IsGivenBy (given : List Row) (line : Line) : Type 0 where
   pub hops : Some line.options.hops ≡ number_in given (codes "hops")
   pub limit : line.options.within ≡ number_in given (codes "within")
   pub plan : IsPlanIn given line.plan
+  pub progress : IsFlagIn given (codes "progress") line.progress
   pub saved : option_map string_bytes line.saved ≡ first_of (codes "saved") given
   pub named : map (λ file. Some (string_bytes file)) line.files.items ≡ files_in given (file_names line.tool)
 

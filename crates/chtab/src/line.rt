@@ -99,10 +99,10 @@ fn tool_of(name: &str) -> Option<Tool>
 }
 
 /// Reads the words after the program's name:
-/// `dist [--plain] [--routes] [--deep] [--saved FILE] [--workers N] [--piece K] [--hops H] GRAPH QUERIES`,
-/// `table [--within R] [--saved FILE] [--workers N] [--piece K] [--hops H] GRAPH SOURCES TARGETS`,
-/// `save [--deep] [--workers N] [--piece K] [--hops H] GRAPH` or
-/// `ask [--routes] [--deep] [--within R] [--saved FILE] [--workers N] [--piece K] [--hops H] GRAPH`.
+/// `dist [--plain] [--routes] [--deep] [--saved FILE] [--workers N] [--piece K] [--hops H] [--progress] GRAPH QUERIES`,
+/// `table [--within R] [--saved FILE] [--workers N] [--piece K] [--hops H] [--progress] GRAPH SOURCES TARGETS`,
+/// `save [--deep] [--workers N] [--piece K] [--hops H] [--progress] GRAPH` or
+/// `ask [--routes] [--deep] [--within R] [--saved FILE] [--workers N] [--piece K] [--hops H] [--progress] GRAPH`.
 ///
 /// # Errors
 /// `Help` where the words ask for it; `Refused` where they aren't of this form; `NoMemory`.

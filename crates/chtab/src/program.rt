@@ -9,8 +9,9 @@ ghost use Rattle.chtab.specs.Program.{AnswersFault, IsAnswer, IsEnd, IsFaultEnd,
 ghost use Rattle.chtab.specs.declared.program.ProgramFault.{ProgramFault as FaultOf};
 
 use crate::line::{Line, LineFault, line_status, read_words};
+use crate::watcher::Watch;
 use ch_line::{Files, run_line};
-use ch_run::{Gate, Input, Output, RunFault, status, write_all};
+use ch_run::{Input, Output, RunFault, status, write_all};
 use std::alloc::{AllocError, Global};
 use std::thread::Threads;
 
@@ -32,8 +33,8 @@ pub enum ProgramFault {
 /// [`CLOSED_PIPE`].
 ///
 /// The text of an answer or of help goes to `output`, and the line of a fault to `errors`: none where the reader of the output has
-/// gone away. The requests are read where the words ask that they be answered.
-pub fn run<R: Threads + Sync, F: Files, J: Input, O: Output, E: Output, G: Gate>(
+/// gone away. The requests are read where the words ask that they be answered. The gate is told whether they ask for progress.
+pub fn run<R: Threads + Sync, F: Files, J: Input, O: Output, E: Output, G: Watch>(
     rt: &R,
     alloc: Global,
     files: &F,
@@ -71,7 +72,7 @@ fn room_of(alloc: Global) -> String
 }
 
 /// Does what the words say, or answers why there are none.
-fn answer_to<R: Threads + Sync, F: Files, J: Input, O: Output, G: Gate>(
+fn answer_to<R: Threads + Sync, F: Files, J: Input, O: Output, G: Watch>(
     rt: &R,
     alloc: Global,
     files: &F,
@@ -95,7 +96,7 @@ fn answer_to<R: Threads + Sync, F: Files, J: Input, O: Output, G: Gate>(
 }
 
 /// Does what the words say.
-fn answer_words<R: Threads + Sync, F: Files, J: Input, O: Output, G: Gate>(
+fn answer_words<R: Threads + Sync, F: Files, J: Input, O: Output, G: Watch>(
     rt: &R,
     alloc: Global,
     files: &F,
@@ -111,7 +112,10 @@ fn answer_words<R: Threads + Sync, F: Files, J: Input, O: Output, G: Gate>(
         (map string_bytes words.now) requests.old requests.new output.old output.new result }
 {
     match line_of(alloc, words) {
-        Ok(line) => program_answer(run_line(rt, alloc, files, requests, output, &line, gate)),
+        Ok(line) => {
+            gate.begin(line.progress);
+            program_answer(run_line(rt, alloc, files, requests, output, &line, gate))
+        }
         Err(fault) => answer_fault(output, fault),
     }
 }

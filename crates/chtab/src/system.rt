@@ -4,11 +4,13 @@ ghost use Rattle.ch_line.specs.Files.{FileState};
 
 use crate::line::{LineFault, refused};
 use crate::program;
+use crate::watcher::{Lines, Timer, Watcher};
 use ch_line::{Files, OpenFault};
-use ch_run::{Open, ReaderInput, WriterOutput};
-use std::io::{ErrorKind, Read, Write};
+use ch_run::{ReaderInput, WriterOutput};
+use std::io::{ErrorKind, IsTerminal, Read, Stderr, Write};
 use std::rt::Env;
 use std::thread::Threads;
+use std::time::Clock;
 use std::{env, fs, rt};
 
 /// The system's files, of which nothing is told.
@@ -31,6 +33,20 @@ impl<'a, R: rt::Files> Files for SystemFiles<'a, R> {
     }
 }
 
+impl Timer for HostRuntime {
+    fn milliseconds(&self) -> Option<u64> {
+        let time = self.monotonic().ok()?;
+        u64::try_from(time.as_millis()).ok()
+    }
+}
+
+impl Lines for Stderr {
+    fn take(&self, line: &str) {
+        let mut errors = *self;
+        let _ = errors.write_all(line.as_bytes());
+    }
+}
+
 /// The words after the program's name.
 fn words_of<R: Env + AllocGlobal>(rt: &R) -> Result<Vec<String>, LineFault> {
     match env::args(rt) {
@@ -40,14 +56,16 @@ fn words_of<R: Env + AllocGlobal>(rt: &R) -> Result<Vec<String>, LineFault> {
     }
 }
 
-/// Runs the program over the system's words and files and these three streams, and gives its exit status.
+/// Runs the program over the system's words and files and these three streams, and gives its exit status. The errors are also
+/// told how far a long run is, where they are a terminal.
 pub fn run<R, J, O, E>(rt: &R, requests: J, output: O, errors: E) -> u8
 where
-    R: Env + rt::Files + Threads + Sync + AllocGlobal,
+    R: Env + rt::Files + Threads + Timer + AllocGlobal,
     J: Read + Drop,
     O: Write + Drop,
-    E: Write + Drop,
+    E: Write + IsTerminal + Lines + Copy + Drop,
 {
+    let watcher = Watcher::new(rt, &errors, rt.alloc(), errors.is_terminal());
     program::run(
         rt,
         rt.alloc(),
@@ -56,6 +74,6 @@ where
         &mut WriterOutput::new(output),
         &mut WriterOutput::new(errors),
         words_of(rt),
-        &Open,
+        &watcher,
     )
 }

@@ -4,7 +4,7 @@ ghost use Rattle.std.specs.Prelude.{◌≡◌, IfOk, codes, false, fold};
 ghost use Rattle.clap.specs.Words.{app_of, rule_of, with_rule};
 ghost use Rattle.clap.specs.declared.builder.command.Command.TheViews.{out-Command as fields_of};
 ghost use Rattle.ch_line.specs.declared.line.Tool.TheVariants.{Ask, Dist, Save, Table};
-ghost use Rattle.chtab.specs.Line.{chtab_form, deep_rule, file_rule, flag_rule, form_of, limit_rule, number_rule, number_rules, option_rule, routes_rule, saved_rule, within_rule};
+ghost use Rattle.chtab.specs.Line.{chtab_form, deep_rule, file_rule, flag_rule, form_of, limit_rule, number_rule, number_rules, option_rule, progress_rule, routes_rule, saved_rule, shared_rules, within_rule};
 
 use ch_run::{MOST_HOPS, MOST_WITHIN};
 use ch_work::limits::{MOST_PIECE, MOST_WORKERS};
@@ -79,6 +79,27 @@ fn with_numbers<'a>(alloc: Global, command: Command<'a>) -> Result<Command<'a>, 
         "The most legs of a witness path when the hierarchy is built, from 1 to 16",
     );
     command.arg(workers)?.arg(piece)?.arg(hops)
+}
+
+/// Whether it is told how far a run is.
+fn progress<'a>(alloc: Global) -> Arg<'a>
+    ensures rule { rule_of result ≡ progress_rule }
+    ensures local { result.global ≡ false }
+{
+    flag(
+        alloc,
+        "progress",
+        "On standard error, tell how far the run is while it goes on, as is done on a terminal where it takes \
+        long: the answer is the same [default: off]",
+    )
+}
+
+/// Adds the options that each tool reads.
+fn with_shared<'a>(alloc: Global, command: Command<'a>) -> Result<Command<'a>, AllocError>
+    ensures form { IfOk result (λ c. app_of c ≡ fold with_rule (app_of command.entry) shared_rules) }
+    ensures local { (fields_of command.entry).has_globals ≡ false → IfOk result (λ c. (fields_of c).has_globals ≡ false) }
+{
+    with_numbers(alloc, command)?.arg(progress(alloc))
 }
 
 /// Whether routes are written.
@@ -162,7 +183,7 @@ fn dist_command<'a>(alloc: Global) -> Result<Command<'a>, AllocError>
         .arg(routes(alloc))?
         .arg(route_order(alloc))?
         .arg(saved(alloc))?;
-    with_numbers(alloc, command)?.arg(graph(alloc))?.arg(file(
+    with_shared(alloc, command)?.arg(graph(alloc))?.arg(file(
         alloc,
         "QUERIES",
         "A .p2p file: `p aux sp p2p K`, then K lines `q S T`",
@@ -186,7 +207,7 @@ fn table_command<'a>(alloc: Global) -> Result<Command<'a>, AllocError>
         )
         .arg(within(alloc))?
         .arg(saved(alloc))?;
-    with_numbers(alloc, command)?
+    with_shared(alloc, command)?
         .arg(graph(alloc))?
         .arg(file(
             alloc,
@@ -211,7 +232,7 @@ fn save_command<'a>(alloc: Global) -> Result<Command<'a>, AllocError>
         .about("Writes the hierarchy of the graph, which `dist` and `table` read by --saved")
         .after_help("Example: chtab save --deep roads.gr >roads.ch")
         .arg(deep)?;
-    with_numbers(alloc, command)?.arg(graph(alloc))
+    with_shared(alloc, command)?.arg(graph(alloc))
 }
 
 /// What clap reads after `ask`.
@@ -229,7 +250,7 @@ fn ask_command<'a>(alloc: Global) -> Result<Command<'a>, AllocError>
         .arg(route_order(alloc))?
         .arg(within(alloc))?
         .arg(saved(alloc))?;
-    with_numbers(alloc, command)?.arg(graph(alloc))
+    with_shared(alloc, command)?.arg(graph(alloc))
 }
 
 /// What clap reads: the words after the program's name.

@@ -147,5 +147,6 @@ pub fn line_of(alloc: Global, tool: Tool, matches: &ArgMatches<'_>) -> Result<Li
         saved: file_given(alloc, matches, "saved")?,
         options: options_of(tool, matches)?,
         plan: plan_of(matches)?,
+        progress: flag_of(matches, "progress"),
     })
 }

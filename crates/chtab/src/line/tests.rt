@@ -72,6 +72,7 @@ const EVERY_OPTION: &[&str] = &[
     "1",
     "--hops",
     "16",
+    "--progress",
     "g",
     "q",
 ];
@@ -93,6 +94,7 @@ fn expect_every_option<R: Abort>(rt: &R, line: &Line)
     assert_eq!(rt; line.options, options);
     assert_eq!(rt; line.plan, Plan::new(64, 1, 64));
     assert!(rt; is_saved(line, "h"));
+    assert!(rt; line.progress);
 }
 
 #[test]
@@ -162,6 +164,24 @@ fn table_reads_a_limit(rt: HostRuntime) {
         };
         assert_eq!(rt; line.options, options);
         assert_eq!(rt; line.plan, usual_plan());
+    }
+}
+
+#[test]
+fn each_tool_reads_whether_progress_is_told(rt: HostRuntime) {
+    let rows: [&[&str]; 4] = [
+        &["dist", "g", "q", "--progress"],
+        &["table", "--progress", "g", "s", "t"],
+        &["save", "--progress", "g"],
+        &["ask", "g", "--progress"],
+    ];
+    for words in rows {
+        let line = read_words(rt.alloc(), words).expect(&rt, "a line");
+        assert!(rt; line.progress);
+    }
+    for words in [["save", "g"], ["ask", "g"]] {
+        let line = read_words(rt.alloc(), words.as_slice()).expect(&rt, "a line");
+        assert!(rt; !line.progress);
     }
 }
 
