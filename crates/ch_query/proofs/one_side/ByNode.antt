@@ -27,15 +27,15 @@ by_node-set H k list default x v size lt =
     let before = by_node-size H list default in
     let within = rank_below H k v lt in
     ext_get_or default (by_node H (set list (rank_of H v) x) default) (set (by_node H list default) v x) (omega arith) (λ w low.
-        let lt' : w < nodes_of H = omega arith in
-        by_node-at H (set list (rank_of H v) x) default default w lt' ∙ elim (cases_eq w v) [
-          | inl is ↦
-              ap (λ r. get_or (set list (rank_of H v) x) (rank_of H r) default) is ∙ get_or-set_same list (rank_of H v) x default (omega arith)
-              ∙ sym (ap (λ r. get_or (set (by_node H list default) v x) r default) is ∙ get_or-set_same (by_node H list default) v x default (omega arith))
-          | inr away ↦
-              get_or-set_other list (rank_of H v) (rank_of H w) x default (λ same. away (rank_one H k w v lt' lt same))
-              ∙ sym (get_or-set_other (by_node H list default) v w x default away ∙ by_node-at H list default default w lt')
-        ])
+    let lt' : w < nodes_of H = omega arith in
+    by_node-at H (set list (rank_of H v) x) default default w lt' ∙ elim (cases_eq w v) [
+      | inl is ↦
+          ap (λ r. get_or (set list (rank_of H v) x) (rank_of H r) default) is ∙ get_or-set_same list (rank_of H v) x default (omega arith)
+          ∙ sym (ap (λ r. get_or (set (by_node H list default) v x) r default) is ∙ get_or-set_same (by_node H list default) v x default (omega arith))
+      | inr away ↦
+          get_or-set_other list (rank_of H v) (rank_of H w) x default (λ same. away (rank_one H k w v lt' lt same))
+          ∙ sym (get_or-set_other (by_node H list default) v w x default away ∙ by_node-at H list default default w lt')
+    ])
 
 -- a cost that a node has stands at its rank
 pub by_node-some : (H : LevelsAndLegs) (list : List (Option Cost)) (v : ℕ) (c : Cost) → cost_at (by_node H list None) v ≡ Some c → (v < nodes_of H) × (cost_at list (rank_of H v) ≡ Some c)

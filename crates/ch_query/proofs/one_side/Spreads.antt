@@ -116,7 +116,7 @@ module _ (H : LevelsAndLegs) (k : IsLevelled H) (x : Search) (t : IsTouched x.la
   apart i j d lt low same =
       let size = length-map nodes (rank_of H) in
       let rank : (n : ℕ) → n < length nodes → get_or x.touched.items n (rank_of H d) ≡ rank_of H (get_or nodes n d) =
-          λ n less. ap (λ q. get_or q n (rank_of H d)) (sym ranks) ∙ get_or-map (rank_of H) nodes n d (rank_of H d) less in
+      λ n less. ap (λ q. get_or q n (rank_of H d)) (sym ranks) ∙ get_or-map (rank_of H) nodes n d (rank_of H d) less in
       let long = ap length ranks in
       t.distinct i j (rank_of H d) lt (omega arith) (rank i (omega arith) ∙ ap (rank_of H) same ∙ sym (rank j low))
 

@@ -35,6 +35,8 @@ loop-node-preserved c =
 
 pub returns : goal.returns
 returns c =
-    let best = costs_of c.args.hierarchy.now c.args.self.now in
-    (c.in_ok-nodes.nodes.items, c.in_ok-nodes.ensures,
-    c.loop-node.invariant.0 ∙ ap (map (entry best)) (take_all _ _ c.loop-node-test.false ∙ c.deref-node-items.ensures.value))
+    let best = costs_of c.args.hierarchy.now c.args.self.now in (
+      c.in_ok-nodes.nodes.items,
+      c.in_ok-nodes.ensures,
+      c.loop-node.invariant.0 ∙ ap (map (entry best)) (take_all _ _ c.loop-node-test.false ∙ c.deref-node-items.ensures.value),
+    )
