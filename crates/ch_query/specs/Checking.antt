@@ -1,16 +1,19 @@
 -- A saved hierarchy beside a graph.
-use Rattle.std.specs.Prelude.{◌≡◌, ◌≢◌, ℕ, ◌≤◌, ◌<◌, ◌⊎◌, ◌↔◌, List, [], length, slice_index_or, AllPairs, Contains, Option, Some, None, MatchOption, Result, Err, IsOk}
+use Rattle.std.specs.Prelude.{◌≡◌, ◌≢◌, ℕ, ◌≤◌, ◌<◌, ◌⊎◌, ◌↔◌, List, [], length, slice_index_or, All, AllPairs, Contains, Option, Some, None, MatchOption, Result, Err, IsOk}
 use Rattle.ch_graph.specs.declared.arc.InArc.{InArc}
 use Rattle.ch_graph.specs.declared.cost.Cost.{Cost}
 use Rattle.ch_graph.specs.declared.saved.SavedLeg.{SavedLeg}
 use Rattle.ch_graph.specs.Graph.{Network}
+use Rattle.ch_graph.specs.Saved.{OrderAndLegs}
 use Rattle.ch_graph.specs.Cost.{IsAtMost, cost_sum}
 use Rattle.ch_hierarchy.specs.declared.leg.Leg.{Leg}
 use Rattle.ch_hierarchy.specs.declared.fault.CheckError.{CheckError}
-use Rattle.ch_hierarchy.specs.declared.fault.CheckError.TheVariants.{NoMemory}
+use Rattle.ch_hierarchy.specs.declared.fault.CheckError.TheVariants.{Fault, NoMemory}
+use Rattle.ch_hierarchy.specs.declared.fault.CheckFault.{CheckFault}
 use Rattle.ch_hierarchy.specs.Rows.{row}
 use Rattle.ch_hierarchy.specs.Hierarchy.{LevelsAndLegs}
 use Rattle.ch_hierarchy.specs.Kept.{IsLeg, HasLegWithin}
+use Rattle.ch_hierarchy.specs.Saved.{NamesFor}
 
 -- the result is Ok exactly where P holds, memory aside
 abbrev pub IsOkWhere : {A : Type 0} → Result A CheckError → Type 0 → Type 0
@@ -60,3 +63,14 @@ HasLeg H u w most = (c : Cost) × (m : Option ℕ) × IsLeg H u w c m × IsAtMos
 -- where it is no loop, the arc has a leg that costs no more
 abbrev pub IsServed : LevelsAndLegs → InArc → Type 0
 IsServed H a = a.from ≢ a.to → HasLegWithin H a
+
+-- the saved one names this hierarchy, where each leg is an arc or two legs, and each arc has a leg
+pub record NamesFounded (g : Network) (s : OrderAndLegs) (H : LevelsAndLegs) : Type 0 where
+  pub names : NamesFor g s H
+  pub bases : All (IsArcIfBase g) s.legs
+  pub sums : All (IsSumIfShortcut H) s.legs
+  pub served : All (IsServed H) g.arcs
+
+-- a fault that is told is such a one
+abbrev pub IsIfFault : (CheckFault → Type 0) → CheckError → Type 0
+IsIfFault P e = (f : CheckFault) → e ≡ Fault f → P f

@@ -1,12 +1,14 @@
 //! Whether a saved hierarchy, of any origin, is right for a graph.
-ghost use Rattle.std.specs.Prelude.{All, IfOk, MatchOption};
+ghost use Rattle.std.specs.Prelude.{◌≡◌, ◌<◌, ℕ, All, IfErr, IfOk, MatchOption};
 ghost use Rattle.ch_hierarchy.specs.declared.fault.CheckFault.{CheckFault as AnyFault};
 ghost use Rattle.ch_hierarchy.specs.declared.fault.CheckFault.TheVariants as CheckFault;
 ghost use Rattle.ch_hierarchy.specs.declared.fault.CheckError.TheVariants as CheckError;
-ghost use Rattle.ch_hierarchy.specs.Kept.{IsKept};
+ghost use Rattle.ch_hierarchy.specs.Hierarchy.{nodes_of};
+ghost use Rattle.ch_hierarchy.specs.Kept.{IsCovered};
 ghost use Rattle.ch_hierarchy.specs.Saved.{IsFaultless, IsFirstFault, NamesFor, NamesKept, AnswersWhere};
 ghost use Rattle.ch_hierarchy.specs.Assembling.{IsFirstFailing};
-ghost use Rattle.ch_query.specs.Checking.{IsArcIfBase, IsOkWhere};
+ghost use Rattle.ch_query.specs.Checking.{IsArcIfBase, IsIfFault, IsOkWhere, NamesFounded};
+ghost use Rattle.ch_query.specs.Covering.{IsFirstUncovered};
 
 use crate::founding::{first_false_shortcut, first_unserved, first_without_arc};
 use crate::lower::first_uncovered;
@@ -14,7 +16,7 @@ use crate::scratch::Scratch;
 use ch_graph::{Graph, Saved};
 use ch_hierarchy::{CheckError, CheckFault, Hierarchy, assemble};
 use ch_work::{Gate, Open, Stage};
-use std::alloc::{AllocError, Global};
+use std::alloc::Global;
 
 /// The hierarchy that a saved one names, where it is right for the graph: its distances and routes are
 /// then those of the graph, whoever made it. Its levels and legs are those of the argument.
@@ -32,59 +34,78 @@ pub fn check(alloc: Global, graph: &Graph, saved: &Saved) -> Result<Hierarchy, C
     ensures hierarchy { IfOk result (NamesKept graph.now saved.now) }
     ensures fault { (f : AnyFault) → AnswersWhere result (Err (CheckError.Fault f)) (IsFirstFault graph.now saved.now f) }
 {
-    check_watched(alloc, graph, saved, &Open)
+    let hierarchy = founded(alloc, graph, saved)?;
+    covered(alloc, hierarchy, &Open)
 }
 
-/// As [`check`], and the gate is told how far it is. The gate changes nothing of the answer.
+/// As [`check`], and the gate is told how far it is. The gate changes nothing of the answer. The saved hierarchy
+/// is given back before the searches, so that their room doesn't stand beside it.
 ///
 /// # Errors
-/// The first fault of all seven kinds, or `NoMemory`; what was lent is as before.
+/// The first fault of all seven kinds, or `NoMemory`.
 pub fn check_watched<G: Gate>(
     alloc: Global,
     graph: &Graph,
-    saved: &Saved,
+    saved: Saved,
     gate: &G,
 ) -> Result<Hierarchy, CheckError>
-    ensures accepted { IsOkWhere result (IsFaultless graph.now saved.now) }
-    ensures hierarchy { IfOk result (NamesKept graph.now saved.now) }
-    ensures fault { (f : AnyFault) → AnswersWhere result (Err (CheckError.Fault f)) (IsFirstFault graph.now saved.now f) }
+    ensures accepted { IsOkWhere result (IsFaultless graph.now saved) }
+    ensures hierarchy { IfOk result (NamesKept graph.now saved) }
+    ensures fault { (f : AnyFault) → AnswersWhere result (Err (CheckError.Fault f)) (IsFirstFault graph.now saved f) }
 {
     gate.watch(Stage::Checking, 0, graph.nodes());
+    let hierarchy = founded(alloc, graph, &saved)?;
+    drop(saved);
+    covered(alloc, hierarchy, gate)
+}
+
+/// The hierarchy that a saved one names, where each leg is what it stands for and each arc has its leg: all of
+/// the check but the pairs of legs through lower nodes.
+fn founded(alloc: Global, graph: &Graph, saved: &Saved) -> Result<Hierarchy, CheckError>
+    ensures value { IfOk result (NamesFounded graph.now saved.now) }
+    ensures fault { IfErr result (IsIfFault (IsFirstFault graph.now saved.now)) }
+{
     let baseless = first_without_arc(alloc, graph, saved.legs.as_slice())?;
     let hierarchy = assemble(alloc, graph, saved)?;
-    match first_late_fault(alloc, graph, saved, &hierarchy, baseless, gate)? {
+    match first_unfounded(graph, saved, &hierarchy, baseless) {
         Some(fault) => Err(CheckError::Fault(fault)),
         None => Ok(hierarchy),
     }
 }
 
-/// The first fault of the hierarchy that is named, as it stands beside the graph. The place of the first leg without a
-/// middle that is no arc of the graph is known.
-fn first_late_fault<G: Gate>(
-    alloc: Global,
+/// The first fault of a leg or an arc beside the hierarchy that is named. The place of the first leg without a middle
+/// that is no arc of the graph is known.
+fn first_unfounded(
     graph: &Graph,
     saved: &Saved,
     hierarchy: &Hierarchy,
     baseless: Option<usize>,
-    gate: &G,
-) -> Result<Option<CheckFault>, AllocError>
+) -> Option<CheckFault>
     requires named { NamesFor graph.now saved.now hierarchy.now }
     requires bases { MatchOption baseless (All (IsArcIfBase graph.now) saved.now.legs) (IsFirstFailing (IsArcIfBase graph.now) saved.now.legs) }
-    ensures { IfOk result (λ found. MatchOption found (IsKept graph.now hierarchy.now) (IsFirstFault graph.now saved.now)) }
+    ensures { MatchOption result (NamesFounded graph.now saved.now hierarchy.now) (IsFirstFault graph.now saved.now) }
 {
     if let Some(place) = baseless {
-        return Ok(Some(CheckFault::Base(place)));
+        return Some(CheckFault::Base(place));
     }
     let legs = saved.legs.as_slice();
     if let Some(place) = first_false_shortcut(hierarchy, legs) {
-        return Ok(Some(CheckFault::Middle(place)));
+        return Some(CheckFault::Middle(place));
     }
     if let Some(place) = first_unserved(hierarchy, graph.arcs()) {
-        return Ok(Some(CheckFault::Arc(place)));
+        return Some(CheckFault::Arc(place));
     }
+    None
+}
+
+/// The hierarchy, where all pairs of legs through lower nodes are covered.
+fn covered<G: Gate>(alloc: Global, hierarchy: Hierarchy, gate: &G) -> Result<Hierarchy, CheckError>
+    ensures value { IfOk result (λ H. (H ≡ hierarchy) × ((v : ℕ) → v < nodes_of H → IsCovered H v)) }
+    ensures fault { IfErr result (IsIfFault (λ f. (v : ℕ) × (f ≡ CheckFault.Lower v) × IsFirstUncovered hierarchy v)) }
+{
     let mut scratch = Scratch::new(alloc, hierarchy.nodes())?;
-    match first_uncovered(hierarchy, &mut scratch, gate) {
-        Some(node) => Ok(Some(CheckFault::Lower(node))),
-        None => Ok(None),
+    match first_uncovered(&hierarchy, &mut scratch, gate) {
+        Some(node) => Err(CheckError::Fault(CheckFault::Lower(node))),
+        None => Ok(hierarchy),
     }
 }

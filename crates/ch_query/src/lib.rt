@@ -1,7 +1,7 @@
 //! Exact distances and routes by a contraction hierarchy: Dijkstra's algorithm from both ends at once, along
 //! legs to higher nodes alone (Geisberger, Sanders, Schultes and Delling 2008).
 //!
-//! It stands on ch_graph, ch_contract, ch_queue and ch_work. Proved of it: on every hierarchy that is right
+//! It stands on ch_graph, ch_hierarchy, ch_queue and ch_work. Proved of it: on every hierarchy that is right
 //! for a graph, [`distance`] is the least weight of a walk, or says that there is no walk, and [`route`] is
 //! the walk of least weight and then of fewest arcs that the rules of choice name, which is one ([`laws`]).
 //! A distance takes no memory: its room is a [`Scratch`], which one query leaves clean for the next.

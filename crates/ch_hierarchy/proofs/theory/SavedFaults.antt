@@ -238,11 +238,11 @@ module _ (g : Network) (s : OrderAndLegs) where
   pub checks_no_memory : Checks (Err NoMemory)
   checks_no_memory = answers_no_memory (NamesKept g s) (IsFirstFault g s) one_kept (one_first g s) not_first
 
-  -- a refusal of `assemble` is one of `check`
-  pub checks_refused : (r : Result LevelsAndLegs CheckError) (e : CheckError) → IsErrAnd r (λ x. x ≡ e) → Assembles (Err e) → Checks r
-  checks_refused (Ok x) e is a = absurd is
-  checks_refused (Err x) (Fault f) is a = subst (λ (q : CheckError). Checks (Err q)) (sym is) (checks_fault f ((a.1 f).0 refl).1)
-  checks_refused (Err x) NoMemory is a = subst (λ (q : CheckError). Checks (Err q)) (sym is) checks_no_memory
+  -- an error that was handed on
+  pub checks_refused : (r : Result LevelsAndLegs CheckError) (e : CheckError) → IsErrAnd r (λ x. x ≡ e) → ((f : CheckFault) → e ≡ Fault f → IsFirstFault g s f) → Checks r
+  checks_refused (Ok x) e is h = absurd is
+  checks_refused (Err x) (Fault f) is h = subst (λ (q : CheckError). Checks (Err q)) (sym is) (checks_fault f (h f refl))
+  checks_refused (Err x) NoMemory is h = subst (λ (q : CheckError). Checks (Err q)) (sym is) checks_no_memory
 
 -- the first fault of a kind, in the terms of `assemble`
 module _ (g : Network) (s : OrderAndLegs) (n : ℕ) (order : List ℕ) (legs : List SavedLeg) (a : n ≡ g.nodes) (b : order ≡ s.order) (c : legs ≡ s.legs) where

@@ -1,6 +1,6 @@
 -- What `check` answers.
 use Rattle.std.proofs.Common.{get_or, ◌≡◌, ℕ, ◌<◌, All, Contains, Option, Some, None, refl, sym, subst, inl, inr}
-use Rattle.std.specs.Prelude.{slice_get, Result, Ok, Err}
+use Rattle.std.specs.Prelude.{slice_get, Result, Ok, Err, IfOk, IfErr}
 use Rattle.std.proofs.lemmas.Bool.{false≢true}
 use Rattle.std.proofs.lemmas.Option.{slice_get_within, slice_get-get_or}
 use Rattle.std.proofs.lemmas.List.Elements.{All-contains}
@@ -15,11 +15,11 @@ use Rattle.ch_hierarchy.specs.declared.fault.CheckError.TheVariants.{Fault, NoMe
 use Rattle.ch_hierarchy.specs.Hierarchy.{LevelsAndLegs, nodes_of}
 use Rattle.ch_hierarchy.specs.Kept.{IsFounded, HasLegWithin, IsCovered, IsKept}
 use Rattle.ch_hierarchy.specs.Assembling.{IsFirstFailing}
-use Rattle.ch_hierarchy.specs.Saved.{NamesFor, HasFault, IsFaultless, IsFirstFault}
+use Rattle.ch_hierarchy.specs.Saved.{NamesFor, HasFault, IsFaultless, IsFirstFault, NamesKept}
 use Rattle.ch_hierarchy.proofs.theory.OneSaved.{one_saved}
-use Rattle.ch_hierarchy.proofs.theory.SavedFaults.{HasNoneBelow, none_more, first_at, none_early, no_fault, Checks}
+use Rattle.ch_hierarchy.proofs.theory.SavedFaults.{HasNoneBelow, none_more, first_at, none_early, no_fault, Checks, checks_value, checks_fault, checks_no_memory}
 use Rattle.ch_query.specs.declared.side.Side.TheVariants.{Down}
-use Rattle.ch_query.specs.Checking.{IsOkWhere, IsArcIfBase, IsSumIfShortcut, IsServed}
+use Rattle.ch_query.specs.Checking.{IsOkWhere, IsArcIfBase, IsIfFault, IsSumIfShortcut, IsServed, NamesFounded}
 use Rattle.ch_query.specs.Covering.{IsFirstUncovered}
 use Rattle.ch_query.proofs.faults.FirstFailing.{held_at}
 use Rattle.ch_query.proofs.routing.Rows.{has_row}
@@ -131,3 +131,19 @@ pub accepted_by : (g : Network) (s : OrderAndLegs) (r : Result LevelsAndLegs Che
 accepted_by g s (Ok H) checks = (λ _. no_fault g s H ((checks.0 H).0 refl), λ _. inl refl)
 accepted_by g s (Err (Fault f)) checks = (λ ok. absurd (false≢true ok), λ none. absurd (none f ((checks.1 f).0 refl).has))
 accepted_by g s (Err NoMemory) checks = (λ ok. absurd (false≢true ok), λ _. inr refl)
+
+-- what it gives is named and right
+pub kept_by : (g : Network) (s : OrderAndLegs) (r : Result LevelsAndLegs CheckError) → Checks g s r → IfOk r (NamesKept g s)
+kept_by g s (Ok H) checks = (checks.0 H).0 refl
+kept_by g s (Err e) checks = tt
+
+-- what answers from a founded hierarchy as the search for pairs does answers as `check` does
+pub checks_founded : (g : Network) (s : OrderAndLegs) (H : LevelsAndLegs) (r : Result LevelsAndLegs CheckError) → NamesFounded g s H →
+    IfOk r (λ K. (K ≡ H) × ((v : ℕ) → v < nodes_of K → IsCovered K v)) → IfErr r (IsIfFault (λ f. (v : ℕ) × (f ≡ Lower v) × IsFirstUncovered H v)) → Checks g s r
+checks_founded g s H (Ok K) founded value fault =
+    let covered = subst (λ q. (v : ℕ) → v < nodes_of q → IsCovered q v) value.0 value.1 in
+    subst (λ q. Checks g s (Ok q)) (sym value.0) (checks_value g s H (founded.names.0, all_kept g s H founded.names founded.bases founded.sums founded.served covered))
+checks_founded g s H (Err (Fault f)) founded value fault =
+    let (v, is, first) = fault f refl in
+    checks_fault g s f (subst (IsFirstFault g s) (sym is) (lower_first g s H founded.names founded.bases founded.sums founded.served v first))
+checks_founded g s H (Err NoMemory) founded value fault = checks_no_memory g s

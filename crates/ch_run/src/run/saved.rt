@@ -58,7 +58,7 @@ pub(crate) fn checked_from<I: Input, S: Input, G: Gate>(
     let _ = graph.arcs();
     gate.watch(Stage::Reading, 1, 2);
     let saved = saved_from(alloc, saved, &graph)?;
-    match check_watched(alloc, &graph, &saved, gate) {
+    match check_watched(alloc, &graph, saved, gate) {
         Ok(hierarchy) => Ok(Checked { graph, hierarchy }),
         Err(CheckError::Fault(fault)) => Err(RunFault::Check(fault)),
         Err(CheckError::NoMemory) => Err(RunFault::Memory),
