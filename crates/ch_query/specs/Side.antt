@@ -1,5 +1,5 @@
 -- The two directions of a search.
-use Rattle.std.specs.Prelude.{List}
+use Rattle.std.specs.Prelude.{ℕ, ◌+◌, ◌*◌, List}
 use Rattle.ch_hierarchy.specs.declared.leg.Leg.{Leg}
 use Rattle.ch_hierarchy.specs.Hierarchy.{LevelsAndLegs}
 use Rattle.ch_query.specs.declared.side.Side.{Side}
@@ -14,3 +14,8 @@ rows_of H Down = H.down
 abbrev pub other : Side → Side
 other Up = Down
 other Down = Up
+
+-- the number of a node of this rank in this direction
+abbrev pub state_of : Side → ℕ → ℕ
+state_of Up rank = 2 * rank
+state_of Down rank = 2 * rank + 1

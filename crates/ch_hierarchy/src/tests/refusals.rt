@@ -90,8 +90,8 @@ fn expect_ranked(
 {
     assert_eq!(rt; hierarchy.rank(node), rank);
     assert_eq!(rt; hierarchy.node_at(rank), node);
-    assert_eq!(rt; hierarchy.ranked_up(rank), up);
-    assert_eq!(rt; hierarchy.ranked_down(rank), down);
+    assert_eq!(rt; hierarchy.ranked_legs(2 * rank), up);
+    assert_eq!(rt; hierarchy.ranked_legs(2 * rank + 1), down);
 }
 
 fn expect_ring(rt: &impl Abort, hierarchy: &Hierarchy) {
