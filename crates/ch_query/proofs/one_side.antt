@@ -8,10 +8,12 @@ pub mod Labelled
 pub mod ByNode
 pub mod Expanding
 pub mod RankedLegs
+pub mod Begun
 pub mod Beginning
 pub mod Popping
 pub mod Stalling
 pub mod End
 pub mod Spreads
 pub mod TightNodes
+pub mod WeighedPaths
 pub mod SearchSpaces

@@ -3,4 +3,5 @@ pub mod MeetingSteps
 pub mod LeastMeeting
 pub mod Distances
 pub mod SharedSums
+pub mod WeighedSearches
 pub mod ConnectedSearches

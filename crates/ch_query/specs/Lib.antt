@@ -6,6 +6,8 @@ pub mod Search
 pub mod Parents
 pub mod Side
 pub mod ByNode
+pub mod Weighed
+pub mod Weights
 pub mod Underway
 pub mod TwoSided
 pub mod Meeting

@@ -5,6 +5,6 @@ use Rattle.ch_query.specs.declared.side.Side.TheVariants.{Up, Down}
 use Rattle.ch_query.specs.Underway.{IsClean}
 
 -- two clean searches for n nodes, one a side
-pub record IsScratch (n : ℕ) (up down : Search) : Type 0 where
+pub record AreSides (n : ℕ) (up down : Search) : Type 0 where
   pub clean : IsClean n up × IsClean n down
   pub sides : (up.side ≡ Up) × (down.side ≡ Down)

@@ -12,7 +12,7 @@ ghost use Rattle.ch_query.specs.Covering.{IsFirstUncovered};
 
 use crate::founding::{first_false_shortcut, first_unserved, first_without_arc};
 use crate::lower::first_uncovered;
-use crate::scratch::Scratch;
+use crate::scratch::Sides;
 use ch_graph::{Graph, Saved};
 use ch_hierarchy::{CheckError, CheckFault, Hierarchy, assemble};
 use ch_work::{Gate, Open, Stage};
@@ -103,8 +103,8 @@ fn covered<G: Gate>(alloc: Global, hierarchy: Hierarchy, gate: &G) -> Result<Hie
     ensures value { IfOk result (λ H. (H ≡ hierarchy) × ((v : ℕ) → v < nodes_of H → IsCovered H v)) }
     ensures fault { IfErr result (IsIfFault (λ f. (v : ℕ) × (f ≡ CheckFault.Lower v) × IsFirstUncovered hierarchy v)) }
 {
-    let mut scratch = Scratch::new(alloc, hierarchy.nodes())?;
-    match first_uncovered(&hierarchy, &mut scratch, gate) {
+    let mut sides = Sides::new(alloc, hierarchy.nodes())?;
+    match first_uncovered(&hierarchy, &mut sides, gate) {
         Some(node) => Err(CheckError::Fault(CheckFault::Lower(node))),
         None => Ok(hierarchy),
     }

@@ -32,6 +32,7 @@ mod side;
 mod spaces;
 mod spreading;
 mod unpacking;
+mod weight_search;
 
 pub use answer::{Answer, answer_all, answer_all_in};
 pub use checking::{check, check_watched};

@@ -7,7 +7,7 @@ ghost use Rattle.ch_query.specs.Covering.{IsCoveredFrom, IsFirstUncovered};
 
 use crate::covering::meets_within;
 use crate::legs::is_leg_within;
-use crate::scratch::Scratch;
+use crate::scratch::Sides;
 use ch_graph::Cost;
 use ch_hierarchy::{Hierarchy, Leg};
 use ch_work::{Gate, Stage};
@@ -15,46 +15,39 @@ use ch_work::{Gate, Stage};
 /// Whether going from `start` up and down to `end` costs at most `most`. Mostly a leg shows it.
 fn is_pair_covered(
     hierarchy: &Hierarchy,
-    scratch: &mut Scratch,
+    sides: &mut Sides,
     start: u32,
     end: u32,
     most: Cost,
 ) -> bool
-    requires scratch { scratch.old ≡ nodes_of hierarchy.now }
+    requires sides { sides.old ≡ nodes_of hierarchy.now }
     requires start { start < nodes_of hierarchy.now }
     requires end { end < nodes_of hierarchy.now }
     ensures covered { IsTrue result ↔ MeetsWithin hierarchy.now start end most }
-    ensures scratch { scratch.new ≡ scratch.old }
+    ensures sides { sides.new ≡ sides.old }
 {
     // The getter tells the proof that the hierarchy has levels.
     let _ = hierarchy.nodes();
     if is_leg_within(hierarchy, start, end, most) {
         return true;
     }
-    meets_within(
-        hierarchy,
-        &mut scratch.up,
-        &mut scratch.down,
-        start,
-        end,
-        most,
-    )
+    meets_within(hierarchy, &mut sides.up, &mut sides.down, start, end, most)
 }
 
 /// Whether the leg `into` and each leg up from `node` are covered.
-fn are_covered_from(hierarchy: &Hierarchy, scratch: &mut Scratch, node: u32, into: Leg) -> bool
-    requires scratch { scratch.old ≡ nodes_of hierarchy.now }
+fn are_covered_from(hierarchy: &Hierarchy, sides: &mut Sides, node: u32, into: Leg) -> bool
+    requires sides { sides.old ≡ nodes_of hierarchy.now }
     requires node { node < nodes_of hierarchy.now }
     requires has { Contains (row hierarchy.now.down node) into }
     ensures covered { IsTrue result ↔ IsCoveredFrom hierarchy.now node into }
-    ensures scratch { scratch.new ≡ scratch.old }
+    ensures sides { sides.new ≡ sides.old }
 {
     for out in hierarchy.up(node) {
         if into.node == out.node {
             continue;
         }
         let most = into.cost.plus(out.cost);
-        if !is_pair_covered(hierarchy, scratch, into.node, out.node, most) {
+        if !is_pair_covered(hierarchy, sides, into.node, out.node, most) {
             return false;
         }
     }
@@ -62,14 +55,14 @@ fn are_covered_from(hierarchy: &Hierarchy, scratch: &mut Scratch, node: u32, int
 }
 
 /// Whether each pair of legs through `node` is covered.
-fn is_covered(hierarchy: &Hierarchy, scratch: &mut Scratch, node: u32) -> bool
-    requires scratch { scratch.old ≡ nodes_of hierarchy.now }
+fn is_covered(hierarchy: &Hierarchy, sides: &mut Sides, node: u32) -> bool
+    requires sides { sides.old ≡ nodes_of hierarchy.now }
     requires node { node < nodes_of hierarchy.now }
     ensures covered { IsTrue result ↔ IsCovered hierarchy.now node }
-    ensures scratch { scratch.new ≡ scratch.old }
+    ensures sides { sides.new ≡ sides.old }
 {
     for into in hierarchy.down(node) {
-        if !are_covered_from(hierarchy, scratch, node, *into) {
+        if !are_covered_from(hierarchy, sides, node, *into) {
             return false;
         }
     }
@@ -81,16 +74,16 @@ fn is_covered(hierarchy: &Hierarchy, scratch: &mut Scratch, node: u32) -> bool
 /// checked.
 pub(crate) fn first_uncovered<G: Gate>(
     hierarchy: &Hierarchy,
-    scratch: &mut Scratch,
+    sides: &mut Sides,
     gate: &G,
 ) -> Option<u32>
-    requires scratch { scratch.old ≡ nodes_of hierarchy.now }
+    requires sides { sides.old ≡ nodes_of hierarchy.now }
     ensures first { MatchOption result ((v : ℕ) → v < nodes_of hierarchy.now → IsCovered hierarchy.now v) (IsFirstUncovered hierarchy.now) }
-    ensures scratch { scratch.new ≡ scratch.old }
+    ensures sides { sides.new ≡ sides.old }
 {
     for node in 0..hierarchy.nodes() {
         gate.watch(Stage::Checking, node, hierarchy.nodes());
-        if !is_covered(hierarchy, scratch, node) {
+        if !is_covered(hierarchy, sides, node) {
             return Some(node);
         }
     }

@@ -13,7 +13,7 @@ ghost use Rattle.ch_query.specs.Routes.{IsRoute, IsRouteBy};
 use crate::descent::descend;
 use crate::meeting::meet;
 use crate::routes::Route;
-use crate::scratch::Scratch;
+use crate::scratch::{Scratch, Sides};
 use crate::search::Search;
 use crate::unpacking::unpack;
 use ch_graph::Cost;
@@ -23,8 +23,8 @@ use std::alloc::{AllocError, Global};
 /// The least weight of a walk from `start` to `end`, or `None` where there is no walk. The hierarchy is
 /// right for some graph, and the scratch is for as many nodes.
 ///
-/// It searches from both ends, and settles nodes by least cost until no cost that is left can lower the
-/// best sum. A reached node to which a higher node shows a cheaper way is not expanded ("stall on demand",
+/// It searches from both ends by weights alone, and settles nodes by least weight until none that is left can lower the
+/// best sum. A reached node to which a higher node shows a lighter way is not expanded ("stall on demand",
 /// Geisberger, Sanders, Schultes and Delling 2008). It takes no memory, and a number of steps that grows
 /// with the part of the graph that it reaches, not with the number of nodes.
 pub fn distance(hierarchy: &Hierarchy, scratch: &mut Scratch, start: u32, end: u32) -> Option<u64>
@@ -36,17 +36,14 @@ pub fn distance(hierarchy: &Hierarchy, scratch: &mut Scratch, start: u32, end: u
     ensures least { IsLeastWeight hierarchy.now start end result }
     ensures scratch { scratch.new ≡ scratch.old }
 {
-    let least = meet(hierarchy, &mut scratch.up, &mut scratch.down, start, end);
-    clean(&mut scratch.up, &mut scratch.down);
-    let (cost, _) = least?;
-    Some(cost.weight)
+    scratch.weights.least_weight(hierarchy, start, end)
 }
 
 /// The route from `start` to `end`, or `None` where there is no walk. The hierarchy is right for some graph,
 /// and the scratch is for as many nodes.
 ///
-/// It is a walk of least weight, and of these of the fewest arcs. It leads over the node where the two
-/// searches of [`distance`] meet, at each choice by the least numbered node, and each shortcut is unpacked
+/// It is a walk of least weight, and of these of the fewest arcs. It leads over the node where two
+/// searches meet that go by weight and then by arcs, at each choice by the least numbered node, and each shortcut is unpacked
 /// into the two legs of its middle (Geisberger, Sanders, Schultes and Delling 2008). After the search it
 /// takes memory and a number of steps that grow with the number of its arcs, not with the number of nodes.
 ///
@@ -68,12 +65,12 @@ pub fn route(
     ensures few { IfOk result (λ answer. MatchOption answer ⊤ (λ route. length route.arcs < nodes_of hierarchy.now)) }
     ensures scratch { scratch.new ≡ scratch.old }
 {
-    let met = meet(hierarchy, &mut scratch.up, &mut scratch.down, start, end);
-    let answer = match met {
-        Some((cost, node)) => route_over(alloc, hierarchy, &scratch.up, &scratch.down, cost, node),
+    let Sides { up, down } = &mut scratch.sides;
+    let answer = match meet(hierarchy, up, down, start, end) {
+        Some((cost, node)) => route_over(alloc, hierarchy, up, down, cost, node),
         None => Ok(None),
     };
-    clean(&mut scratch.up, &mut scratch.down);
+    clean(up, down);
     answer
 }
 

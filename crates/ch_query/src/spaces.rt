@@ -132,7 +132,7 @@ pub fn search_space(
     ensures scratch { scratch.new ≡ scratch.old }
 {
     match side {
-        Side::Up => scratch.up.space(alloc, hierarchy, source, within),
-        Side::Down => scratch.down.space(alloc, hierarchy, source, within),
+        Side::Up => scratch.sides.up.space(alloc, hierarchy, source, within),
+        Side::Down => scratch.sides.down.space(alloc, hierarchy, source, within),
     }
 }

@@ -98,7 +98,7 @@ pub fn spread(
     ensures scratch { scratch.new ≡ scratch.old }
 {
     match side {
-        Side::Up => scratch.up.spread(alloc, hierarchy, source, within),
-        Side::Down => scratch.down.spread(alloc, hierarchy, source, within),
+        Side::Up => scratch.sides.up.spread(alloc, hierarchy, source, within),
+        Side::Down => scratch.sides.down.spread(alloc, hierarchy, source, within),
     }
 }

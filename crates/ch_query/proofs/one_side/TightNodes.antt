@@ -30,11 +30,11 @@ use Rattle.ch_query.proofs.one_side.Expanding.{reached_by_leg}
 use Rattle.ch_query.proofs.one_side.PathLaws.{below_then, below_sum}
 
 -- what is right for some graph is right, turned round, for the graph turned round
-abbrev kept_turned : (H : LevelsAndLegs) → IsKeptForSome H → IsKeptForSome (turned_hierarchy H)
+abbrev pub kept_turned : (H : LevelsAndLegs) → IsKeptForSome H → IsKeptForSome (turned_hierarchy H)
 kept_turned H k = (turned_graph k.0, turned_limits k.0 k.1, turned_kept k.0 H k.2)
 
 -- a least meeting is one the other way
-least_meeting_turned : (H : LevelsAndLegs) (s t : ℕ) (c : Cost) → IsLeastMeeting H s t c → IsLeastMeeting (turned_hierarchy H) t s c
+pub least_meeting_turned : (H : LevelsAndLegs) (s t : ℕ) (c : Cost) → IsLeastMeeting H s t c → IsLeastMeeting (turned_hierarchy H) t s c
 least_meeting_turned H s t c h = record {
   meets = (h.meets.0, turned_meeting H s t h.meets.0 c h.meets.1);
   least = λ m d there. h.least m d (turned_meeting (turned_hierarchy H) t s m d there);

@@ -1,0 +1,16 @@
+use Rattle.std.proofs.Common.{ap, ◌∙◌, set, Some}
+use Rattle.ch_query.specs.declared.side.Side.TheVariants.{Up, Down}
+use Rattle.ch_query.specs.Side.{state_of}
+use Rattle.ch_query.proofs.weights.WeighingBegins.{weighing_begun}
+use Rattle.ch_query.proofs.weight_search.WeightSearch.begin.Goals as goal
+
+pub returns-clause-least : goal.returns-clause-least
+returns-clause-least c =
+    let first = c.reach.ensures in
+    let second = c.reach-2.ensures in
+    let from = c.state.ensures ∙ ap (state_of Up) c.rank.ensures.rank in
+    let to = c.state-2.ensures ∙ ap (state_of Down) c.rank-2.ensures.rank in
+    let known = second.known ∙ ap (λ q. set q c.state-2.result 0) first.known ∙ (λ i. set (set c.args.self.now.known.items (from i) 0) (to i) 0) in
+    let queue = second.queue ∙ ap (λ q. set q c.state-2.result (Some 0)) first.queue ∙ (λ i. set (set c.args.self.now.queue (from i) (Some 0)) (to i) (Some 0)) in
+    weighing_begun c.args.hierarchy.now c.rank.ensures.levelled c.args.self.now _ c.args.start c.args.end c.requires.clean c.requires.start c.requires.end
+    (second.same.0 ∙ first.same.0) (second.same.1 ∙ first.same.1) known queue second.touched

@@ -1,0 +1,12 @@
+-- A search by weights alone, for both directions at once.
+pub mod States
+pub mod Known
+pub mod Queues
+pub mod Clean
+pub mod WeighingBegins
+pub mod WeighingPops
+pub mod WeighingSums
+pub mod LegsRead
+pub mod WeighingSteps
+pub mod WeightStalls
+pub mod WeighingEnds

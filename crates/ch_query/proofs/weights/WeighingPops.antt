@@ -1,0 +1,94 @@
+-- The state of least weight is settled: one side goes on from its node, and the other stays as it is.
+use Rattle.std.proofs.Common.{◌≡◌, ℕ, ◌+◌, ◌<◌, List, length, Option, Some, None, refl, sym, ◌∙◌, ap, subst, arith, set, length-set, inl, inr}
+use Rattle.std.specs.Prelude.{slice_index_or, ◌⊎◌}
+use Rattle.std.specs.Option.{option_map}
+use Rattle.std.proofs.lemmas.Bool.{cases_lt}
+use Rattle.std.proofs.lemmas.List.{get_or_past}
+use Rattle.std.proofs.lemmas.Option.{none-some}
+use Rattle.ch_graph.specs.declared.limits.TheConstants.{MOST_WEIGHT}
+use Rattle.ch_graph.specs.declared.cost.Cost.{Cost}
+use Rattle.ch_graph.specs.Cost.{IsAtMost}
+use Rattle.ch_hierarchy.specs.Hierarchy.{LevelsAndLegs, nodes_of}
+use Rattle.ch_hierarchy.specs.Ranked.{rank_of}
+use Rattle.ch_query.specs.declared.side.Side.{Side}
+use Rattle.ch_query.specs.declared.side.Side.TheVariants.{Up, Down}
+use Rattle.ch_query.specs.declared.weight_search.WeightSearch.{WeightSearch}
+use Rattle.ch_query.specs.Search.{IsSettled, IsLeastKey, IsExpanding, OrNode, count_unsettled}
+use Rattle.ch_query.specs.Side.{rows_of, other, state_of}
+use Rattle.ch_query.specs.Weighed.{weighed, IsWeightSearch}
+use Rattle.ch_query.specs.Weights.{weight_cost, by_state, side_costs, side_keys, source_of, is_idle_on, IsWeighing, IsWeighingAt, IsLeastState, count_unsettled_states, without_state}
+use Rattle.ch_query.proofs.one_side.Steps.{popped, popped_settled, popped_falls}
+use Rattle.ch_query.proofs.weights.States.{by_state-size, by_state-at, by_state-set, by_state-other, by_state-some, key_weight}
+
+-- a state with a key is one of the states
+pub key_state : (queue : List (Option ℕ)) (state weight : ℕ) → slice_index_or queue state None ≡ Some weight → state < length queue
+key_state queue state weight e = elim (cases_lt state (length queue)) [ inl lt ↦ lt | inr ge ↦ absurd (none-some weight (sym (get_or_past queue state None ge) ∙ e)) ]
+
+-- each side begins where it did
+pub source_stays : (x : WeightSearch) (state : ℕ) (side : Side) → source_of (without_state x state) side ≡ source_of x side
+source_stays x state Up = refl
+source_stays x state Down = refl
+
+-- the state of least weight is that of the node v on this side
+module _ (H : LevelsAndLegs) (x : WeightSearch) (m : IsWeighing H x) (side : Side) (v weight state : ℕ) (within : v < nodes_of H) (is : state ≡ state_of side (rank_of H v)) (l : IsLeastState x.queue (weight, state)) where
+  -- v has the least key of its side
+  pub least_on_side : IsLeastKey (side_keys H side x) v (weight_cost weight)
+  least_on_side = record {
+    has = by_state-at (option_map weight_cost) H side x.queue None None v within ∙ ap (option_map weight_cost) (ap (λ q. slice_index_or x.queue q None) (sym is) ∙ l.has);
+    least = λ u d e.
+        let there = by_state-some (option_map weight_cost) H side x.queue None u d e in
+        let key = key_weight _ d there.1 in
+        let low = l.least (state_of side (rank_of H u)) key.0 key.1 in
+        subst (IsAtMost (weight_cost weight)) key.2 (low, λ same. omega arith);
+  }
+
+  -- it leaves the keys of its side
+  keys_here : side_keys H side (without_state x state) ≡ set (side_keys H side x) v None
+  keys_here = ap (λ q. by_state (option_map weight_cost) H side (set x.queue q None) None) is ∙ by_state-set (option_map weight_cost) H side m.levelled x.queue None None v m.sizes.queue within
+
+  -- and none of the other
+  keys_there : side_keys H (other side) (without_state x state) ≡ side_keys H (other side) x
+  keys_there = ap (λ q. by_state (option_map weight_cost) H (other side) (set x.queue q None) None) is ∙ by_state-other (option_map weight_cost) H side x.queue None None (rank_of H v)
+
+  -- v has a key there
+  in_keys : v < length (side_keys H side x)
+  in_keys = (let size = by_state-size (option_map weight_cost) H side x.queue None in omega arith)
+
+  -- the legs of v are to be taken next
+  pub pop_weighs : IsWeighingAt H side (without_state x state) v weight
+  pop_weighs = record {
+    levelled = m.levelled;
+    sizes = record { known = m.sizes.known; queue = length-set x.queue state None ∙ m.sizes.queue; touched = m.sizes.touched };
+    within = within;
+    here = subst (λ s. IsExpanding MOST_WEIGHT (rows_of (weighed H) side) s (OrNode (is_idle_on H side s) v) (side_costs H side x) (side_keys H side (without_state x state)) v (weight_cost weight))
+        (sym (source_stays x state side))
+        (subst (λ q. IsExpanding MOST_WEIGHT (rows_of (weighed H) side) (source_of x side) (OrNode (is_idle_on H side (source_of x side)) v) (side_costs H side x) q v (weight_cost weight))
+        (sym keys_here) (popped _ _ _ _ _ (m.sides side) v (weight_cost weight) least_on_side.has least_on_side.least in_keys));
+    there = subst (λ s. IsWeightSearch H (other side) s (side_costs H (other side) x) (side_keys H (other side) (without_state x state))) (sym (source_stays x state (other side)))
+        (subst (λ q. IsWeightSearch H (other side) (source_of x (other side)) (side_costs H (other side) x) q) (sym keys_there) (m.sides (other side)));
+  }
+
+  -- what is settled then on its side was so before, or is v
+  pub pop_settled : (u : ℕ) (a : Cost) → IsSettled (side_costs H side x) (side_keys H side (without_state x state)) u a →
+      IsSettled (side_costs H side x) (side_keys H side x) u a ⊎ ((u ≡ v) × (a ≡ weight_cost weight))
+  pop_settled u a h = popped_settled _ _ _ _ _ (m.sides side) v (weight_cost weight) least_on_side.has least_on_side.least in_keys u a
+      (subst (λ q. IsSettled (side_costs H side x) q u a) keys_here h)
+
+  -- and on the other side it was so before
+  pub pop_settled_there : (u : ℕ) (b : Cost) → IsSettled (side_costs H (other side) x) (side_keys H (other side) (without_state x state)) u b →
+      IsSettled (side_costs H (other side) x) (side_keys H (other side) x) u b
+  pop_settled_there u b h = subst (λ q. IsSettled (side_costs H (other side) x) q u b) keys_there h
+
+  -- of its side one node fewer is not settled
+  falls_here : count_unsettled (side_costs H side x) (side_keys H side (without_state x state)) + 1 ≡ count_unsettled (side_costs H side x) (side_keys H side x)
+  falls_here = ap (λ q. count_unsettled (side_costs H side x) q + 1) keys_here
+      ∙ popped_falls _ _ _ _ _ (m.sides side) v (weight_cost weight) least_on_side.has least_on_side.least in_keys
+
+  stays_there : count_unsettled (side_costs H (other side) x) (side_keys H (other side) (without_state x state)) ≡ count_unsettled (side_costs H (other side) x) (side_keys H (other side) x)
+  stays_there = ap (count_unsettled (side_costs H (other side) x)) keys_there
+
+-- one state fewer is not settled
+pub states_fall : (H : LevelsAndLegs) (x : WeightSearch) (m : IsWeighing H x) (side : Side) (v weight state : ℕ) → v < nodes_of H → state ≡ state_of side (rank_of H v) → IsLeastState x.queue (weight, state) →
+    count_unsettled_states H (without_state x state) + 1 ≡ count_unsettled_states H x
+states_fall H x m Up v weight state within is l = let a = falls_here H x m Up v weight state within is l in let b = stays_there H x m Up v weight state within is l in omega arith
+states_fall H x m Down v weight state within is l = let a = falls_here H x m Down v weight state within is l in let b = stays_there H x m Down v weight state within is l in omega arith

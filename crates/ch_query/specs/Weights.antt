@@ -1,0 +1,121 @@
+-- A search for distances as the program keeps it: by weights alone, for both directions at once.
+use Rattle.std.specs.Prelude.{◌≡◌, ℕ, ◌+◌, ◌-◌, ◌*◌, ◌<◌, ◌≤◌, ◌⊎◌, if◌then◌else◌, nat_eq, List, length, map, slice_index, slice_index_or, slice_set, Contains, Option, Some, None, vec_len}
+use Rattle.std.specs.Option.{option_map}
+use Rattle.ch_graph.specs.declared.limits.TheConstants.{MOST_WEIGHT}
+use Rattle.ch_graph.specs.declared.cost.Cost.{Cost}
+use Rattle.ch_hierarchy.specs.declared.leg.Leg.{Leg}
+use Rattle.ch_hierarchy.specs.Hierarchy.{LevelsAndLegs, nodes_of, IsLevelled}
+use Rattle.ch_hierarchy.specs.Ranked.{rank_of}
+use Rattle.ch_query.specs.declared.side.Side.{Side}
+use Rattle.ch_query.specs.declared.side.Side.TheVariants.{Up, Down}
+use Rattle.ch_query.specs.declared.weight_search.TheConstants.{UNREACHED}
+use Rattle.ch_query.specs.declared.weight_search.WeightSearch.{WeightSearch}
+use Rattle.ch_query.specs.Search.{IsSettled, IsRelaxedFrom, IsUpwardCost, IsExpanding, OrNode, IsStalled, count_unsettled}
+use Rattle.ch_query.specs.Side.{rows_of, other, state_of}
+use Rattle.ch_query.specs.Underway.{IsTouched}
+use Rattle.ch_query.specs.Weighed.{weighed, IsWeightSearch}
+
+-- a weight as a cost
+abbrev pub weight_cost : ℕ → Cost
+weight_cost w = record { weight = w; arcs = 0 }
+
+-- the cost for which a state's weight stands
+abbrev pub known_cost : ℕ → Option Cost
+known_cost w = if nat_eq w UNREACHED then None else Some (weight_cost w)
+
+-- what stands at the states of one side, by node: a node of level l has rank n - l
+abbrev pub by_state : {A B : Type 0} → (A → B) → LevelsAndLegs → Side → List A → A → List B
+by_state f H side list default = map (λ level. f (slice_index_or list (state_of side (nodes_of H - level)) default)) H.level
+
+-- the costs that one side knows, by node
+abbrev pub side_costs : LevelsAndLegs → Side → WeightSearch → List (Option Cost)
+side_costs H side x = by_state known_cost H side x.known.items UNREACHED
+
+-- the keys of its states, by node
+abbrev pub side_keys : LevelsAndLegs → Side → WeightSearch → List (Option Cost)
+side_keys H side x = by_state (option_map weight_cost) H side x.queue None
+
+-- where a side begins
+abbrev pub source_of : WeightSearch → Side → ℕ
+source_of x Up = x.start
+source_of x Down = x.end
+
+-- v need not be expanded at this cost
+abbrev pub is_idle_on : LevelsAndLegs → Side → ℕ → ℕ → Cost → Type 0
+is_idle_on H side s = IsStalled (rows_of (weighed H) side) (rows_of (weighed H) (other side)) s
+
+-- the lists have two states for each of n nodes, and room to list all that are reached
+pub record IsSizedFor (n : ℕ) (x : WeightSearch) : Type 0 where
+  pub known : length x.known.items ≡ 2 * n
+  pub queue : length x.queue ≡ 2 * n
+  pub touched : IsTouched (map known_cost x.known.items) x.touched
+
+-- a search between two states
+pub record IsWeighing (H : LevelsAndLegs) (x : WeightSearch) : Type 0 where
+  pub levelled : IsLevelled H
+  pub sizes : IsSizedFor (nodes_of H) x
+  pub sides : (side : Side) → IsWeightSearch H side (source_of x side) (side_costs H side x) (side_keys H side x)
+
+-- a search that takes the legs of v on one side, where it was settled last, at this weight
+pub record IsWeighingAt (H : LevelsAndLegs) (side : Side) (x : WeightSearch) (v weight : ℕ) : Type 0 where
+  pub levelled : IsLevelled H
+  pub sizes : IsSizedFor (nodes_of H) x
+  pub within : v < nodes_of H
+  pub here : IsExpanding MOST_WEIGHT (rows_of (weighed H) side) (source_of x side) (OrNode (is_idle_on H side (source_of x side)) v) (side_costs H side x) (side_keys H side x) v (weight_cost weight)
+  pub there : IsWeightSearch H (other side) (source_of x (other side)) (side_costs H (other side) x) (side_keys H (other side) x)
+
+-- of the same source and target
+abbrev pub IsSameWeighing : WeightSearch → WeightSearch → Type 0
+IsSameWeighing x y = (y.start ≡ x.start) × (y.end ≡ x.end)
+
+-- what is settled in y was settled in x, at the same cost
+abbrev pub KeepsSides : LevelsAndLegs → WeightSearch → WeightSearch → Type 0
+KeepsSides H x y = (side : Side) (v : ℕ) (c : Cost) → IsSettled (side_costs H side y) (side_keys H side y) v c → IsSettled (side_costs H side x) (side_keys H side x) v c
+
+-- how many states are not settled
+abbrev pub count_unsettled_states : LevelsAndLegs → WeightSearch → ℕ
+count_unsettled_states H x = count_unsettled (side_costs H Up x) (side_keys H Up x) + count_unsettled (side_costs H Down x) (side_keys H Down x)
+
+-- what showing a state this weight changes: nothing, where no less is known or it is above the limit, or the state gets it as weight and key
+abbrev pub ShowsWeight : WeightSearch → ℕ → ℕ → WeightSearch → Type 0
+ShowsWeight x state weight y =
+    ((y.known.items ≡ x.known.items) × (y.queue ≡ x.queue) × (weight ≤ MOST_WEIGHT → slice_index x.known.items state ≤ weight))
+    ⊎ ((weight ≤ MOST_WEIGHT) × (weight < slice_index x.known.items state) × (y.known.items ≡ slice_set x.known.items state weight) × (y.queue ≡ slice_set x.queue state (Some weight)))
+
+-- y is what x became when these legs of v were taken
+pub record IsPartlyWeighed (H : LevelsAndLegs) (side : Side) (x y : WeightSearch) (v weight : ℕ) (legs : List Leg) : Type 0 where
+  pub same : IsSameWeighing x y
+  pub weighing : IsWeighingAt H side y v weight
+  pub relaxed : (l : Leg) → Contains legs l → IsRelaxedFrom MOST_WEIGHT (side_costs H side y) (weight_cost weight) l
+  pub settled : KeepsSides H x y
+  pub measure : count_unsettled_states H y ≡ count_unsettled_states H x
+
+-- a search for n nodes in which nothing is left of an earlier one
+pub record IsCleanFor (n : ℕ) (x : WeightSearch) : Type 0 where
+  pub sizes : IsSizedFor n x
+  pub queue : (state weight : ℕ) → slice_index_or x.queue state None ≡ Some weight → ⊥
+  pub nothing : vec_len x.touched ≡ 0
+
+-- the least sum covers the nodes that both sides settled, and where there is one it is that of two paths
+pub record IsLeastSoFar (H : LevelsAndLegs) (x : WeightSearch) (least : ℕ) : Type 0 where
+  pub weighing : IsWeighing H x
+  pub small : least ≤ UNREACHED
+  pub seen : (v : ℕ) (a b : Cost) → IsSettled (side_costs H Up x) (side_keys H Up x) v a → IsSettled (side_costs H Down x) (side_keys H Down x) v b → least ≤ a.weight + b.weight
+  pub found : least < UNREACHED → (v : ℕ) × (a b : Cost) × IsUpwardCost (rows_of (weighed H) Up) x.start v a × IsUpwardCost (rows_of (weighed H) Down) x.end v b × (a.weight + b.weight ≡ least)
+
+-- each key that is left is at least this
+abbrev pub AreKeysFrom : List (Option ℕ) → ℕ → Type 0
+AreKeysFrom queue least = (state weight : ℕ) → slice_index_or queue state None ≡ Some weight → least ≤ weight
+
+-- the state of least weight, with that weight
+pub record IsLeastState (queue : List (Option ℕ)) (e : ℕ × ℕ) : Type 0 where
+  pub has : slice_index_or queue e.1 None ≡ Some e.0
+  pub least : AreKeysFrom queue e.0
+
+-- of the node of this rank
+abbrev pub AtRank : LevelsAndLegs → ℕ → (ℕ → Type 0) → Type 0
+AtRank H rank P = (v : ℕ) → v < nodes_of H → rank_of H v ≡ rank → P v
+
+-- a search without the key of this state
+abbrev pub without_state : WeightSearch → ℕ → WeightSearch
+without_state x state = record x { queue = slice_set x.queue state None }

@@ -1,0 +1,218 @@
+//! Distances by weights alone: one search from a source along legs to higher nodes, and back from a target along legs from them.
+//!
+//! Of all walks of least weight the distance is the weight, so neither arcs are counted nor parents kept. A node has a state on each side,
+//! which stand beside each other, and one queue has the states of both sides: so no two queues are compared, and what the other side
+//! knows of a node is at hand.
+ghost use Rattle.std.specs.Prelude.{◌≡◌, ℕ, ◌<◌, ◌≤◌, length, slice_set, map, Some, None, true, false, IfOk, MatchOption};
+ghost use Rattle.ch_graph.specs.declared.limits.TheConstants.{MOST_WEIGHT};
+ghost use Rattle.ch_hierarchy.specs.Hierarchy.{nodes_of, IsLevelled};
+ghost use Rattle.ch_hierarchy.specs.Ranked.{rank_of};
+ghost use Rattle.ch_query.specs.Distance.{IsKeptForSome, IsLeastWeight};
+ghost use Rattle.ch_query.specs.Underway.{IsTouched};
+ghost use Rattle.ch_query.specs.Weights.{known_cost, is_idle_on, weight_cost, source_of, IsSizedFor, IsWeighing, IsWeighingAt, IsSameWeighing, KeepsSides, ShowsWeight, AtRank, IsCleanFor, IsLeastSoFar, IsLeastState, AreKeysFrom, count_unsettled_states, without_state};
+
+use crate::side::Side;
+use ch_graph::limits::MOST_WEIGHT;
+use ch_hierarchy::Hierarchy;
+use ch_queue::KeyQueue;
+use std::alloc::{AllocError, Global};
+
+/// The weight of a state that is not reached: more than two paths weigh together, with room to add another.
+pub(crate) const UNREACHED: u64 = 1 << 62;
+
+/// What a search for a distance knows, and the room for it.
+#[derive(Drop)]
+pub(crate) struct WeightSearch {
+    pub(crate) start: u32,
+    pub(crate) end: u32,
+    /// By state: the least weight known of a path from the start to its node, or from there to the end.
+    pub(crate) known: Vec<u64>,
+    /// The states that are reached and not settled, by weight.
+    pub(crate) queue: KeyQueue<u64>,
+    /// The states that are reached, each once.
+    pub(crate) touched: Vec<u32>,
+}
+
+impl WeightSearch {
+    /// A clean search, with room for `nodes` nodes.
+    pub(crate) fn new(alloc: Global, nodes: u32) -> Result<WeightSearch, AllocError>
+        ensures { IfOk result (λ x. IsCleanFor nodes x) }
+    {
+        if nodes > u32::MAX / 2 {
+            return Err(AllocError);
+        }
+        let states = 2 * nodes;
+        let known = vec![in alloc; UNREACHED; states as usize]?;
+        let queue = KeyQueue::new(alloc, states)?;
+        let touched = Vec::with_capacity(alloc, states as usize)?;
+        Ok(WeightSearch {
+            start: 0,
+            end: 0,
+            known,
+            queue,
+            touched,
+        })
+    }
+
+    /// Gives a state this weight.
+    #[inline]
+    fn reach(&mut self, state: u32, weight: u64)
+        requires state { state < length self.old.known.items }
+        requires weight { weight ≤ MOST_WEIGHT }
+        requires queue { length self.old.queue ≡ length self.old.known.items }
+        requires touched { IsTouched (map known_cost self.old.known.items) self.old.touched }
+        ensures known { self.new.known.items ≡ slice_set self.old.known.items state weight }
+        ensures queue { self.new.queue ≡ slice_set self.old.queue state (Some weight) }
+        ensures touched { IsTouched (map known_cost self.new.known.items) self.new.touched }
+        ensures same { IsSameWeighing self.old self.new }
+    {
+        if self.known[state as usize] == UNREACHED {
+            self.touched.push_reserved(state);
+        }
+        self.known[state as usize] = weight;
+        self.queue.set(state, weight);
+    }
+
+    /// Gives a state the weight of a path to it, where that is less than what is known.
+    #[inline]
+    fn relax(&mut self, state: u32, weight: u64)
+        requires state { state < length self.old.known.items }
+        requires queue { length self.old.queue ≡ length self.old.known.items }
+        requires touched { IsTouched (map known_cost self.old.known.items) self.old.touched }
+        ensures shows { ShowsWeight self.old state weight self.new }
+        ensures touched { IsTouched (map known_cost self.new.known.items) self.new.touched }
+        ensures same { IsSameWeighing self.old self.new }
+    {
+        if weight <= MOST_WEIGHT && weight < self.known[state as usize] {
+            self.reach(state, weight);
+        }
+    }
+
+    /// Takes each leg of the state that was settled last.
+    #[inline]
+    fn expand(&mut self, hierarchy: &Hierarchy, side: Side, rank: u32, weight: u64)
+        requires rank { rank < nodes_of hierarchy.now }
+        requires weighing { AtRank hierarchy.now rank (λ v. IsWeighingAt hierarchy.now side self.old v weight) }
+        ensures weighing { IsWeighing hierarchy.now self.new }
+        ensures same { IsSameWeighing self.old self.new }
+        ensures settled { KeepsSides hierarchy.now self.old self.new }
+        ensures measure { count_unsettled_states hierarchy.now self.new ≡ count_unsettled_states hierarchy.now self.old }
+    {
+        for leg in side.ranked_legs(hierarchy, rank) {
+            self.relax(side.state(leg.rank), weight + leg.weight);
+        }
+    }
+
+    /// Whether a leg from a higher node shows a way to the node of this rank that weighs less than `weight`.
+    #[inline]
+    fn is_stalled(&self, hierarchy: &Hierarchy, side: Side, rank: u32, weight: u64) -> bool
+        requires rank { rank < nodes_of hierarchy.now }
+        requires weighing { AtRank hierarchy.now rank (λ v. IsWeighingAt hierarchy.now side self.now v weight) }
+        ensures levelled { IsLevelled hierarchy.now }
+        ensures idle { result ≡ true → AtRank hierarchy.now rank (λ v. is_idle_on hierarchy.now side (source_of self.now side) v (weight_cost weight)) }
+    {
+        for leg in side.other().ranked_legs(hierarchy, rank) {
+            if self.known[side.state(leg.rank) as usize] + leg.weight < weight {
+                return true;
+            }
+        }
+        false
+    }
+
+    /// Takes the legs of the state that was settled last, unless the search stalls at it ("stall on demand", Geisberger,
+    /// Sanders, Schultes and Delling 2008).
+    #[inline]
+    fn settle(&mut self, hierarchy: &Hierarchy, side: Side, rank: u32, weight: u64)
+        requires rank { rank < nodes_of hierarchy.now }
+        requires weighing { AtRank hierarchy.now rank (λ v. IsWeighingAt hierarchy.now side self.old v weight) }
+        ensures weighing { IsWeighing hierarchy.now self.new }
+        ensures same { IsSameWeighing self.old self.new }
+        ensures settled { KeepsSides hierarchy.now self.old self.new }
+        ensures measure { count_unsettled_states hierarchy.now self.new ≡ count_unsettled_states hierarchy.now self.old }
+    {
+        if !self.is_stalled(hierarchy, side, rank, weight) {
+            self.expand(hierarchy, side, rank, weight);
+        }
+    }
+
+    /// Takes out the state of least weight, where that is less than `limit`.
+    #[inline]
+    fn pop_below(&mut self, limit: u64) -> Option<(u64, u32)>
+        ensures { MatchOption result (AreKeysFrom self.old.queue limit × (self.new ≡ self.old)) (λ e. IsLeastState self.old.queue e × (e.0 < limit) × (self.new ≡ without_state self.old e.1)) }
+    {
+        let (weight, _) = self.queue.least()?;
+        if weight >= limit {
+            return None;
+        }
+        self.queue.pop()
+    }
+
+    /// Settles the state of least weight, where that is less than the least sum, and says whether it did.
+    fn advance(&mut self, hierarchy: &Hierarchy, least: &mut u64) -> bool
+        requires { IsLeastSoFar hierarchy.now self.old least.old }
+        ensures least { IsLeastSoFar hierarchy.now self.new least.new }
+        ensures same { IsSameWeighing self.old self.new }
+        ensures less { result ≡ true → count_unsettled_states hierarchy.now self.new < count_unsettled_states hierarchy.now self.old }
+        ensures past { result ≡ false → AreKeysFrom self.new.queue least.new }
+    {
+        let Some((weight, state)) = self.pop_below(*least) else {
+            return false;
+        };
+        let side = Side::of_state(state);
+        let rank = state / 2;
+        let there = self.known[side.other().state(rank) as usize];
+        *least = (*least).min(weight + there);
+        self.settle(hierarchy, side, rank, weight);
+        true
+    }
+
+    /// Puts the ends into a clean search.
+    fn begin(&mut self, hierarchy: &Hierarchy, start: u32, end: u32)
+        requires clean { IsCleanFor (nodes_of hierarchy.now) self.old }
+        requires start { start < nodes_of hierarchy.now }
+        requires end { end < nodes_of hierarchy.now }
+        ensures least { IsLeastSoFar hierarchy.now self.new UNREACHED }
+        ensures start { self.new.start ≡ start }
+        ensures end { self.new.end ≡ end }
+    {
+        self.start = start;
+        self.end = end;
+        self.reach(Side::Up.state(hierarchy.rank(start)), 0);
+        self.reach(Side::Down.state(hierarchy.rank(end)), 0);
+    }
+
+    /// Takes all that is known away, in as many steps as states were reached.
+    fn clean(&mut self)
+        requires { (n : ℕ) × IsSizedFor n self.old }
+        ensures { (n : ℕ) → IsSizedFor n self.old → IsCleanFor n self.new }
+    {
+        self.queue.clear();
+        while let Some(state) = self.touched.pop() {
+            self.known[state as usize] = UNREACHED;
+        }
+    }
+
+    /// The least weight of going up from `start` and down to `end`, or `None` where no node is reached from both.
+    pub(crate) fn least_weight(
+        &mut self,
+        hierarchy: &Hierarchy,
+        start: u32,
+        end: u32,
+    ) -> Option<u64>
+        requires kept { IsKeptForSome hierarchy.now }
+        requires clean { IsCleanFor (nodes_of hierarchy.now) self.old }
+        requires start { start < nodes_of hierarchy.now }
+        requires end { end < nodes_of hierarchy.now }
+        ensures least { IsLeastWeight hierarchy.now start end result }
+        ensures clean { IsCleanFor (nodes_of hierarchy.now) self.new }
+    {
+        self.begin(hierarchy, start, end);
+        let mut least = UNREACHED;
+        while self.advance(hierarchy, &mut least) {}
+        self.clean();
+        if least == UNREACHED {
+            return None;
+        }
+        Some(least)
+    }
+}
