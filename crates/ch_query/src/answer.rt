@@ -6,8 +6,8 @@ ghost use Rattle.ch_hierarchy.specs.Hierarchy.{nodes_of};
 ghost use Rattle.ch_query.specs.Distance.{IsKeptForSome};
 ghost use Rattle.ch_query.specs.Answers.{AreQueries, IsReply};
 
-use crate::query::{distance, route};
-use crate::scratch::Scratch;
+use crate::query::{distance, route_in};
+use crate::scratch::{Scratch, Sides};
 use ch_graph::InArc;
 use ch_hierarchy::Hierarchy;
 use ch_work::{Gate, ListJob, Plan, Stage, run_list, run_list_in_room};
@@ -38,7 +38,7 @@ impl Model for Answer {
 }
 
 /// The answers to the queries, in their order, with the arcs of the routes where `routes` says so. Workers
-/// share the queries as the plan says: each makes a scratch once, and answers one query after the other.
+/// share the queries as the plan says: each makes its room once, and answers one query after the other.
 ///
 /// # Errors
 /// `AllocError` where there is no memory.
@@ -56,8 +56,11 @@ pub fn answer_all<R: Threads + Sync, G: Gate>(
     requires count { length queries.now ≤ MOST_QUERIES }
     ensures { IfOk result (λ answers. AllZip (IsReply hierarchy.now routes) queries.now answers.items) }
 {
-    let job = QueryJob { hierarchy, routes };
     gate.watch(Stage::Answering, 0, plan.pieces(queries.len() as u32));
+    if routes {
+        return run_list(rt, alloc, queries, plan, gate, &RouteJob { hierarchy });
+    }
+    let job = QueryJob { hierarchy, routes };
     run_list(rt, alloc, queries, plan, gate, &job)
 }
 
@@ -132,6 +135,50 @@ impl ListJob for QueryJob<'_> {
     }
 }
 
+/// The answers with routes, by workers who answer nothing else, so that they have no room for distances.
+#[derive(Drop)]
+struct RouteJob<'a> {
+    hierarchy: &'a Hierarchy,
+}
+
+impl<'a> Model for RouteJob<'a> {
+    ghost use Rattle.ch_hierarchy.specs.Hierarchy.{LevelsAndLegs};
+    ghost use Rattle.ch_query.specs.Distance.{IsKeptForSome};
+
+    ghost Value = { LevelsAndLegs };
+
+    ghost view = { λ job. job.hierarchy.now };
+
+    ghost invariant = { λ job. IsKeptForSome job.hierarchy.now };
+}
+
+impl ListJob for RouteJob<'_> {
+    type Item = (u32, u32);
+
+    type Room = Sides;
+
+    type Out = Answer;
+
+    ghost takes = { λ H query. (query.0 < nodes_of H) × (query.1 < nodes_of H) };
+
+    ghost meaning = { λ H query answer. IsReply H true query answer };
+
+    ghost clean = { λ H sides. sides ≡ nodes_of H };
+
+    fn room(&self, alloc: Global) -> Result<Sides, AllocError> {
+        Sides::new(alloc, self.hierarchy.nodes())
+    }
+
+    fn value(
+        &self,
+        alloc: Global,
+        room: &mut Sides,
+        item: &(u32, u32),
+    ) -> Result<Answer, AllocError> {
+        reply_with_route(alloc, self.hierarchy, room, *item)
+    }
+}
+
 /// The answer to one query.
 fn reply(
     alloc: Global,
@@ -147,7 +194,10 @@ fn reply(
     ensures scratch { scratch.new ≡ scratch.old }
 {
     if routes {
-        return reply_with_route(alloc, hierarchy, scratch, query);
+        let mut sides = scratch.take_sides(alloc)?;
+        let answer = reply_with_route(alloc, hierarchy, &mut sides, query);
+        scratch.put_sides(sides);
+        return answer;
     }
     let (from, to) = query;
     let weight = distance(hierarchy, scratch, from, to);
@@ -163,17 +213,17 @@ fn reply(
 fn reply_with_route(
     alloc: Global,
     hierarchy: &Hierarchy,
-    scratch: &mut Scratch,
+    sides: &mut Sides,
     query: (u32, u32),
 ) -> Result<Answer, AllocError>
     requires kept { IsKeptForSome hierarchy.now }
-    requires scratch { scratch.old ≡ nodes_of hierarchy.now }
+    requires sides { sides.old ≡ nodes_of hierarchy.now }
     requires query { (query.0 < nodes_of hierarchy.now) × (query.1 < nodes_of hierarchy.now) }
     ensures reply { IfOk result (IsReply hierarchy.now true query) }
-    ensures scratch { scratch.new ≡ scratch.old }
+    ensures sides { sides.new ≡ sides.old }
 {
     let (from, to) = query;
-    let (weight, arcs) = match route(alloc, hierarchy, scratch, from, to)? {
+    let (weight, arcs) = match route_in(alloc, hierarchy, sides, from, to)? {
         Some(route) => (Some(route.weight), Some(route.arcs)),
         None => (None, None),
     };

@@ -65,7 +65,30 @@ pub fn route(
     ensures few { IfOk result (λ answer. MatchOption answer ⊤ (λ route. length route.arcs < nodes_of hierarchy.now)) }
     ensures scratch { scratch.new ≡ scratch.old }
 {
-    let Sides { up, down } = &mut scratch.sides;
+    let mut sides = scratch.take_sides(alloc)?;
+    let answer = route_in(alloc, hierarchy, &mut sides, start, end);
+    scratch.put_sides(sides);
+    answer
+}
+
+/// The route, as [`route`] gives it, by these two sides.
+pub(crate) fn route_in(
+    alloc: Global,
+    hierarchy: &Hierarchy,
+    sides: &mut Sides,
+    start: u32,
+    end: u32,
+) -> Result<Option<Route>, AllocError>
+    requires kept { IsKeptForSome hierarchy.now }
+    requires sides { sides.old ≡ nodes_of hierarchy.now }
+    requires start { start < nodes_of hierarchy.now }
+    requires end { end < nodes_of hierarchy.now }
+    ensures route { IfOk result (λ answer. MatchOption answer (NeverMeets hierarchy.now start end) (IsRoute hierarchy.now start end)) }
+    ensures walk { IfOk result (IsRouteBy hierarchy.now start end) }
+    ensures few { IfOk result (λ answer. MatchOption answer ⊤ (λ route. length route.arcs < nodes_of hierarchy.now)) }
+    ensures sides { sides.new ≡ sides.old }
+{
+    let Sides { up, down } = sides;
     let answer = match meet(hierarchy, up, down, start, end) {
         Some((cost, node)) => route_over(alloc, hierarchy, up, down, cost, node),
         None => Ok(None),

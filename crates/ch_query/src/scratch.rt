@@ -41,34 +41,57 @@ impl Sides {
 /// nodes.
 #[derive(Drop)]
 pub struct Scratch {
-    /// For routes, spreads and search spaces.
-    pub(crate) sides: Sides,
     /// For distances.
     pub(crate) weights: WeightSearch,
+    /// For routes, spreads and search spaces: made for the first of them.
+    sides: Option<Sides>,
+    nodes: u32,
 }
 
 impl Model for Scratch {
-    ghost use Rattle.std.specs.Prelude.{ℕ};
+    ghost use Rattle.std.specs.Prelude.{◌≡◌, ℕ, ⊤, MatchOption};
     ghost use Rattle.ch_query.specs.Weights.{IsCleanFor};
 
     ghost Value = { ℕ };
 
-    ghost view = { λ s. s.sides };
+    ghost view = { λ s. s.nodes };
 
-    ghost invariant = { λ s. IsCleanFor s.sides s.weights };
+    ghost invariant = { λ s. IsCleanFor s.nodes s.weights × MatchOption s.sides ⊤ (λ sides. sides ≡ s.nodes) };
 }
 
 impl Scratch {
     /// Room for queries among `nodes` nodes. It takes a number of steps and an amount of memory that
-    /// grow with them; the queries take no memory.
+    /// grow with them; distances take no more, and the first route, spread or search space as much twice again.
     ///
     /// # Errors
     /// `AllocError` where there is no memory.
     pub fn new(alloc: Global, nodes: u32) -> Result<Scratch, AllocError>
         ensures { IfOk result (λ s. s ≡ nodes) }
     {
-        let sides = Sides::new(alloc, nodes)?;
         let weights = WeightSearch::new(alloc, nodes)?;
-        Ok(Scratch { sides, weights })
+        Ok(Scratch {
+            weights,
+            sides: None,
+            nodes,
+        })
+    }
+
+    /// Takes the two sides out, and makes them where there are none yet.
+    pub(crate) fn take_sides(&mut self, alloc: Global) -> Result<Sides, AllocError>
+        ensures sides { IfOk result (λ sides. sides ≡ self.old) }
+        ensures same { self.new ≡ self.old }
+    {
+        match self.sides.take() {
+            Some(sides) => Ok(sides),
+            None => Sides::new(alloc, self.nodes),
+        }
+    }
+
+    /// Puts the two sides back.
+    pub(crate) fn put_sides(&mut self, sides: Sides)
+        requires { sides ≡ self.old }
+        ensures { self.new ≡ self.old }
+    {
+        self.sides = Some(sides);
     }
 }

@@ -131,8 +131,11 @@ pub fn search_space(
     ensures space { IfOk result (λ list. IsSearchSpace hierarchy.now side within source list.items) }
     ensures scratch { scratch.new ≡ scratch.old }
 {
-    match side {
-        Side::Up => scratch.sides.up.space(alloc, hierarchy, source, within),
-        Side::Down => scratch.sides.down.space(alloc, hierarchy, source, within),
-    }
+    let mut sides = scratch.take_sides(alloc)?;
+    let list = match side {
+        Side::Up => sides.up.space(alloc, hierarchy, source, within),
+        Side::Down => sides.down.space(alloc, hierarchy, source, within),
+    };
+    scratch.put_sides(sides);
+    list
 }

@@ -97,8 +97,11 @@ pub fn spread(
     ensures spread { IfOk result (λ list. IsSpread (rows_of hierarchy.now side) within source list.items) }
     ensures scratch { scratch.new ≡ scratch.old }
 {
-    match side {
-        Side::Up => scratch.sides.up.spread(alloc, hierarchy, source, within),
-        Side::Down => scratch.sides.down.spread(alloc, hierarchy, source, within),
-    }
+    let mut sides = scratch.take_sides(alloc)?;
+    let list = match side {
+        Side::Up => sides.up.spread(alloc, hierarchy, source, within),
+        Side::Down => sides.down.spread(alloc, hierarchy, source, within),
+    };
+    scratch.put_sides(sides);
+    list
 }

@@ -3,8 +3,8 @@ use Rattle.std.specs.Prelude.{IfOk, MatchOption, ⊤}
 use Rattle.ch_hierarchy.specs.Hierarchy.{nodes_of}
 use Rattle.ch_query.specs.Routes.{IsRouteBy}
 use Rattle.ch_query.proofs.routing.RouteAnswers.{never_walks, found_walks, found_few}
-use Rattle.ch_query.proofs.query.route.Goals.{in-Some, in-None}
-use Rattle.ch_query.proofs.query.route.Goals as goal
+use Rattle.ch_query.proofs.query.route_in.Goals.{in-Some, in-None}
+use Rattle.ch_query.proofs.query.route_in.Goals as goal
 
 pub returns-clause-walk : goal.returns-clause-walk
 returns-clause-walk c =
