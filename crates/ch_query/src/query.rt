@@ -48,7 +48,8 @@ pub fn distance(hierarchy: &Hierarchy, scratch: &mut Scratch, start: u32, end: u
 /// takes memory and a number of steps that grow with the number of its arcs, not with the number of nodes.
 ///
 /// # Errors
-/// `AllocError` where there is no memory for the arcs; the scratch then serves on.
+/// `AllocError` where there is no memory for the arcs, or for the two sides of a scratch that had none yet; the scratch then
+/// serves on.
 pub fn route(
     alloc: Global,
     hierarchy: &Hierarchy,

@@ -116,7 +116,8 @@ impl Search {
 /// each such node has one whose weight does. A [`spread`](crate::spread) has the least paths to all.
 ///
 /// # Errors
-/// `AllocError` where there is no memory for the list; the scratch then serves on.
+/// `AllocError` where there is no memory for the list, or for the two sides of a scratch that had none yet; the scratch then
+/// serves on.
 pub fn search_space(
     alloc: Global,
     hierarchy: &Hierarchy,

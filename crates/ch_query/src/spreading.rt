@@ -83,7 +83,7 @@ impl Search {
 /// search ends where the least weight that is left is more.
 ///
 /// # Errors
-/// `AllocError` where there is no memory for the list.
+/// `AllocError` where there is no memory for the list, or for the two sides of a scratch that had none yet.
 pub fn spread(
     alloc: Global,
     hierarchy: &Hierarchy,
