@@ -16,4 +16,3 @@ pub mod End
 pub mod Spreads
 pub mod TightNodes
 pub mod WeighedPaths
-pub mod SearchSpaces

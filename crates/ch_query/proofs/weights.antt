@@ -10,3 +10,5 @@ pub mod LegsRead
 pub mod WeighingSteps
 pub mod WeightStalls
 pub mod WeighingEnds
+pub mod NamedSpaces
+pub mod SearchSpaces

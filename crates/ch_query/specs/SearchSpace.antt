@@ -1,8 +1,9 @@
 -- What a search to higher nodes answers that stalls: weights of paths, and among them those of all least walks.
-use Rattle.std.specs.Prelude.{◌≡◌, ℕ, ◌<◌, List, AllPairs, Contains, Option}
+use Rattle.std.specs.Prelude.{◌≡◌, ◌≢◌, ℕ, ◌<◌, List, AllPairs, Contains, Option}
 use Rattle.ch_graph.specs.declared.cost.Cost.{Cost}
 use Rattle.ch_hierarchy.specs.declared.leg.Leg.{Leg}
-use Rattle.ch_hierarchy.specs.Hierarchy.{LevelsAndLegs}
+use Rattle.ch_hierarchy.specs.Hierarchy.{LevelsAndLegs, nodes_of}
+use Rattle.ch_hierarchy.specs.Ranked.{rank_of}
 use Rattle.ch_hierarchy.specs.Paths.{IsUp, IsDown}
 use Rattle.ch_hierarchy.specs.KeptLaws.{IsLeastMeeting}
 use Rattle.ch_query.specs.declared.side.Side.{Side}
@@ -26,3 +27,9 @@ pub record IsSearchSpace (H : LevelsAndLegs) (side : Side) (limit : Option ℕ) 
   pub order : AllPairs (λ a b. a.0 < b.0) list
   pub sound : (v x : ℕ) → Contains list (v, x) → IsPathWeight (rows_of H side) s v x × IsWithin limit x
   pub whole : (v : ℕ) (c : Cost) → IsTight H side s v c → IsWithin limit c.weight → Contains list (v, c.weight)
+
+-- the same by the ranks of nodes, in any order
+pub record IsRankedSpace (H : LevelsAndLegs) (side : Side) (limit : Option ℕ) (s : ℕ) (list : List (ℕ × ℕ)) : Type 0 where
+  pub distinct : AllPairs (λ a b. a.0 ≢ b.0) list
+  pub sound : (rank x : ℕ) → Contains list (rank, x) → (v : ℕ) × (v < nodes_of H) × (rank_of H v ≡ rank) × IsPathWeight (rows_of H side) s v x × IsWithin limit x
+  pub whole : (v : ℕ) (c : Cost) → IsTight H side s v c → IsWithin limit c.weight → (v < nodes_of H) × Contains list (rank_of H v, c.weight)

@@ -1,5 +1,5 @@
 -- One side of a query, as the program keeps it.
-use Rattle.std.specs.Prelude.{◌≡◌, ◌≢◌, ℕ, ◌<◌, ◌≤◌, ◌⊎◌, Bool, true, false, List, [], length, AllPairs, Contains, Option, Some, None, is_some, Vec, vec_len, vec_capacity}
+use Rattle.std.specs.Prelude.{◌≡◌, ◌≢◌, ℕ, ◌<◌, ◌≤◌, Bool, true, false, List, [], length, AllPairs, Contains, Option, None, is_some, Vec, vec_len, vec_capacity}
 use Rattle.std.specs.List.{count_by}
 use Rattle.std.specs.declared.alloc.Global.{Global}
 use Rattle.ch_graph.specs.declared.limits.TheConstants.{MOST_WEIGHT}
@@ -71,18 +71,6 @@ pub record IsExpandingAt (H : LevelsAndLegs) (x : Search) (v : ℕ) (c : Cost) :
   pub parents : AreParents x.most (rows_of H x.side) x.source (OrNode (idle_of H x) v) (costs_of H x) (keys_of H x) (parents_of H x)
   pub touched : IsTouched x.labels.costs x.touched
 
--- nodes that are settled, each once, and among them all that need to be expanded
-pub record AreUnstalled (H : LevelsAndLegs) (x : Search) (nodes : List ℕ) : Type 0 where
-  pub distinct : AllPairs ◌≢◌ nodes
-  pub settled : (v : ℕ) → Contains nodes v → (c : Cost) × IsSettled (costs_of H x) (keys_of H x) v c
-  pub whole : (v : ℕ) (c : Cost) → IsSettled (costs_of H x) (keys_of H x) v c → idle_of H x v c ⊎ Contains nodes v
-
--- the nodes with the weights of what they are known to cost, in order of node
-pub record AreWeights (best : List (Option Cost)) (nodes : List ℕ) (list : List (ℕ × ℕ)) : Type 0 where
-  pub order : AllPairs (λ a b. a.0 < b.0) list
-  pub sound : (v w : ℕ) → Contains list (v, w) → Contains nodes v × (c : Cost) × (cost_at best v ≡ Some c) × (c.weight ≡ w)
-  pub whole : (v : ℕ) (c : Cost) → Contains nodes v → cost_at best v ≡ Some c → Contains list (v, c.weight)
-
 -- the leg to a node of this number, which is its rank here
 abbrev pub leg_of_ranked : RankedLeg → Leg
 leg_of_ranked r = record { node = r.rank; cost = record { weight = r.weight; arcs = r.arcs }; middle = None }
@@ -105,7 +93,6 @@ pub record IsPartlyExpanded (H : LevelsAndLegs) (x y : Search) (v : ℕ) (c : Co
   pub expanding : IsExpandingAt H y v c
   pub relaxed : (l : Leg) → Contains legs l → IsRelaxedFrom y.most (costs_of H y) c l × IsNoEarlier y.most (costs_of H y) (parents_of H y) v c l
   pub settled : KeepsSettled H x y
-  pub stays : KeepsSettled H y x
   pub measure : count_unsettled_in H y ≡ count_unsettled_in H x
 
 -- a search for n nodes in which nothing is left of an earlier one

@@ -21,10 +21,14 @@ weighed_leg l = record { node = l.node; cost = weighed_cost l.cost; middle = l.m
 abbrev pub weighed : LevelsAndLegs → LevelsAndLegs
 weighed H = record { level = H.level; up = map (map weighed_leg) H.up; down = map (map weighed_leg) H.down }
 
--- a search of all paths from s by weights alone, which stalls
+-- a search of the paths from s that weigh no more than `most`, by weights alone, which stalls
+abbrev pub IsWeightSearchTo : ℕ → LevelsAndLegs → Side → ℕ → List (Option Cost) → List (Option Cost) → Type 0
+IsWeightSearchTo most H side s best queue =
+    IsSearch most (rows_of (weighed H) side) s (IsStalled (rows_of (weighed H) side) (rows_of (weighed H) (other side)) s) best queue
+
+-- a search of all paths
 abbrev pub IsWeightSearch : LevelsAndLegs → Side → ℕ → List (Option Cost) → List (Option Cost) → Type 0
-IsWeightSearch H side s best queue =
-    IsSearch MOST_WEIGHT (rows_of (weighed H) side) s (IsStalled (rows_of (weighed H) side) (rows_of (weighed H) (other side)) s) best queue
+IsWeightSearch = IsWeightSearchTo MOST_WEIGHT
 
 -- the least weight over the nodes that both sides settled is known
 abbrev pub IsWeightSeen : (best_up queue_up best_down queue_down : List (Option Cost)) → Option ℕ → Type 0

@@ -1,5 +1,5 @@
 -- A search for distances as the program keeps it: by weights alone, for both directions at once.
-use Rattle.std.specs.Prelude.{◌≡◌, ℕ, ◌+◌, ◌-◌, ◌*◌, ◌<◌, ◌≤◌, ◌⊎◌, if◌then◌else◌, nat_eq, List, length, map, slice_index, slice_index_or, slice_set, Contains, Option, Some, None, vec_len}
+use Rattle.std.specs.Prelude.{◌≡◌, ◌≢◌, ℕ, ◌+◌, ◌-◌, ◌*◌, ◌<◌, ◌≤◌, ◌⊎◌, if◌then◌else◌, nat_eq, List, length, map, slice_index, slice_index_or, slice_set, AllPairs, Contains, Option, Some, None, vec_len}
 use Rattle.std.specs.Option.{option_map}
 use Rattle.ch_graph.specs.declared.limits.TheConstants.{MOST_WEIGHT}
 use Rattle.ch_graph.specs.declared.cost.Cost.{Cost}
@@ -10,10 +10,10 @@ use Rattle.ch_query.specs.declared.side.Side.{Side}
 use Rattle.ch_query.specs.declared.side.Side.TheVariants.{Up, Down}
 use Rattle.ch_query.specs.declared.weight_search.TheConstants.{UNREACHED}
 use Rattle.ch_query.specs.declared.weight_search.WeightSearch.{WeightSearch}
-use Rattle.ch_query.specs.Search.{IsSettled, IsRelaxedFrom, IsUpwardCost, IsExpanding, OrNode, IsStalled, count_unsettled}
+use Rattle.ch_query.specs.Search.{IsSettled, IsRelaxedFrom, IsUpwardCost, IsExpanding, OrNode, IsStalled, IsEmpty, count_unsettled}
 use Rattle.ch_query.specs.Side.{rows_of, other, state_of}
 use Rattle.ch_query.specs.Underway.{IsTouched}
-use Rattle.ch_query.specs.Weighed.{weighed, IsWeightSearch}
+use Rattle.ch_query.specs.Weighed.{weighed, IsWeightSearchTo}
 
 -- a weight as a cost
 abbrev pub weight_cost : ℕ → Cost
@@ -50,45 +50,71 @@ pub record IsSizedFor (n : ℕ) (x : WeightSearch) : Type 0 where
   pub queue : length x.queue ≡ 2 * n
   pub touched : IsTouched (map known_cost x.known.items) x.touched
 
--- a search between two states
-pub record IsWeighing (H : LevelsAndLegs) (x : WeightSearch) : Type 0 where
+-- a search that has begun on this side, between two states
+pub record IsWeighingOn (H : LevelsAndLegs) (side : Side) (x : WeightSearch) : Type 0 where
   pub levelled : IsLevelled H
   pub sizes : IsSizedFor (nodes_of H) x
-  pub sides : (side : Side) → IsWeightSearch H side (source_of x side) (side_costs H side x) (side_keys H side x)
+  pub search : IsWeightSearchTo x.most H side (source_of x side) (side_costs H side x) (side_keys H side x)
+
+-- one that has begun on both sides, of all paths
+pub record IsWeighing (H : LevelsAndLegs) (x : WeightSearch) : Type 0 where
+  pub most : x.most ≡ MOST_WEIGHT
+  pub sides : (side : Side) → IsWeighingOn H side x
 
 -- a search that takes the legs of v on one side, where it was settled last, at this weight
 pub record IsWeighingAt (H : LevelsAndLegs) (side : Side) (x : WeightSearch) (v weight : ℕ) : Type 0 where
   pub levelled : IsLevelled H
   pub sizes : IsSizedFor (nodes_of H) x
   pub within : v < nodes_of H
-  pub here : IsExpanding MOST_WEIGHT (rows_of (weighed H) side) (source_of x side) (OrNode (is_idle_on H side (source_of x side)) v) (side_costs H side x) (side_keys H side x) v (weight_cost weight)
-  pub there : IsWeightSearch H (other side) (source_of x (other side)) (side_costs H (other side) x) (side_keys H (other side) x)
+  pub here : IsExpanding x.most (rows_of (weighed H) side) (source_of x side) (OrNode (is_idle_on H side (source_of x side)) v) (side_costs H side x) (side_keys H side x) v (weight_cost weight)
 
--- of the same source and target
-abbrev pub IsSameWeighing : WeightSearch → WeightSearch → Type 0
-IsSameWeighing x y = (y.start ≡ x.start) × (y.end ≡ x.end)
+-- of the same source and target, for paths of as much weight
+pub record IsSameWeighing (x y : WeightSearch) : Type 0 where
+  pub start : y.start ≡ x.start
+  pub end : y.end ≡ x.end
+  pub most : y.most ≡ x.most
 
--- what is settled in y was settled in x, at the same cost
-abbrev pub KeepsSides : LevelsAndLegs → WeightSearch → WeightSearch → Type 0
-KeepsSides H x y = (side : Side) (v : ℕ) (c : Cost) → IsSettled (side_costs H side y) (side_keys H side y) v c → IsSettled (side_costs H side x) (side_keys H side x) v c
+-- this side knows what it knew, and has the keys that it had
+pub record IsSameSide (H : LevelsAndLegs) (side : Side) (x y : WeightSearch) : Type 0 where
+  pub costs : side_costs H side y ≡ side_costs H side x
+  pub keys : side_keys H side y ≡ side_keys H side x
+
+-- what is settled on this side in y was settled in x, at the same cost
+abbrev pub KeepsSide : LevelsAndLegs → Side → WeightSearch → WeightSearch → Type 0
+KeepsSide H side x y = (v : ℕ) (c : Cost) → IsSettled (side_costs H side y) (side_keys H side y) v c → IsSettled (side_costs H side x) (side_keys H side x) v c
+
+-- how many states of this side are not settled
+abbrev pub count_unsettled_on : LevelsAndLegs → Side → WeightSearch → ℕ
+count_unsettled_on H side x = count_unsettled (side_costs H side x) (side_keys H side x)
 
 -- how many states are not settled
 abbrev pub count_unsettled_states : LevelsAndLegs → WeightSearch → ℕ
-count_unsettled_states H x = count_unsettled (side_costs H Up x) (side_keys H Up x) + count_unsettled (side_costs H Down x) (side_keys H Down x)
+count_unsettled_states H x = count_unsettled_on H Up x + count_unsettled_on H Down x
+
+-- y is what x became when this side went on from the state that it settled last: the other side stays, and so does what is settled
+pub record HasGoneOn (H : LevelsAndLegs) (side : Side) (x y : WeightSearch) : Type 0 where
+  pub weighing : IsWeighingOn H side y
+  pub same : IsSameWeighing x y
+  pub there : IsSameSide H (other side) x y
+  pub settled : KeepsSide H side x y
+  pub stays : KeepsSide H side y x
+  pub measure : count_unsettled_on H side y ≡ count_unsettled_on H side x
 
 -- what showing a state this weight changes: nothing, where no less is known or it is above the limit, or the state gets it as weight and key
 abbrev pub ShowsWeight : WeightSearch → ℕ → ℕ → WeightSearch → Type 0
 ShowsWeight x state weight y =
-    ((y.known.items ≡ x.known.items) × (y.queue ≡ x.queue) × (weight ≤ MOST_WEIGHT → slice_index x.known.items state ≤ weight))
-    ⊎ ((weight ≤ MOST_WEIGHT) × (weight < slice_index x.known.items state) × (y.known.items ≡ slice_set x.known.items state weight) × (y.queue ≡ slice_set x.queue state (Some weight)))
+    ((y.known.items ≡ x.known.items) × (y.queue ≡ x.queue) × (weight ≤ x.most → slice_index x.known.items state ≤ weight))
+    ⊎ ((weight ≤ x.most) × (weight < slice_index x.known.items state) × (y.known.items ≡ slice_set x.known.items state weight) × (y.queue ≡ slice_set x.queue state (Some weight)))
 
 -- y is what x became when these legs of v were taken
 pub record IsPartlyWeighed (H : LevelsAndLegs) (side : Side) (x y : WeightSearch) (v weight : ℕ) (legs : List Leg) : Type 0 where
   pub same : IsSameWeighing x y
   pub weighing : IsWeighingAt H side y v weight
-  pub relaxed : (l : Leg) → Contains legs l → IsRelaxedFrom MOST_WEIGHT (side_costs H side y) (weight_cost weight) l
-  pub settled : KeepsSides H x y
-  pub measure : count_unsettled_states H y ≡ count_unsettled_states H x
+  pub relaxed : (l : Leg) → Contains legs l → IsRelaxedFrom y.most (side_costs H side y) (weight_cost weight) l
+  pub there : IsSameSide H (other side) x y
+  pub settled : KeepsSide H side x y
+  pub stays : KeepsSide H side y x
+  pub measure : count_unsettled_on H side y ≡ count_unsettled_on H side x
 
 -- a search for n nodes in which nothing is left of an earlier one
 pub record IsCleanFor (n : ℕ) (x : WeightSearch) : Type 0 where
@@ -119,3 +145,15 @@ AtRank H rank P = (v : ℕ) → v < nodes_of H → rank_of H v ≡ rank → P v
 -- a search without the key of this state
 abbrev pub without_state : WeightSearch → ℕ → WeightSearch
 without_state x state = record x { queue = slice_set x.queue state None }
+
+-- ranks and weights of states of one side that are settled, each rank once, and among them all that need to be expanded
+pub record AreUnstalledOn (H : LevelsAndLegs) (side : Side) (x : WeightSearch) (list : List (ℕ × ℕ)) : Type 0 where
+  pub distinct : AllPairs (λ a b. a.0 ≢ b.0) list
+  pub settled : (rank weight : ℕ) → Contains list (rank, weight) → (v : ℕ) × (v < nodes_of H) × (rank_of H v ≡ rank) × IsSettled (side_costs H side x) (side_keys H side x) v (weight_cost weight)
+  pub whole : (v : ℕ) (c : Cost) → IsSettled (side_costs H side x) (side_keys H side x) v c → is_idle_on H side (source_of x side) v c ⊎ Contains list (rank_of H v, c.weight)
+
+-- a search that has begun on this side alone, and has settled nothing
+pub record HasBegunOn (H : LevelsAndLegs) (side : Side) (x : WeightSearch) : Type 0 where
+  pub weighing : IsWeighingOn H side x
+  pub alone : IsEmpty (side_keys H (other side) x)
+  pub fresh : (v : ℕ) (c : Cost) → IsSettled (side_costs H side x) (side_keys H side x) v c → ⊥

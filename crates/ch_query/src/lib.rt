@@ -6,8 +6,8 @@
 //! the walk of least weight and then of fewest arcs that the rules of choice name, which is one ([`laws`]).
 //! A distance takes no memory: its room is a [`Scratch`], which one query leaves clean for the next.
 //! [`spread`] lists all that a node reaches by legs to higher nodes, with the exact least costs, on every
-//! hierarchy with levels; [`search_space`] lists those of them over which distances lead, for tables, on
-//! every hierarchy that is right for a graph. [`answer_all`] gives the answers to many queries in their order,
+//! hierarchy with levels; [`search_space`] lists those of them over which distances lead, on
+//! every hierarchy that is right for a graph, and [`ranked_space`] the same for tables. [`answer_all`] gives the answers to many queries in their order,
 //! however a plan cuts them among workers. [`check`] accepts a saved hierarchy, whoever made it, exactly where
 //! it is right for the graph, and else tells its first fault; [`check_watched`] is the same for a gate that is told how far
 //! it is.
@@ -40,7 +40,7 @@ pub use query::{distance, route};
 pub use routes::Route;
 pub use scratch::Scratch;
 pub use side::Side;
-pub use spaces::search_space;
+pub use spaces::{ranked_space, search_space};
 pub use spreading::spread;
 
 #[cfg(test)]

@@ -41,9 +41,9 @@ impl Sides {
 /// nodes.
 #[derive(Drop)]
 pub struct Scratch {
-    /// For distances.
+    /// For distances and search spaces.
     pub(crate) weights: WeightSearch,
-    /// For routes, spreads and search spaces: made for the first of them.
+    /// For routes and spreads: made for the first of them.
     sides: Option<Sides>,
     nodes: u32,
 }
@@ -61,7 +61,7 @@ impl Model for Scratch {
 
 impl Scratch {
     /// Room for queries among `nodes` nodes. It takes a number of steps and an amount of memory that
-    /// grow with them; distances take no more, and the first route, spread or search space as much twice again.
+    /// grow with them; distances and search spaces take no more, and the first route or spread as much twice again.
     ///
     /// # Errors
     /// `AllocError` where there is no memory.

@@ -150,7 +150,6 @@ impl Search {
         ensures underway { IsUnderway hierarchy.now self.new }
         ensures same { IsSameSearch self.old self.new }
         ensures settled { KeepsSettled hierarchy.now self.old self.new }
-        ensures stays { KeepsSettled hierarchy.now self.new self.old }
         ensures measure { count_unsettled_in hierarchy.now self.new ≡ count_unsettled_in hierarchy.now self.old }
     {
         for leg in self.side.ranked_legs(hierarchy, rank) {
@@ -175,23 +174,19 @@ impl Search {
         false
     }
 
-    /// Takes the legs of the node that was settled last, unless the search stalls at it, and says whether it
-    /// did.
-    pub(crate) fn settle(&mut self, hierarchy: &Hierarchy, node: u32, rank: u32, cost: Cost) -> bool
+    /// Takes the legs of the node that was settled last, unless the search stalls at it.
+    pub(crate) fn settle(&mut self, hierarchy: &Hierarchy, node: u32, rank: u32, cost: Cost)
         requires expanding { IsExpandingAt hierarchy.now self.old node cost }
         requires rank { rank ≡ rank_of hierarchy.now node }
         ensures underway { IsUnderway hierarchy.now self.new }
         ensures same { IsSameSearch self.old self.new }
         ensures settled { KeepsSettled hierarchy.now self.old self.new }
-        ensures stays { KeepsSettled hierarchy.now self.new self.old }
         ensures measure { count_unsettled_in hierarchy.now self.new ≡ count_unsettled_in hierarchy.now self.old }
-        ensures stalled { result ≡ false → idle_of hierarchy.now self.new node cost }
     {
         if self.stalls && self.is_stalled(hierarchy, node, rank, cost) {
-            return false;
+            return;
         }
         self.expand(hierarchy, node, rank, cost);
-        true
     }
 
     /// Whether this side is to settle next: it has the least key of both, or neither has one. Of equal keys this

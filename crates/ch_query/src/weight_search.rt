@@ -3,13 +3,13 @@
 //! Of all walks of least weight the distance is the weight, so neither arcs are counted nor parents kept. A node has a state on each side,
 //! which stand beside each other, and one queue has the states of both sides: so no two queues are compared, and what the other side
 //! knows of a node is at hand.
-ghost use Rattle.std.specs.Prelude.{◌≡◌, ℕ, ◌<◌, ◌≤◌, length, slice_set, map, Some, None, true, false, IfOk, MatchOption};
+ghost use Rattle.std.specs.Prelude.{◌≡◌, ℕ, ◌<◌, ◌≤◌, length, slice_set, map, Some, true, false, IfOk, MatchOption};
 ghost use Rattle.ch_graph.specs.declared.limits.TheConstants.{MOST_WEIGHT};
 ghost use Rattle.ch_hierarchy.specs.Hierarchy.{nodes_of, IsLevelled};
 ghost use Rattle.ch_hierarchy.specs.Ranked.{rank_of};
 ghost use Rattle.ch_query.specs.Distance.{IsKeptForSome, IsLeastWeight};
 ghost use Rattle.ch_query.specs.Underway.{IsTouched};
-ghost use Rattle.ch_query.specs.Weights.{known_cost, is_idle_on, weight_cost, source_of, IsSizedFor, IsWeighing, IsWeighingAt, IsSameWeighing, KeepsSides, ShowsWeight, AtRank, IsCleanFor, IsLeastSoFar, IsLeastState, AreKeysFrom, count_unsettled_states, without_state};
+ghost use Rattle.ch_query.specs.Weights.{known_cost, is_idle_on, weight_cost, source_of, IsSizedFor, IsWeighingAt, IsSameWeighing, HasGoneOn, ShowsWeight, AtRank, IsCleanFor, IsLeastSoFar, IsLeastState, AreKeysFrom, count_unsettled_states, without_state};
 
 use crate::side::Side;
 use ch_graph::limits::MOST_WEIGHT;
@@ -25,6 +25,8 @@ pub(crate) const UNREACHED: u64 = 1 << 62;
 pub(crate) struct WeightSearch {
     pub(crate) start: u32,
     pub(crate) end: u32,
+    /// The most that a path may weigh. A leg that would make it weigh more is not taken, so no state that is farther away gets a key.
+    pub(crate) most: u64,
     /// By state: the least weight known of a path from the start to its node, or from there to the end.
     pub(crate) known: Vec<u64>,
     /// The states that are reached and not settled, by weight.
@@ -48,6 +50,7 @@ impl WeightSearch {
         Ok(WeightSearch {
             start: 0,
             end: 0,
+            most: MOST_WEIGHT,
             known,
             queue,
             touched,
@@ -56,7 +59,7 @@ impl WeightSearch {
 
     /// Gives a state this weight.
     #[inline]
-    fn reach(&mut self, state: u32, weight: u64)
+    pub(crate) fn reach(&mut self, state: u32, weight: u64)
         requires state { state < length self.old.known.items }
         requires weight { weight ≤ MOST_WEIGHT }
         requires queue { length self.old.queue ≡ length self.old.known.items }
@@ -77,13 +80,14 @@ impl WeightSearch {
     #[inline]
     fn relax(&mut self, state: u32, weight: u64)
         requires state { state < length self.old.known.items }
+        requires most { self.old.most ≤ MOST_WEIGHT }
         requires queue { length self.old.queue ≡ length self.old.known.items }
         requires touched { IsTouched (map known_cost self.old.known.items) self.old.touched }
         ensures shows { ShowsWeight self.old state weight self.new }
         ensures touched { IsTouched (map known_cost self.new.known.items) self.new.touched }
         ensures same { IsSameWeighing self.old self.new }
     {
-        if weight <= MOST_WEIGHT && weight < self.known[state as usize] {
+        if weight <= self.most && weight < self.known[state as usize] {
             self.reach(state, weight);
         }
     }
@@ -93,10 +97,7 @@ impl WeightSearch {
     fn expand(&mut self, hierarchy: &Hierarchy, side: Side, rank: u32, weight: u64)
         requires rank { rank < nodes_of hierarchy.now }
         requires weighing { AtRank hierarchy.now rank (λ v. IsWeighingAt hierarchy.now side self.old v weight) }
-        ensures weighing { IsWeighing hierarchy.now self.new }
-        ensures same { IsSameWeighing self.old self.new }
-        ensures settled { KeepsSides hierarchy.now self.old self.new }
-        ensures measure { count_unsettled_states hierarchy.now self.new ≡ count_unsettled_states hierarchy.now self.old }
+        ensures { HasGoneOn hierarchy.now side self.old self.new }
     {
         for leg in side.ranked_legs(hierarchy, rank) {
             self.relax(side.state(leg.rank), weight + leg.weight);
@@ -120,19 +121,25 @@ impl WeightSearch {
     }
 
     /// Takes the legs of the state that was settled last, unless the search stalls at it ("stall on demand", Geisberger,
-    /// Sanders, Schultes and Delling 2008).
+    /// Sanders, Schultes and Delling 2008), and says whether it did.
     #[inline]
-    fn settle(&mut self, hierarchy: &Hierarchy, side: Side, rank: u32, weight: u64)
+    pub(crate) fn settle(
+        &mut self,
+        hierarchy: &Hierarchy,
+        side: Side,
+        rank: u32,
+        weight: u64,
+    ) -> bool
         requires rank { rank < nodes_of hierarchy.now }
         requires weighing { AtRank hierarchy.now rank (λ v. IsWeighingAt hierarchy.now side self.old v weight) }
-        ensures weighing { IsWeighing hierarchy.now self.new }
-        ensures same { IsSameWeighing self.old self.new }
-        ensures settled { KeepsSides hierarchy.now self.old self.new }
-        ensures measure { count_unsettled_states hierarchy.now self.new ≡ count_unsettled_states hierarchy.now self.old }
+        ensures gone { HasGoneOn hierarchy.now side self.old self.new }
+        ensures stalled { result ≡ false → AtRank hierarchy.now rank (λ v. is_idle_on hierarchy.now side (source_of self.new side) v (weight_cost weight)) }
     {
-        if !self.is_stalled(hierarchy, side, rank, weight) {
-            self.expand(hierarchy, side, rank, weight);
+        if self.is_stalled(hierarchy, side, rank, weight) {
+            return false;
         }
+        self.expand(hierarchy, side, rank, weight);
+        true
     }
 
     /// Takes out the state of least weight, where that is less than `limit`.
@@ -177,12 +184,13 @@ impl WeightSearch {
     {
         self.start = start;
         self.end = end;
+        self.most = MOST_WEIGHT;
         self.reach(Side::Up.state(hierarchy.rank(start)), 0);
         self.reach(Side::Down.state(hierarchy.rank(end)), 0);
     }
 
     /// Takes all that is known away, in as many steps as states were reached.
-    fn clean(&mut self)
+    pub(crate) fn clean(&mut self)
         requires { (n : ℕ) × IsSizedFor n self.old }
         ensures { (n : ℕ) → IsSizedFor n self.old → IsCleanFor n self.new }
     {

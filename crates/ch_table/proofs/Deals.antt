@@ -1,11 +1,10 @@
--- Nodes that are dealt over pieces: each has an item, and no two have the same.
+-- Nodes that are dealt over pieces by their ranks: each rank has an item, and no two have the same.
 use Rattle.std.proofs.Common.{◌≡◌, ℕ, zero, suc, ◌+◌, ◌-◌, ◌*◌, ◌/◌, ◌%◌, ◌<◌, ◌≤◌, min, sym, ap, ◌∙◌, subst, arith, inl, inr}
-use Rattle.std.specs.Prelude.{slice_index}
 use Rattle.std.proofs.Math.Nat.{mod-lt}
 use Rattle.std.proofs.lemmas.Nat.{div-add-mod', mul-le, same_from_place}
 use Rattle.std.proofs.lemmas.Bool.{cases_lt, lt-ltb, le-ltb}
-use Rattle.ch_hierarchy.specs.Hierarchy.{LevelsAndLegs, nodes_of, IsLevelled}
-use Rattle.ch_table.specs.Dealing.{Deal, before_last, last_size, to_all, turn_of, item_at, item_of, item_in, IsDealOf, deal_of}
+use Rattle.ch_hierarchy.specs.Hierarchy.{LevelsAndLegs, nodes_of}
+use Rattle.ch_table.specs.Dealing.{Deal, before_last, last_size, to_all, turn_of, item_at, item_of, deal_of}
 
 -- a number times k is below another times k only where it is less
 less_times : (a b k r : ℕ) → a * k ≤ r → r < b * k → a < b
@@ -110,22 +109,18 @@ module _ (d : Deal) (some : 0 < d.nodes) (positive : 0 < d.piece) where
       let rounds : t.1 ≡ u.1 = (let h = at.2 in let h' = at'.2 in omega arith) in
       first.count ∙ (λ i. rounds i * b + min (rounds i) z + split.0 i) ∙ sym second.count
 
--- the item of a level is below the number of nodes
-pub item_below : (d : Deal) → 0 < d.piece → (level : ℕ) → 0 < level → level ≤ d.nodes → item_of d level < d.nodes
-item_below d positive level low high =
-    let rank : d.nodes - level < d.nodes = omega arith in
-    (stands d (omega arith) positive (d.nodes - level) (turn_of d (d.nodes - level)) (turn_is d (omega arith) positive (d.nodes - level) rank)).3
+-- the item of a rank is below the number of nodes
+pub item_below : (d : Deal) → 0 < d.piece → (rank : ℕ) → rank < d.nodes → item_of d rank < d.nodes
+item_below d positive rank lt = (stands d (omega arith) positive rank (turn_of d rank) (turn_is d (omega arith) positive rank lt)).3
 
--- and no two levels have the same
-pub items_apart : (d : Deal) → 0 < d.piece → (k l : ℕ) → 0 < k → k ≤ d.nodes → 0 < l → l ≤ d.nodes → item_of d k ≡ item_of d l → k ≡ l
-items_apart d positive k l low high low' high' same =
-    let rank = ranks_apart d (omega arith) positive (d.nodes - k) (d.nodes - l) (omega arith) (omega arith) same in omega arith
+-- and no two ranks have the same
+pub items_apart : (d : Deal) → 0 < d.piece → (r s : ℕ) → r < d.nodes → s < d.nodes → item_of d r ≡ item_of d s → r ≡ s
+items_apart d positive r s low low' same = ranks_apart d (omega arith) positive r s low low' same
 
 -- a round ends within its piece
-pub round_fits : (d : Deal) → 0 < d.piece → (level : ℕ) → 0 < level → level ≤ d.nodes → (turn : ℕ × ℕ) → turn ≡ turn_of d (d.nodes - level) → turn.1 ≤ min ((turn.0 + 1) * d.piece) d.nodes - 1
-round_fits d positive level low high turn is =
-    let rank : d.nodes - level < d.nodes = omega arith in
-    let at = stands d (omega arith) positive (d.nodes - level) turn (subst (IsTurn (before_last d) (last_size d) d.piece (d.nodes - level)) (sym is) (turn_is d (omega arith) positive (d.nodes - level) rank)) in
+pub round_fits : (d : Deal) → 0 < d.piece → (rank : ℕ) → rank < d.nodes → (turn : ℕ × ℕ) → turn ≡ turn_of d rank → turn.1 ≤ min ((turn.0 + 1) * d.piece) d.nodes - 1
+round_fits d positive rank lt turn is =
+    let at = stands d (omega arith) positive rank turn (subst (IsTurn (before_last d) (last_size d) d.piece rank) (sym is) (turn_is d (omega arith) positive rank lt)) in
     let sum = at.2 in omega arith
 
 -- what numbers of nodes and items a deal was made of
@@ -133,29 +128,3 @@ pub dealt_by : (H : LevelsAndLegs) (d : Deal) (nodes piece p : ℕ) → d ≡ re
 dealt_by H d nodes piece p is same same' =
     let given : Deal = record { nodes = nodes; piece = piece } in
     let there : given ≡ deal_of H p = λ k. record { nodes = same k; piece = same' k } in is ∙ there
-
-module _ (H : LevelsAndLegs) (levelled : IsLevelled H) (d : Deal) (dealt : IsDealOf H d) where
-  -- a node's level is one of those that are dealt
-  level_dealt : (v : ℕ) → v < nodes_of H → (0 < slice_index H.level v) × (slice_index H.level v ≤ d.nodes)
-  level_dealt v lt = let l = levelled.levels.0 v 0 lt in let count = dealt.0 in (omega arith, omega arith)
-
-  -- each node has an item
-  pub node_item_below : (v : ℕ) → v < nodes_of H → item_in H d v < nodes_of H
-  node_item_below v lt =
-      let l = level_dealt v lt in
-      let below = item_below d dealt.1 (slice_index H.level v) l.0 l.1 in
-      let count = dealt.0 in omega arith
-
-  -- and no two nodes have the same
-  pub nodes_apart : (u v : ℕ) → u < nodes_of H → v < nodes_of H → item_in H d u ≡ item_in H d v → u ≡ v
-  nodes_apart u v lt lt' same =
-      let k = level_dealt u lt in
-      let l = level_dealt v lt' in
-      let levels = items_apart d dealt.1 (slice_index H.level u) (slice_index H.level v) k.0 k.1 l.0 l.1 same in
-      elim (cases_lt u v) [
-        | inl less ↦ absurd (levelled.levels.1 u v 0 less lt' levels)
-        | inr rest ↦ elim (cases_lt v u) [
-          | inl more ↦ absurd (levelled.levels.1 v u 0 more lt (sym levels))
-          | inr equal ↦ omega arith
-        ]
-      ]

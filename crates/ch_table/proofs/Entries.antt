@@ -23,7 +23,7 @@ use Rattle.ch_table.specs.Entries.{entry_at, AreEntries}
 use Rattle.ch_graph.proofs.Lists.{contains_map, contains_map_of, contains_filter, contains_filter_of, pairs_map, pairs_append}
 
 -- an upward path from a node ends at a node
-pub path_within : (H : LevelsAndLegs) (rows : List (List Leg)) → AreLegsUp H rows → (a b : ℕ) (legs : List Leg) → a < nodes_of H → IsUpwardPath rows a b legs → b < nodes_of H
+path_within : (H : LevelsAndLegs) (rows : List (List Leg)) → AreLegsUp H rows → (a b : ℕ) (legs : List Leg) → a < nodes_of H → IsUpwardPath rows a b legs → b < nodes_of H
 path_within H rows up a b [] lt p = subst (λ q. q < nodes_of H) p lt
 path_within H rows up a b (l ∷ legs) lt p = path_within H rows up l.node b legs (All-contains (IsLegUp H a) _ l (up.1 a).1 p.0).node p.1
 

@@ -1,4 +1,4 @@
--- Lists of nodes and weights, their entries, and the buckets that hold them.
+-- Lists of ranks and weights, their entries, and the buckets that hold them.
 use Rattle.std.proofs.Common.{◌≡◌, ℕ, ◌+◌, ◌<◌, List, [], ◌++◌, length, map, Contains, get_or, refl, sym, ap, subst, arith, inl, inr}
 use Rattle.std.specs.Prelude.{◌==◌, All, slice_index_or}
 use Rattle.std.specs.List.{filter}
@@ -23,7 +23,7 @@ module _ (item : ℕ → ℕ) (lists : List (List (ℕ × ℕ))) where
   pub entries_of_none : AreEntriesOf item lists 0 []
   entries_of_none = record {
     sound = λ q j x h. absurd (contains_none (q, (j, x)) h);
-    whole = λ v j x lt h. absurd (omega arith);
+    whole = λ r j x lt h. absurd (omega arith);
   }
 
   -- one list more
@@ -39,20 +39,20 @@ module _ (item : ℕ → ℕ) (lists : List (List (ℕ × ℕ))) where
               let here = subst (λ w. Contains next (r.0.0, w)) weight r.1 in
               (omega arith, r.0.0, subst (λ p. Contains (slice_index_or lists p []) (r.0.0, x)) place here, ap (λ (e : ℕ × (ℕ × ℕ)). e.0) r.2)
         ];
-        whole = λ v j x lt c. elim (cases_lt j k) [
-          | inl before ↦ Contains-append_left entries (map (entry_of item k) next) (item v, (j, x)) (h.whole v j x before c)
+        whole = λ r j x lt c. elim (cases_lt j k) [
+          | inl before ↦ Contains-append_left entries (map (entry_of item k) next) (item r, (j, x)) (h.whole r j x before c)
           | inr now ↦
               let e : j ≡ k = omega arith in
-              let here = subst (λ p. Contains (slice_index_or lists p []) (v, x)) e c in
-              Contains-append_right entries (map (entry_of item k) next) (item v, (j, x))
-              (subst (λ p. Contains (map (entry_of item k) next) (item v, (p, x))) (sym e) (contains_map (entry_of item k) next (v, x) here))
+              let here = subst (λ p. Contains (slice_index_or lists p []) (r, x)) e c in
+              Contains-append_right entries (map (entry_of item k) next) (item r, (j, x))
+              (subst (λ p. Contains (map (entry_of item k) next) (item r, (p, x))) (sym e) (contains_map (entry_of item k) next (r, x) here))
         ];
       }
 
   module _ (n : ℕ) (entries : List (ℕ × (ℕ × ℕ))) (h : AreEntriesOf item lists (length lists) entries) (below : All (λ list. All (λ pair. item pair.0 < n) list) lists) where
-    -- the nodes of the lists have items
-    entry_below : (v j x : ℕ) → j < length lists → Contains (slice_index_or lists j []) (v, x) → item v < n
-    entry_below v j x lt c = All-contains (λ (pair : ℕ × ℕ). item pair.0 < n) (slice_index_or lists j []) (v, x) (below j [] lt) c
+    -- the ranks of the lists have items
+    entry_below : (r j x : ℕ) → j < length lists → Contains (slice_index_or lists j []) (r, x) → item r < n
+    entry_below r j x lt c = All-contains (λ (pair : ℕ × ℕ). item pair.0 < n) (slice_index_or lists j []) (r, x) (below j [] lt) c
 
     -- so each entry is of the bucket of an item
     pub keys_within : All (λ e. e.0 < n) entries
@@ -73,7 +73,7 @@ module _ (item : ℕ → ℕ) (lists : List (List (ℕ × ℕ))) where
           let s = contains_filter_of (λ e. e.0 == q) entries r.0 r.1 in
           let is : r.0 ≡ (q, (j, x)) = λ i. (eqb-true _ _ s.1 i, r.2 i) in
           h.sound q j x (subst (Contains entries) is s.0);
-      whole = λ v j x lt c. subst (λ l. Contains l (j, x)) (sym (made.each (item v) (entry_below v j x lt c)))
-          (contains_map (λ (e : ℕ × (ℕ × ℕ)). e.1) (filter (λ e. e.0 == item v) entries) (item v, (j, x))
-          (contains_filter (λ e. e.0 == item v) entries (item v, (j, x)) (h.whole v j x lt c) (let e : item v ≡ item v = refl in grind (arith, nat_tests))));
+      whole = λ r j x lt c. subst (λ l. Contains l (j, x)) (sym (made.each (item r) (entry_below r j x lt c)))
+          (contains_map (λ (e : ℕ × (ℕ × ℕ)). e.1) (filter (λ e. e.0 == item r) entries) (item r, (j, x))
+          (contains_filter (λ e. e.0 == item r) entries (item r, (j, x)) (h.whole r j x lt c) (let e : item r ≡ item r = refl in grind (arith, nat_tests))));
     }

@@ -4,19 +4,19 @@ use Rattle.std.specs.Prelude.{All, slice_index, slice_index_or, slice_range, Vec
 use Rattle.std.specs.declared.alloc.Global.{Global}
 use Rattle.std.specs.List.{AllZip}
 use Rattle.std.proofs.lemmas.List.Edits.{length-between, get_or-between}
-use Rattle.std.proofs.lemmas.List.Elements.{All-get_or, Contains-get_or}
+use Rattle.std.proofs.lemmas.List.Elements.{Contains-get_or}
 use Rattle.std.proofs.lemmas.List.FromFn.{length-map-range_with_len, get_or-map-range_with_len}
 use Rattle.std.proofs.lemmas.Nat.{same_from_place, mul-le}
 use Rattle.ch_graph.proofs.Lists.{zipped_length}
 use Rattle.ch_hierarchy.specs.Hierarchy.{LevelsAndLegs, nodes_of, IsLevelled}
+use Rattle.ch_hierarchy.proofs.code.Ranked.{rank_below}
 use Rattle.ch_query.specs.declared.side.Side.{Side}
 use Rattle.ch_query.specs.declared.side.Side.TheVariants.{Up, Down}
 use Rattle.ch_query.specs.Distance.{IsKeptForSome}
 use Rattle.ch_query.specs.Limits.{IsWithin, IsDistanceWithin}
-use Rattle.ch_query.specs.SearchSpace.{IsSearchSpace}
-use Rattle.ch_query.specs.Side.{rows_of}
+use Rattle.ch_query.specs.SearchSpace.{IsRankedSpace}
 use Rattle.ch_query.specs.SearchSpaceLaws.{IsSharedSum, IsLeastSharedSum}
-use Rattle.ch_query.proofs.two_sides.SharedSums.{spaces_give_distance}
+use Rattle.ch_query.proofs.two_sides.SharedSums.{ranked_spaces_give_distance}
 use Rattle.ch_work.specs.declared.limits.TheConstants.{MOST_CELLS}
 use Rattle.ch_work.specs.Owed.{owed_by, IsLeastOwed}
 use Rattle.ch_work.specs.Pieces.{pieces_of}
@@ -24,7 +24,6 @@ use Rattle.ch_work.proofs.PieceLists.{piece_of}
 use Rattle.ch_table.specs.Buckets.{HoldSearchSpaces}
 use Rattle.ch_table.specs.Sums.{BothSides, AreWithin, IsEntryAmong, IsOwedAmong}
 use Rattle.ch_table.specs.Table.{IsRowBy, rows_of_cells}
-use Rattle.ch_table.proofs.Entries.{path_within, rows_up}
 use Rattle.ch_table.proofs.Held.{held_within}
 
 -- two lists of one length that are related at each place
@@ -57,23 +56,22 @@ row_fits rows columns i lt =
     let next : (i + 1) * columns ≡ i * columns + columns = omega arith in
     let most = mul-le (i + 1) columns rows columns (omega arith) (omega arith) in omega arith
 
--- a search space lies within the nodes
-space_within : (H : LevelsAndLegs) (side : Side) (limit : Option ℕ) (levelled : IsLevelled H) (s v x : ℕ) (list : List (ℕ × ℕ)) → s < nodes_of H → IsSearchSpace H side limit s list → Contains list (v, x) → v < nodes_of H
-space_within H side limit levelled s v x list lt space c =
-    let path = (space.sound v x c).0 in path_within H (rows_of H side) (rows_up H side levelled) s v path.1.path.0 lt path.1.path.1
+-- the ranks of a search space are below the number of nodes
+space_within : (H : LevelsAndLegs) (side : Side) (limit : Option ℕ) → IsLevelled H → (s rank x : ℕ) (list : List (ℕ × ℕ)) → IsRankedSpace H side limit s list → Contains list (rank, x) → rank < nodes_of H
+space_within H side limit levelled s rank x list space c =
+    let node = space.sound rank x c in subst (λ q. q < nodes_of H) node.2 (rank_below H levelled node.0 node.1)
 
 -- the entries of a search space are those of paths
 module _ (H : LevelsAndLegs) (side : Side) (limit : Option ℕ) (item : ℕ → ℕ) (nodes : List ℕ) (buckets : List (List (ℕ × ℕ))) (hold : HoldSearchSpaces H side limit item nodes buckets) where
   pub spaces_count : length hold.spaces ≡ length nodes
-  spaces_count = zipped_length (IsSearchSpace H side limit) nodes hold.spaces hold.each
+  spaces_count = zipped_length (IsRankedSpace H side limit) nodes hold.spaces hold.each
 
-  space_at : (j : ℕ) → j < length nodes → IsSearchSpace H side limit (slice_index nodes j) (slice_index_or hold.spaces j [])
-  space_at j lt = zip_at (IsSearchSpace H side limit) 0 [] nodes hold.spaces hold.each j lt
+  space_at : (j : ℕ) → j < length nodes → IsRankedSpace H side limit (slice_index nodes j) (slice_index_or hold.spaces j [])
+  space_at j lt = zip_at (IsRankedSpace H side limit) 0 [] nodes hold.spaces hold.each j lt
 
-  -- the node of an entry is a node
-  pub held_node : IsLevelled H → All (λ x. x < nodes_of H) nodes → (j v x : ℕ) → j < length nodes → Contains (slice_index_or hold.spaces j []) (v, x) → v < nodes_of H
-  held_node levelled below j v x lt c =
-      space_within H side limit levelled (slice_index nodes j) v x (slice_index_or hold.spaces j []) (All-get_or (λ x. x < nodes_of H) nodes j 0 lt below) (space_at j lt) c
+  -- the rank of an entry is below the number of nodes
+  held_rank : IsLevelled H → (j rank x : ℕ) → j < length nodes → Contains (slice_index_or hold.spaces j []) (rank, x) → rank < nodes_of H
+  held_rank levelled j rank x lt c = space_within H side limit levelled (slice_index nodes j) rank x (slice_index_or hold.spaces j []) (space_at j lt) c
 
   pub entries_among : (q : ℕ) → All (IsEntryAmong (length nodes)) (slice_index_or buckets q [])
   entries_among q k d lt =
@@ -82,7 +80,7 @@ module _ (H : LevelsAndLegs) (side : Side) (limit : Option ℕ) (item : ℕ → 
       let r = hold.held.sound q e.0 e.1 (Contains-get_or bucket k d lt) in
       let size = spaces_count in
       let place : e.0 < length nodes = (let within = r.0 in omega arith) in
-      let path = ((space_at e.0 place).sound r.1 e.1 r.2).0 in
+      let path = ((space_at e.0 place).sound r.1 e.1 r.2).3 in
       (place, let w = path.1.weight in let same = path.2 in omega arith)
 
 -- the buckets of both sides fit the cells
@@ -102,8 +100,7 @@ module _ (H : LevelsAndLegs) (limit : Option ℕ) (item : ℕ → ℕ) (sources 
   abbrev sides : BothSides
   sides = record { ups = ups; downs = downs; rows = length sources; columns = length targets; limit = limit }
 
-  module _ (kept : IsKeptForSome H) (begin : All (λ s. s < nodes_of H) sources) (end : All (λ t. t < nodes_of H) targets)
-      (apart : (u v : ℕ) → u < nodes_of H → v < nodes_of H → item u ≡ item v → u ≡ v) (i j : ℕ) (row : i < length sources) (column : j < length targets) where
+  module _ (kept : IsKeptForSome H) (apart : (q r : ℕ) → q < nodes_of H → r < nodes_of H → item q ≡ item r → q ≡ r) (i j : ℕ) (row : i < length sources) (column : j < length targets) where
     abbrev up : List (ℕ × ℕ)
     up = slice_index_or rise.spaces i []
 
@@ -113,7 +110,7 @@ module _ (H : LevelsAndLegs) (limit : Option ℕ) (item : ℕ → ℕ) (sources 
     abbrev cell : ℕ
     cell = i * length targets + j
 
-    -- what the nodes of items owe to the cell is shared by the two search spaces, and within the limit: entries of one item are of one node
+    -- what the nodes of items owe to the cell is shared by the two search spaces, and within the limit: entries of one item are of one rank
     owed_shared : (from to x : ℕ) → IsOwedAmong sides from to cell x → IsSharedSum up down x × IsWithin limit x
     owed_shared from to x o =
         let source = rise.held.sound o.0 o.3.0 o.3.1 o.3.2 in
@@ -122,26 +119,26 @@ module _ (H : LevelsAndLegs) (limit : Option ℕ) (item : ℕ → ℕ) (sources 
         let size = spaces_count H Down limit item targets downs fall in
         let inside : there.0 < length targets = (let lt = target.0 in omega arith) in
         let same = same_from_place o.3.0 there.0 i j (length targets) inside column (sym there.3) in
-        let v = source.1 in
-        let from_source = subst (λ k. Contains (slice_index_or rise.spaces k []) (v, o.3.1)) same.0 source.2 in
+        let r = source.1 in
+        let from_source = subst (λ k. Contains (slice_index_or rise.spaces k []) (r, o.3.1)) same.0 source.2 in
         let at_target = subst (λ k. Contains (slice_index_or fall.spaces k []) (target.1, there.1)) same.1 target.2 in
-        let low = held_node H Up limit item sources ups rise kept.2.levelled begin i v o.3.1 row from_source in
-        let low' = held_node H Down limit item targets downs fall kept.2.levelled end j target.1 there.1 column at_target in
-        let one = apart target.1 v low' low (target.3 ∙ sym source.3) in (
-          (v, o.3.1, there.1, from_source, subst (λ u. Contains down (u, there.1)) one at_target, sym there.4),
+        let low = held_rank H Up limit item sources ups rise kept.2.levelled i r o.3.1 row from_source in
+        let low' = held_rank H Down limit item targets downs fall kept.2.levelled j target.1 there.1 column at_target in
+        let one = apart target.1 r low' low (target.3 ∙ sym source.3) in (
+          (r, o.3.1, there.1, from_source, subst (λ q. Contains down (q, there.1)) one at_target, sym there.4),
           there.5,
         )
 
-    -- and what they share is owed by the piece of its node's item
+    -- and what they share is owed by the piece of its rank's item
     shared_owed : (p x : ℕ) → 0 < p → IsSharedSum up down x → IsWithin limit x → (k : ℕ) × (k < pieces_of (length ups) p) × owed_by (IsOwedAmong sides) (length ups) p k cell x
     shared_owed p x positive h low =
-        let v = h.0 in
+        let r = h.0 in
         let size = spaces_count H Up limit item sources ups rise in
         let size' = spaces_count H Down limit item targets downs fall in
-        let source = rise.held.whole v i h.1 (omega arith) h.3 in
-        let target = fall.held.whole v j h.2 (omega arith) h.4 in
-        let piece = piece_of (length ups) p (item v) positive (held_within ups (item v) (i, h.1) source) in
-        (piece.0, piece.1, (item v, piece.2, piece.3, (i, h.1, source, (j, h.2, target, refl, sym h.5, low))))
+        let source = rise.held.whole r i h.1 (omega arith) h.3 in
+        let target = fall.held.whole r j h.2 (omega arith) h.4 in
+        let piece = piece_of (length ups) p (item r) positive (held_within ups (item r) (i, h.1) source) in
+        (piece.0, piece.1, (item r, piece.2, piece.3, (i, h.1, source, (j, h.2, target, refl, sym h.5, low))))
 
     -- so the least that is owed is the distance within the limit
     cell_is : (p : ℕ) (o : Option ℕ) → 0 < p → IsLeastOwed (IsOwedAmong sides) (length ups) p cell o →
@@ -149,7 +146,7 @@ module _ (H : LevelsAndLegs) (limit : Option ℕ) (item : ℕ → ℕ) (sources 
     cell_is p o positive h =
         let s = slice_index sources i in
         let t = slice_index targets j in
-        spaces_give_distance H limit s t up down o kept (space_at H Up limit item sources ups rise i row) (space_at H Down limit item targets downs fall j column) (shared o h)
+        ranked_spaces_give_distance H kept limit s t up down (space_at H Up limit item sources ups rise i row) (space_at H Down limit item targets downs fall j column) o (shared o h)
       where
         shared : (q : Option ℕ) → IsLeastOwed (IsOwedAmong sides) (length ups) p cell q → IsLeastSharedSum limit up down q
         shared None least = λ x sum low. let r = shared_owed p x positive sum low in least r.0 x r.1 r.2
@@ -158,11 +155,11 @@ module _ (H : LevelsAndLegs) (limit : Option ℕ) (item : ℕ → ℕ) (sources 
             (owed.0, owed.1, λ y sum low. let r = shared_owed p y positive sum low in least.1 r.0 y r.1 r.2)
 
   -- and the cells are the table
-  pub table_is : (p : ℕ) (cells : List (Option ℕ)) → 0 < p → IsKeptForSome H → All (λ s. s < nodes_of H) sources → All (λ t. t < nodes_of H) targets →
-      ((u v : ℕ) → u < nodes_of H → v < nodes_of H → item u ≡ item v → u ≡ v) → length cells ≡ length sources * length targets →
+  pub table_is : (p : ℕ) (cells : List (Option ℕ)) → 0 < p → IsKeptForSome H → ((q r : ℕ) → q < nodes_of H → r < nodes_of H → item q ≡ item r → q ≡ r) →
+      length cells ≡ length sources * length targets →
       ((cell : ℕ) (d : Option ℕ) → cell < length sources * length targets → IsLeastOwed (IsOwedAmong sides) (length ups) p cell (slice_index_or cells cell d)) →
       AllZip (IsRowBy H limit targets) sources (rows_of_cells (length sources) (length targets) cells)
-  table_is p cells positive kept begin end apart size least =
+  table_is p cells positive kept apart size least =
       let n = length sources in
       let m = length targets in
       all_zip_at (IsRowBy H limit targets) 0 [] sources (rows_of_cells n m cells) (length_rows n m cells) (λ i row.
@@ -172,15 +169,14 @@ module _ (H : LevelsAndLegs) (limit : Option ℕ) (item : ℕ → ℕ) (sources 
       subst (IsRowBy H limit targets (slice_index sources i)) (sym (row_at n m cells i row))
       (all_zip_at (IsDistanceWithin H limit (slice_index sources i)) 0 None targets part count (λ j column.
       subst (IsDistanceWithin H limit (slice_index sources i) (slice_index targets j)) (sym (get_or-between cells (i * m) (i * m + m) j None (omega arith)))
-      (cell_is kept begin end apart i j row column p (slice_index_or cells (i * m + j) None) positive (least (i * m + j) None (omega arith))))))
+      (cell_is kept apart i j row column p (slice_index_or cells (i * m + j) None) positive (least (i * m + j) None (omega arith))))))
 
--- search spaces lie within the nodes
-pub spaces_within : (H : LevelsAndLegs) (side : Side) (limit : Option ℕ) (levelled : IsLevelled H) (nodes : List ℕ) → All (λ x. x < nodes_of H) nodes → (spaces : List (Vec (ℕ × ℕ) Global)) →
-    AllZip (λ node (space : Vec (ℕ × ℕ) Global). IsSearchSpace H side limit node space.items) nodes spaces → All (λ (space : Vec (ℕ × ℕ) Global). All (λ pair. pair.0 < nodes_of H) space.items) spaces
-spaces_within H side limit levelled nodes below spaces each k d lt k' d' lt' =
-    let size = zipped_length (λ node (space : Vec (ℕ × ℕ) Global). IsSearchSpace H side limit node space.items) nodes spaces each in
-    let low : k < length nodes = omega arith in
-    let space = zip_at (λ node (list : Vec (ℕ × ℕ) Global). IsSearchSpace H side limit node list.items) 0 d nodes spaces each k low in
+-- the ranks of search spaces are below the number of nodes
+pub spaces_within : (H : LevelsAndLegs) (side : Side) (limit : Option ℕ) → IsLevelled H → (nodes : List ℕ) (spaces : List (Vec (ℕ × ℕ) Global)) →
+    AllZip (λ node (space : Vec (ℕ × ℕ) Global). IsRankedSpace H side limit node space.items) nodes spaces → All (λ (space : Vec (ℕ × ℕ) Global). All (λ entry. entry.0 < nodes_of H) space.items) spaces
+spaces_within H side limit levelled nodes spaces each k d lt k' d' lt' =
+    let size = zipped_length (λ node (space : Vec (ℕ × ℕ) Global). IsRankedSpace H side limit node space.items) nodes spaces each in
+    let space = zip_at (λ node (list : Vec (ℕ × ℕ) Global). IsRankedSpace H side limit node list.items) 0 d nodes spaces each k (omega arith) in
     let list = (get_or spaces k d).items in
-    let pair = get_or list k' d' in
-    space_within H side limit levelled (get_or nodes k 0) pair.0 pair.1 list (All-get_or (λ x. x < nodes_of H) nodes k 0 low below) space (Contains-get_or list k' d' lt')
+    let entry = get_or list k' d' in
+    space_within H side limit levelled (get_or nodes k 0) entry.0 entry.1 list space (Contains-get_or list k' d' lt')

@@ -7,7 +7,7 @@ use Rattle.ch_hierarchy.specs.Hierarchy.{LevelsAndLegs, nodes_of}
 use Rattle.ch_hierarchy.specs.Paths.{IsLeastUpwardPath}
 use Rattle.ch_query.specs.declared.side.Side.{Side}
 use Rattle.ch_query.specs.Limits.{IsWithin}
-use Rattle.ch_query.specs.SearchSpace.{IsSearchSpace}
+use Rattle.ch_query.specs.SearchSpace.{IsRankedSpace}
 
 -- an entry for each place whose node has an upward path to v of a weight within the limit: the place, and the least weight; ordered by place
 pub record IsBucket (rows : List (List Leg)) (limit : Option ℕ) (nodes : List ℕ) (v : ℕ) (bucket : List (ℕ × ℕ)) : Type 0 where
@@ -20,14 +20,14 @@ pub record AreBuckets (rows : List (List Leg)) (limit : Option ℕ) (nodes : Lis
   pub count : length buckets ≡ length rows
   pub each : (v : ℕ) → IsBucket rows limit nodes v (slice_index_or buckets v [])
 
--- a bucket for each of n items: that of q has (j, x) exactly where list j has (v, x) for a node v whose item is q
+-- a bucket for each of n items: that of q has (j, x) exactly where list j has (r, x) for a rank r whose item is q
 pub record HoldLists (n : ℕ) (item : ℕ → ℕ) (lists : List (List (ℕ × ℕ))) (buckets : List (List (ℕ × ℕ))) : Type 0 where
   pub count : length buckets ≡ n
-  pub sound : (q j x : ℕ) → Contains (slice_index_or buckets q []) (j, x) → (j < length lists) × (v : ℕ) × Contains (slice_index_or lists j []) (v, x) × (item v ≡ q)
-  pub whole : (v j x : ℕ) → j < length lists → Contains (slice_index_or lists j []) (v, x) → Contains (slice_index_or buckets (item v) []) (j, x)
+  pub sound : (q j x : ℕ) → Contains (slice_index_or buckets q []) (j, x) → (j < length lists) × (r : ℕ) × Contains (slice_index_or lists j []) (r, x) × (item r ≡ q)
+  pub whole : (r j x : ℕ) → j < length lists → Contains (slice_index_or lists j []) (r, x) → Contains (slice_index_or buckets (item r) []) (j, x)
 
--- entries of paths, with all that lie on a least way, where the weight is within the limit: the buckets hold a search space of each of the nodes, each entry at its node's item
+-- entries of paths, with all that lie on a least way, where the weight is within the limit: the buckets hold a search space of each of the nodes by ranks, each entry at its rank's item
 pub record HoldSearchSpaces (H : LevelsAndLegs) (side : Side) (limit : Option ℕ) (item : ℕ → ℕ) (nodes : List ℕ) (buckets : List (List (ℕ × ℕ))) : Type 0 where
   pub spaces : List (List (ℕ × ℕ))
-  pub each : AllZip (IsSearchSpace H side limit) nodes spaces
+  pub each : AllZip (IsRankedSpace H side limit) nodes spaces
   pub held : HoldLists (nodes_of H) item spaces buckets

@@ -1,5 +1,5 @@
 -- How the nodes of a hierarchy are dealt over the pieces of a job, so that each piece has its share of the high ones.
-use Rattle.std.specs.Prelude.{◌≡◌, ℕ, ◌<◌, ◌+◌, ◌-◌, ◌*◌, ◌/◌, ◌%◌, nat_lt, cond, min, slice_index}
+use Rattle.std.specs.Prelude.{◌≡◌, ℕ, ◌<◌, ◌+◌, ◌-◌, ◌*◌, ◌/◌, ◌%◌, nat_lt, cond, min}
 use Rattle.ch_hierarchy.specs.Hierarchy.{LevelsAndLegs, nodes_of}
 
 -- so many nodes, an item for each, and so many items in a piece; the last piece may have fewer
@@ -28,13 +28,9 @@ turn_of d rank = cond (nat_lt rank (to_all d)) (rank % (before_last d + 1), rank
 abbrev pub item_at : Deal → ℕ × ℕ → ℕ
 item_at d turn = min ((turn.0 + 1) * d.piece) d.nodes - 1 - turn.1
 
--- the item of the node of a level; the highest level is the number of nodes
+-- the item of the node of a rank
 abbrev pub item_of : Deal → ℕ → ℕ
-item_of d level = item_at d (turn_of d (d.nodes - level))
-
--- the item of a node of a hierarchy whose nodes are dealt
-abbrev pub item_in : LevelsAndLegs → Deal → ℕ → ℕ
-item_in H d v = item_of d (slice_index H.level v)
+item_of d rank = item_at d (turn_of d rank)
 
 -- the nodes of a hierarchy, dealt over pieces of so many items
 abbrev pub deal_of : LevelsAndLegs → ℕ → Deal

@@ -1,4 +1,4 @@
--- The entries of buckets, each after the node, or the item of the node, whose bucket it is in.
+-- The entries of buckets, each after the node, or the item, whose bucket it is in.
 use Rattle.std.specs.Prelude.{◌≡◌, ℕ, ◌<◌, List, [], slice_index, slice_index_or, AllPairs, Contains, Option}
 use Rattle.ch_graph.specs.declared.cost.Cost.{Cost}
 use Rattle.ch_hierarchy.specs.declared.leg.Leg.{Leg}
@@ -15,11 +15,11 @@ pub record AreEntries (rows : List (List Leg)) (limit : Option ℕ) (nodes : Lis
   pub sound : (v j x : ℕ) → Contains entries (v, (j, x)) → (j < k) × (c : Cost) × IsLeastUpwardPath rows (slice_index nodes j) v c × (c.weight ≡ x) × IsWithin limit x
   pub whole : (v j : ℕ) (c : Cost) → j < k → IsLeastUpwardPath rows (slice_index nodes j) v c → IsWithin limit c.weight → Contains entries (v, (j, c.weight))
 
--- the entry for place j of a node and a weight, at the node's item
+-- the entry for place j of a rank and a weight, at the rank's item
 abbrev pub entry_of : (ℕ → ℕ) → ℕ → ℕ × ℕ → ℕ × (ℕ × ℕ)
 entry_of item j pair = (item pair.0, (j, pair.1))
 
--- an entry for each node and weight of the first k lists, at the node's item
+-- an entry for each rank and weight of the first k lists, at the rank's item
 pub record AreEntriesOf (item : ℕ → ℕ) (lists : List (List (ℕ × ℕ))) (k : ℕ) (entries : List (ℕ × (ℕ × ℕ))) : Type 0 where
-  pub sound : (q j x : ℕ) → Contains entries (q, (j, x)) → (j < k) × (v : ℕ) × Contains (slice_index_or lists j []) (v, x) × (item v ≡ q)
-  pub whole : (v j x : ℕ) → j < k → Contains (slice_index_or lists j []) (v, x) → Contains entries (item v, (j, x))
+  pub sound : (q j x : ℕ) → Contains entries (q, (j, x)) → (j < k) × (r : ℕ) × Contains (slice_index_or lists j []) (r, x) × (item r ≡ q)
+  pub whole : (r j x : ℕ) → j < k → Contains (slice_index_or lists j []) (r, x) → Contains entries (item r, (j, x))

@@ -26,7 +26,7 @@ pub record AreWithin (S : BothSides) : Type 0 where
   pub downs : (q : ℕ) → All (IsEntryAmong S.columns) (slice_index_or S.downs q [])
   pub cells : S.rows * S.columns ≤ MOST_CELLS
 
--- the buckets hold search spaces of these sources, going up, and of these targets, going down; a node has one item on both sides
+-- the buckets hold search spaces of these sources, going up, and of these targets, going down; a rank has one item on both sides
 pub record AreSidesOf (H : LevelsAndLegs) (most : Option ℕ) (item : ℕ → ℕ) (sources targets : List ℕ) (S : BothSides) : Type 0 where
   pub rise : HoldSearchSpaces H Up most item sources S.ups
   pub fall : HoldSearchSpaces H Down most item targets S.downs

@@ -4,7 +4,7 @@ ghost use Rattle.ch_graph.specs.declared.limits.TheConstants.{MOST_LISTED};
 ghost use Rattle.ch_hierarchy.specs.Hierarchy.{nodes_of};
 ghost use Rattle.ch_query.specs.Side.{rows_of};
 ghost use Rattle.ch_table.specs.Buckets.{AreBuckets, HoldLists};
-ghost use Rattle.ch_table.specs.Dealing.{item_in, IsDealOf};
+ghost use Rattle.ch_table.specs.Dealing.{item_of};
 ghost use Rattle.ch_table.specs.Entries.{AreEntries, entry_at, AreEntriesOf, entry_of};
 
 use crate::dealing::Dealing;
@@ -85,23 +85,21 @@ impl Buckets {
         Ok(Buckets { rows })
     }
 
-    /// The buckets of all items, which hold lists of nodes and weights, one list for each place: each node and
-    /// weight in the bucket of the node's item.
+    /// The buckets of all items, which hold lists of ranks and weights, one list for each place: each weight in the
+    /// bucket of its rank's item.
     pub(crate) fn of_lists(
         alloc: Global,
-        hierarchy: &Hierarchy,
         dealing: &Dealing,
         lists: Vec<Vec<(u32, u64)>>,
     ) -> Result<Buckets, AllocError>
         requires count { length lists.items ≤ MOST_LISTED }
-        requires nodes { All (λ list. All (λ pair. pair.0 < nodes_of hierarchy.now) list.items) lists.items }
-        requires dealing { IsDealOf hierarchy.now dealing.now }
-        ensures { IfOk result (HoldLists (nodes_of hierarchy.now) (item_in hierarchy.now dealing.now) (map (λ list. list.items) lists.items)) }
+        requires ranks { All (λ list. All (λ entry. entry.0 < dealing.now.nodes) list.items) lists.items }
+        ensures { IfOk result (HoldLists dealing.now.nodes (item_of dealing.now) (map (λ list. list.items) lists.items)) }
     {
-        let entries = entries_of(alloc, hierarchy, dealing, &lists)?;
+        let entries = entries_of(alloc, dealing, &lists)?;
         // Their memory serves the rows.
         drop(lists);
-        let rows = Rows::build(alloc, hierarchy.nodes(), &entries)?;
+        let rows = Rows::build(alloc, dealing.nodes(), &entries)?;
         Ok(Buckets { rows })
     }
 
@@ -114,7 +112,7 @@ impl Buckets {
     }
 }
 
-/// An entry of a bucket, after the node, or the item of the node, whose bucket it is in.
+/// An entry of a bucket, after the node, or the item, whose bucket it is in.
 type Entry = (u32, (u32, u64));
 
 /// The entries of all buckets, place after place.
@@ -152,40 +150,36 @@ fn push_entries(
     Ok(())
 }
 
-/// The entries of all lists, place after place, each at the item of its node.
+/// The entries of all lists, place after place, each at the item of its rank.
 fn entries_of(
     alloc: Global,
-    hierarchy: &Hierarchy,
     dealing: &Dealing,
     lists: &[Vec<(u32, u64)>],
 ) -> Result<Vec<Entry>, AllocError>
     requires count { length lists.now ≤ MOST_LISTED }
-    requires nodes { All (λ list. All (λ pair. pair.0 < nodes_of hierarchy.now) list.items) lists.now }
-    requires dealing { IsDealOf hierarchy.now dealing.now }
-    ensures { IfOk result (λ entries. AreEntriesOf (item_in hierarchy.now dealing.now) (map (λ list. list.items) lists.now) (length lists.now) entries.items) }
+    requires ranks { All (λ list. All (λ entry. entry.0 < dealing.now.nodes) list.items) lists.now }
+    ensures { IfOk result (λ entries. AreEntriesOf (item_of dealing.now) (map (λ list. list.items) lists.now) (length lists.now) entries.items) }
 {
     let mut entries = Vec::with_capacity(alloc, length_of(lists))?;
     for (place, list) in lists.iter().enumerate() {
-        push_list(&mut entries, hierarchy, dealing, place as u32, list)?;
+        push_list(&mut entries, dealing, place as u32, list)?;
     }
     Ok(entries)
 }
 
-/// Adds an entry for this place to the bucket of the item of each node of the list.
+/// Adds an entry for this place to the bucket of the item of each rank of the list.
 fn push_list(
     entries: &mut Vec<Entry>,
-    hierarchy: &Hierarchy,
     dealing: &Dealing,
     place: u32,
     list: &[(u32, u64)],
 ) -> Result<(), AllocError>
-    requires nodes { All (λ pair. pair.0 < nodes_of hierarchy.now) list.now }
-    requires dealing { IsDealOf hierarchy.now dealing.now }
-    ensures { OnOk result (entries.new.items ≡ entries.old.items ++ map (entry_of (item_in hierarchy.now dealing.now) place) list.now) }
+    requires ranks { All (λ entry. entry.0 < dealing.now.nodes) list.now }
+    ensures { OnOk result (entries.new.items ≡ entries.old.items ++ map (entry_of (item_of dealing.now) place) list.now) }
 {
     entries.reserve(list.len())?;
-    for (node, weight) in list {
-        let item = dealing.item_in(hierarchy, *node);
+    for (rank, weight) in list {
+        let item = dealing.item(*rank);
         entries.push_reserved((item, (place, *weight)));
     }
     Ok(())

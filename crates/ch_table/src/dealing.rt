@@ -1,11 +1,9 @@
 //! How the nodes of a hierarchy are dealt over the pieces of a job.
 ghost use Rattle.std.specs.Prelude.{◌≡◌, ◌<◌, ◌≤◌};
 ghost use Rattle.ch_graph.specs.declared.limits.TheConstants.{MOST_NODES};
-ghost use Rattle.ch_hierarchy.specs.Hierarchy.{nodes_of};
-ghost use Rattle.ch_table.specs.Dealing.{item_of, item_in, turn_of, IsDealOf};
+ghost use Rattle.ch_table.specs.Dealing.{item_of, turn_of};
 ghost use Rattle.ch_work.specs.declared.limits.TheConstants.{MOST_PIECE};
 
-use ch_hierarchy::Hierarchy;
 use std::marker::Model;
 
 /// Which item is whose, where a job's items are nodes. From the highest node on each piece is dealt one in turn, and is
@@ -51,24 +49,23 @@ impl Dealing {
         }
     }
 
-    /// The item of a node of the hierarchy whose nodes are dealt.
-    pub(crate) fn item_in(&self, hierarchy: &Hierarchy, node: u32) -> u32
-        requires dealing { IsDealOf hierarchy.now self.now }
-        requires node { node < nodes_of hierarchy.now }
-        ensures item { result ≡ item_in hierarchy.now self.now node }
-        ensures below { result < nodes_of hierarchy.now }
+    /// How many nodes are dealt.
+    pub(crate) fn nodes(&self) -> u32
+        ensures nodes { result ≡ self.now.nodes }
+        ensures piece { 0 < self.now.piece }
     {
-        self.item(hierarchy.level(node))
+        self.nodes
     }
 
-    /// The item of the node of this level.
-    fn item(&self, level: u32) -> u32
-        requires { (1 ≤ level) × (level ≤ self.now.nodes) }
-        ensures item { result ≡ item_of self.now level }
+    /// The item of the node of this rank.
+    pub(crate) fn item(&self, rank: u32) -> u32
+        requires { rank < self.now.nodes }
+        ensures item { result ≡ item_of self.now rank }
         ensures below { result < self.now.nodes }
     {
-        let (place, round) = self.turn(self.nodes - level);
-        let end = ((place + 1) * self.piece).min(self.nodes);
+        let piece = self.piece;
+        let (place, round) = self.turn(rank);
+        let end = ((place + 1) * piece).min(self.nodes);
         end - 1 - round
     }
 
@@ -97,7 +94,7 @@ mod tests {
     fn high_nodes_go_to_the_ends_of_all_pieces(rt: HostRuntime) {
         let dealing = Dealing::new(10, 4);
         for (rank, item) in [3, 7, 9, 2, 6, 8, 1, 5, 0, 4].iter().enumerate() {
-            assert_eq!(rt; dealing.item(10 - rank as u32), *item);
+            assert_eq!(rt; dealing.item(rank as u32), *item);
         }
     }
 }

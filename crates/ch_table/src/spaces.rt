@@ -4,12 +4,12 @@ ghost use Rattle.ch_graph.specs.declared.limits.TheConstants.{MOST_LISTED};
 ghost use Rattle.ch_hierarchy.specs.Hierarchy.{nodes_of};
 ghost use Rattle.ch_query.specs.Distance.{IsKeptForSome};
 ghost use Rattle.ch_table.specs.Buckets.{HoldSearchSpaces};
-ghost use Rattle.ch_table.specs.Dealing.{item_in, IsDealOf};
+ghost use Rattle.ch_table.specs.Dealing.{item_of, IsDealOf};
 
 use crate::buckets::Buckets;
 use crate::dealing::Dealing;
 use ch_hierarchy::Hierarchy;
-use ch_query::{Scratch, Side, search_space};
+use ch_query::{Scratch, Side, ranked_space};
 use ch_work::{Gate, ListJob, Plan, Stage, run_list};
 use std::alloc::{AllocError, Global};
 use std::marker::Model;
@@ -32,7 +32,7 @@ pub(crate) fn search_spaces<R: Threads + Sync, G: Gate>(
     requires nodes { All (λ x. x < nodes_of hierarchy.now) nodes.now }
     requires count { length nodes.now ≤ MOST_LISTED }
     requires dealing { IsDealOf hierarchy.now dealing.now }
-    ensures { IfOk result (HoldSearchSpaces hierarchy.now side within (item_in hierarchy.now dealing.now) nodes.now) }
+    ensures { IfOk result (HoldSearchSpaces hierarchy.now side within (item_of dealing.now) nodes.now) }
 {
     let searches = Searches {
         hierarchy,
@@ -41,9 +41,7 @@ pub(crate) fn search_spaces<R: Threads + Sync, G: Gate>(
     };
     gate.watch(Stage::Searching, 0, plan.pieces(nodes.len() as u32));
     let spaces = run_list(rt, alloc, nodes, plan, gate, &searches)?;
-    // The getter tells the proof that legs lead to nodes.
-    let _ = hierarchy.nodes();
-    Buckets::of_lists(alloc, hierarchy, dealing, spaces)
+    Buckets::of_lists(alloc, dealing, spaces)
 }
 
 /// Searches from nodes, in one direction, within a limit.
@@ -70,7 +68,7 @@ impl<'a> Model for Searches<'a> {
 impl<'a> ListJob for Searches<'a> {
     ghost use Rattle.std.specs.Prelude.{◌≡◌, ◌<◌};
     ghost use Rattle.ch_hierarchy.specs.Hierarchy.{nodes_of};
-    ghost use Rattle.ch_query.specs.SearchSpace.{IsSearchSpace};
+    ghost use Rattle.ch_query.specs.SearchSpace.{IsRankedSpace};
 
     type Item = u32;
 
@@ -80,7 +78,7 @@ impl<'a> ListJob for Searches<'a> {
 
     ghost takes = { λ job node. node < nodes_of job.0 };
 
-    ghost meaning = { λ job node space. IsSearchSpace job.0 job.1 job.2 node space.items };
+    ghost meaning = { λ job node space. IsRankedSpace job.0 job.1 job.2 node space.items };
 
     ghost clean = { λ job scratch. scratch ≡ nodes_of job.0 };
 
@@ -94,6 +92,6 @@ impl<'a> ListJob for Searches<'a> {
         room: &mut Scratch,
         item: &u32,
     ) -> Result<Vec<(u32, u64)>, AllocError> {
-        search_space(alloc, self.hierarchy, room, *item, self.side, self.within)
+        ranked_space(alloc, self.hierarchy, room, *item, self.side, self.within)
     }
 }

@@ -4,7 +4,7 @@ ghost use Rattle.ch_graph.specs.declared.limits.TheConstants.{MOST_LISTED, MOST_
 ghost use Rattle.ch_hierarchy.specs.Hierarchy.{nodes_of};
 ghost use Rattle.ch_query.specs.Distance.{IsKeptForSome};
 ghost use Rattle.ch_query.specs.Limits.{IsWithin};
-ghost use Rattle.ch_table.specs.Dealing.{item_in, deal_of};
+ghost use Rattle.ch_table.specs.Dealing.{item_of, deal_of};
 ghost use Rattle.ch_table.specs.Sums.{AreSidesOf, IsOwedInRow, IsOwedAt};
 ghost use Rattle.ch_work.specs.declared.limits.TheConstants.{MOST_CELLS, MOST_OFFER};
 ghost use Rattle.ch_work.specs.Owed.{HasPaid};
@@ -83,7 +83,7 @@ impl Sums {
         requires targets { All (λ t. t < nodes_of hierarchy.now) targets.now }
         requires lists { (length sources.now ≤ MOST_LISTED) × (length targets.now ≤ MOST_LISTED) }
         requires cells { length sources.now * length targets.now ≤ MOST_CELLS }
-        ensures { IfOk result (AreSidesOf hierarchy.now within (item_in hierarchy.now (deal_of hierarchy.now plan.now.piece)) sources.now targets.now) }
+        ensures { IfOk result (AreSidesOf hierarchy.now within (item_of (deal_of hierarchy.now plan.now.piece)) sources.now targets.now) }
     {
         let dealing = Dealing::new(hierarchy.nodes(), plan.piece());
         let downs = search_spaces(

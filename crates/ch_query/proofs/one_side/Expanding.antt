@@ -24,7 +24,7 @@ use Rattle.ch_query.specs.Side.{rows_of}
 use Rattle.ch_query.specs.Parents.{AreParents, IsNoEarlier}
 use Rattle.ch_query.proofs.one_side.Parents.{lowered_parents, lowered_no_earlier, lowered_itself, equal_parents, equal_falls, equal_here, finish_parents}
 use Rattle.ch_query.proofs.one_side.PathLaws.{AreRising, path_arcs}
-use Rattle.ch_query.proofs.one_side.Steps.{lowered, lowered_settled, lowered_stays, lowered_keeps, lowered_relaxes, lowered_counts, expanded}
+use Rattle.ch_query.proofs.one_side.Steps.{lowered, lowered_settled, lowered_keeps, lowered_relaxes, lowered_counts, expanded}
 
 -- a leg of a row leads to a higher node, and is within the limits
 pub leg_up : (H : LevelsAndLegs) → IsLevelled H → (side : Side) (v : ℕ) (l : Leg) → Contains (row (rows_of H side) v) l → IsLegUp H v l
@@ -123,7 +123,6 @@ module _ (H : LevelsAndLegs) (x y z : Search) (v : ℕ) (c : Cost) (legs : List 
     };
     relaxed = λ k of. still_relaxed H y z c v k (costs_of H y) same e (relaxed k of);
     settled = λ w d k. p.settled w d (sym (ap (λ q. cost_at q w) e) ∙ k.0, sym (ap (λ q. cost_at q w) f) ∙ k.1);
-    stays = λ w d k. let s = p.stays w d k in (ap (λ q. cost_at q w) e ∙ s.0, ap (λ q. cost_at q w) f ∙ s.1);
     measure = ap (λ q. count_unsettled q (keys_of H z)) e ∙ ap (count_unsettled (costs_of H y)) f ∙ p.measure;
   }
 
@@ -189,7 +188,6 @@ partly_more H x y z v c legs l p has within (inr (light, lower, e, f, g)) sized 
                 (lowered_relaxes _ _ _ _ _ v c s l has light lower, lowered_itself _ _ _ _ _ _ v c s a l has light lower)
           ]));
       settled = λ w d k. p.settled w d (lowered_settled _ _ _ _ _ v c s l has light lower w d (sym (ap (λ q. cost_at q w) e) ∙ k.0, sym (ap (λ q. cost_at q w) f) ∙ k.1));
-      stays = λ w d k. let r = lowered_stays _ _ _ _ _ v c s l has light lower w d (p.stays w d k) in (ap (λ q. cost_at q w) e ∙ r.0, ap (λ q. cost_at q w) f ∙ r.1);
       measure = ap (λ q. count_unsettled q (keys_of H z)) e ∙ ap (count_unsettled best) f ∙ lowered_counts _ _ _ _ _ v c s l has light lower ∙ p.measure;
     }
 
@@ -200,7 +198,6 @@ partly_none H x v c e = record {
   expanding = e;
   relaxed = λ l of. absurd (let lt = of.1 in omega arith);
   settled = λ w d k. k;
-  stays = λ w d k. k;
   measure = refl;
 }
 

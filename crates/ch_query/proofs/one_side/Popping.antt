@@ -17,12 +17,11 @@ use Rattle.ch_query.specs.declared.search.Search.{Search}
 use Rattle.ch_query.specs.Search.{IsLeastKey, IsExpanding, OrNode, count_unsettled}
 use Rattle.ch_query.specs.Parents.{AreParents}
 use Rattle.ch_query.specs.TwoSided.{LeadsKeys}
-use Rattle.ch_query.specs.Underway.{idle_of, count_unsettled_in, IsSameSearch, IsUnderway, IsExpandingAt}
+use Rattle.ch_query.specs.Underway.{idle_of, count_unsettled_in, IsUnderway, IsExpandingAt}
 use Rattle.ch_query.specs.Side.{rows_of}
 use Rattle.ch_query.proofs.one_side.ByNode.{by_node-size, by_node-at, by_node-set, by_node-some}
 use Rattle.ch_query.proofs.one_side.Steps.{popped, popped_falls}
 use Rattle.ch_query.proofs.one_side.Parents.{popped_parents}
-use Rattle.ch_query.proofs.one_side.Expanding.{same_then}
 
 -- what comparing two costs tells, where the first is not greater
 at_most_by : (a b : Cost) (o : Ordering) → MatchOrdering o (IsBelow a b) (a ≡ b) (IsBelow b a) → is_gt o ≡ false → IsAtMost a b
@@ -54,10 +53,6 @@ leads_as_told first second a b l k false i = (
 -- the search with another queue
 abbrev pub with_queue : Search → List (Option Cost) → Search
 with_queue x q = record x { queue = q }
-
--- a search that goes on with another queue stays the same search
-pub same_on : (x y z : Search) (q : List (Option Cost)) → IsSameSearch x y → IsSameSearch (with_queue y q) z → IsSameSearch x z
-same_on x y z q a b = same_then x (with_queue y q) z (record { side = a.side; source = a.source; stalls = a.stalls; most = a.most }) b
 
 -- a rank with a key is one of the ranks
 pub key_rank : (H : LevelsAndLegs) (x : Search) (rank : ℕ) (c : Cost) → IsUnderway H x → IsLeastEntry cost_cmp x.queue (c, rank) → rank < nodes_of H

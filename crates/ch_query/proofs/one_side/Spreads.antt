@@ -33,7 +33,7 @@ use Rattle.ch_query.proofs.one_side.Touched.{some_within}
 use Rattle.ch_query.proofs.one_side.End.{known_least, least_known}
 
 -- numbers that differ rise once they are sorted
-pub sorted_rises : (xs ys : List ℕ) → AllPairs ◌≢◌ xs → IsPermutation xs ys → IsSorted nat_cmp ys → AllPairs (λ a b. a < b) ys
+sorted_rises : (xs ys : List ℕ) → AllPairs ◌≢◌ xs → IsPermutation xs ys → IsSorted nat_cmp ys → AllPairs (λ a b. a < b) ys
 sorted_rises xs ys distinct p sorted =
     let d : IsDistinct eqb xs = IsDistinct-from_apart eqb xs (λ i j e lt within. not_eqb _ _ (distinct i j e lt within)) in
     AllPairs-from_increasing ys (IsStrictlyIncreasing-from_distinct ys (IsNonDecreasingBy-from_sort (λ x. x) ys sorted) (IsDistinct-IsPermutation eqb eqb_flips xs ys p d))
@@ -97,7 +97,7 @@ module _ (H : LevelsAndLegs) (x : Search) (u : IsUnderway H x) (off : x.stalls �
   }
 
 -- a queue that is empty by rank is so by node
-pub empty_by_node : (H : LevelsAndLegs) (x : Search) → IsEmpty x.queue → IsEmpty (keys_of H x)
+empty_by_node : (H : LevelsAndLegs) (x : Search) → IsEmpty x.queue → IsEmpty (keys_of H x)
 empty_by_node H x done v c e = done (rank_of H v) c (by_node-some H x.queue v c e).1
 
 -- what a search that ended without stalling has reached

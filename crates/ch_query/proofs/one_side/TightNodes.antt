@@ -1,12 +1,12 @@
 -- Tight nodes, which lie on least ways: a search that stalls reaches each of them at its least cost.
-use Rattle.std.proofs.Common.{◌≡◌, ℕ, ◌≤◌, true, [], refl, sym, ◌∙◌, subst, arith}
+use Rattle.std.proofs.Common.{◌≡◌, ℕ, ◌≤◌, true, sym, ◌∙◌, subst, arith}
 use Rattle.ch_graph.specs.declared.limits.TheConstants.{MOST_WEIGHT}
 use Rattle.ch_graph.specs.declared.cost.Cost.{Cost}
-use Rattle.ch_graph.specs.Cost.{IsAtMost, cost_sum}
+use Rattle.ch_graph.specs.Cost.{cost_sum}
 use Rattle.ch_graph.specs.Walk.{IsLeast}
 use Rattle.ch_graph.specs.WalkLaws.{IsWalkCost}
-use Rattle.ch_graph.proofs.CostOrder.{IsAtMost_refl, IsBelow_not}
-use Rattle.ch_graph.proofs.CostSums.{cost_sum_comm, cost_sum-no_cost}
+use Rattle.ch_graph.proofs.CostOrder.{IsBelow_not}
+use Rattle.ch_graph.proofs.CostSums.{cost_sum_comm}
 use Rattle.ch_graph.proofs.WalkCosts.{IsWalkCost-cost_sum, IsLeast-IsAtMost, IsLeast-front}
 use Rattle.ch_hierarchy.specs.Hierarchy.{LevelsAndLegs}
 use Rattle.ch_hierarchy.specs.Paths.{path_cost, IsLeastUpwardPath}
@@ -95,12 +95,8 @@ module _ (H : LevelsAndLegs) (k : IsKeptForSome H) (x : Search) (u : IsUnderway 
   avoids : AvoidsIdle (rows_of H x.side) (idle_of H x) m a
   avoids = subst (λ b. AvoidsIdle (rows_of H x.side) (IsStalled (rows_of H x.side) (back_of H x.side b) x.source) m a) (sym on) (tight_avoids H k x.side x.source m a tight)
 
-  -- nor at the node itself
-  pub tight_not_idle : idle_of H x m a → ⊥
-  tight_not_idle idle = avoids m a [] idle refl (subst (λ q. IsAtMost q a) (sym (cost_sum-no_cost a)) (IsAtMost_refl a))
-
   -- once each key that is left is more, the node is settled at that cost
-  pub tight_settled : a.weight ≤ x.most → IsPastCost (keys_of H x) a → IsSettled (costs_of H x) (keys_of H x) m a
+  tight_settled : a.weight ≤ x.most → IsPastCost (keys_of H x) a → IsSettled (costs_of H x) (keys_of H x) m a
   tight_settled low past = settled_least _ _ _ _ _ u.search m a low past avoids (tight_least H x.side x.source m a tight)
 
   -- so the search has reached it

@@ -1,5 +1,5 @@
 -- What the search spaces of two nodes say together: the distance between them.
-use Rattle.std.proofs.Common.{◌≡◌, ℕ, ◌+◌, ◌≤◌, List, Contains, Option, Some, None, refl, ap, arith, inl, inr}
+use Rattle.std.proofs.Common.{◌≡◌, ℕ, ◌+◌, ◌<◌, ◌≤◌, List, Contains, Option, Some, None, refl, sym, ap, subst, arith, inl, inr}
 use Rattle.std.specs.Prelude.{MatchOption}
 use Rattle.ch_graph.specs.declared.cost.Cost.{Cost}
 use Rattle.ch_graph.specs.Cost.{cost_sum}
@@ -7,15 +7,19 @@ use Rattle.ch_graph.specs.Graph.{Network}
 use Rattle.ch_graph.specs.Walk.{IsLeast}
 use Rattle.ch_graph.specs.WalkLaws.{IsWalkCost}
 use Rattle.ch_graph.proofs.WalkCosts.{IsLeast-IsAtMost}
-use Rattle.ch_hierarchy.specs.Hierarchy.{LevelsAndLegs}
+use Rattle.ch_hierarchy.specs.Hierarchy.{LevelsAndLegs, nodes_of, IsLevelled}
+use Rattle.ch_hierarchy.specs.Ranked.{rank_of}
 use Rattle.ch_hierarchy.specs.Paths.{NeverMeets}
 use Rattle.ch_hierarchy.specs.KeptLaws.{HasWalks, IsLeastMeeting, MeetingsAreDistances}
+use Rattle.ch_hierarchy.proofs.code.Ranked.{rank_one}
 use Rattle.ch_hierarchy.proofs.theory.KeptWalks.{kept_has_walks, meetings_are_distances}
+use Rattle.ch_query.specs.declared.side.Side.{Side}
 use Rattle.ch_query.specs.declared.side.Side.TheVariants.{Up, Down}
 use Rattle.ch_query.specs.Distance.{IsKeptForSome, IsLeastWeight}
 use Rattle.ch_query.specs.Limits.{IsWithin, IsCut, IsDistanceWithin}
-use Rattle.ch_query.specs.SearchSpace.{IsPathWeight, IsTight, IsSearchSpace}
-use Rattle.ch_query.specs.SearchSpaceLaws.{IsLeastSharedSum}
+use Rattle.ch_query.specs.SearchSpace.{IsPathWeight, IsTight, IsSearchSpace, IsRankedSpace}
+use Rattle.ch_query.specs.SearchSpaceLaws.{IsSharedSum, IsLeastSharedSum}
+use Rattle.ch_query.specs.Side.{rows_of}
 use Rattle.ch_query.proofs.two_sides.Distances.{weight_is_distance}
 use Rattle.ch_query.proofs.one_side.End.{least_reached}
 use Rattle.ch_query.proofs.one_side.TightNodes.{sum_walk, tight_up, tight_down}
@@ -129,3 +133,44 @@ pub spaces_give_distance : (H : LevelsAndLegs) (limit : Option ℕ) (s t : ℕ) 
     IsSearchSpace H Down limit t downs → IsLeastSharedSum limit ups downs answer → IsDistanceWithin H limit s t answer
 spaces_give_distance H limit s t ups downs answer k up down least =
     least_sum_is_distance H k limit s t (λ v x. Contains ups (v, x)) (λ v x. Contains downs (v, x)) up.sound up.whole down.sound down.whole answer least
+
+-- a ranked space says a weight of a node by its rank
+module _ (H : LevelsAndLegs) (levelled : IsLevelled H) (side : Side) (limit : Option ℕ) (s : ℕ) (list : List (ℕ × ℕ)) (space : IsRankedSpace H side limit s list) where
+  abbrev pub IsSaidOf : ℕ → ℕ → Type 0
+  IsSaidOf v x = (v < nodes_of H) × Contains list (rank_of H v, x)
+
+  -- it is that of a path
+  pub said_sound : (v x : ℕ) → IsSaidOf v x → IsPathWeight (rows_of H side) s v x × IsWithin limit x
+  said_sound v x (lt, has) =
+      let r = space.sound (rank_of H v) x has in
+      let one = rank_one H levelled r.0 v r.1 lt r.2 in
+      (subst (λ w. IsPathWeight (rows_of H side) s w x) one r.3, r.4)
+
+-- two ranked spaces
+module _ (H : LevelsAndLegs) (k : IsKeptForSome H) (limit : Option ℕ) (s t : ℕ) (ups downs : List (ℕ × ℕ)) (up : IsRankedSpace H Up limit s ups) (down : IsRankedSpace H Down limit t downs) where
+  abbrev Ups : ℕ → ℕ → Type 0
+  Ups = IsSaidOf H k.2.levelled Up limit s ups up
+
+  abbrev Downs : ℕ → ℕ → Type 0
+  Downs = IsSaidOf H k.2.levelled Down limit t downs down
+
+  -- what they share by rank they share by node
+  by_node : (x : ℕ) → IsSharedSum ups downs x → IsNodeSum Ups Downs x
+  by_node x h =
+      let r = up.sound h.0 h.1 h.3 in
+      (r.0, h.1, h.2, (r.1, subst (λ q. Contains ups (q, h.1)) (sym r.2) h.3), (r.1, subst (λ q. Contains downs (q, h.2)) (sym r.2) h.4), h.5)
+
+  -- and the other way round
+  by_rank : (x : ℕ) → IsNodeSum Ups Downs x → IsSharedSum ups downs x
+  by_rank x h = (rank_of H h.0, h.1, h.2, h.3.1, h.4.1, h.5)
+
+  least_by_node : (answer : Option ℕ) → IsLeastSharedSum limit ups downs answer →
+      MatchOption answer ((x : ℕ) → IsNodeSum Ups Downs x → IsWithin limit x → ⊥) (λ x. IsNodeSum Ups Downs x × IsWithin limit x × ((y : ℕ) → IsNodeSum Ups Downs y → IsWithin limit y → x ≤ y))
+  least_by_node None none = λ x sum. none x (by_rank x sum)
+  least_by_node (Some x) least = (by_node x least.0, least.1, λ y sum. least.2 y (by_rank y sum))
+
+  -- within the limit they give the distance within it
+  pub ranked_spaces_give_distance : (answer : Option ℕ) → IsLeastSharedSum limit ups downs answer → IsDistanceWithin H limit s t answer
+  ranked_spaces_give_distance answer least =
+      least_sum_is_distance H k limit s t Ups Downs (said_sound H k.2.levelled Up limit s ups up) up.whole (said_sound H k.2.levelled Down limit t downs down) down.whole
+      answer (least_by_node answer least)

@@ -17,24 +17,24 @@ use Rattle.ch_query.specs.Distance.{IsKeptForSome, IsDistanceBy, IsLeastWeight}
 use Rattle.ch_query.specs.Search.{IsSettled, IsUpwardCost}
 use Rattle.ch_query.specs.SearchSpace.{IsTight}
 use Rattle.ch_query.specs.Side.{rows_of}
-use Rattle.ch_query.specs.Weighed.{weighed_cost, IsWeightSearch, IsWeightSeen, IsWeightFound, IsPastWeight, WeightsAreEnough}
+use Rattle.ch_query.specs.Weighed.{weighed_cost, IsWeightSearchTo, IsWeightSearch, IsWeightSeen, IsWeightFound, IsPastWeight, WeightsAreEnough}
 use Rattle.ch_query.proofs.one_side.End.{least_reached, matched}
 use Rattle.ch_query.proofs.one_side.TightNodes.{sum_walk, tight_up, tight_down, tight_least}
 use Rattle.ch_query.proofs.one_side.WeighedPaths.{weighed_rows, weighed_reached, reached_weight, weighed_avoids}
 use Rattle.ch_query.proofs.two_sides.Distances.{weight_is_distance}
 
 -- each key that is left weighs more than x
-abbrev IsPastAll : List (Option Cost) → ℕ → Type 0
+abbrev pub IsPastAll : List (Option Cost) → ℕ → Type 0
 IsPastAll queue x = (v : ℕ) (d : Cost) → cost_at queue v ≡ Some d → x < d.weight
 
--- once each key that is left weighs more, a tight node is settled at no more than its least weight
-tight_settled : (H : LevelsAndLegs) → IsKeptForSome H → (side : Side) (s m : ℕ) (a : Cost) (best queue : List (Option Cost)) → IsWeightSearch H side s best queue →
-    IsTight H side s m a → IsPastAll queue a.weight → (b : Cost) × IsSettled best queue m b × (b.weight ≤ a.weight)
-tight_settled H k side s m a best queue is_search tight past =
+-- once each key that is left weighs more, a tight node that weighs no more than `most` is settled at no more than its least weight
+pub tight_settled : {most : ℕ} (H : LevelsAndLegs) → IsKeptForSome H → (side : Side) (s m : ℕ) (a : Cost) (best queue : List (Option Cost)) → IsWeightSearchTo most H side s best queue →
+    IsTight H side s m a → a.weight ≤ most → IsPastAll queue a.weight → (b : Cost) × IsSettled best queue m b × (b.weight ≤ a.weight)
+tight_settled H k side s m a best queue is_search tight light past =
     let least = tight_least H side s m a tight in
     let reached = weighed_reached (rows_of H side) s m a (least_reached (rows_of H side) s m a least) in
     let there = subst (λ rows. IsUpwardCost rows s m (weighed_cost a)) (sym (weighed_rows H side)) reached in
-    let is = matched _ s _ best queue is_search m (weighed_cost a) least.weight (λ x d key. (let more = past x d key in omega arith, λ tie. let more = past x d key in omega arith))
+    let is = matched _ s _ best queue is_search m (weighed_cost a) light (λ x d key. (let more = past x d key in omega arith, λ tie. let more = past x d key in omega arith))
     (weighed_avoids H k side s m a tight) there.path.0 there.path.1 (subst (λ q. IsAtMost q (weighed_cost a)) (sym there.path.2) (IsAtMost_refl (weighed_cost a))) in
     let low = subst (IsAtMost is.0) there.path.2 is.2 in
     (is.0, is.1, low.0)
@@ -84,8 +84,10 @@ module _ (H : LevelsAndLegs) (k : IsKeptForSome H) (s t : ℕ) (least : Option �
         let from = least_reached H.up s m a h.meets.1.2 in
         let to = least_reached H.down t m b h.meets.1.3 in
         let sum : a.weight + b.weight ≡ c.weight = ap (λ (q : Cost). q.weight) h.meets.1.4 in
-        let first = tight_settled H k Up s m a best_up queue_up up (tight_up H k s t m a b c h from to h.meets.1.4) (above queue_up past_up more a.weight (omega arith)) in
-        let second = tight_settled H k Down t m b best_down queue_down down (tight_down H k s t m a b c h from to h.meets.1.4) (above queue_down past_down more b.weight (omega arith)) in
+        let first = tight_settled H k Up s m a best_up queue_up up (tight_up H k s t m a b c h from to h.meets.1.4) from.weight
+        (above queue_up past_up more a.weight (omega arith)) in
+        let second = tight_settled H k Down t m b best_down queue_down down (tight_down H k s t m a b c h from to h.meets.1.4) to.weight
+        (above queue_down past_down more b.weight (omega arith)) in
         let r = seen m first.0 second.0 first.1 second.1 in
         let high = more r.0 r.1 in
         let low = r.2 in

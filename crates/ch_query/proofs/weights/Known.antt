@@ -23,12 +23,16 @@ light_cost w light = reached_cost w (λ same. omega arith)
 pub no_cost_known : (w : ℕ) → w ≡ UNREACHED → known_cost w ≡ None
 no_cost_known w same = ap known_cost same
 
--- a cost that is known has the weight
-pub known_weight : (w : ℕ) (c : Cost) → known_cost w ≡ Some c → w ≡ c.weight
-known_weight w c e = elim (cases_eq w UNREACHED) [
+-- a cost that is known is the weight alone
+pub known_whole : (w : ℕ) (c : Cost) → known_cost w ≡ Some c → weight_cost w ≡ c
+known_whole w c e = elim (cases_eq w UNREACHED) [
   | inl same ↦ absurd (none-some c (sym (no_cost_known w same) ∙ e))
-  | inr away ↦ ap (λ (q : Cost). q.weight) (same_Some _ _ (sym (reached_cost w away) ∙ e))
+  | inr away ↦ same_Some _ _ (sym (reached_cost w away) ∙ e)
 ]
+
+-- so it has the weight
+pub known_weight : (w : ℕ) (c : Cost) → known_cost w ≡ Some c → w ≡ c.weight
+known_weight w c e = ap (λ (q : Cost). q.weight) (known_whole w c e)
 
 -- what stands at a state
 pub known_at : (known : List ℕ) (state d : ℕ) → state < length known → cost_at (map known_cost known) state ≡ known_cost (get_or known state d)

@@ -12,12 +12,16 @@ use Rattle.ch_query.specs.declared.weight_search.TheConstants.{UNREACHED}
 use Rattle.ch_query.specs.declared.weight_search.WeightSearch.{WeightSearch}
 use Rattle.ch_query.specs.Distance.{IsKeptForSome, IsLeastWeight}
 use Rattle.ch_query.specs.Side.{state_of}
-use Rattle.ch_query.specs.Weighed.{IsWeightSeen, IsWeightFound, IsPastWeight}
-use Rattle.ch_query.specs.Weights.{weight_cost, side_costs, side_keys, IsLeastSoFar, AreKeysFrom}
+use Rattle.ch_query.specs.Weighed.{IsWeightSearchTo, IsWeightSearch, IsWeightSeen, IsWeightFound, IsPastWeight}
+use Rattle.ch_query.specs.Weights.{weight_cost, side_costs, side_keys, source_of, IsLeastSoFar, AreKeysFrom}
 use Rattle.ch_query.proofs.two_sides.WeighedSearches.{weighed_least}
 use Rattle.ch_query.proofs.weights.States.{by_state-some, key_weight}
 
 module _ (H : LevelsAndLegs) (k : IsKeptForSome H) (x : WeightSearch) (least : ℕ) (s : IsLeastSoFar H x least) (past : AreKeysFrom x.queue least) where
+  -- each side is a search of all paths
+  all_paths : (side : Side) → IsWeightSearch H side (source_of x side) (side_costs H side x) (side_keys H side x)
+  all_paths side = subst (λ m. IsWeightSearchTo m H side (source_of x side) (side_costs H side x) (side_keys H side x)) s.weighing.most (s.weighing.sides side).search
+
   -- each key that is left is at least the least sum
   key_from : (side : Side) (v : ℕ) (d : Cost) → cost_at (side_keys H side x) v ≡ Some d → least ≤ d.weight
   key_from side v d e =
@@ -43,26 +47,26 @@ module _ (H : LevelsAndLegs) (k : IsKeptForSome H) (x : WeightSearch) (least : �
 
     -- it is the least weight
     pub least_known : IsLeastWeight H x.start x.end (Some least)
-    least_known = weighed_least H k x.start x.end (Some least) _ _ _ _ (s.weighing.sides Up) (s.weighing.sides Down) seen found (past_by Up) (past_by Down)
+    least_known = weighed_least H k x.start x.end (Some least) _ _ _ _ (all_paths Up) (all_paths Down) seen found (past_by Up) (past_by Down)
 
   -- where there is none
   module _ (none : least ≡ UNREACHED) where
     not_seen : IsWeightSeen (side_costs H Up x) (side_keys H Up x) (side_costs H Down x) (side_keys H Down x) None
     not_seen v a b up down =
         let sum = s.seen v a b up down in
-        let here = (s.weighing.sides Up).light v a up.0 in
-        let there = (s.weighing.sides Down).light v b down.0 in
+        let here = (all_paths Up).light v a up.0 in
+        let there = (all_paths Down).light v b down.0 in
         absurd (omega arith)
 
     not_past : (side : Side) → IsPastWeight (side_keys H side x) None
     not_past side v d e =
         let low = key_from side v d e in
-        let light = (s.weighing.sides side).light v d ((s.weighing.sides side).queued v d e) in
+        let light = (all_paths side).light v d ((all_paths side).queued v d e) in
         absurd (omega arith)
 
     -- no node is reached from both
     pub none_known : IsLeastWeight H x.start x.end None
-    none_known = weighed_least H k x.start x.end None _ _ _ _ (s.weighing.sides Up) (s.weighing.sides Down) not_seen (λ e is. absurd (none-some e is)) (not_past Up) (not_past Down)
+    none_known = weighed_least H k x.start x.end None _ _ _ _ (all_paths Up) (all_paths Down) not_seen (λ e is. absurd (none-some e is)) (not_past Up) (not_past Down)
 
 -- by the nodes where the search began
 pub least_between : (H : LevelsAndLegs) (s t s' t' : ℕ) (o : Option ℕ) → s' ≡ s → t' ≡ t → IsLeastWeight H s' t' o → IsLeastWeight H s t o

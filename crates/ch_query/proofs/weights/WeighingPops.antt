@@ -5,7 +5,6 @@ use Rattle.std.specs.Option.{option_map}
 use Rattle.std.proofs.lemmas.Bool.{cases_lt}
 use Rattle.std.proofs.lemmas.List.{get_or_past}
 use Rattle.std.proofs.lemmas.Option.{none-some}
-use Rattle.ch_graph.specs.declared.limits.TheConstants.{MOST_WEIGHT}
 use Rattle.ch_graph.specs.declared.cost.Cost.{Cost}
 use Rattle.ch_graph.specs.Cost.{IsAtMost}
 use Rattle.ch_hierarchy.specs.Hierarchy.{LevelsAndLegs, nodes_of}
@@ -15,8 +14,8 @@ use Rattle.ch_query.specs.declared.side.Side.TheVariants.{Up, Down}
 use Rattle.ch_query.specs.declared.weight_search.WeightSearch.{WeightSearch}
 use Rattle.ch_query.specs.Search.{IsSettled, IsLeastKey, IsExpanding, OrNode, count_unsettled}
 use Rattle.ch_query.specs.Side.{rows_of, other, state_of}
-use Rattle.ch_query.specs.Weighed.{weighed, IsWeightSearch}
-use Rattle.ch_query.specs.Weights.{weight_cost, by_state, side_costs, side_keys, source_of, is_idle_on, IsWeighing, IsWeighingAt, IsLeastState, count_unsettled_states, without_state}
+use Rattle.ch_query.specs.Weighed.{weighed}
+use Rattle.ch_query.specs.Weights.{weight_cost, by_state, side_costs, side_keys, source_of, is_idle_on, IsWeighingOn, IsWeighingAt, IsSameSide, IsLeastState, without_state}
 use Rattle.ch_query.proofs.one_side.Steps.{popped, popped_settled, popped_falls}
 use Rattle.ch_query.proofs.weights.States.{by_state-size, by_state-at, by_state-set, by_state-other, by_state-some, key_weight}
 
@@ -30,7 +29,7 @@ source_stays x state Up = refl
 source_stays x state Down = refl
 
 -- the state of least weight is that of the node v on this side
-module _ (H : LevelsAndLegs) (x : WeightSearch) (m : IsWeighing H x) (side : Side) (v weight state : ℕ) (within : v < nodes_of H) (is : state ≡ state_of side (rank_of H v)) (l : IsLeastState x.queue (weight, state)) where
+module _ (H : LevelsAndLegs) (side : Side) (x : WeightSearch) (m : IsWeighingOn H side x) (v weight state : ℕ) (within : v < nodes_of H) (is : state ≡ state_of side (rank_of H v)) (l : IsLeastState x.queue (weight, state)) where
   -- v has the least key of its side
   pub least_on_side : IsLeastKey (side_keys H side x) v (weight_cost weight)
   least_on_side = record {
@@ -43,7 +42,7 @@ module _ (H : LevelsAndLegs) (x : WeightSearch) (m : IsWeighing H x) (side : Sid
   }
 
   -- it leaves the keys of its side
-  keys_here : side_keys H side (without_state x state) ≡ set (side_keys H side x) v None
+  pub keys_here : side_keys H side (without_state x state) ≡ set (side_keys H side x) v None
   keys_here = ap (λ q. by_state (option_map weight_cost) H side (set x.queue q None) None) is ∙ by_state-set (option_map weight_cost) H side m.levelled x.queue None None v m.sizes.queue within
 
   -- and none of the other
@@ -60,35 +59,23 @@ module _ (H : LevelsAndLegs) (x : WeightSearch) (m : IsWeighing H x) (side : Sid
     levelled = m.levelled;
     sizes = record { known = m.sizes.known; queue = length-set x.queue state None ∙ m.sizes.queue; touched = m.sizes.touched };
     within = within;
-    here = subst (λ s. IsExpanding MOST_WEIGHT (rows_of (weighed H) side) s (OrNode (is_idle_on H side s) v) (side_costs H side x) (side_keys H side (without_state x state)) v (weight_cost weight))
+    here = subst (λ s. IsExpanding x.most (rows_of (weighed H) side) s (OrNode (is_idle_on H side s) v) (side_costs H side x) (side_keys H side (without_state x state)) v (weight_cost weight))
         (sym (source_stays x state side))
-        (subst (λ q. IsExpanding MOST_WEIGHT (rows_of (weighed H) side) (source_of x side) (OrNode (is_idle_on H side (source_of x side)) v) (side_costs H side x) q v (weight_cost weight))
-        (sym keys_here) (popped _ _ _ _ _ (m.sides side) v (weight_cost weight) least_on_side.has least_on_side.least in_keys));
-    there = subst (λ s. IsWeightSearch H (other side) s (side_costs H (other side) x) (side_keys H (other side) (without_state x state))) (sym (source_stays x state (other side)))
-        (subst (λ q. IsWeightSearch H (other side) (source_of x (other side)) (side_costs H (other side) x) q) (sym keys_there) (m.sides (other side)));
+        (subst (λ q. IsExpanding x.most (rows_of (weighed H) side) (source_of x side) (OrNode (is_idle_on H side (source_of x side)) v) (side_costs H side x) q v (weight_cost weight))
+        (sym keys_here) (popped _ _ _ _ _ m.search v (weight_cost weight) least_on_side.has least_on_side.least in_keys));
   }
+
+  -- the other side stays
+  pub pop_there : IsSameSide H (other side) x (without_state x state)
+  pop_there = record { costs = refl; keys = keys_there }
 
   -- what is settled then on its side was so before, or is v
   pub pop_settled : (u : ℕ) (a : Cost) → IsSettled (side_costs H side x) (side_keys H side (without_state x state)) u a →
       IsSettled (side_costs H side x) (side_keys H side x) u a ⊎ ((u ≡ v) × (a ≡ weight_cost weight))
-  pop_settled u a h = popped_settled _ _ _ _ _ (m.sides side) v (weight_cost weight) least_on_side.has least_on_side.least in_keys u a
+  pop_settled u a h = popped_settled _ _ _ _ _ m.search v (weight_cost weight) least_on_side.has least_on_side.least in_keys u a
       (subst (λ q. IsSettled (side_costs H side x) q u a) keys_here h)
 
-  -- and on the other side it was so before
-  pub pop_settled_there : (u : ℕ) (b : Cost) → IsSettled (side_costs H (other side) x) (side_keys H (other side) (without_state x state)) u b →
-      IsSettled (side_costs H (other side) x) (side_keys H (other side) x) u b
-  pop_settled_there u b h = subst (λ q. IsSettled (side_costs H (other side) x) q u b) keys_there h
-
   -- of its side one node fewer is not settled
-  falls_here : count_unsettled (side_costs H side x) (side_keys H side (without_state x state)) + 1 ≡ count_unsettled (side_costs H side x) (side_keys H side x)
-  falls_here = ap (λ q. count_unsettled (side_costs H side x) q + 1) keys_here
-      ∙ popped_falls _ _ _ _ _ (m.sides side) v (weight_cost weight) least_on_side.has least_on_side.least in_keys
-
-  stays_there : count_unsettled (side_costs H (other side) x) (side_keys H (other side) (without_state x state)) ≡ count_unsettled (side_costs H (other side) x) (side_keys H (other side) x)
-  stays_there = ap (count_unsettled (side_costs H (other side) x)) keys_there
-
--- one state fewer is not settled
-pub states_fall : (H : LevelsAndLegs) (x : WeightSearch) (m : IsWeighing H x) (side : Side) (v weight state : ℕ) → v < nodes_of H → state ≡ state_of side (rank_of H v) → IsLeastState x.queue (weight, state) →
-    count_unsettled_states H (without_state x state) + 1 ≡ count_unsettled_states H x
-states_fall H x m Up v weight state within is l = let a = falls_here H x m Up v weight state within is l in let b = stays_there H x m Up v weight state within is l in omega arith
-states_fall H x m Down v weight state within is l = let a = falls_here H x m Down v weight state within is l in let b = stays_there H x m Down v weight state within is l in omega arith
+  pub pop_falls : count_unsettled (side_costs H side x) (side_keys H side (without_state x state)) + 1 ≡ count_unsettled (side_costs H side x) (side_keys H side x)
+  pop_falls = ap (λ q. count_unsettled (side_costs H side x) q + 1) keys_here
+      ∙ popped_falls _ _ _ _ _ m.search v (weight_cost weight) least_on_side.has least_on_side.least in_keys

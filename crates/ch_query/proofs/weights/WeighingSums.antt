@@ -12,20 +12,21 @@ use Rattle.ch_query.specs.declared.side.Side.{Side}
 use Rattle.ch_query.specs.declared.side.Side.TheVariants.{Up, Down}
 use Rattle.ch_query.specs.declared.weight_search.TheConstants.{UNREACHED}
 use Rattle.ch_query.specs.declared.weight_search.WeightSearch.{WeightSearch}
-use Rattle.ch_query.specs.Search.{IsSettled, IsUpwardCost}
+use Rattle.ch_query.specs.Search.{IsSettled, IsUpwardCost, count_unsettled}
 use Rattle.ch_query.specs.Side.{rows_of, other, state_of}
 use Rattle.ch_query.specs.Weighed.{weighed}
-use Rattle.ch_query.specs.Weights.{known_cost, weight_cost, side_costs, side_keys, source_of, IsWeighing, IsSameWeighing, KeepsSides, IsLeastState, IsLeastSoFar, without_state}
+use Rattle.ch_query.specs.Weights.{known_cost, weight_cost, side_costs, side_keys, source_of, IsWeighingOn, IsWeighing, IsSameWeighing, IsSameSide, HasGoneOn, IsLeastState, IsLeastSoFar, count_unsettled_on, count_unsettled_states, without_state}
 use Rattle.ch_query.proofs.weights.Known.{reached_cost, known_weight}
 use Rattle.ch_query.proofs.weights.States.{by_state-at, state_below}
-use Rattle.ch_query.proofs.weights.WeighingPops.{least_on_side, pop_settled, pop_settled_there}
+use Rattle.ch_query.proofs.weights.WeighingPops.{least_on_side, pop_settled, pop_there, pop_falls}
+use Rattle.ch_query.proofs.weights.WeighingSteps.{side_stays}
 
 -- what is read at the state of a node, once another lost its key
 pub read_there : (H : LevelsAndLegs) (x y : WeightSearch) → IsWeighing H x → (state : ℕ) → y ≡ without_state x state → (side : Side) (v at : ℕ) → v < nodes_of H → at ≡ state_of side (rank_of H v) →
     (there : ℕ) → there ≡ get_or y.known.items at there → there ≡ get_or x.known.items (state_of side (rank_of H v)) UNREACHED
 read_there H x y m state is side v at within e there read =
-    let low = state_below side (rank_of H v) (nodes_of H) (rank_below H m.levelled v within) in
-    let size = m.sizes.known in
+    let low = state_below side (rank_of H v) (nodes_of H) (rank_below H (m.sides side).levelled v within) in
+    let size = (m.sides side).sizes.known in
     read ∙ ap (λ (q : WeightSearch). get_or q.known.items at there) is ∙ ap (λ q. get_or x.known.items q there) e
     ∙ get_or_default x.known.items (state_of side (rank_of H v)) there UNREACHED (omega arith)
 
@@ -35,7 +36,8 @@ there_small H x m side v there within read = elim (cases_eq there UNREACHED) [
   | inl same ↦ omega arith
   | inr away ↦
       let known = by_state-at known_cost H side x.known.items UNREACHED None v within ∙ ap known_cost (sym read) ∙ reached_cost there away in
-      let light = (m.sides side).light v (weight_cost there) known in
+      let light = (m.sides side).search.light v (weight_cost there) known in
+      let most = m.most in
       omega arith
 ]
 
@@ -62,25 +64,60 @@ seen_up : (H : LevelsAndLegs) (z : WeightSearch) (least : ℕ) (side : Side) →
 seen_up H z least Up seen u a b up down = seen u a b up down
 seen_up H z least Down seen u a b up down = let le = seen u b a down up in omega arith
 
--- x settles the node v on one side, and becomes z; the other side knows v at the weight `there`, if at all
+-- each side is this one or the other
+each_side : (side : Side) (P : Side → Type 0) → P side → P (other side) → (s : Side) → P s
+each_side Up P here there Up = here
+each_side Up P here there Down = there
+each_side Down P here there Up = there
+each_side Down P here there Down = here
+
+-- what falls on one side and stays on the other falls
+sum_falls : (side : Side) (f g : Side → ℕ) → f side + 1 ≡ g side → f (other side) ≡ g (other side) → f Up + f Down < g Up + g Down
+sum_falls Up f g here there = omega arith
+sum_falls Down f g here there = omega arith
+
+-- x settles the node v on one side, goes on from there, and becomes z; the other side knows v at the weight `there`, if at all
 module _ (H : LevelsAndLegs) (x z : WeightSearch) (least : ℕ) (s : IsLeastSoFar H x least) (side : Side) (v weight state : ℕ) (within : v < nodes_of H) (is : state ≡ state_of side (rank_of H v))
-    (l : IsLeastState x.queue (weight, state)) (w : IsWeighing H z) (same : IsSameWeighing (without_state x state) z) (settled : KeepsSides H (without_state x state) z)
-    (there : ℕ) (at_there : there ≡ get_or x.known.items (state_of (other side) (rank_of H v)) UNREACHED) where
-  -- what the other side knows of v
-  known_there : cost_at (side_costs H (other side) x) v ≡ known_cost there
-  known_there = by_state-at known_cost H (other side) x.known.items UNREACHED None v within ∙ ap known_cost (sym at_there)
+    (l : IsLeastState x.queue (weight, state)) (g : HasGoneOn H side (without_state x state) z) where
+  -- the search is the same
+  same : IsSameWeighing x z
+  same = record { start = g.same.start; end = g.same.end; most = g.same.most }
 
-  -- what this side knows of it
+  -- and so is its other side
+  other_side : IsSameSide H (other side) x z
+  other_side = record { costs = g.there.costs; keys = g.there.keys ∙ (pop_there H side x (s.weighing.sides side) v weight state within is l).keys }
+
+  -- it goes on
+  now_weighing : IsWeighing H z
+  now_weighing = record {
+    most = same.most ∙ s.weighing.most;
+    sides = each_side side (λ q. IsWeighingOn H q z) g.weighing (side_stays H (other side) x z (s.weighing.sides (other side)) same other_side g.weighing.sizes);
+  }
+
+  -- one state fewer is not settled
+  pub states_fall : count_unsettled_states H z < count_unsettled_states H x
+  states_fall =
+      let falls = pop_falls H side x (s.weighing.sides side) v weight state within is l in
+      let measure = g.measure in
+      sum_falls side (λ q. count_unsettled_on H q z) (λ q. count_unsettled_on H q x) (omega arith)
+      (ap (λ q. count_unsettled q (side_keys H (other side) z)) other_side.costs ∙ ap (count_unsettled (side_costs H (other side) x)) other_side.keys)
+
+  -- what this side knows of v
   known_here : cost_at (side_costs H side x) v ≡ Some (weight_cost weight)
-  known_here = (s.weighing.sides side).queued v (weight_cost weight) (least_on_side H x s.weighing side v weight state within is l).has
+  known_here = (s.weighing.sides side).search.queued v (weight_cost weight) (least_on_side H side x (s.weighing.sides side) v weight state within is l).has
 
-  -- the least of the two
-  module _ (now : ℕ) (low : now ≤ least) (sum : now ≤ weight + there) (either : (now ≡ least) ⊎ (now ≡ weight + there)) where
+  -- the other side knows it at this weight, if at all, and this is the least sum then
+  module _ (there : ℕ) (at_there : there ≡ get_or x.known.items (state_of (other side) (rank_of H v)) UNREACHED)
+      (now : ℕ) (low : now ≤ least) (sum : now ≤ weight + there) (either : (now ≡ least) ⊎ (now ≡ weight + there)) where
+    known_there : cost_at (side_costs H (other side) x) v ≡ known_cost there
+    known_there = by_state-at known_cost H (other side) x.known.items UNREACHED None v within ∙ ap known_cost (sym at_there)
+
     -- it covers all that both sides settled
     seen : (u : ℕ) (a b : Cost) → IsSettled (side_costs H side z) (side_keys H side z) u a → IsSettled (side_costs H (other side) z) (side_keys H (other side) z) u b → now ≤ a.weight + b.weight
     seen u a b here over =
-        let old = pop_settled_there H x s.weighing side v weight state within is l u b (settled (other side) u b over) in
-        elim (pop_settled H x s.weighing side v weight state within is l u a (settled side u a here)) [
+        let old : IsSettled (side_costs H (other side) x) (side_keys H (other side) x) u b =
+        (sym (ap (λ q. cost_at q u) other_side.costs) ∙ over.0, sym (ap (λ q. cost_at q u) other_side.keys) ∙ over.1) in
+        elim (pop_settled H side x (s.weighing.sides side) v weight state within is l u a (g.settled u a here)) [
           | inl was ↦ let le = seen_from H x least s side u a b was old in omega arith
           | inr new ↦
               let b_there = known_weight there b (sym known_there ∙ ap (cost_at (side_costs H (other side) x)) (sym new.0) ∙ old.0) in
@@ -91,8 +128,14 @@ module _ (H : LevelsAndLegs) (x z : WeightSearch) (least : ℕ) (s : IsLeastSoFa
     -- the sum at v is that of two paths
     found_there : now ≡ weight + there → now < UNREACHED → IsSumOver H x side now
     found_there e lt =
-        let known = known_there ∙ reached_cost there (λ far. omega arith) in
-        (v, weight_cost weight, weight_cost there, (s.weighing.sides side).sound v (weight_cost weight) known_here, (s.weighing.sides (other side)).sound v (weight_cost there) known, sym e)
+        let known = known_there ∙ reached_cost there (λ far. omega arith) in (
+          v,
+          weight_cost weight,
+          weight_cost there,
+          (s.weighing.sides side).search.sound v (weight_cost weight) known_here,
+          (s.weighing.sides (other side)).search.sound v (weight_cost there) known,
+          sym e,
+        )
 
     -- so is what is known now
     found : now < UNREACHED → IsSumOver H x Up now
@@ -104,7 +147,7 @@ module _ (H : LevelsAndLegs) (x z : WeightSearch) (least : ℕ) (s : IsLeastSoFa
     -- it is the least sum so far
     pub least_then : IsLeastSoFar H z now
     least_then = record {
-      weighing = w;
+      weighing = now_weighing;
       small = (let small = s.small in omega arith);
       seen = seen_up H z now side seen;
       found = λ lt.
@@ -112,8 +155,8 @@ module _ (H : LevelsAndLegs) (x z : WeightSearch) (least : ℕ) (s : IsLeastSoFa
             f.0,
             f.1,
             f.2,
-            subst (λ q. IsUpwardCost (rows_of (weighed H) Up) q f.0 f.1) (sym same.0) f.3,
-            subst (λ q. IsUpwardCost (rows_of (weighed H) Down) q f.0 f.2) (sym same.1) f.4,
+            subst (λ q. IsUpwardCost (rows_of (weighed H) Up) q f.0 f.1) (sym same.start) f.3,
+            subst (λ q. IsUpwardCost (rows_of (weighed H) Down) q f.0 f.2) (sym same.end) f.4,
             f.5,
           );
     }

@@ -1,5 +1,5 @@
 -- A node to which a higher node shows a lighter way is left unexpanded.
-use Rattle.std.proofs.Common.{◌≡◌, ℕ, ◌+◌, ◌<◌, ◌≤◌, length, sym, ◌∙◌, ap, arith, get_or, inl, inr, None}
+use Rattle.std.proofs.Common.{◌≡◌, ℕ, ◌+◌, ◌<◌, ◌≤◌, length, refl, sym, ◌∙◌, ap, arith, get_or, inl, inr, None}
 use Rattle.std.proofs.lemmas.Bool.{cases_eq}
 use Rattle.std.proofs.lemmas.List.{get_or_default}
 use Rattle.ch_graph.specs.Cost.{cost_at}
@@ -10,13 +10,12 @@ use Rattle.ch_query.specs.declared.side.Side.{Side}
 use Rattle.ch_query.specs.declared.weight_search.TheConstants.{UNREACHED}
 use Rattle.ch_query.specs.declared.weight_search.WeightSearch.{WeightSearch}
 use Rattle.ch_query.specs.Side.{other, state_of}
-use Rattle.ch_query.specs.Weighed.{weighed_leg, IsWeightSearch}
-use Rattle.ch_query.specs.Weights.{known_cost, weight_cost, side_costs, side_keys, source_of, is_idle_on, IsWeighing, IsWeighingAt}
+use Rattle.ch_query.specs.Weighed.{weighed_leg}
+use Rattle.ch_query.specs.Weights.{known_cost, weight_cost, side_costs, source_of, is_idle_on, IsWeighingAt, HasGoneOn}
 use Rattle.ch_query.proofs.one_side.Steps.{stalled}
 use Rattle.ch_query.proofs.weights.Known.{reached_cost}
 use Rattle.ch_query.proofs.weights.States.{by_state-at}
 use Rattle.ch_query.proofs.weights.LegsRead.{IsReadLeg, read_state}
-use Rattle.ch_query.proofs.weights.WeighingSteps.{each_side}
 
 module _ (H : LevelsAndLegs) (side : Side) (x : WeightSearch) (v weight : ℕ) (w : IsWeighingAt H side x v weight) where
   -- a weight that the stall test reads is that of no path, or the least that is known of one
@@ -36,13 +35,14 @@ module _ (H : LevelsAndLegs) (side : Side) (x : WeightSearch) (v weight : ℕ) (
     pub stall_small : (known : ℕ) → known ≡ get_or x.known.items state known → known ≤ UNREACHED
     stall_small known e = elim (cases_eq known UNREACHED) [
       | inl same ↦ omega arith
-      | inr away ↦ let light = w.here.search.light l.node (weight_cost known) (known_there known e ∙ reached_cost known away) in omega arith
+      | inr away ↦ let light = w.here.search.light l.node (weight_cost known) (known_there known e ∙ reached_cost known away) in let most = w.here.search.limits in omega arith
     ]
 
     -- a sum that is less than the weight lets v be idle
     pub stall_idle : (known : ℕ) → known ≡ get_or x.known.items state known → known + r.weight < weight → is_idle_on H side (source_of x side) v (weight_cost weight)
     stall_idle known e less =
         let light = w.here.search.light v (weight_cost weight) w.here.here.0 in
+        let most = w.here.search.limits in
         let same = is.weight in
         record {
           leg = weighed_leg l;
@@ -53,9 +53,12 @@ module _ (H : LevelsAndLegs) (side : Side) (x : WeightSearch) (v weight : ℕ) (
         }
 
   -- an idle node's legs need not be taken
-  pub stalled_weighing : is_idle_on H side (source_of x side) v (weight_cost weight) → IsWeighing H x
-  stalled_weighing idle = record {
-    levelled = w.levelled;
-    sizes = w.sizes;
-    sides = each_side side (λ s. IsWeightSearch H s (source_of x s) (side_costs H s x) (side_keys H s x)) (stalled _ _ _ _ _ v (weight_cost weight) w.here idle) w.there;
+  pub stalled_goes_on : is_idle_on H side (source_of x side) v (weight_cost weight) → HasGoneOn H side x x
+  stalled_goes_on idle = record {
+    weighing = record { levelled = w.levelled; sizes = w.sizes; search = stalled _ _ _ _ _ v (weight_cost weight) w.here idle };
+    same = record { start = refl; end = refl; most = refl };
+    there = record { costs = refl; keys = refl };
+    settled = λ u c is. is;
+    stays = λ u c is. is;
+    measure = refl;
   }

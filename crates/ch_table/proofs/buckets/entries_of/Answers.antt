@@ -1,7 +1,7 @@
 use Rattle.std.proofs.Common.{◌≡◌, ℕ, ◌+◌, ◌++◌, List, [], length, map, slice_index_or, Vec, ap, sym, ◌∙◌, subst, arith}
 use Rattle.std.specs.declared.alloc.Global.{Global}
 use Rattle.std.proofs.lemmas.List.{get_or-map}
-use Rattle.ch_table.specs.Dealing.{item_in}
+use Rattle.ch_table.specs.Dealing.{item_of}
 use Rattle.ch_table.specs.Entries.{AreEntriesOf, entry_of}
 use Rattle.ch_table.proofs.Held.{entries_of_more}
 use Rattle.ch_table.proofs.buckets.entries_of.Goals as goal
@@ -11,7 +11,7 @@ loop-place-preserved c =
     let vecs = c.args.lists.now in
     let items : Vec (ℕ × ℕ) Global → List (ℕ × ℕ) = λ list. list.items in
     let lists = map items vecs in
-    let item = item_in c.args.hierarchy.now c.args.dealing.now in
+    let item = item_of c.args.dealing.now in
     let place = c.loop-place.place in
     let before = c.loop-place.entries.items in
     let list = c.index-lists-place.result in
@@ -25,4 +25,4 @@ returns c =
     let vecs = c.args.lists.now in
     let items : Vec (ℕ × ℕ) Global → List (ℕ × ℕ) = λ list. list.items in
     let all : c.loop-place.place ≡ length vecs = omega arith in
-    subst (λ k. AreEntriesOf (item_in c.args.hierarchy.now c.args.dealing.now) (map items vecs) k c.loop-place.entries.items) all c.loop-place.invariant
+    subst (λ k. AreEntriesOf (item_of c.args.dealing.now) (map items vecs) k c.loop-place.entries.items) all c.loop-place.invariant

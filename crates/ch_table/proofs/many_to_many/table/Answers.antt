@@ -1,8 +1,8 @@
-use Rattle.std.proofs.Common.{ℕ, ◌*◌, ◌<◌, Option, length, slice_index_or, refl, sym, ◌∙◌, subst}
+use Rattle.std.proofs.Common.{ℕ, ◌*◌, ◌<◌, Option, length, slice_index_or, sym, ◌∙◌, subst}
 use Rattle.ch_work.specs.Owed.{IsLeastOwed}
-use Rattle.ch_table.specs.Dealing.{item_in, deal_of}
+use Rattle.ch_table.specs.Dealing.{item_of, deal_of}
 use Rattle.ch_table.specs.Sums.{BothSides, IsOwedAmong}
-use Rattle.ch_table.proofs.Deals.{nodes_apart}
+use Rattle.ch_table.proofs.Deals.{items_apart}
 use Rattle.ch_table.proofs.Tables.{table_is}
 use Rattle.ch_table.proofs.many_to_many.table.Goals as goal
 
@@ -20,5 +20,4 @@ returns g c =
     let least = subst Least (λ k. (count k, record { ups = S.ups; downs = S.downs; rows = sides.rows k; columns = sides.columns k; limit = sides.limit k })) c.in_ok-cells.ensures.least in
     let positive = c.piece.ensures.limits.piece.0 in
     let deal = deal_of a.hierarchy.now p in
-    let apart = nodes_apart a.hierarchy.now c.nodes-nodes.ensures.levelled deal (refl, positive) in
-    table_is a.hierarchy.now a.within (item_in a.hierarchy.now deal) sources targets S.ups S.downs sides.rise sides.fall p cells positive c.requires.kept c.requires.sources c.requires.targets apart c.in_ok-cells.ensures.count least
+    table_is a.hierarchy.now a.within (item_of deal) sources targets S.ups S.downs sides.rise sides.fall p cells positive c.requires.kept (items_apart deal positive) c.in_ok-cells.ensures.count least

@@ -13,4 +13,4 @@ returns-clause-least c =
     let known = second.known ∙ ap (λ q. set q c.state-2.result 0) first.known ∙ (λ i. set (set c.args.self.now.known.items (from i) 0) (to i) 0) in
     let queue = second.queue ∙ ap (λ q. set q c.state-2.result (Some 0)) first.queue ∙ (λ i. set (set c.args.self.now.queue (from i) (Some 0)) (to i) (Some 0)) in
     weighing_begun c.args.hierarchy.now c.rank.ensures.levelled c.args.self.now _ c.args.start c.args.end c.requires.clean c.requires.start c.requires.end
-    (second.same.0 ∙ first.same.0) (second.same.1 ∙ first.same.1) known queue second.touched
+    (second.same.start ∙ first.same.start) (second.same.end ∙ first.same.end) (second.same.most ∙ first.same.most) known queue second.touched

@@ -20,6 +20,7 @@ overflow_add-weight c =
     (c.ranked_legs-leg-items.ensures.row n.0 n.1 n.2) c.loop-leg-test.true in
     let here = (c.loop-leg.invariant n.0 n.1 n.2).weighing.here in
     let light = here.search.light n.0 _ here.here.0 in
+    let most = here.search.limits in
     omega arith
 
 pub relax-requires-clause-state : goal.relax-requires-clause-state
@@ -32,6 +33,11 @@ relax-requires-clause-state c =
     let below = state.1 in
     let size = (c.loop-leg.invariant n.0 n.1 n.2).weighing.sizes.known in
     omega arith
+
+pub relax-requires-clause-most : goal.relax-requires-clause-most
+relax-requires-clause-most c =
+    let n = node_of_rank c.args.hierarchy.now c.ranked_legs-leg-items.ensures.levelled c.args.rank c.requires.rank in
+    (c.loop-leg.invariant n.0 n.1 n.2).weighing.here.search.limits
 
 pub relax-requires-clause-queue : goal.relax-requires-clause-queue
 relax-requires-clause-queue c =
@@ -54,24 +60,9 @@ loop-leg-preserved c v within rank =
     partly_more H c.args.side c.args.self.now c.loop-leg.self c.relax.new.self v c.args.weight _ _ r.0 c.state.result (c.loop-leg.invariant v within rank) r.1 c.state.ensures
     c.relax.ensures.shows c.relax.ensures.touched c.relax.ensures.same
 
-pub returns-clause-weighing : goal.returns-clause-weighing
-returns-clause-weighing c =
+pub returns : goal.returns
+returns c =
     let H = c.args.hierarchy.now in
     let n = node_of_rank H c.ranked_legs-leg-items.ensures.levelled c.args.rank c.requires.rank in
     partly_whole H c.args.side c.args.self.now c.loop-leg.self n.0 c.args.weight _ (c.loop-leg.invariant n.0 n.1 n.2)
     (read_whole H c.args.side n.0 _ _ (c.ranked_legs-leg-items.ensures.row n.0 n.1 n.2) c.loop-leg-test.false)
-
-pub returns-clause-same : goal.returns-clause-same
-returns-clause-same c =
-    let n = node_of_rank c.args.hierarchy.now c.ranked_legs-leg-items.ensures.levelled c.args.rank c.requires.rank in
-    (c.loop-leg.invariant n.0 n.1 n.2).same
-
-pub returns-clause-settled : goal.returns-clause-settled
-returns-clause-settled c =
-    let n = node_of_rank c.args.hierarchy.now c.ranked_legs-leg-items.ensures.levelled c.args.rank c.requires.rank in
-    (c.loop-leg.invariant n.0 n.1 n.2).settled
-
-pub returns-clause-measure : goal.returns-clause-measure
-returns-clause-measure c =
-    let n = node_of_rank c.args.hierarchy.now c.ranked_legs-leg-items.ensures.levelled c.args.rank c.requires.rank in
-    (c.loop-leg.invariant n.0 n.1 n.2).measure

@@ -1,4 +1,4 @@
-use Rattle.std.proofs.Common.{◌≡◌, ◌-◌, sym, ap, ◌∙◌, arith}
+use Rattle.std.proofs.Common.{◌≡◌, sym, ap, ◌∙◌, arith}
 use Rattle.ch_table.specs.Dealing.{Deal, turn_of}
 use Rattle.ch_table.proofs.Deals.{round_fits}
 use Rattle.ch_table.proofs.dealing.Dealing.item.Goals as goal
@@ -7,9 +7,9 @@ pub overflow_sub-result-2 : goal.overflow_sub-result-2
 overflow_sub-result-2 c =
     let inside = c.self.inside in
     let d : Deal = record { nodes = inside.nodes; piece = inside.piece } in
-    let level = c.args.level in
+    let rank = c.args.rank in
     let nodes = ap (λ (q : Deal). q.nodes) c.self.view_is in
-    let high = c.requires.1 in
-    let turn : c.turn-place.result ≡ turn_of d (inside.nodes - level) = c.turn-place.ensures ∙ ap (λ (q : Deal). turn_of q (inside.nodes - level)) (sym c.self.view_is) in
-    let fits = round_fits d c.self.invariant.1 level c.requires.0 (omega arith) c.turn-place.result turn in
+    let low = c.requires in
+    let turn : c.turn-place.result ≡ turn_of d rank = c.turn-place.ensures ∙ ap (λ (q : Deal). turn_of q rank) (sym c.self.view_is) in
+    let fits = round_fits d c.self.invariant.1 rank (omega arith) c.turn-place.result turn in
     let end = c.min-end.ensures in omega arith

@@ -1,7 +1,7 @@
 use Rattle.std.proofs.Common.{refl, subst}
 use Rattle.ch_query.specs.declared.side.Side.TheVariants.{Up, Down}
 use Rattle.ch_table.specs.Buckets.{HoldSearchSpaces}
-use Rattle.ch_table.specs.Dealing.{Deal, item_in}
+use Rattle.ch_table.specs.Dealing.{Deal, item_of}
 use Rattle.ch_table.proofs.Deals.{dealt_by}
 use Rattle.ch_table.proofs.Tables.{within}
 use Rattle.ch_table.proofs.sums.Sums.search.Goals as goal
@@ -17,8 +17,8 @@ returns g c =
     let H = a.hierarchy.now in
     let dealt = dealt_by H c.new-dealing.result c.nodes.result c.piece.result a.plan.now.piece c.new-dealing.ensures c.nodes.ensures.nodes c.piece.ensures.piece in
     record {
-      rise = subst (λ (d : Deal). HoldSearchSpaces H Up a.within (item_in H d) a.sources.now c.in_ok-ups.ups) dealt c.in_ok-ups.ensures;
-      fall = subst (λ (d : Deal). HoldSearchSpaces H Down a.within (item_in H d) a.targets.now c.in_ok-downs.downs) dealt c.in_ok-downs.ensures;
+      rise = subst (λ (d : Deal). HoldSearchSpaces H Up a.within (item_of d) a.sources.now c.in_ok-ups.ups) dealt c.in_ok-ups.ensures;
+      fall = subst (λ (d : Deal). HoldSearchSpaces H Down a.within (item_of d) a.targets.now c.in_ok-downs.downs) dealt c.in_ok-downs.ensures;
       rows = refl;
       columns = refl;
       limit = refl;
