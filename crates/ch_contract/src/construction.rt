@@ -61,14 +61,29 @@ pub fn build_by<R: Threads + Sync, G: Gate>(
     ensures kept { IfOk result (IsKept graph.now) }
     ensures limits { IsWithinLimits graph.now }
 {
-    // The getter tells the proof that the graph keeps the limits.
-    let _ = graph.arcs();
+    ask_ahead(alloc, graph)?;
     let mut construction = Construction::open(rt, alloc, graph, hops, by, plan, gate)?;
     while let Some(node) = construction.next() {
         gate.watch(Stage::Building, construction.contracted, graph.nodes());
         construction = construction.contract(rt, alloc, node, hops, by, plan, gate)?;
     }
     construction.finish()
+}
+
+/// The words of memory that building takes for each node and for each arc, less than was measured of road networks.
+const NODE_WORDS: usize = 12;
+
+const ARC_WORDS: usize = 8;
+
+/// Asks for as much memory at once as building will take, and gives it back: where there is less, that is told now and not when most nodes
+/// are contracted.
+fn ask_ahead(alloc: Global, graph: &Graph) -> Result<(), AllocError>
+    ensures { IsWithinLimits graph.now }
+{
+    let nodes = (graph.nodes() as usize).saturating_mul(NODE_WORDS);
+    let arcs = graph.arcs().len().saturating_mul(ARC_WORDS);
+    let _ = Vec::<u64>::with_capacity(alloc, nodes.saturating_add(arcs))?;
+    Ok(())
 }
 
 /// A hierarchy of which some nodes are contracted.

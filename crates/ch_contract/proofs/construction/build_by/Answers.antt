@@ -54,4 +54,4 @@ returns-clause-hierarchy g c =
 
 pub returns-clause-kept : goal.returns-clause-kept
 returns-clause-kept g c =
-    IfOk-weaker c.finish.result _ _ (λ H is. hierarchies_kept c.args.by c.args.graph.now c.args.hops H c.arcs.ensures.limits c.requires.hops is) (returns-clause-hierarchy g c)
+    IfOk-weaker c.finish.result _ _ (λ H is. hierarchies_kept c.args.by c.args.graph.now c.args.hops H c.ask_ahead.ensures c.requires.hops is) (returns-clause-hierarchy g c)
