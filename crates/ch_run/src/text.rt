@@ -10,8 +10,11 @@ ghost use Rattle.ch_run.specs.TableText.{cell_text, row_text};
 use ch_graph::InArc;
 use ch_query::Answer;
 use ch_table::Table;
-use itoa::Buffer;
+use itoa::{Buffer, write_digits};
 use std::alloc::{AllocError, Global};
+
+/// The most bytes that a number takes with a blank before it.
+const SPACED: usize = 21;
 
 /// The text of the answers, in order.
 ///
@@ -57,8 +60,19 @@ fn push_row(text: &mut Vec<u8>, source: u32, cells: &[Option<u64>]) -> Result<()
 fn push_cell(text: &mut Vec<u8>, cell: Option<u64>) -> Result<(), AllocError>
     ensures { OnOk result (text.new.items ≡ text.old.items ++ cell_text cell) }
 {
-    push_all(text, b" ")?;
-    push_weight(text, cell)
+    match cell {
+        Some(weight) => push_spaced(text, weight),
+        None => push_all(text, b" -"),
+    }
+}
+
+/// Adds a blank and a number in decimal, as one slice.
+fn push_spaced(text: &mut Vec<u8>, number: u64) -> Result<(), AllocError>
+    ensures { OnOk result (text.new.items ≡ text.old.items ++ codes " " ++ decimal number) }
+{
+    let mut bytes = [b' '; SPACED];
+    let start = write_digits(number, &mut bytes, SPACED);
+    push_all(text, &bytes[start - 1..])
 }
 
 /// Adds the cells of a row.
