@@ -70,13 +70,14 @@ pub fn build_by<R: Threads + Sync, G: Gate>(
     construction.finish()
 }
 
-/// The words of memory that building takes for each node and for each arc, less than was measured of road networks.
+/// The words of memory that building takes for each node, but for its arcs: less than was measured of road networks.
 const NODE_WORDS: usize = 12;
 
+/// The words of memory that building takes for each arc: less than was measured, as well.
 const ARC_WORDS: usize = 8;
 
 /// Asks for as much memory at once as building will take, and gives it back: where there is less, that is told now and not when most nodes
-/// are contracted.
+/// are contracted. It looks at the graph, so what the getters tell the proof, that the graph keeps the limits, it tells too.
 fn ask_ahead(alloc: Global, graph: &Graph) -> Result<(), AllocError>
     ensures { IsWithinLimits graph.now }
 {
