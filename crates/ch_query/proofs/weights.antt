@@ -3,6 +3,7 @@ pub mod States
 pub mod Known
 pub mod Queues
 pub mod Clean
+pub mod Unreached
 pub mod WeighingBegins
 pub mod WeighingPops
 pub mod WeighingSums

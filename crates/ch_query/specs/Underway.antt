@@ -35,6 +35,10 @@ pub record IsRoom (x : Search) : Type 0 where
   pub touched : IsTouched x.labels.costs x.touched
   pub most : x.most ≤ MOST_WEIGHT
 
+-- where the node of this rank is not reached, it has no key
+abbrev pub UnreachedIsUnkeyed : Search → ℕ → Type 0
+UnreachedIsUnkeyed x rank = cost_at x.labels.costs rank ≡ None → cost_at x.queue rank ≡ None
+
 -- the lists of the search are for so many nodes
 abbrev pub IsSized : ℕ → Search → Type 0
 IsSized n x = (length x.labels.costs ≡ n) × (length x.queue ≡ n) × (length x.labels.parents ≡ n)

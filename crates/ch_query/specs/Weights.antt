@@ -100,6 +100,10 @@ pub record HasGoneOn (H : LevelsAndLegs) (side : Side) (x y : WeightSearch) : Ty
   pub stays : KeepsSide H side y x
   pub measure : count_unsettled_on H side y ≡ count_unsettled_on H side x
 
+-- a state that is not reached has no key
+abbrev pub UnreachedStateIsUnkeyed : WeightSearch → ℕ → Type 0
+UnreachedStateIsUnkeyed x state = slice_index x.known.items state ≡ UNREACHED → slice_index_or x.queue state None ≡ None
+
 -- what showing a state this weight changes: nothing, where no less is known or it is above the limit, or the state gets it as weight and key
 abbrev pub ShowsWeight : WeightSearch → ℕ → ℕ → WeightSearch → Type 0
 ShowsWeight x state weight y =

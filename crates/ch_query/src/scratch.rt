@@ -43,6 +43,8 @@ impl Sides {
 pub struct Scratch {
     /// For distances and search spaces.
     pub(crate) weights: WeightSearch,
+    /// Where search spaces are gathered.
+    pub(crate) found: Vec<(u32, u64)>,
     /// For routes and spreads: made for the first of them.
     sides: Option<Sides>,
     nodes: u32,
@@ -61,7 +63,8 @@ impl Model for Scratch {
 
 impl Scratch {
     /// Room for queries among `nodes` nodes. It takes a number of steps and an amount of memory that
-    /// grow with them; distances and search spaces take no more, and the first route or spread as much twice again.
+    /// grow with them; distances take no more, search spaces what their entries take, and the first route or spread
+    /// as much twice again.
     ///
     /// # Errors
     /// `AllocError` where there is no memory.
@@ -71,6 +74,7 @@ impl Scratch {
         let weights = WeightSearch::new(alloc, nodes)?;
         Ok(Scratch {
             weights,
+            found: Vec::new(alloc),
             sides: None,
             nodes,
         })

@@ -6,7 +6,7 @@ ghost use Rattle.ch_hierarchy.specs.Hierarchy.{nodes_of};
 ghost use Rattle.ch_query.specs.Limits.{IsMost};
 ghost use Rattle.ch_query.specs.TwoSided.{LeadsKeys};
 ghost use Rattle.ch_hierarchy.specs.Ranked.{rank_of};
-ghost use Rattle.ch_query.specs.Underway.{idle_of, count_unsettled_in, IsTouched, IsRoom, RelaxesByRank, IsSameSearch, IsUnderway, IsExpandingAt, KeepsSettled, IsClean};
+ghost use Rattle.ch_query.specs.Underway.{idle_of, count_unsettled_in, IsTouched, IsRoom, UnreachedIsUnkeyed, RelaxesByRank, IsSameSearch, IsUnderway, IsExpandingAt, KeepsSettled, IsClean};
 ghost use Rattle.ch_query.specs.Meeting.{IsFresh};
 
 use crate::labels::Labels;
@@ -102,6 +102,7 @@ impl Search {
         requires weight { cost.weight ≤ MOST_WEIGHT }
         requires arcs { cost.arcs < 2 ^ 63 }
         requires room { IsRoom self.old }
+        requires unkeyed { UnreachedIsUnkeyed self.old rank }
         ensures costs { self.new.labels.costs ≡ slice_set self.old.labels.costs rank (Some cost) }
         ensures queue { self.new.queue ≡ slice_set self.old.queue rank (Some cost) }
         ensures parents { self.new.labels.parents ≡ slice_set self.old.labels.parents rank parent }
@@ -110,15 +111,18 @@ impl Search {
     {
         if self.labels.get(rank).is_none() {
             self.touched.push_reserved(rank);
+            self.queue.insert(rank, cost);
+        } else {
+            self.queue.set(rank, cost);
         }
         self.labels.set(rank, cost, parent);
-        self.queue.set(rank, cost);
     }
 
     /// Takes a leg of `node`, which was settled at `cost`.
     fn relax(&mut self, node: u32, cost: Cost, leg: RankedLeg)
         requires rank { leg.rank < length self.old.labels.costs }
         requires room { IsRoom self.old }
+        requires unkeyed { UnreachedIsUnkeyed self.old leg.rank }
         requires weights { (cost.weight ≤ MOST_WEIGHT) × (leg.weight ≤ MOST_WEIGHT) }
         requires arcs { cost.arcs + leg.arcs < 2 ^ 63 }
         ensures relaxes { RelaxesByRank self.old node cost leg self.new }

@@ -32,36 +32,37 @@ impl WeightSearch {
         self.reach(side.state(hierarchy.rank(source)), 0);
     }
 
-    /// Settles all nodes that can be reached on this side, but what is reached through stalled nodes alone, and
-    /// gives the ranks and weights of those at which the search did not stall.
+    /// Settles all nodes that can be reached on this side, but what is reached through stalled nodes alone. `found` then
+    /// has the ranks and weights of those at which the search did not stall.
     fn explore(
         &mut self,
-        alloc: Global,
         hierarchy: &Hierarchy,
         side: Side,
-    ) -> Result<Vec<(u32, u64)>, AllocError>
+        found: &mut Vec<(u32, u64)>,
+    ) -> Result<(), AllocError>
         requires begun { HasBegunOn hierarchy.now side self.old }
         ensures weighing { IsWeighingOn hierarchy.now side self.new }
         ensures same { IsSameWeighing self.old self.new }
         ensures done { OnOk result (IsEmpty (side_keys hierarchy.now side self.new)) }
-        ensures unstalled { IfOk result (λ list. AreUnstalledOn hierarchy.now side self.new list.items) }
+        ensures unstalled { OnOk result (AreUnstalledOn hierarchy.now side self.new found.new.items) }
     {
-        let mut list = Vec::new(alloc);
+        found.clear();
         while let Some((weight, state)) = self.queue.pop() {
             let rank = state / 2;
             if self.settle(hierarchy, side, rank, weight) {
-                list.push((rank, weight))?;
+                found.push((rank, weight))?;
             }
         }
-        Ok(list)
+        Ok(())
     }
 
-    /// The search space of a node on this side within the limit, by ranks. The search is clean afterwards, also where
-    /// there is no memory.
+    /// The search space of a node on this side within the limit, by ranks. It is gathered in `found`, so that a list of
+    /// its length is all that is taken. The search is clean afterwards, also where there is no memory.
     fn space(
         &mut self,
         alloc: Global,
         hierarchy: &Hierarchy,
+        found: &mut Vec<(u32, u64)>,
         source: u32,
         side: Side,
         within: Option<u64>,
@@ -73,9 +74,10 @@ impl WeightSearch {
         ensures clean { IsCleanFor (nodes_of hierarchy.now) self.new }
     {
         self.begin_on(hierarchy, side, source, most_within(within));
-        let list = self.explore(alloc, hierarchy, side);
+        let explored = self.explore(hierarchy, side, found);
         self.clean();
-        list
+        explored?;
+        Vec::from_slice(alloc, found)
     }
 }
 
@@ -98,9 +100,8 @@ pub fn ranked_space(
     ensures space { IfOk result (λ list. IsRankedSpace hierarchy.now side within source list.items) }
     ensures scratch { scratch.new ≡ scratch.old }
 {
-    scratch
-        .weights
-        .space(alloc, hierarchy, source, side, within)
+    let Scratch { weights, found, .. } = scratch;
+    weights.space(alloc, hierarchy, found, source, side, within)
 }
 
 /// The nodes that `source` reaches by legs to higher nodes in this direction, with the weights of paths,

@@ -9,7 +9,7 @@ ghost use Rattle.ch_hierarchy.specs.Hierarchy.{nodes_of, IsLevelled};
 ghost use Rattle.ch_hierarchy.specs.Ranked.{rank_of};
 ghost use Rattle.ch_query.specs.Distance.{IsKeptForSome, IsLeastWeight};
 ghost use Rattle.ch_query.specs.Underway.{IsTouched};
-ghost use Rattle.ch_query.specs.Weights.{known_cost, is_idle_on, weight_cost, source_of, IsSizedFor, IsWeighingAt, IsSameWeighing, HasGoneOn, ShowsWeight, AtRank, IsCleanFor, IsLeastSoFar, IsLeastState, AreKeysFrom, count_unsettled_states, without_state};
+ghost use Rattle.ch_query.specs.Weights.{known_cost, is_idle_on, weight_cost, source_of, IsSizedFor, IsWeighingAt, IsSameWeighing, UnreachedStateIsUnkeyed, HasGoneOn, ShowsWeight, AtRank, IsCleanFor, IsLeastSoFar, IsLeastState, AreKeysFrom, count_unsettled_states, without_state};
 
 use crate::side::Side;
 use ch_graph::limits::MOST_WEIGHT;
@@ -63,6 +63,7 @@ impl WeightSearch {
         requires state { state < length self.old.known.items }
         requires weight { weight ≤ MOST_WEIGHT }
         requires queue { length self.old.queue ≡ length self.old.known.items }
+        requires unkeyed { UnreachedStateIsUnkeyed self.old state }
         requires touched { IsTouched (map known_cost self.old.known.items) self.old.touched }
         ensures known { self.new.known.items ≡ slice_set self.old.known.items state weight }
         ensures queue { self.new.queue ≡ slice_set self.old.queue state (Some weight) }
@@ -71,9 +72,11 @@ impl WeightSearch {
     {
         if self.known[state as usize] == UNREACHED {
             self.touched.push_reserved(state);
+            self.queue.insert(state, weight);
+        } else {
+            self.queue.set(state, weight);
         }
         self.known[state as usize] = weight;
-        self.queue.set(state, weight);
     }
 
     /// Gives a state the weight of a path to it, where that is less than what is known.
@@ -82,6 +85,7 @@ impl WeightSearch {
         requires state { state < length self.old.known.items }
         requires most { self.old.most ≤ MOST_WEIGHT }
         requires queue { length self.old.queue ≡ length self.old.known.items }
+        requires unkeyed { UnreachedStateIsUnkeyed self.old state }
         requires touched { IsTouched (map known_cost self.old.known.items) self.old.touched }
         ensures shows { ShowsWeight self.old state weight self.new }
         ensures touched { IsTouched (map known_cost self.new.known.items) self.new.touched }

@@ -2,6 +2,7 @@
 use Rattle.std.proofs.Common.{◌≡◌, ℕ, ◌+◌, ◌^◌, ◌<◌, ◌≤◌, List, length, length-set, Contains, take, map, Some, None, sym, take_all, ◌∙◌, ap, subst, arith, get_or, set, inl, inr}
 use Rattle.std.specs.Prelude.{slice_index}
 use Rattle.std.proofs.lemmas.List.{take_more, get_or-map, length-map}
+use Rattle.std.proofs.lemmas.Option.{none-some}
 use Rattle.std.proofs.lemmas.List.Elements.{Contains-get_or}
 use Rattle.ch_graph.specs.declared.limits.TheConstants.{MOST_WEIGHT}
 use Rattle.ch_graph.specs.declared.cost.Cost.{Cost}
@@ -16,8 +17,9 @@ use Rattle.ch_query.specs.declared.search.Search.{Search}
 use Rattle.ch_hierarchy.specs.Ranked.{rank_of, ranked_leg}
 use Rattle.ch_query.specs.ByNode.{by_node, costs_of, parents_of}
 use Rattle.ch_query.specs.Side.{rows_of}
-use Rattle.ch_query.specs.Underway.{IsSized, IsTouched, RelaxesByRank, RelaxesIn, IsSameSearch, IsPartlyExpanded}
+use Rattle.ch_query.specs.Underway.{IsSized, IsTouched, UnreachedIsUnkeyed, RelaxesByRank, RelaxesIn, IsSameSearch, IsPartlyExpanded}
 use Rattle.ch_query.proofs.one_side.ByNode.{by_node-size, by_node-at, by_node-set}
+use Rattle.ch_query.proofs.one_side.Touched.{none_unless}
 use Rattle.ch_query.proofs.one_side.Expanding.{leg_up, leg_bounds, partly_more}
 
 -- what a leg taken by rank changes, by node
@@ -94,6 +96,15 @@ module _ (H : LevelsAndLegs) (x y : Search) (v : ℕ) (c : Cost) (items : List R
 
   pub read_rank : (get_or items i d).rank < length y.labels.costs
   read_rank = subst (λ (q : RankedLeg). q.rank < length y.labels.costs) (sym is) (let r = rank_below H p.expanding.levelled here.node within in let s = p.expanding.sizes.0 in omega arith)
+
+  -- where it is not reached, it has no key
+  unkeyed : UnreachedIsUnkeyed y (rank_of H here.node)
+  unkeyed unreached = none_unless (cost_at y.queue (rank_of H here.node)) (λ d key.
+      let queued = p.expanding.search.search.queued here.node d (by_node-at H y.queue None None here.node within ∙ key) in
+      none-some d (sym unreached ∙ sym (by_node-at H y.labels.costs None None here.node within) ∙ queued))
+
+  pub read_unkeyed : UnreachedIsUnkeyed y (get_or items i d).rank
+  read_unkeyed = subst (λ (q : RankedLeg). UnreachedIsUnkeyed y q.rank) (sym is) unkeyed
 
   pub read_weights : (c.weight ≤ MOST_WEIGHT) × ((get_or items i d).weight ≤ MOST_WEIGHT)
   read_weights = (bounds.1, subst (λ (q : RankedLeg). q.weight ≤ MOST_WEIGHT) (sym is) bounds.2)

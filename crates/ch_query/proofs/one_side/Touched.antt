@@ -13,6 +13,11 @@ use Rattle.ch_graph.specs.declared.cost.Cost.{Cost}
 use Rattle.ch_graph.specs.Cost.{cost_at}
 use Rattle.ch_query.specs.Underway.{IsTouched}
 
+-- what is never some is none
+pub none_unless : {A : Type 0} (o : Option A) → ((a : A) → o ≡ Some a → ⊥) → o ≡ None
+none_unless None never = refl
+none_unless (Some a) never = absurd (never a refl)
+
 module _ (best : List (Option Cost)) (touched : Vec ℕ Global) (t : IsTouched best touched) (w : ℕ) (within : w < length best) (d : Cost) where
   -- how many nodes have a cost then
   counted : (b : Bool) → is_some (cost_at best w) ≡ b → count_by is_some (set best w (Some d)) + cond b 1 0 ≡ count_by is_some best + 1

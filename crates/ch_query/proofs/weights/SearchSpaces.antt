@@ -1,6 +1,6 @@
 -- A search by weights on one side, from its first state to its end: the states at which it did not stall are a search space.
 use Rattle.std.proofs.Common.{◌≡◌, ℕ, ◌/◌, ◌%◌, ◌<◌, List, [], ◌∷◌, ◌++◌, Contains, Option, None, get_or, refl, sym, ◌∙◌, ap, subst, arith, set, inl, inr, nat_cmp}
-use Rattle.std.specs.Prelude.{◌⊎◌, ◌≢◌, IfOk, OnOk, Vec}
+use Rattle.std.specs.Prelude.{◌⊎◌, ◌≢◌, IfOk, Vec}
 use Rattle.std.specs.declared.alloc.Global.{Global}
 use Rattle.std.specs.declared.result.Result.{Result}
 use Rattle.std.specs.declared.result.Result.TheVariants.{Ok, Err}
@@ -213,9 +213,8 @@ module _ (H : LevelsAndLegs) (k : IsKeptForSome H) (side : Side) (x : WeightSear
   pub space_of : (s : ℕ) → source_of x side ≡ s → (list : List (ℕ × ℕ)) → AreUnstalledOn H side x list → IsRankedSpace H side limit s list
   space_of s from list a = subst (λ q. IsRankedSpace H side limit q list) from (space_is list a)
 
--- so where there is room to list them, the list is the search space
-pub space_if_listed : (H : LevelsAndLegs) → IsKeptForSome H → (side : Side) (x : WeightSearch) → IsWeighingOn H side x → (limit : Option ℕ) → IsMost limit x.most →
-    (s : ℕ) → source_of x side ≡ s → {E : Type 0} (r : Result (Vec (ℕ × ℕ) Global) E) → OnOk r (IsEmpty (side_keys H side x)) →
-    IfOk r (λ list. AreUnstalledOn H side x list.items) → IfOk r (λ list. IsRankedSpace H side limit s list.items)
-space_if_listed H k side x m limit most s from (Ok list) done a = space_of H k side x m done limit most s from list.items a
-space_if_listed H k side x m limit most s from (Err e) done a = tt
+-- so a list of them is the search space, where there is room for it
+pub space_if_listed : (H : LevelsAndLegs) (side : Side) (limit : Option ℕ) (s : ℕ) (found : List (ℕ × ℕ)) → IsRankedSpace H side limit s found →
+    {E : Type 0} (r : Result (Vec (ℕ × ℕ) Global) E) → IfOk r (λ list. list.items ≡ found) → IfOk r (λ list. IsRankedSpace H side limit s list.items)
+space_if_listed H side limit s found space (Ok list) same = subst (IsRankedSpace H side limit s) (sym same) space
+space_if_listed H side limit s found space (Err e) same = tt

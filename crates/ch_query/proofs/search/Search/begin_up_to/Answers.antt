@@ -1,8 +1,12 @@
 use Rattle.std.proofs.Common.{◌∙◌, ◌≤◌, ap, set, subst, sym, Some}
 use Rattle.ch_graph.specs.declared.limits.TheConstants.{MOST_WEIGHT}
-use Rattle.ch_graph.specs.Cost.{no_cost}
+use Rattle.ch_graph.specs.Cost.{no_cost, cost_at}
+use Rattle.ch_query.proofs.one_side.Touched.{none_unless}
 use Rattle.ch_query.proofs.one_side.Beginning.{begun_underway, begun_fresh}
 use Rattle.ch_query.proofs.search.Search.begin_up_to.Goals as goal
+
+pub reach-requires-clause-unkeyed : goal.reach-requires-clause-unkeyed
+reach-requires-clause-unkeyed c _ = none_unless (cost_at c.args.self.now.queue c.rank.result) (c.requires.clean.queue c.rank.result)
 
 pub returns-clause-underway : goal.returns-clause-underway
 returns-clause-underway c =

@@ -21,4 +21,4 @@ returns-clause-touched c =
       | else-is_none w ↦ subst (λ (q : Search). IsTouched (set q.labels.costs c.args.rank (Some c.args.cost)) q.touched) (sym w.self-is)
           (touched_same _ _ c.requires.room.touched _ c.requires.rank c.args.cost (known ∙ w.if-is_none.ensures))
     ] in
-    subst (λ costs. IsTouched costs now.touched) (sym c.set.ensures.costs) touched
+    subst (λ costs. IsTouched costs now.touched) (sym c.set-2.ensures.costs) touched

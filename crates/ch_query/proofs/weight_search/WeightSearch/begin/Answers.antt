@@ -1,8 +1,21 @@
-use Rattle.std.proofs.Common.{ap, ◌∙◌, set, Some}
+use Rattle.std.proofs.Common.{ap, sym, ◌∙◌, get_or, get_or-set_other, set, None, Some}
+use Rattle.ch_hierarchy.specs.Hierarchy.{nodes_of}
 use Rattle.ch_query.specs.declared.side.Side.TheVariants.{Up, Down}
 use Rattle.ch_query.specs.Side.{state_of}
+use Rattle.ch_query.proofs.weights.States.{state_apart}
+use Rattle.ch_query.proofs.weights.Unreached.{clean_none}
 use Rattle.ch_query.proofs.weights.WeighingBegins.{weighing_begun}
 use Rattle.ch_query.proofs.weight_search.WeightSearch.begin.Goals as goal
+
+pub reach-requires-clause-unkeyed : goal.reach-requires-clause-unkeyed
+reach-requires-clause-unkeyed c _ = clean_none (nodes_of c.args.hierarchy.now) c.args.self.now c.requires.clean c.state.result
+
+pub reach-requires-2-clause-unkeyed : goal.reach-requires-2-clause-unkeyed
+reach-requires-2-clause-unkeyed c _ =
+    let apart = state_apart Up c.rank-2.result c.rank.result in
+    ap (λ q. get_or q c.state-2.result None) c.reach.ensures.queue
+    ∙ get_or-set_other c.args.self.now.queue c.state.result c.state-2.result (Some 0) None (λ same. apart (sym c.state-2.ensures ∙ same ∙ c.state.ensures))
+    ∙ clean_none (nodes_of c.args.hierarchy.now) c.args.self.now c.requires.clean c.state-2.result
 
 pub returns-clause-least : goal.returns-clause-least
 returns-clause-least c =

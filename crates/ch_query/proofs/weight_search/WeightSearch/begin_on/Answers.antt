@@ -1,5 +1,7 @@
 use Rattle.std.proofs.Common.{ap, ◌∙◌, arith}
 use Rattle.ch_query.specs.Side.{state_of}
+use Rattle.ch_hierarchy.specs.Hierarchy.{nodes_of}
+use Rattle.ch_query.proofs.weights.Unreached.{clean_none}
 use Rattle.ch_query.proofs.weights.WeighingBegins.{begun_alone, source_where}
 use Rattle.ch_query.proofs.weight_search.WeightSearch.begin_on.Goals as goal
 
@@ -12,3 +14,6 @@ returns-clause-begun c =
 
 pub returns-clause-source : goal.returns-clause-source
 returns-clause-source c = source_where c.reach.new.self c.args.side c.args.source c.reach.ensures.same.start c.reach.ensures.same.end
+
+pub reach-requires-clause-unkeyed : goal.reach-requires-clause-unkeyed
+reach-requires-clause-unkeyed c _ = clean_none (nodes_of c.args.hierarchy.now) c.args.self.now c.requires.clean c.state.result

@@ -1,6 +1,7 @@
 use Rattle.std.proofs.Common.{arith}
 use Rattle.ch_hierarchy.proofs.code.Ranked.{node_of_rank}
 use Rattle.ch_query.proofs.weights.LegsRead.{read_leg, read_rank, read_light, read_state, read_whole}
+use Rattle.ch_query.proofs.weights.Unreached.{unreached_here}
 use Rattle.ch_query.proofs.weights.WeighingSteps.{partly_more, partly_whole}
 use Rattle.ch_query.proofs.weight_search.WeightSearch.expand.Goals as goal
 
@@ -51,6 +52,15 @@ pub relax-requires-clause-touched : goal.relax-requires-clause-touched
 relax-requires-clause-touched c =
     let n = node_of_rank c.args.hierarchy.now c.ranked_legs-leg-items.ensures.levelled c.args.rank c.requires.rank in
     (c.loop-leg.invariant n.0 n.1 n.2).weighing.sizes.touched
+
+pub relax-requires-clause-unkeyed : goal.relax-requires-clause-unkeyed
+relax-requires-clause-unkeyed c =
+    let H = c.args.hierarchy.now in
+    let k = c.ranked_legs-leg-items.ensures.levelled in
+    let n = node_of_rank H k c.args.rank c.requires.rank in
+    let r = read_leg H k c.args.side n.0 _ _ _ (c.ranked_legs-leg-items.ensures.row n.0 n.1 n.2) c.loop-leg-test.true in
+    unreached_here H c.args.side c.loop-leg.self n.0 c.args.weight (c.loop-leg.invariant n.0 n.1 n.2).weighing r.0.node c.state.result r.1.node
+    (read_state H k c.args.side c.args.side n.0 _ _ r.0 r.1 _ c.state.ensures).0
 
 pub loop-leg-preserved : goal.loop-leg-preserved
 loop-leg-preserved c v within rank =

@@ -8,7 +8,7 @@ invariant-loop-weight l = record {
   weighing : IsWeighingOn l.hierarchy l.side l.self;
   alone : IsEmpty (side_keys l.hierarchy (other l.side) l.self);
   same : IsSameWeighing l.fn.self l.self;
-  unstalled : AreUnstalledOn l.hierarchy l.side l.self l.list.items;
+  unstalled : AreUnstalledOn l.hierarchy l.side l.self l.found.items;
 }
 
 abbrev pub decreases-loop-weight : goal.decreases-loop-weight
