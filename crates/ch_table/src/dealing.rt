@@ -75,6 +75,10 @@ impl Dealing {
         ensures { result ≡ turn_of self.now rank }
     {
         let all = self.before + 1;
+        // Most nodes that searches reach are dealt in the first round, and it needs no division.
+        if rank < all {
+            return (rank, 0);
+        }
         let to_all = self.last * all;
         if rank < to_all {
             (rank % all, rank / all)
