@@ -9,15 +9,14 @@ use crate::search::is_below;
 use ch_graph::Cost;
 use ch_hierarchy::{Hierarchy, Leg};
 
-/// The leg of the row at `node`, which it has, by binary search.
+/// The leg of the row at `node`, which it has. Rows are short, so it is looked for from the first leg on.
 pub(crate) fn leg_at(row: &[Leg], node: u32) -> Leg
-    requires order { IsRow row.now }
-    requires has { (l : RowLeg) × Contains row.now l × (l.node ≡ node) }
+    requires { (l : RowLeg) × Contains row.now l × (l.node ≡ node) }
     ensures { Contains row.now result × (result.node ≡ node) }
 {
-    match row.binary_search_by_key(&node, |leg| leg.node) {
-        Ok(place) => row[place],
-        Err(_) => unreachable!(),
+    match row.iter().find(|leg| leg.node == node) {
+        Some(leg) => *leg,
+        None => unreachable!(),
     }
 }
 

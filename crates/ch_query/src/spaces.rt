@@ -56,8 +56,8 @@ impl WeightSearch {
         Ok(())
     }
 
-    /// The search space of a node on this side within the limit, by ranks. It is gathered in `found`, so that a list of
-    /// its length is all that is taken. The search is clean afterwards, also where there is no memory.
+    /// The search space of a node on this side within the limit, by ranks. It is gathered in `found`, whose room stays, and handed
+    /// out as a list of its length. The search is clean afterwards, also where there is no memory.
     fn space(
         &mut self,
         alloc: Global,

@@ -8,7 +8,7 @@ use Rattle.ch_graph.specs.Cost.{IsAtMost, cost_sum, cost_at}
 use Rattle.ch_graph.proofs.CostOrder.{IsAtMost_refl}
 use Rattle.ch_graph.proofs.CostSums.{cost_sum_assoc, cost_sum-no_cost}
 use Rattle.ch_hierarchy.specs.declared.leg.Leg.{Leg}
-use Rattle.ch_hierarchy.specs.Rows.{row, IsRow}
+use Rattle.ch_hierarchy.specs.Rows.{row}
 use Rattle.ch_hierarchy.specs.Hierarchy.{LevelsAndLegs, nodes_of}
 use Rattle.ch_hierarchy.specs.Paths.{IsUpwardPath, path_cost, IsLeastUpwardPath}
 use Rattle.ch_hierarchy.proofs.theory.LegPaths.{path_cost-cons}
@@ -103,9 +103,9 @@ module _ (H : LevelsAndLegs) (k : IsKeptForSome H) (y : Search) (m x : ℕ) (c :
       pub parent_within : p < nodes_of H
       parent_within = has_row H r.underway.levelled y.side p of.leg has
 
-      -- its row is in order and has a leg to x
-      pub parent_has : (legs : List Leg) → legs ≡ row (rows_of H y.side) p → IsRow legs × ((l : Leg) × Contains legs l × (l.node ≡ x))
-      parent_has legs e = (subst IsRow (sym e) (rows_ordered H r.underway.levelled y.side p), (of.leg, subst (λ q. Contains q of.leg) (sym e) has, of.node))
+      -- its row has a leg to x
+      pub parent_has : (legs : List Leg) → legs ≡ row (rows_of H y.side) p → (l : Leg) × Contains legs l × (l.node ≡ x)
+      parent_has legs e = (of.leg, subst (λ q. Contains q of.leg) (sym e) has, of.node)
 
       module _ (l : Leg) (legs : List Leg) (e : legs ≡ row (rows_of H y.side) p) (found : Contains legs l × (l.node ≡ x)) where
         -- the leg that is found is in the row

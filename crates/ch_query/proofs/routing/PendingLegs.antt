@@ -8,15 +8,15 @@ use Rattle.ch_graph.specs.declared.arc.InArc.{InArc}
 use Rattle.ch_graph.specs.declared.cost.Cost.{Cost}
 use Rattle.ch_graph.specs.Cost.{cost_sum}
 use Rattle.ch_hierarchy.specs.declared.leg.Leg.{Leg}
-use Rattle.ch_hierarchy.specs.Rows.{row, IsRow}
+use Rattle.ch_hierarchy.specs.Rows.{row}
 use Rattle.ch_hierarchy.specs.Hierarchy.{LevelsAndLegs, nodes_of}
 use Rattle.ch_hierarchy.specs.Kept.{IsFounded}
-use Rattle.ch_query.specs.declared.side.Side.TheVariants.{Up, Down}
+use Rattle.ch_query.specs.declared.side.Side.TheVariants.{Down}
 use Rattle.ch_query.specs.declared.unpacking.PendingLeg.{PendingLeg}
 use Rattle.ch_query.specs.Distance.{IsKeptForSome}
 use Rattle.ch_query.specs.Routes.{IsUnpacked, shortcut}
 use Rattle.ch_query.specs.Unpacking.{IsPending, ArePending, pending_arcs, ArePendingArcs, IsSplit}
-use Rattle.ch_query.proofs.routing.Rows.{rows_ordered, has_row}
+use Rattle.ch_query.proofs.routing.Rows.{has_row}
 use Rattle.ch_query.proofs.routing.Unpacked.{halves_one, leg_has_arc}
 
 -- how many legs are popped until these are unpacked
@@ -85,12 +85,12 @@ module _ (H : LevelsAndLegs) where
       middle_within = has_row H k.2.levelled Down v halves.0 halves.2
 
       -- the first leg stands in the row that is read
-      pub first_has : (legs : List Leg) → legs ≡ row H.down v → IsRow legs × ((l : Leg) × Contains legs l × (l.node ≡ p.from))
-      first_has legs is = (subst IsRow (sym is) (rows_ordered H k.2.levelled Down v), (halves.0, subst (λ xs. Contains xs halves.0) (sym is) halves.2, halves.3))
+      pub first_has : (legs : List Leg) → legs ≡ row H.down v → (l : Leg) × Contains legs l × (l.node ≡ p.from)
+      first_has legs is = (halves.0, subst (λ xs. Contains xs halves.0) (sym is) halves.2, halves.3)
 
       -- and so does the second
-      pub second_has : (legs : List Leg) → legs ≡ row H.up v → IsRow legs × ((l : Leg) × Contains legs l × (l.node ≡ p.to))
-      second_has legs is = (subst IsRow (sym is) (rows_ordered H k.2.levelled Up v), (halves.1, subst (λ xs. Contains xs halves.1) (sym is) halves.4, halves.5))
+      pub second_has : (legs : List Leg) → legs ≡ row H.up v → (l : Leg) × Contains legs l × (l.node ≡ p.to)
+      second_has legs is = (halves.1, subst (λ xs. Contains xs halves.1) (sym is) halves.4, halves.5)
 
       module _ (old new : List PendingLeg) (s : IsSplit H p.from v p.to old new) where
         first : PendingLeg

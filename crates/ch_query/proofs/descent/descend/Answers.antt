@@ -27,9 +27,8 @@ legs-requires c =
 pub leg_at-leg-requires : goal.leg_at-leg-requires
 leg_at-leg-requires c =
     let t = c.loop-node.invariant.traced in
-    let has = parent_has c.args.hierarchy.now c.requires.kept _ _ _ t.0 t.1 _ _ t.2 c.loop-node-test.true c.parent-parent.result (read_parent c.args.hierarchy.now c.requires.kept _ _ _ t.0 t.1 _ _ t.2 _ _ c.rank.ensures.rank c.parent-parent.ensures)
-    c.legs.result.now c.legs.ensures.row in
-    record { order = has.0; has = has.1 }
+    parent_has c.args.hierarchy.now c.requires.kept _ _ _ t.0 t.1 _ _ t.2 c.loop-node-test.true c.parent-parent.result (read_parent c.args.hierarchy.now c.requires.kept _ _ _ t.0 t.1 _ _ t.2 _ _ c.rank.ensures.rank c.parent-parent.ensures)
+    c.legs.result.now c.legs.ensures.row
 
 pub push_reserved-requires : goal.push_reserved-requires
 push_reserved-requires c =
