@@ -19,6 +19,7 @@ mod options;
 mod plan;
 mod run;
 mod save_text;
+mod short_text;
 mod text;
 
 pub use device::{

@@ -1,12 +1,14 @@
 //! The text of saved hierarchies, with nodes counted from 1: a line `p ch N L`, a line `o V` for each node in
 //! order of level, and in that order a line `l U V W A M` for each leg of a node, first those to higher nodes.
-ghost use Rattle.std.specs.Prelude.{◌≡◌, ◌≤◌, ◌<◌, ◌++◌, length, flat_map, map, All, IfOk, OnOk, codes, decimal};
+ghost use Rattle.std.specs.Prelude.{◌≡◌, ◌≤◌, ◌<◌, ◌+◌, ◌++◌, length, flat_map, map, All, IfOk, OnOk, codes, decimal};
 ghost use Rattle.ch_graph.specs.declared.limits.TheConstants.{MOST_NODES};
 ghost use Rattle.ch_hierarchy.specs.Hierarchy.{nodes_of, IsLevelled};
 ghost use Rattle.ch_hierarchy.specs.Written.{IsByLevel, leg_down, leg_up, legs_at};
+ghost use Rattle.ch_run.specs.declared.short_text.TheConstants.{ROOM};
 ghost use Rattle.ch_run.specs.SaveText.{IsHierarchyText, leg_text, middle_text, order_text};
 
-use crate::text::{push_all, push_ends, push_node, push_number};
+use crate::short_text::ShortText;
+use crate::text::push_all;
 use ch_contract::{Hierarchy, Leg};
 use std::alloc::{AllocError, Global};
 
@@ -55,12 +57,14 @@ fn count_legs(hierarchy: &Hierarchy, nodes: &[u32]) -> u64
 fn heading(alloc: Global, nodes: u64, legs: u64) -> Result<Vec<u8>, AllocError>
     ensures { IfOk result (λ text. text.items ≡ codes "p ch " ++ decimal nodes ++ codes " " ++ decimal legs ++ codes "\n") }
 {
+    let mut numbers = ShortText::new();
+    numbers.prepend(b'\n');
+    numbers.prepend_number(legs);
+    numbers.prepend(b' ');
+    numbers.prepend_number(nodes);
     let mut text = Vec::new(alloc);
     push_all(&mut text, b"p ch ")?;
-    push_number(&mut text, nodes)?;
-    push_all(&mut text, b" ")?;
-    push_number(&mut text, legs)?;
-    push_all(&mut text, b"\n")?;
+    push_all(&mut text, numbers.as_slice())?;
     Ok(text)
 }
 
@@ -68,10 +72,14 @@ fn heading(alloc: Global, nodes: u64, legs: u64) -> Result<Vec<u8>, AllocError>
 fn push_order(text: &mut Vec<u8>, order: &[u32]) -> Result<(), AllocError>
     ensures { OnOk result (text.new.items ≡ text.old.items ++ flat_map order_text order.now) }
 {
+    let mut line = ShortText::new();
     for node in order {
-        push_all(text, b"o ")?;
-        push_node(text, *node)?;
-        push_all(text, b"\n")?;
+        line.clear();
+        line.prepend(b'\n');
+        line.prepend_node(*node);
+        line.prepend(b' ');
+        line.prepend(b'o');
+        push_all(text, line.as_slice())?;
     }
     Ok(())
 }
@@ -100,8 +108,10 @@ fn push_legs(text: &mut Vec<u8>, hierarchy: &Hierarchy, node: u32) -> Result<(),
 fn push_ups(text: &mut Vec<u8>, node: u32, legs: &[Leg]) -> Result<(), AllocError>
     ensures { OnOk result (text.new.items ≡ text.old.items ++ flat_map leg_text (map (leg_up node) legs.now)) }
 {
+    let mut line = ShortText::new();
     for leg in legs {
-        push_leg(text, node, leg.node, leg)?;
+        write_leg(&mut line, node, leg.node, leg);
+        push_all(text, line.as_slice())?;
     }
     Ok(())
 }
@@ -110,32 +120,36 @@ fn push_ups(text: &mut Vec<u8>, node: u32, legs: &[Leg]) -> Result<(), AllocErro
 fn push_downs(text: &mut Vec<u8>, node: u32, legs: &[Leg]) -> Result<(), AllocError>
     ensures { OnOk result (text.new.items ≡ text.old.items ++ flat_map leg_text (map (leg_down node) legs.now)) }
 {
+    let mut line = ShortText::new();
     for leg in legs {
-        push_leg(text, leg.node, node, leg)?;
+        write_leg(&mut line, leg.node, node, leg);
+        push_all(text, line.as_slice())?;
     }
     Ok(())
 }
 
-/// Adds the line of a leg from one node to another.
-fn push_leg(text: &mut Vec<u8>, from: u32, to: u32, leg: &Leg) -> Result<(), AllocError>
-    ensures { OnOk result (text.new.items ≡ text.old.items ++ leg_text (record { from = from; to = to; cost = leg.now.cost; middle = leg.now.middle })) }
+/// Makes a line that of a leg from one node to another.
+fn write_leg(line: &mut ShortText, from: u32, to: u32, leg: &Leg)
+    ensures { line.new ≡ leg_text (record { from = from; to = to; cost = leg.now.cost; middle = leg.now.middle }) }
 {
-    push_all(text, b"l ")?;
-    push_ends(text, from, to)?;
-    push_number(text, leg.cost.weight)?;
-    push_all(text, b" ")?;
-    push_number(text, leg.cost.arcs)?;
-    push_all(text, b" ")?;
-    push_middle(text, leg.middle)?;
-    push_all(text, b"\n")
+    line.clear();
+    line.prepend(b'\n');
+    prepend_middle(line, leg.middle);
+    line.prepend(b' ');
+    line.prepend_number(leg.cost.arcs);
+    line.prepend(b' ');
+    line.prepend_number(leg.cost.weight);
+    line.prepend_ends(b'l', from, to);
 }
 
-/// Adds the middle of a leg, or 0 where it has none.
-fn push_middle(text: &mut Vec<u8>, middle: Option<u32>) -> Result<(), AllocError>
-    ensures { OnOk result (text.new.items ≡ text.old.items ++ middle_text middle) }
+/// Puts the middle of a leg in front, or 0 where it has none.
+fn prepend_middle(line: &mut ShortText, middle: Option<u32>)
+    requires { length line.old + 20 ≤ ROOM }
+    ensures text { line.new ≡ middle_text middle ++ line.old }
+    ensures length { length line.new ≤ length line.old + 20 }
 {
     match middle {
-        Some(node) => push_node(text, node),
-        None => push_all(text, b"0"),
+        Some(node) => line.prepend_node(node),
+        None => line.prepend(b'0'),
     }
 }

@@ -1,20 +1,17 @@
 //! The texts of answers and tables, with nodes counted from 1. An answer is a line `d S T X`, with `-` for
 //! the distance where there is no walk; with its route a line `r K` and K lines `a U V W` follow. A row of a
 //! table is a line `t S`, with the distance to each target after it.
-ghost use Rattle.std.specs.Prelude.{◌≡◌, ◌≤◌, ◌++◌, length, flat_map, Some, IfOk, OnOk, codes, decimal};
+ghost use Rattle.std.specs.Prelude.{◌≡◌, ◌≤◌, ◌++◌, length, flat_map, Some, IfOk, OnOk};
 ghost use Rattle.std.specs.List.{zip};
 ghost use Rattle.ch_graph.specs.declared.limits.TheConstants.{MOST_LISTED};
-ghost use Rattle.ch_run.specs.Text.{answer_text, arc_text, distance_text, node_text, route_text, weight_text};
+ghost use Rattle.ch_run.specs.Text.{answer_text, arc_text, distance_text, route_text};
 ghost use Rattle.ch_run.specs.TableText.{cell_text, row_text};
 
+use crate::short_text::ShortText;
 use ch_graph::InArc;
 use ch_query::Answer;
 use ch_table::Table;
-use itoa::{Buffer, write_digits};
 use std::alloc::{AllocError, Global};
-
-/// The most bytes that a number takes with a blank before it.
-const SPACED: usize = 21;
 
 /// The text of the answers, in order.
 ///
@@ -50,37 +47,25 @@ pub fn table_text(alloc: Global, sources: &[u32], table: &Table) -> Result<Vec<u
 fn push_row(text: &mut Vec<u8>, source: u32, cells: &[Option<u64>]) -> Result<(), AllocError>
     ensures { OnOk result (text.new.items ≡ text.old.items ++ row_text (source, cells.now)) }
 {
-    push_all(text, b"t ")?;
-    push_node(text, source)?;
+    let mut start = ShortText::new();
+    start.prepend_node(source);
+    start.prepend(b' ');
+    start.prepend(b't');
+    push_all(text, start.as_slice())?;
     push_cells(text, cells)?;
     push_all(text, b"\n")
 }
 
-/// Adds a blank and the weight of a cell, or a dash where there is none.
-fn push_cell(text: &mut Vec<u8>, cell: Option<u64>) -> Result<(), AllocError>
-    ensures { OnOk result (text.new.items ≡ text.old.items ++ cell_text cell) }
-{
-    match cell {
-        Some(weight) => push_spaced(text, weight),
-        None => push_all(text, b" -"),
-    }
-}
-
-/// Adds a blank and a number in decimal, as one slice.
-fn push_spaced(text: &mut Vec<u8>, number: u64) -> Result<(), AllocError>
-    ensures { OnOk result (text.new.items ≡ text.old.items ++ codes " " ++ decimal number) }
-{
-    let mut bytes = [b' '; SPACED];
-    let start = write_digits(number, &mut bytes, SPACED);
-    push_all(text, &bytes[start - 1..])
-}
-
-/// Adds the cells of a row.
+/// Adds the cells of a row, with a blank before each.
 fn push_cells(text: &mut Vec<u8>, cells: &[Option<u64>]) -> Result<(), AllocError>
     ensures { OnOk result (text.new.items ≡ text.old.items ++ flat_map cell_text cells.now) }
 {
+    let mut short = ShortText::new();
     for cell in cells {
-        push_cell(text, *cell)?;
+        short.clear();
+        short.prepend_weight(*cell);
+        short.prepend(b' ');
+        push_all(text, short.as_slice())?;
     }
     Ok(())
 }
@@ -100,19 +85,23 @@ fn push_answer(text: &mut Vec<u8>, answer: &Answer) -> Result<(), AllocError>
 fn push_distance(text: &mut Vec<u8>, answer: &Answer) -> Result<(), AllocError>
     ensures { OnOk result (text.new.items ≡ text.old.items ++ distance_text answer.now) }
 {
-    push_all(text, b"d ")?;
-    push_ends(text, answer.from, answer.to)?;
-    push_weight(text, answer.weight)?;
-    push_all(text, b"\n")
+    let mut line = ShortText::new();
+    line.prepend(b'\n');
+    line.prepend_weight(answer.weight);
+    line.prepend_ends(b'd', answer.from, answer.to);
+    push_all(text, line.as_slice())
 }
 
 /// Adds the lines of a route: the number of its arcs, and the arcs.
 fn push_route(text: &mut Vec<u8>, arcs: &[InArc]) -> Result<(), AllocError>
     ensures { OnOk result (text.new.items ≡ text.old.items ++ route_text (Some arcs.now)) }
 {
-    push_all(text, b"r ")?;
-    push_number(text, arcs.len() as u64)?;
-    push_all(text, b"\n")?;
+    let mut line = ShortText::new();
+    line.prepend(b'\n');
+    line.prepend_number(arcs.len() as u64);
+    line.prepend(b' ');
+    line.prepend(b'r');
+    push_all(text, line.as_slice())?;
     push_arcs(text, arcs)
 }
 
@@ -120,55 +109,22 @@ fn push_route(text: &mut Vec<u8>, arcs: &[InArc]) -> Result<(), AllocError>
 fn push_arcs(text: &mut Vec<u8>, arcs: &[InArc]) -> Result<(), AllocError>
     ensures { OnOk result (text.new.items ≡ text.old.items ++ flat_map arc_text arcs.now) }
 {
+    let mut line = ShortText::new();
     for arc in arcs {
-        push_arc(text, arc)?;
+        write_arc(&mut line, arc);
+        push_all(text, line.as_slice())?;
     }
     Ok(())
 }
 
-/// Adds the line of an arc.
-fn push_arc(text: &mut Vec<u8>, arc: &InArc) -> Result<(), AllocError>
-    ensures { OnOk result (text.new.items ≡ text.old.items ++ arc_text arc.now) }
+/// Makes a line that of an arc.
+fn write_arc(line: &mut ShortText, arc: &InArc)
+    ensures { line.new ≡ arc_text arc.now }
 {
-    push_all(text, b"a ")?;
-    push_ends(text, arc.from, arc.to)?;
-    push_number(text, arc.weight)?;
-    push_all(text, b"\n")
-}
-
-/// Adds two nodes, and a space after each.
-pub(crate) fn push_ends(text: &mut Vec<u8>, from: u32, to: u32) -> Result<(), AllocError>
-    ensures { OnOk result (text.new.items ≡ text.old.items ++ node_text from ++ codes " " ++ node_text to ++ codes " ") }
-{
-    push_node(text, from)?;
-    push_all(text, b" ")?;
-    push_node(text, to)?;
-    push_all(text, b" ")
-}
-
-/// Adds a node, counted from 1.
-pub(crate) fn push_node(text: &mut Vec<u8>, node: u32) -> Result<(), AllocError>
-    ensures { OnOk result (text.new.items ≡ text.old.items ++ node_text node) }
-{
-    push_number(text, node as u64 + 1)
-}
-
-/// Adds a distance, or `-` where there is none.
-fn push_weight(text: &mut Vec<u8>, weight: Option<u64>) -> Result<(), AllocError>
-    ensures { OnOk result (text.new.items ≡ text.old.items ++ weight_text weight) }
-{
-    match weight {
-        Some(weight) => push_number(text, weight),
-        None => push_all(text, b"-"),
-    }
-}
-
-/// Adds a number in decimal.
-pub(crate) fn push_number(text: &mut Vec<u8>, number: u64) -> Result<(), AllocError>
-    ensures { OnOk result (text.new.items ≡ text.old.items ++ decimal number) }
-{
-    let mut buffer = Buffer::new();
-    push_all(text, buffer.format(number).as_bytes())
+    line.clear();
+    line.prepend(b'\n');
+    line.prepend_number(arc.weight);
+    line.prepend_ends(b'a', arc.from, arc.to);
 }
 
 /// Adds bytes.
