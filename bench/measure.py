@@ -117,6 +117,11 @@ class Inputs:
     def __init__(self, nodes):
         self.nodes = nodes
 
+    @property
+    def name(self):
+        """What the network is called."""
+        return f"roads of {self.nodes:,} nodes"
+
     def __enter__(self):
         self.kept = tempfile.TemporaryDirectory()
         self.folder = pathlib.Path(self.kept.name)
@@ -168,6 +173,10 @@ class Country(Inputs):
     def network(self):
         return ROOT / "examples" / "liechtenstein.gr"
 
+    @property
+    def name(self):
+        return "Liechtenstein"
+
 
 class Bends(Inputs):
     """The same on the roads of Liechtenstein with a node at each bend, made of the shipped map."""
@@ -181,6 +190,25 @@ class Bends(Inputs):
         graph = self.folder / "bends.gr"
         self.nodes = nodes_of(graph)
         return graph
+
+    @property
+    def name(self):
+        return f"Liechtenstein with every bend, {self.nodes:,} nodes"
+
+
+# The words for networks.
+NETWORKS = "shipped: the network of Liechtenstein in examples/; bends: the same with a node at each bend; a number: a road network of so many nodes"
+
+
+def network(word):
+    """The inputs on the network that one of these words asks for."""
+    named = {"shipped": Country, "bends": Bends}
+    return named[word]() if word in named else Inputs(int(word))
+
+
+def add_networks(parser, *default):
+    """The words of a script that name its networks."""
+    parser.add_argument("networks", nargs="*", metavar="NETWORK", default=default, help=f"{NETWORKS} ({', '.join(default)} where none is given)")
 
 
 def query_seconds(inputs, saved, many, rounds):

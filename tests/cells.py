@@ -3,8 +3,8 @@
 
   cells.py [SIDE [SEED]]
 
-SIDE sources and SIDE targets (60) are drawn from a seed (1), some of them twice. The tables are made by 1, 2 and 4 workers, in pieces of
-several sizes, by few hops; within several limits, where the cells above the limit are `-`; and by a saved hierarchy. The last line is
+SIDE sources and SIDE targets (60) are drawn from a seed (1), some of them twice. The tables are made by 1, 2, 4 and 64 workers, in pieces
+of 1 to 4,096, by few hops; within several limits, where the cells above the limit are `-`; and by a saved hierarchy. The last line is
 'N passed, N failed', of rows.
 """
 import random
@@ -18,7 +18,7 @@ from oracles.reading import graph_of
 
 GRAPH = ROOT / "examples" / "liechtenstein.gr"
 # The words of the tables, but for limits.
-WAYS = [], ["--workers", "2", "--piece", "1"], ["--workers", "4", "--piece", "7"], ["--hops", "1"]
+WAYS = [], ["--workers", "2", "--piece", "1"], ["--workers", "4", "--piece", "7"], ["--workers", "64", "--piece", "4096"], ["--hops", "1"]
 
 
 def drawn(side, seed):
