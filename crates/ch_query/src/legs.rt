@@ -9,7 +9,7 @@ use crate::search::is_below;
 use ch_graph::Cost;
 use ch_hierarchy::{Hierarchy, Leg};
 
-/// The leg of the row at `node`, which it has. Rows are short, so it is looked for from the first leg on.
+/// The leg of the row at `node`, which it has. Most rows are short, so it is looked for from the first leg on.
 pub(crate) fn leg_at(row: &[Leg], node: u32) -> Leg
     requires { (l : RowLeg) × Contains row.now l × (l.node ≡ node) }
     ensures { Contains row.now result × (result.node ≡ node) }
