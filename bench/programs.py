@@ -44,7 +44,7 @@ def below(names, lines):
 
 def copy_crate(name, crates):
     """A crate with its proved library, and nothing else of what rt keeps."""
-    shutil.copytree(ROOT / "crates" / name, crates / name, ignore=shutil.ignore_patterns("out", "must-fail"))
+    shutil.copytree(ROOT / "crates" / name, crates / name, ignore=shutil.ignore_patterns("out", "must-fail", "planted"))
     kept = ROOT / "crates" / name / "out" / "rlib"
     if kept.exists():
         shutil.copytree(kept, crates / name / "out" / "rlib", symlinks=True)

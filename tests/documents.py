@@ -260,7 +260,7 @@ def check_parts(tally):
     check, page = (ROOT / "check").read_text(), (ROOT / "docs" / "ARCHITECTURE.md").read_text()
     for test in sorted([*(ROOT / "tests").glob("*.py"), *(ROOT / "tests").glob("*.sh")]):
         rows = [line for line in page.splitlines() if line.startswith("|") and f"`{test.name}`" in line]
-        is_run = re.search(rf"^part tests/{re.escape(test.name)}\b", check, re.MULTILINE) or any("by hand" in row for row in rows)
+        is_run = re.search(rf'"tests/{re.escape(test.name)}[" ]', check) or any("by hand" in row for row in rows)
         tally.expect(rows and (is_run or test.name == "packages.sh"), f"tests/{test.name} is no part of ./check, or has no row in ARCHITECTURE.md")
     for path in sorted([*(ROOT / "tests" / "oracles").glob("[!_]*.*"), *(ROOT / "tests" / "helpers").glob("[!_]*.*")]):
         tally.expect(f"`{path.name}`" in page, f"ARCHITECTURE.md does not name {told(path)}")
@@ -283,7 +283,7 @@ def main():
         check_names(tally, page)
         check_commits(tally, page)
     check_proved(tally)
-    for edit in sorted(ROOT.glob("crates/*/must-fail/*.edit")):
+    for edit in sorted([*ROOT.glob("crates/*/must-fail/*.edit"), *ROOT.glob("crates/*/planted/*.edit")]):
         check_edit(tally, edit)
     check_figures(tally)
     check_versions(tally)
