@@ -1,7 +1,7 @@
 //! Contraction hierarchies (Geisberger, Sanders, Schultes and Delling 2008): nodes are contracted one
 //! after the other, and shortcuts keep the distances between those that are left.
 //!
-//! It stands on ch_graph, ch_queue and ch_work. Proved of it: each call of [`Remaining`] is its definition,
+//! It stands on ch_graph, ch_hierarchy, ch_lists, ch_queue and ch_work. Proved of it: each call of [`Remaining`] is its definition,
 //! also the search for witnesses, which walks no chain past its bound; [`build_by`] makes the hierarchy that
 //! the rules name in an order, by the difference ([`build`]) or by depth, however workers share its priorities,
 //! which is one ([`laws::one_order`]), and which is

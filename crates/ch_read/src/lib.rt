@@ -1,7 +1,7 @@
 //! Readers of the four kinds of file, graphs, queries, lists of nodes, and saved hierarchies, and of requests whose
 //! bytes come in parts.
 //!
-//! It stands on `ch_graph`, for graphs, arcs and hierarchies as data, and on `ch_work` for the limit on cells. Proved
+//! It stands on ch_graph and ch_work. From ch_graph it has graphs, arcs and hierarchies as data, from ch_work the limit on cells. Proved
 //! of it: memory aside, a reader answers the value that the bytes name, exactly where they name one, and the first
 //! fault of the first faulty line, exactly where there is one; each list of bytes names one value or has one fault,
 //! and not both. What a [`RequestReader`] gives is what its bytes tell, however they are cut: each request as soon as

@@ -1,6 +1,6 @@
 //! Runs: from the bytes of a graph and of queries, of lists of nodes or of requests, to the text of the answers.
 //!
-//! It stands on ch_graph, ch_read, ch_contract, ch_query, ch_table and ch_work, and knows no command line.
+//! It stands on ch_contract, ch_graph, ch_hierarchy, ch_query, ch_read, ch_table, ch_work and itoa. It knows no command line.
 //! Proved of it: what the output took after [`run_dist`] and [`run_table`] is exactly the text that the
 //! definitions name for the bytes that the inputs had, which is one ([`laws::one_text`]), for every plan and
 //! gate; a run ends in no fault but its own, and touches nothing before all that comes earlier was accepted.

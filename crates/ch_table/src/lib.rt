@@ -1,7 +1,7 @@
 //! Tables of distances between many sources and many targets, by buckets (Knopp, Sanders, Schultes, Schulz
 //! and Wagner 2007).
 //!
-//! It stands on ch_graph, ch_contract, ch_query and ch_work. Proved of it: on every hierarchy [`Buckets`]
+//! It stands on ch_graph, ch_hierarchy, ch_query and ch_work. Proved of it: on every hierarchy [`Buckets`]
 //! hold at each node exactly the targets that it reaches by going down, or the sources that reach it by going
 //! up, with the least weights of such paths, ordered by place; on every hierarchy that is right for a graph each
 //! cell of [`table`] is the least weight of a walk, or says that there is no walk, for every plan and gate. With a

@@ -1,6 +1,6 @@
 //! How work is cut among workers.
 //!
-//! It stands on std and on `atomic_table`. A [`Plan`] says how many workers there are and how large the
+//! It stands on atomic_table. A [`Plan`] says how many workers there are and how large the
 //! pieces are. A [`Job`] makes a value of each piece, a [`RoomJob`] does so in a room that each worker makes
 //! once, and a [`ListJob`] makes a value of each item of a list. [`run_pieces`], [`run_pieces_with_rooms`] and
 //! [`run_list`] have workers do them: each claims the next piece from a [`Board`], and calls a [`Gate`] before

@@ -1,4 +1,6 @@
 //! `chtab`: exact least distances on directed graphs, from files to text.
+//!
+//! It stands on ch_contract, ch_line, ch_run, ch_work and clap.
 #![tactic(auto)]
 
 mod line;
