@@ -1,11 +1,11 @@
 -- A hierarchy under construction.
-use Rattle.std.specs.Prelude.{◌≡◌, ◌≤◌, ℕ, length, slice_index}
+use Rattle.std.specs.Prelude.{◌≡◌, ◌≤◌, ℕ, All, length, slice_index}
 use Rattle.ch_graph.specs.declared.limits.TheConstants.{MOST_NODES}
 use Rattle.ch_hierarchy.specs.Rows.{row}
 use Rattle.ch_contract.specs.declared.construction.Construction.{Construction}
 use Rattle.ch_contract.specs.Progress.{Progress}
 use Rattle.ch_contract.specs.Remaining.{legs_of}
-use Rattle.ch_contract.specs.Rooms.{IsReady}
+use Rattle.ch_contract.specs.Rooms.{IsIdleRoom, IsReady}
 
 -- what it has come to: the rows are the legs that were set aside
 abbrev pub progress_of : Construction → Progress
@@ -20,6 +20,6 @@ pub record IsSized (c : Construction) : Type 0 where
   pub ups : length c.remaining.ups ≡ c.remaining.nodes
   pub downs : length c.remaining.downs ≡ c.remaining.nodes
 
--- its room is ready to judge nodes with the legs that are left
+-- its room is ready to judge nodes with the legs that are left, and the workers' rooms are idle
 abbrev pub IsJudging : ℕ → Construction → Type 0
-IsJudging h c = IsReady c.remaining.nodes h (legs_of c.remaining) c.room
+IsJudging h c = IsReady c.remaining.nodes h (legs_of c.remaining) c.room × All IsIdleRoom c.rooms.items

@@ -18,6 +18,10 @@ list_at room k = slice_index_or (map (λ v. v.items) room.lists.items) k []
 abbrev pub AreIdle : WitnessSearches → Type 0
 AreIdle s = IsIdle (known_of (λ (w : Word). cost_in w.0) s.words.known) × IsIdle (known_of (λ (c : Cost). c) s.pairs.known)
 
+-- its searches are idle, whatever it keeps
+abbrev pub IsIdleRoom : Room → Type 0
+IsIdleRoom room = AreIdle room.searches
+
 -- its searches are idle, and it keeps the shortcuts that each judged node has with these legs
 pub record IsReady (n h : ℕ) (L : Legs) (room : Room) : Type 0 where
   pub idle : AreIdle room.searches

@@ -13,7 +13,7 @@ use crate::room::Room;
 use ch_graph::Graph;
 use ch_hierarchy::Hierarchy;
 use ch_queue::KeyQueue;
-use ch_work::{Gate, Plan, Stage};
+use ch_work::{Crew, Gate, Stage};
 use std::alloc::{AllocError, Global};
 use std::thread::Threads;
 
@@ -22,50 +22,45 @@ use std::thread::Threads;
 /// neighbours of a contracted node get their priorities computed anew.
 ///
 /// Workers share the opening priorities, and those of a step's neighbours where there are at least
-/// `plan.wide()` of them, each batch a job of its own (see [`run_pieces`](ch_work::run_pieces)): they
+/// `crew.plan.wide()` of them, each batch a job of its own (see [`run_pieces`](ch_work::run_pieces)): they
 /// pass the gate with the numbers of its pieces. The gate is told how many nodes are contracted, one after the
-/// other. The plan and the gate change nothing of the hierarchy.
+/// other. The crew changes nothing of the hierarchy.
 ///
 /// # Errors
 /// `AllocError` where the call or any piece was refused memory, once all workers are joined. What was made is
 /// dropped, and the graph is as it was.
 pub fn build<R: Threads + Sync, G: Gate>(
-    rt: &R,
-    alloc: Global,
+    crew: &Crew<'_, R, G>,
     graph: &Graph,
     hops: u32,
-    plan: &Plan,
-    gate: &G,
 ) -> Result<Hierarchy, AllocError>
     requires hops { IsHopBound hops }
     ensures hierarchy { IfOk result (IsHierarchy graph.now hops) }
     ensures kept { IfOk result (IsKept graph.now) }
     ensures limits { IsWithinLimits graph.now }
 {
-    build_by(rt, alloc, graph, hops, OrderBy::Difference, plan, gate)
+    build_by(crew, graph, hops, OrderBy::Difference)
 }
 
 /// The contraction hierarchy of a graph in this order, where a witness has at most `hops` legs. In each order it
 /// is kept for the graph, so distances are the same. For workers and errors see [`build`].
 pub fn build_by<R: Threads + Sync, G: Gate>(
-    rt: &R,
-    alloc: Global,
+    crew: &Crew<'_, R, G>,
     graph: &Graph,
     hops: u32,
     by: OrderBy,
-    plan: &Plan,
-    gate: &G,
 ) -> Result<Hierarchy, AllocError>
     requires hops { IsHopBound hops }
     ensures hierarchy { IfOk result (IsHierarchyBy by graph.now hops) }
     ensures kept { IfOk result (IsKept graph.now) }
     ensures limits { IsWithinLimits graph.now }
 {
-    ask_ahead(alloc, graph)?;
-    let mut construction = Construction::open(rt, alloc, graph, hops, by, plan, gate)?;
+    ask_ahead(crew.alloc, graph)?;
+    let mut construction = Construction::open(crew, graph, hops, by)?;
     while let Some(node) = construction.next() {
-        gate.watch(Stage::Building, construction.contracted, graph.nodes());
-        construction = construction.contract(rt, alloc, node, hops, by, plan, gate)?;
+        crew.gate
+            .watch(Stage::Building, construction.contracted, graph.nodes());
+        construction = construction.contract(crew, node, hops, by)?;
     }
     construction.finish()
 }
@@ -94,6 +89,8 @@ struct Construction {
     /// The caller's own, lent to each step. It keeps the shortcuts of the nodes that the last step judged,
     /// among which the next node often is.
     room: Room,
+    /// Those of the workers, where several judge the neighbours of a node.
+    rooms: Vec<Room>,
     /// The nodes that are left, by their priorities.
     waiting: KeyQueue<i64>,
     /// How deep each node lies.
@@ -115,13 +112,10 @@ impl Construction {
 
     /// No node is contracted yet.
     fn open<R: Threads + Sync, G: Gate>(
-        rt: &R,
-        alloc: Global,
+        crew: &Crew<'_, R, G>,
         graph: &Graph,
         hops: u32,
         by: OrderBy,
-        plan: &Plan,
-        gate: &G,
     ) -> Result<Construction, AllocError>
         requires { IsHopBound hops }
         ensures sizes { IfOk result IsSized }
@@ -129,24 +123,17 @@ impl Construction {
         ensures begun { IfOk result (λ c. IsOpen by graph.now hops (progress_of c)) }
         ensures ready { IfOk result (IsJudging hops) }
     {
-        let remaining = Remaining::open(alloc, graph)?;
+        let remaining = Remaining::open(crew.alloc, graph)?;
         let nodes = remaining.nodes();
-        let depths = vec![in alloc; 0; nodes as usize]?;
-        let waiting = opening_queue(
-            rt,
-            alloc,
-            &remaining,
-            depths.as_slice(),
-            hops,
-            by,
-            plan,
-            gate,
-        )?;
-        let room = Room::new(alloc);
-        let levels = vec![in alloc; 0; nodes as usize]?;
+        let depths = vec![in crew.alloc; 0; nodes as usize]?;
+        let mut rooms = Vec::new(crew.alloc);
+        let waiting = opening_queue(crew, &remaining, depths.as_slice(), hops, by, &mut rooms)?;
+        let room = Room::new(crew.alloc);
+        let levels = vec![in crew.alloc; 0; nodes as usize]?;
         Ok(Construction {
             remaining,
             room,
+            rooms,
             waiting,
             depths,
             levels,
@@ -165,13 +152,10 @@ impl Construction {
     /// Contracts a node, and keeps its level and its legs.
     fn contract<R: Threads + Sync, G: Gate>(
         mut self,
-        rt: &R,
-        alloc: Global,
+        crew: &Crew<'_, R, G>,
         node: u32,
         hops: u32,
         by: OrderBy,
-        plan: &Plan,
-        gate: &G,
     ) -> Result<Construction, AllocError>
         requires sizes { IsSized self }
         requires limits { AreLegsWithin self.remaining.nodes (legs_of self.remaining) }
@@ -186,10 +170,10 @@ impl Construction {
         ensures ready { IfOk result (IsJudging hops) }
     {
         let remaining = self.remaining;
-        self.remaining = self.room.contract(alloc, remaining, node, hops)?;
+        self.remaining = self.room.contract(crew.alloc, remaining, node, hops)?;
         let _ = self.waiting.remove(node);
         let neighbours = neighbours(
-            alloc,
+            crew.alloc,
             self.remaining.up_legs(node),
             self.remaining.down_legs(node),
         )?;
@@ -201,13 +185,11 @@ impl Construction {
             by,
         };
         job.refresh(
-            rt,
-            alloc,
+            crew,
             neighbours.as_slice(),
             &mut self.room,
+            &mut self.rooms,
             &mut self.waiting,
-            plan,
-            gate,
         )?;
         self.contracted += 1;
         self.levels[node as usize] = self.contracted;
@@ -223,12 +205,14 @@ impl Construction {
         let Construction {
             remaining,
             room,
+            rooms,
             waiting,
             depths,
             levels,
             contracted: _,
         } = self;
         drop(room);
+        drop(rooms);
         drop(waiting);
         drop(depths);
         let BothRows { ups, downs } = remaining.into_rows()?;

@@ -3,7 +3,7 @@ ghost use Rattle.std.specs.Prelude.{◌≡◌, ◌^◌, ◌<◌, length, All, If
 ghost use Rattle.std.specs.List.{AllZip, range_with_len};
 ghost use Rattle.ch_contract.specs.Legs.{IsHopBound};
 ghost use Rattle.ch_contract.specs.Measures.{IsPriorityIn};
-ghost use Rattle.ch_contract.specs.Rooms.{IsReady};
+ghost use Rattle.ch_contract.specs.Rooms.{IsIdleRoom, IsReady};
 ghost use Rattle.ch_contract.specs.Remaining.{legs_of};
 ghost use Rattle.ch_contract.specs.Priorities.{ArePriorities, AreRefreshed};
 
@@ -11,35 +11,36 @@ use crate::measure::OrderBy;
 use crate::remaining::Remaining;
 use crate::room::Room;
 use ch_queue::KeyQueue;
-use ch_work::{Gate, ListJob, Plan, Stage, run_list};
+use ch_work::{Crew, Gate, ListJob, Stage, run_list_in};
 use std::alloc::{AllocError, Global};
 use std::thread::Threads;
 
-/// The queue of all nodes, each with its priority, which workers compute.
+/// The queue of all nodes, each with its priority, which workers compute. Their rooms are among `rooms` afterwards.
 pub(crate) fn opening_queue<R: Threads + Sync, G: Gate>(
-    rt: &R,
-    alloc: Global,
+    crew: &Crew<'_, R, G>,
     remaining: &Remaining,
     depths: &[u32],
     hops: u32,
     by: OrderBy,
-    plan: &Plan,
-    gate: &G,
+    rooms: &mut Vec<Room>,
 ) -> Result<KeyQueue<i64>, AllocError>
     requires hops { IsHopBound hops }
     requires depths { length depths.now ≡ remaining.now.nodes }
-    ensures { IfOk result (ArePriorities (IsPriorityIn by remaining.now hops depths.now) remaining.now.nodes) }
+    requires rooms { All IsIdleRoom rooms.old.items }
+    ensures queue { IfOk result (ArePriorities (IsPriorityIn by remaining.now hops depths.now) remaining.now.nodes) }
+    ensures rooms { All IsIdleRoom rooms.new.items }
 {
-    let nodes = all_nodes(alloc, remaining.nodes())?;
+    let nodes = all_nodes(crew.alloc, remaining.nodes())?;
     let job = PriorityJob {
         remaining,
         depths,
         hops,
         by,
     };
-    gate.watch(Stage::Ranking, 0, plan.pieces(remaining.nodes()));
-    let priorities = run_list(rt, alloc, nodes.as_slice(), plan, gate, &job)?;
-    let mut waiting = KeyQueue::new(alloc, remaining.nodes())?;
+    let pieces = crew.plan.pieces(remaining.nodes());
+    crew.gate.watch(Stage::Ranking, 0, pieces);
+    let priorities = run_list_in(crew, nodes.as_slice(), rooms, &job)?;
+    let mut waiting = KeyQueue::new(crew.alloc, remaining.nodes())?;
     job.set_all(nodes.as_slice(), priorities.as_slice(), &mut waiting);
     Ok(waiting)
 }
@@ -73,7 +74,7 @@ impl ListJob for PriorityJob<'_> {
 
     ghost meaning = { λ job x p. IsPriorityIn job.by job.remaining.now job.hops job.depths.now x p };
 
-    ghost clean = { λ job room. IsReady job.remaining.now.nodes job.hops (legs_of job.remaining.now) room };
+    ghost clean = { λ job room. IsIdleRoom room };
 
     fn room(&self, alloc: Global) -> Result<Room, AllocError> {
         Ok(Room::new(alloc))
@@ -99,35 +100,35 @@ impl PriorityJob<'_> {
         Ok(self.by.key(measure, self.depths[node as usize]))
     }
 
-    /// Gives these nodes the priorities that they have now. Where there are at least `plan.wide()` of them,
+    /// Gives these nodes the priorities that they have now. Where there are at least `crew.plan.wide()` of them,
     /// they are cut into pieces, which workers share and which pass the gate. A lone worker, and one that
-    /// does the only piece, stays in the caller's room.
+    /// does the only piece, stays in the caller's room; the others work in `rooms`.
     pub(crate) fn refresh<R: Threads + Sync, G: Gate>(
         &self,
-        rt: &R,
-        alloc: Global,
+        crew: &Crew<'_, R, G>,
         nodes: &[u32],
         room: &mut Room,
+        rooms: &mut Vec<Room>,
         waiting: &mut KeyQueue<i64>,
-        plan: &Plan,
-        gate: &G,
     ) -> Result<(), AllocError>
         requires nodes { All (λ x. x < self.now.remaining.now.nodes) nodes.now }
         requires count { length nodes.now < 2 ^ 32 }
         requires size { length waiting.old ≡ self.now.remaining.now.nodes }
         requires ready { IsReady self.now.remaining.now.nodes self.now.hops (legs_of self.now.remaining.now) room.old }
+        requires rooms { All IsIdleRoom rooms.old.items }
         ensures anew { OnOk result (AreRefreshed
             (IsPriorityIn self.now.by self.now.remaining.now self.now.hops self.now.depths.now)
             nodes.now waiting.old waiting.new) }
         ensures ready { OnOk result (IsReady self.now.remaining.now.nodes self.now.hops
             (legs_of self.now.remaining.now) room.new) }
+        ensures rooms { All IsIdleRoom rooms.new.items }
     {
-        if nodes.len() < plan.wide() as usize {
-            return self.refresh_here(alloc, nodes, room, waiting);
+        if nodes.len() < crew.plan.wide() as usize {
+            return self.refresh_here(crew.alloc, nodes, room, waiting);
         }
-        let piece = plan.piece() as usize;
-        if plan.workers() > 1 && nodes.len() > piece {
-            let priorities = run_list(rt, alloc, nodes, plan, gate, self)?;
+        let piece = crew.plan.piece() as usize;
+        if crew.plan.workers() > 1 && nodes.len() > piece {
+            let priorities = run_list_in(crew, nodes, rooms, self)?;
             self.set_all(nodes, priorities.as_slice(), waiting);
             return Ok(());
         }
@@ -135,8 +136,8 @@ impl PriorityJob<'_> {
         let mut from = 0;
         while from < nodes.len() {
             let to = nodes.len().min(from + piece);
-            gate.pass(number);
-            self.refresh_here(alloc, &nodes[from..to], room, waiting)?;
+            crew.gate.pass(number);
+            self.refresh_here(crew.alloc, &nodes[from..to], room, waiting)?;
             number += 1;
             from = to;
         }

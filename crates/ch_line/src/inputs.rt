@@ -8,10 +8,9 @@ ghost use Rattle.ch_run.specs.declared.fault.Which.{Which as WhichInput};
 ghost use Rattle.ch_line.specs.Inputs.{AreFresh, EndsFor, HasFailedRead, Writes, task_of};
 
 use ch_run::{
-    Gate, Input, Options, Output, Plan, RunFault, Which, run_ask, run_ask_saved, run_dist,
+    Crew, Gate, Input, Options, Output, RunFault, Which, run_ask, run_ask_saved, run_dist,
     run_dist_saved, run_save, run_table, run_table_saved,
 };
-use std::alloc::Global;
 use std::thread::Threads;
 
 /// The opened files of a line, by what is asked of them.
@@ -54,14 +53,11 @@ pub enum Inputs<I: Drop> {
 /// # Errors
 /// The fault of the run.
 pub fn run_inputs<R: Threads + Sync, I: Input + Drop, J: Input, O: Output, G: Gate>(
-    rt: &R,
-    alloc: Global,
+    crew: &Crew<'_, R, G>,
     inputs: Inputs<I>,
     requests: &mut J,
     output: &mut O,
     options: &Options,
-    plan: &Plan,
-    gate: &G,
 ) -> Result<(), RunFault>
     requires inputs { AreFresh I.failed inputs }
     requires requests { CanCountOneMore (J.failed requests.old) }
@@ -83,7 +79,7 @@ pub fn run_inputs<R: Threads + Sync, I: Input + Drop, J: Input, O: Output, G: Ga
 {
     macro_rules! over {
         ($run:ident, $($input:expr),+) => {
-            $run(rt, alloc, $($input,)+ output, options, plan, gate)
+            $run(crew, $($input,)+ output, options)
         };
     }
     match inputs {

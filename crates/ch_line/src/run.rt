@@ -11,7 +11,7 @@ ghost use Rattle.ch_line.specs.Line.{EndsAtMissing, HasReadFailed, IsAllowed, Is
 use crate::files::{Files, OpenFault};
 use crate::inputs::{Inputs, run_inputs};
 use crate::line::{Line, Tool};
-use ch_run::{Gate, Input, Output, RunFault, Which};
+use ch_run::{Crew, Gate, Input, Output, RunFault, Which};
 use std::alloc::Global;
 use std::thread::Threads;
 
@@ -51,16 +51,13 @@ pub fn run_line<R: Threads + Sync, F: Files, J: Input, O: Output, G: Gate>(
     ensures output_once { CountsAtMostOneOf (O.failed output.old) (O.failed output.new) (O.idle output.old) (O.idle output.new) }
 {
     let inputs = open_inputs(files, line)?;
-    run_inputs(
+    let crew = Crew {
         rt,
         alloc,
-        inputs,
-        requests,
-        output,
-        &line.options,
-        &line.plan,
+        plan: line.plan,
         gate,
-    )
+    };
+    run_inputs(&crew, inputs, requests, output, &line.options)
 }
 
 /// Opens the files of a line, in the order of its arguments.

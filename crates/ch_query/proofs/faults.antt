@@ -3,4 +3,5 @@ pub mod FirstFailing
 pub mod LegCosts
 pub mod ArcRows
 pub mod Pairs
+pub mod Firsts
 pub mod Checked

@@ -1,5 +1,5 @@
 //! Answers to many queries.
-ghost use Rattle.std.specs.Prelude.{◌≡◌, ◌≤◌, ◌<◌, length, true, IfOk, OnOk};
+ghost use Rattle.std.specs.Prelude.{◌≡◌, ◌≤◌, ◌<◌, length, true, All, IfOk};
 ghost use Rattle.std.specs.List.{AllZip};
 ghost use Rattle.ch_graph.specs.declared.limits.TheConstants.{MOST_QUERIES};
 ghost use Rattle.ch_hierarchy.specs.Hierarchy.{nodes_of};
@@ -10,7 +10,7 @@ use crate::query::{distance, route_in};
 use crate::scratch::{Scratch, Sides};
 use ch_graph::InArc;
 use ch_hierarchy::Hierarchy;
-use ch_work::{Gate, ListJob, Plan, Stage, run_list, run_list_in_room};
+use ch_work::{Crew, Gate, ListJob, Stage, run_list, run_list_in};
 use std::alloc::{AllocError, Global};
 use std::marker::Model;
 use std::thread::Threads;
@@ -43,51 +43,47 @@ impl Model for Answer {
 /// # Errors
 /// `AllocError` where there is no memory.
 pub fn answer_all<R: Threads + Sync, G: Gate>(
-    rt: &R,
-    alloc: Global,
+    crew: &Crew<'_, R, G>,
     hierarchy: &Hierarchy,
     queries: &[(u32, u32)],
     routes: bool,
-    plan: &Plan,
-    gate: &G,
 ) -> Result<Vec<Answer>, AllocError>
     requires kept { IsKeptForSome hierarchy.now }
     requires queries { AreQueries (nodes_of hierarchy.now) queries.now }
     requires count { length queries.now ≤ MOST_QUERIES }
     ensures { IfOk result (λ answers. AllZip (IsReply hierarchy.now routes) queries.now answers.items) }
 {
-    gate.watch(Stage::Answering, 0, plan.pieces(queries.len() as u32));
+    crew.gate.watch(Stage::Answering, 0, crew.plan.pieces(queries.len() as u32));
     if routes {
-        return run_list(rt, alloc, queries, plan, gate, &RouteJob { hierarchy });
+        return run_list(crew, queries, &RouteJob { hierarchy });
     }
     let job = QueryJob { hierarchy, routes };
-    run_list(rt, alloc, queries, plan, gate, &job)
+    run_list(crew, queries, &job)
 }
 
-/// As [`answer_all`] by the caller alone, in a scratch that it has: for those who ask again and again, since to make
-/// one takes a number of steps that grows with the nodes.
+/// As [`answer_all`], in scratches that stay, one a worker: for those who ask again and again, since to make
+/// one takes a number of steps that grows with the nodes. Where there are too few, workers make more, which are among them
+/// afterwards.
 ///
 /// # Errors
-/// `AllocError` where there is no memory.
-pub fn answer_all_in<G: Gate>(
-    alloc: Global,
+/// `AllocError` where there is no memory. Scratches may be gone then; those that are left serve further queries.
+pub fn answer_all_in<R: Threads + Sync, G: Gate>(
+    crew: &Crew<'_, R, G>,
     hierarchy: &Hierarchy,
-    scratch: &mut Scratch,
+    scratches: &mut Vec<Scratch>,
     queries: &[(u32, u32)],
     routes: bool,
-    plan: &Plan,
-    gate: &G,
 ) -> Result<Vec<Answer>, AllocError>
     requires kept { IsKeptForSome hierarchy.now }
-    requires scratch { scratch.old ≡ nodes_of hierarchy.now }
+    requires scratches { All (λ scratch. scratch ≡ nodes_of hierarchy.now) scratches.old.items }
     requires queries { AreQueries (nodes_of hierarchy.now) queries.now }
     requires count { length queries.now ≤ MOST_QUERIES }
     ensures answers { IfOk result (λ answers. AllZip (IsReply hierarchy.now routes) queries.now answers.items) }
-    ensures scratch { OnOk result (scratch.new ≡ scratch.old) }
+    ensures scratches { All (λ scratch. scratch ≡ nodes_of hierarchy.now) scratches.new.items }
 {
     let job = QueryJob { hierarchy, routes };
-    gate.watch(Stage::Answering, 0, plan.pieces(queries.len() as u32));
-    run_list_in_room(alloc, queries, plan, gate, scratch, &job)
+    crew.gate.watch(Stage::Answering, 0, crew.plan.pieces(queries.len() as u32));
+    run_list_in(crew, queries, scratches, &job)
 }
 
 /// What is to be answered to each query.

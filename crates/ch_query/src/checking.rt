@@ -12,11 +12,11 @@ ghost use Rattle.ch_query.specs.Covering.{IsFirstUncovered};
 
 use crate::founding::{first_false_shortcut, first_unserved, first_without_arc};
 use crate::lower::first_uncovered;
-use crate::scratch::Sides;
 use ch_graph::{Graph, Saved};
 use ch_hierarchy::{CheckError, CheckFault, Hierarchy, assemble};
-use ch_work::{Gate, Open, Stage};
+use ch_work::{Crew, Gate, Stage};
 use std::alloc::Global;
+use std::thread::Threads;
 
 /// The hierarchy that a saved one names, where it is right for the graph: its distances and routes are
 /// then those of the graph, whoever made it. Its levels and legs are those of the argument.
@@ -29,13 +29,17 @@ use std::alloc::Global;
 ///
 /// # Errors
 /// The first fault of all seven kinds, or `NoMemory`; what was lent is as before.
-pub fn check(alloc: Global, graph: &Graph, saved: &Saved) -> Result<Hierarchy, CheckError>
+pub fn check<R: Threads + Sync, G: Gate>(
+    crew: &Crew<'_, R, G>,
+    graph: &Graph,
+    saved: &Saved,
+) -> Result<Hierarchy, CheckError>
     ensures accepted { IsOkWhere result (IsFaultless graph.now saved.now) }
     ensures hierarchy { IfOk result (NamesKept graph.now saved.now) }
     ensures fault { (f : AnyFault) → AnswersWhere result (Err (CheckError.Fault f)) (IsFirstFault graph.now saved.now f) }
 {
-    let hierarchy = founded(alloc, graph, saved)?;
-    covered(alloc, hierarchy, &Open)
+    let hierarchy = founded(crew.alloc, graph, saved)?;
+    covered(crew, hierarchy)
 }
 
 /// As [`check`], and the gate is told how far it is. The gate changes nothing of the answer. The saved hierarchy
@@ -43,20 +47,20 @@ pub fn check(alloc: Global, graph: &Graph, saved: &Saved) -> Result<Hierarchy, C
 ///
 /// # Errors
 /// The first fault of all seven kinds, or `NoMemory`.
-pub fn check_watched<G: Gate>(
-    alloc: Global,
+pub fn check_watched<R: Threads + Sync, G: Gate>(
+    crew: &Crew<'_, R, G>,
     graph: &Graph,
     saved: Saved,
-    gate: &G,
 ) -> Result<Hierarchy, CheckError>
     ensures accepted { IsOkWhere result (IsFaultless graph.now saved) }
     ensures hierarchy { IfOk result (NamesKept graph.now saved) }
     ensures fault { (f : AnyFault) → AnswersWhere result (Err (CheckError.Fault f)) (IsFirstFault graph.now saved f) }
 {
-    gate.watch(Stage::Checking, 0, graph.nodes());
-    let hierarchy = founded(alloc, graph, &saved)?;
+    crew.gate
+        .watch(Stage::Checking, 0, crew.plan.pieces(graph.nodes()));
+    let hierarchy = founded(crew.alloc, graph, &saved)?;
     drop(saved);
-    covered(alloc, hierarchy, gate)
+    covered(crew, hierarchy)
 }
 
 /// The hierarchy that a saved one names, where each leg is what it stands for and each arc has its leg: all of
@@ -99,12 +103,14 @@ fn first_unfounded(
 }
 
 /// The hierarchy, where all pairs of legs through lower nodes are covered.
-fn covered<G: Gate>(alloc: Global, hierarchy: Hierarchy, gate: &G) -> Result<Hierarchy, CheckError>
+fn covered<R: Threads + Sync, G: Gate>(
+    crew: &Crew<'_, R, G>,
+    hierarchy: Hierarchy,
+) -> Result<Hierarchy, CheckError>
     ensures value { IfOk result (λ H. (H ≡ hierarchy) × ((v : ℕ) → v < nodes_of H → IsCovered H v)) }
     ensures fault { IfErr result (IsIfFault (λ f. (v : ℕ) × (f ≡ CheckFault.Lower v) × IsFirstUncovered hierarchy v)) }
 {
-    let mut sides = Sides::new(alloc, hierarchy.nodes())?;
-    match first_uncovered(&hierarchy, &mut sides, gate) {
+    match first_uncovered(crew, &hierarchy)? {
         Some(node) => Err(CheckError::Fault(CheckFault::Lower(node))),
         None => Ok(hierarchy),
     }

@@ -1,16 +1,19 @@
 //! Pairs of legs through a lower node.
-ghost use Rattle.std.specs.Prelude.{◌≡◌, ◌<◌, ◌↔◌, ℕ, Contains, IsTrue, MatchOption};
+ghost use Rattle.std.specs.Prelude.{◌≡◌, ◌<◌, ◌≤◌, ◌↔◌, ℕ, Contains, IfOk, IsTrue, MatchOption};
 ghost use Rattle.ch_hierarchy.specs.Hierarchy.{nodes_of};
 ghost use Rattle.ch_hierarchy.specs.Kept.{MeetsWithin, IsCovered};
 ghost use Rattle.ch_hierarchy.specs.Rows.{row};
-ghost use Rattle.ch_query.specs.Covering.{IsCoveredFrom, IsFirstUncovered};
+ghost use Rattle.ch_query.specs.Covering.{IsCoveredFrom, IsFirstUncovered, IsFirstUncoveredOf, first_some};
 
 use crate::covering::meets_within;
 use crate::legs::is_leg_within;
 use crate::scratch::Sides;
 use ch_graph::Cost;
 use ch_hierarchy::{Hierarchy, Leg};
-use ch_work::{Gate, Stage};
+use ch_work::{Crew, Gate, RoomJob, Stage, run_pieces_with_rooms};
+use std::alloc::{AllocError, Global};
+use std::marker::Model;
+use std::thread::Threads;
 
 /// Whether going from `start` up and down to `end` costs at most `most`. Mostly a leg shows it.
 fn is_pair_covered(
@@ -69,23 +72,86 @@ fn is_covered(hierarchy: &Hierarchy, sides: &mut Sides, node: u32) -> bool
     true
 }
 
-/// The least numbered node through which some pair of legs, between nodes that differ, costs less than
-/// every way up and down between these nodes; `None` where there is no such node. The gate is told how many nodes are
-/// checked.
-pub(crate) fn first_uncovered<G: Gate>(
-    hierarchy: &Hierarchy,
-    sides: &mut Sides,
-    gate: &G,
-) -> Option<u32>
+/// The least numbered node, from number `from` up to number `to`, which is not among them, through which some pair
+/// of legs, between nodes that differ, costs less than every way up and down between these nodes; `None` where there is no
+/// such node.
+fn first_uncovered_of(hierarchy: &Hierarchy, sides: &mut Sides, from: u32, to: u32) -> Option<u32>
     requires sides { sides.old ≡ nodes_of hierarchy.now }
-    ensures first { MatchOption result ((v : ℕ) → v < nodes_of hierarchy.now → IsCovered hierarchy.now v) (IsFirstUncovered hierarchy.now) }
+    requires inside { to ≤ nodes_of hierarchy.now }
+    ensures first { IsFirstUncoveredOf hierarchy.now from to result }
     ensures sides { sides.new ≡ sides.old }
 {
-    for node in 0..hierarchy.nodes() {
-        gate.watch(Stage::Checking, node, hierarchy.nodes());
+    for node in from..to {
         if !is_covered(hierarchy, sides, node) {
             return Some(node);
         }
     }
     None
+}
+
+/// The search for the first such node in each range of nodes.
+#[derive(Drop)]
+struct CoverJob<'a> {
+    hierarchy: &'a Hierarchy,
+}
+
+impl<'a> Model for CoverJob<'a> {
+    ghost use Rattle.ch_hierarchy.specs.Hierarchy.{LevelsAndLegs};
+
+    ghost Value = { LevelsAndLegs };
+
+    ghost view = { λ job. job.hierarchy.now };
+}
+
+impl RoomJob for CoverJob<'_> {
+    type Room = Sides;
+
+    type Out = Option<u32>;
+
+    ghost size = { λ H. nodes_of H };
+
+    ghost meaning = { λ H from to first. IsFirstUncoveredOf H from to first };
+
+    ghost clean = { λ H sides. sides ≡ nodes_of H };
+
+    fn room(&self, alloc: Global) -> Result<Sides, AllocError> {
+        Sides::new(alloc, self.hierarchy.nodes())
+    }
+
+    fn piece(
+        &self,
+        _alloc: Global,
+        room: &mut Sides,
+        from: u32,
+        to: u32,
+    ) -> Result<Option<u32>, AllocError> {
+        Ok(first_uncovered_of(self.hierarchy, room, from, to))
+    }
+}
+
+/// The first number of those that the ranges gave.
+fn first_of(firsts: &[Option<u32>]) -> Option<u32>
+    ensures { result ≡ first_some firsts.now }
+{
+    for first in firsts {
+        if first.is_some() {
+            return *first;
+        }
+    }
+    None
+}
+
+/// The least numbered of all such nodes. The workers share the nodes as the plan says, each in a room of its own.
+pub(crate) fn first_uncovered<R: Threads + Sync, G: Gate>(
+    crew: &Crew<'_, R, G>,
+    hierarchy: &Hierarchy,
+) -> Result<Option<u32>, AllocError>
+    ensures { IfOk result (λ first. MatchOption first ((v : ℕ) → v < nodes_of hierarchy.now → IsCovered hierarchy.now v) (IsFirstUncovered hierarchy.now)) }
+{
+    let nodes = hierarchy.nodes();
+    crew.gate.watch(Stage::Checking, 0, crew.plan.pieces(nodes));
+    // The getter tells the proof that a piece has an item.
+    let _ = crew.plan.piece();
+    let firsts = run_pieces_with_rooms(crew, nodes, &CoverJob { hierarchy })?;
+    Ok(first_of(firsts.as_slice()))
 }

@@ -28,7 +28,7 @@ pub use device::{
 };
 pub use fault::{RunFault, Which, status};
 pub use options::{MOST_HOPS, MOST_WITHIN, Options, OrderBy};
-pub use plan::{Gate, Open, Plan, Stage};
+pub use plan::{Crew, Gate, Open, Plan, Stage};
 pub use run::{
     run_ask, run_ask_saved, run_dist, run_dist_saved, run_save, run_table, run_table_saved,
 };

@@ -1,3 +1,3 @@
-//! How work is divided among workers, and who is told how far it is: the plans, gates and stages of `ch_work`.
+//! Who does the work and how it is divided, and who is told how far it is: the crews, plans, gates and stages of `ch_work`.
 
-pub use ch_work::{Gate, Open, Plan, Stage};
+pub use ch_work::{Crew, Gate, Open, Plan, Stage};

@@ -10,8 +10,8 @@ ghost use Rattle.ch_work.specs.declared.limits.TheConstants.{MOST_CELLS};
 use crate::cells::Table;
 use crate::sums::Sums;
 use ch_hierarchy::Hierarchy;
-use ch_work::{Gate, Plan, Stage, run_cells};
-use std::alloc::{AllocError, Global};
+use ch_work::{Crew, Gate, Stage, run_cells};
+use std::alloc::AllocError;
 use std::thread::Threads;
 
 /// The distances from each source to each target; with a limit `within` those that are at most that, and none
@@ -27,14 +27,11 @@ use std::thread::Threads;
 /// # Errors
 /// `AllocError` where there is no memory.
 pub fn table<R: Threads + Sync, G: Gate>(
-    rt: &R,
-    alloc: Global,
+    crew: &Crew<'_, R, G>,
     hierarchy: &Hierarchy,
     sources: &[u32],
     targets: &[u32],
     within: Option<u64>,
-    plan: &Plan,
-    gate: &G,
 ) -> Result<Table, AllocError>
     requires kept { IsKeptForSome hierarchy.now }
     requires sources { All (λ s. s < nodes_of hierarchy.now) sources.now }
@@ -43,14 +40,15 @@ pub fn table<R: Threads + Sync, G: Gate>(
     requires cells { length sources.now * length targets.now ≤ MOST_CELLS }
     ensures { IfOk result (AllZip (IsRowBy hierarchy.now within targets.now) sources.now) }
 {
-    let sums = Sums::search(rt, alloc, hierarchy, sources, targets, within, plan, gate)?;
+    let sums = Sums::search(crew, hierarchy, sources, targets, within)?;
     let rows = sources.len() as u32;
     let columns = targets.len() as u32;
     let nodes = hierarchy.nodes();
     // The getter tells the proof that a piece has an item.
-    let _ = plan.piece();
-    gate.watch(Stage::Answering, 0, plan.pieces(nodes));
-    let cells = run_cells(rt, alloc, nodes, rows * columns, plan, gate, &sums)?;
+    let _ = crew.plan.piece();
+    crew.gate
+        .watch(Stage::Answering, 0, crew.plan.pieces(nodes));
+    let cells = run_cells(crew, nodes, rows * columns, &sums)?;
     Ok(Table {
         cells,
         rows,

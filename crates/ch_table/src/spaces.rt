@@ -10,7 +10,7 @@ use crate::buckets::Buckets;
 use crate::dealing::Dealing;
 use ch_hierarchy::Hierarchy;
 use ch_query::{Scratch, Side, ranked_space};
-use ch_work::{Gate, ListJob, Plan, Stage, run_list};
+use ch_work::{Crew, Gate, ListJob, Stage, run_list};
 use std::alloc::{AllocError, Global};
 use std::marker::Model;
 use std::thread::Threads;
@@ -18,15 +18,12 @@ use std::thread::Threads;
 /// The buckets that hold the search spaces of these nodes in this direction, within the limit, by the items of what is
 /// reached. The workers share the nodes.
 pub(crate) fn search_spaces<R: Threads + Sync, G: Gate>(
-    rt: &R,
-    alloc: Global,
+    crew: &Crew<'_, R, G>,
     hierarchy: &Hierarchy,
     dealing: &Dealing,
     nodes: &[u32],
     side: Side,
     within: Option<u64>,
-    plan: &Plan,
-    gate: &G,
 ) -> Result<Buckets, AllocError>
     requires kept { IsKeptForSome hierarchy.now }
     requires nodes { All (λ x. x < nodes_of hierarchy.now) nodes.now }
@@ -39,9 +36,10 @@ pub(crate) fn search_spaces<R: Threads + Sync, G: Gate>(
         side,
         within,
     };
-    gate.watch(Stage::Searching, 0, plan.pieces(nodes.len() as u32));
-    let spaces = run_list(rt, alloc, nodes, plan, gate, &searches)?;
-    Buckets::of_lists(alloc, dealing, spaces)
+    crew.gate
+        .watch(Stage::Searching, 0, crew.plan.pieces(nodes.len() as u32));
+    let spaces = run_list(crew, nodes, &searches)?;
+    Buckets::of_lists(crew.alloc, dealing, spaces)
 }
 
 /// Searches from nodes, in one direction, within a limit.

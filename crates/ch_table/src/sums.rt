@@ -15,7 +15,7 @@ use crate::dealing::Dealing;
 use crate::spaces::search_spaces;
 use ch_hierarchy::Hierarchy;
 use ch_query::Side;
-use ch_work::{Board, CellJob, Gate, Pass, Plan, pay};
+use ch_work::{Board, CellJob, Crew, Gate, Pass, pay};
 use std::alloc::{AllocError, Global};
 use std::marker::Model;
 use std::thread::Threads;
@@ -69,45 +69,22 @@ impl Sums {
     /// What nodes owe to the cells of these sources and targets, dealt over pieces as the plan cuts them. The workers
     /// share the targets, then the sources.
     pub(crate) fn search<R: Threads + Sync, G: Gate>(
-        rt: &R,
-        alloc: Global,
+        crew: &Crew<'_, R, G>,
         hierarchy: &Hierarchy,
         sources: &[u32],
         targets: &[u32],
         within: Option<u64>,
-        plan: &Plan,
-        gate: &G,
     ) -> Result<Sums, AllocError>
         requires kept { IsKeptForSome hierarchy.now }
         requires sources { All (λ s. s < nodes_of hierarchy.now) sources.now }
         requires targets { All (λ t. t < nodes_of hierarchy.now) targets.now }
         requires lists { (length sources.now ≤ MOST_LISTED) × (length targets.now ≤ MOST_LISTED) }
         requires cells { length sources.now * length targets.now ≤ MOST_CELLS }
-        ensures { IfOk result (AreSidesOf hierarchy.now within (item_of (deal_of hierarchy.now plan.now.piece)) sources.now targets.now) }
+        ensures { IfOk result (AreSidesOf hierarchy.now within (item_of (deal_of hierarchy.now crew.now.plan.piece)) sources.now targets.now) }
     {
-        let dealing = Dealing::new(hierarchy.nodes(), plan.piece());
-        let downs = search_spaces(
-            rt,
-            alloc,
-            hierarchy,
-            &dealing,
-            targets,
-            Side::Down,
-            within,
-            plan,
-            gate,
-        )?;
-        let ups = search_spaces(
-            rt,
-            alloc,
-            hierarchy,
-            &dealing,
-            sources,
-            Side::Up,
-            within,
-            plan,
-            gate,
-        )?;
+        let dealing = Dealing::new(hierarchy.nodes(), crew.plan.piece());
+        let downs = search_spaces(crew, hierarchy, &dealing, targets, Side::Down, within)?;
+        let ups = search_spaces(crew, hierarchy, &dealing, sources, Side::Up, within)?;
         Ok(Sums {
             sources: ups,
             targets: downs,

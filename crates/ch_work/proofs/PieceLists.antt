@@ -25,7 +25,7 @@ covered q (suc r) p lt =
     rw one (omega (arith, lt))
 
 -- the pieces cover all items
-covers : (n p : ℕ) → 0 < p → n ≤ pieces_of n p * p
+pub covers : (n p : ℕ) → 0 < p → n ≤ pieces_of n p * p
 covers n p positive = omega (arith, div-add-mod' n p, covered (n / p) (n % p) p (mod-lt n positive))
 
 -- the items from place a on are those of one piece, and the rest

@@ -1,5 +1,5 @@
 -- What workers have done of the pieces that they claimed.
-use Rattle.std.specs.Prelude.{◌≡◌, ℕ, ◌+◌, ◌-◌, ◌*◌, ◌<◌, ◌≤◌, min, List, map, All, Result, Vec, IfOk}
+use Rattle.std.specs.Prelude.{◌≡◌, ℕ, ◌+◌, ◌-◌, ◌*◌, ◌<◌, ◌≤◌, min, List, map, All, Option, IfSome, Result, Vec, IfOk}
 use Rattle.std.specs.declared.alloc.Global.{Global}
 use Rattle.ch_work.specs.declared.board.known.Known.{Known}
 use Rattle.ch_work.specs.declared.board.Board.{Board}
@@ -8,6 +8,7 @@ use Rattle.ch_work.specs.declared.done.Done.{Done}
 use Rattle.ch_work.specs.Counts.{total, times}
 use Rattle.ch_work.specs.Passes.{view_of, IsPassOf, HasEnded}
 use Rattle.ch_work.specs.Pieces.{pieces_of}
+use Rattle.ch_work.specs.Steps.{nothing_known}
 
 -- the numbers of the pieces that were done
 abbrev pub numbers : {X : Type 0} → List (Done X) → List ℕ
@@ -25,10 +26,14 @@ pub record Working {X : Type 0} (meaning : ℕ → ℕ → X → Type 0) (n p : 
   pub claims : view.claims ≡ numbers done
   pub each : All (IsDone meaning n p) done
 
--- what a worker hands back: its pass and, where it was refused no memory, the pieces that it claimed until there was none
-abbrev pub HasWorked : {X E : Type 0} → (ℕ → ℕ → X → Type 0) → ℕ → ℕ → Board → Pass → Result (Vec (Done X) Global) E → Type 0
-HasWorked meaning n p board pass outcome =
-    IsPassOf board pass × IfOk outcome (λ done. HasEnded pass × ((view_of pass).claims ≡ numbers done.items) × All (IsDone meaning n p) done.items)
+-- what a worker is given: a pass that has done nothing, and perhaps a room
+abbrev pub IsHand : {R : Type 0} → (R → Type 0) → ℕ → ℕ → Board → Pass × Option R → Type 0
+IsHand clean n p board hand = IsPassOf board hand.0 × (view_of hand.0 ≡ nothing_known (pieces_of n p) 1) × IfSome hand.1 clean
+
+-- what a worker hands back: its pass and, where it was refused no memory, its room and the pieces that it claimed until there was none
+abbrev pub HasWorked : {X R E : Type 0} → (ℕ → ℕ → X → Type 0) → (R → Type 0) → ℕ → ℕ → Board → Pass → Result (R × Vec (Done X) Global) E → Type 0
+HasWorked meaning clean n p board pass outcome =
+    IsPassOf board pass × IfOk outcome (λ w. HasEnded pass × ((view_of pass).claims ≡ numbers w.1.items) × All (IsDone meaning n p) w.1.items × clean w.0)
 
 -- the passes have ended, and the pieces that they claimed were done
 pub record AreGathered {X : Type 0} (meaning : ℕ → ℕ → X → Type 0) (n p : ℕ) (board : Board) (passes : List Pass) (done : List (Done X)) : Type 0 where

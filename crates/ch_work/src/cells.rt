@@ -7,9 +7,9 @@ ghost use Rattle.ch_work.specs.Pieces.{pieces_of};
 ghost use Rattle.ch_work.specs.Steps.{nothing_known};
 
 use crate::board::{Board, Pass};
+use crate::crew::Crew;
 use crate::gate::Gate;
 use crate::paying::Payments;
-use crate::plan::Plan;
 use std::alloc::{AllocError, Global};
 use std::thread;
 use std::thread::Threads;
@@ -55,32 +55,29 @@ pub trait CellJob: Sync {
 /// # Errors
 /// `AllocError` where the call or any piece was refused memory, once all workers are joined.
 pub fn run_cells<R: Threads + Sync, G: Gate, J: CellJob>(
-    rt: &R,
-    alloc: Global,
+    crew: &Crew<'_, R, G>,
     items: u32,
     cells: u32,
-    plan: &Plan,
-    gate: &G,
     job: &J,
 ) -> Result<Vec<Option<u64>>, AllocError>
     requires items { items ≡ J.size job.now }
     requires cells { (cells ≡ J.cells job.now) × (cells ≤ MOST_CELLS) }
     ensures count { IfOk result (λ least. length least.items ≡ cells) }
-    ensures least { IfOk result (λ least. (cell : ℕ) (d : _) → cell < cells → IsLeastOwed (J.owes job.now) items plan.now.piece cell (slice_index_or least.items cell d)) }
+    ensures least { IfOk result (λ least. (cell : ℕ) (d : _) → cell < cells → IsLeastOwed (J.owes job.now) items crew.now.plan.piece cell (slice_index_or least.items cell d)) }
 {
-    let piece = plan.piece();
+    let piece = crew.plan.piece();
     let pieces = items.div_ceil(piece);
-    let workers = plan.workers().min(pieces).max(1);
-    let (board, passes) = Board::new(alloc, pieces, cells, workers)?;
+    let workers = crew.plan.workers().min(pieces).max(1);
+    let (board, passes) = Board::new(crew.alloc, pieces, cells, workers)?;
     let payments = Payments {
-        gate,
+        gate: crew.gate,
         job,
         board: &board,
         items,
         piece,
     };
-    let worked = paid_by_all(rt, &payments, alloc, passes)?;
-    let passes = all_paid(alloc, &payments, worked)?;
+    let worked = paid_by_all(crew.rt, &payments, crew.alloc, passes)?;
+    let passes = all_paid(crew.alloc, &payments, worked)?;
     board.close(passes)
 }
 

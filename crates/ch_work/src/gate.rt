@@ -9,7 +9,7 @@ pub enum Stage {
     Ranking,
     /// Nodes are contracted.
     Building,
-    /// What leads through each node of a saved hierarchy is checked.
+    /// What leads through each node of a saved hierarchy is checked, in pieces.
     Checking,
     /// The nodes of one list of a table are searched from, in pieces.
     Searching,

@@ -18,6 +18,7 @@
 
 mod board;
 mod cells;
+mod crew;
 mod done;
 mod gate;
 mod job;
@@ -33,12 +34,13 @@ mod work;
 
 pub use board::{Board, Known, Pass, Size};
 pub use cells::{CellJob, run_cells};
+pub use crew::Crew;
 pub use gate::{Gate, Open, Stage};
 pub use job::{Job, RoomJob};
-pub use list_job::{ListJob, run_list, run_list_in_room};
+pub use list_job::{ListJob, run_list, run_list_in};
 pub use lists::{joined, length_of};
 pub use paying::pay;
-pub use pieces::{run_pieces, run_pieces_with_rooms};
+pub use pieces::{run_pieces, run_pieces_in, run_pieces_with_rooms};
 pub use plan::Plan;
 pub use test_gates::{CountingGate, MeetingGate};
 

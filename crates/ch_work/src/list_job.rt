@@ -2,12 +2,11 @@
 ghost use Rattle.std.specs.Prelude.{◌^◌, ◌<◌, length, All, IfOk, OnOk, List};
 ghost use Rattle.std.specs.List.{AllZip, slice_range};
 
+use crate::crew::Crew;
 use crate::gate::Gate;
 use crate::job::RoomJob;
 use crate::lists::joined;
-use crate::pieces::run_pieces_with_rooms;
-use crate::plan::Plan;
-use crate::work::Work;
+use crate::pieces::run_pieces_in;
 use std::alloc::{AllocError, Global};
 use std::marker::Model;
 use std::thread::Threads;
@@ -55,57 +54,46 @@ pub trait ListJob: Sync {
         ensures clean { OnOk result (clean self.now room.new) };
 }
 
-/// The values of the items, in their order. Workers share the items as [`run_pieces_with_rooms`] says of
-/// pieces, each with a room of its own.
+/// The values of the items, in their order. Workers share the items as [`run_pieces_with_rooms`](crate::run_pieces_with_rooms)
+/// says of pieces, each with a room of its own.
 ///
 /// # Errors
 /// `AllocError` where the call, a room or any value was refused memory, once all workers are joined.
 pub fn run_list<R: Threads + Sync, G: Gate, J: ListJob>(
-    rt: &R,
-    alloc: Global,
+    crew: &Crew<'_, R, G>,
     items: &[J::Item],
-    plan: &Plan,
-    gate: &G,
     job: &J,
 ) -> Result<Vec<J::Out>, AllocError>
     requires takes { All (J.takes job.now) items.now }
     requires length { length items.now < 2 ^ 32 }
     ensures { IfOk result (λ values. AllZip (J.meaning job.now) items.now values.items) }
 {
-    let pieces = ListPieces { job, items };
-    // The getter tells the proof that a piece has an item.
-    let _ = plan.piece();
-    let lists = run_pieces_with_rooms(rt, alloc, items.len() as u32, plan, gate, &pieces)?;
-    joined(alloc, lists)
+    let mut rooms = Vec::new(crew.alloc);
+    run_list_in(crew, items, &mut rooms, job)
 }
 
-/// As [`run_list`] by the caller alone, in a room that it has: no thread is started and no room is made.
+/// As [`run_list`], in rooms that stay, as [`run_pieces_in`] says of them: for a caller who has many lists.
 ///
 /// # Errors
-/// `AllocError` where there is no memory. The room isn't clean then.
-pub fn run_list_in_room<G: Gate, J: ListJob>(
-    alloc: Global,
+/// `AllocError` where the call, a room or any value was refused memory, once all workers are joined. Rooms may be
+/// gone then; those that are left are clean.
+pub fn run_list_in<R: Threads + Sync, G: Gate, J: ListJob>(
+    crew: &Crew<'_, R, G>,
     items: &[J::Item],
-    plan: &Plan,
-    gate: &G,
-    room: &mut J::Room,
+    rooms: &mut Vec<J::Room>,
     job: &J,
 ) -> Result<Vec<J::Out>, AllocError>
     requires takes { All (J.takes job.now) items.now }
     requires length { length items.now < 2 ^ 32 }
-    requires clean { J.clean job.now room.old }
+    requires clean { All (J.clean job.now) rooms.old.items }
     ensures values { IfOk result (λ values. AllZip (J.meaning job.now) items.now values.items) }
-    ensures clean { OnOk result (J.clean job.now room.new) }
+    ensures clean { All (J.clean job.now) rooms.new.items }
 {
     let pieces = ListPieces { job, items };
-    let work = Work {
-        gate,
-        job: &pieces,
-        items: items.len() as u32,
-        piece: plan.piece(),
-    };
-    let lists = work.values_in(alloc, room)?;
-    joined(alloc, lists)
+    // The getter tells the proof that a piece has an item.
+    let _ = crew.plan.piece();
+    let lists = run_pieces_in(crew, items.len() as u32, rooms, &pieces)?;
+    joined(crew.alloc, lists)
 }
 
 /// The items of a list, a range of them at a time.

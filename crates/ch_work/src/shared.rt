@@ -1,7 +1,7 @@
 //! Pieces that several workers claim, and their values in order.
-ghost use Rattle.std.specs.Prelude.{◌≡◌, ℕ, ◌+◌, ◌*◌, ◌<◌, ◌≤◌, min, length, vec_len, slice_index_or, All, IfOk, IsSomeAnd, None};
+ghost use Rattle.std.specs.Prelude.{◌≡◌, ℕ, ◌+◌, ◌*◌, ◌<◌, ◌≤◌, min, length, vec_len, slice_index_or, All, IfOk, IfSome, IsSomeAnd, None};
 ghost use Rattle.ch_work.specs.declared.limits.TheConstants.{MOST_WORKERS};
-ghost use Rattle.ch_work.specs.Claims.{numbers, IsDone, HasWorked, AreGathered};
+ghost use Rattle.ch_work.specs.Claims.{numbers, IsDone, IsHand, HasWorked, AreGathered};
 ghost use Rattle.ch_work.specs.Counts.{times};
 ghost use Rattle.ch_work.specs.Passes.{view_of, IsPassOf};
 ghost use Rattle.ch_work.specs.Pieces.{pieces_of, AreValues};
@@ -16,21 +16,47 @@ use std::alloc::{AllocError, Global};
 use std::thread;
 use std::thread::Threads;
 
-/// The values of all pieces in their order, by so many workers.
+/// The values of all pieces in their order, by so many workers, each in one of the rooms, or in a new one that is among
+/// them afterwards. The room of a worker that is refused memory is not.
 pub(crate) fn values_by_workers<R: Threads + Sync, G: Gate, J: RoomJob>(
     rt: &R,
     alloc: Global,
     work: &Work<'_, G, J>,
     workers: u32,
+    rooms: &mut Vec<J::Room>,
 ) -> Result<Vec<J::Out>, AllocError>
-    requires { (0 < workers) × (workers ≤ MOST_WORKERS) }
-    ensures { IfOk result (λ v. AreValues (J.meaning work.now.job.now) work.now.items work.now.piece 0 (pieces_of work.now.items work.now.piece) v.items) }
+    requires workers { (0 < workers) × (workers ≤ MOST_WORKERS) }
+    requires clean { All (J.clean work.now.job.now) rooms.old.items }
+    ensures values { IfOk result (λ v. AreValues (J.meaning work.now.job.now) work.now.items work.now.piece 0 (pieces_of work.now.items work.now.piece) v.items) }
+    ensures clean { All (J.clean work.now.job.now) rooms.new.items }
 {
     let (board, passes) = Board::new(alloc, work.count(), 0, workers)?;
-    let worked = worked_off_by_all(rt, alloc, work, &board, passes)?;
-    let (passes, done) = gathered(alloc, work, &board, worked)?;
+    let hands = hands_of(alloc, work, &board, passes, rooms)?;
+    let worked = worked_off_by_all(rt, alloc, work, &board, hands)?;
+    let (passes, done) = gathered(alloc, work, &board, worked, rooms)?;
     board.close(passes)?;
     in_order(alloc, work, done)
+}
+
+/// Each pass with a room, as long as there is one.
+fn hands_of<G: Gate, J: RoomJob>(
+    alloc: Global,
+    work: &Work<'_, G, J>,
+    board: &Board,
+    passes: Vec<Pass>,
+    rooms: &mut Vec<J::Room>,
+) -> Result<Vec<(Pass, Option<J::Room>)>, AllocError>
+    requires passes { All (λ pass. IsPassOf board.now pass × (view_of pass ≡ nothing_known (pieces_of work.now.items work.now.piece) 1)) passes.items }
+    requires clean { All (J.clean work.now.job.now) rooms.old.items }
+    ensures len { IfOk result (λ all. vec_len all ≡ vec_len passes) }
+    ensures each { IfOk result (λ all. All (IsHand (J.clean work.now.job.now) work.now.items work.now.piece board.now) all.items) }
+    ensures clean { All (J.clean work.now.job.now) rooms.new.items }
+{
+    let mut hands = Vec::with_capacity(alloc, passes.len())?;
+    for pass in passes {
+        hands.push((pass, rooms.pop()))?;
+    }
+    Ok(hands)
 }
 
 /// What each worker did, and its pass, in the order of the passes.
@@ -39,37 +65,45 @@ fn worked_off_by_all<R: Threads + Sync, G: Gate, J: RoomJob>(
     alloc: Global,
     work: &Work<'_, G, J>,
     board: &Board,
-    passes: Vec<Pass>,
-) -> Result<Vec<(Pass, Result<Vec<Done<J::Out>>, AllocError>)>, AllocError>
-    requires { All (λ pass. IsPassOf board.now pass × (view_of pass ≡ nothing_known (pieces_of work.now.items work.now.piece) 1)) passes.items }
-    ensures len { IfOk result (λ all. vec_len all ≡ vec_len passes) }
-    ensures each { IfOk result (λ all. (i : ℕ) (d : _) → i < vec_len passes →
-        HasWorked (J.meaning work.now.job.now) work.now.items work.now.piece board.now (slice_index_or all.items i d).0 (slice_index_or all.items i d).1) }
+    hands: Vec<(Pass, Option<J::Room>)>,
+) -> Result<Vec<(Pass, Result<(J::Room, Vec<Done<J::Out>>), AllocError>)>, AllocError>
+    requires { All (IsHand (J.clean work.now.job.now) work.now.items work.now.piece board.now) hands.items }
+    ensures len { IfOk result (λ all. vec_len all ≡ vec_len hands) }
+    ensures each { IfOk result (λ all. (i : ℕ) (d : _) → i < vec_len hands →
+        HasWorked (J.meaning work.now.job.now) (J.clean work.now.job.now) work.now.items work.now.piece board.now (slice_index_or all.items i d).0 (slice_index_or all.items i d).1) }
 {
-    let by_pass = |pass: Pass| -> (Pass, Result<Vec<Done<J::Out>>, AllocError>)
-        requires { IsPassOf board.now pass × (view_of pass ≡ nothing_known (pieces_of work.now.items work.now.piece) 1) }
-        ensures { HasWorked (J.meaning work.entry.now.job.now) work.entry.now.items work.entry.now.piece board.entry.now result.0 result.1 }
-    { work.worked_off(alloc, board, pass) };
-    thread::map_vec(rt, passes, &by_pass)
+    let by_hand = |hand: (Pass, Option<J::Room>)| -> (
+        Pass,
+        Result<(J::Room, Vec<Done<J::Out>>), AllocError>,
+    )
+        requires { IsHand (J.clean work.now.job.now) work.now.items work.now.piece board.now hand }
+        ensures { HasWorked (J.meaning work.entry.now.job.now) (J.clean work.entry.now.job.now) work.entry.now.items work.entry.now.piece board.entry.now result.0 result.1 }
+    { work.worked_off(alloc, board, hand.0, hand.1) };
+    thread::map_vec(rt, hands, &by_hand)
 }
 
-/// All passes, and the pieces that they did.
+/// All passes, and the pieces that they did. The rooms come back, up to that of the first worker that was refused memory.
 fn gathered<G: Gate, J: RoomJob>(
     alloc: Global,
     work: &Work<'_, G, J>,
     board: &Board,
-    worked: Vec<(Pass, Result<Vec<Done<J::Out>>, AllocError>)>,
+    worked: Vec<(Pass, Result<(J::Room, Vec<Done<J::Out>>), AllocError>)>,
+    rooms: &mut Vec<J::Room>,
 ) -> Result<(Vec<Pass>, Vec<Done<J::Out>>), AllocError>
-    requires { (i : ℕ) (d : _) → i < vec_len worked →
-        HasWorked (J.meaning work.now.job.now) work.now.items work.now.piece board.now (slice_index_or worked.items i d).0 (slice_index_or worked.items i d).1 }
+    requires each { (i : ℕ) (d : _) → i < vec_len worked →
+        HasWorked (J.meaning work.now.job.now) (J.clean work.now.job.now) work.now.items work.now.piece board.now (slice_index_or worked.items i d).0 (slice_index_or worked.items i d).1 }
+    requires clean { All (J.clean work.now.job.now) rooms.old.items }
     ensures len { IfOk result (λ all. vec_len all.0 ≡ vec_len worked) }
     ensures all { IfOk result (λ all. AreGathered (J.meaning work.now.job.now) work.now.items work.now.piece board.now all.0.items all.1.items) }
+    ensures clean { All (J.clean work.now.job.now) rooms.new.items }
 {
     let mut passes = Vec::with_capacity(alloc, worked.len())?;
     let mut all = Vec::with_capacity(alloc, work.count() as usize)?;
     for (pass, outcome) in worked {
-        all.append(&mut outcome?)?;
+        let (room, mut done) = outcome?;
+        all.append(&mut done)?;
         passes.push(pass)?;
+        rooms.push(room)?;
     }
     Ok((passes, all))
 }

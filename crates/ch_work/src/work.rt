@@ -1,5 +1,5 @@
 //! What one worker does.
-ghost use Rattle.std.specs.Prelude.{◌≡◌, ◌+◌, ◌*◌, ◌<◌, min, IfOk, OnOk};
+ghost use Rattle.std.specs.Prelude.{◌≡◌, ◌+◌, ◌*◌, ◌<◌, min, All, IfOk, IfSome, OnOk};
 ghost use Rattle.ch_work.specs.Claims.{HasWorked};
 ghost use Rattle.ch_work.specs.Passes.{view_of, IsPassOf};
 ghost use Rattle.ch_work.specs.Pieces.{pieces_of, AreValues};
@@ -30,20 +30,36 @@ impl<'a, G: Gate, J: RoomJob> Work<'a, G, J> {
         self.items.div_ceil(self.piece)
     }
 
-    /// The values of all pieces, by one worker.
-    pub(crate) fn values(&self, alloc: Global) -> Result<Vec<J::Out>, AllocError>
-        ensures { IfOk result (λ v. AreValues (J.meaning self.now.job.now) self.now.items self.now.piece 0 (pieces_of self.now.items self.now.piece) v.items) }
+    /// The values of all pieces, by one worker, in one of the rooms or, where there is none, in a new one that is
+    /// among them afterwards.
+    pub(crate) fn values(
+        &self,
+        alloc: Global,
+        rooms: &mut Vec<J::Room>,
+    ) -> Result<Vec<J::Out>, AllocError>
+        requires { All (J.clean self.now.job.now) rooms.old.items }
+        ensures values { IfOk result (λ v. AreValues (J.meaning self.now.job.now) self.now.items self.now.piece 0 (pieces_of self.now.items self.now.piece) v.items) }
+        ensures clean { All (J.clean self.now.job.now) rooms.new.items }
     {
-        let mut room = self.job.room(alloc)?;
-        self.values_in(alloc, &mut room)
+        let mut room = self.room(alloc, rooms.pop())?;
+        let values = self.values_in(alloc, &mut room)?;
+        rooms.push(room)?;
+        Ok(values)
+    }
+
+    /// The room that a worker was given, or a new one.
+    fn room(&self, alloc: Global, given: Option<J::Room>) -> Result<J::Room, AllocError>
+        requires { IfSome given (J.clean self.now.job.now) }
+        ensures { IfOk result (J.clean self.now.job.now) }
+    {
+        match given {
+            Some(room) => Ok(room),
+            None => self.job.room(alloc),
+        }
     }
 
     /// The values of all pieces, by one worker in this room.
-    pub(crate) fn values_in(
-        &self,
-        alloc: Global,
-        room: &mut J::Room,
-    ) -> Result<Vec<J::Out>, AllocError>
+    fn values_in(&self, alloc: Global, room: &mut J::Room) -> Result<Vec<J::Out>, AllocError>
         requires { J.clean self.now.job.now room.old }
         ensures values { IfOk result (λ v. AreValues (J.meaning self.now.job.now) self.now.items self.now.piece 0 (pieces_of self.now.items self.now.piece) v.items) }
         ensures clean { OnOk result (J.clean self.now.job.now room.new) }
@@ -56,34 +72,39 @@ impl<'a, G: Gate, J: RoomJob> Work<'a, G, J> {
         Ok(values)
     }
 
-    /// What a worker does with its pass, and the pass.
+    /// What a worker does with its pass, and the pass. It works in the room that it is given, or else in a new one, and
+    /// hands it back with what was done.
     pub(crate) fn worked_off(
         &self,
         alloc: Global,
         board: &Board,
         pass: Pass,
-    ) -> (Pass, Result<Vec<Done<J::Out>>, AllocError>)
+        given: Option<J::Room>,
+    ) -> (Pass, Result<(J::Room, Vec<Done<J::Out>>), AllocError>)
         requires board { IsPassOf board.now pass }
         requires fresh { view_of pass ≡ nothing_known (pieces_of self.now.items self.now.piece) 1 }
-        ensures { HasWorked (J.meaning self.now.job.now) self.now.items self.now.piece board.now result.0 result.1 }
+        requires room { IfSome given (J.clean self.now.job.now) }
+        ensures { HasWorked (J.meaning self.now.job.now) (J.clean self.now.job.now) self.now.items self.now.piece board.now result.0 result.1 }
     {
         let mut pass = pass;
-        let done = self.claimed(alloc, board, &mut pass);
+        let done = self.claimed(alloc, board, &mut pass, given);
         (pass, done)
     }
 
-    /// The pieces that a pass claims, done in the worker's room.
+    /// The room, and the pieces that a pass claims, which are done there.
     fn claimed(
         &self,
         alloc: Global,
         board: &Board,
         pass: &mut Pass,
-    ) -> Result<Vec<Done<J::Out>>, AllocError>
+        given: Option<J::Room>,
+    ) -> Result<(J::Room, Vec<Done<J::Out>>), AllocError>
         requires board { IsPassOf board.now pass.old }
         requires fresh { view_of pass.old ≡ nothing_known (pieces_of self.now.items self.now.piece) 1 }
-        ensures { HasWorked (J.meaning self.now.job.now) self.now.items self.now.piece board.now pass.new result }
+        requires room { IfSome given (J.clean self.now.job.now) }
+        ensures { HasWorked (J.meaning self.now.job.now) (J.clean self.now.job.now) self.now.items self.now.piece board.now pass.new result }
     {
-        let mut room = self.job.room(alloc)?;
+        let mut room = self.room(alloc, given)?;
         let mut done = Vec::new(alloc);
         // The number after the last claim: it rises, so that the claims end.
         let mut next = 0;
@@ -92,7 +113,7 @@ impl<'a, G: Gate, J: RoomJob> Work<'a, G, J> {
             done.push(Done { number, value })?;
             next = number + 1;
         }
-        Ok(done)
+        Ok((room, done))
     }
 
     /// The value of the piece of this number, once it has passed the gate.

@@ -17,7 +17,7 @@ use Rattle.ch_query.specs.Search.{IsUpwardCost}
 use Rattle.ch_query.specs.Side.{rows_of}
 use Rattle.ch_hierarchy.specs.Kept.{MeetsWithin, IsCovered}
 use Rattle.ch_query.specs.Checking.{HasLeg}
-use Rattle.ch_query.specs.Covering.{IsCoveredFrom}
+use Rattle.ch_query.specs.Covering.{AreCovered, IsCoveredFrom}
 use Rattle.ch_query.proofs.one_side.Expanding.{leg_up, reached_by_leg}
 use Rattle.ch_query.proofs.faults.FirstFailing.{all_read}
 use Rattle.ch_query.proofs.two_sides.ConnectedSearches.{meeting_within}
@@ -69,8 +69,8 @@ row_leg_up H k side v legs i d e lt =
     (has, leg_up H k side v (get_or legs i d) has)
 
 -- one node more is covered
-pub covered_more : (H : LevelsAndLegs) (v : ℕ) → ((u : ℕ) → u < v → IsCovered H u) → IsCovered H v → (u : ℕ) → u < v + 1 → IsCovered H u
-covered_more H v before here u lt = elim (cases_lt u v) [
-  | inl less ↦ before u less
-  | inr ge ↦ let same : v ≡ u = omega arith in subst (IsCovered H) same here
+pub covered_more : (H : LevelsAndLegs) (from v : ℕ) → AreCovered H from v → IsCovered H v → AreCovered H from (v + 1)
+covered_more H from v before here u ge lt = elim (cases_lt u v) [
+  | inl less ↦ before u ge less
+  | inr more ↦ let same : v ≡ u = omega arith in subst (IsCovered H) same here
 ]

@@ -15,9 +15,8 @@ use super::serving::serve;
 use crate::device::{Input, Output};
 use crate::fault::{RunFault, Which};
 use crate::options::Options;
-use crate::plan::{Gate, Plan, Stage};
+use crate::plan::{Crew, Gate, Stage};
 use ch_contract::build_by;
-use std::alloc::Global;
 use std::thread::Threads;
 
 /// Reads a graph, builds its hierarchy, and then answers requests as they come: queries, and tables with their lists, in order.
@@ -33,14 +32,11 @@ use std::thread::Threads;
 /// a read of the requests: all that were whole in what was read before were answered. `Write(count)`, where the output took `count`
 /// bytes of the text and no more.
 pub fn run_ask<R: Threads + Sync, I: Input, J: Input, O: Output, G: Gate>(
-    rt: &R,
-    alloc: Global,
+    crew: &Crew<'_, R, G>,
     graph: &mut I,
     requests: &mut J,
     output: &mut O,
     options: &Options,
-    plan: &Plan,
-    gate: &G,
 ) -> Result<(), RunFault>
     requires graph { CanCountOneMore (I.failed graph.old) }
     requires requests { CanCountOneMore (J.failed requests.old) }
@@ -67,12 +63,12 @@ pub fn run_ask<R: Threads + Sync, I: Input, J: Input, O: Output, G: Gate>(
     ensures requests_once { CountsAtMostOne (J.failed requests.old) (J.failed requests.new) }
     ensures output_once { CountsAtMostOneOf (O.failed output.old) (O.failed output.new) (O.idle output.old) (O.idle output.new) }
 {
-    gate.watch(Stage::Reading, 0, 1);
-    let graph = graph_from(alloc, graph)?;
+    crew.gate.watch(Stage::Reading, 0, 1);
+    let graph = graph_from(crew.alloc, graph)?;
     let order = order_for(options);
-    let hierarchy = build_by(rt, alloc, &graph, options.hops, order, plan, gate)?;
+    let hierarchy = build_by(crew, &graph, options.hops, order)?;
     let checked = Checked { graph, hierarchy };
-    serve(rt, alloc, &checked, requests, output, options, plan, gate)
+    serve(crew, &checked, requests, output, options)
 }
 
 /// Reads a graph and a hierarchy that was saved, by whatever program, and then answers requests as they come, as [`run_ask`] does,
@@ -82,15 +78,12 @@ pub fn run_ask<R: Threads + Sync, I: Input, J: Input, O: Output, G: Gate>(
 /// As those of [`run_ask`]; and before anything is read of the requests, the first fault of the saved hierarchy's lines, or of the
 /// hierarchy on the graph (`Check`), or a device that refused a read of it.
 pub fn run_ask_saved<R: Threads + Sync, I: Input, S: Input, J: Input, O: Output, G: Gate>(
-    rt: &R,
-    alloc: Global,
+    crew: &Crew<'_, R, G>,
     graph: &mut I,
     saved: &mut S,
     requests: &mut J,
     output: &mut O,
     options: &Options,
-    plan: &Plan,
-    gate: &G,
 ) -> Result<(), RunFault>
     requires graph { CanCountOneMore (I.failed graph.old) }
     requires saved { CanCountOneMore (S.failed saved.old) }
@@ -128,6 +121,6 @@ pub fn run_ask_saved<R: Threads + Sync, I: Input, S: Input, J: Input, O: Output,
     ensures saved_unread { (saved.new ≡ saved.old)
         ⊎ (GoesPast Which.Graph result × AcceptsGraph (reading I.left graph.old graph.new)) }
 {
-    let checked = checked_from(alloc, graph, saved, gate)?;
-    serve(rt, alloc, &checked, requests, output, options, plan, gate)
+    let checked = checked_from(crew, graph, saved)?;
+    serve(crew, &checked, requests, output, options)
 }

@@ -1,5 +1,5 @@
 //! Requests that came together, and their answers.
-ghost use Rattle.std.specs.Prelude.{◌≡◌, ◌<◌, ◌≤◌, [], ◌∷◌, map, length, IfErr, IfOk, MatchOption, OnOk};
+ghost use Rattle.std.specs.Prelude.{◌≡◌, ◌<◌, ◌≤◌, [], ◌∷◌, map, length, All, IfErr, IfOk, MatchOption, OnOk};
 ghost use Rattle.ch_graph.specs.declared.limits.TheConstants.{MOST_QUERIES};
 ghost use Rattle.ch_graph.specs.Graph.{IsWithinLimits};
 ghost use Rattle.ch_hierarchy.specs.Hierarchy.{nodes_of};
@@ -17,7 +17,7 @@ use super::texts::{answers_in, plain_text, table_by};
 use crate::device::{Output, write_all};
 use crate::fault::{RunFault, Which};
 use crate::options::Options;
-use crate::plan::{Gate, Plan};
+use crate::plan::{Crew, Gate};
 use ch_query::Scratch;
 use ch_read::{Request, RequestError, RequestFault, RequestReader, TableLists};
 use std::alloc::{AllocError, Global};
@@ -103,130 +103,104 @@ fn refusal(error: RequestError) -> RunFault
     }
 }
 
-/// Answers a batch: its queries, and then its table. The scratch is the room of queries that one worker answers. `written` counts the bytes that the output took, as far as 64 bits go.
+/// Answers a batch: its queries, and then its table. The scratches are the rooms in which workers answer queries. `written` counts the bytes that the output took, as far as 64 bits go.
 pub(crate) fn answer_batch<R: Threads + Sync, O: Output, G: Gate>(
-    rt: &R,
-    alloc: Global,
+    crew: &Crew<'_, R, G>,
     checked: &Checked,
-    scratch: &mut Scratch,
+    scratches: &mut Vec<Scratch>,
     batch: &Batch,
     output: &mut O,
     written: &mut u64,
     options: &Options,
-    plan: &Plan,
-    gate: &G,
 ) -> Result<(), RunFault>
     requires limits { IsWithinLimits checked.now.graph }
     requires kept { IsKept checked.now.graph checked.now.hierarchy }
-    requires scratch { scratch.old ≡ nodes_of checked.now.hierarchy }
+    requires scratches { All (λ scratch. scratch ≡ nodes_of checked.now.hierarchy) scratches.old.items }
     requires batch { IsBatch checked.now.graph.nodes batch.now.queries.items batch.now.then }
     requires failures { CanCountOneMore (O.failed output.old) }
     requires zeros { CanCountOneMore (O.idle output.old) }
     ensures answers { Answers (IsRequestText options.now checked.now.graph (λ H. H ≡ checked.now.hierarchy)) (O.taken output.old) (O.taken output.new)
         written.old written.new (requests_of batch.now.queries.items batch.now.then) result }
-    ensures scratch { OnOk result (scratch.new ≡ scratch.old) }
+    ensures scratches { All (λ scratch. scratch ≡ nodes_of checked.now.hierarchy) scratches.new.items }
     ensures own { IfErr result IsOfAnswering }
     ensures counts { CountsWrites (O.failed output.old) (O.failed output.new) (O.idle output.old) (O.idle output.new) result }
 {
     answer_queries(
-        rt,
-        alloc,
+        crew,
         checked,
-        scratch,
+        scratches,
         &batch.queries,
         output,
         written,
         options,
-        plan,
-        gate,
     )?;
     match &batch.then {
-        Then::Table(lists) => answer_table(
-            rt, alloc, checked, lists, output, written, options, plan, gate,
-        ),
+        Then::Table(lists) => answer_table(crew, checked, lists, output, written, options),
         _ => Ok(()),
     }
 }
 
 /// Answers queries, all by one text.
 fn answer_queries<R: Threads + Sync, O: Output, G: Gate>(
-    rt: &R,
-    alloc: Global,
+    crew: &Crew<'_, R, G>,
     checked: &Checked,
-    scratch: &mut Scratch,
+    scratches: &mut Vec<Scratch>,
     queries: &[(u32, u32)],
     output: &mut O,
     written: &mut u64,
     options: &Options,
-    plan: &Plan,
-    gate: &G,
 ) -> Result<(), RunFault>
     requires limits { IsWithinLimits checked.now.graph }
     requires kept { IsKept checked.now.graph checked.now.hierarchy }
-    requires scratch { scratch.old ≡ nodes_of checked.now.hierarchy }
+    requires scratches { All (λ scratch. scratch ≡ nodes_of checked.now.hierarchy) scratches.old.items }
     requires queries { AreQueries checked.now.graph.nodes queries.now }
     requires count { length queries.now ≤ MOST_QUERIES }
     requires failures { CanCountOneMore (O.failed output.old) }
     requires zeros { CanCountOneMore (O.idle output.old) }
     ensures answers { Answers (IsRequestText options.now checked.now.graph (λ H. H ≡ checked.now.hierarchy)) (O.taken output.old) (O.taken output.new)
         written.old written.new (map query_from queries.now) result }
-    ensures scratch { OnOk result (scratch.new ≡ scratch.old) }
+    ensures scratches { All (λ scratch. scratch ≡ nodes_of checked.now.hierarchy) scratches.new.items }
     ensures own { IfErr result IsOfAnswering }
     ensures counts { CountsWrites (O.failed output.old) (O.failed output.new) (O.idle output.old) (O.idle output.new) result }
 {
-    let text = queries_text(rt, alloc, checked, scratch, queries, options, plan, gate)?;
+    let text = queries_text(crew, checked, scratches, queries, options)?;
     write_more(output, &text, written)
 }
 
 /// The text of queries. Where there are none, nothing is made ready for them.
 fn queries_text<R: Threads + Sync, G: Gate>(
-    rt: &R,
-    alloc: Global,
+    crew: &Crew<'_, R, G>,
     checked: &Checked,
-    scratch: &mut Scratch,
+    scratches: &mut Vec<Scratch>,
     queries: &[(u32, u32)],
     options: &Options,
-    plan: &Plan,
-    gate: &G,
 ) -> Result<Vec<u8>, AllocError>
     requires limits { IsWithinLimits checked.now.graph }
     requires kept { IsKept checked.now.graph checked.now.hierarchy }
-    requires scratch { scratch.old ≡ nodes_of checked.now.hierarchy }
+    requires scratches { All (λ scratch. scratch ≡ nodes_of checked.now.hierarchy) scratches.old.items }
     requires queries { AreQueries checked.now.graph.nodes queries.now }
     requires count { length queries.now ≤ MOST_QUERIES }
     ensures text { IfOk result (λ text. AreAnswered (IsRequestText options.now checked.now.graph (λ H. H ≡ checked.now.hierarchy)) (map query_from queries.now) text.items) }
-    ensures scratch { OnOk result (scratch.new ≡ scratch.old) }
+    ensures scratches { All (λ scratch. scratch ≡ nodes_of checked.now.hierarchy) scratches.new.items }
 {
     if queries.is_empty() {
-        return Ok(Vec::new(alloc));
+        return Ok(Vec::new(crew.alloc));
     }
     if options.plain {
-        return plain_text(alloc, &checked.graph, queries, gate);
+        return plain_text(crew.alloc, &checked.graph, queries, crew.gate);
     }
     let routes = options.routes;
-    answers_in(
-        rt,
-        alloc,
-        &checked.hierarchy,
-        scratch,
-        queries,
-        routes,
-        plan,
-        gate,
-    )
+    answers_in(crew, &checked.hierarchy, scratches, queries, routes)
 }
 
 /// Answers a table.
 fn answer_table<R: Threads + Sync, O: Output, G: Gate>(
-    rt: &R,
-    alloc: Global,
+    crew: &Crew<'_, R, G>,
     checked: &Checked,
     lists: &TableLists,
     output: &mut O,
     written: &mut u64,
     options: &Options,
-    plan: &Plan,
-    gate: &G,
 ) -> Result<(), RunFault>
     requires limits { IsWithinLimits checked.now.graph }
     requires kept { IsKept checked.now.graph checked.now.hierarchy }
@@ -240,16 +214,7 @@ fn answer_table<R: Threads + Sync, O: Output, G: Gate>(
 {
     let sources = lists.sources();
     let targets = lists.targets();
-    let text = table_by(
-        rt,
-        alloc,
-        &checked.hierarchy,
-        sources,
-        targets,
-        options.within,
-        plan,
-        gate,
-    )?;
+    let text = table_by(crew, &checked.hierarchy, sources, targets, options.within)?;
     write_more(output, &text, written)
 }
 

@@ -14,10 +14,10 @@ use super::texts::{answers_by, plain_text};
 use crate::device::{Input, Output};
 use crate::fault::{RunFault, Which};
 use crate::options::{Options, OrderBy};
-use crate::plan::{Gate, Plan, Stage};
+use crate::plan::{Crew, Gate, Stage};
 use ch_contract::build_by;
 use ch_graph::Graph;
-use std::alloc::{AllocError, Global};
+use std::alloc::AllocError;
 use std::thread::Threads;
 
 /// Reads a graph and then queries, and writes the answer to each query in order.
@@ -29,14 +29,11 @@ use std::thread::Threads;
 /// The first fault of the graph or of the queries, a device that refused a read, or want of memory:
 /// nothing was written then. `Write(count)`, where the output took `count` bytes of the text and no more.
 pub fn run_dist<R: Threads + Sync, I: Input, J: Input, O: Output, G: Gate>(
-    rt: &R,
-    alloc: Global,
+    crew: &Crew<'_, R, G>,
     graph: &mut I,
     queries: &mut J,
     output: &mut O,
     options: &Options,
-    plan: &Plan,
-    gate: &G,
 ) -> Result<(), RunFault>
     requires graph { CanCountOneMore (I.failed graph.old) }
     requires queries { CanCountOneMore (J.failed queries.old) }
@@ -71,23 +68,20 @@ pub fn run_dist<R: Threads + Sync, I: Input, J: Input, O: Output, G: Gate>(
     ensures unwritten { (output.new ≡ output.old)
         ⊎ (IfErr result IsWrite × AcceptsQueries (reading I.left graph.old graph.new) (reading J.left queries.old queries.new)) }
 {
-    gate.watch(Stage::Reading, 0, 1);
-    let graph = graph_from(alloc, graph)?;
-    let queries = queries_from(alloc, queries, &graph)?;
-    let text = text_of(rt, alloc, graph, &queries, options, plan, gate)?;
+    crew.gate.watch(Stage::Reading, 0, 1);
+    let graph = graph_from(crew.alloc, graph)?;
+    let queries = queries_from(crew.alloc, queries, &graph)?;
+    let text = text_of(crew, graph, &queries, options)?;
     write_text(output, &text)
 }
 
 /// The text that answers the queries, by the way that the options name. The graph is dropped once its hierarchy is built, so
 /// that its memory serves the answers.
 fn text_of<R: Threads + Sync, G: Gate>(
-    rt: &R,
-    alloc: Global,
+    crew: &Crew<'_, R, G>,
     graph: Graph,
     queries: &[(u32, u32)],
     options: &Options,
-    plan: &Plan,
-    gate: &G,
 ) -> Result<Vec<u8>, AllocError>
     requires queries { AreQueries graph.nodes queries.now }
     requires count { length queries.now ≤ MOST_QUERIES }
@@ -95,20 +89,12 @@ fn text_of<R: Threads + Sync, G: Gate>(
     ensures { IfOk result (λ text. IsText options.now graph queries.now text.items) }
 {
     if options.plain {
-        return plain_text(alloc, &graph, queries, gate);
+        return plain_text(crew.alloc, &graph, queries, crew.gate);
     }
     let routes = options.routes;
-    let hierarchy = build_by(
-        rt,
-        alloc,
-        &graph,
-        options.hops,
-        order_for(options),
-        plan,
-        gate,
-    )?;
+    let hierarchy = build_by(crew, &graph, options.hops, order_for(options))?;
     drop(graph);
-    answers_by(rt, alloc, &hierarchy, queries, routes, plan, gate)
+    answers_by(crew, &hierarchy, queries, routes)
 }
 
 /// The order of the hierarchy by which queries are answered: for routes the one that is wanted, and for distances, which

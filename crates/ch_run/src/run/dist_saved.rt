@@ -18,8 +18,8 @@ use super::texts::{answers_by, plain_text};
 use crate::device::{Input, Output};
 use crate::fault::{RunFault, Which};
 use crate::options::Options;
-use crate::plan::{Gate, Plan};
-use std::alloc::{AllocError, Global};
+use crate::plan::{Crew, Gate};
+use std::alloc::AllocError;
 use std::thread::Threads;
 
 /// Reads a graph, a hierarchy that was saved, by whatever program, and then queries, and writes the answer to
@@ -35,15 +35,12 @@ use std::thread::Threads;
 /// queries, a device that refused a read, or want of memory: nothing was written then. `Write(count)`, where the
 /// output took `count` bytes of the text and no more.
 pub fn run_dist_saved<R: Threads + Sync, I: Input, S: Input, J: Input, O: Output, G: Gate>(
-    rt: &R,
-    alloc: Global,
+    crew: &Crew<'_, R, G>,
     graph: &mut I,
     saved: &mut S,
     queries: &mut J,
     output: &mut O,
     options: &Options,
-    plan: &Plan,
-    gate: &G,
 ) -> Result<(), RunFault>
     requires graph { CanCountOneMore (I.failed graph.old) }
     requires saved { CanCountOneMore (S.failed saved.old) }
@@ -88,21 +85,18 @@ pub fn run_dist_saved<R: Threads + Sync, I: Input, S: Input, J: Input, O: Output
         ⊎ (IfErr result IsWrite
         × AcceptsQueriesFrom (reading I.left graph.old graph.new) (reading S.left saved.old saved.new) (reading J.left queries.old queries.new)) }
 {
-    let checked = checked_from(alloc, graph, saved, gate)?;
-    let queries = queries_from(alloc, queries, &checked.graph)?;
-    let text = text_by(rt, alloc, &checked, &queries, options, plan, gate)?;
+    let checked = checked_from(crew, graph, saved)?;
+    let queries = queries_from(crew.alloc, queries, &checked.graph)?;
+    let text = text_by(crew, &checked, &queries, options)?;
     write_text(output, &text)
 }
 
 /// The text that answers the queries, by the way that the options name.
 fn text_by<R: Threads + Sync, G: Gate>(
-    rt: &R,
-    alloc: Global,
+    crew: &Crew<'_, R, G>,
     checked: &Checked,
     queries: &[(u32, u32)],
     options: &Options,
-    plan: &Plan,
-    gate: &G,
 ) -> Result<Vec<u8>, AllocError>
     requires limits { IsWithinLimits checked.now.graph }
     requires kept { IsKept checked.now.graph checked.now.hierarchy }
@@ -111,8 +105,8 @@ fn text_by<R: Threads + Sync, G: Gate>(
     ensures { IfOk result (λ text. IsTextBy (writes_routes options.now) checked.now.graph (λ H. H ≡ checked.now.hierarchy) queries.now text.items) }
 {
     if options.plain {
-        return plain_text(alloc, &checked.graph, queries, gate);
+        return plain_text(crew.alloc, &checked.graph, queries, crew.gate);
     }
     let routes = options.routes;
-    answers_by(rt, alloc, &checked.hierarchy, queries, routes, plan, gate)
+    answers_by(crew, &checked.hierarchy, queries, routes)
 }

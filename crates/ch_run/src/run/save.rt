@@ -11,10 +11,9 @@ use super::output::write_text;
 use crate::device::{Input, Output};
 use crate::fault::{RunFault, Which};
 use crate::options::Options;
-use crate::plan::{Gate, Plan, Stage};
+use crate::plan::{Crew, Gate, Stage};
 use crate::save_text::save_text;
 use ch_contract::build_by;
-use std::alloc::Global;
 use std::thread::Threads;
 
 /// Reads a graph, builds its contraction hierarchy, and writes it as a saved hierarchy.
@@ -26,13 +25,10 @@ use std::thread::Threads;
 /// The first fault of the graph, a device that refused a read, or want of memory: nothing was written then.
 /// `Write(count)`, where the output took `count` bytes of the text and no more.
 pub fn run_save<R: Threads + Sync, I: Input, O: Output, G: Gate>(
-    rt: &R,
-    alloc: Global,
+    crew: &Crew<'_, R, G>,
     graph: &mut I,
     output: &mut O,
     options: &Options,
-    plan: &Plan,
-    gate: &G,
 ) -> Result<(), RunFault>
     requires graph { CanCountOneMore (I.failed graph.old) }
     requires failures { CanCountOneMore (O.failed output.old) }
@@ -60,10 +56,10 @@ pub fn run_save<R: Threads + Sync, I: Input, O: Output, G: Gate>(
     ensures unwritten { (output.new ≡ output.old)
         ⊎ (IfErr result IsWrite × AcceptsGraph (reading I.left graph.old graph.new)) }
 {
-    gate.watch(Stage::Reading, 0, 1);
-    let graph = graph_from(alloc, graph)?;
-    let hierarchy = build_by(rt, alloc, &graph, options.hops, options.order, plan, gate)?;
+    crew.gate.watch(Stage::Reading, 0, 1);
+    let graph = graph_from(crew.alloc, graph)?;
+    let hierarchy = build_by(crew, &graph, options.hops, options.order)?;
     drop(graph);
-    let text = save_text(alloc, &hierarchy)?;
+    let text = save_text(crew.alloc, &hierarchy)?;
     write_text(output, &text)
 }

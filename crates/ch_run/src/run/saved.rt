@@ -10,12 +10,13 @@ ghost use Rattle.ch_run.specs.SavedRun.{AreChecked, HasCheckRefused, HasSavedRef
 use super::inputs::{bytes_from, graph_from};
 use crate::device::Input;
 use crate::fault::{RunFault, Which};
-use crate::plan::{Gate, Stage};
+use crate::plan::{Crew, Gate, Stage};
 use ch_contract::{CheckError, Hierarchy};
 use ch_graph::{Graph, Saved};
 use ch_query::check_watched;
 use ch_read::read_saved;
 use std::alloc::Global;
+use std::thread::Threads;
 
 /// A graph, and a hierarchy that is right for it.
 #[derive(Drop)]
@@ -25,11 +26,10 @@ pub(crate) struct Checked {
 }
 
 /// Reads a graph to its end, and then a saved hierarchy, which is checked for the graph.
-pub(crate) fn checked_from<I: Input, S: Input, G: Gate>(
-    alloc: Global,
+pub(crate) fn checked_from<R: Threads + Sync, I: Input, S: Input, G: Gate>(
+    crew: &Crew<'_, R, G>,
     graph: &mut I,
     saved: &mut S,
-    gate: &G,
 ) -> Result<Checked, RunFault>
     requires graph { CanCountOneMore (I.failed graph.old) }
     requires saved { CanCountOneMore (S.failed saved.old) }
@@ -52,13 +52,13 @@ pub(crate) fn checked_from<I: Input, S: Input, G: Gate>(
     ensures saved_unread { (saved.new ≡ saved.old)
         ⊎ (GoesPast Which.Graph result × AcceptsGraph (reading I.left graph.old graph.new)) }
 {
-    gate.watch(Stage::Reading, 0, 2);
-    let graph = graph_from(alloc, graph)?;
+    crew.gate.watch(Stage::Reading, 0, 2);
+    let graph = graph_from(crew.alloc, graph)?;
     // The getter tells the proof that the graph keeps the limits.
     let _ = graph.arcs();
-    gate.watch(Stage::Reading, 1, 2);
-    let saved = saved_from(alloc, saved, &graph)?;
-    match check_watched(alloc, &graph, saved, gate) {
+    crew.gate.watch(Stage::Reading, 1, 2);
+    let saved = saved_from(crew.alloc, saved, &graph)?;
+    match check_watched(crew, &graph, saved) {
         Ok(hierarchy) => Ok(Checked { graph, hierarchy }),
         Err(CheckError::Fault(fault)) => Err(RunFault::Check(fault)),
         Err(CheckError::NoMemory) => Err(RunFault::Memory),

@@ -1,5 +1,5 @@
 //! Requests, read and answered as they come.
-ghost use Rattle.std.specs.Prelude.{◌≡◌, ◌+◌, ◌^◌, ◌<◌, ◌≤◌, ◌↔◌, length, List, IfErr, IfOk, OnOk};
+ghost use Rattle.std.specs.Prelude.{◌≡◌, ◌+◌, ◌^◌, ◌<◌, ◌≤◌, ◌↔◌, length, List, All, IfErr, IfOk, OnOk};
 ghost use Rattle.ch_graph.specs.Graph.{IsWithinLimits};
 ghost use Rattle.ch_hierarchy.specs.Hierarchy.{nodes_of};
 ghost use Rattle.ch_hierarchy.specs.Kept.{IsKept};
@@ -15,10 +15,9 @@ use super::saved::Checked;
 use crate::device::{Input, Output};
 use crate::fault::{RunFault, Which};
 use crate::options::Options;
-use crate::plan::{Gate, Plan};
+use crate::plan::{Crew, Gate};
 use ch_query::Scratch;
 use ch_read::RequestReader;
-use std::alloc::Global;
 use std::thread::Threads;
 
 /// How many bytes of requests are read at once.
@@ -26,14 +25,11 @@ const ROOM: usize = 65_536;
 
 /// Reads requests to their end, and answers each as soon as it is whole, before the next read.
 pub(crate) fn serve<R: Threads + Sync, J: Input, O: Output, G: Gate>(
-    rt: &R,
-    alloc: Global,
+    crew: &Crew<'_, R, G>,
     checked: &Checked,
     requests: &mut J,
     output: &mut O,
     options: &Options,
-    plan: &Plan,
-    gate: &G,
 ) -> Result<(), RunFault>
     requires limits { IsWithinLimits checked.now.graph }
     requires kept { IsKept checked.now.graph checked.now.hierarchy }
@@ -47,39 +43,33 @@ pub(crate) fn serve<R: Threads + Sync, J: Input, O: Output, G: Gate>(
     ensures once { CountsAtMostOne (J.failed requests.old) (J.failed requests.new) }
     ensures counts { CountsWrites (O.failed output.old) (O.failed output.new) (O.idle output.old) (O.idle output.new) result }
 {
-    let mut buffer = Vec::from_elem(alloc, 0, ROOM)?;
-    let mut scratch = Scratch::new(alloc, checked.hierarchy.nodes())?;
+    let mut buffer = Vec::from_elem(crew.alloc, 0, ROOM)?;
+    let mut scratches = Vec::new(crew.alloc);
     serve_in(
-        rt,
-        alloc,
+        crew,
         checked,
         &mut buffer,
-        &mut scratch,
+        &mut scratches,
         requests,
         output,
         options,
-        plan,
-        gate,
     )
 }
 
-/// The same in the room that the caller made: for what is read at once, and for the queries of one worker.
+/// The same in the room that the caller made: for what is read at once, and for the workers who answer queries.
 fn serve_in<R: Threads + Sync, J: Input, O: Output, G: Gate>(
-    rt: &R,
-    alloc: Global,
+    crew: &Crew<'_, R, G>,
     checked: &Checked,
     buffer: &mut [u8],
-    scratch: &mut Scratch,
+    scratches: &mut Vec<Scratch>,
     requests: &mut J,
     output: &mut O,
     options: &Options,
-    plan: &Plan,
-    gate: &G,
 ) -> Result<(), RunFault>
     requires limits { IsWithinLimits checked.now.graph }
     requires kept { IsKept checked.now.graph checked.now.hierarchy }
     requires buffer { 0 < length buffer.old }
-    requires scratch { scratch.old ≡ nodes_of checked.now.hierarchy }
+    requires scratches { All (λ scratch. scratch ≡ nodes_of checked.now.hierarchy) scratches.old.items }
     requires requests { CanCountOneMore (J.failed requests.old) }
     requires failures { CanCountOneMore (O.failed output.old) }
     requires zeros { CanCountOneMore (O.idle output.old) }
@@ -90,24 +80,21 @@ fn serve_in<R: Threads + Sync, J: Input, O: Output, G: Gate>(
     ensures once { CountsAtMostOne (J.failed requests.old) (J.failed requests.new) }
     ensures counts { CountsWrites (O.failed output.old) (O.failed output.new) (O.idle output.old) (O.idle output.new) result }
 {
-    let mut reader = RequestReader::new(alloc, checked.graph.nodes());
+    let mut reader = RequestReader::new(crew.alloc, checked.graph.nodes());
     let mut written = 0;
     for _ in 0..u64::MAX {
         let count = read_once(requests, buffer)?;
         let ended = count == 0;
         reader.feed(&buffer[..count])?;
         answer_whole(
-            rt,
-            alloc,
+            crew,
             checked,
-            scratch,
+            scratches,
             &mut reader,
             ended,
             output,
             &mut written,
             options,
-            plan,
-            gate,
         )?;
         if ended {
             return Ok(());
@@ -132,21 +119,18 @@ fn read_once<J: Input>(requests: &mut J, buffer: &mut [u8]) -> Result<usize, Run
 
 /// Answers all requests that are whole.
 fn answer_whole<R: Threads + Sync, O: Output, G: Gate>(
-    rt: &R,
-    alloc: Global,
+    crew: &Crew<'_, R, G>,
     checked: &Checked,
-    scratch: &mut Scratch,
+    scratches: &mut Vec<Scratch>,
     reader: &mut RequestReader,
     ended: bool,
     output: &mut O,
     written: &mut u64,
     options: &Options,
-    plan: &Plan,
-    gate: &G,
 ) -> Result<(), RunFault>
     requires limits { IsWithinLimits checked.now.graph }
     requires kept { IsKept checked.now.graph checked.now.hierarchy }
-    requires scratch { scratch.old ≡ nodes_of checked.now.hierarchy }
+    requires scratches { All (λ scratch. scratch ≡ nodes_of checked.now.hierarchy) scratches.old.items }
     requires nodes { reader.old.nodes ≡ checked.now.graph.nodes }
     requires counted { written.old < 2 ^ 64 }
     requires failures { CanCountOneMore (O.failed output.old) }
@@ -156,14 +140,12 @@ fn answer_whole<R: Threads + Sync, O: Output, G: Gate>(
         written.old written.new given result }
     ensures used_up { OnOk result (IsUsedUp ended reader.new) }
     ensures nodes { reader.new.nodes ≡ reader.old.nodes }
-    ensures scratch { OnOk result (scratch.new ≡ scratch.old) }
+    ensures scratches { All (λ scratch. scratch ≡ nodes_of checked.now.hierarchy) scratches.new.items }
     ensures counts { CountsWrites (O.failed output.old) (O.failed output.new) (O.idle output.old) (O.idle output.new) result }
 {
     for _ in 0..u64::MAX {
-        let batch = gather(alloc, reader, ended);
-        answer_batch(
-            rt, alloc, checked, scratch, &batch, output, written, options, plan, gate,
-        )?;
+        let batch = gather(crew.alloc, reader, ended);
+        answer_batch(crew, checked, scratches, &batch, output, written, options)?;
         if let Some(end) = batch.then.end() {
             return end;
         }

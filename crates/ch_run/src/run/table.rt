@@ -14,10 +14,10 @@ use super::texts::table_by;
 use crate::device::{Input, Output};
 use crate::fault::{RunFault, Which};
 use crate::options::Options;
-use crate::plan::{Gate, Plan, Stage};
+use crate::plan::{Crew, Gate, Stage};
 use ch_contract::{OrderBy, build_by};
 use ch_graph::Graph;
-use std::alloc::{AllocError, Global};
+use std::alloc::AllocError;
 use std::thread::Threads;
 
 /// Reads a graph, a list of sources and a list of targets, and writes a row for each source with the
@@ -32,15 +32,12 @@ use std::thread::Threads;
 /// there are more than 2^22 of them, or want of memory: nothing was written then. `Write(count)`, where
 /// the output took `count` bytes of the text and no more.
 pub fn run_table<R: Threads + Sync, I: Input, J: Input, L: Input, O: Output, G: Gate>(
-    rt: &R,
-    alloc: Global,
+    crew: &Crew<'_, R, G>,
     graph: &mut I,
     sources: &mut J,
     targets: &mut L,
     output: &mut O,
     options: &Options,
-    plan: &Plan,
-    gate: &G,
 ) -> Result<(), RunFault>
     requires graph { CanCountOneMore (I.failed graph.old) }
     requires sources { CanCountOneMore (J.failed sources.old) }
@@ -86,37 +83,31 @@ pub fn run_table<R: Threads + Sync, I: Input, J: Input, L: Input, O: Output, G: 
         ⊎ (IfErr result IsWrite
         × AcceptsLists (reading I.left graph.old graph.new) (reading J.left sources.old sources.new) (reading L.left targets.old targets.new)) }
 {
-    gate.watch(Stage::Reading, 0, 1);
-    let graph = graph_from(alloc, graph)?;
-    let lists = lists_from(alloc, sources, targets, &graph)?;
-    let text = table_of(rt, alloc, graph, &lists, options, plan, gate)?;
+    crew.gate.watch(Stage::Reading, 0, 1);
+    let graph = graph_from(crew.alloc, graph)?;
+    let lists = lists_from(crew.alloc, sources, targets, &graph)?;
+    let text = table_of(crew, graph, &lists, options)?;
     write_text(output, &text)
 }
 
 /// The text of the table of these lists, by the hierarchy that is built for it. The graph is dropped once it is.
 fn table_of<R: Threads + Sync, G: Gate>(
-    rt: &R,
-    alloc: Global,
+    crew: &Crew<'_, R, G>,
     graph: Graph,
     lists: &Lists,
     options: &Options,
-    plan: &Plan,
-    gate: &G,
 ) -> Result<Vec<u8>, AllocError>
     requires hops { IsHopBound options.now.hops }
     requires lists { AreLists graph.nodes lists.now.sources.items lists.now.targets.items }
     ensures { IfOk result (λ text. IsTableText graph options.now.within lists.now.sources.items lists.now.targets.items text.items) }
 {
-    let hierarchy = build_by(rt, alloc, &graph, options.hops, OrderBy::Depth, plan, gate)?;
+    let hierarchy = build_by(crew, &graph, options.hops, OrderBy::Depth)?;
     drop(graph);
     table_by(
-        rt,
-        alloc,
+        crew,
         &hierarchy,
         &lists.sources,
         &lists.targets,
         options.within,
-        plan,
-        gate,
     )
 }

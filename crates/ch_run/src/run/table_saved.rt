@@ -13,8 +13,7 @@ use super::texts::table_by;
 use crate::device::{Input, Output};
 use crate::fault::{RunFault, Which};
 use crate::options::Options;
-use crate::plan::{Gate, Plan};
-use std::alloc::Global;
+use crate::plan::{Crew, Gate};
 use std::thread::Threads;
 
 /// Reads a graph, a hierarchy that was saved, by whatever program, a list of sources and a list of targets, and
@@ -37,16 +36,13 @@ pub fn run_table_saved<
     O: Output,
     G: Gate,
 >(
-    rt: &R,
-    alloc: Global,
+    crew: &Crew<'_, R, G>,
     graph: &mut I,
     saved: &mut S,
     sources: &mut J,
     targets: &mut L,
     output: &mut O,
     options: &Options,
-    plan: &Plan,
-    gate: &G,
 ) -> Result<(), RunFault>
     requires graph { CanCountOneMore (I.failed graph.old) }
     requires saved { CanCountOneMore (S.failed saved.old) }
@@ -101,17 +97,14 @@ pub fn run_table_saved<
         ⊎ (IfErr result IsWrite
         × AcceptsListsFrom (reading I.left graph.old graph.new) (reading S.left saved.old saved.new) (reading J.left sources.old sources.new) (reading L.left targets.old targets.new)) }
 {
-    let checked = checked_from(alloc, graph, saved, gate)?;
-    let lists = lists_from(alloc, sources, targets, &checked.graph)?;
+    let checked = checked_from(crew, graph, saved)?;
+    let lists = lists_from(crew.alloc, sources, targets, &checked.graph)?;
     let text = table_by(
-        rt,
-        alloc,
+        crew,
         &checked.hierarchy,
         &lists.sources,
         &lists.targets,
         options.within,
-        plan,
-        gate,
     )?;
     write_text(output, &text)
 }

@@ -1,5 +1,5 @@
 //! The texts of runs, made whole before the first write.
-ghost use Rattle.std.specs.Prelude.{◌≡◌, ◌≤◌, length, IfOk, OnOk};
+ghost use Rattle.std.specs.Prelude.{◌≡◌, ◌≤◌, length, All, IfOk, OnOk};
 ghost use Rattle.std.specs.List.{AllZip};
 ghost use Rattle.ch_graph.specs.declared.limits.TheConstants.{MOST_QUERIES};
 ghost use Rattle.ch_graph.specs.Graph.{Network, IsWithinLimits};
@@ -11,7 +11,7 @@ ghost use Rattle.ch_run.specs.Text.{AnswersShortly, IsDistanceText, IsTextBy};
 ghost use Rattle.ch_run.specs.TableText.{IsTableText};
 ghost use Rattle.ch_run.specs.Lists.{AreLists};
 
-use crate::plan::{Gate, Plan, Stage};
+use crate::plan::{Crew, Gate, Stage};
 use crate::text::{answers_text, table_text};
 use ch_contract::Hierarchy;
 use ch_graph::{Graph, plain_distance};
@@ -22,13 +22,10 @@ use std::thread::Threads;
 
 /// The text that answers the queries by a hierarchy, with the routes where they are wanted.
 pub(crate) fn answers_by<R: Threads + Sync, G: Gate>(
-    rt: &R,
-    alloc: Global,
+    crew: &Crew<'_, R, G>,
     hierarchy: &Hierarchy,
     queries: &[(u32, u32)],
     routes: bool,
-    plan: &Plan,
-    gate: &G,
 ) -> Result<Vec<u8>, AllocError>
     requires kept { IsKeptForSome hierarchy.now }
     requires queries { AreQueries (nodes_of hierarchy.now) queries.now }
@@ -36,55 +33,28 @@ pub(crate) fn answers_by<R: Threads + Sync, G: Gate>(
     ensures { IfOk result (λ text. (g : Network) → IsWithinLimits g → IsKept g hierarchy.now →
         IsTextBy routes g (λ H. H ≡ hierarchy.now) queries.now text.items) }
 {
-    let answers = answer_all(rt, alloc, hierarchy, queries, routes, plan, gate)?;
-    answers_text(alloc, &answers)
+    let answers = answer_all(crew, hierarchy, queries, routes)?;
+    answers_text(crew.alloc, &answers)
 }
 
-/// As [`answers_by`], in a scratch that the caller has, where the plan gives all queries to one worker.
+/// As [`answers_by`], in scratches that the caller has.
 pub(crate) fn answers_in<R: Threads + Sync, G: Gate>(
-    rt: &R,
-    alloc: Global,
+    crew: &Crew<'_, R, G>,
     hierarchy: &Hierarchy,
-    scratch: &mut Scratch,
+    scratches: &mut Vec<Scratch>,
     queries: &[(u32, u32)],
     routes: bool,
-    plan: &Plan,
-    gate: &G,
 ) -> Result<Vec<u8>, AllocError>
     requires kept { IsKeptForSome hierarchy.now }
-    requires scratch { scratch.old ≡ nodes_of hierarchy.now }
+    requires scratches { All (λ scratch. scratch ≡ nodes_of hierarchy.now) scratches.old.items }
     requires queries { AreQueries (nodes_of hierarchy.now) queries.now }
     requires count { length queries.now ≤ MOST_QUERIES }
     ensures text { IfOk result (λ text. (g : Network) → IsWithinLimits g → IsKept g hierarchy.now →
         IsTextBy routes g (λ H. H ≡ hierarchy.now) queries.now text.items) }
-    ensures scratch { OnOk result (scratch.new ≡ scratch.old) }
+    ensures scratches { All (λ scratch. scratch ≡ nodes_of hierarchy.now) scratches.new.items }
 {
-    let answers = replies_in(rt, alloc, hierarchy, scratch, queries, routes, plan, gate)?;
-    answers_text(alloc, &answers)
-}
-
-/// The answers to the queries, in the scratch where they are one worker's.
-fn replies_in<R: Threads + Sync, G: Gate>(
-    rt: &R,
-    alloc: Global,
-    hierarchy: &Hierarchy,
-    scratch: &mut Scratch,
-    queries: &[(u32, u32)],
-    routes: bool,
-    plan: &Plan,
-    gate: &G,
-) -> Result<Vec<Answer>, AllocError>
-    requires kept { IsKeptForSome hierarchy.now }
-    requires scratch { scratch.old ≡ nodes_of hierarchy.now }
-    requires queries { AreQueries (nodes_of hierarchy.now) queries.now }
-    requires count { length queries.now ≤ MOST_QUERIES }
-    ensures answers { IfOk result (λ answers. AllZip (IsReply hierarchy.now routes) queries.now answers.items) }
-    ensures scratch { OnOk result (scratch.new ≡ scratch.old) }
-{
-    if plan.workers() == 1 || queries.len() <= plan.piece() as usize {
-        return answer_all_in(alloc, hierarchy, scratch, queries, routes, plan, gate);
-    }
-    answer_all(rt, alloc, hierarchy, queries, routes, plan, gate)
+    let answers = answer_all_in(crew, hierarchy, scratches, queries, routes)?;
+    answers_text(crew.alloc, &answers)
 }
 
 /// The text that answers the queries by rounds over all arcs, without a hierarchy and without routes.
@@ -129,20 +99,17 @@ fn plain_answers<G: Gate>(
 
 /// The text of the table of these lists, by a hierarchy.
 pub(crate) fn table_by<R: Threads + Sync, G: Gate>(
-    rt: &R,
-    alloc: Global,
+    crew: &Crew<'_, R, G>,
     hierarchy: &Hierarchy,
     sources: &[u32],
     targets: &[u32],
     within: Option<u64>,
-    plan: &Plan,
-    gate: &G,
 ) -> Result<Vec<u8>, AllocError>
     requires kept { IsKeptForSome hierarchy.now }
     requires lists { AreLists (nodes_of hierarchy.now) sources.now targets.now }
     ensures { IfOk result (λ text. (g : Network) → IsWithinLimits g → IsKept g hierarchy.now →
         IsTableText g within sources.now targets.now text.items) }
 {
-    let cells = table(rt, alloc, hierarchy, sources, targets, within, plan, gate)?;
-    table_text(alloc, sources, &cells)
+    let cells = table(crew, hierarchy, sources, targets, within)?;
+    table_text(crew.alloc, sources, &cells)
 }

@@ -42,7 +42,7 @@ fn a_line_tells_the_stage_what_is_done_and_the_time_left(rt: HostRuntime) -> Res
         ),
         (
             progress(Stage::Checking, 1_000_000, 4_294_967_295, 7_000),
-            "chtab: checking the saved hierarchy, 1,000,000 of 4,294,967,295 nodes, about 9 h left",
+            "chtab: checking the saved hierarchy, 1,000,000 of 4,294,967,295 pieces, about 9 h left",
         ),
         (
             progress(Stage::Searching, 999, 1_000, 99_000),

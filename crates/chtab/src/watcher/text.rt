@@ -30,8 +30,8 @@ pub fn stage_of(number: u32) -> Stage {
 /// Whether the steps of a stage are pieces, which workers claim in order.
 pub fn is_cut_in_pieces(stage: Stage) -> bool {
     match stage {
-        Stage::Ranking | Stage::Searching | Stage::Answering => true,
-        Stage::Reading | Stage::Building | Stage::Checking => false,
+        Stage::Ranking | Stage::Checking | Stage::Searching | Stage::Answering => true,
+        Stage::Reading | Stage::Building => false,
     }
 }
 
@@ -87,8 +87,8 @@ impl Progress {
     fn steps(&self) -> &'static str {
         match self.stage {
             Stage::Reading => "files",
-            Stage::Building | Stage::Checking => "nodes",
-            Stage::Ranking | Stage::Searching | Stage::Answering => "pieces",
+            Stage::Building => "nodes",
+            Stage::Ranking | Stage::Checking | Stage::Searching | Stage::Answering => "pieces",
         }
     }
 }

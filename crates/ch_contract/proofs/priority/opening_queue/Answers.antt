@@ -16,17 +16,17 @@ within n count items lent a b e = subst (All (λ x. x < n)) (sym (a ∙ b ∙ ap
 few : (n count : ℕ) (items lent : List ℕ) → lent ≡ items → items ≡ range_with_len 0 count → count ≡ n → n ≤ MOST_NODES → length lent < 2 ^ 32
 few n count items lent a b e most = omega (arith, ap length (a ∙ b ∙ ap (range_with_len 0) e), length-range_with_len 0 n)
 
-pub run_list-requires-clause-takes : goal.run_list-requires-clause-takes
-run_list-requires-clause-takes g c lifetimes bounds = within _ _ _ _ c.as_slice.ensures.value c.in_ok-nodes.ensures c.nodes.ensures.nodes
+pub run_list_in-requires-clause-takes : goal.run_list_in-requires-clause-takes
+run_list_in-requires-clause-takes g c lifetimes bounds = within _ _ _ _ c.as_slice.ensures.value c.in_ok-nodes.ensures c.nodes.ensures.nodes
 
-pub run_list-requires-clause-length : goal.run_list-requires-clause-length
-run_list-requires-clause-length g c lifetimes bounds = few _ _ _ _ c.as_slice.ensures.value c.in_ok-nodes.ensures c.nodes.ensures.nodes c.nodes.ensures.count
+pub run_list_in-requires-clause-length : goal.run_list_in-requires-clause-length
+run_list_in-requires-clause-length g c lifetimes bounds = few _ _ _ _ c.as_slice.ensures.value c.in_ok-nodes.ensures c.nodes.ensures.nodes c.nodes.ensures.count
 
 pub set_all-requires-clause-nodes : goal.set_all-requires-clause-nodes
 set_all-requires-clause-nodes g c = within _ _ _ _ c.as_slice-2.ensures.value c.in_ok-nodes.ensures c.nodes.ensures.nodes
 
-pub returns : goal.returns
-returns g c =
+pub returns-clause-queue : goal.returns-clause-queue
+returns-clause-queue g c =
     let n = c.args.remaining.now.nodes in
     let P = IsPriorityIn c.args.by c.args.remaining.now c.args.hops c.args.depths.now in
     let numbers = c.as_slice-2.ensures.value ∙ (c.in_ok-nodes.ensures ∙ ap (range_with_len 0) c.nodes.ensures.nodes) in

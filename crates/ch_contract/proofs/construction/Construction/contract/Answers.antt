@@ -47,6 +47,7 @@ deepened v nodes lent old before after written a b e d = subst (AreDeepened node
 pub is_stepped : (g : _) (c : After-drop-neighbours-2 g) → IsStepped c.args.by c.args.hops c.args.self c.args.node (record {
   remaining = c.in_ok-self.field-0;
   room = c.refresh.new.room;
+  rooms = c.refresh.new.rooms;
   waiting = c.refresh.new.waiting;
   depths = with_items c.args.self.depths c.deepen.new.depths;
   levels = with_item c.args.self.levels c.args.node (c.args.self.contracted + 1);

@@ -12,13 +12,14 @@ returns-clause-begun g c =
     let first : Construction = record {
       remaining = c.in_ok-remaining.remaining;
       room = c.new-room.result;
+      rooms = c.opening_queue.new.rooms;
       waiting = c.in_ok-waiting.waiting;
       depths = c.in_ok-depths.depths;
       levels = c.in_ok-levels.levels;
       contracted = 0;
     } in
-    let priorities = subst (λ (d : List ℕ). ArePriorities (IsPriorityIn c.args.by c.in_ok-remaining.remaining c.args.hops d) c.in_ok-remaining.remaining.nodes c.in_ok-waiting.waiting) c.as_slice.ensures.value c.in_ok-waiting.ensures in
+    let priorities = subst (λ (d : List ℕ). ArePriorities (IsPriorityIn c.args.by c.in_ok-remaining.remaining c.args.hops d) c.in_ok-remaining.remaining.nodes c.in_ok-waiting.waiting) c.as_slice.ensures.value c.in_ok-waiting.ensures.queue in
     opened c.args.by c.args.graph.now c.args.hops first c.in_ok-remaining.ensures.legs c.in_ok-remaining.ensures.nodes c.nodes-nodes.ensures.limits priorities (λ x. ap (λ (l : List ℕ). slice_index l x) (c.in_ok-depths.ensures.items_if_clones_equal (λ y p. p)) ∙ zeros c.nodes-nodes.result x) refl
 
 pub returns-clause-ready : goal.returns-clause-ready
-returns-clause-ready g c = c.new-room.ensures c.in_ok-remaining.remaining.nodes c.args.hops (legs_of c.in_ok-remaining.remaining)
+returns-clause-ready g c = (c.new-room.ensures c.in_ok-remaining.remaining.nodes c.args.hops (legs_of c.in_ok-remaining.remaining), c.in_ok-waiting.ensures.rooms)

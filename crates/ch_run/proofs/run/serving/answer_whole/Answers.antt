@@ -12,7 +12,7 @@ use Rattle.ch_run.proofs.run.serving.answer_whole.Goals as goal
 pub loop-init : goal.loop-init
 loop-init g c = record {
   nodes = refl;
-  scratch = refl;
+  scratches = c.requires.scratches;
   answered = ([], gives_none c.args.ended c.args.reader.now, answers_none (IsRequestText c.args.options.now c.args.checked.now.graph (λ H. H ≡ c.args.checked.now.hierarchy)) (g.O.Output.taken c.args.output.now) c.args.written.now c.requires.counted);
   failed = refl;
   idle = refl;
@@ -57,7 +57,7 @@ loop-preserved g c =
     let same = counted_well _ _ _ _ c.in_ok-answer_batch.ensures.counts in
     record {
       nodes = c.gather-batch.ensures.nodes ∙ c.loop.invariant.nodes;
-      scratch = c.in_ok-answer_batch.ensures.scratch ∙ c.loop.invariant.scratch;
+      scratches = c.in_ok-answer_batch.ensures.scratches;
       answered = (
         so_far.0 ++ these,
         gives_more c.args.ended c.args.reader.now c.loop.reader c.gather-batch.new.reader so_far.0 these so_far.1

@@ -1,4 +1,5 @@
-use Rattle.std.proofs.Common.{◌≡◌, List, Ok}
+use Rattle.std.proofs.Common.{◌≡◌, All, List, Ok}
+use Rattle.ch_hierarchy.specs.Hierarchy.{nodes_of}
 use Rattle.ch_read.specs.declared.request.Request.{Request}
 use Rattle.ch_read.specs.Requests.{Gives}
 use Rattle.ch_run.specs.Ask.{IsRequestText}
@@ -9,7 +10,7 @@ use Rattle.ch_run.proofs.run.serving.answer_whole.Given as goal
 abbrev pub invariant-loop : goal.invariant-loop
 invariant-loop g l = record {
   nodes : l.reader.nodes ≡ l.initial.reader.nodes;
-  scratch : l.scratch ≡ l.initial.scratch;
+  scratches : All (λ scratch. scratch ≡ nodes_of l.checked.hierarchy) l.scratches.items;
   answered : (given : List Request) × Gives l.ended l.initial.reader l.reader given
       × Answers {T = Unit} (IsRequestText l.options l.checked.graph (λ H. H ≡ l.checked.hierarchy)) (g.O.Output.taken l.initial.output) (g.O.Output.taken l.output)
       l.initial.written l.written given (Ok tt);

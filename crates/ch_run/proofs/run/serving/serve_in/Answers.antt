@@ -16,7 +16,7 @@ loop-init g c =
     let n = c.args.checked.now.graph.nodes in
     record {
       room = c.requires.buffer;
-      scratch = c.requires.scratch;
+      scratches = c.requires.scratches;
       served = rw (c.new-reader.ensures, c.nodes.ensures) (served_none P n (g.J.Input.left c.args.requests.now) (g.O.Output.taken c.args.output.now));
       reads = refl;
       failed = refl;
@@ -34,7 +34,7 @@ loop-preserved g c =
     let same = counted_well _ _ _ _ c.in_ok-answer_whole.ensures.counts in
     record {
       room = room;
-      scratch = c.in_ok-answer_whole.ensures.scratch ∙ c.loop.invariant.scratch;
+      scratches = c.in_ok-answer_whole.ensures.scratches;
       served = fed_served P n (reading g.J.Input.left c.args.requests.now c.read_once.new.requests) _ _ _ _ _ c.feed.new.self c.answer_whole.new.reader answered.0 (c.in_ok-count.count == 0) (ne_eqb c.in_ok-count.count 0 c.if-ended.false) had answered.1 answered.2
           c.in_ok-answer_whole.ensures.used_up c.in_ok-answer_whole.ensures.nodes;
       reads = c.in_ok-count.ensures.failures ∙ (let so_far = c.loop.invariant.reads in omega arith);

@@ -1,4 +1,4 @@
-use Rattle.std.proofs.Common.{◌≡◌, ◌<◌, length}
+use Rattle.std.proofs.Common.{◌≡◌, ◌<◌, All, length}
 use Rattle.ch_hierarchy.specs.Hierarchy.{nodes_of}
 use Rattle.ch_run.specs.Ask.{IsRequestText}
 use Rattle.ch_run.specs.Run.{reading}
@@ -9,7 +9,7 @@ use Rattle.ch_run.proofs.run.serving.serve_in.Given as goal
 abbrev pub invariant-loop : goal.invariant-loop
 invariant-loop g l = record {
   room : 0 < length l.buffer;
-  scratch : l.scratch ≡ nodes_of l.checked.hierarchy;
+  scratches : All (λ scratch. scratch ≡ nodes_of l.checked.hierarchy) l.scratches.items;
   served : HasServed (IsRequestText l.options l.checked.graph (λ H. H ≡ l.checked.hierarchy)) l.checked.graph.nodes
       (reading g.J.Input.left l.initial.requests l.requests) (g.O.Output.taken l.initial.output) (g.O.Output.taken l.output) l.written l.reader;
   reads : g.J.Input.failed l.requests ≡ g.J.Input.failed l.initial.requests;
