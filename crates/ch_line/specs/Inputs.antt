@@ -61,50 +61,50 @@ Writes options (RequestsBy graph saved) left failed = WritesAnswers IsOfChecked 
 -- a run that answers queries ends in a fault of its own, and refuses a file for what it holds
 pub record EndsAnswers (graph queries : Reading) (result : Result Unit RunFault) : Type 0 where
   pub own : IfErr result IsOfDist
-  pub graph_refused : (fault : ReadFault) → result ≡ Err (RunFault.Graph fault) → IsGraphRefused graph fault
-  pub queries_refused : (fault : ReadFault) → result ≡ Err (RunFault.Queries fault) → HasQueriesRefused graph queries fault
+  pub graph_refused : (fault : ReadFault) → result ≡ Err (RunFault.Read Which.Graph fault) → IsGraphRefused graph fault
+  pub queries_refused : (fault : ReadFault) → result ≡ Err (RunFault.Read Which.Queries fault) → HasQueriesRefused graph queries fault
 
 -- so does one that answers queries by a saved hierarchy
 pub record EndsAnswersBy (graph saved queries : Reading) (result : Result Unit RunFault) : Type 0 where
   pub own : IfErr result IsOfDistSaved
-  pub graph_refused : (fault : ReadFault) → result ≡ Err (RunFault.Graph fault) → IsGraphRefused graph fault
-  pub saved_refused : (fault : ReadFault) → result ≡ Err (RunFault.Saved fault) → HasSavedRefused graph saved fault
+  pub graph_refused : (fault : ReadFault) → result ≡ Err (RunFault.Read Which.Graph fault) → IsGraphRefused graph fault
+  pub saved_refused : (fault : ReadFault) → result ≡ Err (RunFault.Read Which.Saved fault) → HasSavedRefused graph saved fault
   pub check_refused : (fault : CheckFault) → result ≡ Err (RunFault.Check fault) → HasCheckRefused graph saved fault
-  pub queries_refused : (fault : ReadFault) → result ≡ Err (RunFault.Queries fault) → HasQueriesRefusedFrom graph saved queries fault
+  pub queries_refused : (fault : ReadFault) → result ≡ Err (RunFault.Read Which.Queries fault) → HasQueriesRefusedFrom graph saved queries fault
 
 -- and one that makes a table
 pub record EndsTable (graph sources targets : Reading) (result : Result Unit RunFault) : Type 0 where
   pub own : IfErr result IsOfTable
-  pub graph_refused : (fault : ReadFault) → result ≡ Err (RunFault.Graph fault) → IsGraphRefused graph fault
-  pub sources_refused : (fault : ReadFault) → result ≡ Err (RunFault.Sources fault) → HasSourcesRefused graph sources fault
-  pub targets_refused : (fault : ReadFault) → result ≡ Err (RunFault.Targets fault) → HasTargetsRefused graph sources targets fault
+  pub graph_refused : (fault : ReadFault) → result ≡ Err (RunFault.Read Which.Graph fault) → IsGraphRefused graph fault
+  pub sources_refused : (fault : ReadFault) → result ≡ Err (RunFault.Read Which.Sources fault) → HasSourcesRefused graph sources fault
+  pub targets_refused : (fault : ReadFault) → result ≡ Err (RunFault.Read Which.Targets fault) → HasTargetsRefused graph sources targets fault
   pub cells_refused : result ≡ Err RunFault.Cells → HasCellsRefused graph sources targets
 
 -- and one that makes a table by a saved hierarchy
 pub record EndsTableBy (graph saved sources targets : Reading) (result : Result Unit RunFault) : Type 0 where
   pub own : IfErr result IsOfTableSaved
-  pub graph_refused : (fault : ReadFault) → result ≡ Err (RunFault.Graph fault) → IsGraphRefused graph fault
-  pub saved_refused : (fault : ReadFault) → result ≡ Err (RunFault.Saved fault) → HasSavedRefused graph saved fault
+  pub graph_refused : (fault : ReadFault) → result ≡ Err (RunFault.Read Which.Graph fault) → IsGraphRefused graph fault
+  pub saved_refused : (fault : ReadFault) → result ≡ Err (RunFault.Read Which.Saved fault) → HasSavedRefused graph saved fault
   pub check_refused : (fault : CheckFault) → result ≡ Err (RunFault.Check fault) → HasCheckRefused graph saved fault
-  pub sources_refused : (fault : ReadFault) → result ≡ Err (RunFault.Sources fault) → HasSourcesRefusedFrom graph saved sources fault
-  pub targets_refused : (fault : ReadFault) → result ≡ Err (RunFault.Targets fault) → HasTargetsRefusedFrom graph saved sources targets fault
+  pub sources_refused : (fault : ReadFault) → result ≡ Err (RunFault.Read Which.Sources fault) → HasSourcesRefusedFrom graph saved sources fault
+  pub targets_refused : (fault : ReadFault) → result ≡ Err (RunFault.Read Which.Targets fault) → HasTargetsRefusedFrom graph saved sources targets fault
   pub cells_refused : result ≡ Err RunFault.Cells → HasCellsRefusedFrom graph saved sources targets
 
 -- and one that saves a hierarchy
 pub record EndsHierarchy (graph : Reading) (result : Result Unit RunFault) : Type 0 where
   pub own : IfErr result IsOfSave
-  pub graph_refused : (fault : ReadFault) → result ≡ Err (RunFault.Graph fault) → IsGraphRefused graph fault
+  pub graph_refused : (fault : ReadFault) → result ≡ Err (RunFault.Read Which.Graph fault) → IsGraphRefused graph fault
 
 -- and one that answers requests, of whose own faults `Serves` speaks
 pub record EndsRequests (graph : Reading) (result : Result Unit RunFault) : Type 0 where
   pub own : IfErr result IsOfAsk
-  pub graph_refused : (fault : ReadFault) → result ≡ Err (RunFault.Graph fault) → IsGraphRefused graph fault
+  pub graph_refused : (fault : ReadFault) → result ≡ Err (RunFault.Read Which.Graph fault) → IsGraphRefused graph fault
 
 -- and one that answers requests by a saved hierarchy
 pub record EndsRequestsBy (graph saved : Reading) (result : Result Unit RunFault) : Type 0 where
   pub own : IfErr result IsOfAskSaved
-  pub graph_refused : (fault : ReadFault) → result ≡ Err (RunFault.Graph fault) → IsGraphRefused graph fault
-  pub saved_refused : (fault : ReadFault) → result ≡ Err (RunFault.Saved fault) → HasSavedRefused graph saved fault
+  pub graph_refused : (fault : ReadFault) → result ≡ Err (RunFault.Read Which.Graph fault) → IsGraphRefused graph fault
+  pub saved_refused : (fault : ReadFault) → result ≡ Err (RunFault.Read Which.Saved fault) → HasSavedRefused graph saved fault
   pub check_refused : (fault : CheckFault) → result ≡ Err (RunFault.Check fault) → HasCheckRefused graph saved fault
 
 -- the run for what is asked ends in a fault of its own, and refuses a file for what it holds

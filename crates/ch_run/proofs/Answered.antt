@@ -19,6 +19,7 @@ use Rattle.ch_run.specs.Text.{HasText, IsTextBy, AnswersShortly, AnswersWithRout
 use Rattle.ch_run.specs.Ask.{AreAnswered, IsRequestText, TookAnswers}
 use Rattle.ch_run.specs.declared.run.batch.Then.{Then}
 use Rattle.ch_run.specs.declared.run.batch.Then.TheVariants.{Table, More, Nothing, Stop}
+use Rattle.ch_run.specs.declared.fault.Which.{Which}
 use Rattle.ch_run.specs.Serving.{Answers, IsOfAnswering, IsWithin, WritesMore, end_of}
 use Rattle.ch_run.specs.Lists.{AreLists}
 use Rattle.ch_read.specs.declared.fault.ReadFault.{ReadFault}
@@ -113,13 +114,8 @@ module _ (IsTextOf : Request → List ℕ → Type 0) where
   written_answers old new before after requests text (Err RunFault.Memory) is h = absurd h
   written_answers old new before after requests text (Err RunFault.Cells) is h = absurd h
   written_answers old new before after requests text (Err (RunFault.Device which)) is h = absurd h
-  written_answers old new before after requests text (Err (RunFault.Graph f)) is h = absurd h
-  written_answers old new before after requests text (Err (RunFault.Queries f)) is h = absurd h
-  written_answers old new before after requests text (Err (RunFault.Sources f)) is h = absurd h
-  written_answers old new before after requests text (Err (RunFault.Targets f)) is h = absurd h
-  written_answers old new before after requests text (Err (RunFault.Saved f)) is h = absurd h
+  written_answers old new before after requests text (Err (RunFault.Read which f)) is h = absurd h
   written_answers old new before after requests text (Err (RunFault.Check f)) is h = absurd h
-  written_answers old new before after requests text (Err (RunFault.Requests f)) is h = absurd h
 
   -- nothing is answered where there is no memory
   pub answers_nothing : {T : Type 0} (old : Option (List ℕ)) (before after : ℕ) (requests : List Request) (r : Result T RunFault) → IsErrAnd r (λ y. y ≡ RunFault.Memory) → Answers IsTextOf old old before after requests r
@@ -139,17 +135,17 @@ module _ (IsTextOf : Request → List ℕ → Type 0) where
       not_own : {X : Type 0} → IsOfAnswering RunFault.Cells → X
       not_own (inl w) = absurd w
       not_own (inr m) = cc
-  answers_front old new before after xs ys (RunFault.Requests f) own h = not_own f own
+  answers_front old new before after xs ys (RunFault.Read Which.Requests f) own h = not_own f own
     where
-      not_own : {X : Type 0} (f : ReadFault) → IsOfAnswering (RunFault.Requests f) → X
+      not_own : {X : Type 0} (f : ReadFault) → IsOfAnswering (RunFault.Read Which.Requests f) → X
       not_own f (inl w) = absurd w
       not_own f (inr m) = cc
   answers_front old new before after xs ys (RunFault.Device which) own h = absurd h
-  answers_front old new before after xs ys (RunFault.Graph f) own h = absurd h
-  answers_front old new before after xs ys (RunFault.Queries f) own h = absurd h
-  answers_front old new before after xs ys (RunFault.Sources f) own h = absurd h
-  answers_front old new before after xs ys (RunFault.Targets f) own h = absurd h
-  answers_front old new before after xs ys (RunFault.Saved f) own h = absurd h
+  answers_front old new before after xs ys (RunFault.Read Which.Graph f) own h = absurd h
+  answers_front old new before after xs ys (RunFault.Read Which.Queries f) own h = absurd h
+  answers_front old new before after xs ys (RunFault.Read Which.Sources f) own h = absurd h
+  answers_front old new before after xs ys (RunFault.Read Which.Targets f) own h = absurd h
+  answers_front old new before after xs ys (RunFault.Read Which.Saved f) own h = absurd h
   answers_front old new before after xs ys (RunFault.Check f) own h = absurd h
 
   -- a fault that is passed on tells how many requests were answered
@@ -192,13 +188,13 @@ module _ (IsTextOf : Request → List ℕ → Type 0) where
         (cc),
       )
   answers_more old mid new before between after xs ys (Err RunFault.Cells) h k = took_append old mid new before between xs ys h k
-  answers_more old mid new before between after xs ys (Err (RunFault.Requests f)) h k = took_append old mid new before between xs ys h k
+  answers_more old mid new before between after xs ys (Err (RunFault.Read Which.Requests f)) h k = took_append old mid new before between xs ys h k
   answers_more old mid new before between after xs ys (Err (RunFault.Device which)) h k = absurd k
-  answers_more old mid new before between after xs ys (Err (RunFault.Graph f)) h k = absurd k
-  answers_more old mid new before between after xs ys (Err (RunFault.Queries f)) h k = absurd k
-  answers_more old mid new before between after xs ys (Err (RunFault.Sources f)) h k = absurd k
-  answers_more old mid new before between after xs ys (Err (RunFault.Targets f)) h k = absurd k
-  answers_more old mid new before between after xs ys (Err (RunFault.Saved f)) h k = absurd k
+  answers_more old mid new before between after xs ys (Err (RunFault.Read Which.Graph f)) h k = absurd k
+  answers_more old mid new before between after xs ys (Err (RunFault.Read Which.Queries f)) h k = absurd k
+  answers_more old mid new before between after xs ys (Err (RunFault.Read Which.Sources f)) h k = absurd k
+  answers_more old mid new before between after xs ys (Err (RunFault.Read Which.Targets f)) h k = absurd k
+  answers_more old mid new before between after xs ys (Err (RunFault.Read Which.Saved f)) h k = absurd k
   answers_more old mid new before between after xs ys (Err (RunFault.Check f)) h k = absurd k
 
   -- none were asked
@@ -219,14 +215,14 @@ module _ (IsTextOf : Request → List ℕ → Type 0) where
   answers_end n old new before after requests Nothing is h = h
   answers_end n old new before after requests (Stop RunFault.Memory) is h = (requests, [], sym (append-nil requests), (h.0, h.1, h.2))
   answers_end n old new before after requests (Stop RunFault.Cells) is h = (h.0, h.1, h.2)
-  answers_end n old new before after requests (Stop (RunFault.Requests f)) is h = (h.0, h.1, h.2)
+  answers_end n old new before after requests (Stop (RunFault.Read Which.Requests f)) is h = (h.0, h.1, h.2)
   answers_end n old new before after requests (Stop (RunFault.Write count)) is h = absurd is
   answers_end n old new before after requests (Stop (RunFault.Device which)) is h = absurd is
-  answers_end n old new before after requests (Stop (RunFault.Graph f)) is h = absurd is
-  answers_end n old new before after requests (Stop (RunFault.Queries f)) is h = absurd is
-  answers_end n old new before after requests (Stop (RunFault.Sources f)) is h = absurd is
-  answers_end n old new before after requests (Stop (RunFault.Targets f)) is h = absurd is
-  answers_end n old new before after requests (Stop (RunFault.Saved f)) is h = absurd is
+  answers_end n old new before after requests (Stop (RunFault.Read Which.Graph f)) is h = absurd is
+  answers_end n old new before after requests (Stop (RunFault.Read Which.Queries f)) is h = absurd is
+  answers_end n old new before after requests (Stop (RunFault.Read Which.Sources f)) is h = absurd is
+  answers_end n old new before after requests (Stop (RunFault.Read Which.Targets f)) is h = absurd is
+  answers_end n old new before after requests (Stop (RunFault.Read Which.Saved f)) is h = absurd is
   answers_end n old new before after requests (Stop (RunFault.Check f)) is h = absurd is
 
 -- the lists of a request are lists of a table

@@ -5,6 +5,7 @@ use Rattle.std.proofs.lemmas.Bool.{cases_lt}
 use Rattle.ch_run.specs.declared.fault.RunFault.{RunFault}
 use Rattle.ch_run.specs.declared.run.batch.Then.{Then}
 use Rattle.ch_run.specs.declared.run.batch.Then.TheVariants.{Table, More, Nothing, Stop}
+use Rattle.ch_run.specs.declared.fault.Which.{Which}
 use Rattle.ch_run.specs.Device.{CountsAtMostOneOf}
 use Rattle.ch_run.specs.Run.{IsWrite}
 use Rattle.ch_run.specs.Serving.{CountsWrites, IsWithin, end_of, refused_writes}
@@ -15,12 +16,7 @@ told (Ok x) = inr (λ h. h, refl)
 told (Err (RunFault.Write count)) = inl (tt, refl)
 told (Err RunFault.Memory) = inr (λ h. h, refl)
 told (Err RunFault.Cells) = inr (λ h. h, refl)
-told (Err (RunFault.Requests f)) = inr (λ h. h, refl)
-told (Err (RunFault.Graph f)) = inr (λ h. h, refl)
-told (Err (RunFault.Queries f)) = inr (λ h. h, refl)
-told (Err (RunFault.Sources f)) = inr (λ h. h, refl)
-told (Err (RunFault.Targets f)) = inr (λ h. h, refl)
-told (Err (RunFault.Saved f)) = inr (λ h. h, refl)
+told (Err (RunFault.Read which f)) = inr (λ h. h, refl)
 told (Err (RunFault.Check f)) = inr (λ h. h, refl)
 told (Err (RunFault.Device which)) = inr (λ h. h, refl)
 
@@ -64,13 +60,13 @@ end_unrefused n More is = refl
 end_unrefused n Nothing is = refl
 end_unrefused n (Stop RunFault.Memory) is = refl
 end_unrefused n (Stop RunFault.Cells) is = refl
-end_unrefused n (Stop (RunFault.Requests f)) is = refl
+end_unrefused n (Stop (RunFault.Read Which.Requests f)) is = refl
 end_unrefused n (Stop (RunFault.Write count)) is = absurd is
-end_unrefused n (Stop (RunFault.Graph f)) is = absurd is
-end_unrefused n (Stop (RunFault.Queries f)) is = absurd is
-end_unrefused n (Stop (RunFault.Sources f)) is = absurd is
-end_unrefused n (Stop (RunFault.Targets f)) is = absurd is
-end_unrefused n (Stop (RunFault.Saved f)) is = absurd is
+end_unrefused n (Stop (RunFault.Read Which.Graph f)) is = absurd is
+end_unrefused n (Stop (RunFault.Read Which.Queries f)) is = absurd is
+end_unrefused n (Stop (RunFault.Read Which.Sources f)) is = absurd is
+end_unrefused n (Stop (RunFault.Read Which.Targets f)) is = absurd is
+end_unrefused n (Stop (RunFault.Read Which.Saved f)) is = absurd is
 end_unrefused n (Stop (RunFault.Check f)) is = absurd is
 end_unrefused n (Stop (RunFault.Device which)) is = absurd is
 

@@ -96,12 +96,7 @@ told_write : (e : RunFault) → IsWrite e → (next rest : Told) → IsToldAfter
 told_write (RunFault.Write count) is next rest = tt
 told_write RunFault.Memory is next rest = absurd is
 told_write RunFault.Cells is next rest = absurd is
-told_write (RunFault.Requests f) is next rest = absurd is
-told_write (RunFault.Graph f) is next rest = absurd is
-told_write (RunFault.Queries f) is next rest = absurd is
-told_write (RunFault.Sources f) is next rest = absurd is
-told_write (RunFault.Targets f) is next rest = absurd is
-told_write (RunFault.Saved f) is next rest = absurd is
+told_write (RunFault.Read which f) is next rest = absurd is
 told_write (RunFault.Check f) is next rest = absurd is
 told_write (RunFault.Device which) is next rest = absurd is
 
@@ -122,15 +117,15 @@ pub own_fault : (ended : Bool) (old new : Standing) (xs : List Request) (e : Run
 own_fault ended old new xs e h = let step = h [] (λ is. refl) in at e (ahead new []) step.0 step.2
   where
     at : (e : RunFault) (next rest : Told) → IsToldAfter {T = Unit} (Err e) next rest → IsOfServing e
-    at (RunFault.Requests f) next rest is = inl refl
+    at (RunFault.Read Which.Requests f) next rest is = inl refl
     at RunFault.Cells next rest is = inr (inl refl)
     at RunFault.Memory next rest is = inl tt
     at (RunFault.Write count) next rest is = inr (inr tt)
-    at (RunFault.Graph f) next rest is = absurd is
-    at (RunFault.Queries f) next rest is = absurd is
-    at (RunFault.Sources f) next rest is = absurd is
-    at (RunFault.Targets f) next rest is = absurd is
-    at (RunFault.Saved f) next rest is = absurd is
+    at (RunFault.Read Which.Graph f) next rest is = absurd is
+    at (RunFault.Read Which.Queries f) next rest is = absurd is
+    at (RunFault.Read Which.Sources f) next rest is = absurd is
+    at (RunFault.Read Which.Targets f) next rest is = absurd is
+    at (RunFault.Read Which.Saved f) next rest is = absurd is
     at (RunFault.Check f) next rest is = absurd is
     at (RunFault.Device which) next rest is = absurd is
 
@@ -295,9 +290,9 @@ module _ (IsTextOf : Request → List ℕ → Type 0) (n : ℕ) where
     -- the run ends in the fault that answering ended in
     pub fed_refused : (ended : Bool) (fault : RunFault) → HasFed ended requests old mid before s → GivesUntil {T = Unit} ended s next given (Err fault) →
         Answers {T = Unit} IsTextOf mid new before after given (Err fault) → Serves {T = Unit} IsTextOf n requests old new (Err fault)
-    fed_refused ended (RunFault.Requests fault) h gives answers =
+    fed_refused ended (RunFault.Read Which.Requests fault) h gives answers =
         let step = gives h.left h.ends in
-        let took = answers_more IsTextOf {T = Unit} old mid new 0 before after h.given given (Err (RunFault.Requests fault)) h.answered answers in
+        let took = answers_more IsTextOf {T = Unit} old mid new 0 before after h.given given (Err (RunFault.Read Which.Requests fault)) h.answered answers in
         (h.read, h.left, h.input, told_fault ended h step.0 (Line fault) step.1 step.2 took)
     fed_refused ended RunFault.Cells h gives answers =
         let step = gives h.left h.ends in
@@ -316,11 +311,11 @@ module _ (IsTextOf : Request → List ℕ → Type 0) (n : ℕ) where
           (took.0, took.1 ++ step.0.given, took.2, took.3, first_told ended h step.0 took.0 took.1 step.1 took.4, took.5, took.6, took.7, took.8),
         )
     fed_refused ended (RunFault.Device which) h gives answers = absurd (gives h.left h.ends).2
-    fed_refused ended (RunFault.Graph f) h gives answers = absurd (gives h.left h.ends).2
-    fed_refused ended (RunFault.Queries f) h gives answers = absurd (gives h.left h.ends).2
-    fed_refused ended (RunFault.Sources f) h gives answers = absurd (gives h.left h.ends).2
-    fed_refused ended (RunFault.Targets f) h gives answers = absurd (gives h.left h.ends).2
-    fed_refused ended (RunFault.Saved f) h gives answers = absurd (gives h.left h.ends).2
+    fed_refused ended (RunFault.Read Which.Graph f) h gives answers = absurd (gives h.left h.ends).2
+    fed_refused ended (RunFault.Read Which.Queries f) h gives answers = absurd (gives h.left h.ends).2
+    fed_refused ended (RunFault.Read Which.Sources f) h gives answers = absurd (gives h.left h.ends).2
+    fed_refused ended (RunFault.Read Which.Targets f) h gives answers = absurd (gives h.left h.ends).2
+    fed_refused ended (RunFault.Read Which.Saved f) h gives answers = absurd (gives h.left h.ends).2
     fed_refused ended (RunFault.Check f) h gives answers = absurd (gives h.left h.ends).2
 
   -- a read that is refused finds all answered that was whole
@@ -369,18 +364,18 @@ module _ (P Q : Request → List ℕ → Type 0) (so : (request : Request) (text
 
   pub served_weaker : (n : ℕ) (requests : Reading) (old new : Option (List ℕ)) (r : Result Unit RunFault) → Serves P n requests old new r → Serves Q n requests old new r
   served_weaker n requests old new (Ok x) h = (h.0, h.1, (h.2.0, took_weaker old new (told_by n h.0).given h.2.1))
-  served_weaker n requests old new (Err (RunFault.Requests fault)) h = (h.0, h.1, h.2, (h.3.0, took_weaker old new (told_by n (h.0 ++ h.1)).given h.3.1))
+  served_weaker n requests old new (Err (RunFault.Read Which.Requests fault)) h = (h.0, h.1, h.2, (h.3.0, took_weaker old new (told_by n (h.0 ++ h.1)).given h.3.1))
   served_weaker n requests old new (Err RunFault.Cells) h = (h.0, h.1, h.2, (h.3.0, (h.3.1.0, took_weaker old new (told_by n (h.0 ++ h.1)).given h.3.1.1)))
   served_weaker n requests old new (Err RunFault.Memory) h = (h.0, h.1, h.2, (h.3.0, h.3.1, h.3.2, took_weaker old new h.3.0 h.3.3))
   served_weaker n requests old new (Err (RunFault.Device which)) h = (h.0, (h.1.0, h.1.1, h.1.2, took_weaker old new (whole_in n h.1.0) h.1.3))
   served_weaker n requests old new (Err (RunFault.Write count)) h =
       let took = h.3 in
       (h.0, h.1, h.2, (took.0, took.1, took.2, took.3, took.4, (took.5.0, each_weaker P Q so took.0 took.5.0 took.5.1, took.5.2), took.6, took.7, took.8))
-  served_weaker n requests old new (Err (RunFault.Graph f)) h = absurd h
-  served_weaker n requests old new (Err (RunFault.Queries f)) h = absurd h
-  served_weaker n requests old new (Err (RunFault.Sources f)) h = absurd h
-  served_weaker n requests old new (Err (RunFault.Targets f)) h = absurd h
-  served_weaker n requests old new (Err (RunFault.Saved f)) h = absurd h
+  served_weaker n requests old new (Err (RunFault.Read Which.Graph f)) h = absurd h
+  served_weaker n requests old new (Err (RunFault.Read Which.Queries f)) h = absurd h
+  served_weaker n requests old new (Err (RunFault.Read Which.Sources f)) h = absurd h
+  served_weaker n requests old new (Err (RunFault.Read Which.Targets f)) h = absurd h
+  served_weaker n requests old new (Err (RunFault.Read Which.Saved f)) h = absurd h
   served_weaker n requests old new (Err (RunFault.Check f)) h = absurd h
 
 -- the answer to a request by the hierarchy in one order is one by that in the order that is wanted, where routes are written in it

@@ -28,16 +28,11 @@ out_of_memory r fault is same = tells r RunFault.Memory (IsUnread Which.Graph) f
 -- a refused write is no input's fault
 past_inputs : (which : Which) (fault : RunFault) → IsWrite fault → StopsAt which fault → ⊥
 past_inputs which (RunFault.Write count) h k = k.0
-past_inputs which (RunFault.Graph f) h k = h
-past_inputs which (RunFault.Queries f) h k = h
-past_inputs which (RunFault.Sources f) h k = h
-past_inputs which (RunFault.Targets f) h k = h
+past_inputs which (RunFault.Read input f) h k = h
 past_inputs which RunFault.Cells h k = h
 past_inputs which RunFault.Memory h k = h
 past_inputs which (RunFault.Device input) h k = h
-past_inputs which (RunFault.Saved f) h k = h
 past_inputs which (RunFault.Check f) h k = h
-past_inputs which (RunFault.Requests f) h k = h
 
 -- a run that ends in no fault but a refused write stopped at no input
 pub gone_past : {T : Type 0} (r : Result T RunFault) → IfErr r IsWrite → (which : Which) → GoesPast which r

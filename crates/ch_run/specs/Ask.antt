@@ -60,7 +60,7 @@ whole_in n bytes = (went_by n bytes).told.given
 -- was whole before it, and no run can know which read will be: so what is whole is answered before each read
 abbrev pub Serves : {T : Type 0} → (IsTextOf : Request → List ℕ → Type 0) → ℕ → Reading → (old new : Option (List ℕ)) → Result T RunFault → Type 0
 Serves IsTextOf n requests old new (Ok _) = ReadsAll requests (TellsThen n None (TookAnswers IsTextOf old new))
-Serves IsTextOf n requests old new (Err (RunFault.Requests fault)) =
+Serves IsTextOf n requests old new (Err (RunFault.Read Which.Requests fault)) =
     ReadsSome requests (λ read left. TellsThen n (Some (Line fault)) (TookAnswers IsTextOf old new) (read ++ left))
 Serves IsTextOf n requests old new (Err RunFault.Cells) =
     ReadsSome requests (λ read left. (line : ℕ) × TellsThen n (Some (Cells line)) (TookAnswers IsTextOf old new) (read ++ left))

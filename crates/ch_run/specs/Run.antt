@@ -103,43 +103,28 @@ HasTargetsRefused graph sources targets fault =
 abbrev pub IsUnread : Which → RunFault → Type 0
 IsUnread which (RunFault.Device input) = which ≡ input
 IsUnread which RunFault.Memory = ⊤
-IsUnread which (RunFault.Graph fault) = ⊥
-IsUnread which (RunFault.Queries fault) = ⊥
-IsUnread which (RunFault.Sources fault) = ⊥
-IsUnread which (RunFault.Targets fault) = ⊥
+IsUnread which (RunFault.Read input fault) = ⊥
 IsUnread which RunFault.Cells = ⊥
 IsUnread which (RunFault.Write count) = ⊥
-IsUnread which (RunFault.Saved fault) = ⊥
 IsUnread which (RunFault.Check fault) = ⊥
-IsUnread which (RunFault.Requests fault) = ⊥
 
 -- what reading this input may end in: it is refused, it can't be read, or there is no memory
 abbrev pub IsOf : Which → RunFault → Type 0
-IsOf which (RunFault.Graph fault) = which ≡ Which.Graph
-IsOf which (RunFault.Queries fault) = which ≡ Which.Queries
-IsOf which (RunFault.Sources fault) = which ≡ Which.Sources
-IsOf which (RunFault.Targets fault) = which ≡ Which.Targets
+IsOf which (RunFault.Read input fault) = which ≡ input
 IsOf which RunFault.Cells = ⊥
 IsOf which RunFault.Memory = ⊤
 IsOf which (RunFault.Device input) = which ≡ input
 IsOf which (RunFault.Write count) = ⊥
-IsOf which (RunFault.Saved fault) = which ≡ Which.Saved
 IsOf which (RunFault.Check fault) = which ≡ Which.Saved
-IsOf which (RunFault.Requests fault) = which ≡ Which.Requests
 
 -- the output refused a write
 abbrev pub IsWrite : RunFault → Type 0
 IsWrite (RunFault.Write count) = ⊤
-IsWrite (RunFault.Graph fault) = ⊥
-IsWrite (RunFault.Queries fault) = ⊥
-IsWrite (RunFault.Sources fault) = ⊥
-IsWrite (RunFault.Targets fault) = ⊥
+IsWrite (RunFault.Read which fault) = ⊥
 IsWrite RunFault.Cells = ⊥
 IsWrite RunFault.Memory = ⊥
 IsWrite (RunFault.Device which) = ⊥
-IsWrite (RunFault.Saved fault) = ⊥
 IsWrite (RunFault.Check fault) = ⊥
-IsWrite (RunFault.Requests fault) = ⊥
 
 -- what a run that answers queries may end in: the graph or the queries are refused or can't be read,
 -- there is no memory, or the output refuses a write

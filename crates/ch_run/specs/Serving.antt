@@ -12,6 +12,7 @@ use Rattle.ch_read.specs.Requests.{AreTwoLists, MayCome, Standing, Told, after_t
 use Rattle.ch_run.specs.declared.fault.RunFault.{RunFault}
 use Rattle.ch_run.specs.declared.run.batch.Then.{Then}
 use Rattle.ch_run.specs.declared.run.batch.Then.TheVariants.{Table, More, Nothing, Stop}
+use Rattle.ch_run.specs.declared.fault.Which.{Which}
 use Rattle.ch_run.specs.Ask.{AreAnswered, TookAnswers, TookFirstAnswers, TookBeginning}
 use Rattle.ch_run.specs.Device.{HasTaken}
 use Rattle.ch_run.specs.Run.{IsWrite}
@@ -23,7 +24,7 @@ Answers IsTextOf old new before after requests (Ok _) =
     (text : List ℕ) × AreAnswered IsTextOf requests text × HasTaken old new text × (after ≡ capped_number (before + length text))
 Answers IsTextOf old new before after requests (Err RunFault.Memory) = TookFirstAnswers IsTextOf old new requests
 Answers IsTextOf old new before after requests (Err (RunFault.Write count)) = TookBeginning IsTextOf old new before count requests
-Answers IsTextOf old new before after requests (Err (RunFault.Requests fault)) = TookAnswers IsTextOf old new requests
+Answers IsTextOf old new before after requests (Err (RunFault.Read Which.Requests fault)) = TookAnswers IsTextOf old new requests
 Answers IsTextOf old new before after requests (Err RunFault.Cells) = TookAnswers IsTextOf old new requests
 Answers IsTextOf old new before after requests (Err _) = ⊥
 
@@ -52,14 +53,14 @@ IsOfAnswering fault = IsWrite fault ⊎ (fault ≡ RunFault.Memory)
 
 -- the fault of a run whose reader of requests answers this error
 abbrev pub request_refusal : RequestError → RunFault
-request_refusal (Fault (Line fault)) = RunFault.Requests fault
+request_refusal (Fault (Line fault)) = RunFault.Read Which.Requests fault
 request_refusal (Fault (Cells line)) = RunFault.Cells
 request_refusal NoMemory = RunFault.Memory
 
 -- what is told after the requests that a call was given: what is ahead where it ended well, and else its fault
 abbrev pub IsToldAfter : {T : Type 0} → Result T RunFault → (next rest : Told) → Type 0
 IsToldAfter (Ok _) next rest = rest ≡ next
-IsToldAfter (Err (RunFault.Requests fault)) next rest = rest ≡ record { given = []; fault = Some (Line fault) }
+IsToldAfter (Err (RunFault.Read Which.Requests fault)) next rest = rest ≡ record { given = []; fault = Some (Line fault) }
 IsToldAfter (Err RunFault.Cells) next rest = (line : ℕ) × (rest ≡ record { given = []; fault = Some (Cells line) })
 IsToldAfter (Err RunFault.Memory) next rest = ⊤
 IsToldAfter (Err (RunFault.Write count)) next rest = ⊤
@@ -89,7 +90,7 @@ end_of (Stop fault) = Err fault
 
 -- a reader of requests stopped for this
 abbrev pub IsStop : RunFault → Type 0
-IsStop (RunFault.Requests fault) = ⊤
+IsStop (RunFault.Read Which.Requests fault) = ⊤
 IsStop RunFault.Cells = ⊤
 IsStop RunFault.Memory = ⊤
 IsStop _ = ⊥

@@ -26,14 +26,7 @@ impl Which {
         ensures { result ≡ input_fault self error }
     {
         match error {
-            ReadError::Fault(fault) => match self {
-                Which::Graph => RunFault::Graph(fault),
-                Which::Saved => RunFault::Saved(fault),
-                Which::Queries => RunFault::Queries(fault),
-                Which::Sources => RunFault::Sources(fault),
-                Which::Targets => RunFault::Targets(fault),
-                Which::Requests => RunFault::Requests(fault),
-            },
+            ReadError::Fault(fault) => RunFault::Read(self, fault),
             ReadError::NoMemory => RunFault::Memory,
         }
     }
@@ -59,14 +52,8 @@ impl fmt::Display for Which {
 /// After all but `Write` nothing was written, but by a run over requests: it has answered some of these.
 #[derive(Clone, Copy, Debug, PartialEq, Eq)]
 pub enum RunFault {
-    /// The graph's file has this fault.
-    Graph(ReadFault),
-    /// The queries' file has this fault.
-    Queries(ReadFault),
-    /// The sources' file has this fault.
-    Sources(ReadFault),
-    /// The targets' file has this fault.
-    Targets(ReadFault),
+    /// This input has this fault: the file, or a line of the requests or their end.
+    Read(Which, ReadFault),
     /// The sources times the targets are more than 2^22, of two files or of a request.
     Cells,
     /// There was no memory.
@@ -75,12 +62,8 @@ pub enum RunFault {
     Device(Which),
     /// A write failed, or took no byte, after so many bytes had been written and flushed.
     Write(u64),
-    /// The saved hierarchy's file has this fault.
-    Saved(ReadFault),
     /// The saved hierarchy isn't right for the graph, for this fault.
     Check(CheckFault),
-    /// A line of the requests, or their end, has this fault.
-    Requests(ReadFault),
 }
 
 impl fmt::Display for RunFault {
@@ -88,17 +71,19 @@ impl fmt::Display for RunFault {
 
     fn fmt<W: fmt::Write>(&self, f: &mut fmt::Formatter<W>) -> fmt::Result {
         match self {
-            RunFault::Graph(fault) => write!(f, "chtab: graph {fault}"),
-            RunFault::Queries(fault) => write!(f, "chtab: queries {fault}"),
-            RunFault::Sources(fault) => write!(f, "chtab: sources {fault}"),
-            RunFault::Targets(fault) => write!(f, "chtab: targets {fault}"),
+            RunFault::Read(which, fault) => match which {
+                Which::Graph => write!(f, "chtab: graph {fault}"),
+                Which::Saved => write!(f, "chtab: saved {fault}"),
+                Which::Queries => write!(f, "chtab: queries {fault}"),
+                Which::Sources => write!(f, "chtab: sources {fault}"),
+                Which::Targets => write!(f, "chtab: targets {fault}"),
+                Which::Requests => write!(f, "chtab: request {fault}"),
+            },
             RunFault::Cells => f.write_str("chtab: too many cells"),
             RunFault::Memory => f.write_str("chtab: out of memory"),
             RunFault::Device(which) => write!(f, "chtab: cannot read {which}"),
             RunFault::Write(count) => write!(f, "chtab: cannot write after {count} bytes"),
-            RunFault::Saved(fault) => write!(f, "chtab: saved {fault}"),
             RunFault::Check(fault) => write!(f, "chtab: saved hierarchy refused: {fault}"),
-            RunFault::Requests(fault) => write!(f, "chtab: request {fault}"),
         }
     }
 }
@@ -132,14 +117,7 @@ pub fn status(fault: &RunFault) -> u8
     ensures { result ≡ status_of fault.now }
 {
     match fault {
-        RunFault::Graph(_)
-        | RunFault::Queries(_)
-        | RunFault::Sources(_)
-        | RunFault::Targets(_)
-        | RunFault::Saved(_)
-        | RunFault::Check(_)
-        | RunFault::Requests(_)
-        | RunFault::Cells => 1,
+        RunFault::Read(..) | RunFault::Check(_) | RunFault::Cells => 1,
         RunFault::Memory | RunFault::Device(_) | RunFault::Write(_) => 3,
     }
 }

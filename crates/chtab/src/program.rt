@@ -21,6 +21,15 @@ const ROOM: usize = 128;
 /// The exit status where the reader of the output has gone away, which shells give a program that the signal of a closed pipe has ended.
 pub const CLOSED_PIPE: u8 = 141;
 
+/// What the program runs on: what starts threads, memory, what opens files by their names, and the gate that workers pass.
+#[derive(Drop)]
+pub struct System<'a, R, F, G> {
+    pub rt: &'a R,
+    pub alloc: Global,
+    pub files: &'a F,
+    pub gate: &'a G,
+}
+
 /// Why the program ends with no answer.
 #[derive(Debug, Drop)]
 pub enum ProgramFault {
@@ -35,14 +44,11 @@ pub enum ProgramFault {
 /// The text of an answer or of help goes to `output`, and the line of a fault to `errors`: none where the reader of the output has
 /// gone away. The requests are read where the words ask that they be answered. The gate is told whether they ask for progress.
 pub fn run<R: Threads + Sync, F: Files, J: Input, O: Output, E: Output, G: Watch>(
-    rt: &R,
-    alloc: Global,
-    files: &F,
+    system: &System<'_, R, F, G>,
     requests: &mut J,
     output: &mut O,
     errors: &mut E,
     words: Result<Vec<String>, LineFault>,
-    gate: &G,
 ) -> u8
     requires requests { CanCountOneMore (J.failed requests.old) }
     requires output_failures { CanCountOneMore (O.failed output.old) }
@@ -51,13 +57,13 @@ pub fn run<R: Threads + Sync, F: Files, J: Input, O: Output, E: Output, G: Watch
     requires error_zeros { CanCountOneMore (E.idle errors.old) }
     ensures { (answer : Result Unit FaultOf)
         × MatchResult words
-        (λ list. IsAnswer F.Input.left F.Input.failed (F.known files.now) J.left J.failed O.taken O.failed O.idle
+        (λ list. IsAnswer F.Input.left F.Input.failed (F.known system.now.files.now) J.left J.failed O.taken O.failed O.idle
         (map string_bytes list.items) requests.old requests.new output.old output.new answer)
         (λ fault. (requests.new ≡ requests.old) × AnswersFault O.taken O.failed O.idle fault output.old output.new answer)
         × IsEnd E.taken E.failed E.idle (O.closed output.new) answer errors.old errors.new result }
 {
-    let room = room_of(alloc);
-    let answer = answer_to(rt, alloc, files, requests, output, words, gate);
+    let room = room_of(system.alloc);
+    let answer = answer_to(system, requests, output, words);
     end(errors, room, &answer, output.is_closed())
 }
 
@@ -73,44 +79,44 @@ fn room_of(alloc: Global) -> String
 
 /// Does what the words say, or answers why there are none.
 fn answer_to<R: Threads + Sync, F: Files, J: Input, O: Output, G: Watch>(
-    rt: &R,
-    alloc: Global,
-    files: &F,
+    system: &System<'_, R, F, G>,
     requests: &mut J,
     output: &mut O,
     words: Result<Vec<String>, LineFault>,
-    gate: &G,
 ) -> Result<(), ProgramFault>
     requires requests { CanCountOneMore (J.failed requests.old) }
     requires failures { CanCountOneMore (O.failed output.old) }
     requires zeros { CanCountOneMore (O.idle output.old) }
     ensures { MatchResult words
-        (λ list. IsAnswer F.Input.left F.Input.failed (F.known files.now) J.left J.failed O.taken O.failed O.idle
+        (λ list. IsAnswer F.Input.left F.Input.failed (F.known system.now.files.now) J.left J.failed O.taken O.failed O.idle
         (map string_bytes list.items) requests.old requests.new output.old output.new result)
         (λ fault. (requests.new ≡ requests.old) × AnswersFault O.taken O.failed O.idle fault output.old output.new result) }
 {
     match words {
-        Ok(words) => answer_words(rt, alloc, files, requests, output, &words, gate),
+        Ok(words) => answer_words(system, requests, output, &words),
         Err(fault) => answer_fault(output, fault),
     }
 }
 
 /// Does what the words say.
 fn answer_words<R: Threads + Sync, F: Files, J: Input, O: Output, G: Watch>(
-    rt: &R,
-    alloc: Global,
-    files: &F,
+    system: &System<'_, R, F, G>,
     requests: &mut J,
     output: &mut O,
     words: &[String],
-    gate: &G,
 ) -> Result<(), ProgramFault>
     requires requests { CanCountOneMore (J.failed requests.old) }
     requires failures { CanCountOneMore (O.failed output.old) }
     requires zeros { CanCountOneMore (O.idle output.old) }
-    ensures { IsAnswer F.Input.left F.Input.failed (F.known files.now) J.left J.failed O.taken O.failed O.idle
+    ensures { IsAnswer F.Input.left F.Input.failed (F.known system.now.files.now) J.left J.failed O.taken O.failed O.idle
         (map string_bytes words.now) requests.old requests.new output.old output.new result }
 {
+    let System {
+        rt,
+        alloc,
+        files,
+        gate,
+    } = *system;
     match line_of(alloc, words) {
         Ok(line) => {
             gate.begin(line.progress);

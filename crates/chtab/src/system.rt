@@ -3,7 +3,7 @@
 ghost use Rattle.ch_line.specs.Files.{FileState};
 
 use crate::line::{LineFault, refused};
-use crate::program;
+use crate::program::{self, System};
 use crate::watcher::{Lines, Timer, Watcher};
 use ch_line::{Files, OpenFault};
 use ch_run::{ReaderInput, WriterOutput};
@@ -66,14 +66,17 @@ where
     E: Write + IsTerminal + Lines + Copy + Drop,
 {
     let watcher = Watcher::new(rt, &errors, rt.alloc(), errors.is_terminal());
-    program::run(
+    let system = System {
         rt,
-        rt.alloc(),
-        &SystemFiles { rt },
+        alloc: rt.alloc(),
+        files: &SystemFiles { rt },
+        gate: &watcher,
+    };
+    program::run(
+        &system,
         &mut ReaderInput::new(requests),
         &mut WriterOutput::new(output),
         &mut WriterOutput::new(errors),
         words_of(rt),
-        &watcher,
     )
 }

@@ -50,7 +50,7 @@ pub fn run_ask<R: Threads + Sync, I: Input, J: Input, O: Output, G: Gate>(
 
     // A run ends in a fault of its own, and a file is refused for what it holds.
     ensures own { IfErr result IsOfAsk }
-    ensures graph_refused { (fault : FaultAt) → result ≡ Err (RunFault.Graph fault) →
+    ensures graph_refused { (fault : FaultAt) → result ≡ Err (RunFault.Read Which.Graph fault) →
         IsGraphRefused (reading I.left graph.old graph.new) fault }
 
     // A device's fault is told exactly where the device counted one.
@@ -98,9 +98,9 @@ pub fn run_ask_saved<R: Threads + Sync, I: Input, S: Input, J: Input, O: Output,
 
     // A run ends in a fault of its own, and a file is refused for what it holds.
     ensures own { IfErr result IsOfAskSaved }
-    ensures graph_refused { (fault : FaultAt) → result ≡ Err (RunFault.Graph fault) →
+    ensures graph_refused { (fault : FaultAt) → result ≡ Err (RunFault.Read Which.Graph fault) →
         IsGraphRefused (reading I.left graph.old graph.new) fault }
-    ensures saved_refused { (fault : FaultAt) → result ≡ Err (RunFault.Saved fault) →
+    ensures saved_refused { (fault : FaultAt) → result ≡ Err (RunFault.Read Which.Saved fault) →
         HasSavedRefused (reading I.left graph.old graph.new) (reading S.left saved.old saved.new) fault }
     ensures check_refused { (fault : FaultOf) → result ≡ Err (RunFault.Check fault) →
         HasCheckRefused (reading I.left graph.old graph.new) (reading S.left saved.old saved.new) fault }

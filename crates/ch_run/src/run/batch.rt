@@ -97,7 +97,7 @@ fn refusal(error: RequestError) -> RunFault
     ensures stop { IsStop result }
 {
     match error {
-        RequestError::Fault(RequestFault::Line(fault)) => RunFault::Requests(fault),
+        RequestError::Fault(RequestFault::Line(fault)) => RunFault::Read(Which::Requests, fault),
         RequestError::Fault(RequestFault::Cells(_)) => RunFault::Cells,
         RequestError::NoMemory => RunFault::Memory,
     }

@@ -47,9 +47,9 @@ pub fn run_dist<R: Threads + Sync, I: Input, J: Input, O: Output, G: Gate>(
 
     // A run ends in a fault of its own, and a file is refused for what it holds.
     ensures own { IfErr result IsOfDist }
-    ensures graph_refused { (fault : FaultAt) → result ≡ Err (RunFault.Graph fault) →
+    ensures graph_refused { (fault : FaultAt) → result ≡ Err (RunFault.Read Which.Graph fault) →
         IsGraphRefused (reading I.left graph.old graph.new) fault }
-    ensures queries_refused { (fault : FaultAt) → result ≡ Err (RunFault.Queries fault) →
+    ensures queries_refused { (fault : FaultAt) → result ≡ Err (RunFault.Read Which.Queries fault) →
         HasQueriesRefused (reading I.left graph.old graph.new) (reading J.left queries.old queries.new) fault }
 
     // A device's fault is told exactly where the device counted one.

@@ -54,13 +54,13 @@ pub fn run_dist_saved<R: Threads + Sync, I: Input, S: Input, J: Input, O: Output
 
     // A run ends in a fault of its own, and a file is refused for what it holds.
     ensures own { IfErr result IsOfDistSaved }
-    ensures graph_refused { (fault : FaultAt) → result ≡ Err (RunFault.Graph fault) →
+    ensures graph_refused { (fault : FaultAt) → result ≡ Err (RunFault.Read Which.Graph fault) →
         IsGraphRefused (reading I.left graph.old graph.new) fault }
-    ensures saved_refused { (fault : FaultAt) → result ≡ Err (RunFault.Saved fault) →
+    ensures saved_refused { (fault : FaultAt) → result ≡ Err (RunFault.Read Which.Saved fault) →
         HasSavedRefused (reading I.left graph.old graph.new) (reading S.left saved.old saved.new) fault }
     ensures check_refused { (fault : FaultOf) → result ≡ Err (RunFault.Check fault) →
         HasCheckRefused (reading I.left graph.old graph.new) (reading S.left saved.old saved.new) fault }
-    ensures queries_refused { (fault : FaultAt) → result ≡ Err (RunFault.Queries fault) →
+    ensures queries_refused { (fault : FaultAt) → result ≡ Err (RunFault.Read Which.Queries fault) →
         HasQueriesRefusedFrom (reading I.left graph.old graph.new) (reading S.left saved.old saved.new) (reading J.left queries.old queries.new) fault }
 
     // A device's fault is told exactly where the device counted one.

@@ -3,7 +3,6 @@ ghost use Rattle.std.specs.Prelude.{◌≡◌, ◌<◌, ◌≤◌, ◌↔◌, Al
 ghost use Rattle.ch_graph.specs.declared.limits.TheConstants.{MOST_LISTED, MOST_QUERIES};
 ghost use Rattle.ch_read.specs.declared.fault.ReadFault.{ReadFault as FaultAt};
 ghost use Rattle.ch_run.specs.Device.{CanCountOneMore, CountsAtMostOne, HasGiven};
-ghost use Rattle.ch_run.specs.Fault.{refusal_of};
 ghost use Rattle.ch_run.specs.Run.{IsGraphRefused, IsListRefused, IsOf, IsQueriesRefused, IsUnread, ReadsGraph, ReadsNodes, ReadsQueries, reading};
 ghost use Rattle.ch_query.specs.Answers.{AreQueries};
 
@@ -17,7 +16,7 @@ use std::alloc::Global;
 pub(crate) fn graph_from<I: Input>(alloc: Global, input: &mut I) -> Result<Graph, RunFault>
     requires { CanCountOneMore (I.failed input.old) }
     ensures value { IfOk result (ReadsGraph (reading I.left input.old input.new)) }
-    ensures refused { (fault : FaultAt) → result ≡ Err (RunFault.Graph fault) → IsGraphRefused (reading I.left input.old input.new) fault }
+    ensures refused { (fault : FaultAt) → result ≡ Err (RunFault.Read Which.Graph fault) → IsGraphRefused (reading I.left input.old input.new) fault }
     ensures device { (result ≡ Err (RunFault.Device Which.Graph)) ↔ (I.failed input.old < I.failed input.new) }
     ensures once { CountsAtMostOne (I.failed input.old) (I.failed input.new) }
     ensures of_input { IfErr result (IsOf Which.Graph) }
@@ -39,7 +38,7 @@ pub(crate) fn queries_from<I: Input>(
     ensures value { IfOk result (λ queries. ReadsQueries (reading I.left input.old input.new) graph.now.nodes queries.items) }
     ensures within { IfOk result (λ queries. AreQueries graph.now.nodes queries.items) }
     ensures size { IfOk result (λ queries. vec_len queries ≤ MOST_QUERIES) }
-    ensures refused { (fault : FaultAt) → result ≡ Err (RunFault.Queries fault) → IsQueriesRefused (reading I.left input.old input.new) graph.now.nodes fault }
+    ensures refused { (fault : FaultAt) → result ≡ Err (RunFault.Read Which.Queries fault) → IsQueriesRefused (reading I.left input.old input.new) graph.now.nodes fault }
     ensures device { (result ≡ Err (RunFault.Device Which.Queries)) ↔ (I.failed input.old < I.failed input.new) }
     ensures once { CountsAtMostOne (I.failed input.old) (I.failed input.new) }
     ensures of_input { IfErr result (IsOf Which.Queries) }
@@ -62,7 +61,7 @@ pub(crate) fn nodes_from<I: Input>(
     ensures value { IfOk result (λ list. ReadsNodes (reading I.left input.old input.new) graph.now.nodes list.items) }
     ensures within { IfOk result (λ list. All (λ node. node < graph.now.nodes) list.items) }
     ensures size { IfOk result (λ list. vec_len list ≤ MOST_LISTED) }
-    ensures refused { (fault : FaultAt) → result ≡ Err (refusal_of which fault) → IsListRefused (reading I.left input.old input.new) graph.now.nodes fault }
+    ensures refused { (fault : FaultAt) → result ≡ Err (RunFault.Read which fault) → IsListRefused (reading I.left input.old input.new) graph.now.nodes fault }
     ensures device { (result ≡ Err (RunFault.Device which)) ↔ (I.failed input.old < I.failed input.new) }
     ensures once { CountsAtMostOne (I.failed input.old) (I.failed input.new) }
     ensures of_input { IfErr result (IsOf which) }

@@ -35,9 +35,9 @@ pub(crate) fn lists_from<J: Input, L: Input>(
     ensures within { IfOk result (λ lists. AreLists graph.now.nodes lists.sources.items lists.targets.items) }
 
     ensures own { IfErr result IsOfLists }
-    ensures sources_refused { (fault : FaultAt) → result ≡ Err (RunFault.Sources fault) →
+    ensures sources_refused { (fault : FaultAt) → result ≡ Err (RunFault.Read Which.Sources fault) →
         IsListRefused (reading J.left sources.old sources.new) graph.now.nodes fault }
-    ensures targets_refused { (fault : FaultAt) → result ≡ Err (RunFault.Targets fault) →
+    ensures targets_refused { (fault : FaultAt) → result ≡ Err (RunFault.Read Which.Targets fault) →
         HaveTargetsRefused (reading J.left sources.old sources.new) (reading L.left targets.old targets.new) graph.now.nodes fault }
     ensures cells_refused { result ≡ Err RunFault.Cells →
         HaveCellsRefused (reading J.left sources.old sources.new) (reading L.left targets.old targets.new) graph.now.nodes }

@@ -41,7 +41,7 @@ pub fn run_save<R: Threads + Sync, I: Input, O: Output, G: Gate>(
 
     // A run ends in a fault of its own, and the file is refused for what it holds.
     ensures own { IfErr result IsOfSave }
-    ensures graph_refused { (fault : FaultAt) → result ≡ Err (RunFault.Graph fault) →
+    ensures graph_refused { (fault : FaultAt) → result ≡ Err (RunFault.Read Which.Graph fault) →
         IsGraphRefused (reading I.left graph.old graph.new) fault }
 
     // A device's fault is told exactly where the device counted one.

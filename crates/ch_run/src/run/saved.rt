@@ -38,9 +38,9 @@ pub(crate) fn checked_from<R: Threads + Sync, I: Input, S: Input, G: Gate>(
         AreChecked (reading I.left graph.old graph.new) (reading S.left saved.old saved.new) checked.graph s checked.hierarchy) }
 
     ensures own { IfErr result IsOfChecked }
-    ensures graph_refused { (fault : FaultAt) → result ≡ Err (RunFault.Graph fault) →
+    ensures graph_refused { (fault : FaultAt) → result ≡ Err (RunFault.Read Which.Graph fault) →
         IsGraphRefused (reading I.left graph.old graph.new) fault }
-    ensures saved_refused { (fault : FaultAt) → result ≡ Err (RunFault.Saved fault) →
+    ensures saved_refused { (fault : FaultAt) → result ≡ Err (RunFault.Read Which.Saved fault) →
         HasSavedRefused (reading I.left graph.old graph.new) (reading S.left saved.old saved.new) fault }
     ensures check_refused { (fault : FaultOf) → result ≡ Err (RunFault.Check fault) →
         HasCheckRefused (reading I.left graph.old graph.new) (reading S.left saved.old saved.new) fault }
@@ -69,7 +69,7 @@ pub(crate) fn checked_from<R: Threads + Sync, I: Input, S: Input, G: Gate>(
 fn saved_from<S: Input>(alloc: Global, input: &mut S, graph: &Graph) -> Result<Saved, RunFault>
     requires { CanCountOneMore (S.failed input.old) }
     ensures value { IfOk result (ReadsSaved (reading S.left input.old input.new) graph.now.nodes) }
-    ensures refused { (fault : FaultAt) → result ≡ Err (RunFault.Saved fault) → IsSavedRefused (reading S.left input.old input.new) graph.now.nodes fault }
+    ensures refused { (fault : FaultAt) → result ≡ Err (RunFault.Read Which.Saved fault) → IsSavedRefused (reading S.left input.old input.new) graph.now.nodes fault }
     ensures device { (result ≡ Err (RunFault.Device Which.Saved)) ↔ (S.failed input.old < S.failed input.new) }
     ensures once { CountsAtMostOne (S.failed input.old) (S.failed input.new) }
     ensures of_input { IfErr result (IsOf Which.Saved) }

@@ -52,11 +52,11 @@ pub fn run_table<R: Threads + Sync, I: Input, J: Input, L: Input, O: Output, G: 
 
     // A run ends in a fault of its own, a file is refused for what it holds, and the lists where they make too many cells.
     ensures own { IfErr result IsOfTable }
-    ensures graph_refused { (fault : FaultAt) → result ≡ Err (RunFault.Graph fault) →
+    ensures graph_refused { (fault : FaultAt) → result ≡ Err (RunFault.Read Which.Graph fault) →
         IsGraphRefused (reading I.left graph.old graph.new) fault }
-    ensures sources_refused { (fault : FaultAt) → result ≡ Err (RunFault.Sources fault) →
+    ensures sources_refused { (fault : FaultAt) → result ≡ Err (RunFault.Read Which.Sources fault) →
         HasSourcesRefused (reading I.left graph.old graph.new) (reading J.left sources.old sources.new) fault }
-    ensures targets_refused { (fault : FaultAt) → result ≡ Err (RunFault.Targets fault) →
+    ensures targets_refused { (fault : FaultAt) → result ≡ Err (RunFault.Read Which.Targets fault) →
         HasTargetsRefused (reading I.left graph.old graph.new) (reading J.left sources.old sources.new) (reading L.left targets.old targets.new) fault }
     ensures cells_refused { result ≡ Err RunFault.Cells →
         HasCellsRefused (reading I.left graph.old graph.new) (reading J.left sources.old sources.new) (reading L.left targets.old targets.new) }

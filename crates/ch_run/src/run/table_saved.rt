@@ -57,15 +57,15 @@ pub fn run_table_saved<
 
     // A run ends in a fault of its own, a file is refused for what it holds, and the lists where they make too many cells.
     ensures own { IfErr result IsOfTableSaved }
-    ensures graph_refused { (fault : FaultAt) → result ≡ Err (RunFault.Graph fault) →
+    ensures graph_refused { (fault : FaultAt) → result ≡ Err (RunFault.Read Which.Graph fault) →
         IsGraphRefused (reading I.left graph.old graph.new) fault }
-    ensures saved_refused { (fault : FaultAt) → result ≡ Err (RunFault.Saved fault) →
+    ensures saved_refused { (fault : FaultAt) → result ≡ Err (RunFault.Read Which.Saved fault) →
         HasSavedRefused (reading I.left graph.old graph.new) (reading S.left saved.old saved.new) fault }
     ensures check_refused { (fault : FaultOf) → result ≡ Err (RunFault.Check fault) →
         HasCheckRefused (reading I.left graph.old graph.new) (reading S.left saved.old saved.new) fault }
-    ensures sources_refused { (fault : FaultAt) → result ≡ Err (RunFault.Sources fault) →
+    ensures sources_refused { (fault : FaultAt) → result ≡ Err (RunFault.Read Which.Sources fault) →
         HasSourcesRefusedFrom (reading I.left graph.old graph.new) (reading S.left saved.old saved.new) (reading J.left sources.old sources.new) fault }
-    ensures targets_refused { (fault : FaultAt) → result ≡ Err (RunFault.Targets fault) →
+    ensures targets_refused { (fault : FaultAt) → result ≡ Err (RunFault.Read Which.Targets fault) →
         HasTargetsRefusedFrom (reading I.left graph.old graph.new) (reading S.left saved.old saved.new) (reading J.left sources.old sources.new) (reading L.left targets.old targets.new) fault }
     ensures cells_refused { result ≡ Err RunFault.Cells →
         HasCellsRefusedFrom (reading I.left graph.old graph.new) (reading S.left saved.old saved.new) (reading J.left sources.old sources.new) (reading L.left targets.old targets.new) }

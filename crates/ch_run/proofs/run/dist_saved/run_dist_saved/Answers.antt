@@ -8,7 +8,7 @@ use Rattle.ch_run.proofs.run.dist_saved.run_dist_saved.Goals as goal
 pub returns-in_err-queries-clause-queries_refused : goal.returns-in_err-queries-clause-queries_refused
 returns-in_err-queries-clause-queries_refused g c fault same =
     let value = c.in_ok-checked.ensures.value in
-    let told = passed_on c.from_residual-in_err-queries.result c.in_err-queries.field-0.0 (RunFault.Queries fault) c.from_residual-in_err-queries.ensures.1 same in
+    let told = passed_on c.from_residual-in_err-queries.result c.in_err-queries.field-0.0 (RunFault.Read Which.Queries fault) c.from_residual-in_err-queries.ensures.1 same in
     (_, value.0, _, value.1, c.in_err-queries.ensures.refused fault told)
 
 pub returns-clause-written : goal.returns-clause-written
@@ -28,25 +28,25 @@ returns-clause-queries_unread g c =
     inr (past Which.Graph, past Which.Saved, (_, value.0, _, value.1, tt))
 
 pub returns-clause-graph_refused : goal.returns-clause-graph_refused
-returns-clause-graph_refused g c fault same = absurd (ends_in c.write_text.result IsWrite (RunFault.Graph fault) c.write_text.ensures.own same)
+returns-clause-graph_refused g c fault same = absurd (ends_in c.write_text.result IsWrite (RunFault.Read Which.Graph fault) c.write_text.ensures.own same)
 
 pub returns-clause-saved_refused : goal.returns-clause-saved_refused
-returns-clause-saved_refused g c fault same = absurd (ends_in c.write_text.result IsWrite (RunFault.Saved fault) c.write_text.ensures.own same)
+returns-clause-saved_refused g c fault same = absurd (ends_in c.write_text.result IsWrite (RunFault.Read Which.Saved fault) c.write_text.ensures.own same)
 
 pub returns-clause-check_refused : goal.returns-clause-check_refused
 returns-clause-check_refused g c fault same = absurd (ends_in c.write_text.result IsWrite (RunFault.Check fault) c.write_text.ensures.own same)
 
 pub returns-clause-queries_refused : goal.returns-clause-queries_refused
-returns-clause-queries_refused g c fault same = absurd (ends_in c.write_text.result IsWrite (RunFault.Queries fault) c.write_text.ensures.own same)
+returns-clause-queries_refused g c fault same = absurd (ends_in c.write_text.result IsWrite (RunFault.Read Which.Queries fault) c.write_text.ensures.own same)
 
 pub returns-in_err-text-clause-graph_refused : goal.returns-in_err-text-clause-graph_refused
-returns-in_err-text-clause-graph_refused g c fault same = absurd (out_of_memory c.from_residual-in_err-text.result (RunFault.Graph fault) c.from_residual-in_err-text.ensures.1 same)
+returns-in_err-text-clause-graph_refused g c fault same = absurd (out_of_memory c.from_residual-in_err-text.result (RunFault.Read Which.Graph fault) c.from_residual-in_err-text.ensures.1 same)
 
 pub returns-in_err-text-clause-saved_refused : goal.returns-in_err-text-clause-saved_refused
-returns-in_err-text-clause-saved_refused g c fault same = absurd (out_of_memory c.from_residual-in_err-text.result (RunFault.Saved fault) c.from_residual-in_err-text.ensures.1 same)
+returns-in_err-text-clause-saved_refused g c fault same = absurd (out_of_memory c.from_residual-in_err-text.result (RunFault.Read Which.Saved fault) c.from_residual-in_err-text.ensures.1 same)
 
 pub returns-in_err-text-clause-check_refused : goal.returns-in_err-text-clause-check_refused
 returns-in_err-text-clause-check_refused g c fault same = absurd (out_of_memory c.from_residual-in_err-text.result (RunFault.Check fault) c.from_residual-in_err-text.ensures.1 same)
 
 pub returns-in_err-text-clause-queries_refused : goal.returns-in_err-text-clause-queries_refused
-returns-in_err-text-clause-queries_refused g c fault same = absurd (out_of_memory c.from_residual-in_err-text.result (RunFault.Queries fault) c.from_residual-in_err-text.ensures.1 same)
+returns-in_err-text-clause-queries_refused g c fault same = absurd (out_of_memory c.from_residual-in_err-text.result (RunFault.Read Which.Queries fault) c.from_residual-in_err-text.ensures.1 same)

@@ -23,7 +23,7 @@ returns-clause-refused g c fault same =
 
 pub returns-in_err-bytes-clause-refused : goal.returns-in_err-bytes-clause-refused
 returns-in_err-bytes-clause-refused g c fault same =
-    absurd (tells c.from_residual.result c.in_err-bytes.field-0.0 (IsUnread Which.Saved) (RunFault.Saved fault) c.from_residual.ensures.1 c.in_err-bytes.ensures.unread same)
+    absurd (tells c.from_residual.result c.in_err-bytes.field-0.0 (IsUnread Which.Saved) (RunFault.Read Which.Saved fault) c.from_residual.ensures.1 c.in_err-bytes.ensures.unread same)
 
 pub returns-in_err-bytes-clause-unchecked : goal.returns-in_err-bytes-clause-unchecked
 returns-in_err-bytes-clause-unchecked g c fault same =

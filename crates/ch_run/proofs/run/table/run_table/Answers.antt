@@ -26,25 +26,25 @@ returns-clause-targets_unread g c =
     inr (past Which.Graph, past Which.Sources, (_, _, c.in_ok-graph.ensures.value, c.in_ok-lists.ensures.value.0))
 
 pub returns-clause-graph_refused : goal.returns-clause-graph_refused
-returns-clause-graph_refused g c fault same = absurd (ends_in c.write_text.result IsWrite (RunFault.Graph fault) c.write_text.ensures.own same)
+returns-clause-graph_refused g c fault same = absurd (ends_in c.write_text.result IsWrite (RunFault.Read Which.Graph fault) c.write_text.ensures.own same)
 
 pub returns-clause-sources_refused : goal.returns-clause-sources_refused
-returns-clause-sources_refused g c fault same = absurd (ends_in c.write_text.result IsWrite (RunFault.Sources fault) c.write_text.ensures.own same)
+returns-clause-sources_refused g c fault same = absurd (ends_in c.write_text.result IsWrite (RunFault.Read Which.Sources fault) c.write_text.ensures.own same)
 
 pub returns-clause-targets_refused : goal.returns-clause-targets_refused
-returns-clause-targets_refused g c fault same = absurd (ends_in c.write_text.result IsWrite (RunFault.Targets fault) c.write_text.ensures.own same)
+returns-clause-targets_refused g c fault same = absurd (ends_in c.write_text.result IsWrite (RunFault.Read Which.Targets fault) c.write_text.ensures.own same)
 
 pub returns-clause-cells_refused : goal.returns-clause-cells_refused
 returns-clause-cells_refused g c same = absurd (ends_in c.write_text.result IsWrite RunFault.Cells c.write_text.ensures.own same)
 
 pub returns-in_err-text-clause-graph_refused : goal.returns-in_err-text-clause-graph_refused
-returns-in_err-text-clause-graph_refused g c fault same = absurd (out_of_memory c.from_residual-in_err-text.result (RunFault.Graph fault) c.from_residual-in_err-text.ensures.1 same)
+returns-in_err-text-clause-graph_refused g c fault same = absurd (out_of_memory c.from_residual-in_err-text.result (RunFault.Read Which.Graph fault) c.from_residual-in_err-text.ensures.1 same)
 
 pub returns-in_err-text-clause-sources_refused : goal.returns-in_err-text-clause-sources_refused
-returns-in_err-text-clause-sources_refused g c fault same = absurd (out_of_memory c.from_residual-in_err-text.result (RunFault.Sources fault) c.from_residual-in_err-text.ensures.1 same)
+returns-in_err-text-clause-sources_refused g c fault same = absurd (out_of_memory c.from_residual-in_err-text.result (RunFault.Read Which.Sources fault) c.from_residual-in_err-text.ensures.1 same)
 
 pub returns-in_err-text-clause-targets_refused : goal.returns-in_err-text-clause-targets_refused
-returns-in_err-text-clause-targets_refused g c fault same = absurd (out_of_memory c.from_residual-in_err-text.result (RunFault.Targets fault) c.from_residual-in_err-text.ensures.1 same)
+returns-in_err-text-clause-targets_refused g c fault same = absurd (out_of_memory c.from_residual-in_err-text.result (RunFault.Read Which.Targets fault) c.from_residual-in_err-text.ensures.1 same)
 
 pub returns-in_err-text-clause-cells_refused : goal.returns-in_err-text-clause-cells_refused
 returns-in_err-text-clause-cells_refused g c same = absurd (out_of_memory c.from_residual-in_err-text.result RunFault.Cells c.from_residual-in_err-text.ensures.1 same)

@@ -31,13 +31,13 @@ returns-clause-targets_unread g c =
 pub returns-in_err-lists-clause-sources_refused : goal.returns-in_err-lists-clause-sources_refused
 returns-in_err-lists-clause-sources_refused g c fault same =
     let value = c.in_ok-checked.ensures.value in
-    let told = passed_on c.from_residual-in_err-lists.result c.in_err-lists.field-0.0 (RunFault.Sources fault) c.from_residual-in_err-lists.ensures.1 same in
+    let told = passed_on c.from_residual-in_err-lists.result c.in_err-lists.field-0.0 (RunFault.Read Which.Sources fault) c.from_residual-in_err-lists.ensures.1 same in
     (_, value.0, _, value.1, c.in_err-lists.ensures.sources_refused fault told)
 
 pub returns-in_err-lists-clause-targets_refused : goal.returns-in_err-lists-clause-targets_refused
 returns-in_err-lists-clause-targets_refused g c fault same =
     let value = c.in_ok-checked.ensures.value in
-    let told = passed_on c.from_residual-in_err-lists.result c.in_err-lists.field-0.0 (RunFault.Targets fault) c.from_residual-in_err-lists.ensures.1 same in
+    let told = passed_on c.from_residual-in_err-lists.result c.in_err-lists.field-0.0 (RunFault.Read Which.Targets fault) c.from_residual-in_err-lists.ensures.1 same in
     (_, value.0, _, value.1, c.in_err-lists.ensures.targets_refused fault told)
 
 pub returns-in_err-lists-clause-cells_refused : goal.returns-in_err-lists-clause-cells_refused
@@ -47,37 +47,37 @@ returns-in_err-lists-clause-cells_refused g c same =
     (_, value.0, _, value.1, c.in_err-lists.ensures.cells_refused told)
 
 pub returns-clause-graph_refused : goal.returns-clause-graph_refused
-returns-clause-graph_refused g c fault same = absurd (ends_in c.write_text.result IsWrite (RunFault.Graph fault) c.write_text.ensures.own same)
+returns-clause-graph_refused g c fault same = absurd (ends_in c.write_text.result IsWrite (RunFault.Read Which.Graph fault) c.write_text.ensures.own same)
 
 pub returns-clause-saved_refused : goal.returns-clause-saved_refused
-returns-clause-saved_refused g c fault same = absurd (ends_in c.write_text.result IsWrite (RunFault.Saved fault) c.write_text.ensures.own same)
+returns-clause-saved_refused g c fault same = absurd (ends_in c.write_text.result IsWrite (RunFault.Read Which.Saved fault) c.write_text.ensures.own same)
 
 pub returns-clause-check_refused : goal.returns-clause-check_refused
 returns-clause-check_refused g c fault same = absurd (ends_in c.write_text.result IsWrite (RunFault.Check fault) c.write_text.ensures.own same)
 
 pub returns-clause-sources_refused : goal.returns-clause-sources_refused
-returns-clause-sources_refused g c fault same = absurd (ends_in c.write_text.result IsWrite (RunFault.Sources fault) c.write_text.ensures.own same)
+returns-clause-sources_refused g c fault same = absurd (ends_in c.write_text.result IsWrite (RunFault.Read Which.Sources fault) c.write_text.ensures.own same)
 
 pub returns-clause-targets_refused : goal.returns-clause-targets_refused
-returns-clause-targets_refused g c fault same = absurd (ends_in c.write_text.result IsWrite (RunFault.Targets fault) c.write_text.ensures.own same)
+returns-clause-targets_refused g c fault same = absurd (ends_in c.write_text.result IsWrite (RunFault.Read Which.Targets fault) c.write_text.ensures.own same)
 
 pub returns-clause-cells_refused : goal.returns-clause-cells_refused
 returns-clause-cells_refused g c same = absurd (ends_in c.write_text.result IsWrite RunFault.Cells c.write_text.ensures.own same)
 
 pub returns-in_err-text-clause-graph_refused : goal.returns-in_err-text-clause-graph_refused
-returns-in_err-text-clause-graph_refused g c fault same = absurd (out_of_memory c.from_residual-in_err-text.result (RunFault.Graph fault) c.from_residual-in_err-text.ensures.1 same)
+returns-in_err-text-clause-graph_refused g c fault same = absurd (out_of_memory c.from_residual-in_err-text.result (RunFault.Read Which.Graph fault) c.from_residual-in_err-text.ensures.1 same)
 
 pub returns-in_err-text-clause-saved_refused : goal.returns-in_err-text-clause-saved_refused
-returns-in_err-text-clause-saved_refused g c fault same = absurd (out_of_memory c.from_residual-in_err-text.result (RunFault.Saved fault) c.from_residual-in_err-text.ensures.1 same)
+returns-in_err-text-clause-saved_refused g c fault same = absurd (out_of_memory c.from_residual-in_err-text.result (RunFault.Read Which.Saved fault) c.from_residual-in_err-text.ensures.1 same)
 
 pub returns-in_err-text-clause-check_refused : goal.returns-in_err-text-clause-check_refused
 returns-in_err-text-clause-check_refused g c fault same = absurd (out_of_memory c.from_residual-in_err-text.result (RunFault.Check fault) c.from_residual-in_err-text.ensures.1 same)
 
 pub returns-in_err-text-clause-sources_refused : goal.returns-in_err-text-clause-sources_refused
-returns-in_err-text-clause-sources_refused g c fault same = absurd (out_of_memory c.from_residual-in_err-text.result (RunFault.Sources fault) c.from_residual-in_err-text.ensures.1 same)
+returns-in_err-text-clause-sources_refused g c fault same = absurd (out_of_memory c.from_residual-in_err-text.result (RunFault.Read Which.Sources fault) c.from_residual-in_err-text.ensures.1 same)
 
 pub returns-in_err-text-clause-targets_refused : goal.returns-in_err-text-clause-targets_refused
-returns-in_err-text-clause-targets_refused g c fault same = absurd (out_of_memory c.from_residual-in_err-text.result (RunFault.Targets fault) c.from_residual-in_err-text.ensures.1 same)
+returns-in_err-text-clause-targets_refused g c fault same = absurd (out_of_memory c.from_residual-in_err-text.result (RunFault.Read Which.Targets fault) c.from_residual-in_err-text.ensures.1 same)
 
 pub returns-in_err-text-clause-cells_refused : goal.returns-in_err-text-clause-cells_refused
 returns-in_err-text-clause-cells_refused g c same = absurd (out_of_memory c.from_residual-in_err-text.result RunFault.Cells c.from_residual-in_err-text.ensures.1 same)
