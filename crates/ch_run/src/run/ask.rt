@@ -8,6 +8,7 @@ ghost use Rattle.ch_run.specs.Device.{CanCountOneMore, CountsAtMostOne, CountsAt
 ghost use Rattle.ch_run.specs.Run.{AcceptsGraph, GoesPast, IsGraphRefused, IsOf, IsWrite, reading};
 ghost use Rattle.ch_run.specs.SavedRun.{HasCheckRefused, HasSavedRefused, IsOfChecked};
 
+use super::batch::Answering;
 use super::dist::order_for;
 use super::inputs::graph_from;
 use super::saved::{Checked, checked_from};
@@ -68,7 +69,11 @@ pub fn run_ask<R: Threads + Sync, I: Input, J: Input, O: Output, G: Gate>(
     let order = order_for(options);
     let hierarchy = build_by(crew, &graph, options.hops, order)?;
     let checked = Checked { graph, hierarchy };
-    serve(crew, &checked, requests, output, options)
+    let by = Answering {
+        checked: &checked,
+        options,
+    };
+    serve(crew, &by, requests, output)
 }
 
 /// Reads a graph and a hierarchy that was saved, by whatever program, and then answers requests as they come, as [`run_ask`] does,
@@ -122,5 +127,9 @@ pub fn run_ask_saved<R: Threads + Sync, I: Input, S: Input, J: Input, O: Output,
         ⊎ (GoesPast Which.Graph result × AcceptsGraph (reading I.left graph.old graph.new)) }
 {
     let checked = checked_from(crew, graph, saved)?;
-    serve(crew, &checked, requests, output, options)
+    let by = Answering {
+        checked: &checked,
+        options,
+    };
+    serve(crew, &by, requests, output)
 }

@@ -103,39 +103,37 @@ fn refusal(error: RequestError) -> RunFault
     }
 }
 
+/// By what requests are answered: a graph with a hierarchy that is right for it, and the options.
+#[derive(Drop)]
+pub(crate) struct Answering<'a> {
+    pub(crate) checked: &'a Checked,
+    pub(crate) options: &'a Options,
+}
+
 /// Answers a batch: its queries, and then its table. The scratches are the rooms in which workers answer queries. `written` counts the bytes that the output took, as far as 64 bits go.
 pub(crate) fn answer_batch<R: Threads + Sync, O: Output, G: Gate>(
     crew: &Crew<'_, R, G>,
-    checked: &Checked,
+    by: &Answering<'_>,
     scratches: &mut Vec<Scratch>,
     batch: &Batch,
     output: &mut O,
     written: &mut u64,
-    options: &Options,
 ) -> Result<(), RunFault>
-    requires limits { IsWithinLimits checked.now.graph }
-    requires kept { IsKept checked.now.graph checked.now.hierarchy }
-    requires scratches { All (λ scratch. scratch ≡ nodes_of checked.now.hierarchy) scratches.old.items }
-    requires batch { IsBatch checked.now.graph.nodes batch.now.queries.items batch.now.then }
+    requires limits { IsWithinLimits by.now.checked.now.graph }
+    requires kept { IsKept by.now.checked.now.graph by.now.checked.now.hierarchy }
+    requires scratches { All (λ scratch. scratch ≡ nodes_of by.now.checked.now.hierarchy) scratches.old.items }
+    requires batch { IsBatch by.now.checked.now.graph.nodes batch.now.queries.items batch.now.then }
     requires failures { CanCountOneMore (O.failed output.old) }
     requires zeros { CanCountOneMore (O.idle output.old) }
-    ensures answers { Answers (IsRequestText options.now checked.now.graph (λ H. H ≡ checked.now.hierarchy)) (O.taken output.old) (O.taken output.new)
+    ensures answers { Answers (IsRequestText by.now.options.now by.now.checked.now.graph (λ H. H ≡ by.now.checked.now.hierarchy)) (O.taken output.old) (O.taken output.new)
         written.old written.new (requests_of batch.now.queries.items batch.now.then) result }
-    ensures scratches { All (λ scratch. scratch ≡ nodes_of checked.now.hierarchy) scratches.new.items }
+    ensures scratches { All (λ scratch. scratch ≡ nodes_of by.now.checked.now.hierarchy) scratches.new.items }
     ensures own { IfErr result IsOfAnswering }
     ensures counts { CountsWrites (O.failed output.old) (O.failed output.new) (O.idle output.old) (O.idle output.new) result }
 {
-    answer_queries(
-        crew,
-        checked,
-        scratches,
-        &batch.queries,
-        output,
-        written,
-        options,
-    )?;
+    answer_queries(crew, by, scratches, &batch.queries, output, written)?;
     match &batch.then {
-        Then::Table(lists) => answer_table(crew, checked, lists, output, written, options),
+        Then::Table(lists) => answer_table(crew, by, lists, output, written),
         _ => Ok(()),
     }
 }
@@ -143,78 +141,81 @@ pub(crate) fn answer_batch<R: Threads + Sync, O: Output, G: Gate>(
 /// Answers queries, all by one text.
 fn answer_queries<R: Threads + Sync, O: Output, G: Gate>(
     crew: &Crew<'_, R, G>,
-    checked: &Checked,
+    by: &Answering<'_>,
     scratches: &mut Vec<Scratch>,
     queries: &[(u32, u32)],
     output: &mut O,
     written: &mut u64,
-    options: &Options,
 ) -> Result<(), RunFault>
-    requires limits { IsWithinLimits checked.now.graph }
-    requires kept { IsKept checked.now.graph checked.now.hierarchy }
-    requires scratches { All (λ scratch. scratch ≡ nodes_of checked.now.hierarchy) scratches.old.items }
-    requires queries { AreQueries checked.now.graph.nodes queries.now }
+    requires limits { IsWithinLimits by.now.checked.now.graph }
+    requires kept { IsKept by.now.checked.now.graph by.now.checked.now.hierarchy }
+    requires scratches { All (λ scratch. scratch ≡ nodes_of by.now.checked.now.hierarchy) scratches.old.items }
+    requires queries { AreQueries by.now.checked.now.graph.nodes queries.now }
     requires count { length queries.now ≤ MOST_QUERIES }
     requires failures { CanCountOneMore (O.failed output.old) }
     requires zeros { CanCountOneMore (O.idle output.old) }
-    ensures answers { Answers (IsRequestText options.now checked.now.graph (λ H. H ≡ checked.now.hierarchy)) (O.taken output.old) (O.taken output.new)
+    ensures answers { Answers (IsRequestText by.now.options.now by.now.checked.now.graph (λ H. H ≡ by.now.checked.now.hierarchy)) (O.taken output.old) (O.taken output.new)
         written.old written.new (map query_from queries.now) result }
-    ensures scratches { All (λ scratch. scratch ≡ nodes_of checked.now.hierarchy) scratches.new.items }
+    ensures scratches { All (λ scratch. scratch ≡ nodes_of by.now.checked.now.hierarchy) scratches.new.items }
     ensures own { IfErr result IsOfAnswering }
     ensures counts { CountsWrites (O.failed output.old) (O.failed output.new) (O.idle output.old) (O.idle output.new) result }
 {
-    let text = queries_text(crew, checked, scratches, queries, options)?;
+    let text = queries_text(crew, by, scratches, queries)?;
     write_more(output, &text, written)
 }
 
 /// The text of queries. Where there are none, nothing is made ready for them.
 fn queries_text<R: Threads + Sync, G: Gate>(
     crew: &Crew<'_, R, G>,
-    checked: &Checked,
+    by: &Answering<'_>,
     scratches: &mut Vec<Scratch>,
     queries: &[(u32, u32)],
-    options: &Options,
 ) -> Result<Vec<u8>, AllocError>
-    requires limits { IsWithinLimits checked.now.graph }
-    requires kept { IsKept checked.now.graph checked.now.hierarchy }
-    requires scratches { All (λ scratch. scratch ≡ nodes_of checked.now.hierarchy) scratches.old.items }
-    requires queries { AreQueries checked.now.graph.nodes queries.now }
+    requires limits { IsWithinLimits by.now.checked.now.graph }
+    requires kept { IsKept by.now.checked.now.graph by.now.checked.now.hierarchy }
+    requires scratches { All (λ scratch. scratch ≡ nodes_of by.now.checked.now.hierarchy) scratches.old.items }
+    requires queries { AreQueries by.now.checked.now.graph.nodes queries.now }
     requires count { length queries.now ≤ MOST_QUERIES }
-    ensures text { IfOk result (λ text. AreAnswered (IsRequestText options.now checked.now.graph (λ H. H ≡ checked.now.hierarchy)) (map query_from queries.now) text.items) }
-    ensures scratches { All (λ scratch. scratch ≡ nodes_of checked.now.hierarchy) scratches.new.items }
+    ensures text { IfOk result (λ text. AreAnswered (IsRequestText by.now.options.now by.now.checked.now.graph (λ H. H ≡ by.now.checked.now.hierarchy)) (map query_from queries.now) text.items) }
+    ensures scratches { All (λ scratch. scratch ≡ nodes_of by.now.checked.now.hierarchy) scratches.new.items }
 {
     if queries.is_empty() {
         return Ok(Vec::new(crew.alloc));
     }
-    if options.plain {
-        return plain_text(crew.alloc, &checked.graph, queries, crew.gate);
+    if by.options.plain {
+        return plain_text(crew.alloc, &by.checked.graph, queries, crew.gate);
     }
-    let routes = options.routes;
-    answers_in(crew, &checked.hierarchy, scratches, queries, routes)
+    let routes = by.options.routes;
+    answers_in(crew, &by.checked.hierarchy, scratches, queries, routes)
 }
 
 /// Answers a table.
 fn answer_table<R: Threads + Sync, O: Output, G: Gate>(
     crew: &Crew<'_, R, G>,
-    checked: &Checked,
+    by: &Answering<'_>,
     lists: &TableLists,
     output: &mut O,
     written: &mut u64,
-    options: &Options,
 ) -> Result<(), RunFault>
-    requires limits { IsWithinLimits checked.now.graph }
-    requires kept { IsKept checked.now.graph checked.now.hierarchy }
-    requires lists { AreTwoLists checked.now.graph.nodes lists.now }
+    requires limits { IsWithinLimits by.now.checked.now.graph }
+    requires kept { IsKept by.now.checked.now.graph by.now.checked.now.hierarchy }
+    requires lists { AreTwoLists by.now.checked.now.graph.nodes lists.now }
     requires failures { CanCountOneMore (O.failed output.old) }
     requires zeros { CanCountOneMore (O.idle output.old) }
-    ensures answers { Answers (IsRequestText options.now checked.now.graph (λ H. H ≡ checked.now.hierarchy)) (O.taken output.old) (O.taken output.new)
+    ensures answers { Answers (IsRequestText by.now.options.now by.now.checked.now.graph (λ H. H ≡ by.now.checked.now.hierarchy)) (O.taken output.old) (O.taken output.new)
         written.old written.new (RequestOf.Table lists.now ∷ []) result }
     ensures own { IfErr result IsOfAnswering }
     ensures counts { CountsWrites (O.failed output.old) (O.failed output.new) (O.idle output.old) (O.idle output.new) result }
 {
     let sources = lists.sources();
     let targets = lists.targets();
-    let text = table_by(crew, &checked.hierarchy, sources, targets, options.within)?;
+    let text = table_by(
+        crew,
+        &by.checked.hierarchy,
+        sources,
+        targets,
+        by.options.within,
+    )?;
     write_more(output, &text, written)
 }
 

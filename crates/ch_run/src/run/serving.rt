@@ -10,11 +10,9 @@ ghost use Rattle.ch_run.specs.Device.{CanCountOneMore, CountsAtMostOne, GivesByt
 ghost use Rattle.ch_run.specs.Run.{reading};
 ghost use Rattle.ch_run.specs.Serving.{Answers, CountsWrites, GivesUntil};
 
-use super::batch::{answer_batch, gather};
-use super::saved::Checked;
+use super::batch::{Answering, answer_batch, gather};
 use crate::device::{Input, Output};
 use crate::fault::{RunFault, Which};
-use crate::options::Options;
 use crate::plan::{Crew, Gate};
 use ch_query::Scratch;
 use ch_read::RequestReader;
@@ -26,17 +24,16 @@ const ROOM: usize = 65_536;
 /// Reads requests to their end, and answers each as soon as it is whole, before the next read.
 pub(crate) fn serve<R: Threads + Sync, J: Input, O: Output, G: Gate>(
     crew: &Crew<'_, R, G>,
-    checked: &Checked,
+    by: &Answering<'_>,
     requests: &mut J,
     output: &mut O,
-    options: &Options,
 ) -> Result<(), RunFault>
-    requires limits { IsWithinLimits checked.now.graph }
-    requires kept { IsKept checked.now.graph checked.now.hierarchy }
+    requires limits { IsWithinLimits by.now.checked.now.graph }
+    requires kept { IsKept by.now.checked.now.graph by.now.checked.now.hierarchy }
     requires requests { CanCountOneMore (J.failed requests.old) }
     requires failures { CanCountOneMore (O.failed output.old) }
     requires zeros { CanCountOneMore (O.idle output.old) }
-    ensures served { Serves (IsRequestText options.now checked.now.graph (λ H. H ≡ checked.now.hierarchy)) checked.now.graph.nodes
+    ensures served { Serves (IsRequestText by.now.options.now by.now.checked.now.graph (λ H. H ≡ by.now.checked.now.hierarchy)) by.now.checked.now.graph.nodes
         (reading J.left requests.old requests.new) (O.taken output.old) (O.taken output.new) result }
     ensures own { IfErr result IsOfServing }
     ensures device { (result ≡ Err (RunFault.Device Which.Requests)) ↔ (J.failed requests.old < J.failed requests.new) }
@@ -45,42 +42,33 @@ pub(crate) fn serve<R: Threads + Sync, J: Input, O: Output, G: Gate>(
 {
     let mut buffer = Vec::from_elem(crew.alloc, 0, ROOM)?;
     let mut scratches = Vec::new(crew.alloc);
-    serve_in(
-        crew,
-        checked,
-        &mut buffer,
-        &mut scratches,
-        requests,
-        output,
-        options,
-    )
+    serve_in(crew, by, &mut buffer, &mut scratches, requests, output)
 }
 
 /// The same in the room that the caller made: for what is read at once, and for the workers who answer queries.
 fn serve_in<R: Threads + Sync, J: Input, O: Output, G: Gate>(
     crew: &Crew<'_, R, G>,
-    checked: &Checked,
+    by: &Answering<'_>,
     buffer: &mut [u8],
     scratches: &mut Vec<Scratch>,
     requests: &mut J,
     output: &mut O,
-    options: &Options,
 ) -> Result<(), RunFault>
-    requires limits { IsWithinLimits checked.now.graph }
-    requires kept { IsKept checked.now.graph checked.now.hierarchy }
+    requires limits { IsWithinLimits by.now.checked.now.graph }
+    requires kept { IsKept by.now.checked.now.graph by.now.checked.now.hierarchy }
     requires buffer { 0 < length buffer.old }
-    requires scratches { All (λ scratch. scratch ≡ nodes_of checked.now.hierarchy) scratches.old.items }
+    requires scratches { All (λ scratch. scratch ≡ nodes_of by.now.checked.now.hierarchy) scratches.old.items }
     requires requests { CanCountOneMore (J.failed requests.old) }
     requires failures { CanCountOneMore (O.failed output.old) }
     requires zeros { CanCountOneMore (O.idle output.old) }
-    ensures served { Serves (IsRequestText options.now checked.now.graph (λ H. H ≡ checked.now.hierarchy)) checked.now.graph.nodes
+    ensures served { Serves (IsRequestText by.now.options.now by.now.checked.now.graph (λ H. H ≡ by.now.checked.now.hierarchy)) by.now.checked.now.graph.nodes
         (reading J.left requests.old requests.new) (O.taken output.old) (O.taken output.new) result }
     ensures own { IfErr result IsOfServing }
     ensures device { (result ≡ Err (RunFault.Device Which.Requests)) ↔ (J.failed requests.old < J.failed requests.new) }
     ensures once { CountsAtMostOne (J.failed requests.old) (J.failed requests.new) }
     ensures counts { CountsWrites (O.failed output.old) (O.failed output.new) (O.idle output.old) (O.idle output.new) result }
 {
-    let mut reader = RequestReader::new(crew.alloc, checked.graph.nodes());
+    let mut reader = RequestReader::new(crew.alloc, by.checked.graph.nodes());
     let mut written = 0;
     for _ in 0..u64::MAX {
         let count = read_once(requests, buffer)?;
@@ -88,13 +76,12 @@ fn serve_in<R: Threads + Sync, J: Input, O: Output, G: Gate>(
         reader.feed(&buffer[..count])?;
         answer_whole(
             crew,
-            checked,
+            by,
             scratches,
             &mut reader,
             ended,
             output,
             &mut written,
-            options,
         )?;
         if ended {
             return Ok(());
@@ -120,32 +107,31 @@ fn read_once<J: Input>(requests: &mut J, buffer: &mut [u8]) -> Result<usize, Run
 /// Answers all requests that are whole.
 fn answer_whole<R: Threads + Sync, O: Output, G: Gate>(
     crew: &Crew<'_, R, G>,
-    checked: &Checked,
+    by: &Answering<'_>,
     scratches: &mut Vec<Scratch>,
     reader: &mut RequestReader,
     ended: bool,
     output: &mut O,
     written: &mut u64,
-    options: &Options,
 ) -> Result<(), RunFault>
-    requires limits { IsWithinLimits checked.now.graph }
-    requires kept { IsKept checked.now.graph checked.now.hierarchy }
-    requires scratches { All (λ scratch. scratch ≡ nodes_of checked.now.hierarchy) scratches.old.items }
-    requires nodes { reader.old.nodes ≡ checked.now.graph.nodes }
+    requires limits { IsWithinLimits by.now.checked.now.graph }
+    requires kept { IsKept by.now.checked.now.graph by.now.checked.now.hierarchy }
+    requires scratches { All (λ scratch. scratch ≡ nodes_of by.now.checked.now.hierarchy) scratches.old.items }
+    requires nodes { reader.old.nodes ≡ by.now.checked.now.graph.nodes }
     requires counted { written.old < 2 ^ 64 }
     requires failures { CanCountOneMore (O.failed output.old) }
     requires zeros { CanCountOneMore (O.idle output.old) }
     ensures answered { (given : List RequestOf) × GivesUntil ended reader.old reader.new given result
-        × Answers (IsRequestText options.now checked.now.graph (λ H. H ≡ checked.now.hierarchy)) (O.taken output.old) (O.taken output.new)
+        × Answers (IsRequestText by.now.options.now by.now.checked.now.graph (λ H. H ≡ by.now.checked.now.hierarchy)) (O.taken output.old) (O.taken output.new)
         written.old written.new given result }
     ensures used_up { OnOk result (IsUsedUp ended reader.new) }
     ensures nodes { reader.new.nodes ≡ reader.old.nodes }
-    ensures scratches { All (λ scratch. scratch ≡ nodes_of checked.now.hierarchy) scratches.new.items }
+    ensures scratches { All (λ scratch. scratch ≡ nodes_of by.now.checked.now.hierarchy) scratches.new.items }
     ensures counts { CountsWrites (O.failed output.old) (O.failed output.new) (O.idle output.old) (O.idle output.new) result }
 {
     for _ in 0..u64::MAX {
         let batch = gather(crew.alloc, reader, ended);
-        answer_batch(crew, checked, scratches, &batch, output, written, options)?;
+        answer_batch(crew, by, scratches, &batch, output, written)?;
         if let Some(end) = batch.then.end() {
             return end;
         }

@@ -9,13 +9,13 @@ use Rattle.ch_run.proofs.run.batch.answer_batch.Goals as goal
 pub returns-in_err-answer_queries-clause-answers : goal.returns-in_err-answer_queries-clause-answers
 returns-in_err-answer_queries-clause-answers g c =
     rw (← c.deref.ensures.value)
-    (answers_passed (IsRequestText c.args.options.now c.args.checked.now.graph (λ H. H ≡ c.args.checked.now.hierarchy)) _ _ _ _
+    (answers_passed (IsRequestText c.args.by.now.options.now c.args.by.now.checked.now.graph (λ H. H ≡ c.args.by.now.checked.now.hierarchy)) _ _ _ _
     (map query_from c.deref.result.now) (table_in c.args.batch.now.then) c.in_err-answer_queries.field-0.0 c.from_residual.result c.from_residual.ensures.1
     c.in_err-answer_queries.ensures.own c.in_err-answer_queries.ensures.answers)
 
 pub returns-in-Table-clause-answers : goal.returns-in-Table-clause-answers
 returns-in-Table-clause-answers g c =
     rw (c.in-Table.is, ← c.deref.ensures.value)
-    (answers_more (IsRequestText c.args.options.now c.args.checked.now.graph (λ H. H ≡ c.args.checked.now.hierarchy)) _ _ _ _ _ _
+    (answers_more (IsRequestText c.args.by.now.options.now c.args.by.now.checked.now.graph (λ H. H ≡ c.args.by.now.checked.now.hierarchy)) _ _ _ _ _ _
     (map query_from c.deref.result.now) (Table c.in-Table.lists ∷ []) c.answer_table.result
     c.in_ok-answer_queries.ensures.answers c.answer_table.ensures.answers)

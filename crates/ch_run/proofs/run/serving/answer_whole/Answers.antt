@@ -13,7 +13,7 @@ pub loop-init : goal.loop-init
 loop-init g c = record {
   nodes = refl;
   scratches = c.requires.scratches;
-  answered = ([], gives_none c.args.ended c.args.reader.now, answers_none (IsRequestText c.args.options.now c.args.checked.now.graph (λ H. H ≡ c.args.checked.now.hierarchy)) (g.O.Output.taken c.args.output.now) c.args.written.now c.requires.counted);
+  answered = ([], gives_none c.args.ended c.args.reader.now, answers_none (IsRequestText c.args.by.now.options.now c.args.by.now.checked.now.graph (λ H. H ≡ c.args.by.now.checked.now.hierarchy)) (g.O.Output.taken c.args.output.now) c.args.written.now c.requires.counted);
   failed = refl;
   idle = refl;
 }
@@ -27,8 +27,8 @@ returns-in_err-answer_batch-clause-answered g c =
       so_far.0 ++ these,
       gives_on c.args.ended c.args.reader.now c.loop.reader c.gather-batch.new.reader so_far.0 these r so_far.1
           (given_anyway c.args.ended c.loop.reader c.gather-batch.new.reader these (end_of c.gather-batch.result.then) e r c.gather-batch.ensures.given c.in_err-answer_batch.ensures.own c.from_residual.ensures.1),
-      answers_more (IsRequestText c.args.options.now c.args.checked.now.graph (λ H. H ≡ c.args.checked.now.hierarchy)) _ _ _ _ _ _ so_far.0 these r so_far.2
-          (answers_err (IsRequestText c.args.options.now c.args.checked.now.graph (λ H. H ≡ c.args.checked.now.hierarchy)) _ _ _ _ these e r c.from_residual.ensures.1 c.in_err-answer_batch.ensures.answers),
+      answers_more (IsRequestText c.args.by.now.options.now c.args.by.now.checked.now.graph (λ H. H ≡ c.args.by.now.checked.now.hierarchy)) _ _ _ _ _ _ so_far.0 these r so_far.2
+          (answers_err (IsRequestText c.args.by.now.options.now c.args.by.now.checked.now.graph (λ H. H ≡ c.args.by.now.checked.now.hierarchy)) _ _ _ _ these e r c.from_residual.ensures.1 c.in_err-answer_batch.ensures.answers),
     )
 
 pub returns-in-Some-clause-answered : goal.returns-in-Some-clause-answered
@@ -39,9 +39,9 @@ returns-in-Some-clause-answered g c =
       so_far.0 ++ these,
       subst (λ (r : Result Unit RunFault). GivesUntil c.args.ended c.args.reader.now c.gather-batch.new.reader (so_far.0 ++ these) r) (sym same)
           (gives_on c.args.ended c.args.reader.now c.loop.reader c.gather-batch.new.reader so_far.0 these (end_of c.gather-batch.result.then) so_far.1 c.gather-batch.ensures.given),
-      subst (λ (r : Result Unit RunFault). Answers (IsRequestText c.args.options.now c.args.checked.now.graph (λ H. H ≡ c.args.checked.now.hierarchy)) (g.O.Output.taken c.args.output.now) (g.O.Output.taken c.answer_batch.new.output) c.args.written.now c.answer_batch.new.written (so_far.0 ++ these) r) (sym same)
-          (answers_end (IsRequestText c.args.options.now c.args.checked.now.graph (λ H. H ≡ c.args.checked.now.hierarchy)) c.loop.reader.nodes _ _ _ _ (so_far.0 ++ these) c.gather-batch.result.then c.gather-batch.ensures.batch.within
-          (answers_more (IsRequestText c.args.options.now c.args.checked.now.graph (λ H. H ≡ c.args.checked.now.hierarchy)) {T = Unit} _ _ _ _ _ _ so_far.0 these (Ok tt) so_far.2 c.in_ok-answer_batch.ensures.answers)),
+      subst (λ (r : Result Unit RunFault). Answers (IsRequestText c.args.by.now.options.now c.args.by.now.checked.now.graph (λ H. H ≡ c.args.by.now.checked.now.hierarchy)) (g.O.Output.taken c.args.output.now) (g.O.Output.taken c.answer_batch.new.output) c.args.written.now c.answer_batch.new.written (so_far.0 ++ these) r) (sym same)
+          (answers_end (IsRequestText c.args.by.now.options.now c.args.by.now.checked.now.graph (λ H. H ≡ c.args.by.now.checked.now.hierarchy)) c.loop.reader.nodes _ _ _ _ (so_far.0 ++ these) c.gather-batch.result.then c.gather-batch.ensures.batch.within
+          (answers_more (IsRequestText c.args.by.now.options.now c.args.by.now.checked.now.graph (λ H. H ≡ c.args.by.now.checked.now.hierarchy)) {T = Unit} _ _ _ _ _ _ so_far.0 these (Ok tt) so_far.2 c.in_ok-answer_batch.ensures.answers)),
     )
 
 pub returns-in-Some-clause-counts : goal.returns-in-Some-clause-counts
@@ -63,7 +63,7 @@ loop-preserved g c =
         gives_more c.args.ended c.args.reader.now c.loop.reader c.gather-batch.new.reader so_far.0 these so_far.1
             (given_well c.args.ended c.loop.reader c.gather-batch.new.reader these
             (subst (λ (r : Result Unit RunFault). GivesUntil c.args.ended c.loop.reader c.gather-batch.new.reader these r) goes c.gather-batch.ensures.given)),
-        answers_more (IsRequestText c.args.options.now c.args.checked.now.graph (λ H. H ≡ c.args.checked.now.hierarchy)) {T = Unit} _ _ _ _ _ _ so_far.0 these (Ok tt) so_far.2 c.in_ok-answer_batch.ensures.answers,
+        answers_more (IsRequestText c.args.by.now.options.now c.args.by.now.checked.now.graph (λ H. H ≡ c.args.by.now.checked.now.hierarchy)) {T = Unit} _ _ _ _ _ _ so_far.0 these (Ok tt) so_far.2 c.in_ok-answer_batch.ensures.answers,
       );
       failed = same.0 ∙ c.loop.invariant.failed;
       idle = same.1 ∙ c.loop.invariant.idle;
@@ -74,5 +74,5 @@ returns-clause-answered g c =
     let so_far = c.loop.invariant.answered in (
       so_far.0,
       given_without c.args.ended c.args.reader.now c.loop.reader c.loop.reader so_far.0 Memory so_far.1 (λ next rest. tt),
-      answers_end (IsRequestText c.args.options.now c.args.checked.now.graph (λ H. H ≡ c.args.checked.now.hierarchy)) 0 _ _ _ _ so_far.0 (Stop Memory) tt so_far.2,
+      answers_end (IsRequestText c.args.by.now.options.now c.args.by.now.checked.now.graph (λ H. H ≡ c.args.by.now.checked.now.hierarchy)) 0 _ _ _ _ so_far.0 (Stop Memory) tt so_far.2,
     )

@@ -10,9 +10,9 @@ use Rattle.ch_run.proofs.run.serving.answer_whole.Given as goal
 abbrev pub invariant-loop : goal.invariant-loop
 invariant-loop g l = record {
   nodes : l.reader.nodes ≡ l.initial.reader.nodes;
-  scratches : All (λ scratch. scratch ≡ nodes_of l.checked.hierarchy) l.scratches.items;
+  scratches : All (λ scratch. scratch ≡ nodes_of l.by.checked.now.hierarchy) l.scratches.items;
   answered : (given : List Request) × Gives l.ended l.initial.reader l.reader given
-      × Answers {T = Unit} (IsRequestText l.options l.checked.graph (λ H. H ≡ l.checked.hierarchy)) (g.O.Output.taken l.initial.output) (g.O.Output.taken l.output)
+      × Answers {T = Unit} (IsRequestText l.by.options.now l.by.checked.now.graph (λ H. H ≡ l.by.checked.now.hierarchy)) (g.O.Output.taken l.initial.output) (g.O.Output.taken l.output)
       l.initial.written l.written given (Ok tt);
   failed : g.O.Output.failed l.output ≡ g.O.Output.failed l.initial.output;
   idle : g.O.Output.idle l.output ≡ g.O.Output.idle l.initial.output;

@@ -12,8 +12,8 @@ use Rattle.ch_run.proofs.run.serving.serve_in.Goals as goal
 
 pub loop-init : goal.loop-init
 loop-init g c =
-    let P = IsRequestText c.args.options.now c.args.checked.now.graph (λ H. H ≡ c.args.checked.now.hierarchy) in
-    let n = c.args.checked.now.graph.nodes in
+    let P = IsRequestText c.args.by.now.options.now c.args.by.now.checked.now.graph (λ H. H ≡ c.args.by.now.checked.now.hierarchy) in
+    let n = c.args.by.now.checked.now.graph.nodes in
     record {
       room = c.requires.buffer;
       scratches = c.requires.scratches;
@@ -25,8 +25,8 @@ loop-init g c =
 
 pub loop-preserved : goal.loop-preserved
 loop-preserved g c =
-    let P = IsRequestText c.args.options.now c.args.checked.now.graph (λ H. H ≡ c.args.checked.now.hierarchy) in
-    let n = c.args.checked.now.graph.nodes in
+    let P = IsRequestText c.args.by.now.options.now c.args.by.now.checked.now.graph (λ H. H ≡ c.args.by.now.checked.now.hierarchy) in
+    let n = c.args.by.now.checked.now.graph.nodes in
     let room : 0 < length c.read_once.new.buffer = (let some = c.loop.invariant.room in omega arith) in
     let had = fed_more P n RunFault (g.J.Input.left c.args.requests.now) (g.J.Input.left c.loop.requests) (g.J.Input.left c.read_once.new.requests) (g.O.Output.taken c.args.output.now) (g.O.Output.taken c.loop.output)
     c.loop.written c.loop.reader c.feed.new.self c.read_once.new.buffer _ c.in_ok-count.count c.in_ok-feed.ensures.fed refl c.loop.invariant.served c.in_ok-count.ensures.bytes room in
@@ -44,8 +44,8 @@ loop-preserved g c =
 
 pub returns-in_err-count-clause-served : goal.returns-in_err-count-clause-served
 returns-in_err-count-clause-served g c =
-    let P = IsRequestText c.args.options.now c.args.checked.now.graph (λ H. H ≡ c.args.checked.now.hierarchy) in
-    let n = c.args.checked.now.graph.nodes in
+    let P = IsRequestText c.args.by.now.options.now c.args.by.now.checked.now.graph (λ H. H ≡ c.args.by.now.checked.now.hierarchy) in
+    let n = c.args.by.now.checked.now.graph.nodes in
     let r = c.from_residual.result in
     let is = subst (λ (e : RunFault). IsErrAnd r (λ y. y ≡ e)) c.in_err-count.ensures.own c.from_residual.ensures.1 in
     passes_end P n (reading g.J.Input.left c.args.requests.now c.read_once.new.requests) _ _ r (Device Requests) is
@@ -54,8 +54,8 @@ returns-in_err-count-clause-served g c =
 
 pub returns-in_err-feed-clause-served : goal.returns-in_err-feed-clause-served
 returns-in_err-feed-clause-served g c =
-    let P = IsRequestText c.args.options.now c.args.checked.now.graph (λ H. H ≡ c.args.checked.now.hierarchy) in
-    let n = c.args.checked.now.graph.nodes in
+    let P = IsRequestText c.args.by.now.options.now c.args.by.now.checked.now.graph (λ H. H ≡ c.args.by.now.checked.now.hierarchy) in
+    let n = c.args.by.now.checked.now.graph.nodes in
     let room : 0 < length c.read_once.new.buffer = (let some = c.loop.invariant.room in omega arith) in
     passes_end P n (reading g.J.Input.left c.args.requests.now c.read_once.new.requests) _ _ c.from_residual-in_err-feed.result Memory c.from_residual-in_err-feed.ensures.1
     (served_unfed P n RunFault (g.J.Input.left c.args.requests.now) (g.J.Input.left c.loop.requests) (g.J.Input.left c.read_once.new.requests) (g.O.Output.taken c.args.output.now) (g.O.Output.taken c.loop.output)
@@ -63,8 +63,8 @@ returns-in_err-feed-clause-served g c =
 
 pub returns-in_err-answer_whole-clause-served : goal.returns-in_err-answer_whole-clause-served
 returns-in_err-answer_whole-clause-served g c =
-    let P = IsRequestText c.args.options.now c.args.checked.now.graph (λ H. H ≡ c.args.checked.now.hierarchy) in
-    let n = c.args.checked.now.graph.nodes in
+    let P = IsRequestText c.args.by.now.options.now c.args.by.now.checked.now.graph (λ H. H ≡ c.args.by.now.checked.now.hierarchy) in
+    let n = c.args.by.now.checked.now.graph.nodes in
     let room : 0 < length c.read_once.new.buffer = (let some = c.loop.invariant.room in omega arith) in
     let had = fed_more P n RunFault (g.J.Input.left c.args.requests.now) (g.J.Input.left c.loop.requests) (g.J.Input.left c.read_once.new.requests) (g.O.Output.taken c.args.output.now) (g.O.Output.taken c.loop.output)
     c.loop.written c.loop.reader c.feed.new.self c.read_once.new.buffer _ c.in_ok-count.count c.in_ok-feed.ensures.fed refl c.loop.invariant.served c.in_ok-count.ensures.bytes room in
@@ -88,8 +88,8 @@ returns-in_err-answer_whole-clause-counts g c =
 
 pub returns-then-ended-clause-served : goal.returns-then-ended-clause-served
 returns-then-ended-clause-served g c =
-    let P = IsRequestText c.args.options.now c.args.checked.now.graph (λ H. H ≡ c.args.checked.now.hierarchy) in
-    let n = c.args.checked.now.graph.nodes in
+    let P = IsRequestText c.args.by.now.options.now c.args.by.now.checked.now.graph (λ H. H ≡ c.args.by.now.checked.now.hierarchy) in
+    let n = c.args.by.now.checked.now.graph.nodes in
     let room : 0 < length c.read_once.new.buffer = (let some = c.loop.invariant.room in omega arith) in
     let had = fed_more P n RunFault (g.J.Input.left c.args.requests.now) (g.J.Input.left c.loop.requests) (g.J.Input.left c.read_once.new.requests) (g.O.Output.taken c.args.output.now) (g.O.Output.taken c.loop.output)
     c.loop.written c.loop.reader c.feed.new.self c.read_once.new.buffer _ c.in_ok-count.count c.in_ok-feed.ensures.fed refl c.loop.invariant.served c.in_ok-count.ensures.bytes room in
@@ -99,6 +99,6 @@ returns-then-ended-clause-served g c =
 
 pub returns-clause-served : goal.returns-clause-served
 returns-clause-served g c =
-    let P = IsRequestText c.args.options.now c.args.checked.now.graph (λ H. H ≡ c.args.checked.now.hierarchy) in
-    let n = c.args.checked.now.graph.nodes in
+    let P = IsRequestText c.args.by.now.options.now c.args.by.now.checked.now.graph (λ H. H ≡ c.args.by.now.checked.now.hierarchy) in
+    let n = c.args.by.now.checked.now.graph.nodes in
     served_long P n (reading g.J.Input.left c.args.requests.now c.loop.requests) _ _ c.loop.written c.loop.reader c.loop.invariant.served

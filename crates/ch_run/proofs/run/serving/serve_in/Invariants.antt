@@ -9,8 +9,8 @@ use Rattle.ch_run.proofs.run.serving.serve_in.Given as goal
 abbrev pub invariant-loop : goal.invariant-loop
 invariant-loop g l = record {
   room : 0 < length l.buffer;
-  scratches : All (λ scratch. scratch ≡ nodes_of l.checked.hierarchy) l.scratches.items;
-  served : HasServed (IsRequestText l.options l.checked.graph (λ H. H ≡ l.checked.hierarchy)) l.checked.graph.nodes
+  scratches : All (λ scratch. scratch ≡ nodes_of l.by.checked.now.hierarchy) l.scratches.items;
+  served : HasServed (IsRequestText l.by.options.now l.by.checked.now.graph (λ H. H ≡ l.by.checked.now.hierarchy)) l.by.checked.now.graph.nodes
       (reading g.J.Input.left l.initial.requests l.requests) (g.O.Output.taken l.initial.output) (g.O.Output.taken l.output) l.written l.reader;
   reads : g.J.Input.failed l.requests ≡ g.J.Input.failed l.initial.requests;
   failed : g.O.Output.failed l.output ≡ g.O.Output.failed l.initial.output;
