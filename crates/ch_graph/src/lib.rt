@@ -17,8 +17,6 @@ pub mod limits;
 mod plain;
 mod rows;
 mod saved;
-#[cfg(test)]
-mod tests;
 pub mod walk_laws;
 
 pub use arc::InArc;

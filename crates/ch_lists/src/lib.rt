@@ -10,7 +10,5 @@
 mod lists;
 mod packing;
 mod place;
-#[cfg(test)]
-mod tests;
 
 pub use lists::Lists;

@@ -11,7 +11,5 @@
 
 mod heap;
 mod queue;
-#[cfg(test)]
-mod tests;
 
 pub use queue::KeyQueue;

@@ -62,8 +62,6 @@ mod request_fault;
 mod request_line;
 mod request_reader;
 mod saved;
-#[cfg(test)]
-mod tests;
 
 pub use fault::{FaultKind, ReadError, ReadFault};
 pub use form::Form;

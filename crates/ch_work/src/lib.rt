@@ -43,6 +43,3 @@ pub use paying::pay;
 pub use pieces::{run_pieces, run_pieces_in, run_pieces_with_rooms};
 pub use plan::Plan;
 pub use test_gates::{CountingGate, MeetingGate};
-
-#[cfg(test)]
-mod tests;

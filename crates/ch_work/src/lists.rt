@@ -29,29 +29,3 @@ pub fn joined<T: Drop>(alloc: Global, lists: Vec<Vec<T>>) -> Result<Vec<T>, Allo
     }
     Ok(all)
 }
-
-#[cfg(test)]
-mod tests {
-    use super::joined;
-    use std::test::Fail;
-
-    #[test]
-    fn lists_come_after_one_another(rt: HostRuntime) -> Result<(), Fail> {
-        let alloc = rt.alloc();
-        let lists = vec![in alloc;
-            Vec::from_slice(alloc, &[3u32, 1])?,
-            Vec::new(alloc),
-            Vec::from_slice(alloc, &[2])?,
-        ]?;
-        let all = joined(alloc, lists)?;
-        assert_eq!(rt; all.as_slice(), [3, 1, 2].as_slice());
-        Ok(())
-    }
-
-    #[test]
-    fn no_lists_give_no_items(rt: HostRuntime) -> Result<(), Fail> {
-        let all = joined::<u32>(rt.alloc(), Vec::new(rt.alloc()))?;
-        assert!(rt; all.is_empty());
-        Ok(())
-    }
-}

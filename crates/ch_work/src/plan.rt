@@ -70,25 +70,3 @@ impl Plan {
         self.wide
     }
 }
-
-#[cfg(test)]
-mod tests {
-    use super::Plan;
-
-    #[test]
-    fn a_plan_gives_its_numbers_back(rt: HostRuntime) {
-        let plan = Plan::new(64, 1_048_576, 0);
-        assert_eq!(rt;
-            (plan.workers(), plan.piece(), plan.wide()),
-            (64, 1_048_576, 0)
-        );
-    }
-
-    #[test]
-    fn the_last_piece_may_have_fewer_items(rt: HostRuntime) {
-        let plan = Plan::new(1, 3, 64);
-        for (items, pieces) in [(0, 0), (1, 1), (3, 1), (4, 2), (u32::MAX, 1_431_655_765)] {
-            assert_eq!(rt; plan.pieces(items), pieces);
-        }
-    }
-}

@@ -1,0 +1,11 @@
+use Rattle.std.proofs.Common.{◌≡◌, ℕ, ◌+◌, ◌*◌, ◌<◌, ◌≤◌}
+use Rattle.ch_work.specs.Owed.{HasPaid}
+use Rattle.ch_work.specs.Passes.{view_of, IsPassOf}
+use Rattle.ch_checks.proofs.work.cells.FallingCellJob.piece.Given as goal
+
+-- what the items so far owe
+abbrev pub Owed : ℕ → ℕ → ℕ → ℕ → Type 0
+Owed from to cell x = (item : ℕ) × (from ≤ item) × (item < to) × (cell ≡ 0) × (x + 2 * item ≡ 9)
+
+abbrev pub invariant-loop-item : goal.invariant-loop-item
+invariant-loop-item l = IsPassOf l.board l.pass × HasPaid (Owed l.from l.item) (view_of l.fn.pass) (view_of l.pass)

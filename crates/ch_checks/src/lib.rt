@@ -1,0 +1,18 @@
+//! Tests of the crates below the runs, through their public calls: what no clause says.
+//!
+//! That is that calls succeed where there is memory, values from outside, texts of faults, what a refusal of memory
+//! leaves, and what workers do at once. Nothing but tests stands here, so the crates below are proved once.
+#![tactic(auto)]
+
+#[cfg(test)]
+mod again;
+#[cfg(test)]
+mod graph;
+#[cfg(test)]
+mod lists;
+#[cfg(test)]
+mod queue;
+#[cfg(test)]
+mod reading;
+#[cfg(test)]
+mod work;

@@ -1,0 +1,88 @@
+//! Lists in one array: what they hold, and how much room they take.
+ghost use Rattle.std.specs.Prelude.{◌≡◌, ◌<◌, length};
+
+use crate::again::again;
+use ch_lists::Lists;
+use std::alloc::AllocError;
+use std::process::Abort;
+use std::test::Fail;
+
+#[test]
+fn lists_change_and_go_on_after_packing(rt: HostRuntime) -> Result<(), Fail> {
+    let mut lists = Lists::with_rooms(rt.alloc(), &[0, 2, 1, 5], 'a')?;
+    assert_eq!(rt; lists.list_count(), 4);
+    for letter in ['e', 'd', 'c', 'b'] {
+        lists.insert(1, 0, letter)?;
+    }
+    lists.insert(2, 0, 'z')?;
+    lists.insert(0, 0, 'g')?;
+    assert_eq!(rt; lists.at(1), ['b', 'c', 'd', 'e'].as_slice());
+    lists.remove(1, 1);
+    lists.hand_over(1, 2);
+    lists.pack()?;
+    assert_eq!(rt; lists.room(), 4);
+    assert_eq!(rt; lists.at(0), ['g'].as_slice());
+    assert_eq!(rt; lists.at(1), [].as_slice());
+    assert_eq!(rt; lists.at(2), ['b', 'd', 'e'].as_slice());
+    lists.insert(1, 0, 'h')?;
+    assert_eq!(rt; lists.at(1), ['h'].as_slice());
+    assert_eq!(rt; lists.at(2), ['b', 'd', 'e'].as_slice());
+    Ok(())
+}
+
+#[test]
+fn the_first_lists_are_skipped(rt: HostRuntime) -> Result<(), Fail> {
+    let mut lists = Lists::with_rooms(rt.alloc(), &[1, 1, 0], 'a')?;
+    lists.insert(0, 0, 'b')?;
+    lists.insert(2, 0, 'c')?;
+    let mut rest = lists.skip(1);
+    assert_eq!(rt; rest.list_count(), 2);
+    rest.insert(0, 0, 'd')?;
+    assert_eq!(rt; rest.at(0), ['d'].as_slice());
+    assert_eq!(rt; rest.at(1), ['c'].as_slice());
+    Ok(())
+}
+
+/// Inserts `value` at the front of a list, asked twice where it must be: a refusal leaves the lists as they were.
+fn insert_again<R: Abort>(rt: &R, lists: &mut Lists<u64>, list: u32, value: u64) -> Result<(), Fail>
+    requires { list < length lists.old }
+    ensures { length lists.new ≡ length lists.old }
+{
+    let len = lists.at(list).len();
+    if lists.insert(list, 0, value).is_err() {
+        assert_eq!(rt; lists.at(list).len(), len);
+        lists.insert(list, 0, value)?;
+    }
+    Ok(())
+}
+
+/// Packs the lists, asked twice where it must be: a refusal leaves them, and their room, as they were.
+fn pack_again<R: Abort>(rt: &R, lists: &mut Lists<u64>) -> Result<(), Fail>
+    ensures { length lists.new ≡ length lists.old }
+{
+    let room = lists.room();
+    if lists.pack().is_err() {
+        assert_eq!(rt; lists.room(), room);
+        lists.pack()?;
+    }
+    Ok(())
+}
+
+/// It holds when any one request for memory is refused: the call that meets the refusal answers `AllocError`, and
+/// asked again it does what it does with ample memory. Rooms of 2^32 values together are refused before any memory is
+/// taken.
+#[test]
+fn refused_in_turn(rt: HostRuntime) -> Result<(), Fail> {
+    let mut lists = again!(Lists::with_rooms(rt.alloc(), &[1, 2], 0));
+    for value in 0..6 {
+        insert_again(&rt, &mut lists, 0, value)?;
+        insert_again(&rt, &mut lists, 1, value + 6)?;
+    }
+    pack_again(&rt, &mut lists)?;
+    assert_eq!(rt; lists.room(), 12);
+    assert_eq!(rt; lists.at(0), [5, 4, 3, 2, 1, 0].as_slice());
+    assert_eq!(rt; lists.at(1), [11, 10, 9, 8, 7, 6].as_slice());
+    let large = Lists::with_rooms(rt.alloc(), &[u32::MAX, 1], 0u64);
+    assert!(rt; matches!(large, Err(AllocError)));
+    Ok(())
+}

@@ -1,0 +1,118 @@
+//! Requests that come in parts, faulty ones, and long streams.
+use ch_read::{Request, RequestError, RequestReader};
+use std::alloc::{AllocError, Global};
+use std::process::Abort;
+use std::test::Fail;
+
+/// Feeds these bytes, a second time where memory was refused the first time.
+fn feed(reader: &mut RequestReader, bytes: &[u8]) -> Result<(), AllocError> {
+    match reader.feed(bytes) {
+        Err(_) => reader.feed(bytes),
+        fed => fed,
+    }
+}
+
+/// The next request, asked for a second time where memory was refused the first time.
+fn next(
+    alloc: Global,
+    reader: &mut RequestReader,
+    ended: bool,
+) -> Result<Option<Request>, RequestError> {
+    match reader.next(alloc, ended) {
+        Err(RequestError::NoMemory) => reader.next(alloc, ended),
+        given => given,
+    }
+}
+
+/// Expects the query between these nodes.
+fn expect_query<R: Abort>(rt: &R, given: Option<Request>, nodes: (u32, u32)) {
+    match given {
+        Some(Request::Query(from, to)) => assert_eq!(rt; (from, to), nodes),
+        _ => assert!(rt; false, "no query"),
+    }
+}
+
+/// Expects a table of these nodes.
+fn expect_table<R: Abort>(rt: &R, given: Option<Request>, sources: &[u32], targets: &[u32]) {
+    match given {
+        Some(Request::Table(lists)) => {
+            assert_eq!(rt; lists.sources(), sources);
+            assert_eq!(rt; lists.targets(), targets);
+        }
+        _ => assert!(rt; false, "no table"),
+    }
+}
+
+/// It holds when any one request for memory is refused: the call that meets the refusal tells it, and made again it
+/// goes on as with ample memory.
+#[test]
+fn requests_come_refused_in_turn(rt: HostRuntime) -> Result<(), Fail> {
+    let alloc = rt.alloc();
+    let mut reader = RequestReader::new(alloc, 9);
+    feed(&mut reader, b"q 1 3\nt 1 2\ns 4\n")?;
+    expect_query(&rt, next(alloc, &mut reader, false)?, (0, 2));
+    assert!(rt; next(alloc, &mut reader, false)?.is_none());
+    feed(&mut reader, b"s 5\nc\ns 6\nt 0 0\nq 9")?;
+    expect_table(&rt, next(alloc, &mut reader, false)?, &[3], &[4, 5]);
+    expect_table(&rt, next(alloc, &mut reader, false)?, &[], &[]);
+    assert!(rt; next(alloc, &mut reader, false)?.is_none());
+    feed(&mut reader, b" 9")?;
+    expect_query(&rt, next(alloc, &mut reader, true)?, (8, 8));
+    assert!(rt; next(alloc, &mut reader, true)?.is_none());
+    Ok(())
+}
+
+/// A fault is told again by each further call, whatever is fed.
+#[test]
+fn faults_are_told_again(rt: HostRuntime) -> Result<(), Fail> {
+    let alloc = rt.alloc();
+    for (text, expected) in [
+        ("c\nq 1 10\nq 1 1\n", "line 2: node out of range"),
+        ("t 4096 1025\n", "line 1: too many cells"),
+    ] {
+        let mut reader = RequestReader::new(alloc, 9);
+        reader.feed(text.as_bytes())?;
+        for _ in 0..3 {
+            match reader.next(alloc, false) {
+                Err(error) => assert_eq!(rt; format!(in alloc; "{error}")?.as_str(), expected),
+                Ok(_) => assert!(rt; false, "no fault"),
+            }
+            reader.feed(b"q 1 1\n")?;
+        }
+    }
+    let refused = RequestError::NoMemory;
+    assert_eq!(rt; format!(in alloc; "{refused}")?.as_str(), "out of memory");
+    Ok(())
+}
+
+/// An unfinished line is searched from where the last search ended, so this takes time in the number of bytes.
+#[test]
+fn a_line_of_a_million_bytes_comes_one_by_one(rt: HostRuntime) -> Result<(), Fail> {
+    let alloc = rt.alloc();
+    let mut reader = RequestReader::new(alloc, 9);
+    for _ in 0..1_000_000 {
+        reader.feed(b"c")?;
+        assert!(rt; reader.next(alloc, false)?.is_none());
+    }
+    reader.feed(b"\nq 1 3\n")?;
+    expect_query(&rt, reader.next(alloc, false)?, (0, 2));
+    Ok(())
+}
+
+/// Bytes are moved no oftener than lines are let go of, so this takes time in the number of bytes.
+#[test]
+fn bytes_come_between_two_hundred_thousand_requests(rt: HostRuntime) -> Result<(), Fail> {
+    let alloc = rt.alloc();
+    let mut bytes = Vec::new(alloc);
+    for _ in 0..200_000 {
+        bytes.extend_from_slice(b"q 1 3\n")?;
+    }
+    let mut reader = RequestReader::new(alloc, 9);
+    reader.feed(&bytes)?;
+    for _ in 0..200_000 {
+        expect_query(&rt, reader.next(alloc, false)?, (0, 2));
+        reader.feed(b"\n")?;
+    }
+    assert!(rt; reader.next(alloc, true)?.is_none());
+    Ok(())
+}

@@ -1,0 +1,168 @@
+//! Jobs with rooms at concrete types, and what no clause says: how many rooms are made.
+ghost use Rattle.std.specs.Prelude.{◌≡◌, ◌+◌, ◌<◌, ◌^◌, [], ◌∷◌, length, All, IfOk};
+ghost use Rattle.std.specs.List.{AllZip};
+
+use crate::again::again;
+use ch_work::{ListJob, Open, Plan, RoomJob, run_list, run_list_in_room, run_pieces_with_rooms};
+use std::alloc::{AllocError, Global};
+use std::sync::atomic::{AtomicU64, Ordering};
+use std::test::Fail;
+use std::thread::Threads;
+
+/// The value of a range is its last number and one more, noted in the room and wiped from it. It counts the
+/// rooms that it made, of which it has memory for so many.
+#[derive(Drop)]
+struct Ends {
+    items: u32,
+    most: u64,
+    rooms: AtomicU64,
+}
+
+impl RoomJob for Ends {
+    type Room = Vec<u32>;
+
+    type Out = u32;
+
+    ghost size = { λ job. job.items };
+
+    ghost meaning = { λ job from to end. end ≡ to };
+
+    ghost clean = { λ job room. room.items ≡ [] };
+
+    fn room(&self, alloc: Global) -> Result<Vec<u32>, AllocError> {
+        if self.rooms.fetch_add(1, Ordering::SeqCst) >= self.most {
+            return Err(AllocError);
+        }
+        Ok(Vec::new(alloc))
+    }
+
+    fn piece(
+        &self,
+        _alloc: Global,
+        room: &mut Vec<u32>,
+        _from: u32,
+        to: u32,
+    ) -> Result<u32, AllocError> {
+        room.push(to)?;
+        Ok(room.pop().unwrap_or(0))
+    }
+}
+
+/// The ends of ten items in pieces of three.
+fn run_ends<R: Threads + Sync>(
+    rt: &R,
+    alloc: Global,
+    workers: u32,
+    job: &Ends,
+) -> Result<Vec<u32>, AllocError>
+    requires workers { (0 < workers) × (workers < 65) }
+    requires job { job.now.items ≡ 10 }
+{
+    let plan = Plan::new(workers, 3, 64);
+    run_pieces_with_rooms(rt, alloc, 10, &plan, &Open, job)
+}
+
+/// The rooms that a job has memory for, none made yet.
+fn job_with(most: u64) -> Ends
+    ensures { result.items ≡ 10 }
+{
+    Ends {
+        items: 10,
+        most,
+        rooms: AtomicU64::new(0),
+    }
+}
+
+/// Where there is no memory for the last room, that is answered.
+#[test]
+fn each_worker_makes_a_room(rt: HostRuntime) -> Result<(), Fail> {
+    for workers in [1, 2, 64] {
+        let rooms = u64::from(workers.min(4));
+        let job = job_with(rooms);
+        let ends = run_ends(&rt, rt.alloc(), workers, &job)?;
+        assert_eq!(rt; ends.as_slice(), [3, 6, 9, 10].as_slice());
+        assert_eq!(rt; job.rooms.load(Ordering::SeqCst), rooms);
+        let short = job_with(rooms.saturating_sub(1));
+        assert!(rt; run_ends(&rt, rt.alloc(), workers, &short).is_err());
+    }
+    Ok(())
+}
+
+/// Each number once more than it is, by a room of one place.
+#[derive(Drop)]
+struct Successors {
+    step: u32,
+}
+
+impl ListJob for Successors {
+    type Item = u32;
+
+    type Room = Vec<u32>;
+
+    type Out = u32;
+
+    ghost takes = { λ job number. number + job.step < 2 ^ 32 };
+
+    ghost meaning = { λ job number successor. successor ≡ number + job.step };
+
+    ghost clean = { λ job room. room.items ≡ 0 ∷ [] };
+
+    fn room(&self, alloc: Global) -> Result<Vec<u32>, AllocError> {
+        Vec::from_slice(alloc, &[0])
+    }
+
+    fn value(&self, _alloc: Global, room: &mut Vec<u32>, item: &u32) -> Result<u32, AllocError> {
+        room[0] = *item;
+        let successor = room[0] + self.step;
+        room[0] = 0;
+        Ok(successor)
+    }
+}
+
+/// The successors of the numbers: no answer is needed for a caller's proof.
+fn run_successors<R: Threads + Sync>(
+    rt: &R,
+    alloc: Global,
+    numbers: &[u32],
+    plan: &Plan,
+) -> Result<Vec<u32>, AllocError>
+    requires small { All (λ number. number < 1000) numbers.now }
+    requires length { length numbers.now < 1000 }
+    ensures { IfOk result (λ list. AllZip (λ number successor. successor ≡ number + 1) numbers.now list.items) }
+{
+    run_list(rt, alloc, numbers, plan, &Open, &Successors { step: 1 })
+}
+
+#[test]
+fn a_list_has_its_values_in_order(rt: HostRuntime) -> Result<(), Fail> {
+    let alloc = rt.alloc();
+    for workers in [1, 2, 64] {
+        for piece in [1, 2, 1000] {
+            let plan = Plan::new(workers, piece, 64);
+            let list = run_successors(&rt, alloc, &[3, 0, 9, 9, 1], &plan)?;
+            assert_eq!(rt; list.as_slice(), [4, 1, 10, 10, 2].as_slice());
+            assert!(rt; run_successors(&rt, alloc, &[], &plan)?.is_empty());
+        }
+    }
+    Ok(())
+}
+
+/// A room serves several lists. It holds when any one request for memory is refused.
+#[test]
+fn lists_and_rooms_refused_in_turn(rt: HostRuntime) -> Result<(), Fail> {
+    let alloc = rt.alloc();
+    let job = Successors { step: 1 };
+    let plan = Plan::new(2, 2, 64);
+    let list = again!(run_successors(&rt, alloc, &[3, 0, 7], &plan));
+    assert_eq!(rt; list.as_slice(), [4, 1, 8].as_slice());
+    let mut room = again!(job.room(alloc));
+    let first = again!(run_list_in_room(alloc, &[3, 0], &plan, &Open, &mut room, &job));
+    let second = again!(run_list_in_room(alloc, &[9], &plan, &Open, &mut room, &job));
+    assert_eq!(rt;
+        (first.as_slice(), second.as_slice()),
+        ([4, 1].as_slice(), [10].as_slice())
+    );
+    let found = again!(run_ends(&rt, alloc, 2, &job_with(64)));
+    assert_eq!(rt; found.as_slice(), [3, 6, 9, 10].as_slice());
+    Ok(())
+}
