@@ -7,12 +7,22 @@
 #[cfg(test)]
 mod again;
 #[cfg(test)]
+mod contract;
+#[cfg(test)]
+mod examples;
+#[cfg(test)]
 mod graph;
 #[cfg(test)]
+mod hierarchy;
+#[cfg(test)]
 mod lists;
+#[cfg(test)]
+mod query;
 #[cfg(test)]
 mod queue;
 #[cfg(test)]
 mod reading;
+#[cfg(test)]
+mod table;
 #[cfg(test)]
 mod work;

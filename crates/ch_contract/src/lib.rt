@@ -29,6 +29,3 @@ pub use construction::{build, build_by};
 pub use measure::OrderBy;
 pub use remaining::{Remaining, Removed};
 pub use shortcut::Shortcut;
-
-#[cfg(test)]
-mod tests;

@@ -22,6 +22,3 @@ pub use fault::{CheckError, CheckFault};
 pub use hierarchy::Hierarchy;
 pub use leg::Leg;
 pub use ranked::RankedLeg;
-
-#[cfg(test)]
-mod tests;

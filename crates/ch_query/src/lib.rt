@@ -42,6 +42,3 @@ pub use scratch::Scratch;
 pub use side::Side;
 pub use spaces::{ranked_space, search_space};
 pub use spreading::spread;
-
-#[cfg(test)]
-mod tests;

@@ -88,17 +88,3 @@ impl Dealing {
         }
     }
 }
-
-#[cfg(test)]
-mod tests {
-    use super::Dealing;
-
-    /// Ten nodes over pieces of four, four and two items, from the highest on.
-    #[test]
-    fn high_nodes_go_to_the_ends_of_all_pieces(rt: HostRuntime) {
-        let dealing = Dealing::new(10, 4);
-        for (rank, item) in [3, 7, 9, 2, 6, 8, 1, 5, 0, 4].iter().enumerate() {
-            assert_eq!(rt; dealing.item(rank as u32), *item);
-        }
-    }
-}

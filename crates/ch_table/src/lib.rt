@@ -19,6 +19,3 @@ mod sums;
 pub use buckets::Buckets;
 pub use cells::Table;
 pub use many_to_many::table;
-
-#[cfg(test)]
-mod tests;

@@ -1,44 +1,18 @@
-//! What a refusal of memory leaves: the test holds when any one request is refused. The call that meets the
-//! refusal answers want of memory, and the same, made again with what it was lent, answers as with ample memory.
+//! Hierarchies that a saved one names: their levels and legs, and the first fault.
 ghost use Rattle.std.specs.Prelude.{◌≡◌, ◌<◌};
 ghost use Rattle.ch_hierarchy.specs.Hierarchy.{nodes_of};
 
-use crate::{CheckError, Hierarchy, Leg, RankedLeg, assemble};
-use ch_graph::{Cost, Graph, InArc, Saved, SavedLeg};
-use std::alloc::{AllocError, Global};
+use crate::again::again;
+use crate::examples::{LINE, LegLine, RING, graph, saved};
+use ch_graph::Cost;
+use ch_graph::limits::MOST_WEIGHT;
+use ch_hierarchy::{CheckError, CheckFault, Hierarchy, Leg, RankedLeg, assemble};
+use std::alloc::AllocError;
 use std::process::Abort;
 use std::test::Fail;
 
-/// What a call answers, made a second time where the first was refused memory.
-macro_rules! again {
-    ($call:expr) => {
-        match $call {
-            Ok(value) => value,
-            Err(AllocError) => $call?,
-        }
-    };
-}
-
-/// The arcs of a ring of five nodes.
-const RING: [(u32, u32); 5] = [(0, 1), (1, 2), (2, 3), (3, 4), (4, 0)];
-
-/// The ring, each arc of weight 1.
-fn ring(alloc: Global) -> Result<Graph, Fail> {
-    let mut arcs = again!(Vec::with_capacity(alloc, RING.len()));
-    for (from, to) in RING.iter() {
-        arcs.push(InArc {
-            from: *from,
-            to: *to,
-            weight: 1,
-        })?;
-    }
-    Ok(Graph::new(5, arcs)?)
-}
-
 /// What so many arcs of weight 1 cost.
-fn cost(arcs: u64) -> Cost
-    ensures { result ≡ record { weight = arcs; arcs = arcs } }
-{
+fn cost(arcs: u64) -> Cost {
     Cost { weight: arcs, arcs }
 }
 
@@ -109,32 +83,13 @@ fn expect_ring(rt: &impl Abort, hierarchy: &Hierarchy) {
     expect_ranked(rt, hierarchy, 0, 4, &[], &[]);
 }
 
-/// The hierarchy of the ring as a file holds it.
-fn saved_ring(alloc: Global) -> Result<Saved, Fail> {
-    let mut legs = again!(Vec::with_capacity(alloc, 8));
-    for node in 0..4u32 {
-        legs.push(SavedLeg {
-            from: node,
-            to: node + 1,
-            cost: cost(1),
-            middle: None,
-        })?;
-        legs.push(SavedLeg {
-            from: 4,
-            to: node,
-            cost: cost(u64::from(node) + 1),
-            middle: node.checked_sub(1),
-        })?;
-    }
-    let order = again!(Vec::from_slice(alloc, &[0, 1, 2, 3, 4]));
-    Ok(Saved { order, legs })
-}
-
+/// It holds when any one request for memory is refused: the call that meets the refusal answers want of memory, and the
+/// same, made again with what it was lent, answers as with ample memory.
 #[test]
 fn refused_in_turn(rt: HostRuntime) -> Result<(), Fail> {
     let alloc = rt.alloc();
-    let graph = ring(alloc)?;
-    let saved = saved_ring(alloc)?;
+    let graph = graph(alloc, RING.nodes, RING.arcs)?;
+    let saved = saved(alloc, RING.order, RING.legs)?;
     let answer = match assemble(alloc, &graph, &saved) {
         Err(CheckError::NoMemory) => assemble(alloc, &graph, &saved),
         answer => answer,
@@ -143,5 +98,60 @@ fn refused_in_turn(rt: HostRuntime) -> Result<(), Fail> {
         Ok(hierarchy) => expect_ring(&rt, &hierarchy),
         Err(error) => panic!(rt; "{error}"),
     }
+    Ok(())
+}
+
+const FIRST: LegLine = (1, 2, 4, 1, 0);
+
+const SECOND: LegLine = (2, 3, 5, 1, 0);
+
+const HEAVY: LegLine = (1, 3, MOST_WEIGHT + 1, 2, 0);
+
+/// The first fault of orders and legs for a line of three nodes, and none where both ways of a pair have a leg.
+#[test]
+fn the_first_fault_is_named(rt: HostRuntime) -> Result<(), Fail> {
+    let alloc = rt.alloc();
+    let graph = graph(alloc, LINE.nodes, LINE.arcs)?;
+    let cases: &[(&[u32], &[LegLine], Option<CheckFault>)] = &[
+        (&[1, 2, 3], &[FIRST, (2, 1, 4, 1, 0)], None),
+        (&[1, 1, 2], &[FIRST, SECOND], Some(CheckFault::Order)),
+        (&[1, 2], &[FIRST, SECOND], Some(CheckFault::Order)),
+        (&[1, 2, 4], &[(1, 1, 0, 0, 0)], Some(CheckFault::Order)),
+        (
+            &[1, 3, 2],
+            &[FIRST, SECOND, FIRST],
+            Some(CheckFault::Pair(2)),
+        ),
+        (
+            &[1, 3, 2],
+            &[HEAVY, (2, 2, 0, 0, 0)],
+            Some(CheckFault::Pair(1)),
+        ),
+        (
+            &[1, 3, 2],
+            &[(1, 4, 0, 0, 0), FIRST, FIRST],
+            Some(CheckFault::Pair(0)),
+        ),
+        (
+            &[1, 3, 2],
+            &[FIRST, HEAVY, SECOND],
+            Some(CheckFault::Bound(1)),
+        ),
+        (
+            &[1, 3, 2],
+            &[FIRST, SECOND, (1, 3, 9, 3, 2)],
+            Some(CheckFault::Bound(2)),
+        ),
+    ];
+    for (order, legs, fault) in cases {
+        let saved = again!(saved(alloc, order, legs));
+        let found = match assemble(alloc, &graph, &saved) {
+            Err(CheckError::Fault(found)) => Some(found),
+            _ => None,
+        };
+        assert_eq!(rt; found, *fault);
+    }
+    let refused = CheckError::NoMemory;
+    assert_eq!(rt; format!(in alloc; "{refused}")?.as_str(), "out of memory");
     Ok(())
 }

@@ -1,6 +1,6 @@
 use Rattle.std.proofs.Common.{◌≤◌, length, arith, sym, subst}
 use Rattle.std.proofs.lemmas.Nat.{mul-le}
-use Rattle.ch_table.proofs.tests.make.Goals as goal
+use Rattle.ch_checks.proofs.table.make.Goals as goal
 
 -- each list has at most 64 nodes
 pub table-requires-clause-cells : goal.table-requires-clause-cells

@@ -1,33 +1,13 @@
 //! How workers share what [`build`] computes: which pieces pass the gate, and two of them at once.
-
-use crate::build;
-use ch_graph::{Graph, InArc};
+use crate::examples::{STAR, graph};
+use ch_contract::build;
 use ch_work::{CountingGate, MeetingGate, Plan};
-use std::alloc::{AllocError, Global};
 use std::test::Fail;
-
-/// The arcs of a star with node 0 in the middle: one of weight 1 to each other node, and one back.
-fn star(alloc: Global, nodes: u32) -> Result<Vec<InArc>, AllocError> {
-    let mut arcs = Vec::new(alloc);
-    for leaf in 1..nodes {
-        arcs.push(InArc {
-            from: 0,
-            to: leaf,
-            weight: 1,
-        })?;
-        arcs.push(InArc {
-            from: leaf,
-            to: 0,
-            weight: 1,
-        })?;
-    }
-    Ok(arcs)
-}
 
 /// The steps of a star of four nodes have one neighbour, two, one and none.
 #[test]
 fn neighbours_are_shared_where_they_are_many(rt: HostRuntime) -> Result<(), Fail> {
-    let graph = Graph::new(4, star(rt.alloc(), 4)?)?;
+    let graph = graph(rt.alloc(), STAR.nodes, STAR.arcs)?;
     for workers in [1, 2, 64] {
         for (wide, expected) in [(1, [4, 2, 1, 1]), (2, [2, 2, 1, 1]), (3, [1, 1, 1, 1])] {
             let gate = CountingGate::new(rt.alloc(), 4)?;
@@ -43,7 +23,7 @@ fn neighbours_are_shared_where_they_are_many(rt: HostRuntime) -> Result<(), Fail
 
 #[test]
 fn two_pieces_at_once(rt: HostRuntime) -> Result<(), Fail> {
-    let graph = Graph::new(2, star(rt.alloc(), 2)?)?;
+    let graph = graph(rt.alloc(), STAR.nodes, STAR.arcs)?;
     let gate = MeetingGate::new();
     build(&rt, rt.alloc(), &graph, 5, &Plan::new(2, 1, 64), &gate)?;
     assert!(rt; gate.has_met());

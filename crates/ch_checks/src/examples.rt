@@ -1,0 +1,227 @@
+//! Small graphs, each with a hierarchy that is right for it.
+ghost use Rattle.std.specs.Prelude.{◌≡◌, IfOk};
+ghost use Rattle.ch_query.specs.Distance.{IsKeptForSome};
+
+use crate::again::again;
+use ch_graph::{Cost, Graph, InArc, Saved, SavedLeg};
+use ch_hierarchy::{CheckError, Hierarchy};
+use ch_query::check;
+use std::alloc::{AllocError, Global};
+use std::process::Abort;
+use std::test::Fail;
+
+/// An arc: from, to, weight.
+pub(crate) type Arc = (u32, u32, u64);
+
+/// A leg: from, to, weight, number of arcs, and middle, which is 0 where it has none.
+pub(crate) type LegLine = (u32, u32, u64, u64, u32);
+
+/// A graph, the order in which its nodes are contracted, and all legs of its hierarchy. Nodes are counted from 1, as
+/// in files.
+#[derive(Clone, Copy)]
+pub(crate) struct Example<'a> {
+    pub(crate) nodes: u32,
+    pub(crate) arcs: &'a [Arc],
+    pub(crate) order: &'a [u32],
+    pub(crate) legs: &'a [LegLine],
+}
+
+pub(crate) const EMPTY: Example = Example {
+    nodes: 0,
+    arcs: &[],
+    order: &[],
+    legs: &[],
+};
+
+pub(crate) const LINE: Example = Example {
+    nodes: 3,
+    arcs: &[(1, 2, 4), (2, 3, 5)],
+    order: &[1, 2, 3],
+    legs: &[(1, 2, 4, 1, 0), (2, 3, 5, 1, 0)],
+};
+
+/// Of parallel arcs the lightest is a leg, and a loop needs none.
+pub(crate) const PARALLEL: Example = Example {
+    nodes: 2,
+    arcs: &[(1, 2, 7), (2, 2, 2), (1, 2, 3), (1, 1, 0), (1, 2, 5)],
+    order: &[1, 2],
+    legs: &[(1, 2, 3, 1, 0)],
+};
+
+/// Node 1 in the middle, both ways. After the first step three priorities tie, and the middle is the least numbered.
+pub(crate) const STAR: Example = Example {
+    nodes: 4,
+    arcs: &[
+        (1, 2, 1),
+        (2, 1, 1),
+        (1, 3, 1),
+        (3, 1, 1),
+        (1, 4, 1),
+        (4, 1, 1),
+    ],
+    order: &[2, 1, 3, 4],
+    legs: &[
+        (2, 1, 1, 1, 0),
+        (1, 2, 1, 1, 0),
+        (1, 3, 1, 1, 0),
+        (1, 4, 1, 1, 0),
+        (3, 1, 1, 1, 0),
+        (4, 1, 1, 1, 0),
+        (3, 4, 2, 2, 1),
+        (4, 3, 2, 2, 1),
+    ],
+};
+
+/// Two ways of equal cost: a witness of equal cost spares a shortcut.
+pub(crate) const DIAMOND: Example = Example {
+    nodes: 4,
+    arcs: &[(1, 2, 1), (2, 4, 1), (1, 3, 1), (3, 4, 1)],
+    order: &[1, 4, 2, 3],
+    legs: &[
+        (1, 2, 1, 1, 0),
+        (1, 3, 1, 1, 0),
+        (2, 4, 1, 1, 0),
+        (3, 4, 1, 1, 0),
+    ],
+};
+
+/// At weight 0 the fewest arcs win.
+pub(crate) const TRIANGLE: Example = Example {
+    nodes: 3,
+    arcs: &[(1, 2, 0), (2, 3, 0), (1, 3, 0)],
+    order: &[1, 2, 3],
+    legs: &[(1, 2, 0, 1, 0), (1, 3, 0, 1, 0), (2, 3, 0, 1, 0)],
+};
+
+/// A loop without weight, and a tail.
+pub(crate) const TAIL: Example = Example {
+    nodes: 4,
+    arcs: &[(1, 2, 0), (2, 3, 0), (3, 1, 0), (3, 4, 2)],
+    order: &[1, 2, 3, 4],
+    legs: &[
+        (1, 2, 0, 1, 0),
+        (3, 1, 0, 1, 0),
+        (2, 3, 0, 1, 0),
+        (3, 2, 0, 2, 1),
+        (3, 4, 2, 1, 0),
+    ],
+};
+
+/// From node 1 to node 3 over node 2 in two arcs, and in three arcs without weight. At two legs node 2 has a shortcut
+/// at first, at three a witness spares it.
+pub(crate) const DETOUR: Example = Example {
+    nodes: 5,
+    arcs: &[(1, 2, 1), (2, 3, 1), (1, 4, 0), (4, 5, 0), (5, 3, 0)],
+    order: &[1, 3, 4, 2, 5],
+    legs: &[
+        (1, 2, 1, 1, 0),
+        (1, 4, 0, 1, 0),
+        (2, 3, 1, 1, 0),
+        (5, 3, 0, 1, 0),
+        (4, 5, 0, 1, 0),
+    ],
+};
+
+/// From node 1 to node 3 two arcs weigh as much as three: nothing.
+pub(crate) const FEWER_ARCS: Example = Example {
+    nodes: 5,
+    arcs: &[(1, 5, 0), (5, 3, 0), (1, 2, 0), (2, 4, 0), (4, 3, 0)],
+    order: &[1, 3, 2, 4, 5],
+    legs: &[
+        (1, 2, 0, 1, 0),
+        (1, 5, 0, 1, 0),
+        (4, 3, 0, 1, 0),
+        (5, 3, 0, 1, 0),
+        (2, 4, 0, 1, 0),
+    ],
+};
+
+/// The last node has a leg of 1 to 4 arcs to each other.
+pub(crate) const RING: Example = Example {
+    nodes: 5,
+    arcs: &[(1, 2, 1), (2, 3, 1), (3, 4, 1), (4, 5, 1), (5, 1, 1)],
+    order: &[1, 2, 3, 4, 5],
+    legs: &[
+        (1, 2, 1, 1, 0),
+        (5, 1, 1, 1, 0),
+        (2, 3, 1, 1, 0),
+        (5, 2, 2, 2, 1),
+        (3, 4, 1, 1, 0),
+        (5, 3, 3, 3, 2),
+        (4, 5, 1, 1, 0),
+        (5, 4, 4, 4, 3),
+    ],
+};
+
+/// The graph of these arcs, whose nodes are counted from 1.
+pub(crate) fn graph(alloc: Global, nodes: u32, list: &[Arc]) -> Result<Graph, Fail>
+    ensures { IfOk result (λ g. g.nodes ≡ nodes) }
+{
+    let mut arcs = again!(Vec::with_capacity(alloc, list.len()));
+    for (from, to, weight) in list {
+        arcs.push(InArc {
+            from: from.wrapping_sub(1),
+            to: to.wrapping_sub(1),
+            weight: *weight,
+        })?;
+    }
+    Ok(Graph::new(nodes, arcs)?)
+}
+
+/// The hierarchy of this order and these legs as a file holds it.
+pub(crate) fn saved(alloc: Global, nodes: &[u32], lines: &[LegLine]) -> Result<Saved, AllocError> {
+    let mut order = again!(Vec::with_capacity(alloc, nodes.len()));
+    for node in nodes {
+        order.push(node.wrapping_sub(1))?;
+    }
+    let mut legs = again!(Vec::with_capacity(alloc, lines.len()));
+    for (from, to, weight, arcs, middle) in lines {
+        legs.push(SavedLeg {
+            from: from.wrapping_sub(1),
+            to: to.wrapping_sub(1),
+            cost: Cost {
+                weight: *weight,
+                arcs: *arcs,
+            },
+            middle: middle.checked_sub(1),
+        })?;
+    }
+    Ok(Saved { order, legs })
+}
+
+fn check_once(alloc: Global, graph: &Graph, saved: &Saved) -> Result<Hierarchy, CheckError>
+    ensures { IfOk result IsKeptForSome }
+{
+    // The getter tells the proof that the graph keeps the limits.
+    let _ = graph.arcs();
+    check(alloc, graph, saved)
+}
+
+/// What `check` answers for an example, made a second time where the first was refused memory.
+pub(crate) fn checked(
+    alloc: Global,
+    example: &Example,
+) -> Result<Result<Hierarchy, CheckError>, Fail>
+    ensures { IfOk result (λ answer. IfOk answer IsKeptForSome) }
+{
+    let graph = graph(alloc, example.nodes, example.arcs)?;
+    let saved = saved(alloc, example.order, example.legs)?;
+    match check_once(alloc, &graph, &saved) {
+        Err(CheckError::NoMemory) => Ok(check_once(alloc, &graph, &saved)),
+        answer => Ok(answer),
+    }
+}
+
+/// The hierarchy of an example.
+pub(crate) fn hierarchy(
+    rt: &impl Abort,
+    alloc: Global,
+    example: &Example,
+) -> Result<Hierarchy, Fail>
+    ensures { IfOk result IsKeptForSome }
+{
+    match checked(alloc, example)? {
+        Ok(hierarchy) => Ok(hierarchy),
+        Err(error) => panic!(rt; "{error}"),
+    }
+}

@@ -1,0 +1,115 @@
+//! Saved hierarchies that are right for a graph, and the first faults of others.
+use crate::examples::{Example, LINE, LegLine, PARALLEL, STAR, checked, graph, saved};
+use ch_hierarchy::{CheckError, CheckFault};
+use ch_query::check_watched;
+use ch_work::Open;
+use std::alloc::Global;
+use std::process::Abort;
+use std::test::Fail;
+
+/// The fault that both ways to check answer, and none where the hierarchy is right.
+fn fault_of(rt: &impl Abort, alloc: Global, example: &Example) -> Result<Option<CheckFault>, Fail> {
+    let found = match checked(alloc, example)? {
+        Err(CheckError::Fault(fault)) => Some(fault),
+        _ => None,
+    };
+    let graph = graph(alloc, example.nodes, example.arcs)?;
+    let saved = saved(alloc, example.order, example.legs)?;
+    match check_watched(alloc, &graph, saved, &Open) {
+        Ok(_) => assert_eq!(rt; found, None),
+        Err(CheckError::Fault(fault)) => assert_eq!(rt; found, Some(fault)),
+        Err(CheckError::NoMemory) => {}
+    }
+    Ok(found)
+}
+
+const FIRST: LegLine = (1, 2, 4, 1, 0);
+
+const SECOND: LegLine = (2, 3, 5, 1, 0);
+
+/// A leg of two arcs is to be the two legs of its middle, one without a middle an arc, and the first fault is named.
+#[test]
+fn hierarchies_of_a_line(rt: HostRuntime) -> Result<(), Fail> {
+    let middle: &[u32] = &[2, 1, 3];
+    let last: &[u32] = &[1, 3, 2];
+    let cases: &[(&[u32], &[LegLine], Option<CheckFault>)] = &[
+        (last, &[FIRST, SECOND], None),
+        (middle, &[FIRST, SECOND, (1, 3, 9, 2, 2)], None),
+        (
+            middle,
+            &[FIRST, SECOND, (1, 3, 8, 2, 2)],
+            Some(CheckFault::Middle(2)),
+        ),
+        (
+            middle,
+            &[FIRST, SECOND, (1, 3, 9, 2, 4)],
+            Some(CheckFault::Middle(2)),
+        ),
+        (
+            middle,
+            &[FIRST, SECOND, (1, 3, 9, 1, 0)],
+            Some(CheckFault::Base(2)),
+        ),
+        (
+            middle,
+            &[(1, 3, 8, 2, 2), (1, 2, 6, 1, 0), (3, 1, 1, 1, 0)],
+            Some(CheckFault::Base(1)),
+        ),
+        (
+            middle,
+            &[(1, 3, 8, 2, 2), FIRST],
+            Some(CheckFault::Middle(0)),
+        ),
+        (middle, &[SECOND], Some(CheckFault::Arc(0))),
+        (last, &[FIRST], Some(CheckFault::Arc(1))),
+        (middle, &[FIRST, SECOND], Some(CheckFault::Lower(1))),
+    ];
+    for (order, legs, fault) in cases {
+        let example = Example {
+            order,
+            legs,
+            ..LINE
+        };
+        assert_eq!(rt; fault_of(&rt, rt.alloc(), &example)?, *fault);
+    }
+    Ok(())
+}
+
+/// Four roads in a square, of weight 1 but for the last: two ways lead from node 2 to node 4, by node 1 and by node 3.
+fn square(rt: &impl Abort, alloc: Global, last: u64) -> Result<Option<CheckFault>, Fail> {
+    let arcs = [(2, 1, 1), (1, 4, 1), (2, 3, 1), (3, 4, last)];
+    let legs = [
+        (2, 1, 1, 1, 0),
+        (1, 4, 1, 1, 0),
+        (2, 3, 1, 1, 0),
+        (3, 4, last, 1, 0),
+    ];
+    let example = Example {
+        nodes: 4,
+        arcs: &arcs,
+        order: &[1, 2, 4, 3],
+        legs: &legs,
+    };
+    fault_of(rt, alloc, &example)
+}
+
+/// Two legs need no leg beside them where a way over higher nodes costs no more; of parallel arcs the lightest is a leg.
+#[test]
+fn what_covers_legs_and_arcs(rt: HostRuntime) -> Result<(), Fail> {
+    let alloc = rt.alloc();
+    assert_eq!(rt; fault_of(&rt, alloc, &STAR)?, None);
+    assert_eq!(rt; square(&rt, alloc, 1)?, None);
+    assert_eq!(rt; square(&rt, alloc, 2)?, Some(CheckFault::Lower(0)));
+    for (weight, fault) in [
+        (3, None),
+        (5, Some(CheckFault::Arc(2))),
+        (4, Some(CheckFault::Base(0))),
+    ] {
+        let example = Example {
+            legs: &[(1, 2, weight, 1, 0)],
+            ..PARALLEL
+        };
+        assert_eq!(rt; fault_of(&rt, alloc, &example)?, fault);
+    }
+    Ok(())
+}

@@ -1,0 +1,258 @@
+//! Tables and buckets at several plans, with a limit and without.
+ghost use Rattle.std.specs.Prelude.{◌≡◌, ◌<◌, ◌≤◌, length, All, IfOk};
+ghost use Rattle.ch_hierarchy.specs.Hierarchy.{nodes_of};
+ghost use Rattle.ch_query.specs.Distance.{IsKeptForSome};
+
+use crate::again::again;
+use crate::examples::{Example, LINE, RING, TRIANGLE, hierarchy};
+use ch_graph::limits::MOST_WEIGHT;
+use ch_hierarchy::Hierarchy;
+use ch_table::{Buckets, Table, table};
+use ch_work::{CountingGate, Gate, Open, Plan};
+use std::alloc::{AllocError, Global};
+use std::process::Abort;
+use std::test::Fail;
+use std::thread::Threads;
+
+/// The nodes, counted from 0.
+fn from_zero<R: Abort>(
+    rt: &R,
+    alloc: Global,
+    hierarchy: &Hierarchy,
+    list: &[u32],
+) -> Result<Vec<u32>, AllocError>
+    ensures nodes { IfOk result (λ nodes. All (λ x. x < nodes_of hierarchy.now) nodes.items) }
+    ensures count { IfOk result (λ nodes. length nodes.items ≤ 64) }
+{
+    assert!(rt; list.len() <= 64);
+    let mut nodes = again!(Vec::with_capacity(alloc, list.len()));
+    for node in list {
+        assert!(rt; *node > 0 && *node <= hierarchy.nodes());
+        nodes.push(*node - 1)?;
+    }
+    Ok(nodes)
+}
+
+/// The sources, targets and limit of a table, and its rows. Nodes are counted from 1.
+#[derive(Clone, Copy)]
+struct Case<'a> {
+    roads: Example<'a>,
+    sources: &'a [u32],
+    targets: &'a [u32],
+    within: Option<u64>,
+    rows: &'a [&'a [Option<u64>]],
+}
+
+/// The table of a case by this plan, asked for a second time where the first was refused memory.
+fn make<R: Threads + Abort + Sync, G: Gate>(
+    rt: &R,
+    alloc: Global,
+    case: &Case,
+    plan: &Plan,
+    gate: &G,
+) -> Result<Table, Fail> {
+    let hierarchy = hierarchy(rt, alloc, &case.roads)?;
+    let sources = from_zero(rt, alloc, &hierarchy, case.sources)?;
+    let targets = from_zero(rt, alloc, &hierarchy, case.targets)?;
+    Ok(again!(table(
+        rt,
+        alloc,
+        &hierarchy,
+        &sources,
+        &targets,
+        case.within,
+        plan,
+        gate,
+    )))
+}
+
+/// Expects these rows of the table by this plan.
+fn expect<R: Threads + Abort + Sync>(
+    rt: &R,
+    alloc: Global,
+    case: &Case,
+    plan: &Plan,
+) -> Result<(), Fail> {
+    let table = make(rt, alloc, case, plan, &Open)?;
+    assert_eq!(rt; table.row_count() as usize, case.rows.len());
+    for (place, row) in case.rows.iter().enumerate() {
+        assert!(rt; place < table.row_count() as usize);
+        assert_eq!(rt; table.row(place as u32), *row);
+    }
+    Ok(())
+}
+
+/// The table of the line, with a source twice.
+const LINE_TWICE: Case = Case {
+    roads: LINE,
+    sources: &[1, 1, 3],
+    targets: &[3, 2],
+    within: None,
+    rows: &[&[Some(9), Some(4)], &[Some(9), Some(4)], &[Some(0), None]],
+};
+
+/// A cell at the limit stays, one above it has none, and weights of 0 are within a limit of 0.
+#[test]
+fn worked_tables(rt: HostRuntime) -> Result<(), Fail> {
+    let ring = Case {
+        roads: RING,
+        sources: &[5, 1],
+        targets: &[4, 4, 5],
+        within: None,
+        rows: &[&[Some(4), Some(4), Some(0)], &[Some(3), Some(3), Some(4)]],
+    };
+    let ring_within = Case {
+        within: Some(3),
+        rows: &[&[None, None, Some(0)], &[Some(3), Some(3), None]],
+        ..ring
+    };
+    let no_sources = Case {
+        sources: &[],
+        rows: &[],
+        ..ring
+    };
+    let no_targets = Case {
+        targets: &[],
+        rows: &[&[], &[]],
+        ..ring
+    };
+    let line_within = Case {
+        within: Some(8),
+        rows: &[&[None, Some(4)], &[None, Some(4)], &[Some(0), None]],
+        ..LINE_TWICE
+    };
+    let line_within_all = Case {
+        within: Some(MOST_WEIGHT),
+        ..LINE_TWICE
+    };
+    let weightless = Case {
+        roads: TRIANGLE,
+        sources: &[1],
+        targets: &[3],
+        within: Some(0),
+        rows: &[&[Some(0)]],
+    };
+    for case in [
+        LINE_TWICE,
+        ring,
+        ring_within,
+        no_sources,
+        no_targets,
+        line_within,
+        line_within_all,
+        weightless,
+    ] {
+        for workers in [1, 2, 64] {
+            for piece in [1, 2, 1000] {
+                expect(&rt, rt.alloc(), &case, &Plan::new(workers, piece, 1))?;
+            }
+        }
+    }
+    Ok(())
+}
+
+/// Each target, each source and each node is a piece: the table is made by the cells that workers share.
+#[test]
+fn gates_passed(rt: HostRuntime) -> Result<(), Fail> {
+    let gate = CountingGate::new(rt.alloc(), 4)?;
+    make(&rt, rt.alloc(), &LINE_TWICE, &Plan::new(2, 1, 64), &gate)?;
+    for (piece, expected) in [
+        (0, Some(3)),
+        (1, Some(3)),
+        (2, Some(2)),
+        (3, Some(0)),
+        (4, None),
+    ] {
+        assert_eq!(rt; gate.passes(piece), expected, "piece {piece}");
+    }
+    Ok(())
+}
+
+/// The buckets of an example: whether of sources, by going up, or of targets, by going down; the nodes, counted from 1;
+/// the limit; and the entries of each node in order.
+type Filled<'a> = (
+    Example<'a>,
+    bool,
+    &'a [u32],
+    Option<u64>,
+    &'a [&'a [(u32, u64)]],
+);
+
+/// Expects these buckets of the nodes, in order.
+fn expect_entries<R: Abort>(rt: &R, nodes: u32, buckets: &Buckets, rows: &[&[(u32, u64)]])
+    requires { length buckets.now ≡ nodes }
+{
+    assert!(rt; rows.len() == nodes as usize);
+    for node in 0..nodes {
+        assert_eq!(rt; buckets.at(node), rows[node as usize], "node {node}");
+    }
+}
+
+/// Fills buckets as they are described, and expects their entries.
+fn expect_filled<R: Abort>(rt: &R, alloc: Global, filled: &Filled) -> Result<(), Fail> {
+    let (example, is_up, nodes, within, rows) = *filled;
+    let hierarchy = hierarchy(rt, alloc, &example)?;
+    let nodes = from_zero(rt, alloc, &hierarchy, nodes)?;
+    let buckets = if is_up {
+        again!(Buckets::fill_up(alloc, &hierarchy, &nodes, within))
+    } else {
+        again!(Buckets::fill(alloc, &hierarchy, &nodes, within))
+    };
+    expect_entries(rt, hierarchy.nodes(), &buckets, rows);
+    Ok(())
+}
+
+/// On the ring node 4 is 4 away from node 5, by the one path that leads down to it.
+#[test]
+fn worked_buckets(rt: HostRuntime) -> Result<(), Fail> {
+    let first: &[(u32, u64)] = &[(0, 0), (1, 0)];
+    let middle: &[(u32, u64)] = &[(0, 4), (1, 4)];
+    let cases: &[Filled] = &[
+        (
+            RING,
+            false,
+            &[4, 4, 5],
+            None,
+            &[&[], &[], &[], first, &[(0, 4), (1, 4), (2, 0)]],
+        ),
+        (
+            RING,
+            false,
+            &[4, 5],
+            Some(3),
+            &[&[], &[], &[], &[(0, 0)], &[(1, 0)]],
+        ),
+        (LINE, false, &[3, 2], None, &[&[], &[(1, 0)], &[(0, 0)]]),
+        (
+            LINE,
+            true,
+            &[1, 1, 3],
+            Some(9),
+            &[first, middle, &[(0, 9), (1, 9), (2, 0)]],
+        ),
+        (LINE, true, &[1, 1, 3], Some(8), &[first, middle, &[(2, 0)]]),
+    ];
+    for filled in cases {
+        expect_filled(&rt, rt.alloc(), filled)?;
+    }
+    Ok(())
+}
+
+/// It holds when any one request for memory is refused: the call that meets the refusal answers `AllocError`, and
+/// called again answers as with ample memory.
+#[test]
+fn refused_in_turn(rt: HostRuntime) -> Result<(), Fail> {
+    let alloc = rt.alloc();
+    let buckets: Filled = (
+        LINE,
+        true,
+        &[1, 3],
+        None,
+        &[&[(0, 0)], &[(0, 4)], &[(0, 9), (1, 0)]],
+    );
+    expect_filled(&rt, alloc, &buckets)?;
+    for workers in [1, 2] {
+        expect(&rt, alloc, &LINE_TWICE, &Plan::new(workers, 1, 1))?;
+    }
+    Ok(())
+}
