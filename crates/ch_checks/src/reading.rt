@@ -96,6 +96,7 @@ fn faults_are_told(rt: HostRuntime) -> Result<(), Fail> {
             "p sp 1 1\na 1 1 1152921504606846977",
             "line 2: weight too large",
         ),
+        (Form::Graph, "p sp 0 134217729", "line 1: size too large"),
         (
             Form::Queries(2),
             "p aux sp p2p 16777217",
@@ -108,10 +109,20 @@ fn faults_are_told(rt: HostRuntime) -> Result<(), Fail> {
         ),
         (
             Form::Nodes(2),
+            "p aux sp ss 65537",
+            "line 1: size too large",
+        ),
+        (
+            Form::Nodes(2),
             "p aux sp ss 1\ns 3",
             "line 2: node out of range",
         ),
         (Form::Saved(3), "p ch 2 0", "line 1: size too large"),
+        (
+            Form::Saved(3),
+            "p ch 3 1125899906842625",
+            "line 1: size too large",
+        ),
         (
             Form::Saved(3),
             "p ch 3 1\nl 1 2 3 33554433 0",
