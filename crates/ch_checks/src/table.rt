@@ -193,12 +193,13 @@ fn expect_filled<R: Abort>(rt: &R, alloc: Global, filled: &Filled) -> Result<(),
     let (example, is_up, nodes, within, rows) = *filled;
     let hierarchy = hierarchy(rt, alloc, &example)?;
     let nodes = from_zero(rt, alloc, &hierarchy, nodes)?;
-    let buckets = if is_up {
-        again!(Buckets::fill_up(alloc, &hierarchy, &nodes, within))
+    if is_up {
+        let buckets = again!(Buckets::fill_up(alloc, &hierarchy, &nodes, within));
+        expect_entries(rt, hierarchy.nodes(), &buckets, rows);
     } else {
-        again!(Buckets::fill(alloc, &hierarchy, &nodes, within))
-    };
-    expect_entries(rt, hierarchy.nodes(), &buckets, rows);
+        let buckets = again!(Buckets::fill(alloc, &hierarchy, &nodes, within));
+        expect_entries(rt, hierarchy.nodes(), &buckets, rows);
+    }
     Ok(())
 }
 

@@ -147,21 +147,30 @@ fn a_list_has_its_values_in_order(rt: HostRuntime) -> Result<(), Fail> {
     Ok(())
 }
 
-/// A room serves several lists. It holds when any one request for memory is refused.
+/// The successors of two lists, by one room.
+fn in_one_room(
+    alloc: Global,
+    plan: &Plan,
+    job: &Successors,
+) -> Result<(Vec<u32>, Vec<u32>), AllocError>
+    requires { job.now.step ≡ 1 }
+{
+    let mut room = job.room(alloc)?;
+    let first = run_list_in_room(alloc, &[3, 0], plan, &Open, &mut room, job)?;
+    let second = run_list_in_room(alloc, &[9], plan, &Open, &mut room, job)?;
+    Ok((first, second))
+}
+
+/// It holds when any one request for memory is refused.
 #[test]
 fn lists_and_rooms_refused_in_turn(rt: HostRuntime) -> Result<(), Fail> {
     let alloc = rt.alloc();
-    let job = Successors { step: 1 };
     let plan = Plan::new(2, 2, 64);
     let list = again!(run_successors(&rt, alloc, &[3, 0, 7], &plan));
     assert_eq!(rt; list.as_slice(), [4, 1, 8].as_slice());
-    let mut room = again!(job.room(alloc));
-    let first = again!(run_list_in_room(alloc, &[3, 0], &plan, &Open, &mut room, &job));
-    let second = again!(run_list_in_room(alloc, &[9], &plan, &Open, &mut room, &job));
-    assert_eq!(rt;
-        (first.as_slice(), second.as_slice()),
-        ([4, 1].as_slice(), [10].as_slice())
-    );
+    let (first, second) = again!(in_one_room(alloc, &plan, &Successors { step: 1 }));
+    assert_eq!(rt; first.as_slice(), [4, 1].as_slice());
+    assert_eq!(rt; second.as_slice(), [10].as_slice());
     let found = again!(run_ends(&rt, alloc, 2, &job_with(64)));
     assert_eq!(rt; found.as_slice(), [3, 6, 9, 10].as_slice());
     Ok(())
