@@ -204,6 +204,3 @@ fn open_input<F: Files>(files: &F, name: &str, which: Which) -> Result<F::Input,
         Err(OpenFault::Memory) => Err(RunFault::Memory),
     }
 }
-
-#[cfg(test)]
-mod tests;

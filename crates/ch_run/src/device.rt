@@ -173,6 +173,3 @@ pub fn write_all<O: Output>(output: &mut O, bytes: &[u8]) -> Result<(), u64>
     }
     Ok(())
 }
-
-#[cfg(test)]
-mod tests;

@@ -121,6 +121,3 @@ pub fn status(fault: &RunFault) -> u8
         RunFault::Memory | RunFault::Device(_) | RunFault::Write(_) => 3,
     }
 }
-
-#[cfg(test)]
-mod tests;

@@ -20,6 +20,3 @@ pub use dist_saved::run_dist_saved;
 pub use save::run_save;
 pub use table::run_table;
 pub use table_saved::run_table_saved;
-
-#[cfg(test)]
-mod tests;

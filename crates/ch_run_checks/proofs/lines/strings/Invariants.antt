@@ -1,5 +1,5 @@
 use Rattle.std.proofs.Common.{◌≡◌, vec_len}
-use Rattle.ch_line.proofs.run.tests.strings.Given as goal
+use Rattle.ch_run_checks.proofs.lines.strings.Given as goal
 
 -- as many are pushed as were gone over
 abbrev pub invariant-loop-text : goal.invariant-loop-text

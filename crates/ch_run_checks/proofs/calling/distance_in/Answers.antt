@@ -2,8 +2,8 @@ use Rattle.std.proofs.Common.{◌≡◌, ◌≤◌, ◌⊎◌, inl, inr, refl, s
 use Rattle.ch_read.specs.declared.fault.ReadFault.{ReadFault}
 use Rattle.ch_read.specs.declared.form.Form.TheVariants.{Graph}
 use Rattle.ch_read.specs.Checks.{IsFault}
-use Rattle.ch_run.proofs.run.tests.calling.distance_in.Goals as goal
-use Rattle.ch_run.proofs.run.tests.calling.distance_in.Goals.{then-from-nodes-via-then-from-nodes, then-from-nodes-via-else-from-nodes+then-to-nodes}
+use Rattle.ch_run_checks.proofs.calling.distance_in.Goals as goal
+use Rattle.ch_run_checks.proofs.calling.distance_in.Goals.{then-from-nodes-via-then-from-nodes, then-from-nodes-via-else-from-nodes+then-to-nodes}
 
 pub returns-in-Err-Fault-clause-file : goal.returns-in-Err-Fault-clause-file
 returns-in-Err-Fault-clause-file g c fault same =

@@ -1,0 +1,212 @@
+//! Devices: readings to the end and writings of a whole text, where a call moves little, is interrupted or fails.
+ghost use Rattle.std.specs.Prelude.{◌≡◌};
+
+use ch_run::{
+    Input, MemoryInput, MemoryOutput, Output, ReadAllFault, ReaderInput, WriterOutput, read_all,
+    write_all,
+};
+use std::io::{self, ErrorKind, Read, Write};
+use std::process::Abort;
+use std::test::Fail;
+
+const TEXT: &[u8] = b"d 1 3 9\nd 3 1 -\n";
+
+/// How many bytes of the text a device gives or takes at most: one, a few, all.
+const PARTS: [usize; 3] = [1, 3, 1000];
+
+#[test]
+fn an_input_is_read_to_its_end_or_to_a_read_that_fails(rt: HostRuntime) -> Result<(), Fail> {
+    for most in PARTS {
+        // The last read gives no byte.
+        let reads = TEXT.len().div_ceil(most) as u64 + 1;
+        for before in 0..reads {
+            let mut input = MemoryInput::new(TEXT, most).failing_after(before);
+            let answer = read_all(rt.alloc(), &mut input).err();
+            assert_eq!(rt;
+                answer,
+                Some(ReadAllFault::Device),
+                "{most} at a read, {before} before"
+            );
+            assert_eq!(rt; input.failures(), 1);
+        }
+        let mut input = MemoryInput::new(TEXT, most).failing_after(reads);
+        assert_eq!(rt; read_all(rt.alloc(), &mut input)?.as_slice(), TEXT);
+        assert_eq!(rt; input.failures(), 0);
+    }
+    Ok(())
+}
+
+/// Expects that the output takes so many bytes of the text, what it counts then, and whether it is closed.
+fn expect_taken(
+    rt: &impl Abort,
+    output: MemoryOutput,
+    count: usize,
+    counted: (u64, u64),
+    is_closed: bool,
+)
+    requires failures { ⟦<MemoryOutput as Output>⟧.failed output ≡ 0 }
+    requires zeros { ⟦<MemoryOutput as Output>⟧.idle output ≡ 0 }
+{
+    let mut output = output;
+    let answer = write_all(&mut output, TEXT).err();
+    let owed = if count < TEXT.len() {
+        Some(count as u64)
+    } else {
+        None
+    };
+    assert_eq!(rt; answer, owed);
+    assert_eq!(rt; Some(output.bytes()), TEXT.get(..count));
+    assert_eq!(rt; (output.failures(), output.zeros()), counted);
+    assert_eq!(rt; output.is_closed(), is_closed);
+}
+
+#[test]
+fn a_text_is_written_whole_or_up_to_a_write_that_fails(rt: HostRuntime) -> Result<(), Fail> {
+    for most in PARTS {
+        let output = MemoryOutput::new(rt.alloc(), 100, most)?;
+        expect_taken(&rt, output, TEXT.len(), (0, 0), false);
+        for before in 0..TEXT.len().div_ceil(most) {
+            let count = before.saturating_mul(most);
+            let output = MemoryOutput::new(rt.alloc(), 100, most)?;
+            expect_taken(
+                &rt,
+                output.failing_after(before as u64),
+                count,
+                (1, 0),
+                false,
+            );
+            let output = MemoryOutput::new(rt.alloc(), 100, most)?.closing();
+            expect_taken(
+                &rt,
+                output.failing_after(before as u64),
+                count,
+                (1, 0),
+                true,
+            );
+            let output = MemoryOutput::new(rt.alloc(), 100, most)?.closing();
+            expect_taken(&rt, output.idle_after(before as u64), count, (0, 1), false);
+        }
+    }
+    // One that is full takes no byte.
+    let output = MemoryOutput::new(rt.alloc(), 5, 3)?;
+    expect_taken(&rt, output, 5, (0, 1), false);
+    Ok(())
+}
+
+/// A reader and a writer that are interrupted at every other call.
+#[derive(Drop)]
+struct Interrupted {
+    bytes: Vec<u8>,
+    given: usize,
+    is_now: bool,
+}
+
+impl Interrupted {
+    fn turn(&mut self) -> io::Result<()> {
+        self.is_now = !self.is_now;
+        if self.is_now {
+            return Err(io::Error::from(ErrorKind::Interrupted));
+        }
+        Ok(())
+    }
+}
+
+impl Read for Interrupted {
+    fn read(&mut self, buffer: &mut [u8]) -> io::Result<usize> {
+        self.turn()?;
+        match (self.bytes.get(self.given), buffer.first_mut()) {
+            (Some(byte), Some(room)) => {
+                *room = *byte;
+                self.given = self.given.saturating_add(1);
+                Ok(1)
+            }
+            _ => Ok(0),
+        }
+    }
+}
+
+impl Write for Interrupted {
+    fn write(&mut self, bytes: &[u8]) -> io::Result<usize> {
+        self.turn()?;
+        match bytes.first() {
+            Some(byte) => {
+                self.bytes.push(*byte)?;
+                Ok(1)
+            }
+            None => Ok(0),
+        }
+    }
+
+    fn flush(&mut self) -> io::Result<()> {
+        self.turn()
+    }
+}
+
+#[test]
+fn an_interrupted_call_is_made_again(rt: HostRuntime) -> Result<(), Fail> {
+    let reader = Interrupted {
+        bytes: TEXT.to_vec(rt.alloc())?,
+        given: 0,
+        is_now: false,
+    };
+    let mut input = ReaderInput::new(reader);
+    assert_eq!(rt; read_all(rt.alloc(), &mut input)?.as_slice(), TEXT);
+    assert_eq!(rt; input.failures(), 0);
+
+    let mut writer = Interrupted {
+        bytes: Vec::new(rt.alloc()),
+        given: 0,
+        is_now: false,
+    };
+    let mut output = WriterOutput::new(&mut writer);
+    assert_eq!(rt; write_all(&mut output, TEXT), Ok(()));
+    assert_eq!(rt; (output.failures(), output.zeros()), (0, 0));
+    assert_eq!(rt; writer.bytes.as_slice(), TEXT);
+    Ok(())
+}
+
+/// A reader and a writer whose reads and flushes fail with an error of this kind, and whose writes do, or take all bytes.
+#[derive(Drop)]
+struct Broken {
+    kind: ErrorKind,
+    takes: bool,
+}
+
+impl Read for Broken {
+    fn read(&mut self, _buffer: &mut [u8]) -> io::Result<usize> {
+        Err(io::Error::from(self.kind))
+    }
+}
+
+impl Write for Broken {
+    fn write(&mut self, bytes: &[u8]) -> io::Result<usize> {
+        if self.takes {
+            return Ok(bytes.len());
+        }
+        Err(io::Error::from(self.kind))
+    }
+
+    fn flush(&mut self) -> io::Result<()> {
+        Err(io::Error::from(self.kind))
+    }
+}
+
+/// None of the bytes of a write are counted where its flush fails. A broken pipe closes the output.
+#[test]
+fn a_call_that_fails_is_not_made_again(rt: HostRuntime) -> Result<(), Fail> {
+    for (kind, closes) in [(ErrorKind::BrokenPipe, true), (ErrorKind::Other, false)] {
+        for takes in [false, true] {
+            let mut input = ReaderInput::new(Broken { kind, takes });
+            let answer = read_all(rt.alloc(), &mut input).err();
+            assert_eq!(rt; answer, Some(ReadAllFault::Device));
+            assert_eq!(rt; input.failures(), 1);
+
+            let mut output = WriterOutput::new(Broken { kind, takes });
+            assert!(rt; !output.is_closed());
+            assert_eq!(rt; write_all(&mut output, TEXT), Err(0));
+            assert_eq!(rt; (output.failures(), output.zeros()), (1, 0));
+            assert_eq!(rt; output.is_closed(), closes);
+        }
+    }
+    Ok(())
+}

@@ -1,0 +1,18 @@
+//! Tests of `ch_run` and `ch_line` by their public calls, of what no clause says: that the calls succeed, what comes of
+//! a request for memory that is refused, devices that fail in mid-stream, and workers that share a run.
+//!
+//! They stand in a crate of their own, since a crate with tests is proved twice.
+#![tactic(auto)]
+
+#[cfg(test)]
+mod calling;
+#[cfg(test)]
+mod devices;
+#[cfg(test)]
+mod files;
+#[cfg(test)]
+mod lines;
+#[cfg(test)]
+mod runs;
+#[cfg(test)]
+mod workers;

@@ -1,0 +1,152 @@
+//! Each kind of run: by any plan, and with each request for memory refused.
+
+use crate::files::{Asked, Files, run};
+use ch_run::{Options, OrderBy, Plan, RunFault};
+use std::alloc::AllocError;
+use std::test::Fail;
+
+pub const BY_HIERARCHY: Options = Options {
+    plain: false,
+    routes: false,
+    hops: 5,
+    order: OrderBy::Difference,
+    within: None,
+};
+
+pub const PLAIN: Options = Options {
+    plain: true,
+    ..BY_HIERARCHY
+};
+
+const WITH_ROUTES: Options = Options {
+    routes: true,
+    ..BY_HIERARCHY
+};
+
+/// Three nodes on a line, sources and targets on it, and its table.
+pub const LINE: &[u8] = b"p sp 3 2\na 1 2 4\na 2 3 5\n";
+
+pub const SOURCES: &[u8] = b"p aux sp ss 3\ns 1\ns 1\ns 3\n";
+
+pub const TARGETS: &[u8] = b"p aux sp ss 2\ns 3\ns 2\n";
+
+const TABLE: &[u8] = b"t 1 9 4\nt 1 9 4\nt 3 0 -\n";
+
+/// Four nodes, each of the others tied to the first, a query between two of these, and its answer with its route.
+pub const STAR: &[u8] = b"p sp 4 6\na 1 2 1\na 2 1 1\na 1 3 1\na 3 1 1\na 1 4 1\na 4 1 1\n";
+
+pub const ACROSS: &[u8] = b"p aux sp p2p 1\nq 3 4\n";
+
+const STAR_ROUTE: &[u8] = b"d 3 4 2\nr 2\na 3 1 1\na 1 4 1\n";
+
+/// The hierarchies of these two graphs.
+pub const LINE_SAVED: &[u8] = b"p ch 3 2\no 1\no 2\no 3\nl 1 2 4 1 0\nl 2 3 5 1 0\n";
+
+const STAR_SAVED: &[u8] =
+    b"p ch 4 8\no 2\no 1\no 3\no 4\nl 2 1 1 1 0\nl 1 2 1 1 0\nl 1 3 1 1 0\nl 1 4 1 1 0\nl 3 1 1 1 0\nl 4 1 1 1 0\nl 3 4 2 2 1\nl 4 3 2 2 1\n";
+
+/// The table as requests, and the query as one, each with no line feed at the end.
+const TABLE_ASKED: &[u8] = b"t 3 2\ns 1\ns 1\ns 3\ns 3\ns 2";
+
+const QUERY_ASKED: &[u8] = b"q 3 4";
+
+/// Runs of each kind, with routes, and their texts. Each of those over requests has one answer, which is whole at the end.
+const EACH_RUN: [(Files<'static>, &[u8]); 7] = [
+    (
+        Files {
+            graph: STAR,
+            saved: None,
+            asked: Asked::Answers(ACROSS),
+        },
+        STAR_ROUTE,
+    ),
+    (
+        Files {
+            graph: LINE,
+            saved: None,
+            asked: Asked::Table(SOURCES, TARGETS),
+        },
+        TABLE,
+    ),
+    (
+        Files {
+            graph: STAR,
+            saved: None,
+            asked: Asked::Hierarchy,
+        },
+        STAR_SAVED,
+    ),
+    (
+        Files {
+            graph: STAR,
+            saved: Some(STAR_SAVED),
+            asked: Asked::Answers(ACROSS),
+        },
+        STAR_ROUTE,
+    ),
+    (
+        Files {
+            graph: LINE,
+            saved: Some(LINE_SAVED),
+            asked: Asked::Table(SOURCES, TARGETS),
+        },
+        TABLE,
+    ),
+    (
+        Files {
+            graph: STAR,
+            saved: None,
+            asked: Asked::Requests(QUERY_ASKED),
+        },
+        STAR_ROUTE,
+    ),
+    (
+        Files {
+            graph: LINE,
+            saved: Some(LINE_SAVED),
+            asked: Asked::Requests(TABLE_ASKED),
+        },
+        TABLE,
+    ),
+];
+
+#[test]
+fn no_plan_changes_a_byte(rt: HostRuntime) -> Result<(), Fail> {
+    for (workers, piece, wide) in [(1, 1000, 64), (1, 1, 1), (2, 1, 1), (64, 1, 64)] {
+        let plan = Plan::new(workers, piece, wide);
+        for (files, text) in EACH_RUN {
+            let (result, output) = run(&rt, rt.alloc(), &files, &WITH_ROUTES, &plan)?;
+            assert_eq!(rt; result, Ok(()));
+            assert_eq!(rt; output.bytes(), text);
+        }
+    }
+    Ok(())
+}
+
+/// What a run answers and writes, made a second time where the first was refused memory. It has written
+/// nothing then.
+macro_rules! again {
+    ($rt:expr, $run:expr) => {
+        match $run {
+            Err(AllocError) => $run?,
+            Ok((Err(RunFault::Memory), output)) => {
+                assert!($rt; output.bytes().is_empty());
+                $run?
+            }
+            Ok(ended) => ended,
+        }
+    };
+}
+
+#[test]
+fn refused_in_turn(rt: HostRuntime) -> Result<(), Fail> {
+    for workers in [1, 2] {
+        let plan = Plan::new(workers, 1, 1);
+        for (files, text) in EACH_RUN {
+            let (result, output) = again!(rt, run(&rt, rt.alloc(), &files, &WITH_ROUTES, &plan));
+            assert_eq!(rt; result, Ok(()));
+            assert_eq!(rt; output.bytes(), text);
+        }
+    }
+    Ok(())
+}
