@@ -11,7 +11,8 @@
   first of the text.
 - A read or write that is interrupted is made again.
 - A reader that goes away, also from a pipe that is full: the run ends silently.
-- Where each thread is refused the answer is that of a run with ample memory.
+- Help fails in its middle.
+- Where each thread is refused the answer is that of a run with ample memory. There are as many threads as workers share the work.
 - The tests of the crates named `refused_in_turn` hold when any one request for memory is refused. Their programs are those that
   `rt ci` or `rt test` left in the crates' folders out/; a crate without one is left out, or with --tests has failed.
 
@@ -27,10 +28,10 @@ import tempfile
 import termios
 import time
 from itertools import count, pairwise
-from pathlib import Path
 
 from helpers.asking import answers_after, answers_of, requests_of
-from helpers.running import PROGRAM, ROOT, SECONDS, Answer, Count, agrees, build, side_by_side, run, with_files
+from helpers.refusing import Refusing
+from helpers.running import PROGRAM, ROOT, SECONDS, Answer, Count, agrees, build, side_by_side, with_files
 
 # Requests on a line and on a star, each with its answer.
 LINE_ASKED = [(b"q 1 3\n", b"d 1 3 9\n"), (b"q 3 1\n", b"d 3 1 -\n"), (b"c\nt 2 2\ns 1\ns 3\n\ns 3\ns 2\n", b"t 1 9 4\nt 3 0 -\n"),
@@ -124,37 +125,11 @@ STATUS_OF_READER_GONE = 141
 MOST_REQUESTS = 20_000
 
 
-class Refusing:
-    """Runs of the program under the library that refuses calls."""
-
-    def __init__(self, folder):
-        self.folder = Path(folder)
-        self.library = self.folder / "refusing.so"
-        for name, text in FILES.items():
-            (self.folder / name).write_text(text)
-        subprocess.run([*compiler(), "-shared", "-fPIC", "-O2", "-nostdlib", "-o", self.library, ROOT / "tests/helpers/refusing.c"],
-                       check=True)
-
-    def run(self, words, command=(PROGRAM,), asked=(), **settings):
-        """The answer, and the counts of requests for memory, of those refused, of reads and of writes. What is asked comes to standard input."""
-        with tempfile.NamedTemporaryFile(dir=self.folder) as counts:
-            counts.truncate(32)
-            environment = {"LD_PRELOAD": str(self.library), "REFUSE_COUNTS": counts.name}
-            environment |= {name: str(value) for name, value in settings.items()}
-            answer = run(words, self.folder, environment, command, requests_of(asked))
-            return answer, struct.unpack("=4Q", counts.read(32))
-
-
-def compiler():
-    """The compiler of the kit, which is there wherever the program can be built."""
-    start = subprocess.run(["rt", "doc"], stdout=subprocess.PIPE, text=True, check=True).stdout.strip()
-    return [Path(start).parent / "toolchain/bin/clang", "-fuse-ld=lld"]
-
-
 def refuse_memory(refusing, tally, name, words, wanted, asked=(), **settings):
     """Refuses each request for memory of one kind of run."""
     told = [OUT_OF_MEMORY._replace(out=answers_of(asked[:first])) for first in range(len(asked) + 1)]
-    ample, (requests, *_) = refusing.run(words, asked=asked, **settings)
+    stream = requests_of(asked)
+    ample, (requests, *_) = refusing.run(words, requests=stream, **settings)
     is_sound = agrees(ample, wanted) and 0 < requests < MOST_REQUESTS
     tally.expect(is_sound, f"{name}, {requests} requests: {ample}")
     if not is_sound:
@@ -162,7 +137,7 @@ def refuse_memory(refusing, tally, name, words, wanted, asked=(), **settings):
     refused_runs = 0
     for after in "", "+":
         def refused_at(at):
-            answer, (_, refused, *_) = refusing.run(words, asked=asked, REFUSE_MEMORY=f"{at}{after}", **settings)
+            answer, (_, refused, *_) = refusing.run(words, requests=stream, REFUSE_MEMORY=f"{at}{after}", **settings)
             tally.expect(answer in (ample, *told), f"{name}, request {at}{after} refused: {answer}")
             return refused > 0, answer in told
 
@@ -178,8 +153,30 @@ def refuse_memory(refusing, tally, name, words, wanted, asked=(), **settings):
 def refuse_threads(refusing, tally, name, words, wanted, asked):
     """Refuses each thread: the calls are made one after the other."""
     for workers in "2", "64":
-        answer, _ = refusing.run([*words, "--workers", workers, "--piece", "1"], asked=asked, REFUSE_THREADS=1)
+        answer, _ = refusing.run([*words, "--workers", workers, "--piece", "1"], requests=requests_of(asked), REFUSE_THREADS=1)
         tally.expect(answer == wanted, f"{name}, {workers} workers, no thread: {answer}")
+
+
+def count_threads(refusing, tally):
+    """One worker needs no thread, and each further one needs one, where there are as many pieces of one query."""
+    (refusing.folder / "many.p2p").write_text("p aux sp p2p 64\n" + 64 * "q 1 3\n")
+    words = ["dist", "--saved", "line.ch", "--piece", "1", "line.gr", "many.p2p"]
+    first, *others = (refusing.run([*words, "--workers", str(workers)])[1].threads for workers in (1, 2, 7, 64))
+    tally.expect(first == 0 and [threads - others[0] for threads in others] == [0, 5, 62], f"threads of 1, 2, 7 and 64 workers: {first}, {others}")
+
+
+def fail_help(refusing, tally):
+    """Help that is refused in its middle, and whose reader goes away there."""
+    for words in ["--help"], ["dist", "--help"]:
+        ample, counts = refusing.run(words, MOST_BYTES=100)
+        tally.expect(agrees(ample, Answer(0, None, b"")) and counts.writes == -(-len(ample.out) // 100) > 2, f"{words}, 100 bytes a call: {ample}")
+        for at in range(1, counts.writes + 1):
+            taken = 100 * (at - 1)
+            told = f"chtab: cannot write after {taken} bytes\n".encode()
+            gone = Answer(STATUS_OF_READER_GONE, ample.out[:taken], b"")
+            for error, wanted in (DEVICE_FULL, Answer(3, ample.out[:taken], told)), (READER_GONE, gone):
+                answer, _ = refusing.run(words, MOST_BYTES=100, REFUSE_WRITE=at, REFUSE_WITH=error)
+                tally.expect(answer == wanted, f"{words}, write {at} fails with {error}: {answer}")
 
 
 def has_tests_in_turn(crate):
@@ -222,35 +219,35 @@ def reads_of(size, most):
 def fail_devices(refusing, tally, name, words, files, text):
     """Lets each read and each write of one kind of run fail."""
     words, asked = with_files(words, files), asked_in(files)
-    done = Answer(0, text, b"")
+    stream, done = requests_of(asked), Answer(0, text, b"")
     for most in 1, 3, 1000:
         what = f"{name}, {most} bytes a call"
         readers = [which for which, file in files.items() for _ in range(reads_of(len(FILES[file]), most))]
-        ample, (_, _, read_count, write_count) = refusing.run(words, asked=asked, MOST_BYTES=most)
-        tally.expect(ample == done and read_count == len(readers), f"{what}: {ample}")
+        ample, counts = refusing.run(words, requests=stream, MOST_BYTES=most)
+        tally.expect(ample == done and counts.reads == len(readers), f"{what}: {ample}")
 
         def fail_read(at):
-            answer, _ = refusing.run(words, asked=asked, MOST_BYTES=most, REFUSE_READ=at)
+            answer, _ = refusing.run(words, requests=stream, MOST_BYTES=most, REFUSE_READ=at)
             told = f"chtab: cannot read {readers[at - 1]}\n".encode()
             written = answers_after(asked, most * readers[:at - 1].count("requests"))
             tally.expect(answer == Answer(3, written, told), f"{what}, read {at} fails: {answer}")
-            answer, _ = refusing.run(words, asked=asked, MOST_BYTES=most, REFUSE_READ=at, REFUSE_WITH=INTERRUPTED)
+            answer, _ = refusing.run(words, requests=stream, MOST_BYTES=most, REFUSE_READ=at, REFUSE_WITH=INTERRUPTED)
             tally.expect(answer == done, f"{what}, read {at} is interrupted: {answer}")
 
         def fail_write(at):
             """How many bytes were written before."""
-            answer, _ = refusing.run(words, asked=asked, MOST_BYTES=most, REFUSE_WRITE=at)
+            answer, _ = refusing.run(words, requests=stream, MOST_BYTES=most, REFUSE_WRITE=at)
             taken = len(answer.out)
             told = Answer(3, text[:taken], f"chtab: cannot write after {taken} bytes\n".encode())
             tally.expect(answer == told, f"{what}, write {at} fails: {answer}")
             for error, wanted in ((0, told), (DEVICE_FULL, told), (READER_GONE, Answer(STATUS_OF_READER_GONE, text[:taken], b"")),
                                   (INTERRUPTED, done)):
-                answer, _ = refusing.run(words, asked=asked, MOST_BYTES=most, REFUSE_WRITE=at, REFUSE_WITH=error)
+                answer, _ = refusing.run(words, requests=stream, MOST_BYTES=most, REFUSE_WRITE=at, REFUSE_WITH=error)
                 tally.expect(answer == wanted, f"{what}, write {at} fails with {error}: {answer}")
             return taken
 
         side_by_side(fail_read, range(1, len(readers) + 1))
-        places = side_by_side(fail_write, range(1, write_count + 1))
+        places = side_by_side(fail_write, range(1, counts.writes + 1))
         tally.expect(are_places(places, len(text), most, not asked), f"{what}: writes begin at {places}")
 
 
@@ -296,6 +293,8 @@ def main():
     tally = Count()
     with tempfile.TemporaryDirectory() as folder:
         refusing = Refusing(folder)
+        for name, text in FILES.items():
+            (refusing.folder / name).write_text(text)
         for name, (words, wanted) in KINDS.items():
             refuse_memory(refusing, tally, name, words, wanted)
         for name, (words, asked) in ASKS.items():
@@ -305,6 +304,8 @@ def main():
         for name, (words, files, text) in RUNS.items():
             refuse_threads(refusing, tally, name, with_files(words, files), Answer(0, text, b""), asked_in(files))
             fail_devices(refusing, tally, name, words, files, text)
+        count_threads(refusing, tally)
+        fail_help(refusing, tally)
         close_pipe(tally, refusing.folder)
         for crate in filter(has_tests_in_turn, sorted(ROOT.glob("crates/*"))):
             refuse_in_crate(refusing, tally, crate, is_needed="--tests" in sys.argv[1:])

@@ -1,5 +1,5 @@
 /* A library that is loaded before a program (LD_PRELOAD) and stands between it and the C library: it refuses a chosen
-   request for memory, read or write, and moves at most so many bytes at a call. What it is to do stands in the environment:
+   request for memory, read or write, moves at most so many bytes at a call, and sets the clock. What it is to do stands in the environment:
 
      REFUSE_MEMORY=N    the Nth request for memory or for a thread is refused; N+ for it and all that come after
      REFUSE_THREADS=1   each request for a thread is refused
@@ -7,7 +7,9 @@
      REFUSE_WRITE=N     the Nth write to standard output answers REFUSE_WITH
      REFUSE_WITH=E      this error, and 0 for a call that moves no byte (5, a failed device, if left out)
      MOST_BYTES=K       each read and write moves at most K bytes
-     REFUSE_COUNTS=F    the requests, reads and writes are counted in this file, which has room for four numbers
+     CLOCK_STEP=M       the clock stands still, and goes on by M milliseconds after each reading
+     REFUSE_CLOCK=1     the clock can't be read
+     REFUSE_COUNTS=F    all these are counted in this file, which has room for the six numbers of `struct counts`
 
    It is written for the C library of GNU on Linux, and takes no header, so the kit's compiler alone can make it. */
 
@@ -27,9 +29,15 @@ void *dlsym(void *, const char *);
 int open(const char *, int, ...);
 void *mmap(void *, size, int, int, int, long);
 
-/* How many calls there were, and of the requests for memory how many were refused. */
+/* How many calls there were: requests for memory or for a thread, those of them that were refused, reads, writes, threads that were asked for,
+   and readings of the clock. */
 struct counts {
-    size memory, refused, reads, writes;
+    size memory, refused, reads, writes, threads, clock;
+};
+
+/* A time as the system's calls have it. */
+struct time {
+    long seconds, nanoseconds;
 };
 
 static struct counts own_counts;
@@ -37,7 +45,8 @@ static struct counts *counts = &own_counts;
 
 /* Which call is refused, counted from 1: none where it is 0. */
 static size memory_at, read_at, write_at, most_bytes = ~0UL;
-static int all_after, no_threads;
+static int all_after, no_threads, no_clock, is_clock_set;
+static size clock_step;
 static int answer = DEVICE_FAILED;
 
 /* The value of a line NAME=VALUE of the environment, or none. */
@@ -80,6 +89,8 @@ __attribute__((constructor)) static void read_environment(int word_count, char *
     if ((value = environment(lines, "REFUSE_WRITE"))) write_at = number(value);
     if ((value = environment(lines, "REFUSE_WITH"))) answer = (int)number(value);
     if ((value = environment(lines, "MOST_BYTES"))) most_bytes = number(value);
+    no_clock = environment(lines, "REFUSE_CLOCK") != 0;
+    if ((value = environment(lines, "CLOCK_STEP"))) is_clock_set = 1, clock_step = number(value);
 }
 
 /* The number of this call, counted from 1. */
@@ -123,6 +134,7 @@ int posix_memalign(void **room, size alignment, size bytes) {
 /* A thread that can't be made, as where the system has no room for its stack. */
 int pthread_create(void *thread, const void *attributes, void *(*run)(void *), void *argument) {
     static int (*create)(void *, const void *, void *(*)(void *), void *);
+    next(&counts->threads);
     if (memory_is_refused() || no_threads) return TRY_AGAIN;
     if (!create) create = dlsym((void *)-1, "pthread_create");
     return create(thread, attributes, run, argument);
@@ -142,4 +154,20 @@ long read(int file, void *room, size bytes) {
 long write(int file, const void *text, size bytes) {
     if (file == STANDARD_OUTPUT && next(&counts->writes) == write_at) return refused_call();
     return __write(file, text, bytes < most_bytes ? bytes : most_bytes);
+}
+
+/* The clock that is set begins five seconds after its zero. */
+int clock_gettime(int clock, struct time *now) {
+    static int (*read_clock)(int, struct time *);
+    size at = 5000 + (next(&counts->clock) - 1) * clock_step;
+    if (no_clock) {
+        *__errno_location() = DEVICE_FAILED;
+        return -1;
+    }
+    if (is_clock_set) {
+        now->seconds = (long)(at / 1000), now->nanoseconds = (long)(at % 1000) * 1000000;
+        return 0;
+    }
+    if (!read_clock) read_clock = dlsym((void *)-1, "clock_gettime");
+    return read_clock(clock, now);
 }

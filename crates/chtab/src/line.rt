@@ -124,6 +124,3 @@ pub fn read_words<'a>(alloc: Global, words: &'a [&'a str]) -> Result<Line, LineF
         None => Err(LineFault::NoMemory),
     }
 }
-
-#[cfg(test)]
-mod tests;

@@ -250,6 +250,3 @@ fn tell<E: Output>(errors: &mut E, text: &[u8])
 {
     let _ = write_all(errors, text);
 }
-
-#[cfg(test)]
-mod tests;

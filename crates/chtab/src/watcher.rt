@@ -83,6 +83,3 @@ impl<'a, T: Timer, L: Lines> Gate for Watcher<'a, T, L> {
         }
     }
 }
-
-#[cfg(test)]
-mod tests;

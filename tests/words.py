@@ -1,0 +1,251 @@
+#!/usr/bin/python3
+"""Gives the built program words, and compares what it takes them for.
+
+- Options and files in any order, numbers in each form and at their limits: the text shows what was read.
+- Words that are refused, each with part of what is told; numbers outside their ranges, at each tool that reads them.
+- Help: what it says of each word.
+- Where help can't be written, or refused words can't be told.
+
+The last line is 'N passed, N failed'.
+"""
+import tempfile
+from pathlib import Path
+
+from helpers.running import PROGRAM, Answer, Count, agrees, build, run
+
+# A line of three nodes, and four nodes with two shortest paths from 2 to 4, of which the two orders take one each.
+LINE = "p sp 3 2\na 1 2 4\na 2 3 5\n"
+TIES = "p sp 4 6\na 1 4 1\na 2 1 1\na 2 3 1\na 3 2 1\na 3 4 1\na 4 3 1\n"
+FILES = {
+    "line.gr": LINE,
+    "--plain": LINE,
+    "line.p2p": "p aux sp p2p 2\nq 1 3\nq 3 1\n",
+    "from.ss": "p aux sp ss 2\ns 1\ns 3\n",
+    "to.ss": "p aux sp ss 2\ns 3\ns 2\n",
+    "ties.gr": TIES,
+    "ties.p2p": "p aux sp p2p 1\nq 2 4\n",
+    "requests.txt": "q 1 3\nt 1 2\ns 2\ns 3\ns 1\n",
+    "ties.txt": "q 2 4\n",
+}
+DISTANCES = "d 1 3 9\nd 3 1 -\n"
+ROUTES = "d 1 3 9\nr 2\na 1 2 4\na 2 3 5\nd 3 1 -\n"
+TABLE = "t 1 9 4\nt 3 0 -\n"
+WITHIN_4 = "t 1 - 4\nt 3 0 -\n"
+WITHIN_0 = "t 1 - -\nt 3 0 -\n"
+BY_DIFFERENCE = "d 2 4 2\nr 2\na 2 1 1\na 1 4 1\n"
+BY_DEPTH = "d 2 4 2\nr 2\na 2 3 1\na 3 4 1\n"
+SAVED = "p ch 3 2\no 1\no 2\no 3\nl 1 2 4 1 0\nl 2 3 5 1 0\n"
+SAVED_BY_DEPTH = "p ch 3 2\no 1\no 3\no 2\nl 1 2 4 1 0\nl 2 3 5 1 0\n"
+ASKED = "d 1 3 9\nt 2 5 -\n"
+ASKED_FOR_ROUTES = "d 1 3 9\nr 2\na 1 2 4\na 2 3 5\nt 2 5 -\n"
+
+# Words, and the text that shows how they were read. `ask` has the file that stands behind `<` for its requests.
+READ = [
+    ("dist line.gr line.p2p", DISTANCES),
+    ("dist --plain line.gr line.p2p", DISTANCES),
+    ("dist line.gr --routes line.p2p", ROUTES),
+    ("dist line.gr line.p2p --routes --plain", DISTANCES),
+    ("dist -- --plain line.p2p", DISTANCES),
+    ("dist --routes -- --plain line.p2p", ROUTES),
+    ("dist --routes ties.gr ties.p2p", BY_DIFFERENCE),
+    ("dist ties.gr --deep ties.p2p --routes", BY_DEPTH),
+    ("dist --routes --saved ties.ch ties.gr ties.p2p", BY_DEPTH),
+    ("dist ties.gr ties.p2p --saved=ties.ch --routes", BY_DEPTH),
+    ("dist --routes --deep --saved line.ch --workers 64 --piece 1 --hops 16 line.gr line.p2p", ROUTES),
+    ("dist --plain --saved none.ch line.gr line.p2p", DISTANCES),
+    ("table line.gr from.ss to.ss", TABLE),
+    ("table line.gr to.ss from.ss", "t 3 - 0\nt 2 - 5\n"),
+    ("table --workers 2 line.gr --hops 1 from.ss to.ss --piece 1048576", TABLE),
+    ("table --piece=3 --workers=+4 line.gr from.ss to.ss", TABLE),
+    ("table --within 8 line.gr from.ss to.ss", WITHIN_4),
+    ("table line.gr from.ss to.ss --within=0", WITHIN_0),
+    ("table --within 1152921504606846976 line.gr from.ss to.ss", TABLE),
+    ("table line.gr --within +004 from.ss to.ss", WITHIN_4),
+    ("table line.gr --saved line.ch from.ss --within 0 to.ss", WITHIN_0),
+    ("save line.gr", SAVED),
+    ("save line.gr --deep", SAVED_BY_DEPTH),
+    ("save --workers 64 line.gr --piece 1 --hops 16", SAVED),
+    ("ask line.gr < requests.txt", ASKED),
+    ("ask --saved line.ch line.gr --workers 2 --piece 3 < requests.txt", ASKED),
+    ("ask --routes --within 5 --hops 1 line.gr < requests.txt", ASKED_FOR_ROUTES),
+    ("ask line.gr --within 4 < requests.txt", "d 1 3 9\nt 2 - -\n"),
+    ("ask --routes ties.gr < ties.txt", BY_DIFFERENCE),
+    ("ask --deep ties.gr --routes < ties.txt", BY_DEPTH),
+    ("ask ties.gr --routes --saved ties.ch < ties.txt", BY_DEPTH),
+]
+
+# Words that name another file than is meant, and the fault.
+ELSEWHERE = [
+    ("dist line.p2p line.gr", 1, "chtab: graph line 1: bad problem line\n"),
+    ("dist line.gr line.gr", 1, "chtab: queries line 1: bad problem line\n"),
+    ("dist line.gr line.p2p --saved=line.gr", 1, "chtab: saved line 1: bad problem line\n"),
+    ("dist --saved none.ch line.gr line.p2p", 3, "chtab: cannot read saved\n"),
+    ("table --saved= line.gr from.ss to.ss", 3, "chtab: cannot read saved\n"),
+    ("dist line.p2p none.p2p", 3, "chtab: cannot read queries\n"),
+    ("table line.p2p from.ss none.ss", 3, "chtab: cannot read targets\n"),
+]
+
+# Numbers outside their ranges, and what is told of them.
+NUMBERS = [
+    ("--workers", "65", "65 is not in 1..=64"),
+    ("--workers", "0", "0 is not in 1..=64"),
+    ("--piece", "1048577", "1048577 is not in 1..=1048576"),
+    ("--piece", "0", "0 is not in 1..=1048576"),
+    ("--hops", "17", "17 is not in 1..=16"),
+    ("--hops", "0", "0 is not in 1..=16"),
+    ("--hops", "x", "invalid value 'x'"),
+    ("--workers", "1.5", "invalid value '1.5'"),
+]
+LIMITS = [
+    ("--within=1152921504606846977", "1152921504606846977 is not in 0..=1152921504606846976"),
+    ("--within=18446744073709551616", "number too large"),
+    ("--within=-1", "invalid value '-1'"),
+    ("--within=x", "invalid value 'x'"),
+    ("--within=", "for '--within <R>'"),
+]
+
+# Other words that are refused, and part of what is told of them.
+REFUSED = [
+    ("", "requires a subcommand"),
+    ("help", "unrecognized subcommand 'help'"),
+    ("tables g s t", "unrecognized subcommand"),
+    ("--plain dist g q", "unexpected argument"),
+    ("dist", "required arguments were not provided"),
+    ("dist g", "required arguments were not provided"),
+    ("dist g q r", "unexpected argument 'r'"),
+    ("dist --fast g q", "unexpected argument '--fast'"),
+    ("dist --version g q", "unexpected argument"),
+    ("dist g q --hops", "a value is required"),
+    ("dist --hops 2 --hops 2 g q", "cannot be used multiple times"),
+    ("dist --plain --plain g q", "cannot be used multiple times"),
+    ("dist --within 8 g q", "unexpected argument '--within'"),
+    ("dist g q --saved", "a value is required"),
+    ("dist --saved h --saved h g q", "cannot be used multiple times"),
+    ("dist --saved g q", "required arguments were not provided"),
+    ("table g s", "required arguments were not provided"),
+    ("table g s t u", "unexpected argument 'u'"),
+    ("table --plain g s t", "unexpected argument '--plain'"),
+    ("table --routes g s t", "unexpected argument '--routes'"),
+    ("table --deep g s t", "unexpected argument '--deep'"),
+    ("table --within -1 g s t", "unexpected argument '-1'"),
+    ("table g s t --within", "a value is required"),
+    ("table --within 1 --within 1 g s t", "cannot be used multiple times"),
+    ("save", "required arguments were not provided"),
+    ("save g h", "unexpected argument 'h'"),
+    ("save --saved h g", "unexpected argument '--saved'"),
+    ("save --plain g", "unexpected argument '--plain'"),
+    ("ask", "required arguments were not provided"),
+    ("ask g q", "unexpected argument 'q'"),
+    ("ask --plain g", "unexpected argument '--plain'"),
+]
+
+# Words that ask for help, and parts of what it says.
+HELPS = {
+    "--help": [
+        "Usage: chtab <COMMAND>", "dist", "table", "save", "ask", "chtab dist --routes roads.gr pairs.p2p",
+        "chtab table roads.gr depots.ss shops.ss", "chtab save --deep roads.gr >roads.ch",
+        "chtab ask --saved roads.ch roads.gr <requests.txt",
+    ],
+    "dist --help": [
+        "Usage: chtab dist [OPTIONS] <GRAPH> <QUERIES>", "--plain",
+        "ignore --routes, --deep, --saved, --workers, --piece and --hops [default: off]", "--routes", "in order [default: off]",
+        "--deep", "It changes nothing else [default: off]", "--saved <FILE>",
+        "ignore --hops: `chtab save` or any other program wrote it", "p ch N L", "--workers <N>", "same for each number [default: 1]",
+        "--piece <K>", "from 1 to 1048576 [default: 64]", "--hops <H>", "from 1 to 16 [default: 5]", "--progress",
+        "Example: chtab dist --routes roads.gr pairs.p2p",
+    ],
+    "table --help": [
+        "Usage: chtab table [OPTIONS] <GRAPH> <SOURCES> <TARGETS>", "--workers <N>", "--piece <K>", "--hops <H>", "p aux sp ss K",
+        "--within <R>", "from 0 to 1152921504606846976: cells above R are written as - [default: no limit]", "--saved <FILE>",
+        "--progress", "chtab table roads.gr depots.ss shops.ss", "chtab table --within 900000 roads.gr homes.ss doctors.ss",
+    ],
+    "save --help": [
+        "Usage: chtab save [OPTIONS] <GRAPH>", "--deep", "another may be told [default: off]", "--workers <N>", "--piece <K>",
+        "--hops <H>", "--progress", "Example: chtab save --deep roads.gr >roads.ch",
+    ],
+    "ask --help": [
+        "Usage: chtab ask [OPTIONS] <GRAPH>", "as they come: `q S T` as `dist` does", "`t K L`, then K lines `s V`, the sources",
+        "--routes", "--deep", "--within <R>", "--saved <FILE>", "--workers <N>", "--piece <K>", "--hops <H>", "--progress",
+        "Example: chtab ask --saved roads.ch roads.gr <requests.txt",
+    ],
+}
+
+
+def asked(folder, line):
+    """The answer of the program on the words of a line, which may name a file of requests behind `<`."""
+    words, _, requests = line.partition(" < ")
+    return run(words.split(" ") if words else [], folder, requests=(folder / requests).read_bytes() if requests else None)
+
+
+def check_read(tally, folder):
+    """The text of each line of words, and the fault of each that names another file than is meant."""
+    for line, text in READ:
+        answer = asked(folder, line)
+        tally.expect(answer == Answer(0, text.encode(), b""), f"{line}: {answer}")
+    for line, status, told in ELSEWHERE:
+        answer = asked(folder, line)
+        tally.expect(answer == Answer(status, b"", told.encode()), f"{line}: {answer}")
+
+
+def expect_refused(tally, folder, line, part):
+    """The words are refused, and this stands in what is told."""
+    answer = asked(folder, line)
+    is_refused = agrees(answer, Answer(2, b"", None)) and part.encode() in answer.err
+    tally.expect(is_refused, f"{line}: {answer}, and not: {part}")
+
+
+def check_refused(tally, folder):
+    """Each word that no tool reads."""
+    for option, number, part in NUMBERS:
+        for line in f"dist {option} {number} --routes g q", f"table {option} {number} g s t", f"save g {option} {number}", f"ask {option} {number} g":
+            expect_refused(tally, folder, line, part)
+    for limit, part in LIMITS:
+        for line in f"table {limit} g s t", f"ask g {limit}":
+            expect_refused(tally, folder, line, part)
+    for line, part in REFUSED:
+        expect_refused(tally, folder, line, part)
+
+
+def check_help(tally, folder):
+    """What help says of each word."""
+    for line, parts in HELPS.items():
+        answer = asked(folder, line)
+        tally.expect(agrees(answer, Answer(0, None, b"")), f"{line}: {answer}")
+        for part in parts:
+            tally.expect(part.encode() in answer.out, f"help by {line} does not say: {part}")
+
+
+# The program on the words behind it, where its output or its errors are a full device.
+FULL_OUTPUT = ["/bin/sh", "-c", '"$0" "$@" >/dev/full', PROGRAM]
+FULL_ERRORS = ["/bin/sh", "-c", '"$0" "$@" 2>/dev/full', PROGRAM]
+FULL_BOTH = ["/bin/sh", "-c", '"$0" "$@" >/dev/full 2>/dev/full', PROGRAM]
+
+
+def check_full(tally, folder):
+    """Help that can't be written is a fault, which is told where it can be; refused words have their status even so."""
+    told = b"chtab: cannot write after 0 bytes\n"
+    for words in ["--help"], ["ask", "--help"]:
+        for command, wanted in (FULL_OUTPUT, Answer(3, b"", told)), (FULL_BOTH, Answer(3, b"", b"")):
+            answer = run(words, folder, command=command)
+            tally.expect(answer == wanted, f"{words} on a full device: {answer}")
+    for words, status in (["dist"], 2), (["dist", "none.gr", "line.p2p"], 3), (["dist", "line.p2p", "line.p2p"], 1), (["--help"], 0):
+        answer = run(words, folder, command=FULL_ERRORS)
+        tally.expect(answer.status == status and answer.err == b"", f"{words} with full errors: {answer}")
+
+
+def main():
+    build()
+    tally = Count()
+    with tempfile.TemporaryDirectory() as place:
+        folder = Path(place)
+        for name, text in FILES.items():
+            (folder / name).write_text(text)
+        (folder / "line.ch").write_text(SAVED)
+        (folder / "ties.ch").write_bytes(run(["save", "--deep", "ties.gr"], folder).out)
+        for check in check_read, check_refused, check_help, check_full:
+            check(tally, folder)
+    tally.finish()
+
+
+if __name__ == "__main__":
+    main()
