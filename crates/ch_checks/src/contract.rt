@@ -8,6 +8,7 @@ mod remaining;
 mod workers;
 
 use crate::again::again;
+use crate::crew::crew;
 use crate::examples::{
     DETOUR, DIAMOND, EMPTY, Example, FEWER_ARCS, LINE, LegLine, RING, STAR, TAIL, TRIANGLE, graph,
 };
@@ -34,7 +35,7 @@ fn expect<R: Threads + Abort + Sync>(
     let graph = graph(alloc, example.nodes, example.arcs)?;
     for workers in [1, 2, 64] {
         let plan = Plan::new(workers, 1, 1);
-        let hierarchy = again!(build_by(rt, alloc, &graph, hops, by, &plan, &Open));
+        let hierarchy = again!(build_by(&crew(rt, alloc, &plan, &Open), &graph, hops, by));
         assert_eq!(rt; hierarchy.nodes(), example.nodes);
         expect_levels(rt, &hierarchy, example.order);
         expect_legs(rt, &hierarchy, example.legs);

@@ -3,12 +3,15 @@ ghost use Rattle.std.specs.Prelude.{◌≡◌, IfOk};
 ghost use Rattle.ch_query.specs.Distance.{IsKeptForSome};
 
 use crate::again::again;
+use crate::crew::crew;
 use ch_graph::{Cost, Graph, InArc, Saved, SavedLeg};
 use ch_hierarchy::{CheckError, Hierarchy};
 use ch_query::check;
+use ch_work::{Open, Plan};
 use std::alloc::{AllocError, Global};
 use std::process::Abort;
 use std::test::Fail;
+use std::thread::Threads;
 
 /// An arc: from, to, weight.
 pub(crate) type Arc = (u32, u32, u64);
@@ -189,16 +192,22 @@ pub(crate) fn saved(alloc: Global, nodes: &[u32], lines: &[LegLine]) -> Result<S
     Ok(Saved { order, legs })
 }
 
-fn check_once(alloc: Global, graph: &Graph, saved: &Saved) -> Result<Hierarchy, CheckError>
+fn check_once<R: Threads + Sync>(
+    rt: &R,
+    alloc: Global,
+    graph: &Graph,
+    saved: &Saved,
+) -> Result<Hierarchy, CheckError>
     ensures { IfOk result IsKeptForSome }
 {
     // The getter tells the proof that the graph keeps the limits.
     let _ = graph.arcs();
-    check(alloc, graph, saved)
+    check(&crew(rt, alloc, &Plan::new(2, 1, 64), &Open), graph, saved)
 }
 
 /// What `check` answers for an example, made a second time where the first was refused memory.
-pub(crate) fn checked(
+pub(crate) fn checked<R: Threads + Sync>(
+    rt: &R,
     alloc: Global,
     example: &Example,
 ) -> Result<Result<Hierarchy, CheckError>, Fail>
@@ -206,21 +215,21 @@ pub(crate) fn checked(
 {
     let graph = graph(alloc, example.nodes, example.arcs)?;
     let saved = saved(alloc, example.order, example.legs)?;
-    match check_once(alloc, &graph, &saved) {
-        Err(CheckError::NoMemory) => Ok(check_once(alloc, &graph, &saved)),
+    match check_once(rt, alloc, &graph, &saved) {
+        Err(CheckError::NoMemory) => Ok(check_once(rt, alloc, &graph, &saved)),
         answer => Ok(answer),
     }
 }
 
 /// The hierarchy of an example.
-pub(crate) fn hierarchy(
-    rt: &impl Abort,
+pub(crate) fn hierarchy<R: Threads + Abort + Sync>(
+    rt: &R,
     alloc: Global,
     example: &Example,
 ) -> Result<Hierarchy, Fail>
     ensures { IfOk result IsKeptForSome }
 {
-    match checked(alloc, example)? {
+    match checked(rt, alloc, example)? {
         Ok(hierarchy) => Ok(hierarchy),
         Err(error) => panic!(rt; "{error}"),
     }

@@ -2,12 +2,15 @@
 //!
 //! That is that calls succeed where there is memory, values from outside, texts of faults, what a refusal of memory
 //! leaves, and what workers do at once. Nothing but tests stands here, so the crates below are proved once.
+//! It stands on ch_contract, ch_graph, ch_hierarchy, ch_lists, ch_query, ch_queue, ch_read, ch_table and ch_work.
 #![tactic(auto)]
 
 #[cfg(test)]
 mod again;
 #[cfg(test)]
 mod contract;
+#[cfg(test)]
+mod crew;
 #[cfg(test)]
 mod examples;
 #[cfg(test)]

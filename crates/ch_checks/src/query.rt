@@ -11,12 +11,18 @@ use prepared::Prepared;
 use std::alloc::{AllocError, Global};
 use std::process::Abort;
 use std::test::Fail;
+use std::thread::Threads;
 
 /// A route: from, to, its weight, none where there is no walk, and its arcs. Nodes are counted from 0.
 type Way<'a> = (u32, u32, Option<u64>, &'a [Arc]);
 
 /// Expects these routes in an example.
-fn expect(rt: &impl Abort, alloc: Global, example: &Example, ways: &[Way]) -> Result<(), Fail> {
+fn expect<R: Threads + Abort + Sync>(
+    rt: &R,
+    alloc: Global,
+    example: &Example,
+    ways: &[Way],
+) -> Result<(), Fail> {
     let mut prepared = Prepared::new(rt, alloc, example)?;
     for (from, to, weight, arcs) in ways {
         prepared.expect_route(rt, *from, *to, *weight, arcs)?;

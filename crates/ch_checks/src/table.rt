@@ -4,6 +4,7 @@ ghost use Rattle.ch_hierarchy.specs.Hierarchy.{nodes_of};
 ghost use Rattle.ch_query.specs.Distance.{IsKeptForSome};
 
 use crate::again::again;
+use crate::crew::crew;
 use crate::examples::{Example, LINE, RING, TRIANGLE, hierarchy};
 use ch_graph::limits::MOST_WEIGHT;
 use ch_hierarchy::Hierarchy;
@@ -55,14 +56,11 @@ fn make<R: Threads + Abort + Sync, G: Gate>(
     let sources = from_zero(rt, alloc, &hierarchy, case.sources)?;
     let targets = from_zero(rt, alloc, &hierarchy, case.targets)?;
     Ok(again!(table(
-        rt,
-        alloc,
+        &crew(rt, alloc, plan, gate),
         &hierarchy,
         &sources,
         &targets,
         case.within,
-        plan,
-        gate,
     )))
 }
 
@@ -189,7 +187,11 @@ fn expect_entries<R: Abort>(rt: &R, nodes: u32, buckets: &Buckets, rows: &[&[(u3
 }
 
 /// Fills buckets as they are described, and expects their entries.
-fn expect_filled<R: Abort>(rt: &R, alloc: Global, filled: &Filled) -> Result<(), Fail> {
+fn expect_filled<R: Threads + Abort + Sync>(
+    rt: &R,
+    alloc: Global,
+    filled: &Filled,
+) -> Result<(), Fail> {
     let (example, is_up, nodes, within, rows) = *filled;
     let hierarchy = hierarchy(rt, alloc, &example)?;
     let nodes = from_zero(rt, alloc, &hierarchy, nodes)?;

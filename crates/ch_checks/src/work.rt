@@ -4,6 +4,7 @@ mod cells;
 mod rooms;
 
 use crate::again::again;
+use crate::crew::crew;
 use ch_work::{CountingGate, Gate, Job, MeetingGate, Open, Plan, joined, run_pieces};
 use std::alloc::{AllocError, Global};
 use std::process::Abort;
@@ -60,7 +61,7 @@ fn expect_numbers<R: Threads + Abort + Sync>(
 ) -> Result<(), AllocError> {
     let gate = again!(CountingGate::new(alloc, 11));
     let job = Numbers { items };
-    let values = run_pieces(rt, alloc, items, plan, &gate, &job)?;
+    let values = run_pieces(&crew(rt, alloc, plan, &gate), items, &job)?;
     assert_eq!(rt; values.len(), plan.pieces(items) as usize);
     let numbers = joined(alloc, values)?;
     assert_eq!(rt; numbers.len(), items as usize);
@@ -93,7 +94,7 @@ fn want_of_memory_in_one_piece_is_answered(rt: HostRuntime) -> Result<(), Fail> 
         let gate = CountingGate::new(rt.alloc(), 4)?;
         let job = Refused { items: 4, item };
         let plan = Plan::new(2, 1, 64);
-        assert!(rt; run_pieces(&rt, rt.alloc(), 4, &plan, &gate, &job).is_err());
+        assert!(rt; run_pieces(&crew(&rt, rt.alloc(), &plan, &gate), 4, &job).is_err());
         for piece in 0..4 {
             assert_eq!(rt; gate.passes(piece), Some(1), "piece {piece}");
         }
@@ -105,10 +106,12 @@ fn want_of_memory_in_one_piece_is_answered(rt: HostRuntime) -> Result<(), Fail> 
 fn two_workers_meet_and_one_meets_nobody(rt: HostRuntime) -> Result<(), Fail> {
     let job = Numbers { items: 2 };
     let gate = MeetingGate::new();
-    run_pieces(&rt, rt.alloc(), 2, &Plan::new(2, 1, 64), &gate, &job)?;
+    let plan = Plan::new(2, 1, 64);
+    run_pieces(&crew(&rt, rt.alloc(), &plan, &gate), 2, &job)?;
     assert!(rt; gate.has_met());
     let gate = MeetingGate::waiting(1000);
-    run_pieces(&rt, rt.alloc(), 2, &Plan::new(1, 1, 64), &gate, &job)?;
+    let plan = Plan::new(1, 1, 64);
+    run_pieces(&crew(&rt, rt.alloc(), &plan, &gate), 2, &job)?;
     assert!(rt; !gate.has_met());
     Ok(())
 }
@@ -159,7 +162,8 @@ fn one_slow_piece(rt: HostRuntime) -> Result<(), Fail> {
         seen: AtomicBool::new(false),
     };
     let plan = Plan::new(2, 1, 64);
-    run_pieces(&rt, rt.alloc(), 4, &plan, &gate, &Numbers { items: 4 })?;
+    let crew = crew(&rt, rt.alloc(), &plan, &gate);
+    run_pieces(&crew, 4, &Numbers { items: 4 })?;
     assert!(rt; gate.seen.load(Ordering::SeqCst));
     Ok(())
 }

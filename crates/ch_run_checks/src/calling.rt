@@ -10,7 +10,7 @@ ghost use Rattle.ch_read.specs.Names.{NamesGraph};
 use ch_contract::build;
 use ch_query::{Scratch, distance};
 use ch_read::{ReadError, ReadFault, read_graph};
-use ch_work::{Open, Plan};
+use ch_work::{Crew, Open, Plan};
 use std::alloc::Global;
 use std::test::Fail;
 use std::thread::Threads;
@@ -50,8 +50,13 @@ fn distance_in<R: Threads + Sync>(
     if from >= graph.nodes() || to >= graph.nodes() {
         return Err(Refused::Node);
     }
-    let plan = Plan::new(2, 64, 64);
-    let Ok(hierarchy) = build(rt, alloc, &graph, 5, &plan, &Open) else {
+    let crew = Crew {
+        rt,
+        alloc,
+        plan: Plan::new(2, 64, 64),
+        gate: &Open,
+    };
+    let Ok(hierarchy) = build(&crew, &graph, 5) else {
         return Err(Refused::Memory);
     };
     let Ok(mut scratch) = Scratch::new(alloc, graph.nodes()) else {

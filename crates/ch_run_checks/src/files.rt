@@ -2,8 +2,8 @@
 ghost use Rattle.ch_contract.specs.Legs.{IsHopBound};
 
 use ch_run::{
-    MemoryInput, MemoryOutput, Open, Options, Plan, RunFault, run_ask, run_ask_saved, run_dist,
-    run_dist_saved, run_save, run_table, run_table_saved,
+    Crew, MemoryInput, MemoryOutput, Open, Options, Plan, RunFault, run_ask, run_ask_saved,
+    run_dist, run_dist_saved, run_save, run_table, run_table_saved,
 };
 use std::alloc::{AllocError, Global};
 use std::thread::Threads;
@@ -42,9 +42,15 @@ pub fn run<R: Threads + Sync>(
     requires { IsHopBound options.now.hops }
 {
     let mut output = MemoryOutput::new(alloc, MOST, MOST)?;
+    let crew = Crew {
+        rt,
+        alloc,
+        plan: *plan,
+        gate: &Open,
+    };
     macro_rules! ended {
         ($run:ident, $($bytes:expr),+) => {
-            $run(rt, alloc, $(&mut MemoryInput::new($bytes, MOST),)+ &mut output, options, plan, &Open)
+            $run(&crew, $(&mut MemoryInput::new($bytes, MOST),)+ &mut output, options)
         };
     }
     let graph = files.graph;

@@ -1,7 +1,8 @@
 //! Tests of `ch_run` and `ch_line` by their public calls, of what no clause says: that the calls succeed, what comes of
 //! a request for memory that is refused, devices that fail in mid-stream, and workers that share a run.
 //!
-//! They stand in a crate of their own, since a crate with tests is proved twice.
+//! They are in a crate of their own, because a crate with tests is proved twice.
+//! It stands on ch_contract, ch_graph, ch_line, ch_query, ch_read, ch_run and ch_work.
 #![tactic(auto)]
 
 #[cfg(test)]

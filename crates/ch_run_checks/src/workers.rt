@@ -3,7 +3,8 @@ ghost use Rattle.ch_contract.specs.Legs.{IsHopBound};
 
 use crate::runs::{ACROSS, BY_HIERARCHY, LINE, LINE_SAVED, PLAIN, SOURCES, STAR, TARGETS};
 use ch_run::{
-    MemoryInput, MemoryOutput, Options, Plan, RunFault, run_dist, run_dist_saved, run_table_saved,
+    Crew, MemoryInput, MemoryOutput, Options, Plan, RunFault, run_dist, run_dist_saved,
+    run_table_saved,
 };
 use ch_work::{CountingGate, MeetingGate};
 use std::alloc::{AllocError, Global};
@@ -13,20 +14,27 @@ use std::thread::Threads;
 /// How many bytes the devices of a run move at a call.
 const MOST: usize = 4096;
 
+/// Two workers, who share pieces of one item and pass this gate.
+fn crew<'a, R, G>(rt: &'a R, alloc: Global, gate: &'a G) -> Crew<'a, R, G> {
+    Crew {
+        rt,
+        alloc,
+        plan: Plan::new(2, 1, 64),
+        gate,
+    }
+}
+
 /// By a saved hierarchy the only pieces of a run are those of its answers.
 #[test]
 fn two_queries_are_answered_at_once(rt: HostRuntime) -> Result<(), Fail> {
     let gate = MeetingGate::new();
     let result = run_dist_saved(
-        &rt,
-        rt.alloc(),
+        &crew(&rt, rt.alloc(), &gate),
         &mut MemoryInput::new(LINE, MOST),
         &mut MemoryInput::new(LINE_SAVED, MOST),
         &mut MemoryInput::new(b"p aux sp p2p 2\nq 1 3\nq 3 1\n", MOST),
         &mut MemoryOutput::new(rt.alloc(), MOST, MOST)?,
         &BY_HIERARCHY,
-        &Plan::new(2, 1, 64),
-        &gate,
     );
     assert_eq!(rt; result, Ok(()));
     assert!(rt; gate.has_met());
@@ -37,16 +45,13 @@ fn two_queries_are_answered_at_once(rt: HostRuntime) -> Result<(), Fail> {
 fn two_nodes_of_a_table_are_searched_at_once(rt: HostRuntime) -> Result<(), Fail> {
     let gate = MeetingGate::new();
     let result = run_table_saved(
-        &rt,
-        rt.alloc(),
+        &crew(&rt, rt.alloc(), &gate),
         &mut MemoryInput::new(LINE, MOST),
         &mut MemoryInput::new(LINE_SAVED, MOST),
         &mut MemoryInput::new(SOURCES, MOST),
         &mut MemoryInput::new(TARGETS, MOST),
         &mut MemoryOutput::new(rt.alloc(), MOST, MOST)?,
         &BY_HIERARCHY,
-        &Plan::new(2, 1, 64),
-        &gate,
     );
     assert_eq!(rt; result, Ok(()));
     assert!(rt; gate.has_met());
@@ -64,14 +69,11 @@ fn run_on_the_star<R: Threads + Sync>(
 {
     let mut output = MemoryOutput::new(alloc, MOST, MOST)?;
     Ok(run_dist(
-        rt,
-        alloc,
+        &crew(rt, alloc, gate),
         &mut MemoryInput::new(STAR, MOST),
         &mut MemoryInput::new(ACROSS, MOST),
         &mut output,
         options,
-        &Plan::new(2, 1, 64),
-        gate,
     ))
 }
 

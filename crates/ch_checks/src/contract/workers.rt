@@ -1,4 +1,5 @@
 //! How workers share what [`build`] computes: which pieces pass the gate, and two of them at once.
+use crate::crew::crew;
 use crate::examples::{STAR, graph};
 use ch_contract::build;
 use ch_work::{CountingGate, MeetingGate, Plan};
@@ -12,7 +13,7 @@ fn neighbours_are_shared_where_they_are_many(rt: HostRuntime) -> Result<(), Fail
         for (wide, expected) in [(1, [4, 2, 1, 1]), (2, [2, 2, 1, 1]), (3, [1, 1, 1, 1])] {
             let gate = CountingGate::new(rt.alloc(), 4)?;
             let plan = Plan::new(workers, 1, wide);
-            build(&rt, rt.alloc(), &graph, 5, &plan, &gate)?;
+            build(&crew(&rt, rt.alloc(), &plan, &gate), &graph, 5)?;
             for (piece, expected) in (0..4).zip(&expected) {
                 assert_eq!(rt; gate.passes(piece), Some(*expected), "wide {wide}");
             }
@@ -25,7 +26,8 @@ fn neighbours_are_shared_where_they_are_many(rt: HostRuntime) -> Result<(), Fail
 fn two_pieces_at_once(rt: HostRuntime) -> Result<(), Fail> {
     let graph = graph(rt.alloc(), STAR.nodes, STAR.arcs)?;
     let gate = MeetingGate::new();
-    build(&rt, rt.alloc(), &graph, 5, &Plan::new(2, 1, 64), &gate)?;
+    let plan = Plan::new(2, 1, 64);
+    build(&crew(&rt, rt.alloc(), &plan, &gate), &graph, 5)?;
     assert!(rt; gate.has_met());
     Ok(())
 }

@@ -6,10 +6,11 @@ ghost use Rattle.ch_query.specs.Answers.{AreQueries};
 ghost use Rattle.ch_query.specs.Distance.{IsKeptForSome};
 
 use crate::again::again;
+use crate::crew::crew;
 use crate::examples::{RING, hierarchy};
 use ch_graph::InArc;
 use ch_hierarchy::Hierarchy;
-use ch_query::{Answer, Scratch, answer_all, answer_all_in};
+use ch_query::{Answer, answer_all, answer_all_in};
 use ch_work::{Open, Plan};
 use std::alloc::{AllocError, Global};
 use std::process::Abort;
@@ -17,7 +18,7 @@ use std::test::Fail;
 use std::thread::Threads;
 
 /// The hierarchy of the ring.
-fn ring(rt: &impl Abort, alloc: Global) -> Result<Hierarchy, Fail>
+fn ring<R: Threads + Abort + Sync>(rt: &R, alloc: Global) -> Result<Hierarchy, Fail>
     ensures kept { IfOk result IsKeptForSome }
     ensures nodes { IfOk result (λ h. nodes_of h ≡ 5) }
 {
@@ -77,7 +78,7 @@ fn expect_answers<R: Threads + Abort + Sync>(
     requires count { length queries.now ≤ MOST_QUERIES }
 {
     for routes in [false, true] {
-        let answers = again!(answer_all(rt, alloc, ring, queries, routes, plan, &Open));
+        let answers = again!(answer_all(&crew(rt, alloc, plan, &Open), ring, queries, routes));
         expect(rt, &answers, queries, weights, routes);
     }
     Ok(())
@@ -98,8 +99,8 @@ fn no_plan_changes_an_answer(rt: HostRuntime) -> Result<(), Fail> {
     Ok(())
 }
 
-/// By one worker, by two that share the queries, and by the caller alone in a scratch that it has. It holds when any one
-/// request for memory is refused.
+/// By one worker, by two that share the queries, and by two in scratches that stay. It holds when any one request for memory
+/// is refused.
 #[test]
 fn answered_refused_in_turn(rt: HostRuntime) -> Result<(), Fail> {
     let alloc = rt.alloc();
@@ -109,24 +110,11 @@ fn answered_refused_in_turn(rt: HostRuntime) -> Result<(), Fail> {
         let plan = Plan::new(workers, 1, 64);
         expect_answers(&rt, alloc, &ring, &queries, &[4, 4], &plan)?;
     }
-    let plan = Plan::new(1, 1, 64);
+    let plan = Plan::new(2, 1, 64);
+    let crew = crew(&rt, alloc, &plan, &Open);
+    let mut scratches = Vec::new(alloc);
     for routes in [false, true] {
-        let mut scratch = again!(Scratch::new(alloc, 5));
-        let answers = match answer_all_in(
-            alloc,
-            &ring,
-            &mut scratch,
-            &queries,
-            routes,
-            &plan,
-            &Open,
-        ) {
-            Ok(answers) => answers,
-            Err(AllocError) => {
-                let mut scratch = again!(Scratch::new(alloc, 5));
-                answer_all_in(alloc, &ring, &mut scratch, &queries, routes, &plan, &Open)?
-            }
-        };
+        let answers = again!(answer_all_in(&crew, &ring, &mut scratches, &queries, routes));
         expect(&rt, &answers, &queries, &[4, 4], routes);
     }
     Ok(())

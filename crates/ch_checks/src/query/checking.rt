@@ -1,21 +1,27 @@
 //! Saved hierarchies that are right for a graph, and the first faults of others.
+use crate::crew::crew;
 use crate::examples::{Example, LINE, LegLine, PARALLEL, STAR, checked, graph, saved};
 use ch_hierarchy::{CheckError, CheckFault};
 use ch_query::check_watched;
-use ch_work::Open;
+use ch_work::{Open, Plan};
 use std::alloc::Global;
 use std::process::Abort;
 use std::test::Fail;
+use std::thread::Threads;
 
 /// The fault that both ways to check answer, and none where the hierarchy is right.
-fn fault_of(rt: &impl Abort, alloc: Global, example: &Example) -> Result<Option<CheckFault>, Fail> {
-    let found = match checked(alloc, example)? {
+fn fault_of<R: Threads + Abort + Sync>(
+    rt: &R,
+    alloc: Global,
+    example: &Example,
+) -> Result<Option<CheckFault>, Fail> {
+    let found = match checked(rt, alloc, example)? {
         Err(CheckError::Fault(fault)) => Some(fault),
         _ => None,
     };
     let graph = graph(alloc, example.nodes, example.arcs)?;
     let saved = saved(alloc, example.order, example.legs)?;
-    match check_watched(alloc, &graph, saved, &Open) {
+    match check_watched(&crew(rt, alloc, &Plan::new(2, 1, 64), &Open), &graph, saved) {
         Ok(_) => assert_eq!(rt; found, None),
         Err(CheckError::Fault(fault)) => assert_eq!(rt; found, Some(fault)),
         Err(CheckError::NoMemory) => {}
@@ -76,7 +82,11 @@ fn hierarchies_of_a_line(rt: HostRuntime) -> Result<(), Fail> {
 }
 
 /// Four roads in a square, of weight 1 but for the last: two ways lead from node 2 to node 4, by node 1 and by node 3.
-fn square(rt: &impl Abort, alloc: Global, last: u64) -> Result<Option<CheckFault>, Fail> {
+fn square<R: Threads + Abort + Sync>(
+    rt: &R,
+    alloc: Global,
+    last: u64,
+) -> Result<Option<CheckFault>, Fail> {
     let arcs = [(2, 1, 1), (1, 4, 1), (2, 3, 1), (3, 4, last)];
     let legs = [
         (2, 1, 1, 1, 0),

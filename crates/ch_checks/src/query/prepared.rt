@@ -8,6 +8,7 @@ use std::alloc::{AllocError, Global};
 use std::marker::Model;
 use std::process::Abort;
 use std::test::Fail;
+use std::thread::Threads;
 
 /// A hierarchy that is right for some graph, and room for queries in it. Contracts see the number of its
 /// nodes.
@@ -32,7 +33,11 @@ impl Model for Prepared {
 
 impl Prepared {
     /// The hierarchy of an example, with room.
-    pub(super) fn new(rt: &impl Abort, alloc: Global, example: &Example) -> Result<Prepared, Fail> {
+    pub(super) fn new<R: Threads + Abort + Sync>(
+        rt: &R,
+        alloc: Global,
+        example: &Example,
+    ) -> Result<Prepared, Fail> {
         let hierarchy = hierarchy(rt, alloc, example)?;
         let scratch = again!(Scratch::new(alloc, hierarchy.nodes()));
         Ok(Prepared {

@@ -3,6 +3,7 @@
 ghost use Rattle.std.specs.Prelude.{◌≡◌, ℕ, ◌+◌, ◌*◌, ◌<◌, ◌≤◌};
 
 use crate::again::again;
+use crate::crew::crew;
 use ch_work::{Board, CellJob, MeetingGate, Open, Pass, Plan, pay, run_cells};
 use std::alloc::{AllocError, Global};
 use std::test::Fail;
@@ -40,14 +41,29 @@ impl CellJob for Falling {
 fn the_least_weight_that_is_owed_stands(rt: HostRuntime) -> Result<(), Fail> {
     for workers in [1, 2, 64] {
         let plan = Plan::new(workers, 3, 64);
-        let cells = run_cells(&rt, rt.alloc(), 4, 2, &plan, &Open, &Falling { items: 4 })?;
+        let cells = run_cells(
+            &crew(&rt, rt.alloc(), &plan, &Open),
+            4,
+            2,
+            &Falling { items: 4 },
+        )?;
         assert_eq!(rt; cells.as_slice(), [Some(3), None].as_slice());
-        let none = run_cells(&rt, rt.alloc(), 0, 2, &plan, &Open, &Falling { items: 0 })?;
+        let none = run_cells(
+            &crew(&rt, rt.alloc(), &plan, &Open),
+            0,
+            2,
+            &Falling { items: 0 },
+        )?;
         assert_eq!(rt; none.as_slice(), [None, None].as_slice());
     }
     let gate = MeetingGate::new();
     let plan = Plan::new(2, 1, 64);
-    run_cells(&rt, rt.alloc(), 2, 2, &plan, &gate, &Falling { items: 2 })?;
+    run_cells(
+        &crew(&rt, rt.alloc(), &plan, &gate),
+        2,
+        2,
+        &Falling { items: 2 },
+    )?;
     assert!(rt; gate.has_met());
     Ok(())
 }
@@ -76,7 +92,7 @@ fn refused_in_turn(rt: HostRuntime) -> Result<(), Fail> {
     let job = Falling { items: 2 };
     for workers in [1, 2] {
         let plan = Plan::new(workers, 1, 64);
-        let cells = again!(run_cells(&rt, alloc, 2, 2, &plan, &Open, &job));
+        let cells = again!(run_cells(&crew(&rt, alloc, &plan, &Open), 2, 2, &job));
         assert_eq!(rt; cells.as_slice(), [Some(7), None].as_slice());
     }
     Ok(())

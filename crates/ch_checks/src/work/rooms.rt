@@ -3,7 +3,8 @@ ghost use Rattle.std.specs.Prelude.{◌≡◌, ◌+◌, ◌<◌, ◌^◌, [], �
 ghost use Rattle.std.specs.List.{AllZip};
 
 use crate::again::again;
-use ch_work::{ListJob, Open, Plan, RoomJob, run_list, run_list_in_room, run_pieces_with_rooms};
+use crate::crew::crew;
+use ch_work::{ListJob, Open, Plan, RoomJob, run_list, run_list_in, run_pieces_with_rooms};
 use std::alloc::{AllocError, Global};
 use std::sync::atomic::{AtomicU64, Ordering};
 use std::test::Fail;
@@ -59,7 +60,7 @@ fn run_ends<R: Threads + Sync>(
     requires job { job.now.items ≡ 10 }
 {
     let plan = Plan::new(workers, 3, 64);
-    run_pieces_with_rooms(rt, alloc, 10, &plan, &Open, job)
+    run_pieces_with_rooms(&crew(rt, alloc, &plan, &Open), 10, job)
 }
 
 /// The rooms that a job has memory for, none made yet.
@@ -130,7 +131,11 @@ fn run_successors<R: Threads + Sync>(
     requires length { length numbers.now < 1000 }
     ensures { IfOk result (λ list. AllZip (λ number successor. successor ≡ number + 1) numbers.now list.items) }
 {
-    run_list(rt, alloc, numbers, plan, &Open, &Successors { step: 1 })
+    run_list(
+        &crew(rt, alloc, plan, &Open),
+        numbers,
+        &Successors { step: 1 },
+    )
 }
 
 #[test]
@@ -147,17 +152,19 @@ fn a_list_has_its_values_in_order(rt: HostRuntime) -> Result<(), Fail> {
     Ok(())
 }
 
-/// The successors of two lists, by one room.
-fn in_one_room(
+/// The successors of two lists, in rooms that stay.
+fn in_rooms_that_stay<R: Threads + Sync>(
+    rt: &R,
     alloc: Global,
     plan: &Plan,
     job: &Successors,
 ) -> Result<(Vec<u32>, Vec<u32>), AllocError>
     requires { job.now.step ≡ 1 }
 {
-    let mut room = job.room(alloc)?;
-    let first = run_list_in_room(alloc, &[3, 0], plan, &Open, &mut room, job)?;
-    let second = run_list_in_room(alloc, &[9], plan, &Open, &mut room, job)?;
+    let crew = crew(rt, alloc, plan, &Open);
+    let mut rooms = Vec::new(alloc);
+    let first = run_list_in(&crew, &[3, 0], &mut rooms, job)?;
+    let second = run_list_in(&crew, &[9], &mut rooms, job)?;
     Ok((first, second))
 }
 
@@ -168,7 +175,7 @@ fn lists_and_rooms_refused_in_turn(rt: HostRuntime) -> Result<(), Fail> {
     let plan = Plan::new(2, 2, 64);
     let list = again!(run_successors(&rt, alloc, &[3, 0, 7], &plan));
     assert_eq!(rt; list.as_slice(), [4, 1, 8].as_slice());
-    let (first, second) = again!(in_one_room(alloc, &plan, &Successors { step: 1 }));
+    let (first, second) = again!(in_rooms_that_stay(&rt, alloc, &plan, &Successors { step: 1 }));
     assert_eq!(rt; first.as_slice(), [4, 1].as_slice());
     assert_eq!(rt; second.as_slice(), [10].as_slice());
     let found = again!(run_ends(&rt, alloc, 2, &job_with(64)));
