@@ -8,6 +8,7 @@ use crate::crew::crew;
 use crate::examples::{Example, LINE, RING, TRIANGLE, hierarchy};
 use ch_graph::limits::MOST_WEIGHT;
 use ch_hierarchy::Hierarchy;
+use ch_query::Side;
 use ch_table::{Buckets, Table, table};
 use ch_work::{CountingGate, Gate, Open, Plan};
 use std::alloc::{AllocError, Global};
@@ -89,56 +90,74 @@ const LINE_TWICE: Case = Case {
     rows: &[&[Some(9), Some(4)], &[Some(9), Some(4)], &[Some(0), None]],
 };
 
+const LINE_WITHIN: Case = Case {
+    roads: LINE,
+    sources: &[1, 1, 3],
+    targets: &[3, 2],
+    within: Some(8),
+    rows: &[&[None, Some(4)], &[None, Some(4)], &[Some(0), None]],
+};
+
+const LINE_WITHIN_MOST: Case = Case {
+    roads: LINE,
+    sources: &[1],
+    targets: &[3],
+    within: Some(MOST_WEIGHT),
+    rows: &[&[Some(9)]],
+};
+
+const AROUND: Case = Case {
+    roads: RING,
+    sources: &[5, 1],
+    targets: &[4, 4, 5],
+    within: None,
+    rows: &[&[Some(4), Some(4), Some(0)], &[Some(3), Some(3), Some(4)]],
+};
+
+const AROUND_WITHIN: Case = Case {
+    roads: RING,
+    sources: &[5, 1],
+    targets: &[4, 4, 5],
+    within: Some(3),
+    rows: &[&[None, None, Some(0)], &[Some(3), Some(3), None]],
+};
+
+const NO_SOURCES: Case = Case {
+    roads: RING,
+    sources: &[],
+    targets: &[4, 5],
+    within: None,
+    rows: &[],
+};
+
+const NO_TARGETS: Case = Case {
+    roads: RING,
+    sources: &[5, 1],
+    targets: &[],
+    within: None,
+    rows: &[&[], &[]],
+};
+
+const WEIGHTLESS: Case = Case {
+    roads: TRIANGLE,
+    sources: &[1],
+    targets: &[3],
+    within: Some(0),
+    rows: &[&[Some(0)]],
+};
+
 /// A cell at the limit stays, one above it has none, and weights of 0 are within a limit of 0.
 #[test]
 fn worked_tables(rt: HostRuntime) -> Result<(), Fail> {
-    let ring = Case {
-        roads: RING,
-        sources: &[5, 1],
-        targets: &[4, 4, 5],
-        within: None,
-        rows: &[&[Some(4), Some(4), Some(0)], &[Some(3), Some(3), Some(4)]],
-    };
-    let ring_within = Case {
-        within: Some(3),
-        rows: &[&[None, None, Some(0)], &[Some(3), Some(3), None]],
-        ..ring
-    };
-    let no_sources = Case {
-        sources: &[],
-        rows: &[],
-        ..ring
-    };
-    let no_targets = Case {
-        targets: &[],
-        rows: &[&[], &[]],
-        ..ring
-    };
-    let line_within = Case {
-        within: Some(8),
-        rows: &[&[None, Some(4)], &[None, Some(4)], &[Some(0), None]],
-        ..LINE_TWICE
-    };
-    let line_within_all = Case {
-        within: Some(MOST_WEIGHT),
-        ..LINE_TWICE
-    };
-    let weightless = Case {
-        roads: TRIANGLE,
-        sources: &[1],
-        targets: &[3],
-        within: Some(0),
-        rows: &[&[Some(0)]],
-    };
     for case in [
         LINE_TWICE,
-        ring,
-        ring_within,
-        no_sources,
-        no_targets,
-        line_within,
-        line_within_all,
-        weightless,
+        LINE_WITHIN,
+        LINE_WITHIN_MOST,
+        AROUND,
+        AROUND_WITHIN,
+        NO_SOURCES,
+        NO_TARGETS,
+        WEIGHTLESS,
     ] {
         for workers in [1, 2, 64] {
             for piece in [1, 2, 1000] {
@@ -166,15 +185,16 @@ fn gates_passed(rt: HostRuntime) -> Result<(), Fail> {
     Ok(())
 }
 
-/// The buckets of an example: whether of sources, by going up, or of targets, by going down; the nodes, counted from 1;
-/// the limit; and the entries of each node in order.
-type Filled<'a> = (
-    Example<'a>,
-    bool,
-    &'a [u32],
-    Option<u64>,
-    &'a [&'a [(u32, u64)]],
-);
+/// The buckets of an example: of sources, by going up, or of targets, by going down; the nodes, counted from 1; the
+/// limit; and the entries of each node in order.
+#[derive(Clone, Copy)]
+struct Filled<'a> {
+    roads: Example<'a>,
+    side: Side,
+    nodes: &'a [u32],
+    within: Option<u64>,
+    rows: &'a [&'a [(u32, u64)]],
+}
 
 /// Expects these buckets of the nodes, in order.
 fn expect_entries<R: Abort>(rt: &R, nodes: u32, buckets: &Buckets, rows: &[&[(u32, u64)]])
@@ -192,51 +212,63 @@ fn expect_filled<R: Threads + Abort + Sync>(
     alloc: Global,
     filled: &Filled,
 ) -> Result<(), Fail> {
-    let (example, is_up, nodes, within, rows) = *filled;
-    let hierarchy = hierarchy(rt, alloc, &example)?;
-    let nodes = from_zero(rt, alloc, &hierarchy, nodes)?;
-    if is_up {
-        let buckets = again!(Buckets::fill_up(alloc, &hierarchy, &nodes, within));
-        expect_entries(rt, hierarchy.nodes(), &buckets, rows);
-    } else {
-        let buckets = again!(Buckets::fill(alloc, &hierarchy, &nodes, within));
-        expect_entries(rt, hierarchy.nodes(), &buckets, rows);
+    let hierarchy = hierarchy(rt, alloc, &filled.roads)?;
+    let nodes = from_zero(rt, alloc, &hierarchy, filled.nodes)?;
+    match filled.side {
+        Side::Up => {
+            let buckets = again!(Buckets::fill_up(alloc, &hierarchy, &nodes, filled.within));
+            expect_entries(rt, hierarchy.nodes(), &buckets, filled.rows);
+        }
+        Side::Down => {
+            let buckets = again!(Buckets::fill(alloc, &hierarchy, &nodes, filled.within));
+            expect_entries(rt, hierarchy.nodes(), &buckets, filled.rows);
+        }
     }
     Ok(())
 }
 
 /// On the ring node 4 is 4 away from node 5, by the one path that leads down to it.
+const DOWN_THE_RING: Filled = Filled {
+    roads: RING,
+    side: Side::Down,
+    nodes: &[4, 4, 5],
+    within: None,
+    rows: &[&[], &[], &[], &[(0, 0), (1, 0)], &[(0, 4), (1, 4), (2, 0)]],
+};
+
+const DOWN_THE_RING_WITHIN: Filled = Filled {
+    roads: RING,
+    side: Side::Down,
+    nodes: &[4, 5],
+    within: Some(3),
+    rows: &[&[], &[], &[], &[(0, 0)], &[(1, 0)]],
+};
+
+const UP_THE_LINE: Filled = Filled {
+    roads: LINE,
+    side: Side::Up,
+    nodes: &[1, 3],
+    within: Some(9),
+    rows: &[&[(0, 0)], &[(0, 4)], &[(0, 9), (1, 0)]],
+};
+
+const UP_THE_LINE_WITHIN: Filled = Filled {
+    roads: LINE,
+    side: Side::Up,
+    nodes: &[1, 1, 3],
+    within: Some(8),
+    rows: &[&[(0, 0), (1, 0)], &[(0, 4), (1, 4)], &[(2, 0)]],
+};
+
 #[test]
 fn worked_buckets(rt: HostRuntime) -> Result<(), Fail> {
-    let first: &[(u32, u64)] = &[(0, 0), (1, 0)];
-    let middle: &[(u32, u64)] = &[(0, 4), (1, 4)];
-    let cases: &[Filled] = &[
-        (
-            RING,
-            false,
-            &[4, 4, 5],
-            None,
-            &[&[], &[], &[], first, &[(0, 4), (1, 4), (2, 0)]],
-        ),
-        (
-            RING,
-            false,
-            &[4, 5],
-            Some(3),
-            &[&[], &[], &[], &[(0, 0)], &[(1, 0)]],
-        ),
-        (LINE, false, &[3, 2], None, &[&[], &[(1, 0)], &[(0, 0)]]),
-        (
-            LINE,
-            true,
-            &[1, 1, 3],
-            Some(9),
-            &[first, middle, &[(0, 9), (1, 9), (2, 0)]],
-        ),
-        (LINE, true, &[1, 1, 3], Some(8), &[first, middle, &[(2, 0)]]),
-    ];
-    for filled in cases {
-        expect_filled(&rt, rt.alloc(), filled)?;
+    for filled in [
+        DOWN_THE_RING,
+        DOWN_THE_RING_WITHIN,
+        UP_THE_LINE,
+        UP_THE_LINE_WITHIN,
+    ] {
+        expect_filled(&rt, rt.alloc(), &filled)?;
     }
     Ok(())
 }
@@ -246,14 +278,7 @@ fn worked_buckets(rt: HostRuntime) -> Result<(), Fail> {
 #[test]
 fn refused_in_turn(rt: HostRuntime) -> Result<(), Fail> {
     let alloc = rt.alloc();
-    let buckets: Filled = (
-        LINE,
-        true,
-        &[1, 3],
-        None,
-        &[&[(0, 0)], &[(0, 4)], &[(0, 9), (1, 0)]],
-    );
-    expect_filled(&rt, alloc, &buckets)?;
+    expect_filled(&rt, alloc, &UP_THE_LINE)?;
     for workers in [1, 2] {
         expect(&rt, alloc, &LINE_TWICE, &Plan::new(workers, 1, 1))?;
     }
