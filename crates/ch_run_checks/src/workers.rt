@@ -3,11 +3,11 @@ ghost use Rattle.ch_contract.specs.Legs.{IsHopBound};
 
 use crate::runs::{ACROSS, BY_HIERARCHY, LINE, LINE_SAVED, PLAIN, SOURCES, STAR, TARGETS};
 use ch_run::{
-    Crew, MemoryInput, MemoryOutput, Options, Plan, RunFault, run_dist, run_dist_saved,
-    run_table_saved,
+    Crew, MemoryInput, MemoryOutput, Options, Plan, run_dist, run_dist_saved, run_table_saved,
 };
 use ch_work::{CountingGate, MeetingGate};
-use std::alloc::{AllocError, Global};
+use std::alloc::Global;
+use std::process::Abort;
 use std::test::Fail;
 use std::thread::Threads;
 
@@ -28,12 +28,13 @@ fn crew<'a, R, G>(rt: &'a R, alloc: Global, gate: &'a G) -> Crew<'a, R, G> {
 #[test]
 fn two_queries_are_answered_at_once(rt: HostRuntime) -> Result<(), Fail> {
     let gate = MeetingGate::new();
+    let mut output = MemoryOutput::new(rt.alloc(), MOST, MOST)?;
     let result = run_dist_saved(
         &crew(&rt, rt.alloc(), &gate),
         &mut MemoryInput::new(LINE, MOST),
         &mut MemoryInput::new(LINE_SAVED, MOST),
         &mut MemoryInput::new(b"p aux sp p2p 2\nq 1 3\nq 3 1\n", MOST),
-        &mut MemoryOutput::new(rt.alloc(), MOST, MOST)?,
+        &mut output,
         &BY_HIERARCHY,
     );
     assert_eq!(rt; result, Ok(()));
@@ -44,13 +45,14 @@ fn two_queries_are_answered_at_once(rt: HostRuntime) -> Result<(), Fail> {
 #[test]
 fn two_nodes_of_a_table_are_searched_at_once(rt: HostRuntime) -> Result<(), Fail> {
     let gate = MeetingGate::new();
+    let mut output = MemoryOutput::new(rt.alloc(), MOST, MOST)?;
     let result = run_table_saved(
         &crew(&rt, rt.alloc(), &gate),
         &mut MemoryInput::new(LINE, MOST),
         &mut MemoryInput::new(LINE_SAVED, MOST),
         &mut MemoryInput::new(SOURCES, MOST),
         &mut MemoryInput::new(TARGETS, MOST),
-        &mut MemoryOutput::new(rt.alloc(), MOST, MOST)?,
+        &mut output,
         &BY_HIERARCHY,
     );
     assert_eq!(rt; result, Ok(()));
@@ -58,36 +60,36 @@ fn two_nodes_of_a_table_are_searched_at_once(rt: HostRuntime) -> Result<(), Fail
     Ok(())
 }
 
-/// Answers the query from 3 to 4 on the star, with two workers and pieces of one item.
-fn run_on_the_star<R: Threads + Sync>(
+/// Expects how often each of the first five pieces passes in a run with two workers and pieces of one item, which answers the
+/// query from 3 to 4 on the star.
+fn expect_passes<R: Threads + Abort + Sync>(
     rt: &R,
     alloc: Global,
     options: &Options,
-    gate: &CountingGate,
-) -> Result<Result<(), RunFault>, AllocError>
+    expected: [u64; 5],
+) -> Result<(), Fail>
     requires { IsHopBound options.now.hops }
 {
+    let gate = CountingGate::new(alloc, 5)?;
     let mut output = MemoryOutput::new(alloc, MOST, MOST)?;
-    Ok(run_dist(
-        &crew(rt, alloc, gate),
+    let result = run_dist(
+        &crew(rt, alloc, &gate),
         &mut MemoryInput::new(STAR, MOST),
         &mut MemoryInput::new(ACROSS, MOST),
         &mut output,
         options,
-    ))
+    );
+    assert_eq!(rt; result, Ok(()));
+    for (piece, count) in expected.iter().enumerate() {
+        let passes = gate.passes(piece as u32);
+        assert_eq!(rt; passes, Some(*count), "piece {piece}");
+    }
+    Ok(())
 }
 
 /// Four priorities and one query are pieces of a run by the hierarchy; a plain run has none.
 #[test]
 fn a_run_goes_by_the_pieces_of_its_layers(rt: HostRuntime) -> Result<(), Fail> {
-    for (options, expected) in [(BY_HIERARCHY, [2, 1, 1, 1, 0]), (PLAIN, [0; 5])] {
-        let gate = CountingGate::new(rt.alloc(), 5)?;
-        let result = run_on_the_star(&rt, rt.alloc(), &options, &gate)?;
-        assert_eq!(rt; result, Ok(()));
-        for (piece, count) in expected.iter().enumerate() {
-            let passes = gate.passes(piece as u32);
-            assert_eq!(rt; passes, Some(*count), "piece {piece}");
-        }
-    }
-    Ok(())
+    expect_passes(&rt, rt.alloc(), &BY_HIERARCHY, [2, 1, 1, 1, 0])?;
+    expect_passes(&rt, rt.alloc(), &PLAIN, [0; 5])
 }
