@@ -10,12 +10,12 @@ returns-then-is_empty-clause-text g c =
     rw c.new.ensures.items
     (none_asked (IsRequestText c.args.by.now.options.now c.args.by.now.checked.now.graph (λ H. H ≡ c.args.by.now.checked.now.hierarchy)) c.args.queries.now (sym c.is_empty.ensures ∙ c.if-is_empty.true))
 
-pub returns-then-options-clause-text : goal.returns-then-options-clause-text
-returns-then-options-clause-text g c =
+pub returns-then-by-clause-text : goal.returns-then-by-clause-text
+returns-then-by-clause-text g c =
     let options = c.args.by.now.options.now in
     let network = c.args.by.now.checked.now.graph in
     IfOk-weaker c.plain_text.result _ _ (λ text is. split_answers options network (λ H. H ≡ c.args.by.now.checked.now.hierarchy) c.args.queries.now text.items
-    (subst (λ (plain : Bool). IsTextBy (not plain && options.routes) network (λ H. H ≡ c.args.by.now.checked.now.hierarchy) c.args.queries.now text.items) (sym c.if-options.true) is))
+    (subst (λ (plain : Bool). IsTextBy (not plain && options.routes) network (λ H. H ≡ c.args.by.now.checked.now.hierarchy) c.args.queries.now text.items) (sym c.if-by.true) is))
     c.plain_text.ensures
 
 pub returns-clause-text : goal.returns-clause-text
@@ -23,5 +23,5 @@ returns-clause-text g c =
     let options = c.args.by.now.options.now in
     let network = c.args.by.now.checked.now.graph in
     IfOk-weaker c.answers_in.result _ _ (λ text by. split_answers options network (λ H. H ≡ c.args.by.now.checked.now.hierarchy) c.args.queries.now text.items
-    (subst (λ (plain : Bool). IsTextBy (not plain && options.routes) network (λ H. H ≡ c.args.by.now.checked.now.hierarchy) c.args.queries.now text.items) (sym c.if-options.false)
+    (subst (λ (plain : Bool). IsTextBy (not plain && options.routes) network (λ H. H ≡ c.args.by.now.checked.now.hierarchy) c.args.queries.now text.items) (sym c.if-by.false)
     (by network c.requires.limits c.requires.kept))) c.answers_in.ensures.text
