@@ -23,11 +23,11 @@ pub const CLOSED_PIPE: u8 = 141;
 
 /// What the program runs on: what starts threads, memory, what opens files by their names, and the gate that workers pass.
 #[derive(Drop)]
-pub struct System<'a, R, F, G> {
-    pub rt: &'a R,
+pub struct System<'r, 'f, 'g, R, F, G> {
+    pub rt: &'r R,
     pub alloc: Global,
-    pub files: &'a F,
-    pub gate: &'a G,
+    pub files: &'f F,
+    pub gate: &'g G,
 }
 
 /// Why the program ends with no answer.
@@ -44,7 +44,7 @@ pub enum ProgramFault {
 /// The text of an answer or of help goes to `output`, and the line of a fault to `errors`: none where the reader of the output has
 /// gone away. The requests are read where the words ask that they be answered. The gate is told whether they ask for progress.
 pub fn run<R: Threads + Sync, F: Files, J: Input, O: Output, E: Output, G: Watch>(
-    system: &System<'_, R, F, G>,
+    system: &System<'_, '_, '_, R, F, G>,
     requests: &mut J,
     output: &mut O,
     errors: &mut E,
@@ -79,7 +79,7 @@ fn room_of(alloc: Global) -> String
 
 /// Does what the words say, or answers why there are none.
 fn answer_to<R: Threads + Sync, F: Files, J: Input, O: Output, G: Watch>(
-    system: &System<'_, R, F, G>,
+    system: &System<'_, '_, '_, R, F, G>,
     requests: &mut J,
     output: &mut O,
     words: Result<Vec<String>, LineFault>,
@@ -100,7 +100,7 @@ fn answer_to<R: Threads + Sync, F: Files, J: Input, O: Output, G: Watch>(
 
 /// Does what the words say.
 fn answer_words<R: Threads + Sync, F: Files, J: Input, O: Output, G: Watch>(
-    system: &System<'_, R, F, G>,
+    system: &System<'_, '_, '_, R, F, G>,
     requests: &mut J,
     output: &mut O,
     words: &[String],
