@@ -99,8 +99,11 @@ def read(line):
 
 
 def begins(events, place):
-    """Whether a stage begins with this event: another one, or the same again."""
-    return place == 0 or events[place].stage != events[place - 1].stage or events[place].done < events[place - 1].done
+    """Whether a stage begins with this event: another one, or the same again. Where workers claim pieces the first of these comes after the
+    beginning, and both tell of 0; the check of a saved hierarchy begins twice, before it looks at the arcs and before its searches."""
+    if place == 0 or events[place].stage != events[place - 1].stage:
+        return True
+    return events[place].done == 0 and (events[place - 1].done > 0 or events[place].stage in STEPS_OF)
 
 
 def places_told(events, step, is_asked):
