@@ -134,7 +134,8 @@ def is_about_right(events, place, step, told):
 def check_lines(tally, refusing):
     """Each line of a run of three nodes."""
     for step, (first, second, third, fourth) in TIMES_LEFT:
-        owed = [READING, RANKING.format(0), RANKING.format(0), f"{RANKING.format(1)}, about {first} left", f"{RANKING.format(2)}, about {second} left",
+        owed = [READING,
+                RANKING.format(0), RANKING.format(0), f"{RANKING.format(1)}, about {first} left", f"{RANKING.format(2)}, about {second} left",
                 BUILDING.format(0), f"{BUILDING.format(1)}, about {third} left", f"{BUILDING.format(2)}, about {fourth} left"]
         answer, _ = refusing.run([*THREE_NODES, "--progress"], CLOCK_STEP=step)
         tally.expect(answer.err.decode().splitlines() == owed, f"{step} ms a reading: {answer.err.decode()}")
