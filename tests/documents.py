@@ -1,23 +1,30 @@
 #!/usr/bin/python3
-"""Tests that what the documents name is there: links and their anchors, files, commits, the calls and clauses that carry what is proved,
-the scripts of all figures, and the text of planted bugs; that there is one version, and that nothing tells of the machine that it was
-written on.
+"""Tests that the documents name what exists: links and their anchors, files, commits, the calls and clauses that carry what is proved,
+the scripts of all figures, and the text of planted bugs. Tests that docs/REFERENCE.md has each option, limit, fault and status once, that
+lines and sentences are short, that there is one version, and that no file speaks of the machine that it was written on.
 
-It reads files alone and needs no built program. The last line is 'N passed, N failed'.
+It only reads files, and needs no built program. The last line is 'N passed, N failed'.
 """
 import functools
 import re
 import subprocess
 from pathlib import Path
 
+import believe
 from helpers.running import ROOT, Count
 
 PAGES = (
-    ROOT / "README.md", ROOT / "CONTRIBUTING.md", *sorted((ROOT / "docs").glob("*.md")), ROOT / "examples" / "README.md",
+    ROOT / "README.md", ROOT / "CONTRIBUTING.md", ROOT / "CHANGELOG.md", *sorted((ROOT / "docs").glob("*.md")), ROOT / "examples" / "README.md",
     ROOT / "bench" / "README.md", *sorted((ROOT / "python").glob("README*")),
 )
-PROVED, MEASUREMENTS = ROOT / "docs" / "PROVED.md", ROOT / "docs" / "MEASUREMENTS.md"
-MOST_LINES_OF_README = 150
+PROVED, MEASUREMENTS, REFERENCE = (ROOT / "docs" / name for name in ("PROVED.md", "MEASUREMENTS.md", "REFERENCE.md"))
+MOST_LINES_OF_README, MOST_LINES_OF_PARAGRAPH, MOST_COLUMNS, MOST_WORDS = 120, 5, 100, 30
+# The pages whose lines, sentences and words are not judged yet.
+NOT_YET = ROOT / "docs" / "GUIDE.md", ROOT / "docs" / "SERVICE.md"
+# What scripts write into a page, between two marks.
+WRITTEN = re.compile(r"<!-- What stands from here.*?<!-- End of what.*?-->", re.DOTALL)
+# Words that hide who does what, or that turn a sentence round.
+HARD = re.compile(r"\b(?:as ever|(?:by|for|from|in|of|on|over|through|to|with) which|(?:is|are) told|is there|are there|so that|whoever)\b|, since\b", re.IGNORECASE)
 # A name of a file or folder with a slash; one without, of what a document is about; and the suffixes of text.
 PATH = re.compile(r"[\w.-]+(?:/[\w.-]+)+/?|[\w-]+/")
 FILE = re.compile(r"[\w-]+\.(?:antt|c|cpp|md|py|rs|rt|sh|toml)")
@@ -195,11 +202,135 @@ def check_statement(tally, crate, name, text, calls, are_calls):
     for call, inside in re.findall(r"`([\w:]+)` \((`[^()]*)\)", calls):
         for clause in CODE.findall(inside):
             tally.expect(clause in (crate.of(call) or ()), f"PROVED.md: {call} of {name} has no clause {clause}")
-    for inside in re.findall(r"\((`[^()]*)\)", text):
+    for inside in re.findall(r"\((`[^()]*)\)", " ".join(text.split())):
         elsewhere = set().union(*crate.modules.values()) if " of " in inside else set()
         for word in filter(NAME.fullmatch, CODE.findall(inside.split(" of ")[0])):
             is_known = word in clauses or word in crate.defined or word in crate.types or word in elsewhere
             tally.expect(is_known, f"PROVED.md: {name}: none of the calls that are named there has a clause {word}")
+
+
+# How pages read.
+
+
+def by_hand(page):
+    """The prose of a page without what scripts write, a line for each line."""
+    return WRITTEN.sub(lambda written: "\n" * written[0].count("\n"), prose(page))
+
+
+def paragraphs(page):
+    """The paragraphs and the items of lists of a page. Tables and headings are left out."""
+    lines = by_hand(page).splitlines()
+    lines = ["" if line.lstrip().startswith(("|", "#")) else re.sub(r"^ *(?:[-*]|\d+\.) ", "\n", line) for line in lines]
+    return [block.strip("\n") for block in "\n".join(lines).split("\n\n")]
+
+
+def sentences(page):
+    """The sentences of a page, where a piece of code is one word."""
+    for block in paragraphs(page):
+        words = " ".join(re.sub(r"\]\([^)]*\)", "]", CODE.sub("X", block)).split())
+        yield from re.split(r"(?<=[.?!])[*)]* (?=\[|\W*[A-Z\d])", words)
+
+
+def check_prose(tally, page):
+    """Lines, sentences and words of a page are those that a reader understands at once. Tables may have long lines."""
+    for number, line in enumerate(by_hand(page).splitlines(), 1):
+        tally.expect(len(line) <= MOST_COLUMNS or line.lstrip().startswith("|"), f"{told(page)}:{number}: {len(line)} columns")
+    for paragraph in paragraphs(page):
+        count = len(paragraph.splitlines())
+        tally.expect(count <= MOST_LINES_OF_PARAGRAPH, f"{told(page)}: {count} lines: {paragraph[:80]}")
+    for sentence in sentences(page):
+        count = len(re.findall(r"\w[\w.,'-]*", sentence))
+        tally.expect(count <= MOST_WORDS, f"{told(page)}: {count} words: {sentence}")
+        found = HARD.search(sentence)
+        tally.expect(not found, f"{told(page)} has '{found and found[0]}': {sentence}")
+
+
+# What docs/REFERENCE.md has once.
+
+COMMAND_LINE, FAULTS = ROOT / "crates/chtab/src/line/form.rt", ROOT / "crates/ch_run/specs/Fault.antt"
+# The constants of limits with the rows that state them, and those that no user meets.
+LIMITS = (
+    ("MOST_NODES", "nodes of a graph"), ("MOST_ARCS", "arcs of a graph"), ("MOST_WEIGHT", "number of nodes times the weight of any arc"),
+    ("MOST_QUERIES", "queries of a file"), ("MOST_LISTED", "nodes of a list of sources or of targets"), ("MOST_LEGS", "legs of a saved hierarchy"),
+    ("MOST_CELLS", "cells of a table, sources times targets"), ("MOST_WEIGHT", "weight of a leg"), ("MOST_NODES", "arcs that a leg stands for"),
+    ("MOST_WITHIN", "`--within R`"), ("MOST_WORKERS", "`--workers N`"), ("MOST_PIECE", "`--piece K`"), ("MOST_HOPS", "`--hops H`"),
+)
+INNER_LIMITS = "MOST_SUM", "MOST_PATH_ARCS", "MOST_OFFER"
+
+
+def rows(heading):
+    """The rows of the tables below a heading of the page, up to the next heading, as lists of cells."""
+    section = re.split(r"^#+ ", REFERENCE.read_text().split(f"# {heading}\n")[1], flags=re.MULTILINE)[0]
+    return [[cell.strip() for cell in line.strip("|").split(" | ")] for line in section.splitlines() if re.match(r"\|(?!-)", line)]
+
+
+def expect_once(tally, what, found):
+    tally.expect(len(found) == 1, f"REFERENCE.md has {len(found)} rows of {what}")
+
+
+def all_in(tally, path, pattern):
+    """What a file of the sources has of this form, which is something."""
+    found = re.findall(pattern, path.read_text(), re.MULTILINE)
+    tally.expect(found, f"documents.py finds nothing of the form {pattern} in {told(path)}")
+    return found
+
+
+def limits():
+    """The value of each constant that is a limit."""
+    values = {}
+    for file in "ch_graph/src/limits.rt", "ch_work/src/limits.rt", "ch_run/src/options.rt":
+        for name, value in re.findall(r"^pub const (\w+): \w+ = (.*);", (ROOT / "crates" / file).read_text(), re.MULTILINE):
+            values[name] = eval(value.replace("limits::", "").replace(" as u64", ""), {}, dict(values))
+    return values
+
+
+def shown(value):
+    """The ways to write a limit."""
+    power = value.bit_length() - 1
+    return [str(value), f"{value:,}", *([f"2^{power}"] if value == 1 << power else [])]
+
+
+def check_limits(tally):
+    stated = {**{row[0]: row[1:] for row in rows("Options")}, **{row[0]: row[1:] for row in rows("Limits")}}
+    values = limits()
+    for name in values:
+        tally.expect(name in INNER_LIMITS or any(name == known for known, _ in LIMITS), f"documents.py knows no row of the limit {name}")
+    for name, label in LIMITS:
+        expect_once(tally, f"the limit {label}", [row for row in rows("Options") + rows("Limits") if row[0] == label])
+        words = set(re.findall(r"[\d^,]+", " ".join(stated.get(label, []))))
+        tally.expect(words & set(shown(values[name])), f"REFERENCE.md: {label} has not the value of {name}, {values[name]}")
+
+
+def check_options(tally):
+    """Each option of the program and of the tools has one row, and each number of the program's its default."""
+    for name in {*all_in(tally, COMMAND_LINE, r'\b(?:flag|option|number|limit)\(\s*alloc,\s*"(\w+)"'), "help", "version"}:
+        expect_once(tally, f"the option --{name}", [row for row in rows("Options") if re.search(rf"`--{name}\b", row[0])])
+    for name, default in all_in(tally, COMMAND_LINE, r'\bnumber\(\s*alloc,\s*"(\w+)", "\w+", \w+, "(\d+)"'):
+        found = [row[3] for row in rows("Options") if row[0].startswith(f"`--{name} ")]
+        tally.expect(found == [default], f"REFERENCE.md: the default of --{name} is {default}, not {found}")
+    tools = "".join(path.read_text() for path in (ROOT / "python/chtab/commands").glob("*.py"))
+    names = {name for name, more in re.findall(r'add_argument\("--([\w-]+)"(.*)', tools) if "SUPPRESS" not in more}
+    tally.expect(names, "documents.py finds no options of the tools")
+    for name in names:
+        expect_once(tally, f"the tools' option --{name}", [row for row in rows("Options of the tools") if re.match(rf"`--{name}\b(?!-)", row[1])])
+
+
+def check_faults(tally):
+    """Each line of a fault, each fault of a file and each word of a saved hierarchy has one row."""
+    for name, text, more in all_in(tally, FAULTS, r'^(\w+) .* = codes "(chtab: [^"]*)"( \+\+ read_fault_text)?'):
+        begins = f"`{text}line N" if name == "read_heading" or more else f"`{text}"
+        expect_once(tally, f"the line {text}", [row for row in rows("What does a fault look like?") if row[0].startswith(begins)])
+    for file, heading in ("ch_read/specs/Text.antt", "What does FAULT mean?"), ("ch_hierarchy/specs/FaultText.antt", "What does WORD mean?"):
+        for text in all_in(tally, ROOT / "crates" / file, r'^(?:kind|fault)_text \(?[A-Z].* = codes "([^"]*)"$'):
+            expect_once(tally, text, [row for row in rows(heading) if row[0] == f"`{text}`"])
+
+
+def check_statuses(tally):
+    """Each exit status of the program and of its script has one row."""
+    found = [*all_in(tally, FAULTS, r"^status_of .* = (\d+)$"), *all_in(tally, ROOT / "crates/chtab/specs/Line.antt", r"status_of .* = (\d+)$")]
+    found += [*all_in(tally, ROOT / "chtab", r"^ +exit (\d+)$"), *all_in(tally, ROOT / "crates/chtab/src/program.rt", r"\bCLOSED_PIPE: u8 = (\d+)")]
+    for status in sorted(set(found)):
+        expect_once(tally, f"the status {status}", [row for row in rows("Exit statuses") if row[0] == status])
 
 
 # Planted bugs, figures, and what no file has.
@@ -256,12 +387,13 @@ def check_versions(tally):
 
 
 def check_parts(tally):
-    """Each test is a part of ./check, or is run by hand and told so, and has its row in ARCHITECTURE.md; what tests share is named there."""
+    """Each test is a part of ./check, or of this script, or is run by hand, and has its row in ARCHITECTURE.md; what tests share is named there."""
     check, page = (ROOT / "check").read_text(), (ROOT / "docs" / "ARCHITECTURE.md").read_text()
     for test in sorted([*(ROOT / "tests").glob("*.py"), *(ROOT / "tests").glob("*.sh")]):
         rows = [line for line in page.splitlines() if line.startswith("|") and f"`{test.name}`" in line]
         is_run = re.search(rf'"tests/{re.escape(test.name)}[" ]', check) or any("by hand" in row for row in rows)
-        tally.expect(rows and (is_run or test.name == "packages.sh"), f"tests/{test.name} is no part of ./check, or has no row in ARCHITECTURE.md")
+        is_other = test.name in ("believe.py", "packages.sh")
+        tally.expect(rows and (is_run or is_other), f"tests/{test.name} is no part of ./check, or has no row in ARCHITECTURE.md")
     for path in sorted([*(ROOT / "tests" / "oracles").glob("[!_]*.*"), *(ROOT / "tests" / "helpers").glob("[!_]*.*")]):
         tally.expect(f"`{path.name}`" in page, f"ARCHITECTURE.md does not name {told(path)}")
 
@@ -292,9 +424,16 @@ def main():
         check_links(tally, page)
         check_names(tally, page)
         check_commits(tally, page)
+        if page not in NOT_YET:
+            check_prose(tally, page)
     check_proved(tally)
     for edit in sorted([*ROOT.glob("crates/*/must-fail/*.edit"), *ROOT.glob("crates/*/planted/*.edit")]):
         check_edit(tally, edit)
+    check_limits(tally)
+    check_options(tally)
+    check_faults(tally)
+    check_statuses(tally)
+    believe.check_page(tally)
     check_figures(tally)
     check_versions(tally)
     check_parts(tally)
