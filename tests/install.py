@@ -59,11 +59,12 @@ def check_without_rt(tally, folder):
 
 
 def check_lines_of_the_kit(tally):
-    """The kit's line is one in all places."""
+    """The kit's line is one in all places. Another kit will do that has the same logic, because the proofs rest on that alone."""
     line = VERSION.splitlines()[1]
     for page in "README.md", "docs/PROVED.md":
         tally.expect(f"`{line}`" in (ROOT / page).read_text(), f"{page} does not name {line}")
-    tally.expect(said(["rt", "version"], ROOT) == (0, line + "\n", ""), f"VERSION names another kit than `rt version`: {line}")
+    status, found, _ = said(["rt", "version"], ROOT)
+    tally.expect(status == 0 and found.split()[1:] == line.split()[1:], f"VERSION names another logic than `rt version`: {line}, {found}")
 
 
 def options_of(words, folder):

@@ -21,13 +21,12 @@ const ROOM: usize = 128;
 /// The exit status where the reader of the output has gone away, which shells give a program that the signal of a closed pipe has ended.
 pub const CLOSED_PIPE: u8 = 141;
 
-/// What the program runs on: what starts threads, memory, what opens files by their names, and the gate that workers pass.
+/// What the program runs on: what starts threads, memory, and what opens files by their names.
 #[derive(Drop)]
-pub struct System<'r, 'f, 'g, R, F, G> {
+pub struct System<'r, 'f, R, F> {
     pub rt: &'r R,
     pub alloc: Global,
     pub files: &'f F,
-    pub gate: &'g G,
 }
 
 /// Why the program ends with no answer.
@@ -44,11 +43,12 @@ pub enum ProgramFault {
 /// The text of an answer or of help goes to `output`, and the line of a fault to `errors`: none where the reader of the output has
 /// gone away. The requests are read where the words ask that they be answered. The gate is told whether they ask for progress.
 pub fn run<R: Threads + Sync, F: Files, J: Input, O: Output, E: Output, G: Watch>(
-    system: &System<'_, '_, '_, R, F, G>,
+    system: &System<'_, '_, R, F>,
     requests: &mut J,
     output: &mut O,
     errors: &mut E,
     words: Result<Vec<String>, LineFault>,
+    gate: &G,
 ) -> u8
     requires requests { CanCountOneMore (J.failed requests.old) }
     requires output_failures { CanCountOneMore (O.failed output.old) }
@@ -63,7 +63,7 @@ pub fn run<R: Threads + Sync, F: Files, J: Input, O: Output, E: Output, G: Watch
         × IsEnd E.taken E.failed E.idle (O.closed output.new) answer errors.old errors.new result }
 {
     let room = room_of(system.alloc);
-    let answer = answer_to(system, requests, output, words);
+    let answer = answer_to(system, requests, output, words, gate);
     end(errors, room, &answer, output.is_closed())
 }
 
@@ -79,10 +79,11 @@ fn room_of(alloc: Global) -> String
 
 /// Does what the words say, or answers why there are none.
 fn answer_to<R: Threads + Sync, F: Files, J: Input, O: Output, G: Watch>(
-    system: &System<'_, '_, '_, R, F, G>,
+    system: &System<'_, '_, R, F>,
     requests: &mut J,
     output: &mut O,
     words: Result<Vec<String>, LineFault>,
+    gate: &G,
 ) -> Result<(), ProgramFault>
     requires requests { CanCountOneMore (J.failed requests.old) }
     requires failures { CanCountOneMore (O.failed output.old) }
@@ -93,17 +94,18 @@ fn answer_to<R: Threads + Sync, F: Files, J: Input, O: Output, G: Watch>(
         (λ fault. (requests.new ≡ requests.old) × AnswersFault O.taken O.failed O.idle fault output.old output.new result) }
 {
     match words {
-        Ok(words) => answer_words(system, requests, output, &words),
+        Ok(words) => answer_words(system, requests, output, &words, gate),
         Err(fault) => answer_fault(output, fault),
     }
 }
 
 /// Does what the words say.
 fn answer_words<R: Threads + Sync, F: Files, J: Input, O: Output, G: Watch>(
-    system: &System<'_, '_, '_, R, F, G>,
+    system: &System<'_, '_, R, F>,
     requests: &mut J,
     output: &mut O,
     words: &[String],
+    gate: &G,
 ) -> Result<(), ProgramFault>
     requires requests { CanCountOneMore (J.failed requests.old) }
     requires failures { CanCountOneMore (O.failed output.old) }
@@ -111,12 +113,7 @@ fn answer_words<R: Threads + Sync, F: Files, J: Input, O: Output, G: Watch>(
     ensures { IsAnswer F.Input.left F.Input.failed (F.known system.now.files.now) J.left J.failed O.taken O.failed O.idle
         (map string_bytes words.now) requests.old requests.new output.old output.new result }
 {
-    let System {
-        rt,
-        alloc,
-        files,
-        gate,
-    } = *system;
+    let System { rt, alloc, files } = *system;
     match line_of(alloc, words) {
         Ok(line) => {
             gate.begin(line.progress);

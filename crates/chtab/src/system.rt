@@ -70,7 +70,6 @@ where
         rt,
         alloc: rt.alloc(),
         files: &SystemFiles { rt },
-        gate: &watcher,
     };
     program::run(
         &system,
@@ -78,5 +77,6 @@ where
         &mut WriterOutput::new(output),
         &mut WriterOutput::new(errors),
         words_of(rt),
+        &watcher,
     )
 }
