@@ -10,6 +10,8 @@ pub mod Labels
 pub mod Ranges
 pub mod KeyCounts
 pub mod Placing
+pub mod Starts
 pub mod RowsBetween
 pub mod StableRows
 pub mod SortedValues
+pub mod Gathering

@@ -23,5 +23,5 @@ pub use arc::InArc;
 pub use cost::Cost;
 pub use graph::{Graph, GraphFault};
 pub use plain::plain_distance;
-pub use rows::{Rows, sort_by_key};
+pub use rows::{Rows, gather, sort_by_key};
 pub use saved::{Saved, SavedLeg};
