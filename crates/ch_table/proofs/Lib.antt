@@ -1,5 +1,7 @@
 pub mod Deals
 pub mod Entries
 pub mod Held
+pub mod Lowered
 pub mod Owing
+pub mod RowCells
 pub mod Tables

@@ -27,7 +27,7 @@ use Rattle.ch_table.specs.Table.{IsRowBy, rows_of_cells}
 use Rattle.ch_table.proofs.Held.{held_within}
 
 -- two lists of one length that are related at each place
-all_zip_at : {X Y : Type 0} (R : X → Y → Type 0) (d : X) (e : Y) (xs : List X) (ys : List Y) → length ys ≡ length xs →
+pub all_zip_at : {X Y : Type 0} (R : X → Y → Type 0) (d : X) (e : Y) (xs : List X) (ys : List Y) → length ys ≡ length xs →
     ((j : ℕ) → j < length xs → R (get_or xs j d) (get_or ys j e)) → AllZip R xs ys
 all_zip_at R d e [] [] size h = tt
 all_zip_at R d e [] (y ∷ ys) size h = absurd (omega arith)
@@ -57,7 +57,7 @@ row_fits rows columns i lt =
     let most = mul-le (i + 1) columns rows columns (omega arith) (omega arith) in omega arith
 
 -- the ranks of a search space are below the number of nodes
-space_within : (H : LevelsAndLegs) (side : Side) (limit : Option ℕ) → IsLevelled H → (s rank x : ℕ) (list : List (ℕ × ℕ)) → IsRankedSpace H side limit s list → Contains list (rank, x) → rank < nodes_of H
+pub space_within : (H : LevelsAndLegs) (side : Side) (limit : Option ℕ) → IsLevelled H → (s rank x : ℕ) (list : List (ℕ × ℕ)) → IsRankedSpace H side limit s list → Contains list (rank, x) → rank < nodes_of H
 space_within H side limit levelled s rank x list space c =
     let node = space.sound rank x c in subst (λ q. q < nodes_of H) node.2 (rank_below H levelled node.0 node.1)
 
@@ -66,7 +66,7 @@ module _ (H : LevelsAndLegs) (side : Side) (limit : Option ℕ) (item : ℕ → 
   pub spaces_count : length hold.spaces ≡ length nodes
   spaces_count = zipped_length (IsRankedSpace H side limit) nodes hold.spaces hold.each
 
-  space_at : (j : ℕ) → j < length nodes → IsRankedSpace H side limit (slice_index nodes j) (slice_index_or hold.spaces j [])
+  pub space_at : (j : ℕ) → j < length nodes → IsRankedSpace H side limit (slice_index nodes j) (slice_index_or hold.spaces j [])
   space_at j lt = zip_at (IsRankedSpace H side limit) 0 [] nodes hold.spaces hold.each j lt
 
   -- the rank of an entry is below the number of nodes

@@ -6,21 +6,18 @@ use std::marker::Model;
 /// The distances from each source to each target: a row for each source, with a cell for each target.
 #[derive(Debug, Drop)]
 pub struct Table {
-    /// The cells of all rows, row after row.
-    pub(crate) cells: Vec<Option<u64>>,
-    pub(crate) rows: u32,
-    pub(crate) columns: u32,
+    pub(crate) rows: Vec<Vec<Option<u64>>>,
 }
 
 impl Model for Table {
-    ghost use Rattle.std.specs.Prelude.{◌≡◌, ℕ, ◌*◌, List, Option};
-    ghost use Rattle.ch_table.specs.Table.{rows_of_cells};
+    ghost use Rattle.std.specs.Prelude.{ℕ, ◌≤◌, List, Option, map};
+    ghost use Rattle.ch_graph.specs.declared.limits.TheConstants.{MOST_LISTED};
 
     ghost Value = { List (List (Option ℕ)) };
 
-    ghost view = { λ t. rows_of_cells t.rows t.columns t.cells.items };
+    ghost view = { λ t. map (λ row. row.items) t.rows.items };
 
-    ghost invariant = { λ t. t.cells.len ≡ t.rows * t.columns };
+    ghost invariant = { λ t. t.rows.len ≤ MOST_LISTED };
 }
 
 impl Table {
@@ -28,7 +25,7 @@ impl Table {
     pub fn row_count(&self) -> u32
         ensures { result ≡ length self.now }
     {
-        self.rows
+        self.rows.len() as u32
     }
 
     /// The cells of the source at place `i`, in the order of the targets.
@@ -36,8 +33,6 @@ impl Table {
         requires { i < length self.now }
         ensures { result.now ≡ slice_index_or self.now i [] }
     {
-        let columns = self.columns as usize;
-        let start = i as usize * columns;
-        &self.cells[start..start + columns]
+        &self.rows[i as usize]
     }
 }

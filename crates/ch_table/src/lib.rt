@@ -10,9 +10,12 @@
 #![tactic(auto)]
 
 mod buckets;
+mod by_cells;
+mod by_rows;
 mod cells;
 mod dealing;
 mod many_to_many;
+mod row;
 mod spaces;
 mod sums;
 

@@ -7,10 +7,11 @@ ghost use Rattle.ch_query.specs.Distance.{IsKeptForSome};
 ghost use Rattle.ch_table.specs.Table.{IsRowBy};
 ghost use Rattle.ch_work.specs.declared.limits.TheConstants.{MOST_CELLS};
 
+use crate::by_cells::table_by_cells;
+use crate::by_rows::table_by_rows;
 use crate::cells::Table;
-use crate::sums::Sums;
 use ch_hierarchy::Hierarchy;
-use ch_work::{Crew, Gate, Stage, run_cells};
+use ch_work::{Crew, Gate};
 use std::alloc::AllocError;
 use std::thread::Threads;
 
@@ -18,11 +19,10 @@ use std::thread::Threads;
 /// for the others.
 ///
 /// Each target is searched from once, down its paths to higher nodes, and leaves its weight in the bucket of
-/// each node that it reaches; so is each source, up (Knopp, Sanders, Schultes, Schulz and Wagner 2007). At each
-/// node the entries of sources and those of targets owe their sums to the cells, which all workers share. The
-/// workers share the targets, then the sources, then the nodes, of which each piece has its share of the high ones and
-/// does them last. With a limit a search ends where the least weight that is left is more, and no greater sum is
-/// owed.
+/// each node that it reaches (Knopp, Sanders, Schultes and Wagner 2007). Then each source is searched from, up, and its
+/// row is made of the sums with the buckets of the nodes that it reaches. The workers share the targets, then the
+/// sources. Where there are fewer sources than workers, but some, these share cells in place of rows. With a limit a search
+/// ends where the least weight that is left is more.
 ///
 /// # Errors
 /// `AllocError` where there is no memory.
@@ -40,18 +40,10 @@ pub fn table<R: Threads + Sync, G: Gate>(
     requires cells { length sources.now * length targets.now ≤ MOST_CELLS }
     ensures { IfOk result (AllZip (IsRowBy hierarchy.now within targets.now) sources.now) }
 {
-    let sums = Sums::search(crew, hierarchy, sources, targets, within)?;
-    let rows = sources.len() as u32;
-    let columns = targets.len() as u32;
-    let nodes = hierarchy.nodes();
-    // The getter tells the proof that a piece has an item.
-    let _ = crew.plan.piece();
-    crew.gate
-        .watch(Stage::Answering, 0, crew.plan.pieces(nodes));
-    let cells = run_cells(crew, nodes, rows * columns, &sums)?;
-    Ok(Table {
-        cells,
-        rows,
-        columns,
-    })
+    let rows = sources.len();
+    if 0 < rows && rows < crew.plan.workers() as usize {
+        table_by_cells(crew, hierarchy, sources, targets, within)
+    } else {
+        table_by_rows(crew, hierarchy, sources, targets, within)
+    }
 }

@@ -1,35 +1,55 @@
-//! The searches of a table, and the buckets that hold what they found.
-ghost use Rattle.std.specs.Prelude.{◌<◌, ◌≤◌, length, All, IfOk};
+//! The searches of a table, and what a worker needs for one.
+ghost use Rattle.std.specs.Prelude.{◌≡◌, ◌<◌, ◌≤◌, length, All, IfOk};
+ghost use Rattle.std.specs.List.{AllZip};
 ghost use Rattle.ch_graph.specs.declared.limits.TheConstants.{MOST_LISTED};
 ghost use Rattle.ch_hierarchy.specs.Hierarchy.{nodes_of};
 ghost use Rattle.ch_query.specs.Distance.{IsKeptForSome};
-ghost use Rattle.ch_table.specs.Buckets.{HoldSearchSpaces};
-ghost use Rattle.ch_table.specs.Dealing.{item_of, IsDealOf};
+ghost use Rattle.ch_query.specs.SearchSpace.{IsRankedSpace};
 
-use crate::buckets::Buckets;
-use crate::dealing::Dealing;
 use ch_hierarchy::Hierarchy;
 use ch_query::{Scratch, Side, ranked_space};
-use ch_work::{Crew, Gate, ListJob, Stage, run_list};
+use ch_work::{Crew, Gate, ListJob, Stage, run_list_in};
 use std::alloc::{AllocError, Global};
 use std::marker::Model;
 use std::thread::Threads;
 
-/// The buckets that hold the search spaces of these nodes in this direction, within the limit, by the items of what is
-/// reached. The workers share the nodes.
+/// What a worker has for a table: a scratch to search in, and a row of words, one for each target, where it makes
+/// rows.
+#[derive(Drop)]
+pub(crate) struct Room {
+    pub(crate) scratch: Scratch,
+    pub(crate) row: Vec<u64>,
+}
+
+impl Room {
+    /// Room for searches among `nodes` nodes, with a row that has no words yet.
+    pub(crate) fn new(alloc: Global, nodes: u32) -> Result<Room, AllocError>
+        ensures { IfOk result (λ room. room.scratch ≡ nodes) }
+    {
+        let scratch = Scratch::new(alloc, nodes)?;
+        Ok(Room {
+            scratch,
+            row: Vec::new(alloc),
+        })
+    }
+}
+
+/// The search spaces of these nodes in this direction, within the limit, by ranks. The workers share the nodes, and the
+/// rooms stay.
 pub(crate) fn search_spaces<R: Threads + Sync, G: Gate>(
     crew: &Crew<'_, R, G>,
     hierarchy: &Hierarchy,
-    dealing: &Dealing,
     nodes: &[u32],
     side: Side,
     within: Option<u64>,
-) -> Result<Buckets, AllocError>
+    rooms: &mut Vec<Room>,
+) -> Result<Vec<Vec<(u32, u64)>>, AllocError>
     requires kept { IsKeptForSome hierarchy.now }
     requires nodes { All (λ x. x < nodes_of hierarchy.now) nodes.now }
     requires count { length nodes.now ≤ MOST_LISTED }
-    requires dealing { IsDealOf hierarchy.now dealing.now }
-    ensures { IfOk result (HoldSearchSpaces hierarchy.now side within (item_of dealing.now) nodes.now) }
+    requires rooms { All (λ room. room.scratch ≡ nodes_of hierarchy.now) rooms.old.items }
+    ensures spaces { IfOk result (λ spaces. AllZip (λ node space. IsRankedSpace hierarchy.now side within node space.items) nodes.now spaces.items) }
+    ensures rooms { All (λ room. room.scratch ≡ nodes_of hierarchy.now) rooms.new.items }
 {
     let searches = Searches {
         hierarchy,
@@ -38,8 +58,7 @@ pub(crate) fn search_spaces<R: Threads + Sync, G: Gate>(
     };
     crew.gate
         .watch(Stage::Searching, 0, crew.plan.pieces(nodes.len() as u32));
-    let spaces = run_list(crew, nodes, &searches)?;
-    Buckets::of_lists(crew.alloc, dealing, spaces)
+    run_list_in(crew, nodes, rooms, &searches)
 }
 
 /// Searches from nodes, in one direction, within a limit.
@@ -70,7 +89,7 @@ impl<'a> ListJob for Searches<'a> {
 
     type Item = u32;
 
-    type Room = Scratch;
+    type Room = Room;
 
     type Out = Vec<(u32, u64)>;
 
@@ -78,18 +97,26 @@ impl<'a> ListJob for Searches<'a> {
 
     ghost meaning = { λ job node space. IsRankedSpace job.0 job.1 job.2 node space.items };
 
-    ghost clean = { λ job scratch. scratch ≡ nodes_of job.0 };
+    ghost clean = { λ job room. room.scratch ≡ nodes_of job.0 };
 
-    fn room(&self, alloc: Global) -> Result<Scratch, AllocError> {
-        Scratch::new(alloc, self.hierarchy.nodes())
+    fn room(&self, alloc: Global) -> Result<Room, AllocError> {
+        Room::new(alloc, self.hierarchy.nodes())
     }
 
     fn value(
         &self,
         alloc: Global,
-        room: &mut Scratch,
+        room: &mut Room,
         item: &u32,
     ) -> Result<Vec<(u32, u64)>, AllocError> {
-        ranked_space(alloc, self.hierarchy, room, *item, self.side, self.within)
+        let Room { scratch, .. } = room;
+        ranked_space(
+            alloc,
+            self.hierarchy,
+            scratch,
+            *item,
+            self.side,
+            self.within,
+        )
     }
 }

@@ -4,7 +4,8 @@ ghost use Rattle.ch_graph.specs.declared.limits.TheConstants.{MOST_LISTED, MOST_
 ghost use Rattle.ch_hierarchy.specs.Hierarchy.{nodes_of};
 ghost use Rattle.ch_query.specs.Distance.{IsKeptForSome};
 ghost use Rattle.ch_query.specs.Limits.{IsWithin};
-ghost use Rattle.ch_table.specs.Dealing.{item_of, deal_of};
+ghost use Rattle.ch_table.specs.Buckets.{HoldSearchSpaces};
+ghost use Rattle.ch_table.specs.Dealing.{item_of, deal_of, IsDealOf};
 ghost use Rattle.ch_table.specs.Sums.{AreSidesOf, IsOwedInRow, IsOwedAt};
 ghost use Rattle.ch_work.specs.declared.limits.TheConstants.{MOST_CELLS, MOST_OFFER};
 ghost use Rattle.ch_work.specs.Owed.{HasPaid};
@@ -12,7 +13,7 @@ ghost use Rattle.ch_work.specs.Passes.{view_of, size_of, IsPassOf};
 
 use crate::buckets::Buckets;
 use crate::dealing::Dealing;
-use crate::spaces::search_spaces;
+use crate::spaces::{Room, search_spaces};
 use ch_hierarchy::Hierarchy;
 use ch_query::Side;
 use ch_work::{Board, CellJob, Crew, Gate, Pass, pay};
@@ -83,8 +84,25 @@ impl Sums {
         ensures { IfOk result (AreSidesOf hierarchy.now within (item_of (deal_of hierarchy.now crew.now.plan.piece)) sources.now targets.now) }
     {
         let dealing = Dealing::new(hierarchy.nodes(), crew.plan.piece());
-        let downs = search_spaces(crew, hierarchy, &dealing, targets, Side::Down, within)?;
-        let ups = search_spaces(crew, hierarchy, &dealing, sources, Side::Up, within)?;
+        let mut rooms = Vec::new(crew.alloc);
+        let downs = search_buckets(
+            crew,
+            hierarchy,
+            &dealing,
+            targets,
+            Side::Down,
+            within,
+            &mut rooms,
+        )?;
+        let ups = search_buckets(
+            crew,
+            hierarchy,
+            &dealing,
+            sources,
+            Side::Up,
+            within,
+            &mut rooms,
+        )?;
         Ok(Sums {
             sources: ups,
             targets: downs,
@@ -108,6 +126,29 @@ impl Sums {
             pay_row(board, pass, first, *weight, targets, self.within);
         }
     }
+}
+
+/// The buckets that hold the search spaces of these nodes in this direction, within the limit, by the items of what is
+/// reached. The workers share the nodes, and the rooms stay.
+fn search_buckets<R: Threads + Sync, G: Gate>(
+    crew: &Crew<'_, R, G>,
+    hierarchy: &Hierarchy,
+    dealing: &Dealing,
+    nodes: &[u32],
+    side: Side,
+    within: Option<u64>,
+    rooms: &mut Vec<Room>,
+) -> Result<Buckets, AllocError>
+    requires kept { IsKeptForSome hierarchy.now }
+    requires nodes { All (λ x. x < nodes_of hierarchy.now) nodes.now }
+    requires count { length nodes.now ≤ MOST_LISTED }
+    requires dealing { IsDealOf hierarchy.now dealing.now }
+    requires rooms { All (λ room. room.scratch ≡ nodes_of hierarchy.now) rooms.old.items }
+    ensures held { IfOk result (HoldSearchSpaces hierarchy.now side within (item_of dealing.now) nodes.now) }
+    ensures rooms { All (λ room. room.scratch ≡ nodes_of hierarchy.now) rooms.new.items }
+{
+    let spaces = search_spaces(crew, hierarchy, nodes, side, within, rooms)?;
+    Buckets::of_lists(crew.alloc, dealing, spaces)
 }
 
 /// Pays what a source owes at a node to the cells of its row, of which the first is given: its weight there

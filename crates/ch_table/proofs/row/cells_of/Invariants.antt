@@ -1,0 +1,9 @@
+use Rattle.std.proofs.Common.{◌≡◌, ◌+◌, ◌-◌, ◌≤◌, length, map, take, vec_len}
+use Rattle.std.specs.Prelude.{vec_capacity}
+use Rattle.ch_table.specs.Rows.{cell_of}
+use Rattle.ch_table.proofs.row.cells_of.Given as goal
+
+abbrev pub invariant-loop-word : goal.invariant-loop-word
+invariant-loop-word l =
+    (l.cells.items ≡ map (cell_of l.most) (take l.word-index l.row))
+    × (vec_len l.cells + (length l.row - l.word-index) ≤ vec_capacity l.cells)

@@ -1,0 +1,6 @@
+use Rattle.std.proofs.Common.{take}
+use Rattle.ch_table.specs.Rows.{AreLowered, IsSumAt}
+use Rattle.ch_table.proofs.row.lower.Given as goal
+
+abbrev pub invariant-loop-place : goal.invariant-loop-place
+invariant-loop-place l = AreLowered (IsSumAt l.weight (take l.place-index l.bucket)) l.fn.row l.row

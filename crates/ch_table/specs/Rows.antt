@@ -1,0 +1,44 @@
+-- Rows of a table: the least sums of a source's search space and the buckets of the targets.
+use Rattle.std.specs.Prelude.{◌≡◌, ℕ, ◌+◌, ◌<◌, ◌≤◌, ◌⊎◌, nat_le, if◌then◌else◌, List, [], length, slice_index, slice_index_or, Contains, Option, Some, None}
+use Rattle.ch_graph.specs.declared.limits.TheConstants.{MOST_SUM}
+use Rattle.ch_hierarchy.specs.Hierarchy.{LevelsAndLegs}
+use Rattle.ch_query.specs.declared.side.Side.TheVariants.{Down}
+use Rattle.ch_query.specs.Distance.{IsKeptForSome}
+use Rattle.ch_query.specs.Limits.{IsWithin}
+use Rattle.ch_table.specs.Buckets.{HoldSearchSpaces}
+
+-- the hierarchy, targets and limit of which rows are asked for
+pub record Asked : Type 0 where
+  pub hierarchy : LevelsAndLegs
+  pub targets : List ℕ
+  pub limit : Option ℕ
+
+-- the hierarchy is right for some graph, and the buckets hold search spaces down to the targets, each entry at its rank
+pub record AreTargetsOf (H : LevelsAndLegs) (most : Option ℕ) (targets : List ℕ) (buckets : List (List (ℕ × ℕ))) : Type 0 where
+  pub kept : IsKeptForSome H
+  pub fall : HoldSearchSpaces H Down most (λ rank. rank) targets buckets
+
+-- x is the sum of the weight and that of place j in the bucket
+abbrev pub IsSumAt : ℕ → List (ℕ × ℕ) → ℕ → ℕ → Type 0
+IsSumAt weight bucket j x = (b : ℕ) × Contains bucket (j, b) × (x ≡ weight + b)
+
+-- so it is at some rank of the search space
+abbrev pub IsSumOf : List (ℕ × ℕ) → List (List (ℕ × ℕ)) → ℕ → ℕ → Type 0
+IsSumOf space buckets j x = (rank a : ℕ) × Contains space (rank, a) × IsSumAt a (slice_index_or buckets rank []) j x
+
+-- each place has the least of what it had and of its sums, where P says of a place and a weight that it is one
+pub record AreLowered (P : ℕ → ℕ → Type 0) (before after : List ℕ) : Type 0 where
+  pub size : length after ≡ length before
+  pub lower : (j : ℕ) → slice_index after j ≤ slice_index before j
+  pub sound : (j : ℕ) → j < length before → (slice_index after j ≡ slice_index before j) ⊎ P j (slice_index after j)
+  pub whole : (j x : ℕ) → P j x → slice_index after j ≤ x
+
+-- the most that a sum of two weights of paths may be that is within the limit
+pub record IsMostSum (limit : Option ℕ) (most : ℕ) : Type 0 where
+  pub limits : most ≤ MOST_SUM
+  pub sound : (x : ℕ) → x ≤ most → IsWithin limit x
+  pub whole : (x : ℕ) → x ≤ MOST_SUM → IsWithin limit x → x ≤ most
+
+-- the cell of a word: none where the word is more
+abbrev pub cell_of : ℕ → ℕ → Option ℕ
+cell_of most word = (if nat_le word most then Some word else None)
