@@ -168,21 +168,29 @@ fn worked_tables(rt: HostRuntime) -> Result<(), Fail> {
     Ok(())
 }
 
-/// Each target, each source and each node is a piece: the table is made by the cells that workers share.
-#[test]
-fn gates_passed(rt: HostRuntime) -> Result<(), Fail> {
-    let gate = CountingGate::new(rt.alloc(), 4)?;
-    make(&rt, rt.alloc(), &LINE_TWICE, &Plan::new(2, 1, 64), &gate)?;
-    for (piece, expected) in [
-        (0, Some(3)),
-        (1, Some(3)),
-        (2, Some(2)),
-        (3, Some(0)),
-        (4, None),
-    ] {
-        assert_eq!(rt; gate.passes(piece), expected, "piece {piece}");
+/// How often each piece of the line's table passes the gate by so many workers, where each node is a piece of its own.
+fn expect_passes<R: Threads + Abort + Sync>(
+    rt: &R,
+    alloc: Global,
+    workers: u32,
+    passes: &[u64],
+) -> Result<(), Fail>
+    requires { (0 < workers) × (workers < 65) }
+{
+    let gate = CountingGate::new(alloc, 4)?;
+    make(rt, alloc, &LINE_TWICE, &Plan::new(workers, 1, 64), &gate)?;
+    for (piece, expected) in passes.iter().enumerate() {
+        assert_eq!(rt; gate.passes(piece as u32), Some(*expected), "piece {piece}");
     }
     Ok(())
+}
+
+/// Each of two targets and each of three sources is a piece. Where there are more workers than sources, each node is one too.
+#[test]
+fn gates_passed(rt: HostRuntime) -> Result<(), Fail> {
+    expect_passes(&rt, rt.alloc(), 1, &[2, 2, 1, 0])?;
+    expect_passes(&rt, rt.alloc(), 3, &[2, 2, 1, 0])?;
+    expect_passes(&rt, rt.alloc(), 4, &[3, 3, 2, 0])
 }
 
 /// The buckets of an example: of sources, by going up, or of targets, by going down; the nodes, counted from 1; the
@@ -279,7 +287,7 @@ fn worked_buckets(rt: HostRuntime) -> Result<(), Fail> {
 fn refused_in_turn(rt: HostRuntime) -> Result<(), Fail> {
     let alloc = rt.alloc();
     expect_filled(&rt, alloc, &UP_THE_LINE)?;
-    for workers in [1, 2] {
+    for workers in [1, 2, 4] {
         expect(&rt, alloc, &LINE_TWICE, &Plan::new(workers, 1, 1))?;
     }
     Ok(())
