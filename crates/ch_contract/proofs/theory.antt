@@ -14,6 +14,7 @@ pub mod BuiltKept
 pub mod UpAndDown
 pub mod OneOrder
 pub mod Levelled
+pub mod Enough
 pub mod ReferenceSearch
 pub mod OrderSteps
 pub mod Depths

@@ -6,9 +6,10 @@ use Rattle.ch_graph.specs.Graph.{Network, IsWithinLimits}
 use Rattle.ch_graph.specs.Walk.{IsLeast}
 use Rattle.ch_contract.specs.declared.measure.OrderBy.{OrderBy}
 use Rattle.ch_contract.specs.Legs.{Legs, IsChain, chain_cost, IsHopBound}
-use Rattle.ch_contract.specs.Order.{AreContracted}
+use Rattle.ch_contract.specs.Enough.{ContractsWithEnough}
+use Rattle.ch_contract.specs.Order.{AreTaken, AreContracted}
 use Rattle.ch_hierarchy.specs.Hierarchy.{LevelsAndLegs}
-use Rattle.ch_contract.specs.Built.{IsHierarchyBy}
+use Rattle.ch_contract.specs.Built.{IsHierarchyIn, IsHierarchyBy}
 use Rattle.ch_hierarchy.specs.Kept.{IsKept}
 
 -- c is the least cost of a chain of legs from u to w
@@ -20,11 +21,22 @@ pub record IsLeastChain (L : Legs) (u w : ℕ) (c : Cost) : Type 0 where
 abbrev pub IsLeft : Network → List ℕ → ℕ → ℕ → Type 0
 IsLeft g order i x = (x < g.nodes) × (Contains (take i order) x → ⊥)
 
--- after any number of steps, in any order, what the cheapest walk between two nodes that are left costs, the cheapest chain of legs costs
+-- after any number of steps, what the cheapest walk between two nodes that are left costs, the cheapest chain of legs costs
+abbrev pub AreLeastCostsKept : Network → List ℕ → (ℕ → Legs) → Type 0
+AreLeastCostsKept g order L = (i u w : ℕ) (c : Cost) → i ≤ g.nodes → IsLeft g order i u → IsLeft g order i w → IsLeast g u w c → IsLeastChain (L i) u w c
+
+-- so it is in whichever order nodes are contracted
 abbrev pub ContractionKeepsLeastCosts : Type 0
-ContractionKeepsLeastCosts = (g : Network) (h : ℕ) (order : List ℕ) (L : ℕ → Legs) → IsWithinLimits g → IsHopBound h → AreContracted g h order L →
-    (i u w : ℕ) (c : Cost) → i ≤ g.nodes → IsLeft g order i u → IsLeft g order i w → IsLeast g u w c → IsLeastChain (L i) u w c
+ContractionKeepsLeastCosts = (g : Network) (h : ℕ) (order : List ℕ) (L : ℕ → Legs) → IsWithinLimits g → IsHopBound h → AreContracted g h order L → AreLeastCostsKept g order L
+
+-- and where each is contracted with shortcuts that are enough, be they more than the needed ones
+abbrev pub EnoughKeepsLeastCosts : Type 0
+EnoughKeepsLeastCosts = (g : Network) (h : ℕ) (order : List ℕ) (L : ℕ → Legs) → IsWithinLimits g → AreTaken (ContractsWithEnough g.nodes h) g order L → AreLeastCostsKept g order L
 
 -- the contraction hierarchy of a graph, in whichever order, is right for the graph, whatever the bound on hops
 abbrev pub HierarchiesAreKept : Type 0
 HierarchiesAreKept = (by : OrderBy) (g : Network) (h : ℕ) (H : LevelsAndLegs) → IsWithinLimits g → IsHopBound h → IsHierarchyBy by g h H → IsKept g H
+
+-- and so is each hierarchy of nodes that are contracted, in any order, with shortcuts that are enough
+abbrev pub HierarchiesWithEnoughAreKept : Type 0
+HierarchiesWithEnoughAreKept = (g : Network) (h : ℕ) (H : LevelsAndLegs) (order : List ℕ) (L : ℕ → Legs) → IsWithinLimits g → IsHierarchyIn (ContractsWithEnough g.nodes h) g H order L → IsKept g H

@@ -7,6 +7,7 @@ pub use Rattle.ch_hierarchy.specs.Saved
 pub use Rattle.ch_hierarchy.specs.SavedLaws
 pub mod Legs
 pub mod Contraction
+pub mod Enough
 pub mod Order
 pub mod LegRows
 pub mod Built

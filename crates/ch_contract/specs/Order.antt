@@ -33,11 +33,15 @@ IsPriorityAfter by n h order L i x p = (j : ℕ) × IsLastTouch order L i x j ×
 abbrev pub IsContractedBefore : ℤ → ℕ → ℤ → ℕ → Type 0
 IsContractedBefore p v q x = (p ≤ℤ q) × (q ≤ℤ p → v ≤ x)
 
--- all nodes of g are contracted, each once and in any order, with the legs L i that are left after the first i steps
-pub record AreContracted (g : Network) (h : ℕ) (order : List ℕ) (L : ℕ → Legs) : Type 0 where
+-- all nodes of g are taken, each once and in any order, where IsStep says what the legs L i that are left after the first i steps become by the next
+pub record AreTaken (IsStep : Legs → ℕ → Legs → Type 0) (g : Network) (order : List ℕ) (L : ℕ → Legs) : Type 0 where
   pub nodes : (length order ≡ g.nodes) × All (λ v. v < g.nodes) order × AllPairs ◌≢◌ order
   pub start : SameLegs (L 0) (opening g)
-  pub step : (i : ℕ) → i < g.nodes → Contracts g.nodes h (L i) (slice_index order i) (L (i + 1))
+  pub step : (i : ℕ) → i < g.nodes → IsStep (L i) (slice_index order i) (L (i + 1))
+
+-- all nodes of g are contracted, each once and in any order, with the legs L i that are left after the first i steps
+abbrev pub AreContracted : Network → ℕ → List ℕ → (ℕ → Legs) → Type 0
+AreContracted g h order L = AreTaken (Contracts g.nodes h) g order L
 
 -- at each step the node comes before all that are left
 abbrev pub TakesFirst : OrderBy → Network → ℕ → List ℕ → (ℕ → Legs) → Type 0

@@ -12,7 +12,7 @@ use Rattle.ch_contract.specs.Contraction.{AreShortcuts, legs_after_contraction}
 use Rattle.ch_hierarchy.specs.Rows.{row, IsRow}
 use Rattle.ch_contract.specs.LegRows.{row_leg, label_of}
 use Rattle.ch_contract.specs.LegLists.{AreRows, HaveAll, AreOverridden, IsWithinLimits, legs_from, legs_into}
-use Rattle.ch_contract.proofs.theory.Contracting.{after, contracted_within}
+use Rattle.ch_contract.proofs.theory.Contracting.{after, contracted_within, pairs_of_shortcuts}
 use Rattle.ch_contract.proofs.theory.Opening.{same_within}
 use Rattle.ch_contract.proofs.theory.RowLegs.{row_has, row_member, leg_at}
 use Rattle.ch_hierarchy.proofs.theory.NoLeg.{no_leg}
@@ -134,7 +134,7 @@ module _ (n : ℕ) (outs ins : List (List Leg)) (within : IsWithinLimits n outs 
         sizes = (put.size ∙ from.size ∙ within.sizes.0, put_turned.size ∙ into.size ∙ within.sizes.1);
         rows = (put.rows, put_turned.rows);
         agree = λ u w. outs_after u w ∙ sym (ins_after u w);
-        legs = same_within n (legs_from new_outs) (legs_after_contraction (legs_from outs) v list) outs_after (contracted_within n h (legs_from outs) v list within.legs are);
+        legs = same_within n (legs_from new_outs) (legs_after_contraction (legs_from outs) v list) outs_after (contracted_within n (legs_from outs) v list within.legs (pairs_of_shortcuts n h (legs_from outs) v list are));
       }
 
 -- what a contraction does to both sides, call after call

@@ -12,19 +12,22 @@ use Rattle.ch_graph.proofs.WalkCosts.{IsWalkCost-cost_sum, IsLeast-IsAtMost}
 use Rattle.ch_graph.proofs.LeastSearch.{IsLeast-of_walk}
 use Rattle.ch_hierarchy.specs.declared.leg.Leg.{Leg}
 use Rattle.ch_contract.specs.Legs.{Legs, arc_label}
+use Rattle.ch_contract.specs.Enough.{ContractsWithEnough}
 use Rattle.ch_hierarchy.specs.Rows.{row}
 use Rattle.ch_hierarchy.specs.Hierarchy.{LevelsAndLegs}
 use Rattle.ch_hierarchy.specs.Paths.{IsMeeting}
 use Rattle.ch_hierarchy.specs.Kept.{IsLeg, IsFounded, IsKept}
-use Rattle.ch_contract.specs.Keeping.{IsLeft, ContractionKeepsLeastCosts, HierarchiesAreKept}
+use Rattle.ch_contract.specs.Keeping.{IsLeft, ContractionKeepsLeastCosts, EnoughKeepsLeastCosts, HierarchiesAreKept, HierarchiesWithEnoughAreKept}
 use Rattle.ch_contract.proofs.theory.RowLegs.{leg_at}
 use Rattle.ch_contract.proofs.theory.Chains.{HasLeg}
 use Rattle.ch_contract.proofs.theory.OpeningLegs.{opening_covers, opening_within}
+use Rattle.ch_contract.proofs.theory.Contracting.{ContractsWithPairs, pairs_by_enough}
 use Rattle.ch_contract.proofs.theory.OneContraction.{leg_kept}
 use Rattle.ch_contract.proofs.theory.StepLegs.{IsMade, IsContraction, step_leg, step_at}
 use Rattle.ch_contract.proofs.theory.KeptCosts.{IsAfter, chain_walk, least_chain}
 use Rattle.ch_contract.proofs.theory.BuiltLegs.{IsBuilt, contraction, step_of, after_earlier, up_leg, down_leg, up_step, down_step, up_step_leg, down_step_leg}
 use Rattle.ch_contract.proofs.theory.Levelled.{levelled}
+use Rattle.ch_contract.proofs.theory.Enough.{hierarchy_by, taken_with_enough, hierarchy_with_enough}
 use Rattle.ch_contract.proofs.theory.UpAndDown.{up_and_down}
 
 -- going up and down costs no more than c
@@ -131,7 +134,7 @@ module _ {g : Network} {h : ℕ} {H : LevelsAndLegs} {order : List ℕ} {L : ℕ
   pub built_kept : IsKept g H
   built_kept = record {
     nodes = built.hierarchy.sizes.0;
-    levelled = levelled g h H order L built.hierarchy built.limits.size.0 (opening_within g built.limits);
+    levelled = levelled g H order L (hierarchy_by (ContractsWithEnough g.nodes h) (ContractsWithPairs g.nodes) g H order L built.hierarchy (λ i lt. pairs_by_enough g.nodes h _ _ _)) built.limits.size.0 (opening_within g built.limits);
     founded = built_founded;
     arcs = built_arcs;
     covered = built_covered;
@@ -142,10 +145,10 @@ left_after : (g : Network) (order : List ℕ) (i x : ℕ) → i ≤ length order
 left_after g order i x le left j below e =
     left.1 (j, omega (arith, length-take-le i order le), get_or-take i order j x below ∙ get_or_default order j x 0 (omega arith) ∙ e)
 
--- contraction keeps least costs
-pub least_costs_kept : ContractionKeepsLeastCosts
-least_costs_kept g h order L limits hops is i u w c le p q least =
-    let all : IsContraction g h order L g.nodes = record { limits = limits; hops = hops; start = is.start; step = is.step } in
+-- contraction with shortcuts that are enough keeps least costs
+pub enough_keeps_least_costs : EnoughKeepsLeastCosts
+enough_keeps_least_costs g h order L limits is i u w c le p q least =
+    let all : IsContraction g h order L g.nodes = record { limits = limits; start = is.start; step = is.step } in
     let size = is.nodes.0 in
     let within : i ≤ length order = omega arith in
     record {
@@ -153,8 +156,16 @@ least_costs_kept g h order L limits hops is i u w c le p q least =
       least = λ xs chain. IsLeast-IsAtMost g u w c _ least (chain_walk all i le u w xs chain);
     }
 
--- built hierarchies are kept
-pub hierarchies_kept : HierarchiesAreKept
-hierarchies_kept by g h H limits hops is =
-    let built : IsBuilt g h H is.0 is.1 = record { limits = limits; hops = hops; hierarchy = is.2 } in
+-- and so does contraction
+pub least_costs_kept : ContractionKeepsLeastCosts
+least_costs_kept g h order L limits hops is = enough_keeps_least_costs g h order L limits (taken_with_enough g h order L limits hops is)
+
+-- hierarchies that are made with shortcuts that are enough are kept
+pub hierarchies_with_enough_kept : HierarchiesWithEnoughAreKept
+hierarchies_with_enough_kept g h H order L limits is =
+    let built : IsBuilt g h H order L = record { limits = limits; hierarchy = is } in
     built_kept built
+
+-- and so are those that the rules name
+pub hierarchies_kept : HierarchiesAreKept
+hierarchies_kept by g h H limits hops is = hierarchies_with_enough_kept g h H is.0 is.1 limits (hierarchy_with_enough g h H is.0 is.1 limits hops is.2)

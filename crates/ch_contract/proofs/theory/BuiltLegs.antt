@@ -4,11 +4,12 @@ use Rattle.std.proofs.lemmas.Bool.{cases_lt}
 use Rattle.ch_graph.specs.Graph.{Network, IsWithinLimits}
 use Rattle.ch_graph.specs.WalkLaws.{IsWalkCost}
 use Rattle.ch_hierarchy.specs.declared.leg.Leg.{Leg}
-use Rattle.ch_contract.specs.Legs.{Label, Legs, IsHopBound}
+use Rattle.ch_contract.specs.Legs.{Label, Legs}
 use Rattle.ch_hierarchy.specs.Rows.{row}
 use Rattle.ch_contract.specs.LegRows.{label_of}
 use Rattle.ch_hierarchy.specs.Hierarchy.{LevelsAndLegs}
-use Rattle.ch_contract.specs.Built.{IsHierarchyOf}
+use Rattle.ch_contract.specs.Enough.{ContractsWithEnough}
+use Rattle.ch_contract.specs.Built.{IsHierarchyIn}
 use Rattle.ch_contract.proofs.theory.OneOrder.{taken_at}
 use Rattle.ch_hierarchy.proofs.theory.SavedLevels.{in_row_below}
 use Rattle.ch_contract.proofs.theory.RowLegs.{leg_at, row_has, row_member}
@@ -18,17 +19,16 @@ use Rattle.ch_contract.proofs.theory.KeptCosts.{IsAfter}
 -- the hierarchy of a graph within the limits
 pub record IsBuilt (g : Network) (h : ℕ) (H : LevelsAndLegs) (order : List ℕ) (L : ℕ → Legs) : Type 0 where
   pub limits : IsWithinLimits g
-  pub hops : IsHopBound h
-  pub hierarchy : IsHierarchyOf g h H order L
+  pub hierarchy : IsHierarchyIn (ContractsWithEnough g.nodes h) g H order L
 
 module _ {g : Network} {h : ℕ} {H : LevelsAndLegs} {order : List ℕ} {L : ℕ → Legs} (built : IsBuilt g h H order L) where
   -- all nodes are contracted
   pub contraction : IsContraction g h order L g.nodes
-  contraction = record { limits = built.limits; hops = built.hops; start = built.hierarchy.contracted.start; step = built.hierarchy.contracted.step }
+  contraction = record { limits = built.limits; start = built.hierarchy.contracted.start; step = built.hierarchy.contracted.step }
 
   -- each node is contracted in some step
   pub step_of : (x : ℕ) → x < g.nodes → (i : ℕ) × (i < g.nodes) × (slice_index order i ≡ x)
-  step_of x lt = taken_at g h order L x built.hierarchy.contracted lt
+  step_of x lt = taken_at g.nodes order x built.hierarchy.contracted.nodes lt
 
   -- and in one step alone
   step_once : (i j : ℕ) → i < g.nodes → j < g.nodes → slice_index order i ≡ slice_index order j → i ≡ j

@@ -1,4 +1,4 @@
--- Each hierarchy by the rules has levels from 1 to the number of nodes, each once, and legs to higher nodes, within the limits.
+-- Each hierarchy of contracted nodes has levels from 1 to the number of nodes, each once, and legs to higher nodes, within the limits.
 use Rattle.std.proofs.Common.{◌≡◌, ℕ, suc, zero, ◌+◌, ◌<◌, ◌≤◌, Bool, true, false, cond, List, [], length, get_or, Option, Some, None, refl, sym, ◌∙◌, ap, subst, arith, inl, inr, Contains}
 use Rattle.std.specs.Prelude.{◌⊎◌, ◌≢◌, ◌==◌, ◌||◌, All, slice_index}
 use Rattle.std.proofs.lemmas.Bool.{cases_eq, cases_lt}
@@ -11,12 +11,12 @@ use Rattle.ch_graph.specs.Graph.{Network}
 use Rattle.ch_hierarchy.specs.declared.leg.Leg.{Leg}
 use Rattle.ch_contract.specs.declared.shortcut.Shortcut.{Shortcut}
 use Rattle.ch_contract.specs.Legs.{Label, Legs, AreLegsWithin, opening, turned_legs}
-use Rattle.ch_contract.specs.Contraction.{shortcut_label, leg_after_shortcuts, legs_after_contraction, Contracts}
+use Rattle.ch_contract.specs.Contraction.{shortcut_label, leg_after_shortcuts, legs_after_contraction}
 use Rattle.ch_hierarchy.specs.Rows.{row, IsRow}
 use Rattle.ch_contract.specs.LegRows.{label_of, AreLegsFrom}
 use Rattle.ch_hierarchy.specs.Hierarchy.{LevelsAndLegs, IsLegUp, AreLegsUp, IsLevelled}
-use Rattle.ch_contract.specs.Built.{IsHierarchyOf}
-use Rattle.ch_contract.proofs.theory.Contracting.{override_cases, contracted_within}
+use Rattle.ch_contract.specs.Built.{IsHierarchyIn}
+use Rattle.ch_contract.proofs.theory.Contracting.{ContractsWithPairs, override_cases, contracted_within}
 use Rattle.ch_contract.proofs.theory.OneOrder.{taken_at, one_map}
 use Rattle.ch_hierarchy.specs.Saved.{IsOrderOf, AreLevelsOf}
 use Rattle.ch_contract.proofs.theory.RowLegs.{none_unless}
@@ -39,16 +39,16 @@ contracted_cases L v list u w l e = at (u == v || w == v) e
     ]
 
 -- a contraction keeps the limits
-pub within_more : (n h : ℕ) (L : Legs) (v : ℕ) (M : Legs) → AreLegsWithin n L → Contracts n h L v M → AreLegsWithin n M
-within_more n h L v M within step u w l e = contracted_within n h L v step.0 within step.1 u w l (sym (step.2 u w) ∙ e)
+pub within_more : (n : ℕ) (L : Legs) (v : ℕ) (M : Legs) → AreLegsWithin n L → ContractsWithPairs n L v M → AreLegsWithin n M
+within_more n L v M within step u w l e = contracted_within n L v step.0 within step.1 u w l (sym (step.2 u w) ∙ e)
 
 -- no leg touches z
 abbrev pub IsGone : Legs → ℕ → Type 0
 IsGone L z = (x : ℕ) → (L z x ≡ None) × (L x z ≡ None)
 
 -- no leg touches a contracted node
-gone_next : (n h : ℕ) (L : Legs) (v : ℕ) (M : Legs) → Contracts n h L v M → IsGone M v
-gone_next n h L v M step x =
+pub gone_next : (n : ℕ) (L : Legs) (v : ℕ) (M : Legs) → ContractsWithPairs n L v M → IsGone M v
+gone_next n L v M step x =
     let same : (v == v) ≡ true = grind (arith, nat_tests) in
     (step.2 v x ∙ rw same refl, step.2 x v ∙ last (x == v) _ same)
   where
@@ -57,36 +57,36 @@ gone_next n h L v M step x =
     last false o e = rw e refl
 
 -- no leg comes back to a node that has none
-gone_more : (n h : ℕ) (L : Legs) (v : ℕ) (M : Legs) (z : ℕ) → IsGone L z → Contracts n h L v M → IsGone M z
-gone_more n h L v M z gone step x = (
+gone_more : (n : ℕ) (L : Legs) (v : ℕ) (M : Legs) (z : ℕ) → IsGone L z → ContractsWithPairs n L v M → IsGone M z
+gone_more n L v M z gone step x = (
   none_unless (M z x) (λ l e. elim (contracted_cases L v step.0 z x l (sym (step.2 z x) ∙ e)) [
     | inl old ↦ none-some _ (sym (gone x).0 ∙ old)
-    | inr made ↦ let is = step.1.sound made.0 made.1 in none-some _ (sym (gone v).0 ∙ ap (λ q. L q v) (sym made.2) ∙ is.legs.2)
+    | inr made ↦ let is = step.1 made.0 made.1 in none-some _ (sym (gone v).0 ∙ ap (λ q. L q v) (sym made.2) ∙ is.legs.2)
   ]),
   none_unless (M x z) (λ l e. elim (contracted_cases L v step.0 x z l (sym (step.2 x z) ∙ e)) [
     | inl old ↦ none-some _ (sym (gone x).1 ∙ old)
-    | inr made ↦ let is = step.1.sound made.0 made.1 in none-some _ (sym (gone v).1 ∙ ap (L v) (sym made.3) ∙ is.legs.3)
+    | inr made ↦ let is = step.1 made.0 made.1 in none-some _ (sym (gone v).1 ∙ ap (L v) (sym made.3) ∙ is.legs.3)
   ]),
 )
 
 -- the legs after each step are within the limits
-pub within_steps : (n h m : ℕ) (order : List ℕ) (L : ℕ → Legs) → AreLegsWithin n (L 0) → ((i : ℕ) → i < m → Contracts n h (L i) (slice_index order i) (L (i + 1))) → (k : ℕ) → k ≤ m → AreLegsWithin n (L k)
-within_steps n h m order L start step zero le = start
-within_steps n h m order L start step (suc k) le =
+pub within_steps : (n m : ℕ) (order : List ℕ) (L : ℕ → Legs) → AreLegsWithin n (L 0) → ((i : ℕ) → i < m → ContractsWithPairs n (L i) (slice_index order i) (L (i + 1))) → (k : ℕ) → k ≤ m → AreLegsWithin n (L k)
+within_steps n m order L start step zero le = start
+within_steps n m order L start step (suc k) le =
     let e : k + 1 ≡ suc k = omega arith in
-    subst (λ z. AreLegsWithin n (L z)) e (within_more n h (L k) (slice_index order k) (L (k + 1)) (within_steps n h m order L start step k (omega arith)) (step k (omega arith)))
+    subst (λ z. AreLegsWithin n (L z)) e (within_more n (L k) (slice_index order k) (L (k + 1)) (within_steps n m order L start step k (omega arith)) (step k (omega arith)))
 
 -- no leg touches a node after the step that contracted it
-pub gone_steps : (n h m : ℕ) (order : List ℕ) (L : ℕ → Legs) → ((i : ℕ) → i < m → Contracts n h (L i) (slice_index order i) (L (i + 1))) → (j k : ℕ) → j < k → k ≤ m → IsGone (L k) (slice_index order j)
-gone_steps n h m order L step j zero lt le = absurd (omega arith)
-gone_steps n h m order L step j (suc k) lt le =
+pub gone_steps : (n m : ℕ) (order : List ℕ) (L : ℕ → Legs) → ((i : ℕ) → i < m → ContractsWithPairs n (L i) (slice_index order i) (L (i + 1))) → (j k : ℕ) → j < k → k ≤ m → IsGone (L k) (slice_index order j)
+gone_steps n m order L step j zero lt le = absurd (omega arith)
+gone_steps n m order L step j (suc k) lt le =
     let e : k + 1 ≡ suc k = omega arith in
-    subst (λ z. IsGone (L z) (slice_index order j)) e (at (gone_steps n h m order L step j k))
+    subst (λ z. IsGone (L z) (slice_index order j)) e (at (gone_steps n m order L step j k))
   where
     at : (j < k → k ≤ m → IsGone (L k) (slice_index order j)) → IsGone (L (k + 1)) (slice_index order j)
     at before = elim (cases_eq j k) [
-      | inl same ↦ subst (λ z. IsGone (L (k + 1)) (slice_index order z)) (sym same) (gone_next n h (L k) (slice_index order k) (L (k + 1)) (step k (omega arith)))
-      | inr ne ↦ gone_more n h (L k) (slice_index order k) (L (k + 1)) (slice_index order j) (before (omega arith) (omega arith)) (step k (omega arith))
+      | inl same ↦ subst (λ z. IsGone (L (k + 1)) (slice_index order z)) (sym same) (gone_next n (L k) (slice_index order k) (L (k + 1)) (step k (omega arith)))
+      | inr ne ↦ gone_more n (L k) (slice_index order k) (L (k + 1)) (slice_index order j) (before (omega arith) (omega arith)) (step k (omega arith))
     ]
 
 -- legs turned round keep the limits
@@ -95,18 +95,18 @@ turned_within n L within u w l e =
     let is = within w u l e in
     record { ends = (is.ends.1, is.ends.0, λ same. is.ends.2 (sym same)); weight = is.weight; arcs = is.arcs; middle = is.middle }
 
-module _ (g : Network) (h : ℕ) (H : LevelsAndLegs) (order : List ℕ) (L : ℕ → Legs) (p : IsHierarchyOf g h H order L) (small : g.nodes ≤ MOST_NODES) (start : AreLegsWithin g.nodes (opening g)) where
+module _ (g : Network) (H : LevelsAndLegs) (order : List ℕ) (L : ℕ → Legs) (p : IsHierarchyIn (ContractsWithPairs g.nodes) g H order L) (small : g.nodes ≤ MOST_NODES) (start : AreLegsWithin g.nodes (opening g)) where
   -- the legs before each step are within the limits
   within : (k : ℕ) → k ≤ g.nodes → AreLegsWithin g.nodes (L k)
-  within = within_steps g.nodes h g.nodes order L (subst (AreLegsWithin g.nodes) (sym (one_map (L 0) (opening g) p.contracted.start)) start) p.contracted.step
+  within = within_steps g.nodes g.nodes order L (subst (AreLegsWithin g.nodes) (sym (one_map (L 0) (opening g) p.contracted.start)) start) p.contracted.step
 
   -- no leg touches the nodes of earlier steps
   gone : (j k : ℕ) → j < k → k ≤ g.nodes → IsGone (L k) (slice_index order j)
-  gone = gone_steps g.nodes h g.nodes order L p.contracted.step
+  gone = gone_steps g.nodes g.nodes order L p.contracted.step
 
   -- each node has the level of its step
   level_of : (x : ℕ) → x < g.nodes → (i : ℕ) × (i < g.nodes) × (slice_index order i ≡ x) × (slice_index H.level x ≡ i + 1)
-  level_of x lt = let at = taken_at g h order L x p.contracted lt in (at.0, at.1, at.2, ap (slice_index H.level) (sym at.2) ∙ p.level at.0 at.1)
+  level_of x lt = let at = taken_at g.nodes order x p.contracted.nodes lt in (at.0, at.1, at.2, ap (slice_index H.level) (sym at.2) ∙ p.level at.0 at.1)
 
   -- a leg of the node of step i leads to a node that is contracted later
   leg_up : (i : ℕ) (l : Leg) → i < g.nodes → l.node < g.nodes → l.node ≢ slice_index order i → ((j : ℕ) → j < i → slice_index order j ≡ l.node → ⊥) → l.cost.weight ≤ MOST_WEIGHT → l.cost.arcs < g.nodes → IsLegUp H (slice_index order i) l
@@ -150,7 +150,7 @@ module _ (g : Network) (h : ℕ) (H : LevelsAndLegs) (order : List ℕ) (L : ℕ
   legs_up rows size each = (
     size ∙ sym p.sizes.0,
     λ v. elim (cases_lt v g.nodes) [
-      | inl lt ↦ let at = taken_at g h order L v p.contracted lt in subst (λ z. IsRow (row rows z) × All (IsLegUp H z) (row rows z)) at.2 (each at.0 at.1)
+      | inl lt ↦ let at = taken_at g.nodes order v p.contracted.nodes lt in subst (λ z. IsRow (row rows z) × All (IsLegUp H z) (row rows z)) at.2 (each at.0 at.1)
       | inr past ↦
           let none : row rows v ≡ [] = get_or_past rows v [] (omega arith) in
           subst (λ z. IsRow z × All (IsLegUp H v) z) (sym none) ((λ i j d lt inside. absurd (omega arith)), All-nil (IsLegUp H v))

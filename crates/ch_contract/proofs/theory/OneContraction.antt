@@ -1,5 +1,5 @@
 -- One contraction: each leg that does not touch the node stays or gets cheaper, and so does each light chain.
-use Rattle.std.proofs.Common.{◌≡◌, ℕ, suc, zero, ◌<◌, ◌≤◌, Bool, true, false, cond, List, [], ◌∷◌, length, get_or, Option, Some, None, refl, sym, ◌∙◌, ap, subst, arith, inl, inr}
+use Rattle.std.proofs.Common.{◌≡◌, ℕ, suc, zero, ◌<◌, Bool, true, false, cond, List, [], ◌∷◌, length, get_or, Option, Some, None, refl, sym, ◌∙◌, ap, subst, arith, inl, inr}
 use Rattle.std.specs.Prelude.{◌⊎◌, ◌≢◌, ◌==◌, ◌&&◌, ◌||◌}
 use Rattle.std.specs.List.{AllByRecursion}
 use Rattle.std.proofs.lemmas.Bool.{cases_eq, false≢true}
@@ -7,17 +7,18 @@ use Rattle.std.proofs.lemmas.Bool.Decides.{nat_tests}
 use Rattle.std.proofs.lemmas.Option.{same_Some, none-some}
 use Rattle.ch_graph.specs.declared.cost.Cost.{Cost}
 use Rattle.ch_graph.specs.Cost.{IsAtMost, cost_sum}
-use Rattle.ch_graph.proofs.CostOrder.{IsAtMost_refl, IsAtMost_or_IsBelow, IsBelow-IsAtMost}
+use Rattle.ch_graph.proofs.CostOrder.{IsAtMost_refl}
 use Rattle.ch_graph.proofs.CostSums.{cost_sum_assoc, cost_sum_comm, IsAtMost-cost_sum_self}
 use Rattle.ch_contract.specs.declared.shortcut.Shortcut.{Shortcut}
-use Rattle.ch_contract.specs.Legs.{Label, Legs, IsChain, chain_cost, HasWitness, AreLegsWithin}
-use Rattle.ch_contract.specs.Contraction.{IsShortcut, shortcut_label, leg_after_shortcuts, Contracts}
+use Rattle.ch_contract.specs.Legs.{Label, Legs, IsChain, chain_cost, AreLegsWithin}
+use Rattle.ch_contract.specs.Contraction.{shortcut_label, leg_after_shortcuts}
+use Rattle.ch_contract.specs.Enough.{IsPairThrough, ContractsWithEnough}
 use Rattle.ch_contract.specs.Laws.{LeadsWithin}
 use Rattle.ch_contract.proofs.theory.ReferenceSearch.{witness_or_none, some_of}
 use Rattle.ch_graph.proofs.Numbers.{not_eqb, eqb-refl}
 use Rattle.ch_graph.proofs.Lists.{contains_head, contains_tail}
 use Rattle.ch_contract.proofs.theory.Contracting.{IsOverridden, override_cases}
-use Rattle.ch_contract.proofs.theory.Chains.{HasChain, HasLeg, IsLight, light_left, light_right, chain_cost-cons, chain_cost-one, chain_of_leg, leg_then_chain, chain_then_chain, chain_at_most, no_loop}
+use Rattle.ch_contract.proofs.theory.Chains.{HasChain, HasLeg, IsLight, light_left, light_right, chain_cost-cons, chain_of_leg, leg_then_chain, chain_then_chain, chain_at_most, no_loop}
 
 -- a shortcut in the list is found, it or one of the same pair
 first_or : (v : ℕ) (t : Shortcut) (list : List Shortcut) (u w : ℕ) (before : Option Label) (b : Bool) → (t.from == u && t.to == w) ≡ b → (b ≡ false → IsOverridden v list u w before) → IsOverridden v (t ∷ list) u w before
@@ -38,11 +39,10 @@ override_found v (t ∷ list) (suc k) s before lt e = first_or v t list s.from s
 leads_within : (n : ℕ) (L : Legs) → AreLegsWithin n L → LeadsWithin n L
 leads_within n L within u x some = let l = some_of (L u x) some in (within u x l.0 l.1).ends.1
 
--- M are the legs that contracting v leaves of legs L within the limits of n nodes
+-- M are the legs that contracting v with enough shortcuts leaves of legs L within the limits of n nodes
 pub record IsOneContraction (n h : ℕ) (L : Legs) (v : ℕ) (M : Legs) : Type 0 where
-  pub contracts : Contracts n h L v M
+  pub contracts : ContractsWithEnough n h L v M
   pub within : AreLegsWithin n L
-  pub hops : 1 ≤ h
 
 module _ {n h : ℕ} {L M : Legs} {v : ℕ} (step : IsOneContraction n h L v M) where
   -- away from v, the shortcuts stand in the place of older legs
@@ -62,7 +62,7 @@ module _ {n h : ℕ} {L M : Legs} {v : ℕ} (step : IsOneContraction n h L v M) 
   IsOldOrShortcut x y m = (L x y ≡ Some m) ⊎ ((a b : Label) × (L x v ≡ Some a) × (L v y ≡ Some b) × (m ≡ record { cost = cost_sum a.cost b.cost; middle = Some v }) × IsLight n m.cost × (x ≢ y))
 
   -- a shortcut is the sum of two legs through v
-  shortcut_legs : (x y : ℕ) (m : Label) (s : Shortcut) → s.from ≡ x → s.to ≡ y → Some (shortcut_label v s) ≡ Some m → IsShortcut n h L v s → IsOldOrShortcut x y m
+  shortcut_legs : (x y : ℕ) (m : Label) (s : Shortcut) → s.from ≡ x → s.to ≡ y → Some (shortcut_label v s) ≡ Some m → IsPairThrough n L v s → IsOldOrShortcut x y m
   shortcut_legs x y m s ex ey em is =
       let legs = is.legs in
       let same : shortcut_label v s ≡ m = same_Some _ _ em in
@@ -76,27 +76,14 @@ module _ {n h : ℕ} {L M : Legs} {v : ℕ} (step : IsOneContraction n h L v M) 
       let out = outside x y away.0 away.1 in
       elim (override_cases v step.contracts.0 x y (L x y)) [
         | inl stays ↦ inl (sym (out ∙ stays) ∙ e)
-        | inr r ↦ shortcut_legs x y m r.0 r.2 r.3 (sym (out ∙ r.4) ∙ e) (step.contracts.1.sound r.0 r.1)
+        | inr r ↦ shortcut_legs x y m r.0 r.2 r.3 (sym (out ∙ r.4) ∙ e) (step.contracts.1.pairs r.0 r.1)
       ]
 
-  -- an older leg is a witness against a shortcut that is no cheaper
-  own_witness : (x y : ℕ) (l : Label) (c : Cost) → x ≢ v → y ≢ v → L x y ≡ Some l → IsAtMost l.cost c → HasWitness L v x y c h
-  own_witness x y l c p q e le = let most = step.hops in (y ∷ [], record { chain = (rw e refl, refl); hops = (omega arith, omega arith); away = (p, (q, tt)); cheap = subst (λ z. IsAtMost z c) (sym (chain_cost-one L x y l e)) le })
-
-  -- a leg that does not touch v stays, or a cheaper one stands in its place
+  -- a leg that does not touch v stays, or one that is no dearer stands in its place
   pub leg_kept : (x y : ℕ) (l : Label) → x ≢ v → y ≢ v → L x y ≡ Some l → HasLeg M x y l.cost
   leg_kept x y l p q e = elim (override_cases v step.contracts.0 x y (L x y)) [
     | inl stays ↦ (l, outside x y p q ∙ stays ∙ e, IsAtMost_refl l.cost)
-    | inr r ↦ (
-      shortcut_label v r.0,
-      outside x y p q ∙ r.4,
-      elim (IsAtMost_or_IsBelow l.cost r.0.cost) [
-        | inl le ↦
-            let w : HasWitness L v x y r.0.cost h = own_witness x y l r.0.cost p q e le in
-            absurd ((step.contracts.1.sound r.0 r.1).needed (subst (λ a. HasWitness L v a r.0.to r.0.cost h) (sym r.2) (subst (λ a. HasWitness L v x a r.0.cost h) (sym r.3) w)))
-        | inr lt ↦ IsBelow-IsAtMost r.0.cost l.cost lt
-      ],
-    )
+    | inr r ↦ (shortcut_label v r.0, outside x y p q ∙ r.4, step.contracts.1.no_dearer r.0 l r.1 (ap (λ z. L z r.0.to) r.2 ∙ ap (L x) r.3 ∙ e))
   ]
 
   -- a chain that never touches v stays, or gets cheaper
@@ -108,7 +95,7 @@ module _ {n h : ℕ} {L M : Legs} {v : ℕ} (step : IsOneContraction n h L v M) 
       (leg_then_chain M u x w l.0.cost (chain_cost L x xs) (leg_kept u x l.0 p away.0 l.1) (chain_kept x w xs away.0 away.1 chain.1))
 
   -- the shortcut of a pair costs what the two legs cost
-  shortcut_cost : (s : Shortcut) (u y : ℕ) (a b : Label) → IsShortcut n h L v s → s.from ≡ u → s.to ≡ y → L u v ≡ Some a → L v y ≡ Some b → s.cost ≡ cost_sum a.cost b.cost
+  shortcut_cost : (s : Shortcut) (u y : ℕ) (a b : Label) → IsPairThrough n L v s → s.from ≡ u → s.to ≡ y → L u v ≡ Some a → L v y ≡ Some b → s.cost ≡ cost_sum a.cost b.cost
   shortcut_cost s u y a b is eu ey ea eb =
       let legs = is.legs in
       let sa = same_Some _ _ (sym legs.2 ∙ ap (λ q. L q v) eu ∙ ea) in
@@ -118,7 +105,7 @@ module _ {n h : ℕ} {L M : Legs} {v : ℕ} (step : IsOneContraction n h L v M) 
   -- where the pair is overridden, the shortcut is the chain
   by_shortcut : (u y : ℕ) (a b : Label) → u ≢ v → y ≢ v → L u v ≡ Some a → L v y ≡ Some b → IsOverridden v step.contracts.0 u y (L u y) → HasChain M u y (cost_sum a.cost b.cost)
   by_shortcut u y a b p q ea eb f =
-      chain_of_leg M u y _ (shortcut_label v f.0, outside u y p q ∙ f.4, subst (IsAtMost f.0.cost) (shortcut_cost f.0 u y a b (step.contracts.1.sound f.0 f.1) f.2 f.3 ea eb) (IsAtMost_refl f.0.cost))
+      chain_of_leg M u y _ (shortcut_label v f.0, outside u y p q ∙ f.4, subst (IsAtMost f.0.cost) (shortcut_cost f.0 u y a b (step.contracts.1.pairs f.0 f.1) f.2 f.3 ea eb) (IsAtMost_refl f.0.cost))
 
   -- two legs through v have a shortcut or a witness
   through : (u y : ℕ) (a b : Label) → u ≢ v → y ≢ v → u ≢ y → L u v ≡ Some a → L v y ≡ Some b → IsLight n (cost_sum a.cost b.cost) → HasChain M u y (cost_sum a.cost b.cost)
@@ -126,7 +113,7 @@ module _ {n h : ℕ} {L M : Legs} {v : ℕ} (step : IsOneContraction n h L v M) 
     | inl w ↦ chain_at_most M u y _ _ (chain_kept u y w.0 p w.1.away.1 w.1.chain) w.1.cheap
     | inr none ↦
         let s : Shortcut = record { from = u; to = y; cost = cost_sum a.cost b.cost } in
-        let has = step.contracts.1.whole s (record { apart = ne; legs = (a, b, ea, eb, refl); weight = light.0; arcs = light.1; needed = none }) in
+        let has = step.contracts.1.needed s (record { apart = ne; legs = (a, b, ea, eb, refl); weight = light.0; arcs = light.1; needed = none }) in
         by_shortcut u y a b p q ea eb (override_found v step.contracts.0 has.0 s (L u y) has.1 has.2)
   ]
 

@@ -1,6 +1,6 @@
 -- Two hierarchies that meet the rules for a graph, an order and a bound are equal.
 use Rattle.std.proofs.Common.{◌≡◌, ℕ, suc, zero, ◌+◌, ◌-◌, ◌<◌, ◌≤◌, List, [], length, take, sym, ◌∙◌, ap, subst, arith, inl, inr, Contains}
-use Rattle.std.specs.Prelude.{◌≢◌, AllPairs, slice_index, ℤ, ◌≤ℤ◌}
+use Rattle.std.specs.Prelude.{◌≢◌, All, AllPairs, slice_index, ℤ, ◌≤ℤ◌}
 use Rattle.std.proofs.lemmas.Bool.{cases_eq, cases_lt, false≢true}
 use Rattle.std.proofs.lemmas.List.{same_lists, get_or_default, get_or-take, length-take}
 use Rattle.std.proofs.lemmas.Grind.{same_number_lists}
@@ -156,10 +156,10 @@ module _ (by : OrderBy) (g : Network) (h : ℕ) (order : List ℕ) (L : ℕ → 
           }
 
 -- each node is taken at some step
-pub taken_at : (g : Network) (h : ℕ) (order : List ℕ) (L : ℕ → Legs) (x : ℕ) → AreContracted g h order L → x < g.nodes → (i : ℕ) × (i < g.nodes) × (slice_index order i ≡ x)
-taken_at g h order L x p lt =
-    let size = p.nodes.0 in
-    let c = every_number order g.nodes x size p.nodes.1 p.nodes.2 lt in
+pub taken_at : (n : ℕ) (order : List ℕ) (x : ℕ) → (length order ≡ n) × All (λ v. v < n) order × AllPairs ◌≢◌ order → x < n → (i : ℕ) × (i < n) × (slice_index order i ≡ x)
+taken_at n order x nodes lt =
+    let size = nodes.0 in
+    let c = every_number order n x size nodes.1 nodes.2 lt in
     let within = c.1 in
     (c.0, omega arith, get_or_default order c.0 0 x within ∙ c.2)
 
@@ -176,7 +176,7 @@ module _ (by : OrderBy) (g : Network) (h : ℕ) (H K : LevelsAndLegs) (order : L
   levels : H.level ≡ K.level
   levels = same_number_lists H.level K.level (p.sizes.0 ∙ sym q.sizes.0) (λ x lt.
       let size = p.sizes.0 in
-      let at = taken_at g h order L x p.contracted (omega arith) in
+      let at = taken_at g.nodes order x p.contracted.nodes (omega arith) in
       ap (slice_index H.level) (sym at.2) ∙ p.level at.0 at.1 ∙ sym (q.level at.0 at.1) ∙ ap (slice_index K.level) (sym (all.nodes at.0 at.1) ∙ at.2))
 
   -- and so are rows of the legs before each step, or of these turned round
@@ -184,7 +184,7 @@ module _ (by : OrderBy) (g : Network) (h : ℕ) (H K : LevelsAndLegs) (order : L
       ((i : ℕ) → i < g.nodes → AreLegsFrom (turn (L i)) (slice_index order i) (row xs (slice_index order i))) →
       ((i : ℕ) → i < g.nodes → AreLegsFrom (turn (M i)) (slice_index other i) (row ys (slice_index other i))) → xs ≡ ys
   rows_agree turn xs ys a b ours theirs = same_rows g.nodes xs ys a b (λ x lt.
-      let at = taken_at g h order L x p.contracted lt in
+      let at = taken_at g.nodes order x p.contracted.nodes lt in
       let one = subst (λ v. AreLegsFrom (turn (L at.0)) v (row xs v)) at.2 (ours at.0 at.1) in
       let two = subst (λ (N : Legs). AreLegsFrom (turn N) x (row ys x)) (sym (all.legs at.0 (omega (arith, at.1)))) (subst (λ v. AreLegsFrom (turn (M at.0)) v (row ys v)) (sym (all.nodes at.0 at.1) ∙ at.2) (theirs at.0 at.1)) in
       one_row (turn (L at.0) x) (row xs x) (row ys x) one.0 two.0 one.1 two.1)

@@ -7,8 +7,8 @@ use Rattle.ch_graph.specs.Cost.{cost_sum}
 use Rattle.ch_graph.specs.Graph.{Network, IsWithinLimits}
 use Rattle.ch_graph.specs.WalkLaws.{IsWalkCost}
 use Rattle.ch_graph.proofs.WalkCosts.{IsWalkCost-arc, IsWalkCost-cost_sum}
-use Rattle.ch_contract.specs.Legs.{Label, Legs, SameLegs, IsLegWithin, IsHopBound, opening}
-use Rattle.ch_contract.specs.Contraction.{Contracts}
+use Rattle.ch_contract.specs.Legs.{Label, Legs, SameLegs, IsLegWithin, opening}
+use Rattle.ch_contract.specs.Enough.{ContractsWithEnough}
 use Rattle.ch_contract.proofs.theory.Chains.{IsLight}
 use Rattle.ch_contract.proofs.theory.OpeningLegs.{arc, opening_leg, opening_within}
 use Rattle.ch_contract.proofs.theory.OneContraction.{IsOneContraction, old_or_shortcut, untouched}
@@ -30,12 +30,11 @@ made_later : (g : Network) (order : List ℕ) (L : ℕ → Legs) (i u w : ℕ) (
 made_later g order L i u w c None h = h
 made_later g order L i u w c (Some v) h = (h.0, omega (arith, h.1), h.2, h.3, h.4, h.5, h.6, h.7)
 
--- of a graph within the limits, the first m nodes of this order are contracted, one after the other
+-- of a graph within the limits, the first m nodes of this order are contracted, one after the other, each with shortcuts that are enough
 pub record IsContraction (g : Network) (h : ℕ) (order : List ℕ) (L : ℕ → Legs) (m : ℕ) : Type 0 where
   pub limits : IsWithinLimits g
-  pub hops : IsHopBound h
   pub start : SameLegs (L 0) (opening g)
-  pub step : (i : ℕ) → i < m → Contracts g.nodes h (L i) (slice_index order i) (L (i + 1))
+  pub step : (i : ℕ) → i < m → ContractsWithEnough g.nodes h (L i) (slice_index order i) (L (i + 1))
 
 module _ {g : Network} {h : ℕ} {order : List ℕ} {L : ℕ → Legs} {m : ℕ} (all : IsContraction g h order L m) where
   -- each leg after i steps is so
@@ -45,9 +44,8 @@ module _ {g : Network} {h : ℕ} {order : List ℕ} {L : ℕ → Legs} {m : ℕ}
   -- the step between, where what holds of legs before it is known
   step_from : (i : ℕ) → i < m → AreStepLegs i → IsOneContraction g.nodes h (L i) (slice_index order i) (L (suc i))
   step_from i lt before = record {
-    contracts = subst (λ k. Contracts g.nodes h (L i) (slice_index order i) (L k)) (add-one i) (all.step i lt);
+    contracts = subst (λ k. ContractsWithEnough g.nodes h (L i) (slice_index order i) (L k)) (add-one i) (all.step i lt);
     within = λ u w l e. (before u w l e).within;
-    hops = all.hops.0;
   }
 
   -- before the first step

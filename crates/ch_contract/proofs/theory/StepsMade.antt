@@ -13,7 +13,9 @@ use Rattle.ch_contract.specs.LegRows.{AreLegsFrom, AreLegsTo}
 use Rattle.ch_hierarchy.specs.Hierarchy.{LevelsAndLegs, IsLevelled}
 use Rattle.ch_contract.specs.Built.{IsHierarchyOf, IsHierarchyBy}
 use Rattle.ch_contract.specs.Progress.{Progress, HasPriority, IsNext, IsOpen, IsStep, AreAll}
+use Rattle.ch_contract.proofs.theory.Contracting.{pairs_by_needed}
 use Rattle.ch_contract.proofs.theory.Levelled.{within_steps, gone_steps, levelled}
+use Rattle.ch_contract.proofs.theory.Enough.{hierarchy_with_pairs}
 use Rattle.ch_contract.proofs.theory.OneOrder.{one_map}
 use Rattle.ch_contract.proofs.theory.OrderSteps.{IsBegun, then_legs, next, begun_fewer, begun_more, begun_none, begun_all}
 use Rattle.ch_contract.proofs.theory.Depths.{depth_most, depth_more}
@@ -79,7 +81,7 @@ module _ (by : OrderBy) (g : Network) (h : ℕ) (order : List ℕ) (L : ℕ → 
   none_earlier x has =
       let n : ℕ = length order in
       let at : slice_index order has.0 ≡ x = get_or_default order has.0 0 x has.1 ∙ has.2 in
-      let gone = gone_steps g.nodes h n order L u.begun.step has.0 n has.1 (omega arith) v in
+      let gone = gone_steps g.nodes n order L (λ i lt. pairs_by_needed g.nodes h _ _ _ (u.begun.step i lt)) has.0 n has.1 (omega arith) v in
       subst (λ z. are_neighbours (L n) v z ≡ false) at (λ i. is_some (gone.1 i) || is_some (gone.0 i))
 
   -- a step keeps what is kept
@@ -149,11 +151,11 @@ steps_within by g h p u =
     let a = u.after in
     let n : ℕ = length u.order in
     let start = subst (AreLegsWithin g.nodes) (sym (one_map (u.L 0) (opening g) a.begun.start)) a.limits in
-    subst (AreLegsWithin g.nodes) (one_map (u.L n) p.legs a.legs) (within_steps g.nodes h n u.order u.L start a.begun.step n (omega arith))
+    subst (AreLegsWithin g.nodes) (one_map (u.L n) p.legs a.legs) (within_steps g.nodes n u.order u.L start (λ i lt. pairs_by_needed g.nodes h _ _ _ (a.begun.step i lt)) n (omega arith))
 
 -- once no node is left, the levels and rows are the hierarchy
 pub steps_at_end : (by : OrderBy) (g : Network) (h : ℕ) (p : Progress) → IsAfterSomeSteps by g h p → HasNone p.keys → (H : LevelsAndLegs) → AreAll g.nodes p H → IsHierarchyBy by g h H
 steps_at_end by g h p u none H all = (u.order, u.L, after_all by g h u.order u.L p u.after none H all, (order_of by g h u.order u.L p u.after none).least)
 
 pub steps_levelled : (by : OrderBy) (g : Network) (h : ℕ) (p : Progress) → IsAfterSomeSteps by g h p → HasNone p.keys → g.nodes ≤ MOST_NODES → (H : LevelsAndLegs) → AreAll g.nodes p H → IsLevelled H
-steps_levelled by g h p u none count H all = levelled g h H u.order u.L (after_all by g h u.order u.L p u.after none H all) count u.after.limits
+steps_levelled by g h p u none count H all = levelled g H u.order u.L (hierarchy_with_pairs g h H u.order u.L (after_all by g h u.order u.L p u.after none H all)) count u.after.limits

@@ -1,0 +1,5 @@
+use Rattle.ch_contract.proofs.theory.BuiltKept.{hierarchies_with_enough_kept}
+use Rattle.ch_contract.proofs.laws.keeping.hierarchies_with_enough_are_kept.Goals as goal
+
+pub returns : goal.returns
+returns c = hierarchies_with_enough_kept

@@ -1,0 +1,73 @@
+-- Contraction is a case of contraction with shortcuts that are enough.
+use Rattle.std.proofs.Common.{◌≡◌, ℕ, ◌+◌, ◌<◌, ◌≤◌, List, [], ◌∷◌, Some, refl, sym, subst, arith, inl, inr}
+use Rattle.std.specs.Prelude.{◌≢◌, slice_index}
+use Rattle.ch_graph.specs.declared.cost.Cost.{Cost}
+use Rattle.ch_graph.specs.Cost.{IsAtMost}
+use Rattle.ch_graph.specs.Graph.{Network, IsWithinLimits}
+use Rattle.ch_graph.proofs.CostOrder.{IsAtMost_or_IsBelow, IsBelow-IsAtMost}
+use Rattle.ch_hierarchy.specs.Hierarchy.{LevelsAndLegs}
+use Rattle.ch_contract.specs.declared.shortcut.Shortcut.{Shortcut}
+use Rattle.ch_contract.specs.Legs.{Label, Legs, HasWitness, IsHopBound, AreLegsWithin, opening}
+use Rattle.ch_contract.specs.Contraction.{AreShortcuts, Contracts}
+use Rattle.ch_contract.specs.Enough.{AreEnough, ContractsWithEnough}
+use Rattle.ch_contract.specs.Order.{AreTaken, AreContracted}
+use Rattle.ch_contract.specs.Built.{IsHierarchyIn, IsHierarchyOf}
+use Rattle.ch_contract.proofs.theory.OpeningLegs.{opening_within}
+use Rattle.ch_contract.proofs.theory.OneOrder.{one_map}
+use Rattle.ch_contract.proofs.theory.Chains.{chain_cost-one}
+use Rattle.ch_contract.proofs.theory.Contracting.{ContractsWithPairs, pairs_of_shortcuts, pairs_by_needed, off}
+use Rattle.ch_contract.proofs.theory.Levelled.{within_steps}
+
+-- a leg is a witness against a shortcut that is no cheaper
+pub own_witness : (h : ℕ) (L : Legs) (v x y : ℕ) (l : Label) (c : Cost) → 1 ≤ h → x ≢ v → y ≢ v → L x y ≡ Some l → IsAtMost l.cost c → HasWitness L v x y c h
+own_witness h L v x y l c most p q e le = (y ∷ [], record { chain = (rw e refl, refl); hops = (omega arith, omega arith); away = (p, (q, tt)); cheap = subst (λ z. IsAtMost z c) (sym (chain_cost-one L x y l e)) le })
+
+-- the shortcuts of a node are enough
+needed_are_enough : (n h : ℕ) (L : Legs) (v : ℕ) (list : List Shortcut) → 1 ≤ h → AreLegsWithin n L → AreShortcuts n h L v list → AreEnough n h L v list
+needed_are_enough n h L v list most limits are = record {
+  pairs = pairs_of_shortcuts n h L v list are;
+  no_dearer = λ s l c e. elim (IsAtMost_or_IsBelow l.cost s.cost) [
+    | inl le ↦
+        let away = off n L v list limits (pairs_of_shortcuts n h L v list are) s c in
+        absurd ((are.sound s c).needed (own_witness h L v s.from s.to l s.cost most away.0 away.1 e le))
+    | inr lt ↦ IsBelow-IsAtMost s.cost l.cost lt
+  ];
+  needed = are.whole;
+}
+
+-- so contraction is contraction with shortcuts that are enough
+pub enough_by_needed : (n h : ℕ) (L : Legs) (v : ℕ) (M : Legs) → 1 ≤ h → AreLegsWithin n L → Contracts n h L v M → ContractsWithEnough n h L v M
+enough_by_needed n h L v M most limits c = (c.0, needed_are_enough n h L v c.0 most limits c.1, c.2)
+
+-- steps of one kind that are steps of another
+pub hierarchy_by : (IsStep IsOther : Legs → ℕ → Legs → Type 0) (g : Network) (H : LevelsAndLegs) (order : List ℕ) (L : ℕ → Legs) → IsHierarchyIn IsStep g H order L →
+    ((i : ℕ) → i < g.nodes → IsStep (L i) (slice_index order i) (L (i + 1)) → IsOther (L i) (slice_index order i) (L (i + 1))) → IsHierarchyIn IsOther g H order L
+hierarchy_by IsStep IsOther g H order L p f = record {
+  contracted = record { nodes = p.contracted.nodes; start = p.contracted.start; step = λ i lt. f i lt (p.contracted.step i lt) };
+  sizes = p.sizes;
+  level = p.level;
+  up = p.up;
+  down = p.down;
+}
+
+-- a hierarchy of contracted nodes is one of nodes that are contracted with pairs
+pub hierarchy_with_pairs : (g : Network) (h : ℕ) (H : LevelsAndLegs) (order : List ℕ) (L : ℕ → Legs) → IsHierarchyOf g h H order L → IsHierarchyIn (ContractsWithPairs g.nodes) g H order L
+hierarchy_with_pairs g h H order L p = hierarchy_by (Contracts g.nodes h) (ContractsWithPairs g.nodes) g H order L p (λ i lt. pairs_by_needed g.nodes h _ _ _)
+
+-- the legs before each contraction of a graph within the limits are within the limits
+contracted_limits : (g : Network) (h : ℕ) (order : List ℕ) (L : ℕ → Legs) → IsWithinLimits g → AreContracted g h order L → (i : ℕ) → i ≤ g.nodes → AreLegsWithin g.nodes (L i)
+contracted_limits g h order L limits p =
+    let start = subst (AreLegsWithin g.nodes) (sym (one_map (L 0) (opening g) p.start)) (opening_within g limits) in
+    within_steps g.nodes g.nodes order L start (λ i lt. pairs_by_needed g.nodes h _ _ _ (p.step i lt))
+
+-- each of them is a contraction with shortcuts that are enough
+enough_at : (g : Network) (h : ℕ) (order : List ℕ) (L : ℕ → Legs) → IsWithinLimits g → IsHopBound h → AreContracted g h order L → (i : ℕ) → i < g.nodes → ContractsWithEnough g.nodes h (L i) (slice_index order i) (L (i + 1))
+enough_at g h order L limits hops p i lt = enough_by_needed g.nodes h (L i) (slice_index order i) (L (i + 1)) hops.0 (contracted_limits g h order L limits p i (omega arith)) (p.step i lt)
+
+-- so is the contraction of all nodes
+pub taken_with_enough : (g : Network) (h : ℕ) (order : List ℕ) (L : ℕ → Legs) → IsWithinLimits g → IsHopBound h → AreContracted g h order L → AreTaken (ContractsWithEnough g.nodes h) g order L
+taken_with_enough g h order L limits hops p = record { nodes = p.nodes; start = p.start; step = enough_at g h order L limits hops p }
+
+-- and the hierarchy that it leaves
+pub hierarchy_with_enough : (g : Network) (h : ℕ) (H : LevelsAndLegs) (order : List ℕ) (L : ℕ → Legs) → IsWithinLimits g → IsHopBound h → IsHierarchyOf g h H order L → IsHierarchyIn (ContractsWithEnough g.nodes h) g H order L
+hierarchy_with_enough g h H order L limits hops p = hierarchy_by (Contracts g.nodes h) (ContractsWithEnough g.nodes h) g H order L p (λ i lt c. enough_at g h order L limits hops p.contracted i lt)
