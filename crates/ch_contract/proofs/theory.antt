@@ -8,6 +8,9 @@ pub mod OneContraction
 pub mod Opening
 pub mod OpeningLegs
 pub mod StepLegs
+pub mod RoundLegs
+pub mod Rounds
+pub mod Turns
 pub mod KeptCosts
 pub mod BuiltLegs
 pub mod BuiltKept

@@ -23,6 +23,9 @@ pub mod Measures
 pub mod Progress
 pub mod Construction
 pub mod Keeping
+pub mod Rounds
+pub mod RoundOrder
+pub mod RoundLaws
 pub mod HeldCosts
 pub mod KnownCosts
 pub mod LegLists

@@ -3,4 +3,5 @@
 pub mod keeping;
 pub mod one_order;
 pub mod reference;
+pub mod rounds;
 pub mod worked;

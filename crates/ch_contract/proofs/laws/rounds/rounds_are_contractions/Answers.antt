@@ -1,0 +1,5 @@
+use Rattle.ch_contract.proofs.theory.Rounds.{rounds_are_contractions}
+use Rattle.ch_contract.proofs.laws.rounds.rounds_are_contractions.Goals as goal
+
+pub returns : goal.returns
+returns c = rounds_are_contractions

@@ -1,0 +1,16 @@
+-- What rounds are, and what they keep.
+use Rattle.std.specs.Prelude.{ℕ, List}
+use Rattle.ch_graph.specs.Graph.{Network, IsWithinLimits}
+use Rattle.ch_hierarchy.specs.Hierarchy.{LevelsAndLegs}
+use Rattle.ch_hierarchy.specs.Kept.{IsKept}
+use Rattle.ch_contract.specs.Legs.{Legs, AreLegsWithin, IsHopBound}
+use Rattle.ch_contract.specs.Rounds.{AreApart, ContractsRound, TakesInTurn, IsStepOfRound}
+use Rattle.ch_contract.specs.RoundOrder.{IsHierarchyByRounds}
+
+-- a round of nodes of which no two lie within two legs is their contraction one after the other with shortcuts that are enough, and each of them has until then the legs that it had before the round
+abbrev pub RoundsAreContractions : Type 0
+RoundsAreContractions = (n h : ℕ) (L : Legs) (nodes : List ℕ) (M : Legs) → IsHopBound h → AreLegsWithin n L → AreApart L nodes → ContractsRound n h L nodes M → TakesInTurn (IsStepOfRound n h L) L nodes M
+
+-- a hierarchy by rounds is right for its graph, whatever the bound on hops
+abbrev pub HierarchiesByRoundsAreKept : Type 0
+HierarchiesByRoundsAreKept = (g : Network) (h : ℕ) (H : LevelsAndLegs) → IsWithinLimits g → IsHopBound h → IsHierarchyByRounds g h H → IsKept g H

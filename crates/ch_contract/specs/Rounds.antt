@@ -1,0 +1,77 @@
+-- A round of contraction: nodes that are far enough apart are contracted together.
+use Rattle.std.specs.Prelude.{◌≡◌, ◌≢◌, ℕ, ◌*◌, ◌%◌, ◌^◌, ◌<◌, ◌≤◌, ◌==◌, ◌||◌, ◌⊎◌, Bool, true, if◌then◌else◌, List, [], ◌∷◌, AllPairs, Contains, None, ℤ, ◌≤ℤ◌}
+use Rattle.std.specs.List.{list_any}
+use Rattle.ch_contract.specs.declared.shortcut.Shortcut.{Shortcut}
+use Rattle.ch_contract.specs.Legs.{Legs, SameLegs, HasWitness}
+use Rattle.ch_contract.specs.Contraction.{IsPairBefore, leg_after_shortcuts}
+use Rattle.ch_contract.specs.Enough.{IsPairThrough, ContractsWithEnough}
+use Rattle.ch_contract.specs.Order.{are_neighbours, next_depth}
+
+-- what decides between nodes of equal keys: the number mixed, so that nodes in a row are not taken one after the other from one end
+abbrev pub mixed_number : ℕ → ℕ
+mixed_number v = v * 2654435769 % 2 ^ 32
+
+-- v comes before x, where p is v's key and q is x's: the lesser key comes first, of equal ones the lesser mixed number, and of equal ones the lesser number
+abbrev pub ComesBefore : ℤ → ℕ → ℤ → ℕ → Type 0
+ComesBefore p v q x = (p ≤ℤ q) × (q ≤ℤ p → (mixed_number v ≤ mixed_number x) × (mixed_number x ≤ mixed_number v → v ≤ x))
+
+-- x is a neighbour of v, or a neighbour of one
+abbrev pub IsWithinTwoLegs : Legs → ℕ → ℕ → Type 0
+IsWithinTwoLegs L v x = (are_neighbours L v x ≡ true) ⊎ ((y : ℕ) × (are_neighbours L v y ≡ true) × (are_neighbours L y x ≡ true))
+
+-- v comes before each other node within two legs, where this says which number is the key of a node
+abbrev pub IsFirstAround : (ℕ → ℤ → Type 0) → Legs → ℕ → Type 0
+IsFirstAround IsKey L v = (x : ℕ) → x ≢ v → IsWithinTwoLegs L v x → (p q : ℤ) × IsKey v p × IsKey x q × ComesBefore p v q x
+
+-- the nodes of a round, in order of number: those of the nodes that are left that come before each other node within two legs
+pub record IsRound (IsKey : ℕ → ℤ → Type 0) (IsLeft : ℕ → Type 0) (L : Legs) (nodes : List ℕ) : Type 0 where
+  pub ordered : AllPairs ◌<◌ nodes
+  pub sound : (v : ℕ) → Contains nodes v → IsLeft v × IsFirstAround IsKey L v
+  pub whole : (v : ℕ) → IsLeft v → IsFirstAround IsKey L v → Contains nodes v
+
+-- whether v is one of these nodes
+abbrev pub is_one_of : List ℕ → ℕ → Bool
+is_one_of nodes v = list_any (λ x. v == x) nodes
+
+-- the legs that touch none of these nodes
+abbrev pub legs_away : List ℕ → Legs → Legs
+legs_away nodes L u w = if is_one_of nodes u || is_one_of nodes w then None else L u w
+
+-- a pair of legs through v, a node of the round, without a witness of at most h legs that touches no node of the round
+pub record IsRoundShortcut (n h : ℕ) (L : Legs) (nodes : List ℕ) (v : ℕ) (s : Shortcut) : Type 0 where
+  pub pair : IsPairThrough n L v s
+  pub needed : HasWitness (legs_away nodes L) v s.from s.to s.cost h → ⊥
+
+-- the shortcuts of v in the round, in order, each pair of nodes once
+pub record AreRoundShortcuts (n h : ℕ) (L : Legs) (nodes : List ℕ) (v : ℕ) (list : List Shortcut) : Type 0 where
+  pub ordered : AllPairs IsPairBefore list
+  pub sound : (s : Shortcut) → Contains list s → IsRoundShortcut n h L nodes v s
+  pub whole : (s : Shortcut) → IsRoundShortcut n h L nodes v s → Contains list s
+
+-- the legs after the shortcuts of these nodes are put in, those of one node after those of the other
+abbrev pub legs_with_shortcuts : List ℕ → (ℕ → List Shortcut) → Legs → Legs
+legs_with_shortcuts [] lists L = L
+legs_with_shortcuts (v ∷ nodes) lists L = legs_with_shortcuts nodes lists (λ u w. leg_after_shortcuts v (lists v) u w (L u w))
+
+-- M are the legs that are left of L by a round of these nodes: all their legs are taken out, and the shortcuts of each are put in
+abbrev pub ContractsRound : ℕ → ℕ → Legs → List ℕ → Legs → Type 0
+ContractsRound n h L nodes M = (lists : ℕ → List Shortcut) × ((v : ℕ) → Contains nodes v → AreRoundShortcuts n h L nodes v (lists v)) × SameLegs M (legs_with_shortcuts nodes lists (legs_away nodes L))
+
+-- the depths after a round of these nodes: each neighbour of one lies at least one deeper than it
+abbrev pub depth_after_round : Legs → List ℕ → (ℕ → ℕ) → ℕ → ℕ
+depth_after_round L [] depth x = depth x
+depth_after_round L (v ∷ nodes) depth x = depth_after_round L nodes (next_depth L v depth) x
+
+-- different nodes of which no two lie within two legs
+pub record AreApart (L : Legs) (nodes : List ℕ) : Type 0 where
+  pub distinct : AllPairs ◌≢◌ nodes
+  pub apart : (v x : ℕ) → Contains nodes v → Contains nodes x → v ≢ x → IsWithinTwoLegs L v x → ⊥
+
+-- L becomes M where these nodes are taken one after the other, each by such a step
+abbrev pub TakesInTurn : (Legs → ℕ → Legs → Type 0) → Legs → List ℕ → Legs → Type 0
+TakesInTurn IsStep L [] M = SameLegs L M
+TakesInTurn IsStep L (v ∷ nodes) M = (N : Legs) × IsStep L v N × TakesInTurn IsStep N nodes M
+
+-- v is contracted with shortcuts that are enough, and up to then it has the legs that it had before the round
+abbrev pub IsStepOfRound : ℕ → ℕ → Legs → Legs → ℕ → Legs → Type 0
+IsStepOfRound n h L K v N = ContractsWithEnough n h K v N × ((x : ℕ) → (K v x ≡ L v x) × (K x v ≡ L x v))
