@@ -11,6 +11,7 @@ pub mod StepLegs
 pub mod RoundLegs
 pub mod Rounds
 pub mod Turns
+pub mod RoundOrders
 pub mod KeptCosts
 pub mod BuiltLegs
 pub mod BuiltKept

@@ -1,8 +1,14 @@
 //! What contraction by rounds is and keeps, each the contract of a function that does nothing.
-ghost use Rattle.ch_contract.specs.RoundLaws.{RoundsAreContractions};
+ghost use Rattle.ch_contract.specs.RoundLaws.{RoundsAreContractions, HierarchiesByRoundsAreKept};
 
 /// A round of nodes of which no two lie within two legs is their contraction one after the other, with shortcuts
 /// that are enough.
 pub fn rounds_are_contractions()
     ensures { RoundsAreContractions }
+{}
+
+/// The hierarchy by rounds of a graph within the limits is kept for the graph, for each bound on hops from 1 to
+/// [`MOST_HOPS`](ch_graph::limits::MOST_HOPS).
+pub fn hierarchies_by_rounds_are_kept()
+    ensures { HierarchiesByRoundsAreKept }
 {}

@@ -1,0 +1,5 @@
+use Rattle.ch_contract.proofs.theory.RoundOrders.{hierarchies_by_rounds_kept}
+use Rattle.ch_contract.proofs.laws.rounds.hierarchies_by_rounds_are_kept.Goals as goal
+
+pub returns : goal.returns
+returns c = hierarchies_by_rounds_kept

@@ -1,0 +1,194 @@
+-- A hierarchy by rounds is one of nodes that are contracted one after the other, with shortcuts that are enough.
+use Rattle.std.proofs.Common.{◌≡◌, ℕ, zero, suc, ◌+◌, ◌<◌, ◌≤◌, Bool, true, false, List, [], ◌∷◌, ◌++◌, length, Contains, append-nil, append_assoc, refl, sym, ◌∙◌, ap, subst, arith, add-one, inl, inr}
+use Rattle.std.specs.Prelude.{◌≢◌, ◌||◌, All, AllPairs, is_some, slice_index, slice_index_or, ℤ, ◌≤ℤ◌}
+use Rattle.std.specs.List.{concat}
+use Rattle.std.proofs.lemmas.Bool.{cases_lt, false≢true}
+use Rattle.std.proofs.lemmas.List.{take_all}
+use Rattle.std.proofs.lemmas.List.Elements.{Contains-get_or, Contains-append_cases}
+use Rattle.ch_graph.specs.Graph.{Network, IsWithinLimits}
+use Rattle.ch_graph.proofs.Lists.{pairs_append, contains_none}
+use Rattle.ch_hierarchy.specs.Hierarchy.{LevelsAndLegs}
+use Rattle.ch_hierarchy.specs.Rows.{row}
+use Rattle.ch_hierarchy.proofs.theory.Ordered.{distinct_most, whole_least}
+use Rattle.ch_contract.specs.declared.measure.OrderBy.TheVariants.{Depth}
+use Rattle.ch_contract.specs.Legs.{Legs, SameLegs, AreLegsWithin, IsHopBound, opening}
+use Rattle.ch_contract.specs.LegRows.{AreLegsFrom, AreLegsTo}
+use Rattle.ch_contract.specs.Contraction.{AreShortcuts, key_by, count_touching}
+use Rattle.ch_contract.specs.Enough.{ContractsWithEnough}
+use Rattle.ch_contract.specs.Order.{are_neighbours}
+use Rattle.ch_contract.specs.Built.{IsHierarchyIn}
+use Rattle.ch_contract.specs.Rounds.{ComesBefore, IsWithinTwoLegs, IsRound, AreApart, TakesInTurn, IsStepOfRound}
+use Rattle.ch_contract.specs.RoundOrder.{round_at, nodes_before, depth_before, IsLastCount, IsKeyAfter, IsLeftAfter, AreRounds, IsHierarchyOfRounds}
+use Rattle.ch_contract.specs.RoundLaws.{HierarchiesByRoundsAreKept}
+use Rattle.ch_contract.proofs.theory.OpeningLegs.{opening_within}
+use Rattle.ch_contract.proofs.theory.OneOrder.{one_map, one_list}
+use Rattle.ch_contract.proofs.theory.Contracting.{pairs_by_enough}
+use Rattle.ch_contract.proofs.theory.Rounds.{rounds_are_contractions}
+use Rattle.ch_contract.proofs.theory.Turns.{turns_map, turns_append, turns_within, legs_at, legs_first, step_of}
+use Rattle.ch_contract.proofs.theory.BuiltKept.{hierarchies_with_enough_kept}
+
+-- the shortcuts of a node were counted last at one time
+not_counted_later : (n : ℕ) (rounds : List (List ℕ)) (L : ℕ → Legs) (r x j k : ℕ) → IsLastCount n rounds L r x j → IsLastCount n rounds L r x k → k ≤ j
+not_counted_later n rounds L r x j k p q = elim (cases_lt j k) [
+  | inl lt ↦ absurd (false≢true (sym (p.later k lt q.within) ∙ q.counted))
+  | inr le ↦ le
+]
+
+-- so after some rounds a node has one key
+pub one_key : (n h : ℕ) (rounds : List (List ℕ)) (L : ℕ → Legs) (r x : ℕ) (p q : ℤ) → IsKeyAfter n h rounds L r x p → IsKeyAfter n h rounds L r x q → p ≡ q
+one_key n h rounds L r x p q a b =
+    let le = not_counted_later n rounds L r x a.0 b.0 a.2 b.2 in
+    let ge = not_counted_later n rounds L r x b.0 a.0 b.2 a.2 in
+    let same : a.0 ≡ b.0 = omega arith in
+    let list = one_list n h (L b.0) x a.1 b.1 (subst (λ j. AreShortcuts n h (L j) x a.1) same a.3) b.3 in
+    a.4 ∙ ap (λ l. key_by Depth (length l) (count_touching n (L r) x) (depth_before rounds L r x)) list ∙ sym b.4
+
+-- of two numbers that come before each other, in an order by three
+both_before : (p q : ℤ) (a b v x : ℕ) → (p ≤ℤ q) × (q ≤ℤ p → (a ≤ b) × (b ≤ a → v ≤ x)) → (q ≤ℤ p) × (p ≤ℤ q → (b ≤ a) × (a ≤ b → x ≤ v)) → v ≡ x
+both_before p q a b v x h k =
+    let f = h.1 k.0 in
+    let g = k.1 h.0 in
+    let le = f.1 g.0 in
+    let ge = g.1 f.0 in
+    omega arith
+
+-- neighbours are so of each other
+neighbours_flip : (L : Legs) (v x : ℕ) → are_neighbours L v x ≡ are_neighbours L x v
+neighbours_flip L v x = at (is_some (L v x)) (is_some (L x v))
+  where
+    at : (a b : Bool) → (a || b) ≡ (b || a)
+    at true true = refl
+    at true false = refl
+    at false true = refl
+    at false false = refl
+
+-- and so are nodes within two legs
+within_flip : (L : Legs) (v x : ℕ) → IsWithinTwoLegs L v x → IsWithinTwoLegs L x v
+within_flip L v x near = elim near [
+  | inl one ↦ inl (neighbours_flip L x v ∙ one)
+  | inr two ↦ inr (two.0, neighbours_flip L x two.0 ∙ two.2, neighbours_flip L two.0 v ∙ two.1)
+]
+
+-- the nodes of a round are apart, where each has one key
+round_apart : (IsKey : ℕ → ℤ → Type 0) (IsLeft : ℕ → Type 0) (L : Legs) (nodes : List ℕ) → ((x : ℕ) (p q : ℤ) → IsKey x p → IsKey x q → p ≡ q) → IsRound IsKey IsLeft L nodes → AreApart L nodes
+round_apart IsKey IsLeft L nodes one round = record {
+  distinct = λ i j d lt inside e. let before = round.ordered i j d lt inside in omega arith;
+  apart = λ v x p q ne near.
+      let a = (round.sound v p).1 x (λ e. ne (sym e)) near in
+      let b = (round.sound x q).1 v ne (within_flip L v x near) in
+      let first : b.0 ≡ a.1 = one x b.0 a.1 b.2 a.3 in
+      let second : b.1 ≡ a.0 = one v b.1 a.0 b.3 a.2 in
+      let back : ComesBefore a.1 x a.0 v = subst (λ z. ComesBefore z x a.0 v) first (subst (λ z. ComesBefore b.0 x z v) second b.4) in
+      ne (both_before a.0 a.1 _ _ v x a.4 back);
+}
+
+-- one more round
+before_next : (rounds : List (List ℕ)) (r : ℕ) → r < length rounds → nodes_before rounds (suc r) ≡ nodes_before rounds r ++ round_at rounds r
+before_next [] r lt = absurd (omega arith)
+before_next (x ∷ rounds) zero lt = append-nil x
+before_next (x ∷ rounds) (suc r) lt = ap (λ l. x ++ l) (before_next rounds r (omega arith)) ∙ sym (append_assoc x (nodes_before rounds r) (round_at rounds r))
+
+module _ {g : Network} {h : ℕ} {rounds : List (List ℕ)} {L : ℕ → Legs} (limits : IsWithinLimits g) (hops : IsHopBound h) (are : AreRounds g h rounds L) where
+  -- a round within the limits is contractions one after the other
+  turn : (r : ℕ) → r < length rounds → AreLegsWithin g.nodes (L r) → TakesInTurn (IsStepOfRound g.nodes h (L r)) (L r) (round_at rounds r) (L (suc r))
+  turn r lt within =
+      let apart = round_apart _ _ (L r) (round_at rounds r) (one_key g.nodes h rounds L r) (are.round r lt) in
+      subst (λ k. TakesInTurn (IsStepOfRound g.nodes h (L r)) (L r) (round_at rounds r) (L k)) (add-one r) (rounds_are_contractions g.nodes h (L r) (round_at rounds r) (L (r + 1)) hops within apart (are.legs r lt))
+
+  -- the legs after each round are within the limits
+  pub within_rounds : (r : ℕ) → r ≤ length rounds → AreLegsWithin g.nodes (L r)
+  within_rounds zero le = subst (AreLegsWithin g.nodes) (sym (one_map (L 0) (opening g) are.start)) (opening_within g limits)
+  within_rounds (suc r) le =
+      let before = within_rounds r (omega arith) in
+      turns_within (IsStepOfRound g.nodes h (L r)) g.nodes (round_at rounds r) (L r) (L (suc r)) (λ K v N step. pairs_by_enough g.nodes h K v N step.0) (turn r (omega arith) before) before
+
+  -- what is in a round was left before it
+  left : (r x : ℕ) → r < length rounds → Contains (round_at rounds r) x → IsLeftAfter g.nodes rounds r x
+  left r x lt c = ((are.round r lt).sound x c).0
+
+  -- the nodes of the first rounds are below n
+  below : (r : ℕ) → r ≤ length rounds → (x : ℕ) → Contains (nodes_before rounds r) x → x < g.nodes
+  below zero le x c = absurd (contains_none x c)
+  below (suc r) le x c = elim (Contains-append_cases (nodes_before rounds r) (round_at rounds r) x (subst (λ l. Contains l x) (before_next rounds r (omega arith)) c)) [
+    | inl early ↦ below r (omega arith) x early
+    | inr now ↦ (left r x (omega arith) now).0
+  ]
+
+  -- and different
+  different : (r : ℕ) → r ≤ length rounds → AllPairs ◌≢◌ (nodes_before rounds r)
+  different zero le = λ i j d lt inside. absurd (omega arith)
+  different (suc r) le =
+      let round = are.round r (omega arith) in
+      subst (AllPairs ◌≢◌) (sym (before_next rounds r (omega arith)))
+      (pairs_append ◌≢◌ (nodes_before rounds r) (round_at rounds r) (different r (omega arith)) (λ i j d lt inside e. let before = round.ordered i j d lt inside in omega arith)
+      (λ x y early now same. (left r y (omega arith) now).1 (subst (Contains (nodes_before rounds r)) same early)))
+
+  module _ {H : LevelsAndLegs} (is : IsHierarchyOfRounds g H rounds L) where
+    -- a node is contracted with enough shortcuts, and its rows are its legs just before
+    abbrev IsStepOf : Legs → ℕ → Legs → Type 0
+    IsStepOf K v N = ContractsWithEnough g.nodes h K v N × AreLegsFrom K v (row H.up v) × AreLegsTo K v (row H.down v)
+
+    -- so it is in each round
+    steps_of_round : (r : ℕ) → r < length rounds → TakesInTurn IsStepOf (L r) (round_at rounds r) (L (suc r))
+    steps_of_round r lt =
+        turns_map (IsStepOfRound g.nodes h (L r)) IsStepOf (round_at rounds r) (L r) (L (suc r))
+        (λ K v N c step.
+        let up = is.up r v lt c in
+        let down = is.down r v lt c in
+        (step.0, (up.0, λ x. up.1 x ∙ sym (step.1 x).0), (down.0, λ x. down.1 x ∙ sym (step.1 x).1)))
+        (turn r lt (within_rounds r (omega arith)))
+
+    -- and in the first rounds
+    steps_before : (r : ℕ) → r ≤ length rounds → TakesInTurn IsStepOf (L 0) (nodes_before rounds r) (L r)
+    steps_before zero le = λ x y. refl
+    steps_before (suc r) le =
+        subst (λ l. TakesInTurn IsStepOf (L 0) l (L (suc r))) (sym (before_next rounds r (omega arith)))
+        (turns_append IsStepOf (nodes_before rounds r) (round_at rounds r) (L 0) (L r) (L (suc r)) (steps_before r (omega arith)) (steps_of_round r (omega arith)))
+
+    -- all rounds are the first of all
+    whole : nodes_before rounds (length rounds) ≡ concat rounds
+    whole = ap concat (take_all (length rounds) rounds (omega arith))
+
+    -- all nodes one after the other
+    steps : TakesInTurn IsStepOf (L 0) (concat rounds) (L (length rounds))
+    steps = subst (λ l. TakesInTurn IsStepOf (L 0) l (L (length rounds))) whole (steps_before (length rounds) (omega arith))
+
+    -- each of them is there once
+    nodes : (length (concat rounds) ≡ g.nodes) × All (λ v. v < g.nodes) (concat rounds) × AllPairs ◌≢◌ (concat rounds)
+    nodes =
+        let low : (x : ℕ) → Contains (concat rounds) x → x < g.nodes = λ x c. below (length rounds) (omega arith) x (subst (λ l. Contains l x) (sym whole) c) in
+        let distinct = subst (AllPairs ◌≢◌) whole (different (length rounds) (omega arith)) in
+        let most = distinct_most (concat rounds) g.nodes distinct low in
+        let least = whole_least (concat rounds) g.nodes are.all in
+        (omega arith, λ k d lt. low (slice_index_or (concat rounds) k d) (Contains-get_or (concat rounds) k d lt), distinct)
+
+    -- the legs before each step
+    abbrev legs : ℕ → Legs
+    legs = legs_at IsStepOf (concat rounds) (L 0) (L (length rounds)) steps
+
+    -- and the step
+    step : (i : ℕ) → i < g.nodes → IsStepOf (legs i) (slice_index (concat rounds) i) (legs (i + 1))
+    step i lt =
+        let size = nodes.0 in
+        subst (λ k. IsStepOf (legs i) (slice_index (concat rounds) i) (legs k)) (sym (add-one i)) (step_of IsStepOf (concat rounds) (L 0) (L (length rounds)) steps i (omega arith))
+
+    -- so it is a hierarchy of nodes that are contracted one after the other
+    pub by_steps : (K : ℕ → Legs) × IsHierarchyIn (ContractsWithEnough g.nodes h) g H (concat rounds) K
+    by_steps = (
+      legs,
+      record {
+        contracted = record {
+          nodes = nodes;
+          start = subst (λ (K : Legs). SameLegs K (opening g)) (sym (legs_first IsStepOf (concat rounds) (L 0) (L (length rounds)) steps)) are.start;
+          step = λ i lt. (step i lt).0;
+        };
+        sizes = is.sizes;
+        level = is.level;
+        up = λ i lt. (step i lt).1;
+        down = λ i lt. (step i lt).2;
+      },
+    )
+
+-- hierarchies by rounds are kept
+pub hierarchies_by_rounds_kept : HierarchiesByRoundsAreKept
+hierarchies_by_rounds_kept g h H limits hops is = let by = by_steps limits hops is.2 is.3 in hierarchies_with_enough_kept g h H (concat is.0) by.0 limits by.1
