@@ -37,6 +37,10 @@ detour = record { nodes = 5; arcs = arc 1 2 1 ∷ arc 2 3 1 ∷ arc 1 4 0 ∷ ar
 abbrev pub ring : Network
 ring = record { nodes = 5; arcs = arc 1 2 1 ∷ arc 2 3 1 ∷ arc 3 4 1 ∷ arc 4 5 1 ∷ arc 5 1 1 ∷ [] }
 
+-- 1 to 2 to 3 and on to 7
+abbrev pub street : Network
+street = record { nodes = 7; arcs = arc 1 2 1 ∷ arc 2 3 1 ∷ arc 3 4 1 ∷ arc 4 5 1 ∷ arc 5 6 1 ∷ arc 6 7 1 ∷ [] }
+
 -- without weight from 1 to 3: two arcs over 5, and three over 2 and 4
 abbrev pub fewer_arcs : Network
 fewer_arcs = record { nodes = 5; arcs = arc 1 5 0 ∷ arc 5 3 0 ∷ arc 1 2 0 ∷ arc 2 4 0 ∷ arc 4 3 0 ∷ [] }

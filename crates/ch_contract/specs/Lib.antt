@@ -26,6 +26,7 @@ pub mod Keeping
 pub mod Rounds
 pub mod RoundOrder
 pub mod RoundLaws
+pub mod RoundReference
 pub mod HeldCosts
 pub mod KnownCosts
 pub mod LegLists

@@ -114,14 +114,16 @@ abbrev pub level_at : List ContractedNode → ℕ → ℕ
 level_at [] v = 0
 level_at (s ∷ steps) v = if s.node == v then 1 else 1 + level_at steps v
 
+-- the hierarchy of nodes that are contracted in these steps
+abbrev pub hierarchy_of_steps : Network → List ContractedNode → LevelsAndLegs
+hierarchy_of_steps g steps = record {
+  level = map (level_at steps) (range_with_len 0 g.nodes);
+  up = map (λ v. (step_at steps v).up) (range_with_len 0 g.nodes);
+  down = map (λ v. (step_at steps v).down) (range_with_len 0 g.nodes);
+}
+
 abbrev pub hierarchy_by : OrderBy → Network → ℕ → LevelsAndLegs
-hierarchy_by by g h =
-    let steps : List ContractedNode = steps_by by g h in
-    record {
-      level = map (level_at steps) (range_with_len 0 g.nodes);
-      up = map (λ v. (step_at steps v).up) (range_with_len 0 g.nodes);
-      down = map (λ v. (step_at steps v).down) (range_with_len 0 g.nodes);
-    }
+hierarchy_by by g h = hierarchy_of_steps g (steps_by by g h)
 
 abbrev pub hierarchy_of : Network → ℕ → LevelsAndLegs
 hierarchy_of g h = hierarchy_by Difference g h
