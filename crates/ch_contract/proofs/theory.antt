@@ -11,7 +11,9 @@ pub mod StepLegs
 pub mod RoundLegs
 pub mod Rounds
 pub mod Turns
+pub mod RoundNodes
 pub mod RoundOrders
+pub mod OneRounds
 pub mod KeptCosts
 pub mod BuiltLegs
 pub mod BuiltKept

@@ -48,9 +48,10 @@ IsKeyAfter n h rounds L r x p = (j : ℕ) × (list : List Shortcut) × IsLastCou
 abbrev pub IsLeftAfter : ℕ → List (List ℕ) → ℕ → ℕ → Type 0
 IsLeftAfter n rounds r x = (x < n) × (Contains (nodes_before rounds r) x → ⊥)
 
--- all nodes of g are contracted in these rounds, with the legs L r that are left after the first r
+-- all nodes of g are contracted in these rounds, of which none is empty, with the legs L r that are left after the first r
 pub record AreRounds (g : Network) (h : ℕ) (rounds : List (List ℕ)) (L : ℕ → Legs) : Type 0 where
   pub start : SameLegs (L 0) (opening g)
+  pub some : (r : ℕ) → r < length rounds → 0 < length (round_at rounds r)
   pub round : (r : ℕ) → r < length rounds → IsRound (IsKeyAfter g.nodes h rounds L r) (IsLeftAfter g.nodes rounds r) (L r) (round_at rounds r)
   pub legs : (r : ℕ) → r < length rounds → ContractsRound g.nodes h (L r) (round_at rounds r) (L (r + 1))
   pub all : (x : ℕ) → x < g.nodes → Contains (concat rounds) x

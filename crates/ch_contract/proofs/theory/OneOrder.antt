@@ -164,7 +164,7 @@ taken_at n order x nodes lt =
     (c.0, omega arith, get_or_default order c.0 0 x within ∙ c.2)
 
 -- lists of n rows with the same rows are equal
-same_rows : (n : ℕ) (xs ys : List (List Leg)) → length xs ≡ n → length ys ≡ n → ((x : ℕ) → x < n → row xs x ≡ row ys x) → xs ≡ ys
+pub same_rows : (n : ℕ) (xs ys : List (List Leg)) → length xs ≡ n → length ys ≡ n → ((x : ℕ) → x < n → row xs x ≡ row ys x) → xs ≡ ys
 same_rows n xs ys a b each = same_lists xs ys (a ∙ sym b) (λ k d lt. get_or_default xs k d [] lt ∙ each k (omega arith) ∙ sym (get_or_default ys k d [] (omega arith)))
 
 module _ (by : OrderBy) (g : Network) (h : ℕ) (H K : LevelsAndLegs) (order : List ℕ) (L : ℕ → Legs) (other : List ℕ) (M : ℕ → Legs) (p : IsHierarchyOf g h H order L) (first : TakesFirst by g h order L) (q : IsHierarchyOf g h K other M) (its_first : TakesFirst by g h other M) where

@@ -1,15 +1,11 @@
 -- A hierarchy by rounds is one of nodes that are contracted one after the other, with shortcuts that are enough.
-use Rattle.std.proofs.Common.{◌≡◌, ℕ, zero, suc, ◌+◌, ◌<◌, ◌≤◌, Bool, true, false, List, [], ◌∷◌, ◌++◌, length, Contains, append-nil, append_assoc, refl, sym, ◌∙◌, ap, subst, arith, add-one, inl, inr}
-use Rattle.std.specs.Prelude.{◌≢◌, ◌||◌, All, AllPairs, is_some, slice_index, slice_index_or, ℤ, ◌≤ℤ◌}
+use Rattle.std.proofs.Common.{◌≡◌, ℕ, zero, suc, ◌+◌, ◌<◌, ◌≤◌, Bool, true, false, List, length, refl, sym, ◌∙◌, ap, subst, arith, add-one, inl, inr}
+use Rattle.std.specs.Prelude.{◌≢◌, ◌||◌, is_some, slice_index, ℤ, ◌≤ℤ◌}
 use Rattle.std.specs.List.{concat}
 use Rattle.std.proofs.lemmas.Bool.{cases_lt, false≢true}
-use Rattle.std.proofs.lemmas.List.{take_all}
-use Rattle.std.proofs.lemmas.List.Elements.{Contains-get_or, Contains-append_cases}
 use Rattle.ch_graph.specs.Graph.{Network, IsWithinLimits}
-use Rattle.ch_graph.proofs.Lists.{pairs_append, contains_none}
 use Rattle.ch_hierarchy.specs.Hierarchy.{LevelsAndLegs}
 use Rattle.ch_hierarchy.specs.Rows.{row}
-use Rattle.ch_hierarchy.proofs.theory.Ordered.{distinct_most, whole_least}
 use Rattle.ch_contract.specs.declared.measure.OrderBy.TheVariants.{Depth}
 use Rattle.ch_contract.specs.Legs.{Legs, SameLegs, AreLegsWithin, IsHopBound, opening}
 use Rattle.ch_contract.specs.LegRows.{AreLegsFrom, AreLegsTo}
@@ -18,12 +14,13 @@ use Rattle.ch_contract.specs.Enough.{ContractsWithEnough}
 use Rattle.ch_contract.specs.Order.{are_neighbours}
 use Rattle.ch_contract.specs.Built.{IsHierarchyIn}
 use Rattle.ch_contract.specs.Rounds.{ComesBefore, IsWithinTwoLegs, IsRound, AreApart, TakesInTurn, IsStepOfRound}
-use Rattle.ch_contract.specs.RoundOrder.{round_at, nodes_before, depth_before, IsLastCount, IsKeyAfter, IsLeftAfter, AreRounds, IsHierarchyOfRounds}
+use Rattle.ch_contract.specs.RoundOrder.{round_at, nodes_before, depth_before, IsLastCount, IsKeyAfter, AreRounds, IsHierarchyOfRounds}
 use Rattle.ch_contract.specs.RoundLaws.{HierarchiesByRoundsAreKept}
 use Rattle.ch_contract.proofs.theory.OpeningLegs.{opening_within}
 use Rattle.ch_contract.proofs.theory.OneOrder.{one_map, one_list}
 use Rattle.ch_contract.proofs.theory.Contracting.{pairs_by_enough}
 use Rattle.ch_contract.proofs.theory.Rounds.{rounds_are_contractions}
+use Rattle.ch_contract.proofs.theory.RoundNodes.{before_next, before_all, nodes_once}
 use Rattle.ch_contract.proofs.theory.Turns.{turns_map, turns_append, turns_within, legs_at, legs_first, step_of}
 use Rattle.ch_contract.proofs.theory.BuiltKept.{hierarchies_with_enough_kept}
 
@@ -82,12 +79,6 @@ round_apart IsKey IsLeft L nodes one round = record {
       ne (both_before a.0 a.1 _ _ v x a.4 back);
 }
 
--- one more round
-before_next : (rounds : List (List ℕ)) (r : ℕ) → r < length rounds → nodes_before rounds (suc r) ≡ nodes_before rounds r ++ round_at rounds r
-before_next [] r lt = absurd (omega arith)
-before_next (x ∷ rounds) zero lt = append-nil x
-before_next (x ∷ rounds) (suc r) lt = ap (λ l. x ++ l) (before_next rounds r (omega arith)) ∙ sym (append_assoc x (nodes_before rounds r) (round_at rounds r))
-
 module _ {g : Network} {h : ℕ} {rounds : List (List ℕ)} {L : ℕ → Legs} (limits : IsWithinLimits g) (hops : IsHopBound h) (are : AreRounds g h rounds L) where
   -- a round within the limits is contractions one after the other
   turn : (r : ℕ) → r < length rounds → AreLegsWithin g.nodes (L r) → TakesInTurn (IsStepOfRound g.nodes h (L r)) (L r) (round_at rounds r) (L (suc r))
@@ -101,27 +92,6 @@ module _ {g : Network} {h : ℕ} {rounds : List (List ℕ)} {L : ℕ → Legs} (
   within_rounds (suc r) le =
       let before = within_rounds r (omega arith) in
       turns_within (IsStepOfRound g.nodes h (L r)) g.nodes (round_at rounds r) (L r) (L (suc r)) (λ K v N step. pairs_by_enough g.nodes h K v N step.0) (turn r (omega arith) before) before
-
-  -- what is in a round was left before it
-  left : (r x : ℕ) → r < length rounds → Contains (round_at rounds r) x → IsLeftAfter g.nodes rounds r x
-  left r x lt c = ((are.round r lt).sound x c).0
-
-  -- the nodes of the first rounds are below n
-  below : (r : ℕ) → r ≤ length rounds → (x : ℕ) → Contains (nodes_before rounds r) x → x < g.nodes
-  below zero le x c = absurd (contains_none x c)
-  below (suc r) le x c = elim (Contains-append_cases (nodes_before rounds r) (round_at rounds r) x (subst (λ l. Contains l x) (before_next rounds r (omega arith)) c)) [
-    | inl early ↦ below r (omega arith) x early
-    | inr now ↦ (left r x (omega arith) now).0
-  ]
-
-  -- and different
-  different : (r : ℕ) → r ≤ length rounds → AllPairs ◌≢◌ (nodes_before rounds r)
-  different zero le = λ i j d lt inside. absurd (omega arith)
-  different (suc r) le =
-      let round = are.round r (omega arith) in
-      subst (AllPairs ◌≢◌) (sym (before_next rounds r (omega arith)))
-      (pairs_append ◌≢◌ (nodes_before rounds r) (round_at rounds r) (different r (omega arith)) (λ i j d lt inside e. let before = round.ordered i j d lt inside in omega arith)
-      (λ x y early now same. (left r y (omega arith) now).1 (subst (Contains (nodes_before rounds r)) same early)))
 
   module _ {H : LevelsAndLegs} (is : IsHierarchyOfRounds g H rounds L) where
     -- a node is contracted with enough shortcuts, and its rows are its legs just before
@@ -142,25 +112,12 @@ module _ {g : Network} {h : ℕ} {rounds : List (List ℕ)} {L : ℕ → Legs} (
     steps_before : (r : ℕ) → r ≤ length rounds → TakesInTurn IsStepOf (L 0) (nodes_before rounds r) (L r)
     steps_before zero le = λ x y. refl
     steps_before (suc r) le =
-        subst (λ l. TakesInTurn IsStepOf (L 0) l (L (suc r))) (sym (before_next rounds r (omega arith)))
+        subst (λ l. TakesInTurn IsStepOf (L 0) l (L (suc r))) (sym (before_next rounds r))
         (turns_append IsStepOf (nodes_before rounds r) (round_at rounds r) (L 0) (L r) (L (suc r)) (steps_before r (omega arith)) (steps_of_round r (omega arith)))
-
-    -- all rounds are the first of all
-    whole : nodes_before rounds (length rounds) ≡ concat rounds
-    whole = ap concat (take_all (length rounds) rounds (omega arith))
 
     -- all nodes one after the other
     steps : TakesInTurn IsStepOf (L 0) (concat rounds) (L (length rounds))
-    steps = subst (λ l. TakesInTurn IsStepOf (L 0) l (L (length rounds))) whole (steps_before (length rounds) (omega arith))
-
-    -- each of them is there once
-    nodes : (length (concat rounds) ≡ g.nodes) × All (λ v. v < g.nodes) (concat rounds) × AllPairs ◌≢◌ (concat rounds)
-    nodes =
-        let low : (x : ℕ) → Contains (concat rounds) x → x < g.nodes = λ x c. below (length rounds) (omega arith) x (subst (λ l. Contains l x) (sym whole) c) in
-        let distinct = subst (AllPairs ◌≢◌) whole (different (length rounds) (omega arith)) in
-        let most = distinct_most (concat rounds) g.nodes distinct low in
-        let least = whole_least (concat rounds) g.nodes are.all in
-        (omega arith, λ k d lt. low (slice_index_or (concat rounds) k d) (Contains-get_or (concat rounds) k d lt), distinct)
+    steps = subst (λ l. TakesInTurn IsStepOf (L 0) l (L (length rounds))) (before_all rounds) (steps_before (length rounds) (omega arith))
 
     -- the legs before each step
     abbrev legs : ℕ → Legs
@@ -169,7 +126,7 @@ module _ {g : Network} {h : ℕ} {rounds : List (List ℕ)} {L : ℕ → Legs} (
     -- and the step
     step : (i : ℕ) → i < g.nodes → IsStepOf (legs i) (slice_index (concat rounds) i) (legs (i + 1))
     step i lt =
-        let size = nodes.0 in
+        let size = (nodes_once are).0 in
         subst (λ k. IsStepOf (legs i) (slice_index (concat rounds) i) (legs k)) (sym (add-one i)) (step_of IsStepOf (concat rounds) (L 0) (L (length rounds)) steps i (omega arith))
 
     -- so it is a hierarchy of nodes that are contracted one after the other
@@ -178,7 +135,7 @@ module _ {g : Network} {h : ℕ} {rounds : List (List ℕ)} {L : ℕ → Legs} (
       legs,
       record {
         contracted = record {
-          nodes = nodes;
+          nodes = nodes_once are;
           start = subst (λ (K : Legs). SameLegs K (opening g)) (sym (legs_first IsStepOf (concat rounds) (L 0) (L (length rounds)) steps)) are.start;
           step = λ i lt. (step i lt).0;
         };

@@ -1,0 +1,61 @@
+-- The nodes of rounds: each node is in one round.
+use Rattle.std.proofs.Common.{◌≡◌, ℕ, zero, suc, ◌<◌, ◌≤◌, List, [], ◌∷◌, ◌++◌, length, refl, Contains, append-nil, append_assoc, sym, ◌∙◌, ap, subst, arith, inl, inr}
+use Rattle.std.specs.Prelude.{◌≢◌, All, AllPairs, slice_index_or}
+use Rattle.std.specs.List.{concat}
+use Rattle.std.proofs.lemmas.List.{take_all}
+use Rattle.std.proofs.lemmas.List.Elements.{Contains-get_or, Contains-append_cases}
+use Rattle.ch_graph.specs.Graph.{Network}
+use Rattle.ch_graph.proofs.Lists.{pairs_append, contains_none}
+use Rattle.ch_hierarchy.proofs.theory.Ordered.{distinct_most, whole_least}
+use Rattle.ch_contract.specs.Legs.{Legs}
+use Rattle.ch_contract.specs.RoundOrder.{round_at, nodes_before, IsLeftAfter, AreRounds}
+
+-- one more round
+pub before_next : (rounds : List (List ℕ)) (r : ℕ) → nodes_before rounds (suc r) ≡ nodes_before rounds r ++ round_at rounds r
+before_next [] zero = refl
+before_next [] (suc r) = refl
+before_next (x ∷ rounds) zero = append-nil x
+before_next (x ∷ rounds) (suc r) = ap (λ l. x ++ l) (before_next rounds r) ∙ sym (append_assoc x (nodes_before rounds r) (round_at rounds r))
+
+-- all rounds are the first of all
+pub before_all : (rounds : List (List ℕ)) → nodes_before rounds (length rounds) ≡ concat rounds
+before_all rounds = ap concat (take_all (length rounds) rounds (omega arith))
+
+-- a node of the rounds is in one of them
+pub in_round : (rounds : List (List ℕ)) (x : ℕ) → Contains (concat rounds) x → (r : ℕ) × (r < length rounds) × Contains (round_at rounds r) x
+in_round [] x c = absurd (contains_none x c)
+in_round (nodes ∷ rounds) x c = elim (Contains-append_cases nodes (concat rounds) x c) [
+  | inl here ↦ (zero, omega arith, here)
+  | inr later ↦ let at = in_round rounds x later in (suc at.0, omega (arith, at.1), at.2)
+]
+
+module _ {g : Network} {h : ℕ} {rounds : List (List ℕ)} {L : ℕ → Legs} (are : AreRounds g h rounds L) where
+  -- what is in a round was left before it
+  pub left : (r x : ℕ) → r < length rounds → Contains (round_at rounds r) x → IsLeftAfter g.nodes rounds r x
+  left r x lt c = ((are.round r lt).sound x c).0
+
+  -- the nodes of the first rounds are below n
+  below : (r : ℕ) → r ≤ length rounds → (x : ℕ) → Contains (nodes_before rounds r) x → x < g.nodes
+  below zero le x c = absurd (contains_none x c)
+  below (suc r) le x c = elim (Contains-append_cases (nodes_before rounds r) (round_at rounds r) x (subst (λ l. Contains l x) (before_next rounds r) c)) [
+    | inl early ↦ below r (omega arith) x early
+    | inr now ↦ (left r x (omega arith) now).0
+  ]
+
+  -- and different
+  different : (r : ℕ) → r ≤ length rounds → AllPairs ◌≢◌ (nodes_before rounds r)
+  different zero le = λ i j d lt inside. absurd (omega arith)
+  different (suc r) le =
+      let round = are.round r (omega arith) in
+      subst (AllPairs ◌≢◌) (sym (before_next rounds r))
+      (pairs_append ◌≢◌ (nodes_before rounds r) (round_at rounds r) (different r (omega arith)) (λ i j d lt inside e. let before = round.ordered i j d lt inside in omega arith)
+      (λ x y early now same. (left r y (omega arith) now).1 (subst (Contains (nodes_before rounds r)) same early)))
+
+  -- each node is there once
+  pub nodes_once : (length (concat rounds) ≡ g.nodes) × All (λ v. v < g.nodes) (concat rounds) × AllPairs ◌≢◌ (concat rounds)
+  nodes_once =
+      let low : (x : ℕ) → Contains (concat rounds) x → x < g.nodes = λ x c. below (length rounds) (omega arith) x (subst (λ l. Contains l x) (sym (before_all rounds)) c) in
+      let distinct = subst (AllPairs ◌≢◌) (before_all rounds) (different (length rounds) (omega arith)) in
+      let most = distinct_most (concat rounds) g.nodes distinct low in
+      let least = whole_least (concat rounds) g.nodes are.all in
+      (omega arith, λ k d lt. low (slice_index_or (concat rounds) k d) (Contains-get_or (concat rounds) k d lt), distinct)
