@@ -40,9 +40,13 @@ pub record IsLastCount (n : ℕ) (rounds : List (List ℕ)) (L : ℕ → Legs) (
   pub counted : is_counted n rounds L j x ≡ true
   pub later : (k : ℕ) → j < k → k ≤ r → is_counted n rounds L k x ≡ false
 
--- the key of x after the first r rounds: by its number of shortcuts when they were counted last, and by its legs and its depth of now
+-- the number of shortcuts that x had when they were counted last in the first r rounds
+abbrev pub IsCountAfter : ℕ → ℕ → List (List ℕ) → (ℕ → Legs) → ℕ → ℕ → ℕ → Type 0
+IsCountAfter n h rounds L r x c = (j : ℕ) × (list : List Shortcut) × IsLastCount n rounds L r x j × AreShortcuts n h (L j) x list × (c ≡ length list)
+
+-- the key of x after the first r rounds: by that number, and by its legs and its depth of now
 abbrev pub IsKeyAfter : ℕ → ℕ → List (List ℕ) → (ℕ → Legs) → ℕ → ℕ → ℤ → Type 0
-IsKeyAfter n h rounds L r x p = (j : ℕ) × (list : List Shortcut) × IsLastCount n rounds L r x j × AreShortcuts n h (L j) x list × (p ≡ key_by Depth (length list) (count_touching n (L r) x) (depth_before rounds L r x))
+IsKeyAfter n h rounds L r x p = (c : ℕ) × IsCountAfter n h rounds L r x c × (p ≡ key_by Depth c (count_touching n (L r) x) (depth_before rounds L r x))
 
 -- x is one of n nodes, and of none of the first r rounds
 abbrev pub IsLeftAfter : ℕ → List (List ℕ) → ℕ → ℕ → Type 0

@@ -18,7 +18,7 @@ use Rattle.ch_contract.specs.LegRows.{AreLegsFrom}
 use Rattle.ch_contract.specs.Contraction.{IsPairBefore, AreShortcuts, leg_after_shortcuts, count_touching, key_by}
 use Rattle.ch_contract.specs.Order.{are_neighbours}
 use Rattle.ch_contract.specs.Rounds.{IsRound, AreRoundShortcuts, legs_away, legs_with_shortcuts, ContractsRound, depth_after_round}
-use Rattle.ch_contract.specs.RoundOrder.{round_at, nodes_before, depth_before, is_early, is_counted, IsKeyAfter, IsLeftAfter, AreRounds, IsHierarchyOfRounds}
+use Rattle.ch_contract.specs.RoundOrder.{round_at, nodes_before, depth_before, is_early, is_counted, IsCountAfter, IsKeyAfter, IsLeftAfter, AreRounds, IsHierarchyOfRounds}
 use Rattle.ch_contract.specs.OneOrder.{RoundsNameOneHierarchy}
 use Rattle.ch_contract.proofs.theory.RowLegs.{one_row}
 use Rattle.ch_contract.proofs.theory.OneOrder.{one_map, taken_at, same_rows}
@@ -55,7 +55,7 @@ pub record Agree (r : ℕ) (rounds : List (List ℕ)) (L : ℕ → Legs) (other 
   pub legs : (k : ℕ) → k ≤ r → L k ≡ M k
 
 -- agreeing goes both ways
-agree_back : (r : ℕ) (rounds : List (List ℕ)) (L : ℕ → Legs) (other : List (List ℕ)) (M : ℕ → Legs) → Agree r rounds L other M → Agree r other M rounds L
+pub agree_back : (r : ℕ) (rounds : List (List ℕ)) (L : ℕ → Legs) (other : List (List ℕ)) (M : ℕ → Legs) → Agree r rounds L other M → Agree r other M rounds L
 agree_back r rounds L other M a = record { nodes = λ k lt. sym (a.nodes k lt); legs = λ k le. sym (a.legs k le) }
 
 module _ (n h r : ℕ) (rounds : List (List ℕ)) (L : ℕ → Legs) (other : List (List ℕ)) (M : ℕ → Legs) (a : Agree r rounds L other M) where
@@ -68,7 +68,7 @@ module _ (n h r : ℕ) (rounds : List (List ℕ)) (L : ℕ → Legs) (other : Li
       before_next rounds k ∙ (λ t. rest t ++ node t) ∙ sym (before_next other k)
 
   -- in them nodes lie as deep
-  depth_along : (k : ℕ) → k ≤ r → depth_before rounds L k ≡ depth_before other M k
+  pub depth_along : (k : ℕ) → k ≤ r → depth_before rounds L k ≡ depth_before other M k
   depth_along zero le = λ t x. 0
   depth_along (suc k) le =
       let rest = depth_along k (omega arith) in
@@ -81,7 +81,7 @@ module _ (n h r : ℕ) (rounds : List (List ℕ)) (L : ℕ → Legs) (other : Li
   early_along k le = ap (λ l. nat_lt (10 * length l) (7 * n)) (before_along k le)
 
   -- shortcuts are counted at the same times
-  counted_along : (x k : ℕ) → k ≤ r → is_counted n rounds L k x ≡ is_counted n other M k x
+  pub counted_along : (x k : ℕ) → k ≤ r → is_counted n rounds L k x ≡ is_counted n other M k x
   counted_along x zero le = refl
   counted_along x (suc k) le =
       let now = early_along (suc k) le in
@@ -90,13 +90,10 @@ module _ (n h r : ℕ) (rounds : List (List ℕ)) (L : ℕ → Legs) (other : Li
       let node = a.nodes k (omega arith) in
       λ t. not (now t) && (past t || list_any (λ v. are_neighbours (legs t) v x) (node t))
 
-  -- so keys are the same
-  key_along : (x : ℕ) (p : ℤ) → IsKeyAfter n h rounds L r x p → IsKeyAfter n h other M r x p
-  key_along x p b =
-      let last = b.2 in
-      let deep = depth_along r (omega arith) in
-      let legs = a.legs r (omega arith) in
-      let value : key_by Depth (length b.1) (count_touching n (L r) x) (depth_before rounds L r x) ≡ key_by Depth (length b.1) (count_touching n (M r) x) (depth_before other M r x) = λ t. key_by Depth (length b.1) (count_touching n (legs t) x) (deep t x) in (
+  -- so their numbers are the same
+  count_along : (x c : ℕ) → IsCountAfter n h rounds L r x c → IsCountAfter n h other M r x c
+  count_along x c b =
+      let last = b.2 in (
         b.0,
         b.1,
         record {
@@ -105,11 +102,19 @@ module _ (n h r : ℕ) (rounds : List (List ℕ)) (L : ℕ → Legs) (other : Li
           later = λ k lt le. sym (counted_along x k le) ∙ last.later k lt le;
         },
         subst (λ (N : Legs). AreShortcuts n h N x b.1) (a.legs b.0 last.within) b.3,
-        b.4 ∙ value,
+        b.4,
       )
 
+  -- and keys
+  pub key_along : (x : ℕ) (p : ℤ) → IsKeyAfter n h rounds L r x p → IsKeyAfter n h other M r x p
+  key_along x p b =
+      let deep = depth_along r (omega arith) in
+      let legs = a.legs r (omega arith) in
+      let value : key_by Depth b.0 (count_touching n (L r) x) (depth_before rounds L r x) ≡ key_by Depth b.0 (count_touching n (M r) x) (depth_before other M r x) = λ t. key_by Depth b.0 (count_touching n (legs t) x) (deep t x) in
+      (b.0, count_along x b.0 b.1, b.2 ∙ value)
+
   -- and so are the nodes that are left
-  left_along : (x : ℕ) → IsLeftAfter n rounds r x → IsLeftAfter n other r x
+  pub left_along : (x : ℕ) → IsLeftAfter n rounds r x → IsLeftAfter n other r x
   left_along x b = (b.0, λ c. b.1 (subst (λ l. Contains l x) (sym (before_along r (omega arith))) c))
 
 module _ {g : Network} {h : ℕ} {rounds : List (List ℕ)} {L : ℕ → Legs} {other : List (List ℕ)} {M : ℕ → Legs} (p : AreRounds g h rounds L) (q : AreRounds g h other M) where

@@ -14,7 +14,7 @@ use Rattle.ch_contract.specs.Enough.{ContractsWithEnough}
 use Rattle.ch_contract.specs.Order.{are_neighbours}
 use Rattle.ch_contract.specs.Built.{IsHierarchyIn}
 use Rattle.ch_contract.specs.Rounds.{ComesBefore, IsWithinTwoLegs, IsRound, AreApart, TakesInTurn, IsStepOfRound}
-use Rattle.ch_contract.specs.RoundOrder.{round_at, nodes_before, depth_before, IsLastCount, IsKeyAfter, AreRounds, IsHierarchyOfRounds}
+use Rattle.ch_contract.specs.RoundOrder.{round_at, nodes_before, depth_before, IsLastCount, IsCountAfter, IsKeyAfter, AreRounds, IsHierarchyOfRounds}
 use Rattle.ch_contract.specs.RoundLaws.{HierarchiesByRoundsAreKept}
 use Rattle.ch_contract.proofs.theory.OpeningLegs.{opening_within}
 use Rattle.ch_contract.proofs.theory.OneOrder.{one_map, one_list}
@@ -31,14 +31,18 @@ not_counted_later n rounds L r x j k p q = elim (cases_lt j k) [
   | inr le ↦ le
 ]
 
--- so after some rounds a node has one key
-pub one_key : (n h : ℕ) (rounds : List (List ℕ)) (L : ℕ → Legs) (r x : ℕ) (p q : ℤ) → IsKeyAfter n h rounds L r x p → IsKeyAfter n h rounds L r x q → p ≡ q
-one_key n h rounds L r x p q a b =
+-- so after some rounds there is one number of them
+one_count : (n h : ℕ) (rounds : List (List ℕ)) (L : ℕ → Legs) (r x c d : ℕ) → IsCountAfter n h rounds L r x c → IsCountAfter n h rounds L r x d → c ≡ d
+one_count n h rounds L r x c d a b =
     let le = not_counted_later n rounds L r x a.0 b.0 a.2 b.2 in
     let ge = not_counted_later n rounds L r x b.0 a.0 b.2 a.2 in
     let same : a.0 ≡ b.0 = omega arith in
     let list = one_list n h (L b.0) x a.1 b.1 (subst (λ j. AreShortcuts n h (L j) x a.1) same a.3) b.3 in
-    a.4 ∙ ap (λ l. key_by Depth (length l) (count_touching n (L r) x) (depth_before rounds L r x)) list ∙ sym b.4
+    a.4 ∙ ap length list ∙ sym b.4
+
+-- and a node has one key
+pub one_key : (n h : ℕ) (rounds : List (List ℕ)) (L : ℕ → Legs) (r x : ℕ) (p q : ℤ) → IsKeyAfter n h rounds L r x p → IsKeyAfter n h rounds L r x q → p ≡ q
+one_key n h rounds L r x p q a b = a.2 ∙ ap (λ c. key_by Depth c (count_touching n (L r) x) (depth_before rounds L r x)) (one_count n h rounds L r x a.0 b.0 a.1 b.1) ∙ sym b.2
 
 -- of two numbers that come before each other, in an order by three
 both_before : (p q : ℤ) (a b v x : ℕ) → (p ≤ℤ q) × (q ≤ℤ p → (a ≤ b) × (b ≤ a → v ≤ x)) → (q ≤ℤ p) × (p ≤ℤ q → (b ≤ a) × (a ≤ b → x ≤ v)) → v ≡ x
