@@ -14,6 +14,8 @@ pub mod Turns
 pub mod RoundNodes
 pub mod RoundOrders
 pub mod OneRounds
+pub mod RoundSteps
+pub mod RoundFirst
 pub mod KeptCosts
 pub mod BuiltLegs
 pub mod BuiltKept

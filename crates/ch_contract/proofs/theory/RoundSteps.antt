@@ -1,0 +1,167 @@
+-- Rounds that grow by one round.
+use Rattle.std.proofs.Common.{◌≡◌, ℕ, suc, ◌+◌, ◌<◌, ◌≤◌, true, false, List, [], ◌∷◌, ◌++◌, length, length-append, Contains, refl, sym, ◌∙◌, ap, subst, arith, add-one, inl, inr}
+use Rattle.std.specs.Prelude.{◌*◌, ◌&&◌, ◌||◌, not, nat_lt, ℤ}
+use Rattle.std.specs.List.{concat, list_any}
+use Rattle.std.proofs.lemmas.Bool.{cases_eq}
+use Rattle.std.proofs.lemmas.List.{get_or_append_left, get_or_push, length_push}
+use Rattle.ch_graph.specs.Graph.{Network}
+use Rattle.ch_contract.specs.Legs.{Legs, SameLegs, opening}
+use Rattle.ch_contract.specs.Order.{are_neighbours}
+use Rattle.ch_contract.specs.Rounds.{IsRound, ContractsRound, depth_after_round}
+use Rattle.ch_contract.specs.RoundOrder.{round_at, nodes_before, depth_before, is_counted, IsLastCount, IsKeyAfter, IsLeftAfter, AreRounds}
+use Rattle.ch_contract.proofs.theory.OrderSteps.{then_legs, then_before, then_next}
+use Rattle.ch_contract.proofs.theory.RoundNodes.{before_next, before_all}
+use Rattle.ch_contract.proofs.theory.OneRounds.{Agree, agree_back, before_along, depth_along, counted_along, key_along, left_along}
+
+-- these rounds were made, with the legs L r left after the first r
+pub record AreBegun (g : Network) (h : ℕ) (rounds : List (List ℕ)) (L : ℕ → Legs) : Type 0 where
+  pub start : SameLegs (L 0) (opening g)
+  pub some : (r : ℕ) → r < length rounds → 0 < length (round_at rounds r)
+  pub round : (r : ℕ) → r < length rounds → IsRound (IsKeyAfter g.nodes h rounds L r) (IsLeftAfter g.nodes rounds r) (L r) (round_at rounds r)
+  pub legs : (r : ℕ) → r < length rounds → ContractsRound g.nodes h (L r) (round_at rounds r) (L (r + 1))
+
+-- before the first round
+pub begun_none : (g : Network) (h : ℕ) → AreBegun g h [] (λ r. opening g)
+begun_none g h = record {
+  start = λ u w. refl;
+  some = λ r lt. absurd (omega arith);
+  round = λ r lt. absurd (omega arith);
+  legs = λ r lt. absurd (omega arith);
+}
+
+-- once no node is left, these are all rounds
+pub begun_all : (g : Network) (h : ℕ) (rounds : List (List ℕ)) (L : ℕ → Legs) → AreBegun g h rounds L → ((x : ℕ) → x < g.nodes → Contains (concat rounds) x) → AreRounds g h rounds L
+begun_all g h rounds L b all = record { start = b.start; some = b.some; round = b.round; legs = b.legs; all = all }
+
+-- a round of the same nodes by other words
+round_moved : (IsKey IsOther : ℕ → ℤ → Type 0) (IsLeft IsRest : ℕ → Type 0) (L : Legs) (nodes : List ℕ) → ((x : ℕ) (p : ℤ) → IsKey x p → IsOther x p) → ((x : ℕ) (p : ℤ) → IsOther x p → IsKey x p) → ((x : ℕ) → IsLeft x → IsRest x) → ((x : ℕ) → IsRest x → IsLeft x) →
+    IsRound IsKey IsLeft L nodes → IsRound IsOther IsRest L nodes
+round_moved IsKey IsOther IsLeft IsRest L nodes key back left rest p = record {
+  ordered = p.ordered;
+  sound = λ v c. let s = p.sound v c in (left v s.0, λ x ne near. let f = s.1 x ne near in (f.0, f.1, key v f.0 f.2, key x f.1 f.3, f.4));
+  whole = λ v r f. p.whole v (rest v r) (λ x ne near. let s = f x ne near in (s.0, s.1, back v s.0 s.2, back x s.1 s.3, s.4));
+}
+
+-- rounds that agree up to one agree up to each earlier one
+agree_less : (r k : ℕ) (rounds : List (List ℕ)) (L : ℕ → Legs) (other : List (List ℕ)) (M : ℕ → Legs) → k ≤ r → Agree r rounds L other M → Agree k rounds L other M
+agree_less r k rounds L other M le a = record { nodes = λ j lt. a.nodes j (omega arith); legs = λ j below. a.legs j (omega arith) }
+
+module _ (rounds : List (List ℕ)) (L : ℕ → Legs) (nodes : List ℕ) (M : Legs) where
+  -- the rounds with one more
+  abbrev pub more : List (List ℕ)
+  more = rounds ++ nodes ∷ []
+
+  -- the legs with those after it
+  abbrev pub legs_more : ℕ → Legs
+  legs_more = then_legs (length rounds) L M
+
+  -- earlier rounds are what they were
+  before : (k : ℕ) → k < length rounds → round_at rounds k ≡ round_at more k
+  before k lt = sym (get_or_append_left rounds (nodes ∷ []) [] k lt)
+
+  -- the new round is the last
+  pub here : round_at more (length rounds) ≡ nodes
+  here = get_or_push rounds nodes [] (length rounds) refl
+
+  -- they agree up to then
+  pub agree : Agree (length rounds) rounds L more legs_more
+  agree = record { nodes = before; legs = λ k le. sym (then_before (length rounds) L M k le) }
+
+  -- the legs before the round and after it
+  pub now : legs_more (length rounds) ≡ L (length rounds)
+  now = then_before (length rounds) L M (length rounds) (omega arith)
+
+  pub next : legs_more (suc (length rounds)) ≡ M
+  next = then_next (length rounds) L M (suc (length rounds)) (omega arith)
+
+  -- the depths after one more round
+  pub depth_more : depth_before more legs_more (suc (length rounds)) ≡ depth_after_round (L (length rounds)) nodes (depth_before rounds L (length rounds))
+  depth_more =
+      let past = sym (depth_along 0 0 (length rounds) rounds L more legs_more agree (length rounds) (omega arith)) in
+      let legs = now in
+      let round = here in
+      λ t x. depth_after_round (legs t) (round t) (past t) x
+
+  -- the nodes before the next round
+  pub before_more : nodes_before more (suc (length rounds)) ≡ concat rounds ++ nodes
+  before_more =
+      let past = sym (before_along 0 0 (length rounds) rounds L more legs_more agree (length rounds) (omega arith)) ∙ before_all rounds in
+      let round = here in
+      before_next more (length rounds) ∙ (λ t. past t ++ round t)
+
+  -- whether the shortcuts of a node are counted after it
+  pub counted_next : (n x : ℕ) → is_counted n more legs_more (suc (length rounds)) x ≡
+      (not (nat_lt (10 * (length (concat rounds) + length nodes)) (7 * n)) && (nat_lt (10 * length (concat rounds)) (7 * n) || list_any (λ v. are_neighbours (L (length rounds)) v x) nodes))
+  counted_next n x =
+      let all : length (nodes_before more (suc (length rounds))) ≡ length (concat rounds) + length nodes = ap length before_more ∙ length-append (concat rounds) nodes in
+      let past : length (nodes_before more (length rounds)) ≡ length (concat rounds) = ap length (sym (before_along 0 0 (length rounds) rounds L more legs_more agree (length rounds) (omega arith)) ∙ before_all rounds) in
+      let legs = now in
+      let round = here in
+      λ t. not (nat_lt (10 * all t) (7 * n)) && (nat_lt (10 * past t) (7 * n) || list_any (λ v. are_neighbours (legs t) v x) (round t))
+
+  -- where they are, that is the last time
+  pub count_anew : (n x : ℕ) → is_counted n more legs_more (suc (length rounds)) x ≡ true → IsLastCount n more legs_more (suc (length rounds)) x (suc (length rounds))
+  count_anew n x anew = record { within = omega arith; counted = anew; later = λ k lt le. absurd (omega arith) }
+
+  -- and else the last time stays
+  pub count_kept : (n x j : ℕ) → is_counted n more legs_more (suc (length rounds)) x ≡ false → IsLastCount n rounds L (length rounds) x j → IsLastCount n more legs_more (suc (length rounds)) x j
+  count_kept n x j kept last = record {
+    within = let le = last.within in omega arith;
+    counted = sym (counted_along n 0 (length rounds) rounds L more legs_more agree x j last.within) ∙ last.counted;
+    later = λ k lt le. elim (cases_eq k (suc (length rounds))) [
+      | inl e ↦ subst (λ z. is_counted n more legs_more z x ≡ false) (sym e) kept
+      | inr ne ↦ sym (counted_along n 0 (length rounds) rounds L more legs_more agree x k (omega arith)) ∙ last.later k lt (omega arith)
+    ];
+  }
+
+  module _ (g : Network) (h : ℕ) (b : AreBegun g h rounds L) (some : 0 < length nodes) (round : IsRound (IsKeyAfter g.nodes h rounds L (length rounds)) (IsLeftAfter g.nodes rounds (length rounds)) (L (length rounds)) nodes) (legs : ContractsRound g.nodes h (L (length rounds)) nodes M) where
+    -- a round of the shorter list is one of the longer
+    round_at_more : (k : ℕ) → k ≤ length rounds → (list : List ℕ) → IsRound (IsKeyAfter g.nodes h rounds L k) (IsLeftAfter g.nodes rounds k) (L k) list → IsRound (IsKeyAfter g.nodes h more legs_more k) (IsLeftAfter g.nodes more k) (legs_more k) list
+    round_at_more k le list p =
+        let a = agree_less (length rounds) k rounds L more legs_more le agree in
+        let back = agree_back k rounds L more legs_more a in
+        subst (λ (N : Legs). IsRound (IsKeyAfter g.nodes h more legs_more k) (IsLeftAfter g.nodes more k) N list) (a.legs k (omega arith))
+        (round_moved (IsKeyAfter g.nodes h rounds L k) (IsKeyAfter g.nodes h more legs_more k) (IsLeftAfter g.nodes rounds k) (IsLeftAfter g.nodes more k) (L k) list
+        (key_along g.nodes h k rounds L more legs_more a) (key_along g.nodes h k more legs_more rounds L back) (left_along g.nodes h k rounds L more legs_more a) (left_along g.nodes h k more legs_more rounds L back) p)
+
+    -- each round is one of the longer list
+    rounds_more : (k : ℕ) → k < length more → IsRound (IsKeyAfter g.nodes h more legs_more k) (IsLeftAfter g.nodes more k) (legs_more k) (round_at more k)
+    rounds_more k lt = elim (cases_eq k (length rounds)) [
+      | inl e ↦ subst (λ z. IsRound (IsKeyAfter g.nodes h more legs_more z) (IsLeftAfter g.nodes more z) (legs_more z) (round_at more z)) (sym e)
+          (subst (λ list. IsRound (IsKeyAfter g.nodes h more legs_more (length rounds)) (IsLeftAfter g.nodes more (length rounds)) (legs_more (length rounds)) list) (sym here) (round_at_more (length rounds) (omega arith) nodes round))
+      | inr ne ↦
+          let size = length_push rounds nodes in
+          let inside : k < length rounds = omega arith in
+          subst (IsRound (IsKeyAfter g.nodes h more legs_more k) (IsLeftAfter g.nodes more k) (legs_more k)) (before k inside) (round_at_more k (omega arith) (round_at rounds k) (b.round k inside))
+    ]
+
+    -- and leaves the legs before the next
+    contracted_more : (k : ℕ) → k < length more → ContractsRound g.nodes h (legs_more k) (round_at more k) (legs_more (k + 1))
+    contracted_more k lt = elim (cases_eq k (length rounds)) [
+      | inl e ↦ subst (λ z. ContractsRound g.nodes h (legs_more z) (round_at more z) (legs_more (z + 1))) (sym e) last
+      | inr ne ↦
+          let size = length_push rounds nodes in
+          let inside : k < length rounds = omega arith in
+          let one = subst (λ (N : Legs). ContractsRound g.nodes h N (round_at rounds k) (L (k + 1))) (agree.legs k (omega arith)) (b.legs k inside) in
+          let two = subst (λ list. ContractsRound g.nodes h (legs_more k) list (L (k + 1))) (before k inside) one in
+          subst (λ (N : Legs). ContractsRound g.nodes h (legs_more k) (round_at more k) N) (agree.legs (k + 1) (omega arith)) two
+    ]
+      where
+        last : ContractsRound g.nodes h (legs_more (length rounds)) (round_at more (length rounds)) (legs_more (length rounds + 1))
+        last =
+            let one = subst (λ (N : Legs). ContractsRound g.nodes h N nodes M) (sym now) legs in
+            let two = subst (λ list. ContractsRound g.nodes h (legs_more (length rounds)) list M) (sym here) one in
+            let three = subst (λ (N : Legs). ContractsRound g.nodes h (legs_more (length rounds)) (round_at more (length rounds)) N) (sym next) two in
+            subst (λ k. ContractsRound g.nodes h (legs_more (length rounds)) (round_at more (length rounds)) (legs_more k)) (sym (add-one (length rounds))) three
+
+    -- so the rounds with one more were made
+    pub begun_more : AreBegun g h (rounds ++ nodes ∷ []) (then_legs (length rounds) L M)
+    begun_more = record {
+      start = λ u w. ap (λ (N : Legs). N u w) (then_before (length rounds) L M 0 (omega arith)) ∙ b.start u w;
+      some = λ k lt. elim (cases_eq k (length rounds)) [
+        | inl e ↦ subst (λ z. 0 < length (round_at more z)) (sym e) (subst (λ list. 0 < length list) (sym here) some)
+        | inr ne ↦ let size = length_push rounds nodes in let inside : k < length rounds = omega arith in subst (λ list. 0 < length list) (before k inside) (b.some k inside)
+      ];
+      round = rounds_more;
+      legs = contracted_more;
+    }
