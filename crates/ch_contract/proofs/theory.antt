@@ -9,6 +9,7 @@ pub mod Opening
 pub mod OpeningLegs
 pub mod StepLegs
 pub mod RoundLegs
+pub mod RoundPuts
 pub mod Rounds
 pub mod Turns
 pub mod RoundNodes

@@ -15,7 +15,7 @@ mixed_number v = v * 2654435769 % 2 ^ 32
 abbrev pub ComesBefore : ℤ → ℕ → ℤ → ℕ → Type 0
 ComesBefore p v q x = (p ≤ℤ q) × (q ≤ℤ p → (mixed_number v ≤ mixed_number x) × (mixed_number x ≤ mixed_number v → v ≤ x))
 
--- x is a neighbour of v, or a neighbour of one
+-- x is a neighbour of v, or of one of v's neighbours
 abbrev pub IsWithinTwoLegs : Legs → ℕ → ℕ → Type 0
 IsWithinTwoLegs L v x = (are_neighbours L v x ≡ true) ⊎ ((y : ℕ) × (are_neighbours L v y ≡ true) × (are_neighbours L y x ≡ true))
 
@@ -37,25 +37,25 @@ is_one_of nodes v = list_any (λ x. v == x) nodes
 abbrev pub legs_away : List ℕ → Legs → Legs
 legs_away nodes L u w = if is_one_of nodes u || is_one_of nodes w then None else L u w
 
--- a pair of legs through v, a node of the round, without a witness of at most h legs that touches no node of the round
-pub record IsRoundShortcut (n h : ℕ) (L : Legs) (nodes : List ℕ) (v : ℕ) (s : Shortcut) : Type 0 where
+-- a pair of legs of L through v, without a witness of at most h legs among those of W
+pub record IsShortcutAmong (n h : ℕ) (L W : Legs) (v : ℕ) (s : Shortcut) : Type 0 where
   pub pair : IsPairThrough n L v s
-  pub needed : HasWitness (legs_away nodes L) v s.from s.to s.cost h → ⊥
+  pub needed : HasWitness W v s.from s.to s.cost h → ⊥
 
--- the shortcuts of v in the round, in order, each pair of nodes once
-pub record AreRoundShortcuts (n h : ℕ) (L : Legs) (nodes : List ℕ) (v : ℕ) (list : List Shortcut) : Type 0 where
+-- all of these of v, in order, each pair of nodes once
+pub record AreShortcutsAmong (n h : ℕ) (L W : Legs) (v : ℕ) (list : List Shortcut) : Type 0 where
   pub ordered : AllPairs IsPairBefore list
-  pub sound : (s : Shortcut) → Contains list s → IsRoundShortcut n h L nodes v s
-  pub whole : (s : Shortcut) → IsRoundShortcut n h L nodes v s → Contains list s
+  pub sound : (s : Shortcut) → Contains list s → IsShortcutAmong n h L W v s
+  pub whole : (s : Shortcut) → IsShortcutAmong n h L W v s → Contains list s
 
 -- the legs after the shortcuts of these nodes are put in, those of one node after those of the other
 abbrev pub legs_with_shortcuts : List ℕ → (ℕ → List Shortcut) → Legs → Legs
 legs_with_shortcuts [] lists L = L
 legs_with_shortcuts (v ∷ nodes) lists L = legs_with_shortcuts nodes lists (λ u w. leg_after_shortcuts v (lists v) u w (L u w))
 
--- M are the legs that are left of L by a round of these nodes: all their legs are taken out, and the shortcuts of each are put in
+-- M are the legs that are left of L by a round of these nodes: all legs that touch one are taken out, and the shortcuts of each are put in, where a witness is a chain of the legs that are left by then
 abbrev pub ContractsRound : ℕ → ℕ → Legs → List ℕ → Legs → Type 0
-ContractsRound n h L nodes M = (lists : ℕ → List Shortcut) × ((v : ℕ) → Contains nodes v → AreRoundShortcuts n h L nodes v (lists v)) × SameLegs M (legs_with_shortcuts nodes lists (legs_away nodes L))
+ContractsRound n h L nodes M = (lists : ℕ → List Shortcut) × ((v : ℕ) → Contains nodes v → AreShortcutsAmong n h L (legs_away nodes L) v (lists v)) × SameLegs M (legs_with_shortcuts nodes lists (legs_away nodes L))
 
 -- the depths after a round of these nodes: each neighbour of one lies at least one deeper than it
 abbrev pub depth_after_round : Legs → List ℕ → (ℕ → ℕ) → ℕ → ℕ

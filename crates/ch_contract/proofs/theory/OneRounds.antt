@@ -17,7 +17,7 @@ use Rattle.ch_contract.specs.Legs.{Legs, turned_legs}
 use Rattle.ch_contract.specs.LegRows.{AreLegsFrom}
 use Rattle.ch_contract.specs.Contraction.{IsPairBefore, AreShortcuts, leg_after_shortcuts, count_touching, key_by}
 use Rattle.ch_contract.specs.Order.{are_neighbours}
-use Rattle.ch_contract.specs.Rounds.{IsRound, AreRoundShortcuts, legs_away, legs_with_shortcuts, ContractsRound, depth_after_round}
+use Rattle.ch_contract.specs.Rounds.{IsRound, AreShortcutsAmong, legs_away, legs_with_shortcuts, ContractsRound, depth_after_round}
 use Rattle.ch_contract.specs.RoundOrder.{round_at, nodes_before, depth_before, is_early, is_counted, IsCountAfter, IsKeyAfter, IsLeftAfter, AreRounds, IsHierarchyOfRounds}
 use Rattle.ch_contract.specs.OneOrder.{RoundsNameOneHierarchy}
 use Rattle.ch_contract.proofs.theory.RowLegs.{one_row}
@@ -25,8 +25,8 @@ use Rattle.ch_contract.proofs.theory.OneOrder.{one_map, taken_at, same_rows}
 use Rattle.ch_contract.proofs.theory.RoundNodes.{before_next, before_all, in_round, left, nodes_once}
 
 -- the shortcuts of a node in a round are one list
-one_round_list : (n h : ℕ) (L : Legs) (nodes : List ℕ) (v : ℕ) (xs ys : List Shortcut) → AreRoundShortcuts n h L nodes v xs → AreRoundShortcuts n h L nodes v ys → xs ≡ ys
-one_round_list n h L nodes v xs ys p q = ordered_same IsPairBefore (λ a b r s. let lt = r.1 s.0 in omega arith) xs ys p.ordered q.ordered (λ s c. q.whole s (p.sound s c)) (λ s c. p.whole s (q.sound s c))
+one_round_list : (n h : ℕ) (L W : Legs) (v : ℕ) (xs ys : List Shortcut) → AreShortcutsAmong n h L W v xs → AreShortcutsAmong n h L W v ys → xs ≡ ys
+one_round_list n h L W v xs ys p q = ordered_same IsPairBefore (λ a b r s. let lt = r.1 s.0 in omega arith) xs ys p.ordered q.ordered (λ s c. q.whole s (p.sound s c)) (λ s c. p.whole s (q.sound s c))
 
 -- putting in the same lists leaves the same
 put_same : (todo : List ℕ) (f g : ℕ → List Shortcut) (L : Legs) → ((v : ℕ) → Contains todo v → f v ≡ g v) → legs_with_shortcuts todo f L ≡ legs_with_shortcuts todo g L
@@ -38,7 +38,7 @@ put_same (v ∷ todo) f g L same =
 -- a round leaves one map
 one_round_map : (n h : ℕ) (L : Legs) (nodes : List ℕ) (M N : Legs) → ContractsRound n h L nodes M → ContractsRound n h L nodes N → M ≡ N
 one_round_map n h L nodes M N p q =
-    let same = put_same nodes p.0 q.0 (legs_away nodes L) (λ v c. one_round_list n h L nodes v (p.0 v) (q.0 v) (p.1 v c) (q.1 v c)) in
+    let same = put_same nodes p.0 q.0 (legs_away nodes L) (λ v c. one_round_list n h L (legs_away nodes L) v (p.0 v) (q.0 v) (p.1 v c) (q.1 v c)) in
     one_map M _ p.2 ∙ same ∙ sym (one_map N _ q.2)
 
 -- a round has one list of nodes

@@ -1,17 +1,37 @@
 -- Rounds that grow by one round.
-use Rattle.std.proofs.Common.{◌≡◌, ℕ, suc, ◌+◌, ◌<◌, ◌≤◌, true, false, List, [], ◌∷◌, ◌++◌, length, length-append, Contains, refl, sym, ◌∙◌, ap, subst, arith, add-one, inl, inr}
-use Rattle.std.specs.Prelude.{◌*◌, ◌&&◌, ◌||◌, not, nat_lt, ℤ}
+use Rattle.std.proofs.Common.{◌≡◌, ℕ, zero, suc, ◌+◌, ◌<◌, ◌≤◌, true, false, Bool, List, [], ◌∷◌, ◌++◌, length, length-append, Contains, refl, sym, ◌∙◌, ap, subst, arith, add-one, inl, inr}
+use Rattle.std.specs.Prelude.{if◌then◌else◌, max, ◌*◌, ◌&&◌, ◌||◌, not, nat_lt, ℤ}
 use Rattle.std.specs.List.{concat, list_any}
 use Rattle.std.proofs.lemmas.Bool.{cases_eq}
 use Rattle.std.proofs.lemmas.List.{get_or_append_left, get_or_push, length_push}
 use Rattle.ch_graph.specs.Graph.{Network}
 use Rattle.ch_contract.specs.Legs.{Legs, SameLegs, opening}
-use Rattle.ch_contract.specs.Order.{are_neighbours}
+use Rattle.ch_contract.specs.Order.{are_neighbours, next_depth}
 use Rattle.ch_contract.specs.Rounds.{IsRound, ContractsRound, depth_after_round}
 use Rattle.ch_contract.specs.RoundOrder.{round_at, nodes_before, depth_before, is_counted, IsLastCount, IsKeyAfter, IsLeftAfter, AreRounds}
 use Rattle.ch_contract.proofs.theory.OrderSteps.{then_legs, then_before, then_next}
 use Rattle.ch_contract.proofs.theory.RoundNodes.{before_next, before_all}
 use Rattle.ch_contract.proofs.theory.OneRounds.{Agree, agree_back, before_along, depth_along, counted_along, key_along, left_along}
+
+-- once v is contracted, no node lies more than one deeper than any did
+next_most : (L : Legs) (v : ℕ) (depth : ℕ → ℕ) (m : ℕ) → ((x : ℕ) → depth x ≤ m) → (x : ℕ) → next_depth L v depth x ≤ m + 1
+next_most L v depth m most x = at (are_neighbours L v x) (most x) (most v)
+  where
+    at : {a c : ℕ} (b : Bool) → a ≤ m → c ≤ m → (if b then max a (c + 1) else a) ≤ m + 1
+    at true p q = omega arith
+    at false p q = omega arith
+
+-- nor after a round more than one for each of its nodes
+pub round_most : (L : Legs) (nodes : List ℕ) (depth : ℕ → ℕ) (m : ℕ) → ((x : ℕ) → depth x ≤ m) → (x : ℕ) → depth_after_round L nodes depth x ≤ m + length nodes
+round_most L [] depth m most x = let low = most x in omega arith
+round_most L (v ∷ nodes) depth m most x = let low = round_most L nodes (next_depth L v depth) (m + 1) (next_most L v depth m most) x in omega arith
+
+-- so no node lies deeper than nodes are contracted
+pub depth_most : (rounds : List (List ℕ)) (L : ℕ → Legs) (r x : ℕ) → depth_before rounds L r x ≤ length (nodes_before rounds r)
+depth_most rounds L zero x = omega arith
+depth_most rounds L (suc r) x =
+    let low = round_most (L r) (round_at rounds r) (depth_before rounds L r) (length (nodes_before rounds r)) (depth_most rounds L r) x in
+    omega (arith, ap length (before_next rounds r), length-append (nodes_before rounds r) (round_at rounds r))
 
 -- these rounds were made, with the legs L r left after the first r
 pub record AreBegun (g : Network) (h : ℕ) (rounds : List (List ℕ)) (L : ℕ → Legs) : Type 0 where

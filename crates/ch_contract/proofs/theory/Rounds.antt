@@ -9,7 +9,7 @@ use Rattle.ch_contract.specs.declared.shortcut.Shortcut.{Shortcut}
 use Rattle.ch_contract.specs.Legs.{Label, Legs, AreLegsWithin}
 use Rattle.ch_contract.specs.Contraction.{leg_after_shortcuts, legs_after_contraction}
 use Rattle.ch_contract.specs.Enough.{IsPairThrough, AreEnough, ContractsWithEnough}
-use Rattle.ch_contract.specs.Rounds.{is_one_of, legs_away, AreRoundShortcuts, legs_with_shortcuts, AreApart, TakesInTurn, IsStepOfRound}
+use Rattle.ch_contract.specs.Rounds.{is_one_of, legs_away, AreShortcutsAmong, legs_with_shortcuts, AreApart, TakesInTurn, IsStepOfRound}
 use Rattle.ch_contract.specs.RoundLaws.{RoundsAreContractions}
 use Rattle.ch_contract.proofs.theory.RowLegs.{none_unless}
 use Rattle.ch_contract.proofs.theory.Contracting.{override_cases, pair_of_shortcut, pairs_by_enough}
@@ -28,7 +28,7 @@ pair_moved n L M v s same is = let legs = is.legs in record {
   arcs = is.arcs;
 }
 
-module _ (n h : ℕ) (L : Legs) (nodes : List ℕ) (most : 1 ≤ h) (limits : AreLegsWithin n L) (is : AreApart L nodes) (lists : ℕ → List Shortcut) (are : (v : ℕ) → Contains nodes v → AreRoundShortcuts n h L nodes v (lists v)) where
+module _ (n h : ℕ) (L : Legs) (nodes : List ℕ) (most : 1 ≤ h) (limits : AreLegsWithin n L) (is : AreApart L nodes) (lists : ℕ → List Shortcut) (are : (v : ℕ) → Contains nodes v → AreShortcutsAmong n h L (legs_away nodes L) v (lists v)) where
   -- what holds of the legs M while these nodes of the round are still to be contracted
   pub record IsUnderway (todo : List ℕ) (M : Legs) : Type 0 where
     pub members : (v : ℕ) → Contains todo v → Contains nodes v
