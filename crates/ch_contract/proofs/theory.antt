@@ -17,6 +17,7 @@ pub mod RoundOrders
 pub mod OneRounds
 pub mod RoundSteps
 pub mod RoundFirst
+pub mod RoundsMade
 pub mod KeptCosts
 pub mod BuiltLegs
 pub mod BuiltKept

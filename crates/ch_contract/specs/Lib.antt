@@ -27,6 +27,7 @@ pub mod Rounds
 pub mod RoundOrder
 pub mod RoundLaws
 pub mod RoundReference
+pub mod RoundProgress
 pub mod HeldCosts
 pub mod KnownCosts
 pub mod LegLists

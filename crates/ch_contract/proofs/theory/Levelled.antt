@@ -57,7 +57,7 @@ gone_next n L v M step x =
     last false o e = rw e refl
 
 -- no leg comes back to a node that has none
-gone_more : (n : ℕ) (L : Legs) (v : ℕ) (M : Legs) (z : ℕ) → IsGone L z → ContractsWithPairs n L v M → IsGone M z
+pub gone_more : (n : ℕ) (L : Legs) (v : ℕ) (M : Legs) (z : ℕ) → IsGone L z → ContractsWithPairs n L v M → IsGone M z
 gone_more n L v M z gone step x = (
   none_unless (M z x) (λ l e. elim (contracted_cases L v step.0 z x l (sym (step.2 z x) ∙ e)) [
     | inl old ↦ none-some _ (sym (gone x).0 ∙ old)

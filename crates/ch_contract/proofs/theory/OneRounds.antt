@@ -91,7 +91,7 @@ module _ (n h r : ℕ) (rounds : List (List ℕ)) (L : ℕ → Legs) (other : Li
       λ t. not (now t) && (past t || list_any (λ v. are_neighbours (legs t) v x) (node t))
 
   -- so their numbers are the same
-  count_along : (x c : ℕ) → IsCountAfter n h rounds L r x c → IsCountAfter n h other M r x c
+  pub count_along : (x c : ℕ) → IsCountAfter n h rounds L r x c → IsCountAfter n h other M r x c
   count_along x c b =
       let last = b.2 in (
         b.0,

@@ -1,14 +1,16 @@
 -- The nodes of rounds: each node is in one round.
-use Rattle.std.proofs.Common.{◌≡◌, ℕ, zero, suc, ◌<◌, ◌≤◌, List, [], ◌∷◌, ◌++◌, length, refl, Contains, append-nil, append_assoc, sym, ◌∙◌, ap, subst, arith, inl, inr}
+use Rattle.std.proofs.Common.{◌≡◌, ℕ, zero, suc, ◌+◌, ◌<◌, ◌≤◌, List, [], ◌∷◌, ◌++◌, length, refl, Contains, append-nil, append_assoc, sym, ◌∙◌, ap, subst, arith, inl, inr}
 use Rattle.std.specs.Prelude.{◌≢◌, All, AllPairs, slice_index_or}
 use Rattle.std.specs.List.{concat}
+use Rattle.std.proofs.lemmas.Bool.{cases_eq}
 use Rattle.std.proofs.lemmas.List.{take_all}
-use Rattle.std.proofs.lemmas.List.Elements.{Contains-get_or, Contains-append_cases}
+use Rattle.std.proofs.lemmas.List.Elements.{Contains-get_or, Contains-append_left, Contains-append_right, Contains-append_cases}
 use Rattle.ch_graph.specs.Graph.{Network}
 use Rattle.ch_graph.proofs.Lists.{pairs_append, contains_none}
 use Rattle.ch_hierarchy.proofs.theory.Ordered.{distinct_most, whole_least}
-use Rattle.ch_contract.specs.Legs.{Legs}
-use Rattle.ch_contract.specs.RoundOrder.{round_at, nodes_before, IsLeftAfter, AreRounds}
+use Rattle.ch_contract.specs.Legs.{Legs, SameLegs, opening}
+use Rattle.ch_contract.specs.Rounds.{IsRound, ContractsRound}
+use Rattle.ch_contract.specs.RoundOrder.{round_at, nodes_before, IsKeyAfter, IsLeftAfter, AreRounds}
 
 -- one more round
 pub before_next : (rounds : List (List ℕ)) (r : ℕ) → nodes_before rounds (suc r) ≡ nodes_before rounds r ++ round_at rounds r
@@ -28,6 +30,29 @@ in_round (nodes ∷ rounds) x c = elim (Contains-append_cases nodes (concat roun
   | inl here ↦ (zero, omega arith, here)
   | inr later ↦ let at = in_round rounds x later in (suc at.0, omega (arith, at.1), at.2)
 ]
+
+-- a node of one of the first rounds is one of their nodes
+pub round_before : (rounds : List (List ℕ)) (r k v : ℕ) → r < k → Contains (round_at rounds r) v → Contains (nodes_before rounds k) v
+round_before rounds r zero v lt c = absurd (omega arith)
+round_before rounds r (suc k) v lt c = subst (λ l. Contains l v) (sym (before_next rounds k)) (elim (cases_eq r k) [
+  | inl e ↦ Contains-append_right (nodes_before rounds k) (round_at rounds k) v (subst (λ z. Contains (round_at rounds z) v) e c)
+  | inr ne ↦ Contains-append_left (nodes_before rounds k) (round_at rounds k) v (round_before rounds r k v (omega arith) c)
+])
+
+-- these rounds were made, with the legs L r left after the first r
+pub record AreBegun (g : Network) (h : ℕ) (rounds : List (List ℕ)) (L : ℕ → Legs) : Type 0 where
+  pub start : SameLegs (L 0) (opening g)
+  pub some : (r : ℕ) → r < length rounds → 0 < length (round_at rounds r)
+  pub round : (r : ℕ) → r < length rounds → IsRound (IsKeyAfter g.nodes h rounds L r) (IsLeftAfter g.nodes rounds r) (L r) (round_at rounds r)
+  pub legs : (r : ℕ) → r < length rounds → ContractsRound g.nodes h (L r) (round_at rounds r) (L (r + 1))
+
+-- once no node is left, these are all rounds
+pub begun_all : (g : Network) (h : ℕ) (rounds : List (List ℕ)) (L : ℕ → Legs) → AreBegun g h rounds L → ((x : ℕ) → x < g.nodes → Contains (concat rounds) x) → AreRounds g h rounds L
+begun_all g h rounds L b all = record { start = b.start; some = b.some; round = b.round; legs = b.legs; all = all }
+
+-- all rounds were made
+pub begun_of : {g : Network} {h : ℕ} {rounds : List (List ℕ)} {L : ℕ → Legs} → AreRounds g h rounds L → AreBegun g h rounds L
+begun_of are = record { start = are.start; some = are.some; round = are.round; legs = are.legs }
 
 module _ {g : Network} {h : ℕ} {rounds : List (List ℕ)} {L : ℕ → Legs} (are : AreRounds g h rounds L) where
   -- what is in a round was left before it

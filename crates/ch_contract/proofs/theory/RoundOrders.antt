@@ -1,9 +1,11 @@
 -- A hierarchy by rounds is one of nodes that are contracted one after the other, with shortcuts that are enough.
-use Rattle.std.proofs.Common.{◌≡◌, ℕ, zero, suc, ◌+◌, ◌<◌, ◌≤◌, Bool, true, false, List, length, refl, sym, ◌∙◌, ap, subst, arith, add-one, inl, inr}
-use Rattle.std.specs.Prelude.{◌≢◌, ◌||◌, is_some, slice_index, ℤ, ◌≤ℤ◌}
+use Rattle.std.proofs.Common.{◌≡◌, ℕ, zero, suc, ◌+◌, ◌<◌, ◌≤◌, Bool, true, false, List, length, Contains, refl, sym, ◌∙◌, ap, subst, arith, add-one, inl, inr}
+use Rattle.std.specs.Prelude.{◌⊎◌, All, AllPairs, ◌≢◌, ◌||◌, is_some, slice_index, ℤ, ◌≤ℤ◌}
 use Rattle.std.specs.List.{concat}
 use Rattle.std.proofs.lemmas.Bool.{cases_lt, false≢true}
+use Rattle.std.proofs.lemmas.List.Elements.{Contains-append_cases}
 use Rattle.ch_graph.specs.Graph.{Network, IsWithinLimits}
+use Rattle.ch_graph.proofs.Lists.{contains_none}
 use Rattle.ch_hierarchy.specs.Hierarchy.{LevelsAndLegs}
 use Rattle.ch_hierarchy.specs.Rows.{row}
 use Rattle.ch_contract.specs.declared.measure.OrderBy.TheVariants.{Depth}
@@ -14,14 +16,15 @@ use Rattle.ch_contract.specs.Enough.{ContractsWithEnough}
 use Rattle.ch_contract.specs.Order.{are_neighbours}
 use Rattle.ch_contract.specs.Built.{IsHierarchyIn}
 use Rattle.ch_contract.specs.Rounds.{ComesBefore, IsWithinTwoLegs, IsRound, AreApart, TakesInTurn, IsStepOfRound}
-use Rattle.ch_contract.specs.RoundOrder.{round_at, nodes_before, depth_before, IsLastCount, IsCountAfter, IsKeyAfter, AreRounds, IsHierarchyOfRounds}
+use Rattle.ch_contract.specs.RoundOrder.{round_at, nodes_before, depth_before, IsLastCount, IsCountAfter, IsKeyAfter, IsHierarchyOfRounds}
 use Rattle.ch_contract.specs.RoundLaws.{HierarchiesByRoundsAreKept}
 use Rattle.ch_contract.proofs.theory.OpeningLegs.{opening_within}
 use Rattle.ch_contract.proofs.theory.OneOrder.{one_map, one_list}
 use Rattle.ch_contract.proofs.theory.Contracting.{pairs_by_enough}
+use Rattle.ch_contract.proofs.theory.Levelled.{IsGone}
 use Rattle.ch_contract.proofs.theory.Rounds.{rounds_are_contractions}
-use Rattle.ch_contract.proofs.theory.RoundNodes.{before_next, before_all, nodes_once}
-use Rattle.ch_contract.proofs.theory.Turns.{turns_map, turns_append, turns_within, legs_at, legs_first, step_of}
+use Rattle.ch_contract.proofs.theory.RoundNodes.{AreBegun, begun_of, before_next, before_all, nodes_once}
+use Rattle.ch_contract.proofs.theory.Turns.{turns_map, turns_append, turns_within, turns_gone, legs_at, legs_first, step_of}
 use Rattle.ch_contract.proofs.theory.BuiltKept.{hierarchies_with_enough_kept}
 
 -- the shortcuts of a node were counted last at one time
@@ -83,7 +86,7 @@ round_apart IsKey IsLeft L nodes one round = record {
       ne (both_before a.0 a.1 _ _ v x a.4 back);
 }
 
-module _ {g : Network} {h : ℕ} {rounds : List (List ℕ)} {L : ℕ → Legs} (limits : IsWithinLimits g) (hops : IsHopBound h) (are : AreRounds g h rounds L) where
+module _ {g : Network} {h : ℕ} {rounds : List (List ℕ)} {L : ℕ → Legs} (limits : IsWithinLimits g) (hops : IsHopBound h) (are : AreBegun g h rounds L) where
   -- a round within the limits is contractions one after the other
   turn : (r : ℕ) → r < length rounds → AreLegsWithin g.nodes (L r) → TakesInTurn (IsStepOfRound g.nodes h (L r)) (L r) (round_at rounds r) (L (suc r))
   turn r lt within =
@@ -97,7 +100,17 @@ module _ {g : Network} {h : ℕ} {rounds : List (List ℕ)} {L : ℕ → Legs} (
       let before = within_rounds r (omega arith) in
       turns_within (IsStepOfRound g.nodes h (L r)) g.nodes (round_at rounds r) (L r) (L (suc r)) (λ K v N step. pairs_by_enough g.nodes h K v N step.0) (turn r (omega arith) before) before
 
-  module _ {H : LevelsAndLegs} (is : IsHierarchyOfRounds g H rounds L) where
+  -- no leg touches a node of the first rounds
+  pub gone_rounds : (r : ℕ) → r ≤ length rounds → (z : ℕ) → Contains (nodes_before rounds r) z → IsGone (L r) z
+  gone_rounds zero le z c = absurd (contains_none z c)
+  gone_rounds (suc r) le z c =
+      let gone = elim (Contains-append_cases (nodes_before rounds r) (round_at rounds r) z (subst (λ l. Contains l z) (before_next rounds r) c)) as (λ _. Contains (round_at rounds r) z ⊎ IsGone (L r) z) [
+        | inl early ↦ inr (gone_rounds r (omega arith) z early)
+        | inr now ↦ inl now
+      ] in
+      turns_gone (IsStepOfRound g.nodes h (L r)) g.nodes (round_at rounds r) (L r) (L (suc r)) z (λ K v N step. pairs_by_enough g.nodes h K v N step.0) (turn r (omega arith) (within_rounds r (omega arith))) gone
+
+  module _ {H : LevelsAndLegs} (once : (length (concat rounds) ≡ g.nodes) × All (λ v. v < g.nodes) (concat rounds) × AllPairs ◌≢◌ (concat rounds)) (is : IsHierarchyOfRounds g H rounds L) where
     -- a node is contracted with enough shortcuts, and its rows are its legs just before
     abbrev IsStepOf : Legs → ℕ → Legs → Type 0
     IsStepOf K v N = ContractsWithEnough g.nodes h K v N × AreLegsFrom K v (row H.up v) × AreLegsTo K v (row H.down v)
@@ -130,7 +143,7 @@ module _ {g : Network} {h : ℕ} {rounds : List (List ℕ)} {L : ℕ → Legs} (
     -- and the step
     step : (i : ℕ) → i < g.nodes → IsStepOf (legs i) (slice_index (concat rounds) i) (legs (i + 1))
     step i lt =
-        let size = (nodes_once are).0 in
+        let size = once.0 in
         subst (λ k. IsStepOf (legs i) (slice_index (concat rounds) i) (legs k)) (sym (add-one i)) (step_of IsStepOf (concat rounds) (L 0) (L (length rounds)) steps i (omega arith))
 
     -- so it is a hierarchy of nodes that are contracted one after the other
@@ -139,7 +152,7 @@ module _ {g : Network} {h : ℕ} {rounds : List (List ℕ)} {L : ℕ → Legs} (
       legs,
       record {
         contracted = record {
-          nodes = nodes_once are;
+          nodes = once;
           start = subst (λ (K : Legs). SameLegs K (opening g)) (sym (legs_first IsStepOf (concat rounds) (L 0) (L (length rounds)) steps)) are.start;
           step = λ i lt. (step i lt).0;
         };
@@ -152,4 +165,4 @@ module _ {g : Network} {h : ℕ} {rounds : List (List ℕ)} {L : ℕ → Legs} (
 
 -- hierarchies by rounds are kept
 pub hierarchies_by_rounds_kept : HierarchiesByRoundsAreKept
-hierarchies_by_rounds_kept g h H limits hops is = let by = by_steps limits hops is.2 is.3 in hierarchies_with_enough_kept g h H (concat is.0) by.0 limits by.1
+hierarchies_by_rounds_kept g h H limits hops is = let by = by_steps limits hops (begun_of is.2) (nodes_once is.2) is.3 in hierarchies_with_enough_kept g h H (concat is.0) by.0 limits by.1

@@ -1,16 +1,16 @@
 -- Rounds that grow by one round.
-use Rattle.std.proofs.Common.{◌≡◌, ℕ, zero, suc, ◌+◌, ◌<◌, ◌≤◌, true, false, Bool, List, [], ◌∷◌, ◌++◌, length, length-append, Contains, refl, sym, ◌∙◌, ap, subst, arith, add-one, inl, inr}
+use Rattle.std.proofs.Common.{◌≡◌, ℕ, zero, suc, ◌+◌, ◌<◌, ◌≤◌, true, false, Bool, List, [], ◌∷◌, ◌++◌, length, length-append, refl, sym, ◌∙◌, ap, subst, arith, add-one, inl, inr}
 use Rattle.std.specs.Prelude.{if◌then◌else◌, max, ◌*◌, ◌&&◌, ◌||◌, not, nat_lt, ℤ}
 use Rattle.std.specs.List.{concat, list_any}
 use Rattle.std.proofs.lemmas.Bool.{cases_eq}
 use Rattle.std.proofs.lemmas.List.{get_or_append_left, get_or_push, length_push}
 use Rattle.ch_graph.specs.Graph.{Network}
-use Rattle.ch_contract.specs.Legs.{Legs, SameLegs, opening}
+use Rattle.ch_contract.specs.Legs.{Legs, opening}
 use Rattle.ch_contract.specs.Order.{are_neighbours, next_depth}
 use Rattle.ch_contract.specs.Rounds.{IsRound, ContractsRound, depth_after_round}
-use Rattle.ch_contract.specs.RoundOrder.{round_at, nodes_before, depth_before, is_counted, IsLastCount, IsKeyAfter, IsLeftAfter, AreRounds}
+use Rattle.ch_contract.specs.RoundOrder.{round_at, nodes_before, depth_before, is_counted, IsLastCount, IsKeyAfter, IsLeftAfter}
 use Rattle.ch_contract.proofs.theory.OrderSteps.{then_legs, then_before, then_next}
-use Rattle.ch_contract.proofs.theory.RoundNodes.{before_next, before_all}
+use Rattle.ch_contract.proofs.theory.RoundNodes.{AreBegun, before_next, before_all}
 use Rattle.ch_contract.proofs.theory.OneRounds.{Agree, agree_back, before_along, depth_along, counted_along, key_along, left_along}
 
 -- once v is contracted, no node lies more than one deeper than any did
@@ -33,13 +33,6 @@ depth_most rounds L (suc r) x =
     let low = round_most (L r) (round_at rounds r) (depth_before rounds L r) (length (nodes_before rounds r)) (depth_most rounds L r) x in
     omega (arith, ap length (before_next rounds r), length-append (nodes_before rounds r) (round_at rounds r))
 
--- these rounds were made, with the legs L r left after the first r
-pub record AreBegun (g : Network) (h : ℕ) (rounds : List (List ℕ)) (L : ℕ → Legs) : Type 0 where
-  pub start : SameLegs (L 0) (opening g)
-  pub some : (r : ℕ) → r < length rounds → 0 < length (round_at rounds r)
-  pub round : (r : ℕ) → r < length rounds → IsRound (IsKeyAfter g.nodes h rounds L r) (IsLeftAfter g.nodes rounds r) (L r) (round_at rounds r)
-  pub legs : (r : ℕ) → r < length rounds → ContractsRound g.nodes h (L r) (round_at rounds r) (L (r + 1))
-
 -- before the first round
 pub begun_none : (g : Network) (h : ℕ) → AreBegun g h [] (λ r. opening g)
 begun_none g h = record {
@@ -48,10 +41,6 @@ begun_none g h = record {
   round = λ r lt. absurd (omega arith);
   legs = λ r lt. absurd (omega arith);
 }
-
--- once no node is left, these are all rounds
-pub begun_all : (g : Network) (h : ℕ) (rounds : List (List ℕ)) (L : ℕ → Legs) → AreBegun g h rounds L → ((x : ℕ) → x < g.nodes → Contains (concat rounds) x) → AreRounds g h rounds L
-begun_all g h rounds L b all = record { start = b.start; some = b.some; round = b.round; legs = b.legs; all = all }
 
 -- a round of the same nodes by other words
 round_moved : (IsKey IsOther : ℕ → ℤ → Type 0) (IsLeft IsRest : ℕ → Type 0) (L : Legs) (nodes : List ℕ) → ((x : ℕ) (p : ℤ) → IsKey x p → IsOther x p) → ((x : ℕ) (p : ℤ) → IsOther x p → IsKey x p) → ((x : ℕ) → IsLeft x → IsRest x) → ((x : ℕ) → IsRest x → IsLeft x) →
@@ -76,7 +65,7 @@ module _ (rounds : List (List ℕ)) (L : ℕ → Legs) (nodes : List ℕ) (M : L
   legs_more = then_legs (length rounds) L M
 
   -- earlier rounds are what they were
-  before : (k : ℕ) → k < length rounds → round_at rounds k ≡ round_at more k
+  pub before : (k : ℕ) → k < length rounds → round_at rounds k ≡ round_at more k
   before k lt = sym (get_or_append_left rounds (nodes ∷ []) [] k lt)
 
   -- the new round is the last

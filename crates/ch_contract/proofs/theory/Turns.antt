@@ -1,12 +1,12 @@
 -- Nodes that are taken one after the other, and the legs between their steps.
-use Rattle.std.proofs.Common.{◌≡◌, ℕ, zero, suc, ◌+◌, ◌<◌, List, [], ◌∷◌, ◌++◌, length, Contains, refl, sym, subst, arith}
-use Rattle.std.specs.Prelude.{slice_index}
-use Rattle.ch_graph.proofs.Lists.{contains_head, contains_tail}
+use Rattle.std.proofs.Common.{◌≡◌, ℕ, zero, suc, ◌+◌, ◌<◌, List, [], ◌∷◌, ◌++◌, length, Contains, refl, sym, subst, arith, inl, inr}
+use Rattle.std.specs.Prelude.{◌⊎◌, slice_index}
+use Rattle.ch_graph.proofs.Lists.{contains_head, contains_tail, contains_cons, contains_none}
 use Rattle.ch_contract.specs.Legs.{Legs, AreLegsWithin}
 use Rattle.ch_contract.specs.Rounds.{TakesInTurn}
 use Rattle.ch_contract.proofs.theory.Contracting.{ContractsWithPairs}
 use Rattle.ch_contract.proofs.theory.OneOrder.{one_map}
-use Rattle.ch_contract.proofs.theory.Levelled.{within_more}
+use Rattle.ch_contract.proofs.theory.Levelled.{IsGone, gone_next, gone_more, within_more}
 
 -- steps of one kind that are steps of another
 pub turns_map : (IsStep IsOther : Legs → ℕ → Legs → Type 0) (nodes : List ℕ) (L M : Legs) → ((K : Legs) (v : ℕ) (N : Legs) → Contains nodes v → IsStep K v N → IsOther K v N) → TakesInTurn IsStep L nodes M → TakesInTurn IsOther L nodes M
@@ -22,6 +22,16 @@ turns_append IsStep (v ∷ xs) ys L M N t s = (t.0, t.1, turns_append IsStep xs 
 pub turns_within : (IsStep : Legs → ℕ → Legs → Type 0) (n : ℕ) (nodes : List ℕ) (L M : Legs) → ((K : Legs) (v : ℕ) (N : Legs) → IsStep K v N → ContractsWithPairs n K v N) → TakesInTurn IsStep L nodes M → AreLegsWithin n L → AreLegsWithin n M
 turns_within IsStep n [] L M f t limits = subst (AreLegsWithin n) (one_map L M t) limits
 turns_within IsStep n (v ∷ nodes) L M f t limits = turns_within IsStep n nodes t.0 M f t.2 (within_more n L v t.0 limits (f L v t.0 t.1))
+
+-- no leg touches a node that is taken, nor one that no leg touched before
+pub turns_gone : (IsStep : Legs → ℕ → Legs → Type 0) (n : ℕ) (nodes : List ℕ) (L M : Legs) (z : ℕ) → ((K : Legs) (v : ℕ) (N : Legs) → IsStep K v N → ContractsWithPairs n K v N) → TakesInTurn IsStep L nodes M → Contains nodes z ⊎ IsGone L z → IsGone M z
+turns_gone IsStep n [] L M z f t (inl c) = absurd (contains_none z c)
+turns_gone IsStep n [] L M z f t (inr gone) = subst (λ (K : Legs). IsGone K z) (one_map L M t) gone
+turns_gone IsStep n (v ∷ nodes) L M z f t (inl c) = elim (contains_cons v z nodes c) [
+  | inl e ↦ turns_gone IsStep n nodes t.0 M z f t.2 (inr (subst (IsGone t.0) e (gone_next n L v t.0 (f L v t.0 t.1))))
+  | inr later ↦ turns_gone IsStep n nodes t.0 M z f t.2 (inl later)
+]
+turns_gone IsStep n (v ∷ nodes) L M z f t (inr gone) = turns_gone IsStep n nodes t.0 M z f t.2 (inr (gone_more n L v t.0 z gone (f L v t.0 t.1)))
 
 -- the legs after the first i steps
 pub legs_at : (IsStep : Legs → ℕ → Legs → Type 0) (nodes : List ℕ) (L M : Legs) → TakesInTurn IsStep L nodes M → ℕ → Legs
