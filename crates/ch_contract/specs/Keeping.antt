@@ -25,11 +25,11 @@ IsLeft g order i x = (x < g.nodes) × (Contains (take i order) x → ⊥)
 abbrev pub AreLeastCostsKept : Network → List ℕ → (ℕ → Legs) → Type 0
 AreLeastCostsKept g order L = (i u w : ℕ) (c : Cost) → i ≤ g.nodes → IsLeft g order i u → IsLeft g order i w → IsLeast g u w c → IsLeastChain (L i) u w c
 
--- so it is in whichever order nodes are contracted
+-- so it is for contraction in any order
 abbrev pub ContractionKeepsLeastCosts : Type 0
 ContractionKeepsLeastCosts = (g : Network) (h : ℕ) (order : List ℕ) (L : ℕ → Legs) → IsWithinLimits g → IsHopBound h → AreContracted g h order L → AreLeastCostsKept g order L
 
--- and where each is contracted with shortcuts that are enough, be they more than the needed ones
+-- and for contraction with enough shortcuts, which may be more than the needed ones
 abbrev pub EnoughKeepsLeastCosts : Type 0
 EnoughKeepsLeastCosts = (g : Network) (h : ℕ) (order : List ℕ) (L : ℕ → Legs) → IsWithinLimits g → AreTaken (ContractsWithEnough g.nodes h) g order L → AreLeastCostsKept g order L
 
@@ -37,6 +37,6 @@ EnoughKeepsLeastCosts = (g : Network) (h : ℕ) (order : List ℕ) (L : ℕ → 
 abbrev pub HierarchiesAreKept : Type 0
 HierarchiesAreKept = (by : OrderBy) (g : Network) (h : ℕ) (H : LevelsAndLegs) → IsWithinLimits g → IsHopBound h → IsHierarchyBy by g h H → IsKept g H
 
--- and so is each hierarchy of nodes that are contracted, in any order, with shortcuts that are enough
+-- and so is each hierarchy of nodes contracted, in any order, with enough shortcuts
 abbrev pub HierarchiesWithEnoughAreKept : Type 0
 HierarchiesWithEnoughAreKept = (g : Network) (h : ℕ) (H : LevelsAndLegs) (order : List ℕ) (L : ℕ → Legs) → IsWithinLimits g → IsHierarchyIn (ContractsWithEnough g.nodes h) g H order L → IsKept g H

@@ -1,4 +1,4 @@
--- What rounds are, and what they keep.
+-- A round equals single contractions, and a hierarchy by rounds is kept.
 use Rattle.std.specs.Prelude.{ℕ, List}
 use Rattle.ch_graph.specs.Graph.{Network, IsWithinLimits}
 use Rattle.ch_hierarchy.specs.Hierarchy.{LevelsAndLegs}
@@ -7,7 +7,7 @@ use Rattle.ch_contract.specs.Legs.{Legs, AreLegsWithin, IsHopBound}
 use Rattle.ch_contract.specs.Rounds.{AreApart, ContractsRound, TakesInTurn, IsStepOfRound}
 use Rattle.ch_contract.specs.RoundOrder.{IsHierarchyByRounds}
 
--- a round of nodes of which no two lie within two legs is their contraction one after the other with shortcuts that are enough, and each of them has until then the legs that it had before the round
+-- a round of nodes that are apart equals their contractions one after the other with enough shortcuts; just before its contraction each node still has the legs that it had before the round
 abbrev pub RoundsAreContractions : Type 0
 RoundsAreContractions = (n h : ℕ) (L : Legs) (nodes : List ℕ) (M : Legs) → IsHopBound h → AreLegsWithin n L → AreApart L nodes → ContractsRound n h L nodes M → TakesInTurn (IsStepOfRound n h L) L nodes M
 

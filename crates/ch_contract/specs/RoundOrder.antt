@@ -29,30 +29,30 @@ depth_before rounds L (suc r) x = depth_after_round (L r) (round_at rounds r) (d
 abbrev pub is_early : ℕ → List (List ℕ) → ℕ → Bool
 is_early n rounds r = nat_lt (10 * length (nodes_before rounds r)) (7 * n)
 
--- whether the shortcuts of x are counted after the first r rounds: at the opening those of all nodes are, then none while it is early, then those of all once, and from then on those of each neighbour of a node of the last round
+-- whether the shortcuts of x are counted after the first r rounds: for all nodes at the opening, for none while it is early, for all once it no longer is, and then for the neighbours of each round
 abbrev pub is_counted : ℕ → List (List ℕ) → (ℕ → Legs) → ℕ → ℕ → Bool
 is_counted n rounds L zero x = true
 is_counted n rounds L (suc r) x = not (is_early n rounds (suc r)) && (is_early n rounds r || list_any (λ v. are_neighbours (L r) v x) (round_at rounds r))
 
--- in the first r rounds, the shortcuts of x were counted last after the first j
+-- of the first r rounds, the j-th is the last after which the shortcuts of x were counted; j is 0 for the opening
 pub record IsLastCount (n : ℕ) (rounds : List (List ℕ)) (L : ℕ → Legs) (r x j : ℕ) : Type 0 where
   pub within : j ≤ r
   pub counted : is_counted n rounds L j x ≡ true
   pub later : (k : ℕ) → j < k → k ≤ r → is_counted n rounds L k x ≡ false
 
--- the number of shortcuts that x had when they were counted last in the first r rounds
+-- c is the last count of the shortcuts of x in the first r rounds
 abbrev pub IsCountAfter : ℕ → ℕ → List (List ℕ) → (ℕ → Legs) → ℕ → ℕ → ℕ → Type 0
 IsCountAfter n h rounds L r x c = (j : ℕ) × (list : List Shortcut) × IsLastCount n rounds L r x j × AreShortcuts n h (L j) x list × (c ≡ length list)
 
--- the key of x after the first r rounds: by that number, and by its legs and its depth of now
+-- p is the key of x after the first r rounds: its last count of shortcuts, its present legs and its present depth
 abbrev pub IsKeyAfter : ℕ → ℕ → List (List ℕ) → (ℕ → Legs) → ℕ → ℕ → ℤ → Type 0
 IsKeyAfter n h rounds L r x p = (c : ℕ) × IsCountAfter n h rounds L r x c × (p ≡ key_by Depth c (count_touching n (L r) x) (depth_before rounds L r x))
 
--- x is one of n nodes, and of none of the first r rounds
+-- x is one of the n nodes, and in none of the first r rounds
 abbrev pub IsLeftAfter : ℕ → List (List ℕ) → ℕ → ℕ → Type 0
 IsLeftAfter n rounds r x = (x < n) × (Contains (nodes_before rounds r) x → ⊥)
 
--- all nodes of g are contracted in these rounds, of which none is empty, with the legs L r that are left after the first r
+-- these rounds contract all nodes of g, and none is empty; L r are the legs after the first r rounds
 pub record AreRounds (g : Network) (h : ℕ) (rounds : List (List ℕ)) (L : ℕ → Legs) : Type 0 where
   pub start : SameLegs (L 0) (opening g)
   pub some : (r : ℕ) → r < length rounds → 0 < length (round_at rounds r)
@@ -60,7 +60,7 @@ pub record AreRounds (g : Network) (h : ℕ) (rounds : List (List ℕ)) (L : ℕ
   pub legs : (r : ℕ) → r < length rounds → ContractsRound g.nodes h (L r) (round_at rounds r) (L (r + 1))
   pub all : (x : ℕ) → x < g.nodes → Contains (concat rounds) x
 
--- the nodes have levels from 1 on, round after round and in a round by number; the up legs of a node are those from it just before its round, its down legs those to it
+-- levels count the nodes from 1, round after round and in a round by number; a node's up legs are its legs from it just before its round, its down legs those to it
 pub record IsHierarchyOfRounds (g : Network) (H : LevelsAndLegs) (rounds : List (List ℕ)) (L : ℕ → Legs) : Type 0 where
   pub sizes : (length H.level ≡ g.nodes) × (length H.up ≡ g.nodes) × (length H.down ≡ g.nodes)
   pub level : (i : ℕ) → i < g.nodes → slice_index H.level (slice_index (concat rounds) i) ≡ i + 1

@@ -1,4 +1,4 @@
--- What contraction by rounds has come to.
+-- The state of contraction by rounds.
 use Rattle.std.specs.Prelude.{◌≡◌, ℕ, ◌+◌, ◌*◌, ◌<◌, ◌&&◌, ◌||◌, ◌↔◌, not, nat_lt, Bool, true, false, List, length, slice_index, Contains, ℤ}
 use Rattle.std.specs.List.{list_any}
 use Rattle.ch_graph.specs.Graph.{Network}
@@ -13,7 +13,7 @@ use Rattle.ch_contract.specs.Contraction.{AreShortcuts, count_touching, key_by}
 use Rattle.ch_contract.specs.Order.{are_neighbours}
 use Rattle.ch_contract.specs.Rounds.{IsRound, ContractsRound, depth_after_round}
 
--- the nodes that are left and their legs, the number of shortcuts of each node as it was counted last, its depth, and the level and the rows of each contracted node
+-- the remaining nodes and their legs, each node's last count of shortcuts and its depth, and the level and the rows of each contracted node
 pub record RoundProgress : Type 0 where
   pub left : List ℕ
   pub legs : Legs
@@ -28,11 +28,11 @@ pub record RoundProgress : Type 0 where
 abbrev pub IsCount : ℕ → ℕ → Legs → ℕ → ℕ → Type 0
 IsCount n h L x c = (list : List Shortcut) × AreShortcuts n h L x list × (c ≡ length list)
 
--- the key of a node that is left
+-- k is the key of the remaining node x
 abbrev pub IsKeyNow : ℕ → RoundProgress → ℕ → ℤ → Type 0
 IsKeyNow n p x k = Contains p.left x × (k ≡ key_by Depth (p.counts x) (count_touching n p.legs x) (p.depth x))
 
--- whether the shortcuts of x are counted once these nodes are contracted
+-- whether the shortcuts of x are counted after a round of these nodes
 abbrev pub is_due : ℕ → RoundProgress → List ℕ → ℕ → Bool
 is_due n p nodes x = not (nat_lt (10 * (p.contracted + length nodes)) (7 * n)) && (nat_lt (10 * p.contracted) (7 * n) || list_any (λ v. are_neighbours p.legs v x) nodes)
 
@@ -45,7 +45,7 @@ pub record IsRoundsOpen (g : Network) (h : ℕ) (p : RoundProgress) : Type 0 whe
   pub size : length p.levels ≡ g.nodes
   pub contracted : p.contracted ≡ 0
 
--- a round of these nodes is contracted: their rows are put in, their levels go on from the number of contracted nodes, and the shortcuts of those that are due are counted
+-- a round of these nodes is contracted: their rows are put in, their levels continue those before, and due shortcuts are counted
 pub record IsRoundStep (n h : ℕ) (before : RoundProgress) (nodes : List ℕ) (after : RoundProgress) : Type 0 where
   pub round : IsRound (IsKeyNow n before) (Contains before.left) before.legs nodes
   pub legs : ContractsRound n h before.legs nodes after.legs

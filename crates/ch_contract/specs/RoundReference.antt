@@ -18,7 +18,7 @@ comes_before a b = int_lt a.0 b.0 || (not (int_lt b.0 a.0) && (nat_lt (mixed_num
 abbrev pub is_within_two_legs : ℕ → Legs → ℕ → ℕ → Bool
 is_within_two_legs n L v x = are_neighbours L v x || list_any (λ y. are_neighbours L v y && are_neighbours L y x) (range_with_len 0 n)
 
--- those of these nodes, each after its key, that come before each other one within two legs
+-- of these nodes, each after its key, those that come before all others within two legs
 abbrev pub round_of : ℕ → Legs → List (ℤ × ℕ) → List (ℤ × ℕ)
 round_of n L keyed = filter (λ e. list_all (λ f. e.1 == f.1 || (not (is_within_two_legs n L e.1 f.1) || comes_before e f)) keyed) keyed
 
@@ -39,14 +39,14 @@ table_after_round n h L nodes =
     let lists : List (ℕ × List Shortcut) = map (λ v. (v, round_shortcuts_of n h L nodes v)) nodes in
     table_of n (legs_with_shortcuts nodes (λ v. unwrap_or (option_map (λ e. e.1) (find (λ e. e.0 == v) lists)) []) (legs_away nodes L))
 
--- the nodes that are left, each after its number of shortcuts as it was counted last
+-- the remaining nodes, each after its last count of shortcuts
 abbrev pub Counted : Type 0
 Counted = List (ℕ × ℕ)
 
 abbrev pub counted_of : ℕ → ℕ → Legs → ℕ → ℕ × ℕ
 counted_of n h L v = (length (shortcuts_of n h L v), v)
 
--- the others after a round of these nodes, counted anew where it is time; so many nodes were contracted before
+-- the remaining nodes after a round, with due shortcuts counted; `done` nodes were contracted before the round
 abbrev pub counted_after : ℕ → ℕ → ℕ → Legs → Legs → List ℕ → Counted → Counted
 counted_after n h done before after nodes list =
     let late : Bool = not (nat_lt (10 * (done + length nodes)) (7 * n)) in

@@ -1,4 +1,4 @@
--- A round of contraction: nodes that are far enough apart are contracted together.
+-- A round contracts nodes together that lie more than two legs apart.
 use Rattle.std.specs.Prelude.{◌≡◌, ◌≢◌, ℕ, ◌*◌, ◌%◌, ◌^◌, ◌<◌, ◌≤◌, ◌==◌, ◌||◌, ◌⊎◌, Bool, true, if◌then◌else◌, List, [], ◌∷◌, AllPairs, Contains, None, ℤ, ◌≤ℤ◌}
 use Rattle.std.specs.List.{list_any}
 use Rattle.ch_contract.specs.declared.shortcut.Shortcut.{Shortcut}
@@ -7,11 +7,11 @@ use Rattle.ch_contract.specs.Contraction.{IsPairBefore, leg_after_shortcuts}
 use Rattle.ch_contract.specs.Enough.{IsPairThrough, ContractsWithEnough}
 use Rattle.ch_contract.specs.Order.{are_neighbours, next_depth}
 
--- what decides between nodes of equal keys: the number mixed, so that nodes in a row are not taken one after the other from one end
+-- decides between equal keys; neighbouring numbers get distant mixed numbers
 abbrev pub mixed_number : ℕ → ℕ
 mixed_number v = v * 2654435769 % 2 ^ 32
 
--- v comes before x, where p is v's key and q is x's: the lesser key comes first, of equal ones the lesser mixed number, and of equal ones the lesser number
+-- v with key p comes before x with key q: the lesser key first, then the lesser mixed number, then the lesser number
 abbrev pub ComesBefore : ℤ → ℕ → ℤ → ℕ → Type 0
 ComesBefore p v q x = (p ≤ℤ q) × (q ≤ℤ p → (mixed_number v ≤ mixed_number x) × (mixed_number x ≤ mixed_number v → v ≤ x))
 
@@ -19,11 +19,11 @@ ComesBefore p v q x = (p ≤ℤ q) × (q ≤ℤ p → (mixed_number v ≤ mixed_
 abbrev pub IsWithinTwoLegs : Legs → ℕ → ℕ → Type 0
 IsWithinTwoLegs L v x = (are_neighbours L v x ≡ true) ⊎ ((y : ℕ) × (are_neighbours L v y ≡ true) × (are_neighbours L y x ≡ true))
 
--- v comes before each other node within two legs, where this says which number is the key of a node
+-- v comes before every other node within two legs; IsKey x p says that the key of x is p
 abbrev pub IsFirstAround : (ℕ → ℤ → Type 0) → Legs → ℕ → Type 0
 IsFirstAround IsKey L v = (x : ℕ) → x ≢ v → IsWithinTwoLegs L v x → (p q : ℤ) × IsKey v p × IsKey x q × ComesBefore p v q x
 
--- the nodes of a round, in order of number: those of the nodes that are left that come before each other node within two legs
+-- a round has, in order of number, every remaining node that comes before all others within two legs
 pub record IsRound (IsKey : ℕ → ℤ → Type 0) (IsLeft : ℕ → Type 0) (L : Legs) (nodes : List ℕ) : Type 0 where
   pub ordered : AllPairs ◌<◌ nodes
   pub sound : (v : ℕ) → Contains nodes v → IsLeft v × IsFirstAround IsKey L v
@@ -37,41 +37,41 @@ is_one_of nodes v = list_any (λ x. v == x) nodes
 abbrev pub legs_away : List ℕ → Legs → Legs
 legs_away nodes L u w = if is_one_of nodes u || is_one_of nodes w then None else L u w
 
--- a pair of legs of L through v, without a witness of at most h legs among those of W
+-- s is a pair of legs of L through v and has no witness of at most h legs in W
 pub record IsShortcutAmong (n h : ℕ) (L W : Legs) (v : ℕ) (s : Shortcut) : Type 0 where
   pub pair : IsPairThrough n L v s
   pub needed : HasWitness W v s.from s.to s.cost h → ⊥
 
--- all of these of v, in order, each pair of nodes once
+-- the list of all of them, in order, each pair of nodes once
 pub record AreShortcutsAmong (n h : ℕ) (L W : Legs) (v : ℕ) (list : List Shortcut) : Type 0 where
   pub ordered : AllPairs IsPairBefore list
   pub sound : (s : Shortcut) → Contains list s → IsShortcutAmong n h L W v s
   pub whole : (s : Shortcut) → IsShortcutAmong n h L W v s → Contains list s
 
--- the legs after the shortcuts of these nodes are put in, those of one node after those of the other
+-- the legs after the shortcuts of each node are put in, node by node
 abbrev pub legs_with_shortcuts : List ℕ → (ℕ → List Shortcut) → Legs → Legs
 legs_with_shortcuts [] lists L = L
 legs_with_shortcuts (v ∷ nodes) lists L = legs_with_shortcuts nodes lists (λ u w. leg_after_shortcuts v (lists v) u w (L u w))
 
--- M are the legs that are left of L by a round of these nodes: all legs that touch one are taken out, and the shortcuts of each are put in, where a witness is a chain of the legs that are left by then
+-- M are the legs after a round of these nodes: their legs are taken out of L, then their shortcuts are put in; witnesses avoid all nodes of the round
 abbrev pub ContractsRound : ℕ → ℕ → Legs → List ℕ → Legs → Type 0
 ContractsRound n h L nodes M = (lists : ℕ → List Shortcut) × ((v : ℕ) → Contains nodes v → AreShortcutsAmong n h L (legs_away nodes L) v (lists v)) × SameLegs M (legs_with_shortcuts nodes lists (legs_away nodes L))
 
--- the depths after a round of these nodes: each neighbour of one lies at least one deeper than it
+-- the depths after a round of these nodes: each of their neighbours lies at least one deeper than they do
 abbrev pub depth_after_round : Legs → List ℕ → (ℕ → ℕ) → ℕ → ℕ
 depth_after_round L [] depth x = depth x
 depth_after_round L (v ∷ nodes) depth x = depth_after_round L nodes (next_depth L v depth) x
 
--- different nodes of which no two lie within two legs
+-- the nodes differ, and no two of them lie within two legs
 pub record AreApart (L : Legs) (nodes : List ℕ) : Type 0 where
   pub distinct : AllPairs ◌≢◌ nodes
   pub apart : (v x : ℕ) → Contains nodes v → Contains nodes x → v ≢ x → IsWithinTwoLegs L v x → ⊥
 
--- L becomes M where these nodes are taken one after the other, each by such a step
+-- taking these nodes one after the other turns L into M; IsStep K v N says that taking v turns K into N
 abbrev pub TakesInTurn : (Legs → ℕ → Legs → Type 0) → Legs → List ℕ → Legs → Type 0
 TakesInTurn IsStep L [] M = SameLegs L M
 TakesInTurn IsStep L (v ∷ nodes) M = (N : Legs) × IsStep L v N × TakesInTurn IsStep N nodes M
 
--- v is contracted with shortcuts that are enough, and up to then it has the legs that it had before the round
+-- v is contracted with enough shortcuts, and just before it still has its legs of L
 abbrev pub IsStepOfRound : ℕ → ℕ → Legs → Legs → ℕ → Legs → Type 0
 IsStepOfRound n h L K v N = ContractsWithEnough n h K v N × ((x : ℕ) → (K v x ≡ L v x) × (K x v ≡ L x v))

@@ -5,8 +5,8 @@
 //! also the search for witnesses, which walks no chain past its bound; [`build_by`] makes the hierarchy that
 //! the rules name in an order, by the difference ([`build`]) or by depth, however workers share its priorities,
 //! which is one ([`laws::one_order`]), and which is
-//! kept for its graph ([`laws::keeping`]), as is one by rounds of nodes that are far enough apart
-//! ([`laws::rounds`]); in a hierarchy that is kept for a graph, of any origin, going up
+//! kept for its graph ([`laws::keeping`]); a hierarchy by rounds is kept too ([`laws::rounds`]);
+//! in a hierarchy that is kept for a graph, of any origin, going up
 //! and then down costs least what a walk costs least ([`laws::kept`]); [`assemble`] makes the one hierarchy
 //! that a saved order and legs name, or tells their first fault ([`laws::saved`]).
 #![tactic(auto)]

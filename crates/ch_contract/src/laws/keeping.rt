@@ -13,13 +13,13 @@ pub fn hierarchies_are_kept()
     ensures { HierarchiesAreKept }
 {}
 
-/// It does so, too, where nodes are contracted with more shortcuts than are needed: with pairs of legs of which
-/// none costs more than a leg in whose place it stands.
+/// Contraction with enough shortcuts keeps the costs between the nodes that are left. Enough shortcuts are all that
+/// are needed, and possibly more pairs of legs, none dearer than a leg between the same two nodes.
 pub fn enough_keeps_least_costs()
     ensures { EnoughKeepsLeastCosts }
 {}
 
-/// A hierarchy of nodes that are contracted, in any order, with such shortcuts is kept for its graph.
+/// A hierarchy of nodes contracted in any order with enough shortcuts is kept for its graph.
 pub fn hierarchies_with_enough_are_kept()
     ensures { HierarchiesWithEnoughAreKept }
 {}

@@ -1,8 +1,8 @@
-//! What contraction by rounds is and keeps, each the contract of a function that does nothing.
+//! Laws of contraction by rounds, each the contract of a function that does nothing.
 ghost use Rattle.ch_contract.specs.RoundLaws.{RoundsAreContractions, HierarchiesByRoundsAreKept};
 
-/// A round of nodes of which no two lie within two legs is their contraction one after the other, with shortcuts
-/// that are enough.
+/// A round equals the contractions of its nodes one after the other, with enough shortcuts, if no two of them lie
+/// within two legs.
 pub fn rounds_are_contractions()
     ensures { RoundsAreContractions }
 {}
