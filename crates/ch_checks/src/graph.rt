@@ -2,6 +2,7 @@
 use crate::again::again;
 use ch_graph::{Cost, Graph, GraphFault, InArc, Rows, plain_distance, sort_by_key};
 use std::alloc::{AllocError, Global};
+use std::process::Abort;
 use std::test::Fail;
 
 fn arc(from: u32, to: u32, weight: u64) -> InArc {
@@ -87,15 +88,8 @@ fn costs_go_by_weight_first(rt: HostRuntime) {
     assert_eq!(rt; cost(1 << 60, 2).plus(cost(1 << 60, 3)), cost(1 << 61, 5));
 }
 
-/// Rows are made of pairs, or pushed one behind the other. It holds when any one request for memory is refused: the
-/// call that meets the refusal answers `AllocError`, and made again with what it was lent it answers as with ample
-/// memory.
-#[test]
-fn refused_in_turn(rt: HostRuntime) -> Result<(), Fail> {
-    let alloc = rt.alloc();
-    let arcs = again!(Vec::from_slice(alloc, &[arc(0, 1, 1), arc(1, 0, 1), arc(0, 2, 1)]));
-    let graph = Graph::new(3, arcs)?;
-    assert_eq!(rt; again!(plain_distance(alloc, &graph, 1, 2)), Some(2));
+/// Rows are made of pairs, or pushed one behind the other.
+fn expect_rows(rt: &impl Abort, alloc: Global) -> Result<(), AllocError> {
     let pairs = [(2, 7), (0, 8), (2, 9)];
     let rows = again!(Rows::build(alloc, 3, &pairs));
     assert_eq!(rt; rows.row_count(), 3);
@@ -104,11 +98,28 @@ fn refused_in_turn(rt: HostRuntime) -> Result<(), Fail> {
     assert_eq!(rt; rows.row(2), [7, 9].as_slice());
     let sorted = again!(sort_by_key(alloc, 3, &pairs));
     assert_eq!(rt; sorted.as_slice(), [8, 7, 9].as_slice());
-    let mut pushed = again!(Rows::with_room(alloc, 0, 0));
-    again!(pushed.push(&[7u64, 8]));
-    again!(pushed.push(&[]));
-    assert_eq!(rt; pushed.row_count(), 2);
-    assert_eq!(rt; pushed.row(0), [7, 8].as_slice());
-    assert_eq!(rt; pushed.row(1).len(), 0);
+    Ok(())
+}
+
+fn expect_pushed(rt: &impl Abort, alloc: Global) -> Result<(), AllocError> {
+    let mut rows = again!(Rows::with_room(alloc, 0, 0));
+    again!(rows.push(&[7u64, 8]));
+    again!(rows.push(&[]));
+    assert_eq!(rt; rows.row_count(), 2);
+    assert_eq!(rt; rows.row(0), [7, 8].as_slice());
+    assert_eq!(rt; rows.row(1).len(), 0);
+    Ok(())
+}
+
+/// It holds when any one request for memory is refused: the call that meets the refusal answers `AllocError`, and made
+/// again with what it was lent it answers as with ample memory.
+#[test]
+fn refused_in_turn(rt: HostRuntime) -> Result<(), Fail> {
+    let alloc = rt.alloc();
+    let arcs = again!(Vec::from_slice(alloc, &[arc(0, 1, 1), arc(1, 0, 1), arc(0, 2, 1)]));
+    let graph = Graph::new(3, arcs)?;
+    assert_eq!(rt; again!(plain_distance(alloc, &graph, 1, 2)), Some(2));
+    expect_rows(&rt, alloc)?;
+    expect_pushed(&rt, alloc)?;
     Ok(())
 }

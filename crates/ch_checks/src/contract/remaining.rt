@@ -35,41 +35,51 @@ fn open(alloc: Global, example: &Example) -> Result<Remaining, Fail>
     Ok(Remaining::open(alloc, &graph)?)
 }
 
-/// Whether a chain of at most so many legs leads from node 0 past node 1 to this node, for at most this weight and so
-/// many arcs.
-fn is_reached(
+/// A bound in weight and in arcs, one in legs, and whether a chain keeps them.
+type Bound = ((u64, u64), u32, bool);
+
+/// Expects within which of these bounds a chain leads from node 0 past node 1 to this node.
+fn expect_reached(
     rt: &impl Abort,
     legs: &Remaining,
     node: u32,
-    most: (u64, u64),
-    hops: u32,
-) -> Result<bool, AllocError> {
-    let (weight, arcs) = most;
+    bounds: &[Bound],
+) -> Result<(), AllocError> {
     assert!(rt; 1 < node && node < legs.nodes());
-    assert!(rt; weight <= MOST_WEIGHT && hops > 0 && hops <= MOST_HOPS);
-    legs.has_witness(1, 0, node, Cost { weight, arcs }, hops)
+    for ((weight, arcs), hops, expected) in bounds {
+        assert!(rt; *weight <= MOST_WEIGHT && *hops > 0 && *hops <= MOST_HOPS);
+        let most = Cost {
+            weight: *weight,
+            arcs: *arcs,
+        };
+        assert_eq!(rt; legs.has_witness(1, 0, node, most, *hops)?, *expected);
+    }
+    Ok(())
 }
 
-/// A witness may cost as much as what it spares, in weight and then in arcs, and has at most so many legs; so a
-/// priority depends on the bound.
+/// A witness may cost as much as what it spares, in weight and then in arcs, and has at most so many legs.
 #[test]
 fn witnesses_are_bounded(rt: HostRuntime) -> Result<(), Fail> {
     let detour = open(rt.alloc(), &DETOUR)?;
-    for (most, hops, expected) in [
+    let bounds = [
         ((2, 2), 2, false),
         ((2, 2), 3, true),
         ((0, 2), 3, false),
         ((0, 3), 3, true),
-    ] {
-        assert_eq!(rt; is_reached(&rt, &detour, 2, most, hops)?, expected);
-    }
+    ];
+    expect_reached(&rt, &detour, 2, &bounds)?;
     let diamond = open(rt.alloc(), &DIAMOND)?;
-    for (most, hops, expected) in [((2, 2), 1, false), ((2, 2), 2, true), ((2, 1), 2, false)] {
-        assert_eq!(rt; is_reached(&rt, &diamond, 3, most, hops)?, expected);
-    }
-    assert!(rt; detour.nodes() == 5);
-    assert_eq!(rt; detour.priority(1, 2)?, -1);
-    assert_eq!(rt; detour.priority(1, 3)?, -2);
+    let bounds = [((2, 2), 1, false), ((2, 2), 2, true), ((2, 1), 2, false)];
+    expect_reached(&rt, &diamond, 3, &bounds)?;
+    Ok(())
+}
+
+#[test]
+fn a_priority_depends_on_the_bound_in_legs(rt: HostRuntime) -> Result<(), Fail> {
+    let legs = open(rt.alloc(), &DETOUR)?;
+    assert!(rt; legs.nodes() == 5);
+    assert_eq!(rt; legs.priority(1, 2)?, -1);
+    assert_eq!(rt; legs.priority(1, 3)?, -2);
     Ok(())
 }
 

@@ -99,6 +99,25 @@ fn no_plan_changes_an_answer(rt: HostRuntime) -> Result<(), Fail> {
     Ok(())
 }
 
+/// The answers of two workers, twice in the scratches that the first call leaves.
+fn answered_again<R: Threads + Sync>(
+    rt: &R,
+    alloc: Global,
+    ring: &Hierarchy,
+    queries: &[(u32, u32)],
+    routes: bool,
+) -> Result<Vec<Answer>, AllocError>
+    requires kept { IsKeptForSome ring.now }
+    requires queries { AreQueries (nodes_of ring.now) queries.now }
+    requires count { length queries.now ≤ MOST_QUERIES }
+{
+    let plan = Plan::new(2, 1, 64);
+    let crew = crew(rt, alloc, &plan, &Open);
+    let mut scratches = Vec::new(alloc);
+    let _ = answer_all_in(&crew, ring, &mut scratches, queries, routes)?;
+    answer_all_in(&crew, ring, &mut scratches, queries, routes)
+}
+
 /// By one worker, by two that share the queries, and by two in scratches that stay. It holds when any one request for memory
 /// is refused.
 #[test]
@@ -110,11 +129,8 @@ fn answered_refused_in_turn(rt: HostRuntime) -> Result<(), Fail> {
         let plan = Plan::new(workers, 1, 64);
         expect_answers(&rt, alloc, &ring, &queries, &[4, 4], &plan)?;
     }
-    let plan = Plan::new(2, 1, 64);
-    let crew = crew(&rt, alloc, &plan, &Open);
-    let mut scratches = Vec::new(alloc);
     for routes in [false, true] {
-        let answers = again!(answer_all_in(&crew, &ring, &mut scratches, &queries, routes));
+        let answers = again!(answered_again(&rt, alloc, &ring, &queries, routes));
         expect(&rt, &answers, &queries, &[4, 4], routes);
     }
     Ok(())
