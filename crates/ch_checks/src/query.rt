@@ -117,18 +117,37 @@ const STALLING: Example = Example {
     ],
 };
 
+/// A search space: source, limit, and its entries, each (node, weight).
+type Space<'a> = (u32, Option<u64>, &'a [(u32, u64)]);
+
+/// Expects these search spaces, in both directions.
+fn expect_spaces(
+    rt: &impl Abort,
+    roads: &mut Prepared,
+    spaces: &[Space],
+) -> Result<(), AllocError> {
+    for (source, within, entries) in spaces {
+        roads.expect_space(rt, *source, Side::Up, *within, entries)?;
+        roads.expect_space(rt, *source, Side::Down, *within, entries)?;
+    }
+    Ok(())
+}
+
 /// A node to which a higher node shows a lighter way has no entry in a search space, and one in a spread.
 #[test]
 fn a_stalled_node_has_no_entry(rt: HostRuntime) -> Result<(), Fail> {
     let mut roads = Prepared::new(&rt, rt.alloc(), &STALLING)?;
-    for side in [Side::Up, Side::Down] {
-        roads.expect_spread(&rt, 0, side, None, &[(0, 0, 0), (1, 10, 1), (2, 1, 1)])?;
-        roads.expect_space(&rt, 0, side, None, &[(0, 0), (2, 1)])?;
-        roads.expect_space(&rt, 0, side, Some(1), &[(0, 0), (2, 1)])?;
-        roads.expect_space(&rt, 0, side, Some(0), &[(0, 0)])?;
-        roads.expect_space(&rt, 2, side, None, &[(2, 0)])?;
-    }
-    roads.expect_distance(&rt, 0, 1, Some(2));
+    roads.expect_spread(&rt, 0, Side::Up, None, &[(0, 0, 0), (1, 10, 1), (2, 1, 1)])?;
+    let near: &[(u32, u64)] = &[(0, 0), (2, 1)];
+    let itself: &[(u32, u64)] = &[(0, 0)];
+    let last: &[(u32, u64)] = &[(2, 0)];
+    let spaces = [
+        (0, None, near),
+        (0, Some(1), near),
+        (0, Some(0), itself),
+        (2, None, last),
+    ];
+    expect_spaces(&rt, &mut roads, &spaces)?;
     Ok(())
 }
 
