@@ -1,14 +1,13 @@
 #!/usr/bin/python3
-"""Tests the service of a network, and its page in a browser (headless Chromium, driven by Selenium).
+"""Tests the service of a network, and its page in a browser (headless Chromium, driven by Selenium): with a mouse, by keyboard alone, and
+with names that are HTML. How the page looks is tested by `looks.py`.
 
 What needs a package that is missing is told and left out. The last line is 'N passed, N failed'.
 """
 import concurrent.futures
-import contextlib
 import http.client
 import itertools
 import json
-import os
 import pathlib
 import random
 import signal
@@ -16,12 +15,11 @@ import socket
 import subprocess
 import sys
 import time
-import urllib.parse
 
 from helpers import running
-from helpers.moods import STANDIN, mood
 from helpers.packages import PYTHON, run_checks
 from helpers.running import PROGRAM, ROOT
+from helpers.serving import BROWSER, COUNTRY, SERVICE, Keys, ask, browser, faulty_service, send, service, shown_page
 from helpers.writing import write_graph
 
 sys.path.insert(0, str(ROOT / "python"))
@@ -29,44 +27,9 @@ sys.path.insert(0, str(ROOT / "python"))
 import chtab  # noqa: E402
 from chtab import files  # noqa: E402
 
-COUNTRY = ROOT / "examples" / "liechtenstein"
 VADUZ, ESCHEN = [9.5209, 47.1410], [9.5450, 47.2200]
 # A metre along the equator, in degrees.
 METRE = 1 / 111_195
-
-
-@contextlib.contextmanager
-def service(out=COUNTRY, *words, program=PROGRAM):
-    """A service on a free port: its process, host and port. It ends well."""
-    command = [PYTHON, ROOT / "tools" / "page.py", "--port", 0, "--program", program, *words, out]
-    child = subprocess.Popen(list(map(str, command)), stdout=subprocess.PIPE, stderr=open("told", "w"), text=True)
-    try:
-        address = urllib.parse.urlsplit(child.stdout.readline().strip())
-        assert address.port, open("told").read()
-        yield child, address
-    finally:
-        child.terminate()
-        status = child.wait(20)
-    assert status in (0, -signal.SIGKILL), status
-
-
-@contextlib.contextmanager
-def faulty_service(words, *more):
-    """The same over the stand-in in a mood. It leaves no run behind."""
-    with mood(words), service(COUNTRY, *more, program=STANDIN) as found:
-        yield found
-
-
-def ask(address, path, body=None, method=None):
-    """Status and value of an answer. `body` is sent as it is, or as JSON."""
-    connection = http.client.HTTPConnection(address.hostname, address.port, timeout=60)
-    try:
-        data = body if body is None or isinstance(body, bytes) else json.dumps(body).encode()
-        connection.request(method or ("GET" if body is None else "POST"), path, data)
-        answer = connection.getresponse()
-        return answer.status, json.loads(answer.read())
-    finally:
-        connection.close()
 
 
 def requests_are_answered():
@@ -201,83 +164,31 @@ def a_service_ends_well():
     assert (done.returncode, done.stderr.count("\n")) == (1, 1) and "none.gr" in done.stderr, done
 
 
-class Browser:
-    """A headless browser, and a map that it shows."""
+def what_browsers_are_told():
+    """Each answer says that nothing runs but the page's own files, that types are not guessed, that no other site is told of the page, and
+    how long it may be kept."""
+    paths = "/", "/page/page.js", "/page/page.css", "/leaflet/leaflet.js", "/api/network", "/roads/12/2156/1439.svg", "/nothing", "/api/route"
+    with service() as (_, address):
+        for path in paths:
+            _, headers, _ = send(address, path)
+            policy = dict(part.split(" ", 1) for part in headers["Content-Security-Policy"].split("; "))
+            assert policy["default-src"] == "'none'" and policy["script-src"] == policy["style-src"] == policy["connect-src"] == "'self'", (path, policy)
+            assert policy["img-src"] == "'self' data:" and policy["frame-ancestors"] == policy["base-uri"] == policy["form-action"] == "'none'", policy
+            assert headers["X-Content-Type-Options"] == "nosniff" and headers["Referrer-Policy"] == "no-referrer", (path, headers.items())
+            assert headers["Cache-Control"] == ("max-age=3600" if path.startswith("/roads") else "no-cache"), (path, headers.items())
+    with service(COUNTRY, "--tiles", "https://{s}.tile.example.org:8443/{z}/{x}/{y}.png") as (_, address):
+        _, headers, _ = send(address, "/")
+        servers = " ".join(f"https://{letter}.tile.example.org:8443" for letter in "abc")
+        assert f"img-src 'self' data: {servers};" in headers["Content-Security-Policy"], headers.items()
+        assert headers["Referrer-Policy"] == "strict-origin", headers.items()
+    strange = "javascript:alert(1)//{z}/{x}/{y}", "https://a.org; script-src */{z}/{x}/{y}.png", "//a.org/{z}/{x}/{y}.png", "https://[::1/{z}"
+    for tiles in strange:
+        command = [PYTHON, ROOT / "tools" / "page.py", "--port", 0, "--program", PROGRAM, "--tiles", tiles, COUNTRY]
+        done = subprocess.run(list(map(str, command)), capture_output=True, text=True)
+        assert (done.returncode, done.stdout, done.stderr.count("\n")) == (1, "", 1) and "is not the address of map tiles" in done.stderr, done
 
-    def __init__(self):
-        from selenium import webdriver
-        from selenium.webdriver.chrome.service import Service
 
-        options = webdriver.ChromeOptions()
-        words = ["--headless=new", "--disable-gpu", "--disable-dev-shm-usage", "--no-proxy-server", "--window-size=1280,820"]
-        for word in words + (["--no-sandbox"] if os.getuid() == 0 else []):
-            options.add_argument(word)
-        self.driver = webdriver.Chrome(service=Service("/usr/bin/chromedriver"), options=options)
-
-    def __enter__(self):
-        return self
-
-    def __exit__(self, *_):
-        self.driver.quit()
-
-    def show(self, address):
-        self.driver.get(address.geturl())
-        self.wait("idle")
-
-    def run(self, text, *words):
-        return self.driver.execute_script(text, *words)
-
-    def find(self, name):
-        from selenium.webdriver.common.by import By
-
-        return self.driver.find_element(By.ID, name)
-
-    def wait(self, *states, seconds=30):
-        """Waits until the page is in one of these states."""
-        until = time.monotonic() + seconds
-        while self.state() not in states:
-            assert time.monotonic() < until, (self.state(), states, self.message())
-            time.sleep(0.03)
-        return self.state()
-
-    def state(self):
-        return self.run("return document.body.dataset.state")
-
-    def message(self):
-        return self.run("return document.getElementById('message').textContent")
-
-    def pixel(self, place):
-        """Where a place is, from the middle of the map."""
-        text = "const at = layers.map.latLngToContainerPoint([arguments[1], arguments[0]]), size = layers.map.getSize();"
-        return self.run(text + "return [Math.round(at.x - size.x / 2), Math.round(at.y - size.y / 2)]", *place)
-
-    def click(self, place):
-        from selenium.webdriver import ActionChains
-
-        ActionChains(self.driver).move_to_element_with_offset(self.find("map"), *self.pixel(place)).click().perform()
-
-    def drag(self, end, place):
-        """Drags a marker to a place, and waits for the answer."""
-        from selenium.webdriver import ActionChains
-
-        (x, y), (u, v) = self.pixel(self.at(end)), self.pixel(place)
-        actions = ActionChains(self.driver).move_to_element_with_offset(self.find("map"), x, y - 20).click_and_hold()
-        # Leaflet takes a move of more than three pixels for a drag, and leaves that first move out.
-        for part in (4 / max(abs(u - x), abs(v - y)), 0.5, 1):
-            actions = actions.move_to_element_with_offset(self.find("map"), round(x + (u - x) * part), round(y + (v - y) * part) - 20)
-        actions.pause(0.3).release().perform()
-
-    def at(self, end):
-        return self.run(f"return lonLat(state.{end})")
-
-    def weight(self, way="there"):
-        return self.find(way).get_attribute("data-weight")
-
-    def line(self):
-        """The places of the route that is drawn as chosen."""
-        text = "let found = []; layers.answer.eachLayer(group => group.eachLayer && group.eachLayer(line => {"
-        text += "if (line.options.className === 'chosen') found = line.getLatLngs().map(at => [at.lng, at.lat]); })); return found;"
-        return self.run(text)
+# The page in a browser.
 
 
 def weight_by_dist(network, start, end):
@@ -293,40 +204,39 @@ def weight_by_dist(network, start, end):
     return min(answer.weight + part for answer, (_, part) in zip(files.read_answers(text.splitlines()), known))
 
 
+def is_right(page, network, way="there"):
+    """Whether the page shows the weight from A to B, or back, as `chtab dist` has it."""
+    start, goal = ("start", "goal") if way == "there" else ("goal", "start")
+    return page.weight(way) == str(weight_by_dist(network, page.at(start), page.at(goal)))
+
+
 def a_page_with_routes_and_reach():
     """Two clicks, both ways, a drag, reach and back, and a service that dies."""
-    pathlib.Path("places.txt").write_text("9.5209 47.1410 Vaduz\n9.5450 47.2200 Eschen\n")
-    with contextlib.ExitStack() as stack:
-        child, address = stack.enter_context(service(COUNTRY, "--places", "places.txt", "--title", "Liechtenstein"))
-        network = stack.enter_context(chtab.Network.open(f"{COUNTRY}.gr", program=PROGRAM))
-        page = stack.enter_context(Browser())
-        page.show(address)
-        assert page.driver.title == "Liechtenstein" and "Vaduz" in page.run("return document.getElementById('map').textContent")
+    with shown_page() as (child, page), chtab.Network.open(f"{COUNTRY}.gr", program=PROGRAM) as network:
+        assert page.driver.title == "Liechtenstein" and "Vaduz" in page.text("map")
+        assert page.find("goal").get_attribute("placeholder").startswith("Goal: a name or 47."), "an example lies in the network"
+        page.fill("start", "esch")
         page.click(VADUZ)
+        assert page.text("start") == "Vaduz" and page.text("goal") == "", "a press on the map takes no name from the list"
         page.click(ESCHEN)
         page.wait("route")
-        assert page.find("start-name").text == "Vaduz" and page.find("goal-name").text == "Eschen"
-        assert int(page.weight()) == weight_by_dist(network, page.at("start"), page.at("goal"))
-        assert int(page.weight("back")) == weight_by_dist(network, page.at("goal"), page.at("start"))
+        assert page.text("start") == "Vaduz" and page.text("goal") == "Eschen"
+        assert is_right(page, network) and is_right(page, network, "back")
         line = page.line()
         assert len(line) > 10 and network.snap(*zip(*line)).metres.max() < 2
         before = page.weight()
         page.drag("goal", [9.5280, 47.2390])
-        page.wait("route")
-        until = time.monotonic() + 20
-        while page.weight() != str(weight_by_dist(network, page.at("start"), page.at("goal"))):
-            assert time.monotonic() < until, (before, page.weight())
-        assert page.weight() != before and abs(page.at("goal")[1] - 47.2390) < 0.004, page.at("goal")
+        page.until(lambda: page.weight() != before and is_right(page, network))
+        assert abs(page.at("goal")[1] - 47.2390) < 0.004, page.at("goal")
         page.find("mode-reach").click()
         page.wait("reach")
-        assert page.run("return document.querySelectorAll('path.band').length") == 5
+        assert len(page.all("path.band")) == 5 and not page.find("goal").is_displayed()
         page.find("mode-route").click()
         page.wait("route")
         page.find("swap").click()
         page.wait("route")
-        assert abs(page.at("start")[1] - 47.2390) < 0.004
-        faults = [line for line in page.driver.get_log("browser") if line["level"] == "SEVERE"]
-        assert not faults, faults
+        assert abs(page.at("start")[1] - 47.2390) < 0.004 and is_right(page, network)
+        assert not page.faults(), page.faults()
         child.kill()
         child.wait()
         page.click([9.51, 47.1])
@@ -338,31 +248,233 @@ def a_page_where_there_is_no_way():
     """A one-way road: one direction has a way; a road that hangs apart: none has; a place in the sea is refused with its distance."""
     write_graph("road.gr", 4, [(1, 2, 60_000), (3, 4, 1000), (4, 3, 1000)])
     files.write_coordinates("road.co", [(0, 0), (2000 * METRE, 0), (0, 1500 * METRE), (2000 * METRE, 1500 * METRE)])
-    with service("road") as (_, address), Browser() as page:
+    with service("road") as (_, address), browser() as page:
         page.show(address)
+        assert page.find("start").get_attribute("placeholder") == "Start: 0.01, 0.01", "where no place has a name none is asked for"
         page.click([1800 * METRE, 0])
         page.click([200 * METRE, 0])
         page.wait("noway")
         assert page.message() == "There is no way from A to B." and page.weight() == "" and page.weight("back") != ""
         page.click([1000 * METRE, 1500 * METRE])
-        while "either direction" not in page.message():
-            page.wait("noway", "busy")
+        page.until(lambda: "either direction" in page.message())
         page.find("clear").click()
         page.wait("idle")
-        page.run("layers.map.setZoom(12, { animate: false })")
+        page.page("map.setZoom(12, { animate: false }) && null")
         page.click([0, -6000 * METRE])
         page.click([200 * METRE, 0])
         page.wait("error")
         assert "m from the nearest road" in page.message(), page.message()
 
 
-SERVICE = "python3-aiohttp", "python3-numpy", "python3-scipy", "python3-shapely", "libjs-leaflet"
+def a_page_by_keyboard_alone():
+    """Places are set, moved and taken away, and both views are used, without a mouse."""
+    hamlets = "".join(f"9.{515 + number} 47.10 Weiler {number}\n" for number in range(9))
+    places = f"{hamlets}9.5209 47.1410 Vaduz\n9.5450 47.2200 Eschen\n"
+    with shown_page(places=places) as (_, page), chtab.Network.open(f"{COUNTRY}.gr", program=PROGRAM) as network:
+        page.tab_to("start")
+        names_in_the_list(page)
+        page.keys("vaduz", Keys.ENTER)
+        assert page.at("start") == VADUZ and page.text("start") == "Vaduz" and page.focus() == "start"
+        page.keys(Keys.TAB, "47.2200, 9.5450", Keys.ENTER)
+        page.wait("route")
+        assert page.at("goal") == ESCHEN and is_right(page, network) and is_right(page, network, "back")
+        faulty_places(page)
+        moved_pins(page, network)
+        both_views(page)
+
+
+def names_in_the_list(page):
+    """The list has the names that are like the text, those that begin with it first. Keys go through it, and Tab takes the marked name."""
+    def names():
+        return [option.text for option in page.all("[role=option]")]
+
+    page.keys("e")
+    assert names() == ["Eschen", *(f"Weiler {number}" for number in range(7))], names()
+    page.keys(Keys.ARROW_DOWN)
+    marked = page.run("return document.getElementById(document.activeElement.getAttribute('aria-activedescendant')).textContent")
+    assert marked == "Weiler 0" and page.find("start").get_attribute("aria-expanded") == "true"
+    page.keys(Keys.ESCAPE)
+    assert page.text("start") == "" and names() == [] and page.state() == "idle"
+    page.keys(Keys.ARROW_DOWN, Keys.ARROW_UP, Keys.ARROW_UP, Keys.TAB)
+    assert page.text("start") == "Weiler 6" and page.focus() == "goal", "a list that scrolls is no stop of its own"
+    page.with_shift(Keys.TAB)
+    page.keys(Keys.BACKSPACE, Keys.ENTER)
+    assert page.text("start") == "" and page.page("state.map.at('start')") is None, "a field that is emptied takes its place away"
+
+
+def faulty_places(page):
+    """What is no place is refused in a line below its field; the place that was set stays."""
+    cases = ("nowhere", "is called “nowhere”"), ("147.2, 9.5", "latitude 147.2"), ("47.2, 190", "longitude 190"), ("47.2", "is called “47.2”")
+    for typed, told in cases:
+        page.fill("goal", typed, Keys.ENTER)
+        assert told in page.text("goal-fault") and page.find("goal").get_attribute("aria-invalid") == "true", (typed, page.text("goal-fault"))
+        assert page.at("goal") == ESCHEN and page.focus() == "goal"
+    page.keys(Keys.ESCAPE)
+    assert page.text("goal") == "Eschen" and page.text("goal-fault") == ""
+    for typed in "47,22; 9,545", "47.22 9.545", "47.22° N, 9.545° E", "+47.220 , 9.5450", "47.22N 9.545E":
+        page.fill("goal", "Vaduz", Keys.ENTER)
+        page.fill("goal", typed, Keys.ENTER)
+        assert page.at("goal") == ESCHEN, (typed, page.at("goal"), page.text("goal-fault"))
+    page.wait("route")
+
+
+def moved_pins(page, network):
+    """Arrow keys move a pin, with Shift farther, and the route follows; Delete takes it away."""
+    page.tab_to("pin")
+    label = page.run("return document.activeElement.getAttribute('aria-label')")
+    assert label == "A: Vaduz", label
+    before = page.at("start")
+    page.keys(Keys.ARROW_RIGHT)
+    page.until(lambda: is_right(page, network))
+    step = page.at("start")[0] - before[0]
+    assert step > 0 and page.at("start")[1] == before[1], (before, page.at("start"))
+    page.keys(Keys.ARROW_UP, Keys.ARROW_LEFT)
+    assert page.at("start")[1] > before[1] and abs(page.at("start")[0] - before[0]) < step / 2
+    page.with_shift(Keys.ARROW_RIGHT)
+    assert 4 < (page.at("start")[0] - before[0]) / step < 6, (step, page.at("start"))
+    page.until(lambda: page.state() == "route" and is_right(page, network))
+    heard = page.text("said")
+    page.keys(*[Keys.ARROW_DOWN] * 12)
+    page.until(lambda: page.state() == "route" and is_right(page, network))
+    assert heard.startswith("A to B: ") and page.text("said") != heard, "screen readers are told what changed"
+    for _ in range(20):
+        page.with_shift(Keys.ARROW_LEFT)
+    is_seen = "return document.activeElement.contains(document.elementFromPoint((box.left + box.right) / 2, (box.top + box.bottom) / 2))"
+    page.until(lambda: page.run(f"const box = document.activeElement.getBoundingClientRect(); {is_seen}"), "the map follows a pin that leaves it")
+    page.page("map.panBy([2000, 0], { animate: false }) && null")
+    page.with_shift(Keys.TAB)
+    page.tab_to("pin")
+    page.until(lambda: page.run(f"const box = document.activeElement.getBoundingClientRect(); {is_seen}"), "the map moves to a pin that has the focus")
+    page.keys(Keys.DELETE)
+    assert page.focus() == "start" and page.text("start") == "" and page.wait("idle")
+    page.keys("vaduz", Keys.ENTER)
+    page.wait("route")
+
+
+def both_views(page):
+    """Tabs by arrow keys, the slider, and the way that is chosen."""
+    page.tab_to("mode-route", back=True)
+    page.keys(Keys.ARROW_RIGHT)
+    page.wait("reach")
+    assert page.focus() == "mode-reach" and page.find("mode-reach").get_attribute("aria-selected") == "true"
+    page.tab_to("longest")
+    page.keys(Keys.ARROW_RIGHT)
+    page.until(lambda: page.find("longest").get_attribute("aria-valuetext") == "20 min")
+    page.until(lambda: page.state() == "reach" and "within 20 min" in page.text("said"))
+    assert "16–20 min" in page.find("bands").text
+    page.tab_to("mode-reach", back=True)
+    page.keys(Keys.ARROW_LEFT)
+    page.wait("route")
+    page.tab_to("back")
+    page.keys(Keys.ENTER)
+    page.until(lambda: page.state() == "route" and page.find("back").get_attribute("aria-pressed") == "true")
+
+
+HOSTILE = (
+    "<img src=x onerror=ran('image')>", "</script><script>ran('script')</script>", "\"'><svg onload=ran('svg')>", "javascript:ran('link')",
+    "<a href=\"javascript:ran('anchor')\">Vaduz</a>", "&lt;img src=x onerror=ran('twice')&gt;", "{{ran('template')}} ${ran('literal')} `'\"",
+    "</title><style>#panel { display: none }</style>", "<iframe srcdoc='<script>parent.ran(1)</script>'></iframe>",
+)
+# What runs before the page: a function that hostile names would call, notes that are hostile, and a list of what the browser refused to run.
+TRAP = """
+window.found = [];
+window.refused = [];
+window.ran = what => found.push(what);
+addEventListener("securitypolicyviolation", event => refused.push(event.violatedDirective));
+const real = window.fetch;
+window.fetch = async (path, request) => {
+  const answer = await real(path, request);
+  return path === "api/network" ? Response.json({ ...await answer.json(), notes: NOTES }) : answer;
+};
+"""
+
+
+def names_are_never_run():
+    """Places, a title and notes that are HTML, and a message that repeats a name, are shown letter by letter, and nothing of them runs."""
+    places = [[9.5 + 0.012 * (number % 3), 47.08 + 0.05 * (number // 3)] for number in range(len(HOSTILE))]
+    lines = "".join(f"{x} {y} {name}\n" for (x, y), name in zip(places, HOSTILE))
+    pathlib.Path("places.txt").write_text(lines)
+    with service(COUNTRY, "--places", "places.txt", "--title", HOSTILE[1]) as (_, address), browser() as page:
+        page.before_each_page(TRAP.replace("NOTES", json.dumps(HOSTILE[0])))
+        page.show(address)
+        time.sleep(0.5)
+        assert page.run("return [found, refused]") == [[], []], page.run("return [found, refused]")
+        assert page.driver.title == page.text("title") == HOSTILE[1]
+        assert HOSTILE[0] in page.find("map").text and all(name in page.text("map") for name in HOSTILE), page.text("map")
+        for end, name in zip(itertools.cycle(("start", "goal")), HOSTILE):
+            page.fill(end, name)
+            assert page.all("[role=option]")[0].text == name, name
+            page.find("title").click()
+            assert page.text(end) == name, (name, page.text(end))
+        page.find("mode-reach").click()
+        page.wait("reach", "error")
+        page.fill("start", "<img src=y onerror=ran('fault')>")
+        page.find("title").click()
+        assert "<img src=y onerror=ran('fault')>" in page.text("start-fault")
+        time.sleep(0.5)
+        assert page.run("return [found, refused]") == [[], []], page.run("return [found, refused]")
+        assert page.run("return document.querySelectorAll('main img:not(.leaflet-tile), main script, main a[href^=javascript], main iframe').length") == 0
+        assert not page.faults(), page.faults()
+
+
+def html_that_gets_in_is_not_run():
+    """Where a fault of the page let HTML in, the browser would still refuse to run it."""
+    with shown_page() as (_, page):
+        page.run("""
+            window.found = []; window.refused = []; window.ran = what => found.push(what);
+            addEventListener("securitypolicyviolation", event => refused.push(event.violatedDirective));
+            const inside = document.createElement("div");
+            inside.innerHTML = `<img src=x onerror=ran('handler')><a id=link href="javascript:ran('link')">link</a><p id=styled style='color: red'>`;
+            document.body.append(inside);
+            const script = document.createElement("script");
+            script.textContent = "ran('script')";
+            document.body.append(script);
+            document.getElementById("link").click();
+        """)
+        page.until(lambda: len(page.run("return refused")) >= 4, "four refusals")
+        assert page.run("return found") == [], page.run("return found")
+        assert page.run("return getComputedStyle(document.getElementById('styled')).color") != "rgb(255, 0, 0)"
+
+
+# What runs before the page: the service refuses both routes, the one from B to A first.
+FAR = """
+const real = window.fetch;
+window.fetch = async (path, request) => {
+  if (path !== "api/route") return real(path, request);
+  const isBack = JSON.parse(request.body).from[1] > 47.2;
+  if (!isBack) await new Promise(done => setTimeout(done, 300));
+  return Response.json({ error: isBack ? "A is 18.6 km from the nearest road" : TOLD }, { status: 400 });
+};
+"""
+
+
+def places_are_called_as_the_page_calls_them():
+    """A fault of the service that names A or B is shown as it is, for the request from A to B, and the fields are marked."""
+    cases = ("B is 18.6 km from the nearest road", ["goal"]), ("A is 1.2 km from the nearest road; B is 18.6 km from the nearest road", ["start", "goal"])
+    with service() as (_, address):
+        for told, marked in cases:
+            with browser() as page:
+                page.before_each_page(FAR.replace("TOLD", json.dumps(told)))
+                page.show(address)
+                page.click(VADUZ)
+                page.click(ESCHEN)
+                page.wait("error")
+                assert page.message() == f"{told}.", page.message()
+                assert [found.get_attribute("id") for found in page.all("[aria-invalid=true]")] == marked, told
+                page.find("clear").click()
+                page.wait("idle")
+                assert page.message() == "" and not page.all("[aria-invalid=true]"), page.message()
+
+
 GROUPS = (
     (SERVICE, [
         requests_are_answered, faults_are_told_in_a_line, clients_that_go_away, fifty_clients_for_a_minute, a_full_queue_and_a_program_that_dies,
-        a_service_ends_well,
+        a_service_ends_well, what_browsers_are_told,
     ]),
-    ((*SERVICE, "python3-selenium", "chromium", "chromium-driver"), [a_page_with_routes_and_reach, a_page_where_there_is_no_way]),
+    (BROWSER, [
+        a_page_with_routes_and_reach, a_page_where_there_is_no_way, a_page_by_keyboard_alone, names_are_never_run,
+        html_that_gets_in_is_not_run, places_are_called_as_the_page_calls_them,
+    ]),
 )
 
 if __name__ == "__main__":

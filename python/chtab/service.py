@@ -15,6 +15,7 @@ from aiohttp import web
 
 from chtab.errors import ChtabError, TimedOut, TooFar
 from chtab.tiles import Tiles
+from chtab.web_policy import header_adder
 
 PAGE = pathlib.Path(__file__).parent / "page"
 # Debian's package libjs-leaflet.
@@ -106,6 +107,7 @@ class Service:
             web.post("/api/reach", self.answering(self.reach)),
         ])
         app.on_cleanup.append(self.close)
+        app.on_response_prepare.append(header_adder(self.tile_layer))
         return app
 
     async def close(self, app):

@@ -8,13 +8,16 @@ from chtab import picture
 # Pixels of a tile, units of the drawing for each, and how far beyond its border roads are looked for, in pixels.
 SIDE, FINE, BEYOND = 256, 4, 8
 # Roads by speed, the slowest first: from how many km/h on, the first zoom that shows them, their colour, border and width in pixels at
-# zoom 14. A graph whose weights are not times has roads of the second kind alone.
+# zoom 14. A graph whose weights are not times has roads of the second kind alone. Borders stand out from the ground and from each band
+# of reach by three to one at least (`page/map.css` has these).
 KINDS = (
-    (0, 13, "#ffffff", "#d8d3c8", 2.2),
-    (25, 11, "#ffffff", "#cfc8ba", 3.2),
-    (48, 9, "#fdf2c0", "#d9c98a", 4.2),
-    (75, 0, "#f9d29d", "#d8a560", 5.2),
+    (0, 13, "#ffffff", "#605e57", 2.0),
+    (25, 11, "#ffffff", "#605e57", 3.0),
+    (48, 9, "#ffe9a3", "#6e5210", 4.2),
+    (75, 0, "#ffc47d", "#84430b", 5.2),
 )
+# A road narrower than so many pixels is one line of its border's colour, of so many pixels at least; others have a border at both sides.
+NARROW, LEAST, BORDER = 2.6, 1.4, 1.0
 # No more than so many pieces of road are drawn in a tile: of more, the slowest kinds are left out.
 MOST = 60_000
 KEPT_TILES = 512
@@ -56,10 +59,14 @@ class Tiles:
         borders, roads = [], []
         for kind in range(first, len(KINDS)):
             _, least_zoom, colour, border, pixels = KINDS[kind]
-            if zoom >= least_zoom:
-                line = self.line(places[kinds == kind], scale, corner)
-                borders.append(stroke(line, border, pixels * width + 1.4))
-                roads.append(stroke(line, colour, pixels * width))
+            if zoom < least_zoom:
+                continue
+            line, pixels = self.line(places[kinds == kind], scale, corner), pixels * width
+            if pixels < NARROW:
+                roads.append(stroke(line, border, max(LEAST, 0.6 * pixels)))
+            else:
+                borders.append(stroke(line, border, pixels + 2 * BORDER))
+                roads.append(stroke(line, colour, pixels))
         return "".join([
             f'<svg xmlns="http://www.w3.org/2000/svg" width="{SIDE}" height="{SIDE}" viewBox="0 0 {SIDE * FINE} {SIDE * FINE}" ',
             'fill="none" stroke-linecap="round" stroke-linejoin="round">', *borders, *roads, "</svg>",

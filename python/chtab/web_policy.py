@@ -1,0 +1,49 @@
+"""What the service tells browsers about its answers: what a page may load and run, and what they tell others of it."""
+import re
+
+from chtab.errors import ChtabError
+
+# An address with a scheme or a server of its own, and the server of one that a policy can name.
+ABSOLUTE = re.compile(r"[a-z][a-z0-9+.-]*:|//", re.IGNORECASE)
+SERVER = re.compile(r"(https?://[a-z0-9.-]+(?::[0-9]+)?)/", re.IGNORECASE)
+# What Leaflet puts for `{s}`.
+LETTERS = "abc"
+
+
+def tile_sources(tiles):
+    """The servers of a layer of map tiles, as a policy names them: none where it is None or the service's own. An address of no such server is
+    a `ChtabError`."""
+    if tiles is None or not ABSOLUTE.match(tiles):
+        return []
+    addresses = [tiles.replace("{s}", letter) for letter in LETTERS] if "{s}" in tiles else [tiles]
+    found = [SERVER.match(address) for address in addresses]
+    if None in found:
+        raise ChtabError(f"{tiles} is not the address of map tiles, as https://tile.example.org/{{z}}/{{x}}/{{y}}.png")
+    return [server[1] for server in found]
+
+
+def headers(tiles):
+    """The headers of each answer, for a page with this layer of map tiles or None. No script runs but those that are served as files."""
+    images = " ".join(["'self'", "data:", *tile_sources(tiles)])
+    policy = {
+        "default-src": "'none'", "script-src": "'self'", "style-src": "'self'", "img-src": images, "connect-src": "'self'",
+        "base-uri": "'none'", "form-action": "'none'", "frame-ancestors": "'none'",
+    }
+    return {
+        "Content-Security-Policy": "; ".join(f"{name} {value}" for name, value in policy.items()),
+        "X-Content-Type-Options": "nosniff",
+        # Servers of map tiles refuse requests that don't say from which site they come.
+        "Referrer-Policy": "no-referrer" if tiles is None else "strict-origin",
+    }
+
+
+def header_adder(tiles):
+    """A handler of `on_response_prepare` that adds the headers to each answer. The address of `tiles` is judged now."""
+    added = headers(tiles)
+
+    async def add(request, response):
+        response.headers.update(added)
+        # The page's files are asked for anew each time, because files of two versions don't fit together.
+        response.headers.setdefault("Cache-Control", "no-cache")
+
+    return add

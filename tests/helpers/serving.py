@@ -1,0 +1,80 @@
+"""The service of a network, as a process of its own, what it answers, and its page in a browser."""
+import contextlib
+import http.client
+import json
+import pathlib
+import signal
+import subprocess
+import urllib.parse
+
+from helpers.moods import STANDIN, mood
+from helpers.packages import PYTHON
+from helpers.running import PROGRAM, ROOT
+
+COUNTRY = ROOT / "examples" / "liechtenstein"
+# Debian's packages that the service needs, and a browser for its page.
+SERVICE = "python3-aiohttp", "python3-numpy", "python3-scipy", "python3-shapely", "libjs-leaflet"
+BROWSER = *SERVICE, "python3-selenium", "chromium", "chromium-driver"
+
+
+class Keys:
+    """Keys without a letter, as WebDriver numbers them."""
+
+    BACKSPACE, TAB, ENTER, ESCAPE, DELETE = "\ue003", "\ue004", "\ue007", "\ue00c", "\ue017"
+    ARROW_LEFT, ARROW_UP, ARROW_RIGHT, ARROW_DOWN = "\ue012", "\ue013", "\ue014", "\ue015"
+
+
+@contextlib.contextmanager
+def service(out=COUNTRY, *words, program=PROGRAM):
+    """A service on a free port: its process, host and port. It ends well."""
+    command = [PYTHON, ROOT / "tools" / "page.py", "--port", 0, "--program", program, *words, out]
+    child = subprocess.Popen(list(map(str, command)), stdout=subprocess.PIPE, stderr=open("told", "w"), text=True)
+    try:
+        address = urllib.parse.urlsplit(child.stdout.readline().strip())
+        assert address.port, open("told").read()
+        yield child, address
+    finally:
+        child.terminate()
+        status = child.wait(20)
+    assert status in (0, -signal.SIGKILL), status
+
+
+@contextlib.contextmanager
+def faulty_service(words, *more):
+    """The same over the stand-in in a mood. It leaves no run behind."""
+    with mood(words), service(COUNTRY, *more, program=STANDIN) as found:
+        yield found
+
+
+def send(address, path, body=None, method=None):
+    """Status, headers and text of an answer. `body` is sent as it is, or as JSON."""
+    connection = http.client.HTTPConnection(address.hostname, address.port, timeout=60)
+    try:
+        data = body if body is None or isinstance(body, bytes) else json.dumps(body).encode()
+        connection.request(method or ("GET" if body is None else "POST"), path, data)
+        answer = connection.getresponse()
+        return answer.status, answer.headers, answer.read()
+    finally:
+        connection.close()
+
+
+def ask(address, path, body=None, method=None):
+    """Status and value of an answer of JSON."""
+    status, _, text = send(address, path, body, method)
+    return status, json.loads(text)
+
+
+def browser(*size):
+    """A browser whose page is of this size. Its package is there once a check that needs it is begun."""
+    from helpers.browser import Browser
+
+    return Browser(*size)
+
+
+@contextlib.contextmanager
+def shown_page(*size, places="9.5209 47.1410 Vaduz\n9.5450 47.2200 Eschen\n9.5280 47.2390 Ruggell\n", title="Liechtenstein"):
+    """The page of the country with these places, in a browser: the service's process and the page."""
+    pathlib.Path("places.txt").write_text(places)
+    with service(COUNTRY, "--places", "places.txt", "--title", title) as (child, address), browser(*size) as page:
+        page.show(address)
+        yield child, page
