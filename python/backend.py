@@ -1,13 +1,48 @@
-"""The build of the package: by setuptools, where Debian has it if it isn't elsewhere, so that `pip install ./python` needs no network."""
+"""The build of the package: by setuptools, where Debian has it if it isn't elsewhere, so that `pip install ./python` needs no network.
+
+A wheel takes the proved program along, where the checkout has built it (`./chtab --help`).
+"""
+import contextlib
+import os
+import pathlib
+import shutil
 import sys
+import sysconfig
 from importlib.util import find_spec
 
 if find_spec("setuptools") is None:
     sys.path.append("/usr/lib/python3/dist-packages")
 if find_spec("setuptools") is not None:
+    from setuptools import build_meta
     from setuptools.build_meta import *  # noqa: F403
+
+HERE = pathlib.Path(__file__).resolve().parent
+PROGRAM = HERE.parent / "crates" / "chtab" / "out" / "chtab"
 
 
 def get_requires_for_build_wheel(config_settings=None):
     """What pip has to fetch before it can build: nothing, where setuptools and wheel are there."""
     return [name for name in ("setuptools>=61", "wheel") if find_spec(name.partition(">")[0]) is None]
+
+
+@contextlib.contextmanager
+def program_along():
+    """The words for a wheel of this machine with the program in it, none where there is no program."""
+    if not (PROGRAM.is_file() and os.access(PROGRAM, os.X_OK)):
+        yield []
+        return
+    folder = HERE / "chtab" / "bin"
+    folder.mkdir(exist_ok=True)
+    try:
+        shutil.copy(PROGRAM, folder / "chtab")
+        yield ["--plat-name", sysconfig.get_platform()]
+    finally:
+        shutil.rmtree(folder)
+
+
+def build_wheel(wheel_directory, config_settings=None, metadata_directory=None):
+    """The wheel, with the program where there is one."""
+    with program_along() as words:
+        settings = dict(config_settings or {})
+        settings["--build-option"] = [*settings.get("--build-option", []), *words]
+        return build_meta.build_wheel(wheel_directory, settings, metadata_directory)

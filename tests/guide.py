@@ -18,7 +18,7 @@ from helpers.packages import missing
 from helpers.running import ROOT, Count, build
 
 PAGES = ROOT / "README.md", ROOT / "docs" / "GUIDE.md", ROOT / "examples" / "README.md"
-PACKAGES = "python3-numpy", "python3-shapely"
+PACKAGES = "python3-numpy", "python3-scipy", "python3-shapely"
 PICTURES = "routes.svg", "reach.svg"
 # What the commands find in the folder that they are run in, beside the program.
 PLACES = "tools", "examples", "tests"

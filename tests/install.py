@@ -7,6 +7,7 @@ import os
 import re
 import shutil
 import subprocess
+import sys
 import tempfile
 from pathlib import Path
 
@@ -67,10 +68,10 @@ def check_lines_of_the_kit(tally):
     tally.expect(status == 0 and found.split()[1:] == line.split()[1:], f"VERSION names another logic than `rt version`: {line}, {found}")
 
 
-def options_of(words, folder):
+def options_of(words, folder, path=None):
     """The options that a help text has."""
-    text = said([*words, "--help"], folder)[1]
-    return set(re.findall(r"^ +(?:-h, )?(--[a-z]+)", text, re.MULTILINE))
+    text = said([*words, "--help"], folder, path)[1]
+    return set(re.findall(r"^ +(?:-h, )?(--[a-z]+(?:-[a-z]+)*)", text, re.MULTILINE))
 
 
 def completed(prefix, *words):
@@ -96,9 +97,10 @@ def check_installed(tally, prefix, folder):
         name = "chtab-" + tool.stem.replace("_", "-")
         status, out, err = said([name, "--help"], folder, path)
         tally.expect((status, err) == (0, "") and "usage:" in out.lower(), f"{name} --help: {status} {err}")
-        check_page(tally, prefix, name, {"--help"})
-        tally.expect(out.startswith(f"usage: {name} "), f"{name} is told by another name: {out[:60]}")
+        check_page(tally, prefix, name, {f"\\fB{option}\\fR" for option in options_of([name], folder, path)} | {".SH SYNOPSIS"})
+        tally.expect(out.startswith(f"Usage: {name} "), f"{name} is told by another name: {out[:60]}")
     check_page(tally, prefix, "chtab", tools | {"--help", "--version"})
+    check_found(tally, prefix, folder)
 
 
 def check_page(tally, prefix, name, words):
@@ -107,6 +109,25 @@ def check_page(tally, prefix, name, words):
         page = prefix / "share" / "man" / "man1" / f"{name}.1"
         text = page.read_text().replace("\\-", "-") if page.exists() else ""
         tally.expect(text and all(word in text for word in words), f"the manual page of {name} lacks some of {sorted(words)}")
+        others = {path.stem for path in page.parent.glob("*.1")} - {name}
+        tally.expect(all(f"\\fB{other}\\fR(1)" in text for other in others), f"the manual page of {name} names not all others of {sorted(others)}")
+        for document in re.findall(r"/[^()\n]*\bdocs/\w+\.md", re.sub(r"\\[/,]|\\f[A-Z]", "", text)):
+            tally.expect(Path(document).is_file(), f"the manual page of {name} names {document}, which is not installed")
+        tally.expect("usage:" not in text.lower(), f"the manual page of {name} has a mangled usage")
+
+
+def check_found(tally, prefix, folder):
+    """The program is found where its folder is not on the path: by a tool, and by the package from Python."""
+    (folder / "one.ss").write_text("p aux sp ss 1\ns 1\n")
+    words = [prefix / "bin" / "chtab-blocks", FIRST[0], "one.ss", "one.ss", "one.csv"]
+    found = said(words, folder, SYSTEM)
+    tally.expect(found == (0, "1 by 1 cells in one.csv, from 1 blocks\n", ""), f"a tool whose folder is not on the path: {found}")
+    text = "from chtab.program import program_of; print(program_of())"
+    found = said([sys.executable, "-c", text], folder, SYSTEM, PYTHONPATH=str(prefix / "lib" / "chtab" / "python"))
+    tally.expect(found == (0, f"{prefix}/lib/chtab/chtab\n", ""), f"the program beside the package: {found}")
+    found = said([prefix / "bin" / "chtab", "dist", "none.gr", "none.p2p"], folder)
+    wanted = "chtab: none.gr: there is no such file\nchtab: none.p2p: there is no such file\nchtab: cannot read graph\n"
+    tally.expect(found == (3, "", wanted), f"files that are not there: {found}")
 
 
 def check_install(tally, folder):
@@ -115,10 +136,19 @@ def check_install(tally, folder):
     tally.expect((status, out) == (0, "") and "install: chtab" in err, f"install: {status} {out} {err}")
     check_installed(tally, prefix, folder)
     said([ROOT / "install", "--remove", prefix], folder)
-    left = [path for path in prefix.glob("**/*") if not path.is_dir()]
-    tally.expect(not left, f"left after removal: {left}")
+    tally.expect(not prefix.exists(), f"left after removal: {list(prefix.glob('**/*'))}")
+    (prefix / "bin").mkdir(parents=True)
+    for _ in range(2):
+        said([ROOT / "install", prefix], folder)
+    said([ROOT / "install", "--remove", prefix], folder)
+    left = [path.relative_to(prefix) for path in prefix.glob("**/*")]
+    tally.expect(left == [Path("bin")], f"left after removal, where bin was there before: {left}")
     said([ROOT / "install", "/usr"], folder, DESTDIR=str(folder / "stage"))
     tally.expect((folder / "stage" / "usr" / "lib" / "chtab" / "program").exists(), "DESTDIR is put before the prefix")
+    staged = [path for path in (folder / "stage" / "usr" / "share").glob("**/*.1") if str(folder) in path.read_text()]
+    tally.expect(not staged, f"manual pages that name the folder of a package: {staged}")
+    said([ROOT / "install", "--remove", "/usr"], folder, DESTDIR=str(folder / "stage"))
+    tally.expect(not list((folder / "stage").glob("**/*")), f"left after removal: {list((folder / 'stage').glob('**/*'))}")
     for words in ["--fast"], ["one", "two"]:
         tally.expect(said([ROOT / "install", *words], folder)[0] == 2, f"install {words} is not refused")
 

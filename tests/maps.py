@@ -87,12 +87,12 @@ def limits_of_speed():
     for value, speed in {
         "50": 50, "5.5": 5.5, "50.0": 50, "30 mph": 30 * 1.609344, "30mph": 30 * 1.609344, "60 km/h": 60, "60kmh": 60, "10 knots": 18.52,
         "50;30": 30, "30; 50": 30, "none": 130, "walk": 7, "signals": 30, "variable": 30, "DE:urban": 50, "CH:rural": 80, "DE:zone:30": 30,
-        "FR:zone30": 30, "GB:nsl_single": 96.56064, "DE:rural;70": 70, "none;100": 100, "signals;80": 80,
+        "FR:zone30": 30, "GB:nsl_single": 96.56064, "DE:rural;70": 70, "none;100": 100, "signals;80": 80, "200": 200,
     }.items():
         found = weights(ROAD | {"maxspeed": value})
         assert found[0] == found[1] and abs(found[0] - at(speed)) <= 1, (value, found, at(speed))
         assert "speeds" not in noted(in_line(2, ROAD | {"maxspeed": value})), value
-    for value in "fast", "-5", "0", "5,5", "1e2", "50 @ (22:00-06:00)", "XX:urban", "30 leagues", "", ".5", "٣٠":
+    for value in "fast", "-5", "0", "5,5", "1e2", "50 @ (22:00-06:00)", "XX:urban", "30 leagues", "", ".5", "٣٠", "1000", "201", "130 mph", "DE:zone:900":
         assert weights(ROAD | {"maxspeed": value}) == (BLOCK, BLOCK), value
         assert noted(in_line(2, ROAD | {"maxspeed": value})) == {"speeds": {f"maxspeed={value}": 1}}, value
     assert weights(ROAD | {"maxspeed": "what;60"})[0] == at(60)
@@ -212,14 +212,50 @@ def what_is_left_out_is_told():
         "  1  barriers of unknown kind                             1 barrier=dragon",
         "  1  access tags passed over: no known word               1 motorcar=what?",
         "  1  one-way tags passed over: no known word              1 oneway=perhaps",
-        "  1  limits of speed passed over: not readable            1 maxspeed=fast",
+        "  1  limits of speed passed over: unreadable or too high  1 maxspeed=fast",
         "  1  ferries without a readable duration",
         "  1  turn restrictions left out                           1 over ways",
         "  4  nodes of parts that hang apart                       4 of 8, in 2 parts of 2 nodes and fewer",
     ], table
     assert tool("osm_to_gr", "--turns", "--quiet", "all.osm", "all")[1] == ""
+    what_is_left_out_is_logged()
     pathlib.Path("two.osm").write_text(in_line(2))
     assert tool("osm_to_gr", "two.osm", "two")[1] == "left out of two.osm, for cars: nothing\n"
+
+
+def what_is_left_out_is_logged():
+    """The map of the test above once more: each object has its line."""
+    tool("osm_to_gr", "--turns", "--quiet", "--log", "all.csv", "all.osm", "all")
+    rows = [line.split(",", 3) for line in pathlib.Path("all.csv").read_text().splitlines()]
+    assert rows[0] == ["object", "id", "reason", "words"]
+    told = {(thing, number, reason.partition(":")[0], words) for thing, number, reason, words in rows[1:]}
+    assert told >= {
+        ("way", "2", "ways of other kinds", "highway=footway"), ("way", "3", "ways of other kinds", "highway=footway"),
+        ("way", "4", "ways of other kinds", "highway=steps"), ("way", "5", "ways closed by their tags", "access=private"),
+        ("way", "6", "ways whose direction changes with the time", ""), ("way", "7", "ways of fewer than two nodes", ""),
+        ("way", "8", "ways of fewer than two nodes", ""), ("node", "99", "nodes of roads that the map doesn't have", ""),
+        ("node", "3", "closed barriers", "barrier=bollard"), ("node", "4", "barriers of unknown kind", "barrier=dragon"),
+        ("way", "9", "limits of speed passed over", "maxspeed=fast"), ("way", "10", "ferries without a readable duration", ""),
+        ("way", "11", "one-way tags passed over", "oneway=perhaps"), ("way", "11", "access tags passed over", "motorcar=what?"),
+        ("relation", "1", "turn restrictions left out", "over ways"),
+    }, rows
+    assert {row[0] for row in told} == {"way", "node", "relation"} and not any(number == "12" for _, number, *_ in told), rows
+    names = set(pathlib.Path("all.nodes").read_text().split())
+    apart = {number for thing, number, reason, _ in told if reason == "nodes of parts that hang apart"}
+    assert apart and not apart & names - {"3", "4"}, (apart, names)
+
+
+def what_comes_twice_or_lies_nowhere_is_told():
+    """Ways and nodes of one number are told; a road's node that lies nowhere is refused with its number."""
+    text = osm({1: (1, 0), 2: (2, 0), 3: (3, 0)}, [([1, 2], ROAD), ([2, 3], ROAD)])
+    assert noted(text) == {}
+    twice = text.replace("<way id='2'", "<way id='1'")
+    made, report = converted(twice)
+    assert len(made.arcs) == 4 and {kind: dict(counts) for kind, counts in report.counts.items() if counts} == {"twice": {"way": 1}}
+    node = next(line for line in text.splitlines() if line.startswith("<node id='2'"))
+    assert noted(text.replace(node, f"{node}\n{node}")) == {"twice": {"node": 1}}
+    assert "node 2 at longitude 999, latitude 0 is no place on the earth" in fault_of(text.replace("lon='0.002'", "lon='999'"))
+    assert fault_of(osm({1: (1, 0), 2: (2, 0), 9: (999_000, 0)}, [([1, 2], ROAD)])) == ""
 
 
 def parts_are_kept():
@@ -286,6 +322,12 @@ def maps_in_binary():
     assert told_by_the_way("odd.osm.pbf").startswith("reading: 7 objects\nroads: 1 of 1 roads\n"), told_by_the_way("odd.osm.pbf")
     whole = pathlib.Path("country.osm.pbf").read_bytes()
     assert tool("osm_to_gr", "--quiet", "-", "out", text=whole)[0] == tool("osm_to_gr", "--quiet", "country.osm.pbf", "out")[0]
+    writer = osmium.SimpleWriter("lost.osm.pbf")
+    for number, longitude in (1, 9.5), (2, 9.6), (3, 999.0):
+        writer.add_node(osmium.osm.mutable.Node(id=number, location=(longitude, 47.0), version=1))
+    writer.add_way(osmium.osm.mutable.Way(id=1, nodes=[1, 2, 3], tags=ROAD, version=1))
+    writer.close()
+    assert "node 3 is at no place on the earth" in refused("lost.osm.pbf", "none")
     for size in 20, 100, len(whole) // 2, len(whole) - 1:
         pathlib.Path("short.osm.pbf").write_bytes(whole[:size])
         assert "short.osm.pbf: cut short or spoilt: " in refused("short.osm.pbf", "none"), size
@@ -391,7 +433,8 @@ GROUPS = (
         (),
         [
             barriers_leave_dead_ends, lists_in_tags_are_sets, deleted_things_are_not_there, limits_of_speed, directions, profiles_differ,
-            tables_are_sound, the_page_has_the_tables, ferries_take_their_time, what_is_left_out_is_told, parts_are_kept,
+            tables_are_sound, the_page_has_the_tables, ferries_take_their_time, what_is_left_out_is_told,
+            what_comes_twice_or_lies_nowhere_is_told, parts_are_kept,
             files_of_all_forms, signs_of_life, weights_are_rounded_once, the_sphere_is_like_the_earth, bends_of_arcs,
             random_maps_agree_with_the_other_converter, the_example_is_made_again, no_package_is_needed,
         ],

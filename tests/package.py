@@ -23,7 +23,7 @@ from helpers.packages import PYTHON, run_checks
 from helpers.running import PROGRAM, ROOT
 from helpers.writing import write_graph
 import chtab
-from chtab import blocks, files
+from chtab import answers, blocks, files
 from chtab.progress import Progress
 
 FIRST = ROOT / "examples" / "first.gr"
@@ -50,6 +50,38 @@ def files_are_read_as_written():
         raises(chtab.FileFault, files.read_graph, "bad.gr", told=told)
     pathlib.Path("bad.gr").write_bytes(b"\xff\xfe\n")
     raises(chtab.FileFault, lambda: list(files.read_rows("bad.gr", 1)), told="not a text")
+
+
+def weights_are_whole():
+    """A weight that isn't whole is refused with its arc, and no file is begun; a scale rounds it, and the file says so."""
+    for arcs, told in (
+        ([(1, 2, 3), (1, 2, 1.5)], "arcs[1]: 1.5 is not a whole number"), ([(1, 2, float("nan"))], "arcs[0]: nan"), ([(1.25, 2, 3)], "1.25"),
+        ([(1, 2, float("inf"))], "inf"), ([(1, 2, "3")], "arcs[0]: 3"), ([(1, 2, None)], "None"),
+        ([(1, 2, 3)] * 2_500 + [(1, 2, 0.999999)], "arcs[2500]"),
+    ):
+        raises(chtab.FileFault, files.write_graph, "half.gr", 2, arcs, told=told)
+        assert not os.path.exists("half.gr")
+    files.write_graph("whole.gr", 2, [(1, 2, 3.0), (2, 1, True)])
+    assert files.read_graph("whole.gr").weights.tolist() == [3, 1]
+    files.write_graph("scaled.gr", 2, [(1, 2, 1.5), (2, 1, 0.0004), (1, 1, 2)], ["Weights are milliseconds."], scale=1000)
+    graph = files.read_graph("scaled.gr")
+    assert (graph.weights.tolist(), graph.unit) == ([1500, 0, 2000], "milliseconds")
+    assert "c Weights were multiplied by 1000 and rounded to whole numbers.\n" in pathlib.Path("scaled.gr").read_text()
+    raises(chtab.FileFault, files.write_graph, "half.gr", 2, [(1, 2, float("nan"))], (), 1000, told="arcs[0]: nan is no weight")
+
+
+def what_is_told_of_the_package():
+    """`dir` has the network, `help` nothing that is no caller's, and a network says what it is."""
+    import pydoc
+
+    assert "Network" in dir(chtab) and set(chtab.__all__) <= set(dir(chtab))
+    wanted = "close coordinates distances frame graph isochrones nearest open reach roads routes snap table trip_routes trip_table trips unit"
+    assert [name for name in dir(chtab.Network) if not name.startswith("_")] == wanted.split()
+    text = pydoc.render_doc(chtab.Network)
+    assert "Parameters" in text and "Raises" in text and "leave_parent" not in text, text
+    with chtab.Network.open(FIRST, program=PROGRAM) as network:
+        assert repr(network) == f"<chtab.Network {FIRST}: 3 nodes>" and repr(network.routes([(1, 3)])) == f"<1 routes on {FIRST}>"
+    assert repr(network).endswith("3 nodes, closed>")
 
 
 def random_graphs_answer_as_dijkstra():
@@ -143,36 +175,112 @@ def a_program_that_fails_is_told_and_gone():
         assert network.distances([(1, 3)]).tolist() == [9]
 
 
-def runs_are_kept():
-    """One for distances and tables, one for routes and one for limits up to a power of two; of more than four the one that was not asked
-    for longest is ended."""
+def one_run_answers_all():
+    """The run that is there answers. Only the first route ends one that tells no routes, and only another question one for a limit."""
+    def every_answer(network):
+        assert network.distances([(1, 3)]).tolist() == [9] and network.table([1], [2, 3]).tolist() == [[4, 9]]
+        assert [network.table([1], [2, 3], within).tolist() for within in (5, 7, 8, 9)] == [[[4, -1]]] * 3 + [[[4, 9]]]
+
     with mood(), chtab.Network.open(FIRST, program=STANDIN) as network:
+        every_answer(network)
+        assert asked() == [""] and lives_on(2), noted()
+        for _ in range(2):
+            assert network.routes([(1, 3), (3, 1)])[0].nodes == [1, 2, 3]
+            every_answer(network)
+            assert network.distances([(1, 3), (3, 1), (2, 2)]).tolist() == [9, -1, 0]
+        assert asked() == ["", "--routes"] and lives_on(2), noted()
+    with mood(), chtab.Network.open(FIRST, program=STANDIN, load=False) as network:
+        assert network.table([1], [2, 3], 8).tolist() == [[4, -1]] and asked()[2:] == ["--within 8"], noted()
+        assert network.table([1], [2, 3], 9).tolist() == [[4, 9]] and network.table([1], [2, 3], 8).tolist() == [[4, -1]]
+        assert asked()[3:] == [""] and lives_on(2), noted()
+    with mood(), chtab.Network.open(FIRST, program=STANDIN, routes=True) as network:
+        every_answer(network)
+        assert network.routes([(1, 3)])[0].nodes == [1, 2, 3] and asked()[4:] == ["--routes"], noted()
+
+
+def more_runs_where_they_are_wanted():
+    """One for distances and tables, one for routes and one for limits up to a power of two; where there are as many as may be, those that are
+    there answer."""
+    with mood(), chtab.Network.open(FIRST, program=STANDIN, runs=4) as network:
         for _ in range(2):
             assert network.distances([(1, 3)]).tolist() == [9] and network.table([1], [2, 3]).tolist() == [[4, 9]]
             assert network.routes([(1, 3)])[0].nodes == [1, 2, 3]
             assert [network.table([1], [2, 3], within).tolist() for within in (5, 7, 8)] == [[[4, -1]]] * 3
             assert network.table([1], [2, 3], 9).tolist() == [[4, 9]]
         assert asked() == ["", "--routes", "--within 8", "--within 16"] and lives_on(8), noted()
-        network.routes([(1, 3)])
-        assert network.table([1], [2], 0).tolist() == [[-1]] and lives_on(8)
-        network.routes([(1, 3)])
-        assert network.distances([(1, 3)]).tolist() == [9] and lives_on(8)
-        assert asked()[4:] == ["--within 1", ""], noted()
-    with mood(), chtab.Network.open(FIRST, program=STANDIN, load=False) as network:
-        assert network.table([1], [2, 3], 8).tolist() == [[4, -1]] and asked()[6:] == ["--within 8"], noted()
+        assert network.table([1], [2], 0).tolist() == [[-1]] and network.table([1], [2], 100).tolist() == [[4]]
+        assert len(asked()) == 4 and lives_on(8), noted()
+    with mood(), chtab.Network.open(FIRST, program=STANDIN, runs=2) as network:
+        assert network.table([1], [2, 3], 8).tolist() == [[4, -1]] and network.routes([(1, 3)])[0].nodes == [1, 2, 3]
+        assert asked()[4:] == ["", "--within 8", "--routes"] and lives_on(4), noted()
+        assert network.distances([(1, 3)]).tolist() == [9] and network.table([1], [2, 3], 16).tolist() == [[4, 9]]
+        assert len(asked()) == 7 and lives_on(4), noted()
+    raises(ValueError, lambda: chtab.Network.open(FIRST, program=PROGRAM, runs=0), told="at least one")
+
+
+def answers_are_matched_whole():
+    """Texts that are no answer to a question, each of which is refused; what is one is taken."""
+    import numpy
+
+    pairs = numpy.array([[1, 3], [3, 1]])
+    cases = (
+        (answers.distances(pairs, False), b"d 1 3 9\nd 3 1 -\n", (
+            b"", b"d 1 3 9\n", b"d 3 1 -\nd 1 3 9\n", b"d 1 3 9\nd 3 2 -\n", b"d 1 3 9\nd 3 1 x\n", b"d 1 3 9\nd 3 1 5-3\n",
+            b"d 1 3 9\nd 3 1 -\nd 1 1 0\n", b"d 1 3 9 d 3 1 -\n", b"d 1 3 9\nd 3 1 " + b"9" * 20 + b"\n",
+        )),
+        (answers.distances(pairs, True), b"d 1 3 9\nr 1\na 1 3 9\nd 3 1 -\n", (b"d 1 3 9\nd 3 1 -\n", b"d 1 3 9\nr 1\na 1 3 9\nt 3 1 -\n")),
+        (answers.table([1, 3], [2, 3]), b"t 1 4 9\nt 3 - 0\n", (
+            b"t 1 4 9\n", b"t 3 - 0\nt 1 4 9\n", b"t 1 4\nt 3 - 0\n", b"t 1 4 9 9\nt 3 - 0\n", b"t 1 4 9\nt 31 - 0\n", b"t 1 4  9\nt 3 - 0\n",
+            b"t 1 4 9-\nt 3 - 0\n", b"t 1 4 9\nt 3 - 0\nt 3 - 0\n", b"t 1 4 9\nt 3 - 0", b"t 1 4 9 t 3 - 0\n",
+        )),
+        (answers.table([1], [2, 3], 8), b"t 1 4 -\n", (b"t 1 4 9\n", b"t 1 10 -\n")),
+        (answers.table([1], [2, 3], 9), b"t 1 4 9\n", (b"t 1 4 10\n",)),
+    )
+    for question, right, others in cases:
+        question.value_of(right)
+        for text in others:
+            raises(chtab.ProgramFault, question.value_of, text, told="not asked")
+    question = answers.routes([(1, 3), (3, 1)])
+    right = b"d 1 3 9\nr 2\na 1 2 4\na 2 3 5\nd 3 1 -\n"
+    assert [each.nodes for each in question.value_of(right)] == [[1, 2, 3], None]
+    for old, new in (
+        (b"a 2 3 5", b"a 2 3 4"), (b"a 2 3 5", b"a 1 3 5"), (b"a 2 3 5", b"a 2 2 5"), (b"r 2", b"r 3"), (b"r 2", b"x 2"), (b"a 1 2 4\n", b""),
+        (b"d 1 3 9", b"d 1 3 10"), (b"d 1 3 9", b"d 2 3 9"), (b"d 3 1 -", b"d 3 2 -"), (b"d 3 1 -\n", b""), (b"a 1 2 4", b"b 1 2 4"),
+        (b"d 1 3 9", b"t 1 4\nd 1 3 9"), (b"a 1 2 4", b"a 1 2"), (b"d 3 1 -", b"d 3 1 0"),
+        (b"r 2\na 1 2 4\na 2 3 5\nd 3 1 -", b"r 1\na 1 3 9\na 3 1 -"), (b"r 2\na 1 2 4\na 2 3 5\n", b"r 2\na 1 2 4\nd 2 3 5\n"),
+        (b"\nd 3 1 -", b"\na 3 1 1\nd 3 1 -"), (b"r 2\na 1 2 4\na 2 3 5\nd 3 1 -\n", b"r 1\na 1 3 9\na 3 1 2\na 1 3 1\n"),
+    ):
+        assert old in right
+        raises(chtab.ProgramFault, question.value_of, right.replace(old, new), told="not asked")
 
 
 def closing_ends_what_is_under_way():
+    """The question that is under way, and those that wait for their turn, also of another kind; no run is left, and none is begun."""
     with mood("hangs=1"):
         network, faults = chtab.Network.open(FIRST, program=STANDIN), []
-        thread = threading.Thread(target=lambda: faults.append(raises(chtab.ChtabError, network.distances, [(1, 3)], told="closed")))
+
+        def asking(call):
+            return threading.Thread(target=lambda: faults.append(raises(chtab.ChtabError, call, [(1, 3)], told="the network is closed")))
+
+        threads = [asking(network.distances) for _ in range(4)] + [asking(network.routes) for _ in range(2)]
+        for thread in threads:
+            thread.start()
+            time.sleep(0.1)
+        assert len(asked()) == 1, noted()
+        network.close()
+        for thread in threads:
+            thread.join(20)
+        assert len(faults) == 6 and len(asked()) == 1 and lives_on(0), (faults, noted())
+        raises(chtab.ChtabError, network.routes, [(1, 3)], told="closed")
+    with mood("loads=3"):
+        network, faults = chtab.Network.open(FIRST, program=STANDIN, load=False), []
+        thread = asking(network.distances)
         thread.start()
-        while not network.engine.asked:
+        while not living():
             time.sleep(0.01)
         network.close()
         thread.join(20)
-        assert len(faults) == 1
-        raises(chtab.ChtabError, network.routes, [(1, 3)], told="closed")
+        assert len(faults) == 1 and lives_on(0), faults
 
 
 def what_is_longer_than_a_pipe_holds():
@@ -283,28 +391,51 @@ def frames_and_features():
         assert [len(each["geometry"]["coordinates"]) for each in features] == [len(each.nodes) for each in routes]
 
 
-def it_installs_without_a_network():
-    subprocess.run([PYTHON, "-m", "venv", "--system-site-packages", "venv"], check=True)
-    words = ["venv/bin/pip", "install", "--no-input", "--no-index", "--quiet", "--disable-pip-version-check"]
-    source = pathlib.Path("source")
-    subprocess.run(["cp", "-r", str(ROOT / "python"), str(source)], check=True)
-    done = subprocess.run([*words, f"./{source}"], capture_output=True, text=True)
+def installed(name, has_program):
+    """The Python of a new environment in which pip installed the package, from a checkout that has the program or hasn't."""
+    checkout = pathlib.Path(f"checkout-{name}")
+    checkout.mkdir()
+    subprocess.run(["cp", "-r", str(ROOT / "python"), str(checkout / "python")], check=True)
+    if has_program:
+        (checkout / "crates" / "chtab" / "out").mkdir(parents=True)
+        subprocess.run(["cp", str(PROGRAM), str(checkout / "crates" / "chtab" / "out")], check=True)
+    subprocess.run([PYTHON, "-m", "venv", "--system-site-packages", name], check=True)
+    words = [f"{name}/bin/pip", "install", "--no-input", "--no-index", "--quiet", "--disable-pip-version-check", f"./{checkout}/python"]
+    done = subprocess.run(words, capture_output=True, text=True)
     assert done.returncode == 0, done.stderr
-    text = f"import chtab; n = chtab.Network.open('{ROOT}/examples/first.gr', program='{PROGRAM}'); print(n.distances([(1, 3)])[0], chtab.__file__)"
-    done = subprocess.run(["venv/bin/python", "-c", text], capture_output=True, text=True)
-    assert done.stdout.startswith("9 ") and "/venv/" in done.stdout, done
+    assert not (checkout / "python" / "chtab" / "bin").exists()
+    return pathlib.Path(f"{name}/bin/python").absolute()
+
+
+def it_installs_without_a_network():
+    """By pip: the package takes the program along where it was built, and else tells both ways to name one."""
+    elsewhere = {"cwd": "/", "env": {"PATH": "/usr/bin:/bin"}, "capture_output": True, "text": True}
+    text = f"import chtab; n = chtab.Network.open('{ROOT}/examples/first.gr'); print(n.distances([(1, 3)])[0], chtab.__file__)"
+    python = installed("with", True)
+    done = subprocess.run([python, "-c", text], **elsewhere)
+    assert done.stdout.startswith("9 ") and "/with/" in done.stdout, done
     for tool in sorted((ROOT / "tools").glob("*.py")):
-        done = subprocess.run([f"venv/bin/chtab-{tool.stem.replace('_', '-')}", "--help"], capture_output=True, text=True)
+        done = subprocess.run([python.parent / f"chtab-{tool.stem.replace('_', '-')}", "--help"], **elsewhere)
         assert done.returncode == 0 and "usage:" in done.stdout.lower(), done
+    python = installed("without", False)
+    done = subprocess.run([python, "-c", text], **elsewhere)
+    assert done.returncode and "`--program FILE`" in done.stderr and "`program=`" in done.stderr, done
+    os.symlink(PROGRAM, python.parent / "chtab")
+    files.write_list("one.ss", [1])
+    words = [python.parent / "chtab-blocks", FIRST, os.path.abspath("one.ss"), os.path.abspath("one.ss"), os.path.abspath("one.csv")]
+    done = subprocess.run(words, **elsewhere)
+    assert done.stdout.startswith("1 by 1 cells"), done
 
 
 GROUPS = (
-    ((), [files_are_read_as_written, a_signal_leaves_nothing_behind, a_closed_pipe_is_silent, blocks_are_as_wide_as_the_limits_let_them]),
+    ((), [files_are_read_as_written, weights_are_whole, a_signal_leaves_nothing_behind, a_closed_pipe_is_silent, blocks_are_as_wide_as_the_limits_let_them]),
     (("python3-tqdm",), [signs_of_life]),
     (
         ("python3-numpy",),
         [
-            random_graphs_answer_as_dijkstra, what_is_not_a_question_is_refused, a_program_that_fails_is_told_and_gone, runs_are_kept,
+            random_graphs_answer_as_dijkstra, what_is_not_a_question_is_refused, a_program_that_fails_is_told_and_gone, one_run_answers_all,
+            what_is_told_of_the_package,
+            more_runs_where_they_are_wanted, answers_are_matched_whole,
             closing_ends_what_is_under_way, what_is_longer_than_a_pipe_holds, threads_share_a_network,
         ],
     ),

@@ -205,8 +205,10 @@ printf 'p aux sp ss 65537\n' >many.ss
 expect "a source out of range" 1 "" "chtab: sources line 2: node out of range" table graph.gr four.ss two.ss
 expect "a target out of range" 1 "" "chtab: targets line 2: node out of range" table graph.gr two.ss four.ss
 expect "too many sources" 1 "" "chtab: sources line 1: size too large" table graph.gr many.ss two.ss
-expect "missing sources" 3 "" "chtab: cannot read sources" table graph.gr missing.ss two.ss
-expect "a folder as targets" 3 "" "chtab: cannot read targets" table graph.gr two.ss "$root"
+expect "missing sources" 3 "" "chtab: missing.ss: there is no such file
+chtab: cannot read sources" table graph.gr missing.ss two.ss
+expect "a folder as targets" 3 "" "chtab: $root: this is a folder
+chtab: cannot read targets" table graph.gr two.ss "$root"
 expect "a table" 0 "t 1 0 4
 t 2 - 0" "" table graph.gr two.ss two.ss
 
@@ -310,13 +312,25 @@ expect "the saved hierarchy is judged before the queries" 1 "" "chtab: saved lin
 expect_saved "it is checked before the queries" 1 "" "$no order" "$g" bad.txt "1 1 2" "$one" "$two"
 expect "it is judged before the sources" 1 "" "chtab: saved line 1: bad problem line" table --saved bad.txt "$g" bad.txt bad.txt
 expect "then the queries are judged" 1 "" "chtab: queries line 1: bad problem line" dist --saved "$ch" "$g" bad.txt
-expect "a missing graph, and no saved hierarchy" 3 "" "chtab: cannot read graph" dist --saved missing.ch missing.gr missing.p2p
-expect "a missing hierarchy" 3 "" "chtab: cannot read saved" dist --saved missing.ch "$g" missing.p2p
-expect "a missing hierarchy, table" 3 "" "chtab: cannot read saved" table --saved missing.ch "$g" missing.ss missing.ss
-expect "a folder as saved hierarchy" 3 "" "chtab: cannot read saved" dist --saved "$root" "$g" "$q"
-expect "missing queries, and a saved hierarchy" 3 "" "chtab: cannot read queries" dist --saved "$ch" "$g" missing.p2p
-expect "a missing graph to save" 3 "" "chtab: cannot read graph" save missing.gr
-expect "a folder to save" 3 "" "chtab: cannot read graph" save "$root"
+expect "a missing graph, and no saved hierarchy" 3 "" "chtab: missing.ch: there is no such file
+chtab: missing.gr: there is no such file
+chtab: missing.p2p: there is no such file
+chtab: cannot read graph" dist --saved missing.ch missing.gr missing.p2p
+expect "a missing hierarchy" 3 "" "chtab: missing.ch: there is no such file
+chtab: missing.p2p: there is no such file
+chtab: cannot read saved" dist --saved missing.ch "$g" missing.p2p
+expect "a missing hierarchy, table" 3 "" "chtab: missing.ch: there is no such file
+chtab: missing.ss: there is no such file
+chtab: missing.ss: there is no such file
+chtab: cannot read saved" table --saved missing.ch "$g" missing.ss missing.ss
+expect "a folder as saved hierarchy" 3 "" "chtab: $root: this is a folder
+chtab: cannot read saved" dist --saved "$root" "$g" "$q"
+expect "missing queries, and a saved hierarchy" 3 "" "chtab: missing.p2p: there is no such file
+chtab: cannot read queries" dist --saved "$ch" "$g" missing.p2p
+expect "a missing graph to save" 3 "" "chtab: missing.gr: there is no such file
+chtab: cannot read graph" save missing.gr
+expect "a folder to save" 3 "" "chtab: $root: this is a folder
+chtab: cannot read graph" save "$root"
 expect "a refused graph to save" 1 "" "chtab: graph line 1: bad problem line" save bad.txt
 expect "plain distances read no saved hierarchy" 0 "$("$root/chtab" dist "$g" "$q")" "" dist --plain --saved missing.ch "$g" "$q"
 expect "a saved hierarchy leaves hops out" 0 "$routes" "" dist --routes --hops 1 --saved "$ch" "$g" "$q"
@@ -325,10 +339,14 @@ expect_words "two files to save" 2 err "'$q'" save "$g" "$q"
 expect_words "no saved file" 2 err "--saved" dist --saved
 expect_words "help of save" 0 out "chtab save --deep roads.gr" save --help
 
-expect "a missing graph" 3 "" "chtab: cannot read graph" dist --plain missing.gr "$q"
-expect "missing queries" 3 "" "chtab: cannot read queries" dist --plain "$g" missing.p2p
-expect "a folder as graph" 3 "" "chtab: cannot read graph" dist --plain "$root" "$q"
-expect "a folder as queries" 3 "" "chtab: cannot read queries" dist --plain "$g" "$root"
+expect "a missing graph" 3 "" "chtab: missing.gr: there is no such file
+chtab: cannot read graph" dist --plain missing.gr "$q"
+expect "missing queries" 3 "" "chtab: missing.p2p: there is no such file
+chtab: cannot read queries" dist --plain "$g" missing.p2p
+expect "a folder as graph" 3 "" "chtab: $root: this is a folder
+chtab: cannot read graph" dist --plain "$root" "$q"
+expect "a folder as queries" 3 "" "chtab: $root: this is a folder
+chtab: cannot read queries" dist --plain "$g" "$root"
 
 "$root/chtab" dist --plain "$g" "$q" >/dev/full 2>err.txt
 compare "a full device, status" 3 "$?"
@@ -355,8 +373,10 @@ expect "a faulty request" 1 "d 1 3 9" "chtab: request line 3: node out of range"
 expect "a table that is cut short" 1 "" "chtab: request line 4: too few lines" ask "$g" < <(printf 't 1 2\ns 2\ns 3\n')
 expect "requests for too many cells" 1 "d 1 3 9" "chtab: too many cells" ask "$g" < <(printf 'q 1 3\nt 4096 1025\n')
 expect "a folder as requests" 3 "" "chtab: cannot read requests" ask "$g" <"$root"
-expect "a missing graph, and requests" 3 "" "chtab: cannot read graph" ask missing.gr <requests.txt
-expect "a missing hierarchy, and requests" 3 "" "chtab: cannot read saved" ask --saved missing.ch "$g" <requests.txt
+expect "a missing graph, and requests" 3 "" "chtab: missing.gr: there is no such file
+chtab: cannot read graph" ask missing.gr <requests.txt
+expect "a missing hierarchy, and requests" 3 "" "chtab: missing.ch: there is no such file
+chtab: cannot read saved" ask --saved missing.ch "$g" <requests.txt
 expect "a refused graph, and requests" 1 "" "chtab: graph line 1: bad problem line" ask bad.txt <requests.txt
 expect_words "a file of requests" 2 err "'requests.txt'" ask "$g" requests.txt
 expect_words "requests without a graph" 2 err "GRAPH" ask

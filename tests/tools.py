@@ -221,6 +221,9 @@ def blocks_by_saved_hierarchies(graph):
     pathlib.Path("own.ch").write_text("p ch 1 0\no 1\n")
     words = ["--program", PROGRAM, "--saved", "own.ch", graph, "from.ss", "to.ss", "refused.csv"]
     assert "saved line 1: size too large" in tool("blocks", *words, status=1)
+    for words in ["--saved", "none.ch", graph], ["none.gr"]:
+        fault = tool("blocks", "--program", PROGRAM, *words, "from.ss", "to.ss", "refused.csv", status=1)
+        assert f"No such file or directory: '{os.getcwd()}/none." in fault and fault.count("\n") == 1, fault
 
 
 def a_worker_is_lost(graph, wanted):

@@ -72,7 +72,7 @@ def places_on_one_road_and_past_it():
         starts, ends = (spots[list(part)] for part in zip(*pairs))
         assert network.trips(starts, ends).reshape(5, 5).tolist() == table
         assert [trip.line is None for trip in network.trip_routes(starts, ends)] == [weight < 0 for row in table for weight in row]
-        raises(chtab.TooFar, network.snap, [0.0], [0.02], told="2,224 m from the nearest road, more than 1,000 m")
+        raises(chtab.TooFar, network.snap, [0.0], [0.02], told="0.020000 is 2.2 km from the nearest road, more than 1 km; longitude comes first")
         assert network.snap([0.0], [0.02], 3_000).metres.round().tolist() == [2224]
 
 
@@ -93,6 +93,159 @@ def reach_is_where_its_nodes_are():
             assert sum(area.buffer(0.0006).contains(place) for place in inside.geoms) == len(inside.geoms)
         assert outer.contains(Point(VADUZ)) and not outer.contains(Point(RUGGELL))
         raises(ValueError, network.isochrones, spot, [], told="limit")
+
+
+def crossings():
+    """The graph of crossings with bends."""
+    command("osm_to_gr", "--quiet", "--bends", f"{COUNTRY}.osm.bz2", "crossings")
+    return files.read_graph("crossings.gr"), files.read_coordinates("crossings.co"), files.read_bends("crossings.bends")
+
+
+def lines_of_arcs(graph, coordinates, bends):
+    """The places of each arc, by plain Python."""
+    return [[coordinates.of(tail), *bends.get(arc, ()), coordinates.of(head)] for arc, (tail, head) in enumerate(zip(graph.tails, graph.heads))]
+
+
+def metres_of(places, others):
+    """By the haversine formula, in plain Python."""
+    (x, y), (u, v) = ([math.radians(part) for part in place] for place in (places, others))
+    return 2 * 6_371_008.8 * math.asin(math.sqrt(math.sin((v - y) / 2) ** 2 + math.cos(y) * math.cos(v) * math.sin((u - x) / 2) ** 2))
+
+
+def lines_in_arrays_are_those_of_the_file():
+    """The pieces of all arcs with their parts, which are made at once, against each arc by itself."""
+    graph, coordinates, bends = crossings()
+    with chtab.Network.open("crossings.gr", program=PROGRAM, load=False) as network:
+        arcs, ends, parts = (column.tolist() for column in network.roads.segments())
+    found = {}
+    for arc, end, part in zip(arcs, ends, parts):
+        found.setdefault(arc, []).append((end, part))
+    assert len(found) > 7_000
+    for arc, line in enumerate(lines_of_arcs(graph, coordinates, bends)):
+        steps = [metres_of(*pair) for pair in zip(line, line[1:])]
+        sums = [sum(steps[:count]) / (sum(steps) or 1) for count in range(len(line))]
+        if arc not in found:
+            assert graph.tails[arc] == graph.heads[arc] and arc not in bends, arc
+            continue
+        of_arc = sorted(found[arc], key=lambda piece: piece[1])
+        assert [end for end, _ in of_arc] == [[*a, *b] for a, b in zip(line, line[1:])], arc
+        for (_, part), wanted in zip(of_arc, zip(sums, sums[1:])):
+            assert all(abs(a - b) < 1e-6 for a, b in zip(part, wanted)), (arc, part, wanted)
+
+
+def places_are_taken_to_the_nearest_road():
+    """Places near roads and far from them, against a search through all pieces of all roads."""
+    import numpy
+
+    graph, coordinates, bends = crossings()
+    pieces = numpy.array([[*a, *b] for line in lines_of_arcs(graph, coordinates, bends) for a, b in zip(line, line[1:])])
+    draw = random.Random("nearest roads")
+    wanted = [(draw.uniform(9.47, 9.63), draw.uniform(47.05, 47.27)) for _ in range(300)] + [(-170.0, 12.0), (9.5, 89.99), (0.0, -90.0)]
+    with chtab.Network.open("crossings.gr", program=PROGRAM, load=False) as network:
+        found = network.roads.find_any(*zip(*wanted)).metres.tolist()
+
+    def plane(xs, ys):
+        ys = numpy.clip(ys, -89.9, 89.9)
+        return numpy.column_stack([numpy.radians(xs), numpy.arcsinh(numpy.tan(numpy.radians(ys)))])
+
+    starts, stops = plane(*pieces[:, :2].T), plane(*pieces[:, 2:].T)
+    ways = stops - starts
+    for (x, y), metres in zip(wanted, found):
+        off = plane([x], [y]) - starts
+        share = numpy.clip((off * ways).sum(axis=1) / numpy.maximum((ways * ways).sum(axis=1), 1e-300), 0, 1)
+        apart = numpy.hypot(*(off - ways * share[:, None]).T)
+        best = apart.argmin()
+        u, v = starts[best] + ways[best] * share[best]
+        least = metres_of((x, y), (math.degrees(u), math.degrees(math.atan(math.sinh(v)))))
+        assert abs(metres - least) < 0.01 + 1e-6 * least, (x, y, metres, least)
+
+
+def routes_follow_the_bends_of_their_roads():
+    """Routes between nodes as GeoJSON, against the lines of their arcs one after the other; and without a file of bends from node to node."""
+    import numpy
+
+    graph, coordinates, bends = crossings()
+    lines = {}
+    for line, *arc in zip(lines_of_arcs(graph, coordinates, bends), graph.tails, graph.heads, graph.weights):
+        lines.setdefault(tuple(arc), line)
+    pairs = numpy.random.default_rng(3).integers(1, graph.nodes + 1, (60, 2))
+    with chtab.Network.open("crossings.gr", program=PROGRAM) as network:
+        routes = network.routes(pairs)
+        features = routes.to_geojson()["features"]
+        assert len(features) == sum(each.nodes is not None for each in routes) > 50
+        longer = 0
+        for each, feature in zip([each for each in routes if each.nodes], features):
+            wanted = [coordinates.of(each.nodes[0])]
+            for arc in zip(each.nodes, each.nodes[1:], each.weights):
+                wanted += [place for place in lines[arc] if place != wanted[-1]]
+            found = list(map(tuple, feature["geometry"]["coordinates"]))
+            assert found == (wanted if len(wanted) > 1 else wanted * 2), (each.source, each.target)
+            longer += len(wanted) > len(each.nodes)
+        assert longer > 50
+    pathlib.Path("crossings.bends").unlink()
+    with chtab.Network.open("crossings.gr", program=PROGRAM) as network:
+        [feature] = network.routes(pairs[:1]).to_geojson()["features"]
+        assert len(feature["geometry"]["coordinates"]) == len(network.routes(pairs[:1])[0].nodes)
+
+
+def a_graph_that_was_changed_is_told():
+    """The lines of a route are not drawn by the roads of another graph."""
+    crossings()
+    with chtab.Network.open("crossings.gr", program=PROGRAM) as network:
+        routes = network.routes([(1, 2_000)])
+        text = pathlib.Path("crossings.gr").read_text().splitlines()
+        pathlib.Path("crossings.gr").write_text("".join(f"{line}1\n" if line.startswith("a") else f"{line}\n" for line in text))
+        raises(chtab.ChtabError, routes.to_geojson, told="the file of the graph was changed")
+
+
+def what_is_no_place_is_refused():
+    """NaN, degrees out of range, places that are too far, and two spots where reach begins at one."""
+    nan, north = float("nan"), [47.1410]
+    with chtab.Network.open(f"{COUNTRY}.gr", program=PROGRAM) as network:
+        for call in network.nearest, network.snap:
+            raises(ValueError, call, [9.5, nan], [47.1, 47.1], told="longitude of place 1 is nan")
+            raises(ValueError, call, [9.5], [nan], told="latitude of place 0 is nan")
+            raises(ValueError, call, [9.5], [91], told="latitude of place 0 is 91")
+            raises(ValueError, call, [181], [47], told="longitude of place 0")
+            raises(ValueError, call, [9.5, 9.5], [47], told="2 longitudes and 1 latitudes")
+        assert network.nearest(north, [9.5209])[1][0] > 5_000_000
+        fault = raises(chtab.TooFar, network.nearest, [9.5209, *north], [47.1410, 9.5209], 1_000, told="is 5,467 km from the nearest node")
+        assert list(fault.places) == [1] and fault.places[1] > 5_000_000
+        fault = raises(chtab.TooFar, network.snap, [*north, 9.5209, *north], [9.5209, 47.1410, 9.5209], told="from the nearest road")
+        assert list(fault.places) == [0, 2]
+        spots = network.snap(*zip(VADUZ, MALBUN))
+        raises(ValueError, network.isochrones, spots, [1000], told="one spot, not at 2")
+        raises(ValueError, network.reach, spots, told="one spot, not at 2")
+        raises(ValueError, network.isochrones, spots[:0], [1000], told="one spot, not at 0")
+
+
+def reach_within_a_limit_leaves_out_nothing():
+    """Nodes that lie too far to be reached aren't asked for; the others are all that a search without a limit finds. Also where a road takes
+    no time, and where a node has no place."""
+    import numpy
+
+    def same(network, place, limits):
+        spot = network.snap(*place)
+        whole = network.reach(spot)
+        for limit in limits:
+            assert numpy.array_equal(network.reach(spot, limit), numpy.where(whole <= limit, whole, -1)), limit
+
+    graph, coordinates, _ = crossings()
+    with chtab.Network.open("crossings.gr", program=PROGRAM) as network:
+        asked_for = []
+        network._engine.table, table = lambda sources, targets, within: asked_for.append(len(targets)) or table(sources, targets, within), network._engine.table
+        same(network, VADUZ, (0, 1, 60_000, 300_000, 600_000, 2_000_000, 2**60))
+        assert asked_for[0] == graph.nodes > 2 * asked_for[2] > 0, asked_for
+    arcs = list(zip(graph.tails, graph.heads, graph.weights))
+    write_graph("quick.gr", graph.nodes, [*arcs[1:], (*arcs[0][:2], 0)])
+    lines = pathlib.Path("crossings.co").read_text().splitlines(keepends=True)
+    pathlib.Path("quick.co").write_text("".join(lines))
+    with chtab.Network.open("quick.gr", program=PROGRAM) as network:
+        same(network, VADUZ, (0, 60_000, 300_000))
+    write_graph("blank.gr", graph.nodes, arcs)
+    pathlib.Path("blank.co").write_text("".join(line for line in lines if not line.startswith("v 1500 ")))
+    with chtab.Network.open("blank.gr", program=PROGRAM) as network:
+        same(network, VADUZ, (0, 60_000, 300_000))
 
 
 def commands_tell_trips_and_reach():
@@ -117,7 +270,7 @@ def commands_tell_trips_and_reach():
     swapped = "47.1410 9.5209 Vaduz\n47.1 9.5\n"
     for name, more in ("trips", ()), ("trips", ("--table",)), ("reach", ("--limits", 1000)):
         fault = command(name, *more, *words, text=swapped, status=1)
-        assert "is 5,467,4" in fault and "from the nearest road, more than 1,000 m" in fault and fault.count("\n") == 1, fault
+        assert "is 5,467 km from the nearest road, more than 1 km" in fault and fault.count("\n") == 1, fault
     assert "no second" in command("trips", *words, text=swapped[:20], status=1)
     assert "no place" in command("reach", "--limits", 1000, *words, status=1)
 
@@ -125,7 +278,7 @@ def commands_tell_trips_and_reach():
 def trips_between_roads_with_turns():
     """Places beside roads and at crossings of random maps with restricted turns: each trip is the best of the search from arc to arc."""
     draw, compared, longer = random.Random("places and turns"), 0, 0
-    for _ in range(300):
+    for _ in range(360):
         text, nodes = random_map(draw, 12), draw.choice(["crossings", "all"])
         world = mapping.Map(text, "car")
         found = mapping.arcs(world, nodes == "all")
@@ -152,8 +305,6 @@ def commands_know_graphs_with_turns():
 
 def spots_and_arcs(draw, network, pieces, found):
     """Spots on roads and at crossings, where no other lies, and for each the arcs on which a trip from it begins and on which one to it ends."""
-    from chtab.roads import at_part, steps_of
-
     roads, names, seen = network.roads, files.read_names("map.nodes"), set()
     named = [tuple(sorted((start[0], end[0]))) for _, (start, end), *_ in pieces]
     places, ways = [], []
@@ -161,9 +312,8 @@ def spots_and_arcs(draw, network, pieces, found):
         first, last = (names[int(node)] for node in (roads.firsts[road], roads.lasts[road]))
         own = [number for number, ends in enumerate(named) if ends == tuple(sorted((first, last)))]
         if len(own) == 1 and first != last and not any(copy for _, copy in pieces[own[0]][1]):
-            steps = steps_of(roads.shape(road))
             for part in 0.0, draw.uniform(0.1, 0.9):
-                places.append((road, part, at_part(roads.shape(road), steps, part)))
+                places.append((road, part, tuple(roads.stretch(road, part, part)[0].tolist())))
                 ways.append((own[0], first))
     if not places:
         return None, []
@@ -203,7 +353,7 @@ def same_trips(network, spots, ways, found, never):
 
 
 def reach_of_more_nodes_than_a_table_has():
-    """A road of 70,000 nodes: one run answers two blocks, and another those within a limit."""
+    """A road of 70,000 nodes: one run answers two blocks, and those within a limit."""
     degree = 1 / 111_195
     write_graph("long.gr", 70_000, [(node, node + 1, 1) for node in range(1, 70_000)])
     files.write_coordinates("long.co", [(node * degree, 0) for node in range(70_000)])
@@ -214,7 +364,7 @@ def reach_of_more_nodes_than_a_table_has():
         [feature] = network.isochrones(spot, [69_000])["features"]
         east = max(place[0] for part in feature["geometry"]["coordinates"] for place in part[0])
         assert 69_000 * degree <= east <= 69_800 * degree, east / degree
-        assert asked() == ["", "--within 131072"], noted()
+        assert asked() == [""], noted()
 
 
 GROUPS = (
@@ -222,6 +372,8 @@ GROUPS = (
         ("python3-numpy", "python3-scipy", "python3-shapely"),
         [
             trips_are_exact_between_places_on_roads, places_on_one_road_and_past_it, reach_is_where_its_nodes_are, commands_tell_trips_and_reach,
+            lines_in_arrays_are_those_of_the_file, places_are_taken_to_the_nearest_road, routes_follow_the_bends_of_their_roads,
+            a_graph_that_was_changed_is_told, what_is_no_place_is_refused, reach_within_a_limit_leaves_out_nothing,
             trips_between_roads_with_turns, commands_know_graphs_with_turns, reach_of_more_nodes_than_a_table_has,
         ],
     ),

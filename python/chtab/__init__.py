@@ -19,3 +19,7 @@ def __getattr__(name):
 
         return Network
     raise AttributeError(f"module 'chtab' has no attribute {name!r}")
+
+
+def __dir__():
+    return sorted({*globals(), *__all__})

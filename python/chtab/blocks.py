@@ -58,10 +58,10 @@ def cut(sources, targets, side=None):
             yield Block(row, column, sources[row:row + height], targets[column:column + width])
 
 
-def made(running, block, within):
+def made(running, block):
     """What the program writes for a block. It runs in any process, on any machine."""
     try:
-        return running.table(block.sources, block.targets, within)
+        return running.table(block.sources, block.targets)
     except ProgramFault as fault:
         raise RuntimeError(f"block of {block.name()}: status {fault.status}. {fault}") from None
 
@@ -71,8 +71,7 @@ class Pool:
 
     as_completed = staticmethod(concurrent.futures.as_completed)
 
-    def __init__(self, setting, within, count):
-        self.within = within
+    def __init__(self, setting, count):
         self.engines, self.idle = [engine.Engine(setting) for _ in range(count)], queue.SimpleQueue()
         for running in self.engines:
             self.idle.put(running)
@@ -84,7 +83,7 @@ class Pool:
     def run(self, block):
         running = self.idle.get()
         try:
-            return made(running, block, self.within)
+            return made(running, block)
         finally:
             self.idle.put(running)
 
@@ -98,7 +97,7 @@ class Pool:
         self.threads.shutdown()
 
 
-def run_on_worker(block, setting, within):
+def run_on_worker(block, setting):
     """A block on a worker of Dask, by the run that its thread keeps."""
     import distributed
 
@@ -106,7 +105,7 @@ def run_on_worker(block, setting, within):
     key = threading.get_ident(), setting
     if key not in kept:
         kept[key] = engine.Engine(setting)
-    return made(kept[key], block, within)
+    return made(kept[key], block)
 
 
 def close_on_worker(dask_worker):
@@ -129,12 +128,12 @@ def send_package(client):
 class Cluster:
     """The same on the workers of a Dask scheduler."""
 
-    def __init__(self, setting, within, address):
+    def __init__(self, setting, address):
         try:
             import distributed
         except ImportError:
             raise Failed("--scheduler needs Dask (Debian's package python3-distributed)") from None
-        self.setting, self.within = setting, within
+        self.setting = setting
         self.as_completed = distributed.as_completed
         try:
             self.client = distributed.Client(address, timeout=PATIENCE)
@@ -150,7 +149,7 @@ class Cluster:
             raise
 
     def begin(self, block):
-        return self.client.submit(run_on_worker, block, self.setting, self.within, pure=False)
+        return self.client.submit(run_on_worker, block, self.setting, pure=False)
 
     def __enter__(self):
         return self
@@ -192,7 +191,7 @@ def rows(folder, sources, targets, height, width):
                 yield b" ".join([source, *(cells for _, cells in found)])
 
 
-def make(setting, sources, targets, out, within=None, side=None, processes=1, scheduler=None):
+def make(setting, sources, targets, out, side=None, processes=1, scheduler=None):
     """Makes the table of these nodes in OUT (.csv or .npy), which is there once it is whole. The number of its blocks is answered."""
     out = pathlib.Path(out)
     if out.suffix not in (".csv", ".npy"):
@@ -202,7 +201,7 @@ def make(setting, sources, targets, out, within=None, side=None, processes=1, sc
     count = max(1, min(processes, len(blocks), -(-len(sources) * len(targets) // WORTH) if side is None else processes))
     with tempfile.TemporaryDirectory(prefix=f".{out.name}.", dir=out.parent) as kept:
         folder = pathlib.Path(kept)
-        with Cluster(setting, within, scheduler) if scheduler else Pool(setting, within, count) as pool:
+        with Cluster(setting, scheduler) if scheduler else Pool(setting, count) as pool:
             compute(pool, blocks, folder)
         made_rows = rows(folder, sources, targets, height, width)
         whole = folder / "whole"

@@ -1,8 +1,9 @@
 """A run of the program that is asked again and again, and the pipes that lead to it.
 
-A run is ended, with its process group, when it is closed, when an answer takes too long, and when anything else (Ctrl-C among it) breaks a
-question off. One whose owner is gone ends by itself, since its input ends.
+A run is ended, with its process group, when it is closed or no longer used, when the interpreter ends, when an answer takes too long or is
+another's, and when anything else (Ctrl-C among it) breaks a question off. One whose owner was killed ends by itself, because its input ends.
 """
+import atexit
 import contextlib
 import functools
 import math
@@ -12,8 +13,10 @@ import signal
 import subprocess
 import tempfile
 import time
+import weakref
 
-from chtab.errors import ChtabError, ProgramFault, TimedOut
+from chtab import answers, forks
+from chtab.errors import ChtabError, ProgramFault, TimedOut, unasked
 
 # Bytes that are read or written at a time.
 CHUNK = 1 << 18
@@ -40,9 +43,63 @@ def fault_of(told, status):
     return ProgramFault(lines[-1] if lines and status >= 0 else " ".join([f"chtab {how}", *lines[-1:]]), status)
 
 
-def unasked():
-    """The fault of a run that writes what is no answer to what it was asked."""
-    return ProgramFault("chtab wrote what it was not asked for", 0)
+# The runs that were begun and have not been ended, each with the process that began it, what leads to it, and a reference to its child.
+BEGUN = {}
+
+
+def end_unused():
+    """Ends the runs whose children are closed or no longer there, also those whose end was broken off before. In a process that was forked
+    from their owner only what leads to them is closed."""
+    for process, (owner, streams, reference) in list(BEGUN.items()):
+        child = reference()
+        if child is not None and child.is_open:
+            continue
+        if os.getpid() == owner:
+            kill(process)
+        else:
+            # The run is no child of this process, which must not wait for it.
+            process.returncode = 0
+        for stream in streams:
+            stream.close()
+        BEGUN.pop(process, None)
+
+
+@atexit.register
+def end_all():
+    """Ends all runs, at the end of the interpreter."""
+    for _, _, reference in list(BEGUN.values()):
+        child = reference()
+        if child is not None:
+            child.is_open = False
+    end_unused()
+
+
+def kill(process):
+    """Ends a run and all that it began, where it hasn't ended. Any thread may do so."""
+    if process.poll() is None:
+        with contextlib.suppress(ProcessLookupError):
+            os.killpg(process.pid, signal.SIGKILL)
+    process.wait()
+
+
+def begin(command, told):
+    """Begins a run that writes its errors to a file: its process, and the ends of both pipes.
+
+    The pipes are not those of the process's object. That one keeps them open where it is dropped early.
+    """
+    end_unused()
+    (theirs_in, ours_in), (ours_out, theirs_out) = os.pipe(), os.pipe()
+    requests, answered = open(ours_in, "wb", 0), open(ours_out, "rb", 0)
+    try:
+        process = subprocess.Popen(command, stdin=theirs_in, stdout=theirs_out, stderr=told, start_new_session=True)
+    except OSError as fault:
+        raise ChtabError(f"{command[0]} can't be run: {fault.strerror}") from None
+    finally:
+        os.close(theirs_in)
+        os.close(theirs_out)
+    for stream in (requests, answered):
+        os.set_blocking(stream.fileno(), False)
+    return process, requests, answered
 
 
 class Deadline:
@@ -62,60 +119,77 @@ class Deadline:
 
 class Child:
     """A run that answers requests in order. One thread asks it at a time. It has a process group of its own, so that Ctrl-C at a terminal
-    doesn't reach it before its parent."""
+    doesn't reach it before its parent.
 
-    def __init__(self, command):
-        self.is_open, self.is_loaded = True, False
-        self.told = tempfile.TemporaryFile()
-        try:
-            self.process = subprocess.Popen(
-                command, stdin=subprocess.PIPE, stdout=subprocess.PIPE, stderr=self.told, bufsize=0, start_new_session=True
-            )
-        except OSError as fault:
-            raise ChtabError(f"{command[0]} can't be run: {fault.strerror}") from None
-        for stream in (self.process.stdin, self.process.stdout):
-            os.set_blocking(stream.fileno(), False)
+    Parameters
+    ----------
+    command : list of str
+        The words of the run.
+    nodes : int
+        How many nodes its graph has, at least 1.
+    has_routes : bool
+        Whether it tells a route after each distance.
+    """
 
-    def load(self, request, lacking):
-        """Asks a first request where none was asked. Its answer comes when the run has read what it answers by, which may take any time."""
+    def __init__(self, command, nodes, has_routes):
+        self.nodes, self.has_routes = nodes, has_routes
+        # A run whose exchange was broken off anywhere is busy, and can't be asked again.
+        self.is_open, self.is_loaded, self.is_busy = True, False, False
+        with forks.STEADY:
+            self.told = tempfile.TemporaryFile()
+            self.process, self.requests, self.answered = begin(command, self.told)
+            self.owner = os.getpid()
+            BEGUN[self.process] = self.owner, (self.requests, self.answered, self.told), weakref.ref(self)
+            weakref.finalize(self, end_unused).atexit = False
+            forks.follow(self)
+
+    def leave_parent(self):
+        """Closes, in a process that was forked, what leads to the parent's run. The run goes on."""
+        self.close()
+
+    def load(self):
+        """Asks a first question where none was asked. Its answer comes when the run has read what it answers by, which may take any time."""
         if not self.is_loaded:
-            self.ask(request, lacking)
+            self.ask(answers.table([1], [1]))
             self.is_loaded = True
 
-    def ask(self, request, lacking, seconds=None):
-        """The answer to a request, in so many seconds or any (None). `lacking` tells how much an answer that grows lacks: 0 where it is whole,
-        and less where that is no answer. Whatever goes wrong ends the run."""
+    def ask(self, question, seconds=None):
+        """The value of the answer to a question, in so many seconds or any (None). Whatever goes wrong ends the run."""
+        self.is_busy = True
         try:
-            return self.exchange(memoryview(request), lacking, Deadline(seconds))
+            before, behind = (answers.guard(self.nodes, self.has_routes) for _ in range(2))
+            arrival = answers.Arrival(question, before, behind)
+            text = self.exchange(memoryview(before.request + question.request + behind.request), arrival, Deadline(seconds))
+            value = question.value_of(arrival.inner(text))
         except BaseException:
             self.close()
             raise
+        self.is_busy = False
+        return value
 
-    def exchange(self, left, lacking, deadline):
+    def exchange(self, left, arrival, deadline):
         """Writes what is left of a request and reads what is there of the answer, in turns, so that neither side waits for the other."""
         if self.read():
             raise unasked()
-        answer = bytearray()
-        while left or (lacks := lacking(answer)) > 0:
+        text = bytearray()
+        while left or not arrival.is_whole(text):
             self.wait(left, deadline)
             left = self.write(left)
-            answer += self.read()
-        if lacks < 0:
-            raise unasked()
-        return bytes(answer)
+            text += self.read()
+        return text
 
     def wait(self, left, deadline):
         """Waits until there is something to read, or something of what is left can be written."""
         ready = select.poll()
-        ready.register(self.process.stdout, select.POLLIN)
+        ready.register(self.answered, select.POLLIN)
         if left:
-            ready.register(self.process.stdin, select.POLLOUT)
+            ready.register(self.requests, select.POLLOUT)
         ready.poll(deadline.milliseconds())
 
     def write(self, left):
         """What is left after as much was written as the pipe takes. A run that reads no more gets no more, and its output tells why."""
         try:
-            return left[os.write(self.process.stdin.fileno(), left[:CHUNK]):]
+            return left[os.write(self.requests.fileno(), left[:CHUNK]):]
         except BlockingIOError:
             return left
         except BrokenPipeError:
@@ -124,7 +198,7 @@ class Child:
     def read(self):
         """What the run has written by now."""
         try:
-            chunk = os.read(self.process.stdout.fileno(), CHUNK)
+            chunk = os.read(self.answered.fileno(), CHUNK)
         except BlockingIOError:
             return b""
         if not chunk:
@@ -141,15 +215,11 @@ class Child:
         return fault_of(self.told.read(), status)
 
     def kill(self):
-        """Ends the run and all that it began, where it hasn't ended. Any thread may do so."""
-        if self.process.poll() is None:
-            with contextlib.suppress(ProcessLookupError):
-                os.killpg(self.process.pid, signal.SIGKILL)
-        self.process.wait()
+        """Ends the run, so that a thread that waits for its answer is told. Any thread may do so."""
+        if os.getpid() == self.owner:
+            kill(self.process)
 
     def close(self):
         """Ends the run, and closes what leads to it."""
         self.is_open = False
-        self.kill()
-        for stream in (self.process.stdin, self.process.stdout, self.told):
-            stream.close()
+        end_unused()

@@ -1,30 +1,51 @@
 """What is asked of the program: distances, routes and tables, by runs of `chtab ask` that are kept."""
 import os
-import pathlib
-import re
-import shutil
 import threading
 from dataclasses import dataclass
 
-from chtab import files
+from chtab import answers, files, forks
 from chtab.child import Child, see_to
 from chtab.errors import ChtabError, ProgramFault
 
-ROOT = pathlib.Path(__file__).resolve().parent.parent.parent
-# The most runs that are kept. Each holds the network: one answers distances and tables, one routes, and one tables within each limit.
-MOST_RUNS = 4
+# The options of a run that answers distances and tables, and of one that answers routes too.
+PLAIN, ROUTES = (), ("--routes",)
+# Queries that are sent together: for distances, and for routes, which are as long as they have arcs.
+MANY, FEW = 1 << 16, 1 << 10
+CLOSED = "the network is closed"
+
+
+def within_options(limit):
+    """The options of a run whose tables leave out what is above the limit."""
+    return "--within", str(limit)
 
 
 @dataclass(frozen=True)
 class Setting:
-    """What an engine answers by: the program, the graph, a saved hierarchy or None, workers, and the seconds that an answer may take or
-    None."""
+    """What an engine answers by.
+
+    Parameters
+    ----------
+    program, graph : str
+        The paths of the program and of the graph.
+    saved : str, optional
+        That of a saved hierarchy.
+    workers : int
+        Threads of a run, from 1 to 64.
+    timeout : float, optional
+        The seconds that an answer may take; None: any.
+    runs : int
+        The most runs that are kept at once, at least 1. Each of them holds the network.
+    within : int, optional
+        The limit of all tables.
+    """
 
     program: str
     graph: str
     saved: str | None = None
     workers: int = 1
     timeout: float | None = None
+    runs: int = 1
+    within: int | None = None
 
     def command(self, options):
         """The words of a run."""
@@ -32,142 +53,169 @@ class Setting:
         return [self.program, "ask", "--deep", *options, "--workers", str(self.workers), *saved, self.graph]
 
 
-def program_of(path=None):
-    """The program: this one, or that of the checkout that the package stands in, or `chtab` on the path."""
-    if path is not None:
-        return os.path.abspath(path)
-    if (ROOT / "crates.txt").exists() and (ROOT / "chtab").exists():
-        return str(ROOT / "chtab")
-    found = shutil.which("chtab")
-    if found is None:
-        raise ChtabError("the program chtab is not on the path; name it by `program`")
-    return found
+class Run:
+    """A place for one child at a time, of one kind: whoever holds the lock asks it.
 
+    The child is begun by the first question. One whose exchange was broken off is ended before the next question, and another is begun.
+    """
 
-def query_lines(pairs):
-    """The requests for distances, or for routes, of pairs of nodes."""
-    return "".join([f"q {start} {end}\n" for start, end in pairs]).encode()
+    def __init__(self, setting, nodes, options, before):
+        self.setting, self.nodes, self.options, self.before = setting, nodes, options, before
+        self.lock, self.child = threading.Lock(), None
+        # Whether it made way for another, and whether it was ended at once.
+        self.is_over, self.is_killed = False, False
 
+    @property
+    def has_routes(self):
+        return self.options == ROUTES
 
-def table_lines(sources, targets):
-    """The request for a table."""
-    nodes = "".join([f"s {node}\n" for part in (sources, targets) for node in part])
-    return f"t {len(sources)} {len(targets)}\n{nodes}".encode()
+    def limit(self):
+        """What its tables leave out is above this; None where they leave out nothing."""
+        return int(self.options[1]) if self.options[:1] == ("--within",) else None
 
+    def ask(self, question):
+        """The value of the answer to a question, or of None when the child has loaded."""
+        if self.child is not None and (self.child.is_busy or not self.child.is_open):
+            self.child.close()
+            self.child = None
+        if self.child is None:
+            self.begin()
+        self.child.load()
+        return None if question is None else self.child.ask(question, self.setting.timeout)
 
-def lacking_marks(mark, count):
-    """Tells of a text that grows how many it lacks of so many marks; less than 0 where it has more."""
-    known = found = 0
+    def begin(self):
+        """Begins a child, when those that made way for it have ended."""
+        while self.before:
+            self.before[-1].end()
+            self.before.pop()
+        self.child = Child(self.setting.command(self.options), self.nodes, self.has_routes)
+        if self.is_killed:
+            self.child.close()
+            raise ChtabError(CLOSED)
 
-    def lacking(text):
-        nonlocal known, found
-        found += text.count(mark, known)
-        known = len(text)
-        return count - found
+    def kill(self):
+        """Ends the child at once. A question that is under way fails."""
+        self.is_killed = True
+        child = self.child
+        if child is not None:
+            child.kill()
+        for run in self.before:
+            run.kill()
 
-    return lacking
-
-
-def lacking_lines(count):
-    """Tells how much an answer of so many lines lacks."""
-    return lacking_marks(b"\n", count)
-
-
-def lacking_routes(count):
-    """Tells how much an answer of so many distances, from 1 on, with their routes lacks."""
-    distances = lacking_marks(b"d", count)
-    return lambda answer: distances(answer) or not has_route(answer[answer.rindex(b"d"):])
-
-
-def has_route(answer):
-    """Whether the answer to one query has all arcs of its route, or tells that there is no walk."""
-    head = re.match(rb"d \d+ \d+ \d+\nr (\d+)\n", answer)
-    return answer.count(b"\n") == 2 + int(head[1]) if head else answer.endswith(b"-\n")
+    def end(self):
+        """Ends the child, as soon as it has answered what is under way."""
+        self.is_over = True
+        with self.lock:
+            if self.child is not None:
+                self.child.close()
 
 
 class Engine:
-    """Answers as the text that the program writes. Calls may come from several threads.
+    """Answers, each matched to its question. Calls may come from several threads, and from processes that were forked.
 
-    A run is begun by the first question that needs it. It loads the network then, which no time is counted for, and is kept for the next
-    questions of its kind. No more than `MOST_RUNS` are kept: the one that was not asked for longest makes way for another. A run that fails
-    is ended; the question that it failed is told why, and the next one begins another run.
+    A run is begun by the first question that needs it. It loads the network then, which no time is counted for, and is kept. No more than
+    `setting.runs` are kept. While there is room each kind of question gets a run that is made for it. After that those that are there
+    answer, and only a question that none of them can answer ends the one that was not asked for longest. A run that fails is ended; the
+    question that it failed is told why, and the next one begins another run.
+
+    A run belongs to the process that began it. A process that was forked begins runs of its own, and leaves those of its parent alone.
     """
 
     def __init__(self, setting):
         see_to(setting.program)
-        self.setting = setting
-        # The runs by their options: those that are asked now, and those that wait, first the one that waits longest.
-        self.asked, self.waiting = {}, {}
-        self.changed = threading.Condition()
+        if setting.saved is not None:
+            # The program doesn't name a file that it can't open; this fault does, as that of the graph.
+            open(setting.saved, "rb").close()
+        self.setting, self.nodes = setting, files.count_nodes(setting.graph)
         self.is_closed = False
+        self.leave_parent()
+        forks.follow(self)
 
-    def load(self):
-        """Begins the run for distances and tables, so that a file that is refused is told now. Of a graph without nodes nothing can be asked."""
-        if files.count_nodes(self.setting.graph):
-            self.ask((), b"", lacking_lines(0))
+    def leave_parent(self):
+        """Begins with no run, and with a lock that nobody holds: in a process that was forked too."""
+        self.lock, self.runs = threading.Lock(), {}
+        self.owner = os.getpid()
+
+    def load(self, with_routes=False):
+        """Begins a run, so that a file that is refused is told now. Of a graph without nodes nothing can be asked."""
+        if self.nodes:
+            self.ask([ROUTES if with_routes else self.tabled(None)], lambda run: None)
 
     def distances(self, pairs):
-        """What `dist` writes for these pairs of nodes."""
-        return self.ask((), query_lines(pairs), lacking_lines(len(pairs)))
+        """The distances of pairs of nodes, an array (n, 2): int64 (n,), -1 where there is no walk."""
+        return self.ask([PLAIN, ROUTES], lambda run: answers.distances(pairs, run.has_routes))
+
+    def distances_together(self):
+        """How many distances are best asked for together: fewer where the run that is there tells a route after each."""
+        return FEW if ROUTES in self.runs and PLAIN not in self.runs else MANY
 
     def routes(self, pairs):
-        """What `dist --routes` writes for them."""
-        return self.ask(("--routes",), query_lines(pairs), lacking_routes(len(pairs)))
+        """The routes of pairs of nodes, as a list of `files.Answer`."""
+        return self.ask([ROUTES], lambda run: answers.routes(pairs))
 
     def table(self, sources, targets, within=None):
-        """What `table` writes for these lists, with `within` what `table --within` writes."""
-        options = () if within is None else ("--within", str(within))
-        return self.ask(options, table_lines(sources, targets), lacking_lines(len(sources)))
+        """What `chtab table` writes for these lists of nodes, with the engine's limit.
 
-    def ask(self, options, request, lacking):
-        """The answer to a request by the run with these options."""
-        child = self.take(options)
-        try:
-            child.load(table_lines([1], [1]), lacking_lines(1))
-            return child.ask(request, lacking, self.setting.timeout)
-        except ProgramFault:
+        With `within` it may leave out cells of more than that, and the caller leaves out the others.
+        """
+        kinds = [self.tabled(within), self.tabled(None), ROUTES] if self.setting.within is None else [self.tabled(None)]
+        return self.ask(kinds, lambda run: answers.table(sources, targets, run.limit()))
+
+    def tabled(self, within):
+        """The options of a run that is made for tables within a limit, or for others."""
+        limit = self.setting.within if within is None else within
+        return PLAIN if limit is None else within_options(limit)
+
+    def ask(self, kinds, question_for):
+        """The value of the answer to the question for a run of one of these kinds, the one that is made for it first."""
+        if self.owner != os.getpid():
+            self.leave_parent()
+        while True:
+            run = self.run_of(kinds)
+            with run.lock:
+                if run.is_killed:
+                    raise ChtabError(CLOSED)
+                if run.is_over:
+                    continue
+                try:
+                    return run.ask(question_for(run))
+                except ProgramFault:
+                    if run.is_killed:
+                        raise ChtabError(CLOSED) from None
+                    raise
+
+    def run_of(self, kinds):
+        """The run for a question of these kinds."""
+        with self.lock:
             if self.is_closed:
-                raise ChtabError("the network is closed") from None
-            raise
-        finally:
-            self.give_back(options, child)
+                raise ChtabError(CLOSED)
+            has_room = len(self.runs) < self.setting.runs
+            kind = next((kind for kind in (kinds[:1] if has_room else kinds) if kind in self.runs), None)
+            if kind is not None:
+                run = self.runs.pop(kind)
+            else:
+                # Without room a run for tables of any limit is begun, not one for this limit: two limits would take turns.
+                kind = kinds[0] if has_room or len(kinds) < 3 else kinds[1]
+                run = Run(self.setting, self.nodes, kind, [] if has_room else [self.retired()])
+            self.runs[kind] = run
+            return run
 
-    def take(self, options):
-        """The run with these options, begun where there is none, as soon as no other thread asks it."""
-        with self.changed:
-            self.changed.wait_for(lambda: self.is_closed or options not in self.asked)
-            if self.is_closed:
-                raise ChtabError("the network is closed")
-            child = self.waiting.pop(options, None)
-            if child is None:
-                self.leave(MOST_RUNS - 1 - len(self.asked))
-                child = Child(self.setting.command(options))
-            self.asked[options] = child
-            return child
-
-    def give_back(self, options, child):
-        """Keeps a run that answered, for the next question."""
-        with self.changed:
-            del self.asked[options]
-            if child.is_open:
-                self.waiting[options] = child
-            if self.is_closed:
-                self.leave(0)
-            self.changed.notify_all()
-
-    def leave(self, count):
-        """Ends all waiting runs but so many, first those that wait longest."""
-        while len(self.waiting) > max(count, 0):
-            self.waiting.pop(next(iter(self.waiting))).close()
+    def retired(self):
+        """The run that was not asked for longest, which makes way for another."""
+        run = self.runs.pop(next(iter(self.runs)))
+        run.is_over = True
+        return run
 
     def close(self):
         """Ends all runs. A call that is under way in another thread fails."""
-        with self.changed:
+        if self.owner != os.getpid():
+            self.leave_parent()
+        with self.lock:
             self.is_closed = True
-            self.leave(0)
-            for child in self.asked.values():
-                child.kill()
-            self.changed.notify_all()
+            runs, self.runs = [*self.runs.values()], {}
+        for run in runs:
+            run.kill()
+            run.end()
 
     def __enter__(self):
         return self

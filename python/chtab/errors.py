@@ -1,4 +1,4 @@
-"""What can go wrong. Each error is a `ChtabError`, and its text is one line for a user."""
+"""What can go wrong. Each error is a `ChtabError`, and its text is one line for a user. Errors go from process to process by pickle."""
 
 
 class ChtabError(Exception):
@@ -10,19 +10,38 @@ class FileFault(ChtabError, ValueError):
 
 
 class TooFar(ChtabError, ValueError):
-    """A place lies farther from each road or node than is allowed."""
+    """A place lies farther from each road or node than is allowed.
+
+    Attributes
+    ----------
+    places : dict of int to float
+        The metres from the nearest road or node, by the index of each such place.
+    """
+
+    def __init__(self, text, places=()):
+        super().__init__(text)
+        self.places = dict(places)
 
 
 class ProgramFault(ChtabError, RuntimeError):
     """The program ended before it had answered, or wrote what is no answer. The text has the program's own line, where it told one.
 
-    `status` is its exit status, less than 0 the signal that ended it, and 0 where it wrote what is no answer.
+    Attributes
+    ----------
+    status : int
+        The exit status of the program, less than 0 the signal that ended it, and 0 where it wrote what is no answer.
     """
 
-    def __init__(self, text, status):
+    # The default is for pickle, which sets the attributes of its own.
+    def __init__(self, text, status=0):
         super().__init__(text)
         self.status = status
 
 
 class TimedOut(ChtabError, TimeoutError):
     """The program took longer than is allowed, and was ended."""
+
+
+def unasked():
+    """The fault of a run that writes what is no answer to what it was asked."""
+    return ProgramFault("chtab wrote what it was not asked for", 0)

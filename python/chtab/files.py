@@ -185,8 +185,29 @@ def count_nodes(path):
     raise FileFault(f"{path}: not a graph, whose problem line is `p sp N M`")
 
 
-def write_graph(target, nodes, arcs, comments=()):
-    """A graph of so many nodes. `arcs` is a list of (from, to, weight)."""
+def write_graph(target, nodes, arcs, comments=(), scale=None):
+    """Writes a graph of so many nodes.
+
+    Parameters
+    ----------
+    target : path or open file
+        Where it goes to. Nothing is written where an arc is refused.
+    arcs : list of (from, to, weight)
+        The arcs, all of whole numbers: nodes from 1 on, and weights from 0 on.
+    comments : list of str
+        Lines that stand first, such as `Weights are milliseconds.`, which names the unit.
+    scale : number, optional
+        Weights are multiplied by this and rounded to whole numbers, and a comment says so: 1000 makes milliseconds of seconds.
+
+    Raises
+    ------
+    FileFault
+        A number is not whole; the text names its arc.
+    """
+    if scale is not None:
+        comments = [*comments, f"Weights were multiplied by {scale} and rounded to whole numbers."]
+        arcs = [(tail, head, scaled(place, weight, scale)) for place, (tail, head, weight) in enumerate(arcs)]
+    see_that_whole(arcs)
     with writing(target) as file:
         write_comments(file, comments)
         file.write(f"p sp {nodes} {len(arcs)}\n")
@@ -204,6 +225,34 @@ def read_coordinates(source):
     for node, x, y in zip(nodes, xs, ys):
         longitudes[node - 1], latitudes[node - 1] = x / 1e6, y / 1e6
     return Coordinates(longitudes, latitudes, comments_of(lines))
+
+
+def scaled(place, weight, scale):
+    """A weight times a scale, rounded."""
+    try:
+        return round(weight * scale)
+    except (ValueError, OverflowError):
+        raise FileFault(f"arcs[{place}]: {weight} is no weight") from None
+
+
+def see_that_whole(arcs):
+    """Refuses the first arc that has a number which is not whole."""
+    for start in range(0, len(arcs), ROWS_AT_ONCE):
+        some = arcs[start:start + ROWS_AT_ONCE]
+        # Nearly always all are of this type, which is known sooner than each value is looked at.
+        if set(map(type, itertools.chain.from_iterable(some))) == {int}:
+            continue
+        for place, arc in enumerate(some, start):
+            for value in arc:
+                if not is_whole(value):
+                    raise FileFault(f"arcs[{place}]: {value} is not a whole number; `scale` multiplies weights and rounds them")
+
+
+def is_whole(value):
+    try:
+        return int(value) == value
+    except (TypeError, ValueError, OverflowError):
+        return False
 
 
 def write_coordinates(target, places, comments=(), ends=(), copies=()):

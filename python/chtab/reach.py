@@ -8,7 +8,9 @@ import numpy
 from shapely.geometry import MultiPolygon, Polygon, box
 from shapely.ops import unary_union
 
-from chtab import geojson, roads, sphere
+from chtab import geojson, sphere
+from chtab.lines import degrees, mercator
+from chtab.roads import NONE
 
 # Squares along the longer side of what is reached, and the least width of one in metres.
 SQUARES, NARROWEST = 320, 40.0
@@ -25,7 +27,7 @@ def samples(network_roads, times, spacing):
     firsts = times[network_roads.tails[arcs] - 1]
     kept = (firsts >= 0) & ~numpy.isnan(ends).any(axis=1)
     arcs, ends, parts, firsts = arcs[kept], ends[kept], parts[kept], firsts[kept]
-    starts, stops = roads.mercator(*ends[:, :2].T), roads.mercator(*ends[:, 2:].T)
+    starts, stops = mercator(*ends[:, :2].T), mercator(*ends[:, 2:].T)
     counts = numpy.maximum(1, numpy.ceil(numpy.hypot(*(stops - starts).T) / spacing)).astype(int) + 1
     segment = numpy.repeat(numpy.arange(len(arcs)), counts)
     step = (numpy.arange(counts.sum()) - numpy.repeat(numpy.cumsum(counts) - counts, counts)) / (counts[segment] - 1)
@@ -39,9 +41,9 @@ def start_samples(network_roads, spot, spacing):
     road, part = spot.roads[0], spot.parts[0]
     found = []
     for end, weight in (0.0, network_roads.backward[road]), (1.0, network_roads.forward[road]):
-        if weight == roads.NONE:
+        if weight == NONE:
             end = part
-        line = roads.mercator(*zip(*network_roads.stretch(road, part, end)))
+        line = mercator(*network_roads.stretch(road, part, end).T)
         steps = numpy.concatenate([[0.0], numpy.cumsum(numpy.hypot(*numpy.diff(line, axis=0).T))])
         wanted = numpy.linspace(0, steps[-1], int(steps[-1] / spacing) + 2)
         at = numpy.column_stack([numpy.interp(wanted, steps, line[:, axis]) for axis in (0, 1)])
@@ -86,7 +88,7 @@ def smooth(ring, width):
     for _ in range(2):
         after = numpy.roll(line, -1, axis=0)
         line = numpy.stack([0.75 * line + 0.25 * after, 0.25 * line + 0.75 * after], axis=1).reshape(-1, 2)
-    return [tuple(round(float(part), 6) for part in place) for place in zip(*roads.degrees(*numpy.vstack([line, line[:1]]).T))]
+    return [tuple(round(float(part), 6) for part in place) for place in zip(*degrees(*numpy.vstack([line, line[:1]]).T))]
 
 
 def polygons_of(inside, corner, width):
@@ -105,7 +107,7 @@ def polygons(network_roads, spot, times, limits):
     limits = sorted(limits, reverse=True)
     metre = 1 / (sphere.RADIUS * numpy.cos(numpy.radians(spot.latitudes[0])))
     near = numpy.flatnonzero((times >= 0) & (times <= limits[0]))
-    places = roads.mercator(*numpy.vstack([network_roads.places[near], [[spot.longitudes[0], spot.latitudes[0]]]]).T)
+    places = mercator(*numpy.vstack([network_roads.places[near], [[spot.longitudes[0], spot.latitudes[0]]]]).T)
     width = max(NARROWEST * metre, numpy.nanmax(numpy.nanmax(places, axis=0) - numpy.nanmin(places, axis=0)) / SQUARES)
     columns = zip(samples(network_roads, numpy.where(times <= limits[0], times, -1), width / 2), start_samples(network_roads, spot, width / 2))
     at, weights = map(numpy.concatenate, columns)

@@ -2,43 +2,22 @@
 
 A road is a line that one arc leads along, or two of opposite directions: from `first` to `last` with the weight `forward`, and back with
 `backward`. Where turns are restricted a crossing has several nodes, and several arcs lead along a road between them: which of these nodes one
-comes to says which turns are open. Lines are compared in Mercator's projection, which keeps angles, so that what is nearest there is
-nearest on the ground.
+comes to says which turns are open.
 """
-import warnings
+import itertools
 from dataclasses import dataclass
 from typing import NamedTuple
 
 import numpy
-import shapely
-from shapely.geometry import LineString, Point
-from shapely.strtree import STRtree
 
-from chtab import sphere
 from chtab.errors import ChtabError, TooFar
-from chtab.nearest import points
+from chtab.lines import Lines, metres_between, ranges
+from chtab.places import far_text, places_in
 
 # No arc leads along a road in this direction; a place doesn't leave or arrive by this end.
 NONE = -1
 # A place that is nearer than so many metres to an end of its road stands at the end.
 AT_END = 1.0
-HAS_INDICES = int(shapely.__version__.split(".")[0]) >= 2
-
-
-def mercator(longitudes, latitudes):
-    """Degrees to the plane."""
-    return numpy.column_stack([numpy.radians(longitudes), numpy.arcsinh(numpy.tan(numpy.radians(latitudes)))])
-
-
-def degrees(x, y):
-    """The plane to degrees."""
-    return numpy.degrees(x), numpy.degrees(numpy.arctan(numpy.sinh(y)))
-
-
-def metres_between(longitudes, latitudes, others, other_latitudes):
-    """Along the sphere, of each pair of places."""
-    chords = numpy.linalg.norm(points(longitudes, latitudes) - points(others, other_latitudes), axis=1)
-    return 2 * sphere.RADIUS * numpy.arcsin(numpy.minimum(1, chords / 2))
 
 
 @dataclass(frozen=True)
@@ -93,43 +72,65 @@ def ways_of(roads, sides, nodes, weights, count):
 
 
 class Roads:
-    """The roads of a graph. `firsts` and `lasts` are nodes where trips begin."""
+    """The roads of a graph. `firsts` and `lasts` are nodes where trips begin, and `lines` how the roads lie between them.
+
+    Parameters
+    ----------
+    graph : files.Graph
+        The arcs.
+    coordinates : files.Coordinates
+        The places of nodes.
+    bends : dict of int to list, optional
+        The points of arcs between their ends, as `files.read_bends` gives them.
+    """
 
     def __init__(self, graph, coordinates, bends=None):
-        self.coordinates, self.bends = coordinates, bends or {}
         self.tails, self.heads, self.weights = (numpy.array(column, numpy.int64) for column in (graph.tails, graph.heads, graph.weights))
         self.ends = coordinates.ends()
-        self.places = numpy.column_stack([coordinates.longitudes, coordinates.latitudes])
-        self.by_ends = self.lines = self.tree = self.pieces = None
+        known = numpy.column_stack([coordinates.longitudes, coordinates.latitudes])
+        self.places = numpy.full((graph.nodes, 2), numpy.nan)
+        self.places[:len(known)] = known[:graph.nodes]
+        self.ordered = self.least_pace = self.pieces = None
         crossing = numpy.arange(graph.nodes + 1)
         for copy, node in coordinates.copies().items():
             crossing[copy] = node
-        tails, heads = crossing[self.tails], crossing[self.heads]
         # The road of each arc, NONE of one that leads along none, and whether it leads back.
-        self.road_of, self.is_back = numpy.full(len(tails), NONE), tails > heads
-        columns = [self.straight(tails, heads), self.bent(tails, heads)]
-        self.firsts, self.lasts, self.shapes = map(numpy.concatenate, zip(*columns))
+        self.road_of, self.is_back = numpy.full(len(self.tails), NONE), crossing[self.tails] > crossing[self.heads]
+        self.find_roads(crossing[self.tails], crossing[self.heads], {} if bends is None else bends)
         self.find_ways()
 
-    def straight(self, tails, heads):
-        """The roads of arcs without bends, each pair of crossings once."""
+    def find_roads(self, tails, heads, bends):
+        """The roads by the crossings at both ends of arcs: first those without bends, then those with them."""
+        bent = {arc: points for arc, points in bends.items() if arc < len(tails)}
+        firsts, lasts = self.straight(tails, heads, list(bent))
+        more = self.bent(tails, heads, bent, len(firsts))
+        self.firsts, self.lasts = (numpy.concatenate(pair) for pair in zip((firsts, lasts), more[:2]))
+        counts = numpy.concatenate([numpy.full(len(firsts), 2), more[2]])
+        places = numpy.empty((counts.sum(), 2))
+        at = numpy.cumsum(counts) - counts
+        places[at], places[at + counts - 1] = self.places[self.firsts - 1], self.places[self.lasts - 1]
+        places[ranges(at + 1, counts - 2)] = more[3]
+        self.lines = Lines(counts, places)
+
+    def straight(self, tails, heads, bent):
+        """The ends of roads of arcs without bends, each pair of crossings once."""
         kept = tails != heads
-        kept[[arc for arc in self.bends if arc < len(kept)]] = False
+        kept[bent] = False
         low, high = numpy.minimum(tails, heads)[kept], numpy.maximum(tails, heads)[kept]
         keys, self.road_of[kept] = numpy.unique(low << 32 | high, return_inverse=True)
-        return keys >> 32, keys & 0xFFFFFFFF, numpy.full(len(keys), NONE)
+        return keys >> 32, keys & 0xFFFFFFFF
 
-    def bent(self, tails, heads):
-        """The roads of arcs with bends: both directions of the same bends are one. The last column is an arc that has them in order."""
-        roads, before = {}, self.road_of.max(initial=NONE) + 1
-        for arc, bends in self.bends.items():
-            tail, head = int(tails[arc]), int(heads[arc])
-            is_back = tail > head or tail == head and bends > bends[::-1]
-            key = (head, tail, *bends[::-1]) if is_back else (tail, head, *bends)
-            number, _ = roads.setdefault(key, (before + len(roads), arc if not is_back else -2 - arc))
-            self.road_of[arc], self.is_back[arc] = number, is_back
-        rows = [(first, last, shape) for (first, last, *_), (_, shape) in roads.items()]
-        return numpy.array(rows, numpy.int64).reshape(-1, 3).T
+    def bent(self, tails, heads, bends, before):
+        """The roads of arcs with bends: their ends, the numbers of their places, and all bends. Both directions of the same bends are one."""
+        roads = {}
+        for arc, points in bends.items():
+            tail, head, back = int(tails[arc]), int(heads[arc]), points[::-1]
+            is_back = tail > head or tail == head and points > back
+            key = (head, tail, *back) if is_back else (tail, head, *points)
+            self.road_of[arc], self.is_back[arc] = roads.setdefault(key, before + len(roads)), is_back
+        ends = numpy.array([key[:2] for key in roads], numpy.int64).reshape(-1, 2)
+        counts = numpy.array([len(key) for key in roads], numpy.int64)
+        return *ends.T, counts, numpy.array([point for key in roads for point in key[2:]], float).reshape(-1, 2)
 
     def find_ways(self):
         """By which nodes each road is left and come to, and the least weights of both directions."""
@@ -142,61 +143,30 @@ class Roads:
         least[least == numpy.iinfo(numpy.int64).max] = NONE
         self.forward, self.backward = least
 
-    def shape(self, road):
-        """The road's places in degrees, from its first node to its last."""
-        arc = self.shapes[road]
-        between = [] if arc == NONE else self.bends[arc] if arc >= 0 else self.bends[-2 - arc][::-1]
-        return [self.coordinates.of(int(self.firsts[road])), *between, self.coordinates.of(int(self.lasts[road]))]
-
     def __len__(self):
         return len(self.firsts)
 
-    def find(self, longitudes, latitudes, max_metres=1_000.0):
-        """The places, taken to roads. One that is farther from each road than `max_metres` is a `TooFar`."""
-        longitudes, latitudes = (numpy.asarray(part, float).reshape(-1) for part in (longitudes, latitudes))
-        if self.tree is None:
-            self.grow()
-        wanted = [Point(*place) for place in mercator(longitudes, latitudes)]
-        roads = self.nearest(wanted)
-        parts = numpy.array([self.lines[road].project(place, normalized=True) for road, place in zip(roads, wanted)])
-        found = [self.lines[road].interpolate(part, normalized=True) for road, part in zip(roads, parts)]
-        xs, ys = degrees(numpy.array([at.x for at in found]), numpy.array([at.y for at in found]))
-        metres = metres_between(longitudes, latitudes, xs, ys) if len(xs) else numpy.zeros(0)
-        for place in numpy.flatnonzero(~(metres <= max_metres))[:1]:
-            raise TooFar(
-                f"{longitudes[place]:.6f} {latitudes[place]:.6f} is {metres[place]:,.0f} m from the nearest road, more than "
-                f"{max_metres:,.0f} m; longitude comes first, then latitude"
-            )
-        return self.spots(xs, ys, metres, roads, self.at_ends(roads, parts))
+    # From places to roads.
 
-    def grow(self):
-        """Makes the tree of lines, when the first place is looked for."""
+    def find(self, longitudes, latitudes, max_metres=1_000.0):
+        """The places, taken to roads. Those that are farther from each road than `max_metres` are told by a `TooFar`."""
+        longitudes, latitudes = places_in(longitudes, latitudes)
+        spots = self.find_any(longitudes, latitudes)
+        far = numpy.flatnonzero(~(spots.metres <= max_metres)).tolist()
+        if far:
+            text = far_text(longitudes[far[0]], latitudes[far[0]], spots.metres[far[0]], "road", max_metres)
+            raise TooFar(text, {place: float(spots.metres[place]) for place in far})
+        return spots
+
+    def find_any(self, longitudes, latitudes):
+        """The same of places at any distance from roads, as two arrays."""
         if not len(self):
             raise ChtabError("the graph has no road between two places")
-        plane = mercator(self.places[:, 0], self.places[:, 1])
-        ends = numpy.stack([plane[self.firsts - 1], plane[self.lasts - 1]], axis=1)
-        self.lines = [
-            LineString(pair) if arc == NONE else LineString(mercator(*zip(*self.shape(road))))
-            for road, (pair, arc) in enumerate(zip(ends, self.shapes))
-        ]
-        with warnings.catch_warnings():
-            warnings.simplefilter("ignore")
-            self.tree = STRtree(self.lines)
-        self.place_of = None if HAS_INDICES else {id(line): road for road, line in enumerate(self.lines)}
-
-    def nearest(self, wanted):
-        """The nearest road to each point."""
-        if HAS_INDICES:
-            return numpy.asarray(self.tree.nearest(wanted), int)
-        with warnings.catch_warnings():
-            warnings.simplefilter("ignore")
-            return numpy.array([self.place_of[id(self.tree.nearest(place))] for place in wanted], int)
-
-    def at_ends(self, roads, parts):
-        """The parts, exactly 0 or 1 for spots that are almost at an end."""
-        lengths = numpy.array([sphere_length(self.shape(road)) for road in roads])
+        roads, parts, xs, ys = self.lines.nearest(longitudes, latitudes)
+        metres = metres_between(longitudes, latitudes, xs, ys)
+        lengths = self.lines.metres[roads]
         parts = numpy.where(parts * lengths < AT_END, 0.0, parts)
-        return numpy.where((1 - parts) * lengths < AT_END, 1.0, parts)
+        return self.spots(xs, ys, metres, roads, numpy.where((1 - parts) * lengths < AT_END, 1.0, parts))
 
     def spots(self, longitudes, latitudes, metres, roads, parts):
         """The ways out of spots and into them, with their weights rounded."""
@@ -225,56 +195,83 @@ class Roads:
         is_there = (starts.roads == ends.roads) & ((weights != NONE) | (parts == 0))
         return numpy.where(is_there, numpy.round(abs(parts) * numpy.maximum(weights, 0)), NONE).astype(numpy.int64)
 
+    # How roads lie.
+
     def stretch(self, road, start, end):
-        """The places of a road from one part of it to another, in degrees."""
-        shape = self.shape(road)
-        steps = steps_of(shape)
-        low, high = min(start, end), max(start, end)
-        between = [place for place, step in zip(shape, steps) if low < step < high]
-        line = [at_part(shape, steps, low), *between, at_part(shape, steps, high)]
-        return line if start <= end else line[::-1]
+        """The places of a road from one part of it to another, in degrees (n, 2)."""
+        return self.lines.stretch(road, start, end)
+
+    def lines_of(self, routes):
+        """The places of each of some routes with their nodes and the weights of their arcs, in degrees: a list of (n, 2). A place may follow
+        on itself."""
+        if not routes:
+            return []
+        nodes = numpy.fromiter(itertools.chain.from_iterable(each.nodes for each in routes), numpy.int64)
+        weights = numpy.fromiter(itertools.chain.from_iterable(each.weights for each in routes), numpy.int64)
+        lasts = numpy.cumsum([len(each.nodes) for each in routes]) - 1
+        is_tail, is_head = numpy.ones((2, len(nodes)), bool)
+        is_tail[lasts] = is_head[0] = is_head[lasts[:-1] + 1] = False
+        arcs = self.arcs_of(nodes[is_tail], nodes[is_head], weights)
+        arcs_before = numpy.concatenate([[0], lasts - numpy.arange(len(routes))])
+        is_along = self.road_of[arcs] != NONE
+        roads = self.road_of[arcs[is_along]]
+        places = self.lines.joined(roads, self.is_back[arcs[is_along]])
+        counts = numpy.zeros(len(arcs) + 1, numpy.int64)
+        counts[1:][is_along] = self.lines.firsts[roads + 1] - self.lines.firsts[roads]
+        cuts = numpy.cumsum(counts)[arcs_before]
+        ends = self.places[nodes[lasts] - 1]
+        starts = self.places[[each.nodes[0] - 1 for each in routes]]
+        return [
+            numpy.concatenate([starts[each:each + 1], places[cuts[each]:cuts[each + 1]], ends[each:each + 1]]) for each in range(len(routes))
+        ]
+
+    def arcs_of(self, tails, heads, weights):
+        """The arcs between nodes with these weights, of several the first; a route has the least of its ends."""
+        if self.ordered is None:
+            keys = self.tails << 32 | self.heads
+            order = numpy.lexsort([self.weights, keys])
+            self.ordered = keys[order], order
+        keys, order = self.ordered
+        found = numpy.searchsorted(keys, tails << 32 | heads)
+        arcs = order[numpy.minimum(found, len(order) - 1)] if len(order) else found
+        if (self.tails[arcs] != tails).any() or (self.heads[arcs] != heads).any() or (self.weights[arcs] != weights).any():
+            raise ChtabError("a route has an arc that the graph doesn't have: the file of the graph was changed")
+        return arcs
 
     def segments(self):
-        """The straight pieces of all arcs: their arcs, both ends in degrees (n, 4), and the parts of the arc at both ends (n, 2)."""
+        """The straight pieces of all arcs along roads: their arcs, both ends in degrees (n, 4), and the parts of the arc at both ends (n, 2)."""
         if self.pieces is None:
-            bent = sorted(self.bends)
-            straight = numpy.setdiff1d(numpy.flatnonzero(self.road_of != NONE), bent)
-            ends = numpy.hstack([self.places[self.tails[straight] - 1], self.places[self.heads[straight] - 1]])
-            columns = [(straight, ends, numpy.tile([0.0, 1.0], (len(straight), 1)))]
-            for arc in bent:
-                shape = self.arc_line(arc)
-                steps = steps_of(shape)
-                columns.append((numpy.full(len(shape) - 1, arc), numpy.hstack([shape[:-1], shape[1:]]), numpy.column_stack([steps[:-1], steps[1:]])))
-            self.pieces = tuple(map(numpy.concatenate, zip(*columns)))
+            arcs = numpy.flatnonzero(self.road_of != NONE)
+            roads, lines = self.road_of[arcs], self.lines
+            counts = lines.firsts[roads + 1] - lines.firsts[roads] - 1
+            steps = ranges(lines.firsts[roads], counts)
+            is_back = numpy.repeat(self.is_back[arcs], counts)[:, None]
+            low, high = steps, steps + 1
+            ends = numpy.hstack([lines.places[low], lines.places[high]])
+            parts = numpy.column_stack([lines.parts[low], lines.parts[high]])
+            ends, parts = numpy.where(is_back, ends[:, [2, 3, 0, 1]], ends), numpy.where(is_back, 1 - parts[:, ::-1], parts)
+            self.pieces = numpy.repeat(arcs, counts), ends, parts
         return self.pieces
 
-    def arc_line(self, arc):
-        """The places of an arc, in degrees."""
-        tail, head = int(self.tails[arc]), int(self.heads[arc])
-        return [self.coordinates.of(tail), *self.bends.get(arc, ()), self.coordinates.of(head)]
+    # What can be reached.
 
-    def arc_shape(self, tail, head, weight):
-        """The places of an arc of a route, in degrees: those of the arc from `tail` to `head` that has this weight."""
-        if not self.bends:
-            return [self.coordinates.of(tail), self.coordinates.of(head)]
-        if self.by_ends is None:
-            arcs = range(len(self.tails))
-            self.by_ends = {(int(self.tails[arc]), int(self.heads[arc]), int(self.weights[arc])): arc for arc in reversed(arcs)}
-        return self.arc_line(self.by_ends[tail, head, weight])
+    def pace(self):
+        """The least weight of a metre that lies straight between the ends of an arc; 0 where a node of an arc has no place."""
+        if self.least_pace is None:
+            tails, heads = self.places[self.tails - 1], self.places[self.heads - 1]
+            metres = metres_between(*tails.T, *heads.T)
+            with numpy.errstate(divide="ignore", invalid="ignore"):
+                paces = numpy.where(metres > 0, self.weights / metres, numpy.inf)
+            self.least_pace = 0.0 if numpy.isnan(metres).any() else float(paces.min(initial=numpy.inf))
+        return self.least_pace
 
-
-def steps_of(shape):
-    """How far along a line its places stand, from 0 to 1."""
-    steps = numpy.cumsum([0.0, *(sphere_length(pair) for pair in zip(shape, shape[1:]))])
-    return steps / (steps[-1] or 1.0)
-
-
-def at_part(shape, steps, part):
-    """The place at a part of a line whose places stand at these steps from 0 to 1."""
-    return tuple(float(numpy.interp(part, steps, [place[axis] for place in shape])) for axis in (0, 1))
-
-
-def sphere_length(line):
-    """Metres along places in degrees."""
-    xs, ys = zip(*line)
-    return float(metres_between(xs[:-1], ys[:-1], xs[1:], ys[1:]).sum())
+    def nodes_near(self, starts, limits):
+        """All nodes that are reached from a node of `starts` within its limit, and others: no arc is quicker than the least pace."""
+        pace = self.pace()
+        is_near = numpy.zeros(len(self.places), bool)
+        for start, limit in zip(starts, limits):
+            if limit >= 0:
+                metres = metres_between(*self.places.T, *numpy.broadcast_to(self.places[start - 1], self.places.shape).T)
+                # A rounded length must not leave out a node that is just within the limit.
+                is_near |= ~(metres * pace > limit * (1 + 1e-9) + pace)
+        return numpy.flatnonzero(is_near) + 1

@@ -5,15 +5,19 @@ that says what, and never a traceback.
 """
 import asyncio
 import concurrent.futures
+import contextlib
 import json
 import logging
 import math
 import pathlib
 from dataclasses import dataclass
 
+import numpy
 from aiohttp import web
 
-from chtab.errors import ChtabError, TimedOut, TooFar
+from chtab import origins
+from chtab.errors import ChtabError, TimedOut
+from chtab.places import length_text
 from chtab.tiles import Tiles
 from chtab.web_policy import header_adder
 
@@ -21,6 +25,10 @@ PAGE = pathlib.Path(__file__).parent / "page"
 # Debian's package libjs-leaflet.
 LEAFLET = pathlib.Path("/usr/share/javascript/leaflet")
 LOG = logging.getLogger("chtab.service")
+# What the places of a route are called, as on the page.
+ENDS = "A", "B"
+# Requests for routes that are answered together.
+TOGETHER = 32
 
 
 @dataclass(frozen=True)
@@ -38,6 +46,9 @@ class Limits:
     # Requests that are answered at once, and that wait.
     at_once: int = 2
     waiting: int = 200
+    # Seconds for the body of a request, and those after which a connection is closed on which nothing happens.
+    sending: float = 30.0
+    idle: float = 60.0
 
 
 class Refused(Exception):
@@ -84,28 +95,47 @@ def fields_of(body, needed, optional=()):
     return fields
 
 
-class Service:
-    """The answers to requests, by a network that it keeps and doesn't close."""
+class Wanted:
+    """A route that a client waits for, between two places, and its answer, which may be an error."""
 
-    def __init__(self, network, title="", places=(), tiles=None, limits=Limits()):
+    def __init__(self, places):
+        self.places, self.answer = places, concurrent.futures.Future()
+
+
+def see_that_there(request):
+    """Refuses a request whose client went away."""
+    if request.transport is None or request.transport.is_closing():
+        raise Refused("the client went away", 499)
+
+
+class Service:
+    """The answers to requests, by a network that it keeps and doesn't close. Pages of the `allowed` origins may ask too."""
+
+    def __init__(self, network, title="", places=(), tiles=None, limits=Limits(), allowed=()):
         self.network, self.title, self.places, self.tile_layer, self.limits = network, title, places, tiles, limits
+        self.allowed = allowed
         self.threads = concurrent.futures.ThreadPoolExecutor(limits.at_once)
         self.tiles = Tiles(network.roads, network.unit == "milliseconds")
         self.gate = asyncio.Semaphore(limits.at_once)
+        self.wanted = []
         self.waiting = 0
 
-    def application(self):
-        app = web.Application(client_max_size=self.limits.body, middlewares=[tell_faults])
+    def application(self, middlewares=()):
+        preflight = [origins.preflight] if self.allowed else []
+        app = web.Application(client_max_size=self.limits.body, middlewares=[*middlewares, *preflight, tell_faults])
         app.add_routes([
             web.get("/", lambda request: web.FileResponse(PAGE / "index.html")),
             web.static("/page", PAGE),
             web.static("/leaflet", LEAFLET, follow_symlinks=True),
+            web.get("/health", self.health),
             web.get("/api/network", self.describe),
             web.get(r"/roads/{zoom:\d{1,2}}/{x:\d{1,8}}/{y:\d{1,8}}.svg", self.tile),
-            web.post("/api/route", self.answering(self.route)),
+            web.post("/api/route", self.answer_route),
             web.post("/api/table", self.answering(self.table)),
             web.post("/api/reach", self.answering(self.reach)),
         ])
+        if self.allowed:
+            app.on_response_prepare.append(origins.allower(self.allowed))
         app.on_cleanup.append(self.close)
         app.on_response_prepare.append(header_adder(self.tile_layer))
         return app
@@ -113,27 +143,75 @@ class Service:
     async def close(self, app):
         self.threads.shutdown(wait=False, cancel_futures=True)
 
-    async def in_thread(self, request, call, *words):
-        """The value of a call, made in a thread once it is its turn. A client that went away while it waited gets none."""
+    @contextlib.contextmanager
+    def place_in_queue(self):
+        """A place among the requests that are underway or wait. Where there is none the request is refused."""
         if self.waiting >= self.limits.waiting:
             raise Refused("too many requests are waiting; try again in a second", 503)
         self.waiting += 1
         try:
-            async with self.gate:
-                if request.transport is None or request.transport.is_closing():
-                    raise Refused("the client went away", 499)
-                return await asyncio.get_running_loop().run_in_executor(self.threads, call, *words)
+            yield
         finally:
             self.waiting -= 1
+
+    async def in_thread(self, request, call, *words):
+        """The value of a call, made in a thread once it is its turn. A client that went away while it waited gets none."""
+        with self.place_in_queue():
+            async with self.gate:
+                see_that_there(request)
+                return await asyncio.get_running_loop().run_in_executor(self.threads, call, *words)
+
+    async def body_of(self, request):
+        """The bytes of a request, once all are there."""
+        try:
+            return await asyncio.wait_for(request.read(), self.limits.sending)
+        except asyncio.TimeoutError:
+            raise Refused("the request took too long to come", 408) from None
 
     def answering(self, call):
         """A handler that answers the body of a request with JSON."""
         async def handle(request):
-            body = await request.read()
+            body = await self.body_of(request)
             text = await self.in_thread(request, lambda: json.dumps(call(body)))
             return web.Response(text=text, content_type="application/json")
 
         return handle
+
+    async def answer_route(self, request):
+        """Answers a request for a route, together with those that wait beside it: one question to the program serves them all."""
+        fields = fields_of(await self.body_of(request), ("from", "to"))
+        wanted = Wanted([place_in(fields[name], name) for name in ("from", "to")])
+        with self.place_in_queue():
+            self.wanted.append(wanted)
+            try:
+                async with self.gate:
+                    if wanted in self.wanted:
+                        see_that_there(request)
+                        self.wanted.remove(wanted)
+                        some, self.wanted = [wanted, *self.wanted[:TOGETHER - 1]], self.wanted[TOGETHER - 1:]
+                        await asyncio.get_running_loop().run_in_executor(self.threads, self.answer_wanted, some)
+                text = await asyncio.wrap_future(wanted.answer)
+            finally:
+                if wanted in self.wanted:
+                    self.wanted.remove(wanted)
+        return web.Response(text=text, content_type="application/json")
+
+    def answer_wanted(self, some):
+        """Answers requests for routes, each with a text or an error."""
+        try:
+            texts = self.route_texts([each.places for each in some])
+        except Exception as fault:
+            texts = [fault] * len(some)
+        for each, text in zip(some, texts):
+            if isinstance(text, Exception):
+                each.answer.set_exception(text)
+            else:
+                each.answer.set_result(text)
+
+    async def health(self, request):
+        """Whether a request that comes now is taken. It is answered at once, whatever waits."""
+        is_ready = self.waiting < self.limits.waiting
+        return web.json_response({"status": "ready" if is_ready else "busy", "waiting": self.waiting}, status=200 if is_ready else 503)
 
     async def describe(self, request):
         """What the page has to know."""
@@ -154,31 +232,56 @@ class Service:
         text = await self.in_thread(request, self.tiles.tile, zoom, x, y)
         return web.Response(text=text, content_type="image/svg+xml", headers={"Cache-Control": "max-age=3600"})
 
-    def spots(self, places):
-        return self.network.snap([place[0] for place in places], [place[1] for place in places], self.limits.metres)
+    def spots(self, places, names):
+        """The places on roads, and what is told of those that are too far from each: {index: line}. `names` are the places'."""
+        spots = self.network.roads.find_any(*zip(*places))
+        far = {place: metres for place, metres in enumerate(spots.metres.tolist()) if not metres <= self.limits.metres}
+        return spots, {place: f"{names[place]} is {length_text(metres)} from the nearest road" for place, metres in far.items()}
 
-    def route(self, body):
-        """A Feature of GeoJSON: the line of the way, or null where there is none."""
-        fields = fields_of(body, ("from", "to"))
-        spots = self.spots([place_in(fields[name], name) for name in ("from", "to")])
-        [trip] = self.network.trip_routes(spots[:1], spots[1:])
-        ends = {name: spot_of(spots, place) for place, name in enumerate(("from", "to"))}
-        return trip.to_geojson({"unit": self.network.unit, **ends})
+    def near_spots(self, places, names):
+        """The same of places that are all near enough."""
+        spots, far = self.spots(places, names)
+        if far:
+            raise Refused("; ".join(far.values()))
+        return spots
+
+    def route_texts(self, pairs):
+        """For each pair of places a Feature of GeoJSON, as text: the line of the way, or null where there is none. Where a place is too far
+        from each road, that is the error in its place."""
+        spots, far = self.spots([place for pair in pairs for place in pair], ENDS * len(pairs))
+        starts, ends = spots[0::2], spots[1::2]
+        told = {pair: [far[place] for place in (2 * pair, 2 * pair + 1) if place in far] for pair in range(len(pairs))}
+        near = [pair for pair, lines in told.items() if not lines]
+        found = dict(zip(near, self.network.trip_routes(starts[near], ends[near])))
+        return [
+            self.route_text(found[pair], starts, ends, pair) if pair in found else Refused("; ".join(told[pair])) for pair in range(len(pairs))
+        ]
+
+    def route_text(self, trip, starts, ends, pair):
+        return trip.to_text({"unit": self.network.unit, "from": spot_of(starts, pair), "to": spot_of(ends, pair)})
 
     def table(self, body):
+        """The weights, a row for each source, null for a source that is too far from each road; and which places are."""
         fields = fields_of(body, ("sources", "targets"), ("within",))
-        sources, targets = (places_in(fields[name], name, self.limits.list) for name in ("sources", "targets"))
+        lists = {name: places_in(fields[name], name, self.limits.list) for name in ("sources", "targets")}
+        sources, targets = lists.values()
         if len(sources) * len(targets) > self.limits.cells:
             raise Refused(f"a table has at most {self.limits.cells:,} cells")
         within = fields.get("within")
         if within is not None:
             within = int(number_in(within, 0, 2**60, "within"))
-        spots = self.spots(sources + targets)
-        weights = self.network.trip_table(spots[:len(sources)], spots[len(sources):], within)
-        return {
-            "unit": self.network.unit,
-            "weights": [[None if weight < 0 else weight for weight in row] for row in weights.tolist()],
-        }
+        owners = [(name, index) for name, places in lists.items() for index in range(len(places))]
+        spots, far = self.spots(sources + targets, [f"{name}[{index}]" for name, index in owners])
+        near = numpy.array([place not in far for place in range(len(owners))])
+        rows, columns = numpy.split(near, [len(sources)])
+        weights = numpy.full((len(sources), len(targets)), -1)
+        weights[numpy.ix_(rows, columns)] = self.network.trip_table(spots[:len(sources)][rows], spots[len(sources):][columns], within)
+        cells = [[None if weight < 0 else weight for weight in row] if is_near else None for row, is_near in zip(weights.tolist(), rows)]
+        faults = [
+            {"list": owners[place][0], "index": owners[place][1], "metres": round(float(spots.metres[place]), 1), "error": text}
+            for place, text in far.items()
+        ]
+        return {"unit": self.network.unit, "weights": cells, **({"faults": faults} if faults else {})}
 
     def reach(self, body):
         """A collection of GeoJSON: a MultiPolygon for each limit, the largest first."""
@@ -187,7 +290,7 @@ class Service:
         if not isinstance(limits, list) or not 1 <= len(limits) <= self.limits.bands:
             raise Refused(f"limits is a list of 1 to {self.limits.bands} numbers")
         limits = [int(number_in(limit, 1, 2**60, "a limit")) for limit in limits]
-        spot = self.spots([place_in(fields["from"], "from")])
+        spot = self.near_spots([place_in(fields["from"], "from")], ENDS)
         return {**self.network.isochrones(spot, limits), "unit": self.network.unit, "from": spot_of(spot, 0)}
 
 
@@ -210,8 +313,6 @@ async def tell_faults(request, handler):
         return await handler(request)
     except Refused as refused:
         return fault(str(refused), refused.status)
-    except TooFar as far:
-        return fault(str(far), 400)
     except TimedOut:
         return fault("the answer took too long", 504)
     except web.HTTPRequestEntityTooLarge:

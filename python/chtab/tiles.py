@@ -34,7 +34,7 @@ class Tiles:
     """The tiles of a network's roads."""
 
     def __init__(self, roads, is_timed):
-        from chtab.roads import metres_between
+        from chtab.lines import metres_between
 
         arcs, ends, _ = roads.segments()
         kept = ~numpy.isnan(ends).any(axis=1)

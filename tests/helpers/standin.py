@@ -4,8 +4,9 @@
   standin.py WORDS..
 
 STANDIN says what goes wrong: after K requests `dies=K` ends it by a signal, `stops=K` ends it with status 3 and a line, `hangs=K` makes it
-answer no more, and `garbles=K` makes it answer each by two lines that are none. `loads=S` makes it wait S seconds before the first request,
-`slow=S` before each. `notes=FILE` adds its process number and its words to a file, and the number of the run below it.
+answer no more, `garbles=K` makes it answer each by two lines that are none, and `doubles=K` makes it answer another table before each.
+`loads=S` makes it wait S seconds before the first request, `slow=S` before each. `notes=FILE` adds its process number and its words to a
+file, and the number of the run below it. A query from a node to itself, which guards a request, is passed on and not counted.
 """
 import os
 import signal
@@ -44,6 +45,10 @@ def misbehave(count, run):
     if is_past("garbles", count):
         os.write(1, b"what?\nwhat?\n")
         return True
+    if is_past("doubles", count):
+        run.stdin.write(b"t 1 1\ns 1\ns 2\n")
+        # That answer is read before the one that is due is there.
+        time.sleep(0.3)
     return False
 
 
@@ -51,7 +56,11 @@ def pass_on(lines, run):
     """Hands the lines of requests to the run below."""
     count, is_kept = 0, False
     for line in lines:
-        if line.startswith((b"q", b"t")):
+        words = line.split()
+        if words[0] == b"q" and words[1] == words[2]:
+            run.stdin.write(line)
+            continue
+        if words[0] in (b"q", b"t"):
             count += 1
             is_kept = misbehave(count, run)
         if not is_kept:

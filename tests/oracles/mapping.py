@@ -73,7 +73,7 @@ class Map:
             elif ":" in word and word[:2].isupper() and word[:2] not in ("GB", "UK", "US"):
                 zone = word.split(":", 1)[1].removeprefix("zone").removeprefix(":")
                 found += [Fraction(zone)] if zone.isdecimal() else []
-        return min((each for each in found if each), default=None)
+        return min((each for each in found if 0 < each <= self.limits["most"]), default=None)
 
     def is_ferry(self, tags):
         return "ferry" in split(tags.get("route", "")) and tags.get("highway") not in self.rules["speeds"]

@@ -6,10 +6,15 @@ signal and without a word; what the command had begun (children, files that are 
 import argparse
 import importlib
 import os
+import re
 import signal
 import sys
 
 from chtab.errors import ChtabError
+
+
+SAVED = "read the hierarchy from FILE, as `chtab save` wrote it of this graph, and check it; one of another graph is refused, often by " \
+    "`chtab: saved line 1: size too large`"
 
 
 class Terminated(BaseException):
@@ -26,23 +31,61 @@ def end_by(number):
     os.kill(os.getpid(), number)
 
 
+class Formatter(argparse.RawDescriptionHelpFormatter):
+    """Help as it stands in a text, with headings as the program chtab has them, from which manual pages are made."""
+
+    def add_usage(self, usage, actions, groups, prefix=None):
+        super().add_usage(usage, actions, groups, "Usage: ")
+
+
 def parser_of(name, about):
-    """The parser of a command, whose help has the name by which it was called: NAME.py in tools/, or chtab-NAME where it is installed."""
+    """The parser of a command.
+
+    Its help is made of a text: a line on what the command does, lines with the forms of its words, and what there is to know besides. It has
+    the name by which the command was called: NAME.py in tools/, or chtab-NAME where it is installed. There the documents are installed too.
+    """
     called = os.path.basename(sys.argv[0])
     if called.startswith("chtab-"):
         about = about.replace(f"tools/{name}.py", called).replace(f"{name}.py", called)
+        about = re.sub(r"tools/(\w+)\.py", lambda found: "chtab-" + found[1].replace("_", "-"), about).replace("./chtab ", "chtab ")
+        about = about.replace("docs/", documents())
     else:
         called = f"{name}.py"
-    return argparse.ArgumentParser(called, description=about, formatter_class=argparse.RawDescriptionHelpFormatter)
+    does, forms, *rest = about.strip().split("\n\n")
+    usage = "\n   or: ".join(form.strip() for form in forms.splitlines())
+    examples = next((at for at, part in enumerate(rest) if part.startswith("Example:")), len(rest))
+    parser = argparse.ArgumentParser(
+        called, usage=usage, description="\n\n".join([does, *rest[:examples]]), epilog="\n\n".join(rest[examples:]), formatter_class=Formatter
+    )
+    parser._positionals.title, parser._optionals.title = "Arguments", "Options"
+    return parser
+
+
+def documents():
+    """What stands before the name of a document: the folder where it was installed along with the package, and else its folder of a checkout."""
+    package = os.path.dirname(os.path.dirname(os.path.realpath(__file__)))
+    folder = os.path.abspath(os.path.join(package, "../../../../share/doc/chtab/docs"))
+    return f"{folder}/" if os.path.isdir(folder) else "docs/"
 
 
 def add_network(parser):
     """The words of a command that opens a network and takes places to its roads."""
-    parser.add_argument("--max-metres", type=float, default=1_000, metavar="M")
-    parser.add_argument("--saved", metavar="FILE")
-    parser.add_argument("--workers", type=int, default=1, metavar="W")
-    parser.add_argument("--program", metavar="CHTAB")
-    parser.add_argument("out", metavar="OUT")
+    add_max_metres(parser, "road")
+    add_runs(parser)
+    parser.add_argument("out", metavar="OUT", help="stands for OUT.gr, OUT.co and, where it is there, OUT.bends")
+
+
+def add_max_metres(parser, what):
+    parser.add_argument(
+        "--max-metres", type=float, default=1_000, metavar="M", help=f"refuse a place that is more than M metres from each {what} (1,000)"
+    )
+
+
+def add_runs(parser):
+    """The words of a command that runs the program."""
+    parser.add_argument("--saved", metavar="FILE", help=SAVED)
+    parser.add_argument("--workers", type=int, default=1, metavar="W", help="threads of the program, 1 to 64 (1)")
+    parser.add_argument("--program", metavar="FILE", help="the program chtab, where it is not found beside this command or on the path")
 
 
 def open_network(words):

@@ -1,40 +1,37 @@
 """Makes a table that is larger than one run of chtab may have, or more than one machine can do: in blocks.
 
-  blocks.py [--side K] [--processes P | --scheduler ADDRESS] [--workers W] [--within R] [--saved FILE] [--program CHTAB]
-            GRAPH SOURCES.ss TARGETS.ss OUT
+  blocks.py [OPTIONS] GRAPH SOURCES.ss TARGETS.ss OUT
 
-GRAPH, SOURCES.ss and TARGETS.ss are as for `chtab table`, but the lists may have any length. They are cut into blocks, as large as a
-table may be or, with --side, of K by K; each is made by chtab, and the cells are put together in OUT:
-  OUT.csv   a row for each source, a column for each target, an empty cell where there is no walk, or none of weight at most R
+GRAPH, SOURCES.ss and TARGETS.ss are as for `chtab table`, but the lists may have any length. They are cut into blocks, each of which is made
+by chtab. The cells are put together in OUT, which is there once it is whole, and not before:
+  OUT.csv   a row for each source, a column for each target, an empty cell where there is no walk, or none within the limit
   OUT.npy   a matrix of 64-bit numbers as numpy reads it, -1 for such a cell, rows and columns in the lists' order
 
-Example:  tools/blocks.py --processes 2 examples/liechtenstein.gr from.ss to.ss table.csv
+Each process keeps a run of `chtab ask`. With --scheduler the blocks go to a Dask scheduler (Debian's package python3-distributed) and its
+workers, on any number of machines. All of them have GRAPH, the saved hierarchy and the program at the same path. Dask does a block again
+whose worker is lost. Where a block fails it is told which, no more blocks are begun, and the status is 1.
 
-At most P blocks are made at a time (as many as there are processors), by as many runs of `chtab ask` that are kept, each with W workers
-(1). A run reads the hierarchy of the graph from FILE, as `chtab save` wrote it, and checks it; without FILE it builds it.
-
-With --scheduler the blocks go to a Dask scheduler (Debian's package python3-distributed) and its workers, on any number of machines, that
-all have GRAPH, FILE and the program CHTAB (that of this repository) at the same path; each thread of them keeps a run. Dask does a block
-again whose worker is lost.
-Where a block fails it is told which, no more blocks are begun, and the status is 1. OUT is there once it is whole, and not before.
+Example:  tools/blocks.py --processes 2 roads.gr from.ss to.ss table.csv
 """
 import logging
 import os
 
 from chtab import blocks, commands, engine, files
+from chtab.program import program_of
 
 
 def words_of(words):
     parser = commands.parser_of("blocks", __doc__)
-    parser.add_argument("--side", type=int)
-    parser.add_argument("--processes", type=int, default=os.cpu_count())
-    parser.add_argument("--scheduler")
-    parser.add_argument("--workers", type=int, default=1)
-    parser.add_argument("--within", type=int)
-    parser.add_argument("--saved")
-    parser.add_argument("--program")
-    for name, shown in ("graph", "GRAPH"), ("sources", "SOURCES.ss"), ("targets", "TARGETS.ss"), ("out", "OUT"):
-        parser.add_argument(name, metavar=shown)
+    parser.add_argument("--side", type=int, metavar="K", help="blocks of K by K, 1 to 2,048 (as large as a table may be)")
+    parser.add_argument("--processes", type=int, default=os.cpu_count(), metavar="P", help="blocks that are made at a time (as many as processors)")
+    parser.add_argument("--scheduler", metavar="ADDRESS", help="the address of a Dask scheduler, whose workers make the blocks")
+    parser.add_argument("--within", type=int, metavar="R", help="leave out distances above R, from 0 to 2^60")
+    commands.add_runs(parser)
+    for name, shown, told in (
+        ("graph", "GRAPH", "the graph"), ("sources", "SOURCES.ss", "the sources"), ("targets", "TARGETS.ss", "the targets"),
+        ("out", "OUT", "OUT.csv or OUT.npy"),
+    ):
+        parser.add_argument(name, metavar=shown, help=told)
     words = parser.parse_args(words)
     if not (1 <= (words.side or 1) <= 2_048 and words.processes >= 1):
         parser.error("a side is from 1 to 2,048, and there is at least one process")
@@ -44,12 +41,12 @@ def words_of(words):
 def main(words):
     words = words_of(words)
     saved = os.path.abspath(words.saved) if words.saved else None
-    setting = engine.Setting(engine.program_of(words.program), os.path.abspath(words.graph), saved, words.workers)
+    setting = engine.Setting(program_of(words.program), os.path.abspath(words.graph), saved, words.workers, within=words.within)
     if words.scheduler:
         # A client of Dask that is closed may leave a future of its own behind, of which asyncio would tell.
         logging.getLogger("asyncio").setLevel(logging.CRITICAL)
     sources, targets = files.read_list(words.sources).tolist(), files.read_list(words.targets).tolist()
-    count = blocks.make(setting, sources, targets, words.out, words.within, words.side, words.processes, words.scheduler)
+    count = blocks.make(setting, sources, targets, words.out, words.side, words.processes, words.scheduler)
     print(f"{len(sources):,} by {len(targets):,} cells in {words.out}, from {count:,} blocks")
 
 

@@ -1,21 +1,17 @@
 """Finds the nodes nearest to places, and writes them as a query file or a list for chtab.
 
-  nearest.py [--queries|--targets] [--max-metres M] [--plain] OUT.co [PLACES]
-  nearest.py --all OUT.co
+  nearest.py [OPTIONS] OUT.co [PLACES]
 
-PLACES (standard input where it isn't given) has a place a line: longitude, latitude and, where you like, a name. Written is a
-list (`s NODE` a line), or with --queries a query file: of the places the first and second make a query (`q S T`), the third and
-fourth, and so on. With --all the list has all nodes in order. Before each item stands a comment with the place's name and its
-distance to the node in metres. A place that is more than M metres (1,000) from each node is refused, and nothing is written.
+PLACES has a place a line: longitude, latitude and, where you like, a name. Without --queries a list is written: `s NODE` a line. Before
+each item stands a comment with the place's name and its distance to the node in metres. Where a place is refused nothing is written.
 
-Where OUT.co was made with turns (osm_to_gr.py --turns), trips begin and end at different nodes of a crossing where turns are
-restricted: the second place of a query ends at the right one, and --targets makes a list of targets.
+Where OUT.co was made with turns (tools/osm_to_gr.py --turns), trips begin and end at different nodes of a crossing. With --queries the
+second place of a query ends at the right one, and --targets makes a list of targets.
 
-Example:  echo "9.5209 47.1410 Vaduz" | tools/nearest.py examples/liechtenstein.co
+OUT.co is the coordinate file of tools/osm_to_gr.py or of the challenge, in millionths of a degree. Of nodes at one point the least
+numbered is taken. From Python, `chtab.Network` also takes places to roads between nodes.
 
-OUT.co is the coordinate file of tools/osm_to_gr.py or of the challenge, in millionths of a degree. Of nodes at one point the
-least numbered is taken. The search goes by scipy's k-d tree where scipy is installed (Debian's package python3-scipy; it pays from
-a few hundred places on), and else, or with --plain, by a grid. From Python, `chtab.Network` also takes places to roads between nodes.
+Example:  echo "9.5209 47.1410 Vaduz" | tools/nearest.py roads.co
 """
 import sys
 
@@ -30,13 +26,13 @@ MANY = 1_000
 def words_of(words):
     parser = commands.parser_of("nearest", __doc__)
     kinds = parser.add_mutually_exclusive_group()
-    kinds.add_argument("--queries", action="store_true")
-    kinds.add_argument("--targets", action="store_true")
-    parser.add_argument("--all", action="store_true")
-    parser.add_argument("--plain", action="store_true")
-    parser.add_argument("--max-metres", type=float, default=1_000, metavar="M")
-    parser.add_argument("coordinates", metavar="OUT.co")
-    parser.add_argument("places", metavar="PLACES", nargs="?")
+    kinds.add_argument("--queries", action="store_true", help="write queries: the first and second place make one, the third and fourth, and so on")
+    kinds.add_argument("--targets", action="store_true", help="write a list of targets")
+    parser.add_argument("--all", action="store_true", help="write a list of all nodes in order, without PLACES")
+    parser.add_argument("--plain", action="store_true", help="search by a grid, as is done where scipy (Debian's package python3-scipy) is missing")
+    commands.add_max_metres(parser, "node")
+    parser.add_argument("coordinates", metavar="OUT.co", help="the places of nodes")
+    parser.add_argument("places", metavar="PLACES", nargs="?", help="the places (standard input)")
     return parser.parse_intermixed_args(words)
 
 

@@ -1,28 +1,17 @@
 """Makes a graph for chtab from an OpenStreetMap file: the roads that a car may use, a bicycle, or people on foot.
 
-  osm_to_gr.py [--profile car|bicycle|foot] [--metric time|metres] [--turns] [--nodes crossings|all] [--part largest|all|N]
-               [--no-ferries] [--bends] [--quiet] MAP OUT
+  osm_to_gr.py [OPTIONS] MAP OUT
 
-MAP is a file of OpenStreetMap's XML, plain (.osm) or packed (.gz, .bz2, .xz), or .osm.pbf (the last by pyosmium, Debian's package
-python3-pyosmium); - is standard input. It writes
+It writes
   OUT.gr     the graph: arcs in the order of the map's ways, weights rounded to the nearest whole number
   OUT.co     the coordinates in the challenge's form: `v NODE X Y`, longitude and latitude times 1,000,000
   OUT.nodes  a line for each node, in order: OpenStreetMap's number of it; nodes are numbered by that
   OUT.bends  with --bends: the points of each arc between its ends, `b ARC X Y`; where there are none, an older file is taken away
-and tells on standard error how far it is, where it takes long, and in one table what was left out; nothing of that with --quiet.
+and tells on standard error how far it is, where it takes long, and in one table what was left out.
 
-Example:  tools/osm_to_gr.py examples/liechtenstein.osm.bz2 liechtenstein
+docs/MAPS.md says what becomes a road, for whom and how fast. Lengths are those of great circles on a sphere of 6,371,008.8 m.
 
-docs/MAPS.md says what becomes a road, for whom and how fast; the tables stand in python/chtab/maps/tables.
-  --profile  who travels: their kinds of way, access tags, barriers and speeds
-  --metric   weights are milliseconds of travel (time), or metres
-  --turns    restrictions of turns at nodes hold: the graph has several nodes for the map's node of one
-  --nodes    a node is where ways meet or end, and an arc is all of a way between two of them (crossings); or each bend of a road is a
-             node, so that roads can be drawn as they lie (all)
-  --part     only the largest strongly connected part is kept, where each node reaches each other one; or the N-th by size; or all
-  --no-ferries  ferries are left out
-
-Lengths are those of great circles on a sphere of 6,371,008.8 m.
+Example:  tools/osm_to_gr.py liechtenstein.osm.bz2 roads
 """
 import argparse
 import sys
@@ -44,24 +33,36 @@ def part_of(word):
 
 def words_of(words):
     parser = commands.parser_of("osm_to_gr", __doc__)
-    parser.add_argument("--profile", choices=profiles.NAMES, default="car")
-    parser.add_argument("--metric", choices=UNITS, default="time")
-    parser.add_argument("--turns", action="store_true")
-    parser.add_argument("--nodes", choices=("crossings", "all"), default="crossings")
-    parser.add_argument("--part", type=part_of, default="largest", metavar="{largest,all,N}")
-    parser.add_argument("--no-ferries", action="store_false", dest="ferries")
-    parser.add_argument("--bends", action="store_true")
-    parser.add_argument("--quiet", action="store_true")
-    parser.add_argument("map", metavar="MAP")
-    parser.add_argument("out", metavar="OUT")
+    parser.add_argument("--profile", choices=profiles.NAMES, default="car", help="who travels: their kinds of way, access tags, barriers and speeds (car)")
+    parser.add_argument("--metric", choices=UNITS, default="time", help="weights are milliseconds of travel, or metres (time)")
+    parser.add_argument("--turns", action="store_true", help="restrictions of turns hold: the graph has several nodes for the map's node of one")
+    parser.add_argument(
+        "--nodes", choices=("crossings", "all"), default="crossings",
+        help="a node is where ways meet or end, and an arc all of a way between two of them; or each bend of a road is a node (crossings)",
+    )
+    parser.add_argument(
+        "--part", type=part_of, default="largest", metavar="{largest,all,N}",
+        help="keep the largest strongly connected part, where each node reaches each other one; or all; or the N-th by size (largest)",
+    )
+    parser.add_argument("--no-ferries", action="store_false", dest="ferries", help="leave ferries out")
+    parser.add_argument("--bends", action="store_true", help="write OUT.bends, so that roads can be drawn as they lie")
+    parser.add_argument("--log", metavar="FILE", help="write a line of CSV for each object that was left out or passed over: its number and why")
+    parser.add_argument("--quiet", action="store_true", help="tell nothing on standard error")
+    parser.add_argument(
+        "map", metavar="MAP",
+        help="OpenStreetMap's XML, plain or packed (.gz, .bz2, .xz), or .osm.pbf (by Debian's package python3-pyosmium); - is standard input",
+    )
+    parser.add_argument("out", metavar="OUT", help="the files that are written, without their suffix")
     return parser.parse_args(words)
 
 
 def main(words):
     words = words_of(words)
     choices = converting.Choices(**{name: getattr(words, name) for name in converting.Choices._fields})
-    made, report = converting.convert(words.map, choices, is_told=not words.quiet)
+    made, report = converting.convert(words.map, choices, not words.quiet, words.log is not None)
     names = converting.write(words.out, made, converting.comments_of(words.map, choices), UNITS[words.metric])
+    if words.log is not None:
+        report.write_log(words.log)
     if not words.quiet:
         title = f"left out of {converting.name_of(words.map)}, for {profiles.profile(words.profile).people}"
         print(*report.lines(title), sep="\n", file=sys.stderr)

@@ -1,23 +1,20 @@
 """Draws a road network and chtab's answers as one SVG, written to standard output.
 
-  picture.py network OUT
-  picture.py routes [--names NAMES] OUT [TEXT]
-  picture.py reach [--limit R] [--bands B] [--names NAMES] OUT TARGETS.ss [TEXT]
+  picture.py [OPTIONS] network OUT
+  picture.py [OPTIONS] routes OUT [TEXT]
+  picture.py [OPTIONS] reach OUT TARGETS.ss [TEXT]
 
-OUT stands for OUT.gr and OUT.co. TEXT is what chtab wrote (standard input where it isn't given).
+OUT stands for OUT.gr and OUT.co. TEXT is what chtab wrote (standard input where it isn't given). Words may stand in any order.
   network  the roads alone
   routes   the text of `chtab dist --routes`: each route in a colour of its own, a ring where it begins and a dot where it ends. Where
            routes share a road, the later ones are drawn thin over the wide ones
-  reach    the text of `chtab table` with one source: which roads are reached, in B bands of equal time (5) up to the limit R, in
-           the graph's unit (up to the farthest target where no limit is given). Roads are coloured from the nodes of
-           TARGETS.ss, so this is a list of all nodes, as `nearest.py --all` writes it. Of more nodes than a run of chtab takes,
-           `blocks.py` makes the row, in OUT.csv, which is read in place of the text
+  reach    the text of `chtab table` with one source: which roads are reached, in bands of equal time. Roads are coloured from the
+           nodes of TARGETS.ss, which is a list of all nodes, as `nearest.py --all` writes it. Of more nodes than a run of chtab
+           takes, `blocks.py` makes the row, in OUT.csv, which is read in place of the text
+
+Weights are told in minutes or kilometres where a comment of OUT.gr says that they are milliseconds or metres.
 
 Example:  ./chtab table --within 600000 roads.gr from.ss all.ss | tools/picture.py reach roads --limit 600000 all.ss > reach.svg
-
-Weights are told in minutes or kilometres where a comment of OUT.gr says that they are milliseconds or metres. With --size P the
-longer side of the map has P pixels (800); --title T sets a title. NAMES is a list or a query file that nearest.py wrote, or OUT.nodes:
-the legend has the names in place of the nodes' numbers. Words may stand in any order.
 """
 import sys
 
@@ -29,14 +26,14 @@ FILES = {"network": (), "routes": ("TEXT",), "reach": ("TARGETS.ss", "TEXT")}
 
 def words_of(words):
     parser = commands.parser_of("picture", __doc__)
-    parser.add_argument("--size", type=int, default=800)
-    parser.add_argument("--title", default="")
-    parser.add_argument("--names", metavar="NAMES")
-    parser.add_argument("--limit", type=int)
-    parser.add_argument("--bands", type=int, default=5)
-    parser.add_argument("kind", choices=FILES)
-    parser.add_argument("out", metavar="OUT")
-    parser.add_argument("files", metavar="FILE", nargs="*")
+    parser.add_argument("--size", type=int, default=800, metavar="P", help="pixels of the longer side of the map (800)")
+    parser.add_argument("--title", default="", metavar="T", help="a title")
+    parser.add_argument("--names", metavar="FILE", help="a list or queries that nearest.py wrote, or OUT.nodes: the legend has the names of nodes")
+    parser.add_argument("--limit", type=int, metavar="R", help="how far reach goes, in the graph's unit (as far as the farthest target)")
+    parser.add_argument("--bands", type=int, default=5, metavar="B", help="bands of reach (5)")
+    parser.add_argument("kind", choices=FILES, help="what is drawn")
+    parser.add_argument("out", metavar="OUT", help="the network")
+    parser.add_argument("files", metavar="FILE", nargs="*", help="the files of this kind")
     words = parser.parse_intermixed_args(words)
     takes = FILES[words.kind]
     if not max(0, len(takes) - 1) <= len(words.files) <= len(takes):

@@ -1,17 +1,17 @@
 """Finds what is reached from a place within limits, and writes polygons of it as GeoJSON.
 
-  reach.py --limits R[,R..] [--max-metres M] [--saved FILE] [--workers W] [--program CHTAB] OUT [PLACE]
+  reach.py --limits R[,R..] [OPTIONS] OUT [PLACE]
 
-OUT stands for OUT.gr, OUT.co and, where it is there, OUT.bends (osm_to_gr.py --bends). The first line of PLACE (standard input where it
-isn't given) has a longitude, a latitude and, where you like, a name. The place is taken to the nearest point of the nearest road; one that
-is more than M metres (1,000) from each road is refused. Limits are in the graph's unit. The network may have any number of nodes.
-To standard output goes a MultiPolygon for each limit, the largest first, with the properties `limit` and `from`: what lies within 90
-metres of a stretch of road that is reached, or within a square of a grid where the squares are wider (a 320th of the whole).
+The first line of PLACE has a longitude, a latitude and, where you like, a name. The place is taken to the nearest point of the nearest road.
+The network may have any number of nodes.
 
-Example:  echo "9.5209 47.1410 Vaduz" | tools/reach.py --limits 300000,600000 examples/liechtenstein > reach.geojson
+To standard output goes a MultiPolygon for each limit, the largest first, with the properties `limit` and `from`. A polygon is what lies
+within 90 metres of a stretch of road that is reached, or within a square of a grid where the squares are wider (a 320th of the whole). Of a
+graph with turns (tools/osm_to_gr.py --turns) the restrictions hold.
 
-It needs Debian's packages python3-numpy and python3-shapely. From Python, `chtab.Network` does the same.
-Of a graph with turns (osm_to_gr.py --turns) the restrictions hold.
+Example:  echo "9.5209 47.1410 Vaduz" | tools/reach.py --limits 300000,600000 roads > reach.geojson
+
+It needs Debian's packages python3-numpy, python3-scipy and python3-shapely. From Python, `chtab.Network` does the same.
 """
 import argparse
 import itertools
@@ -31,9 +31,9 @@ def limits_of(word):
 
 def words_of(words):
     parser = commands.parser_of("reach", __doc__)
-    parser.add_argument("--limits", type=limits_of, required=True, metavar="R,R..")
+    parser.add_argument("--limits", type=limits_of, required=True, metavar="R,R..", help="limits in the graph's unit, from 1 to 2^60")
     commands.add_network(parser)
-    parser.add_argument("place", metavar="PLACE", nargs="?")
+    parser.add_argument("place", metavar="PLACE", nargs="?", help="the place (standard input)")
     return parser.parse_intermixed_args(words)
 
 
@@ -52,4 +52,4 @@ def main(words):
 
 
 def command():
-    commands.run("reach", main, needs=("numpy", "shapely"))
+    commands.run("reach", main, needs=("numpy", "scipy", "shapely"))

@@ -1,17 +1,15 @@
 """Turns chtab's answers into files that maps and spreadsheets read.
 
-  to_geojson.py routes [--names NAMES] OUT.co [TEXT]
-  to_geojson.py table [--names NAMES] TARGETS.ss [TEXT]
+  to_geojson.py [OPTIONS] routes OUT.co [TEXT]
+  to_geojson.py [OPTIONS] table TARGETS.ss [TEXT]
 
-TEXT is what chtab wrote (standard input where it isn't given); the result goes to standard output.
+TEXT is what chtab wrote (standard input where it isn't given). The result goes to standard output.
   routes  the text of `chtab dist --routes` to GeoJSON (RFC 7946): a line for each route, with the properties from, to, weight and arcs,
-          and from_name and to_name where NAMES has them. A query without a walk has no line. A text without routes is refused.
+          and from_name and to_name where they are known. A query without a walk has no line. A text without routes is refused
   table   the text of `chtab table` to CSV: a row for each source, a column for each target in the order of TARGETS.ss, an empty
-          cell where there is no walk. With --names a node is called by its name, and else by its number.
-NAMES is a list or a query file that tools/nearest.py wrote, with the names of places, or a file whose line k is the name of node k, as
-OUT.nodes (OpenStreetMap's number of it).
+          cell where there is no walk. A node is called by its name, where it is known, and else by its number
 
-Example:  ./chtab dist --routes liechtenstein.gr trip.p2p | tools/to_geojson.py routes liechtenstein.co > trip.geojson
+Example:  ./chtab dist --routes roads.gr trip.p2p | tools/to_geojson.py routes roads.co > trip.geojson
 """
 import sys
 
@@ -20,10 +18,12 @@ from chtab import commands, files, geojson
 
 def words_of(words):
     parser = commands.parser_of("to_geojson", __doc__)
-    parser.add_argument("--names", metavar="NAMES")
-    parser.add_argument("kind", choices=("routes", "table"))
-    parser.add_argument("file", metavar="FILE")
-    parser.add_argument("text", metavar="TEXT", nargs="?")
+    parser.add_argument(
+        "--names", metavar="FILE", help="the names of nodes: a list or queries that nearest.py wrote, or a file whose line k names node k, as OUT.nodes"
+    )
+    parser.add_argument("kind", choices=("routes", "table"), help="what TEXT holds")
+    parser.add_argument("file", metavar="FILE", help="OUT.co of routes, TARGETS.ss of a table")
+    parser.add_argument("text", metavar="TEXT", nargs="?", help="the text (standard input)")
     return parser.parse_intermixed_args(words)
 
 

@@ -1,20 +1,17 @@
 """Tells how far it is between places that lie beside roads, and writes the ways.
 
-  trips.py [--table|--geojson] [--max-metres M] [--saved FILE] [--workers W] [--program CHTAB] OUT [PLACES]
+  trips.py [OPTIONS] OUT [PLACES]
 
-OUT stands for OUT.gr, OUT.co and, where it is there, OUT.bends (osm_to_gr.py --bends). PLACES (standard input where it isn't given) has a
-place a line: longitude, latitude and, where you like, a name. Each place is taken to the nearest point of the nearest road, and a trip is
-the best over the ends of both roads, with the parts of these added; a place that is more than M metres (1,000) from each road is
-refused, and nothing is written. The weights are in the graph's unit. To standard output goes
-  CSV: a line for each trip: of the places the first and second make a trip, the third and fourth, and so on. The columns are both names, the
-  weight (empty where there is no way), and how many metres each place lies from its road
-  --table    CSV with a row and a column for each place
-  --geojson  a line for each trip that has a way, with both names, the weight and its length in metres
+PLACES has a place a line: longitude, latitude and, where you like, a name. Each place is taken to the nearest point of the nearest road. A
+trip is the best over the ends of both roads, with the parts of these added. Where a place is refused nothing is written.
 
-Example:  tools/trips.py examples/liechtenstein places.txt
+Without an option the result is CSV with a line for each trip: the first and second place make a trip, the third and fourth, and so on. The
+columns are both names, the weight in the graph's unit (empty where there is no way), and how many metres each place lies from its road.
+Of a graph with turns (tools/osm_to_gr.py --turns) the restrictions hold.
 
-It needs Debian's packages python3-numpy and python3-shapely. From Python, `chtab.Network` does the same.
-Of a graph with turns (osm_to_gr.py --turns) the restrictions hold.
+Example:  tools/trips.py roads places.txt
+
+It needs Debian's packages python3-numpy and python3-scipy. From Python, `chtab.Network` does the same.
 """
 import csv
 import json
@@ -26,10 +23,10 @@ from chtab import commands, files, geojson
 def words_of(words):
     parser = commands.parser_of("trips", __doc__)
     kinds = parser.add_mutually_exclusive_group()
-    kinds.add_argument("--table", action="store_true")
-    kinds.add_argument("--geojson", action="store_true")
+    kinds.add_argument("--table", action="store_true", help="write CSV with a row and a column for each place")
+    kinds.add_argument("--geojson", action="store_true", help="write a line for each trip that has a way, with both names, its weight and its metres")
     commands.add_network(parser)
-    parser.add_argument("places", metavar="PLACES", nargs="?")
+    parser.add_argument("places", metavar="PLACES", nargs="?", help="the places (standard input)")
     return parser.parse_intermixed_args(words)
 
 
@@ -72,4 +69,4 @@ def main(words):
 
 
 def command():
-    commands.run("trips", main, needs=("numpy", "shapely"))
+    commands.run("trips", main, needs=("numpy", "scipy"))

@@ -55,12 +55,13 @@ def uncollected():
 
 
 @uncollected()
-def convert(path, choices, is_told=False):
-    """Reads a map (`-` is standard input); what comes of it, and the report of what was left out. An empty map is a fault. How far it is
-    stands on standard error now and then, where that is wanted."""
-    profile, report = profiles.profile(choices.profile), Report()
+def convert(path, choices, is_told=False, is_logged=False):
+    """Reads a map (`-` is standard input); what comes of it, and the report of what was left out, with its objects where they are wanted.
+    An empty map is a fault. How far it is stands on standard error now and then, where that is wanted."""
+    profile, report = profiles.profile(choices.profile), Report(is_logged)
     survey = Survey(profile, report, choices.ferries)
     reading.read_map(path, survey, is_told)
+    survey.note_ways_that_come_twice()
     restricting = restrictions.read_all(survey.relations, profile, report) if choices.turns else []
     with Progress("roads", len(survey.roads), "roads", is_told=is_told) as progress:
         made, nodes = network.network_of(
@@ -82,11 +83,13 @@ def kept_of(made, wanted, report):
     rank = 1 if wanted == "largest" else wanted
     if rank > len(ranked):
         raise FileFault(f"there is no part {rank}: the roads hang together in {len(ranked)}")
-    others = ranked[:rank - 1] + ranked[rank:]
+    others, kept = ranked[:rank - 1] + ranked[rank:], parts.kept_nodes(made, part, ranked[rank - 1][0])
     if others:
         words = f"of {len(made.names) - len(made.ends):,}, in {len(others):,} parts of {others[0][1]:,} nodes and fewer"
-        report.note("parts", words, sum(size for _, size in others))
-    return parts.kept_nodes(made, part, ranked[rank - 1][0])
+        report.note("parts", words, count=sum(size for _, size in others))
+        for name in dict.fromkeys(name for name, is_kept in zip(made.names, kept) if not is_kept):
+            report.note("parts", words, "node", name, 0)
+    return kept
 
 
 def numbered(made, kept):

@@ -95,7 +95,7 @@ class Builder:
         for run in runs:
             self.add_run(road, *run)
         if not runs:
-            self.report.note("short", "")
+            self.report.note("short", "", "way", road.number)
 
     def add_run(self, road, nodes, longitudes, latitudes):
         """The arcs of a run of nodes of a road; where it is the whole road, a ferry's duration holds."""
@@ -133,6 +133,6 @@ def network_of(survey, closed, with_all_nodes, in_metres, with_bends, progress):
     builder = Builder(survey, cuts, closed, in_metres, with_bends)
     for road in progress.each(survey.roads):
         builder.add_road(road)
-    if builder.missing:
-        survey.report.note("missing", "", len(builder.missing))
+    for number in sorted(builder.missing):
+        survey.report.note("missing", "", "node", number)
     return builder.network, builder.nodes

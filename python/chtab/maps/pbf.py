@@ -127,9 +127,9 @@ class Lines:
         if not verdict:
             return
         if state == "dD":
-            self.survey.report.note("deleted", "")
+            self.survey.report.note("deleted", "", "way", int(number[1:]))
             return
-        rule = self.survey.rule_by(verdict)
+        rule = self.survey.rule_by(verdict, int(number[1:]))
         if not rule:
             return
         numbers, longitudes, latitudes = nodes_of(nodes[1:])

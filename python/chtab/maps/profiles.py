@@ -61,10 +61,11 @@ class Profile(NamedTuple):
 
 
 class Limits(NamedTuple):
-    """Kilometres an hour of units, of words and of zones; 0 for a word that has no one number."""
+    """Kilometres an hour of units, of words and of zones; 0 for a word that has no one number. `most` is the highest limit that is taken."""
 
     units: dict
     words: dict
+    most: int
 
 
 def read(name):
@@ -111,4 +112,4 @@ def profile(name):
 def limits():
     """The table of limits of speed."""
     table = read("limits")
-    return Limits(table["units"], table["words"] | table["zones"])
+    return Limits(table["units"], table["words"] | table["zones"], table["most"])

@@ -84,9 +84,9 @@ class Ways:
         if not any(key in tags for key in ROAD_KEYS):
             return
         if is_deleted:
-            self.survey.report.note("deleted", "")
+            self.survey.report.note("deleted", "", "way", number)
             return
-        rule = self.survey.rule_by(self.survey.verdict_on(tags))
+        rule = self.survey.rule_by(self.survey.verdict_on(tags), number)
         if rule:
             self.survey.add_way(number, rule, [int(node) for node in nodes])
 
@@ -106,7 +106,9 @@ class Nodes:
             return
         longitude, latitude = map(float, place)
         if not (-180 <= longitude <= 180 and -90 <= latitude <= 90):
-            raise ValueError("a node has no place on the earth")
+            raise ValueError(f"node {number} at longitude {longitude:g}, latitude {latitude:g} is no place on the earth")
+        if number in self.places:
+            self.survey.report.note("twice", "node", "node", number)
         self.places[number] = (longitude, latitude)
         if "barrier" in tags:
             self.survey.add_barrier(number, tags)

@@ -1,5 +1,7 @@
-"""What a conversion left out, passed over or could not read: counted by kind and by words, and told in one table."""
+"""What a conversion left out, passed over or could not read: counted by kind and by words, told in one table, and where it is wanted in a
+file with the map's number of each object."""
 import collections
+import csv
 
 # The kinds of what is counted, in the order in which they are told.
 KINDS = {
@@ -8,13 +10,14 @@ KINDS = {
     "by time": "ways whose direction changes with the time",
     "ferries": "ferries left out",
     "deleted": "ways that are deleted",
+    "twice": "objects whose number came before",
     "short": "ways of fewer than two nodes",
     "missing": "nodes of roads that the map doesn't have: dead ends",
     "barriers": "closed barriers: dead ends",
     "barrier kinds": "barriers of unknown kind",
     "access": "access tags passed over: no known word",
     "oneway": "one-way tags passed over: no known word",
-    "speeds": "limits of speed passed over: not readable",
+    "speeds": "limits of speed passed over: unreadable or too high",
     "durations": "ferries without a readable duration",
     "turns": "turn restrictions left out",
     "parts": "nodes of parts that hang apart",
@@ -24,17 +27,34 @@ MOST_WORDS = 4
 
 
 class Report:
-    """Counts of each kind, each by its words."""
+    """Counts of each kind, each by its words.
 
-    def __init__(self):
+    Parameters
+    ----------
+    is_logged : bool
+        Whether the object of each note is kept, for `write_log`.
+    """
+
+    def __init__(self, is_logged=False):
         self.counts = {kind: collections.Counter() for kind in KINDS}
+        self.log = [] if is_logged else None
 
-    def note(self, kind, words, count=1):
+    def note(self, kind, words, thing=None, number=None, count=1):
+        """Counts what is told of a `thing` of the map, `way`, `node` or `relation`, by its number there."""
         self.counts[kind][words] += count
+        if self.log is not None and thing is not None:
+            self.log.append((thing, number, kind, words))
 
-    def note_all(self, notes):
+    def note_all(self, notes, thing, number):
         for kind, words in notes:
-            self.counts[kind][words] += 1
+            self.note(kind, words, thing, number)
+
+    def write_log(self, path):
+        """Writes a line of CSV for each object that was noted: what it is, its number in the map, why, and its words."""
+        with open(path, "w", newline="") as file:
+            lines = csv.writer(file, lineterminator="\n")
+            lines.writerow(["object", "id", "reason", "words"])
+            lines.writerows((thing, number, KINDS[kind], words) for thing, number, kind, words in self.log)
 
     def total(self, kind):
         return self.counts[kind].total()

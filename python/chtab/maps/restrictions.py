@@ -25,6 +25,8 @@ class Restriction(NamedTuple):
     froms: list
     via: int
     tos: list
+    # The map's number of the relation.
+    number: int
 
 
 def words_for(relation, profile):
@@ -52,7 +54,7 @@ def restriction_of(relation, profile):
         raise NotRead("without from, via and to")
     if len(vias) > 1 or vias[0][0] != "node":
         raise NotRead("over ways")
-    return Restriction(words <= DEMANDING, words <= {"no_u_turn", "only_u_turn"} and froms == tos, froms, vias[0][1], tos)
+    return Restriction(words <= DEMANDING, words <= {"no_u_turn", "only_u_turn"} and froms == tos, froms, vias[0][1], tos, relation.number)
 
 
 def read_all(relations, profile, report):
@@ -62,7 +64,7 @@ def read_all(relations, profile, report):
         try:
             found.append(restriction_of(relation, profile))
         except NotRead as reason:
-            report.note("turns", str(reason))
+            report.note("turns", str(reason), "relation", relation.number)
     return found
 
 
@@ -122,7 +124,7 @@ def forbidden_turns(restrictions, network, nodes, report):
                 raise NotRead("without roads that meet at the node")
             turns = turns_of(restriction, crossings[nodes[restriction.via]], network)
         except NotRead as reason:
-            report.note("turns", str(reason))
+            report.note("turns", str(reason), "relation", restriction.number)
             continue
         for one, other in turns:
             (demanded if restriction.is_demand else forbidden)[one].add(other)

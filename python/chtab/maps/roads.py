@@ -1,5 +1,6 @@
 """Which ways of a map are roads for one way of travelling, how fast, and in which direction."""
 import array
+import collections
 import itertools
 import math
 import operator
@@ -117,9 +118,9 @@ class Survey:
             self.verdicts[asked] = judged(dict(asked), self.profile, self.with_ferries)
         return self.verdicts[asked]
 
-    def rule_by(self, verdict):
-        """The rule of a verdict; what it gives to note is counted."""
-        self.report.note_all(verdict.notes)
+    def rule_by(self, verdict, number):
+        """The rule of a verdict on a way of this number; what it gives to note is counted."""
+        self.report.note_all(verdict.notes, "way", number)
         return verdict.rule
 
     def add_way(self, number, rule, nodes, longitudes=(), latitudes=()):
@@ -128,7 +129,7 @@ class Survey:
             is_kept = [True, *map(operator.ne, nodes, nodes[1:])]
             nodes, longitudes, latitudes = (list(itertools.compress(part, is_kept)) for part in (nodes, longitudes, latitudes))
         if len(nodes) < 2:
-            self.report.note("short", "")
+            self.report.note("short", "", "way", number)
             self.lone_nodes.update(nodes)
         else:
             self.roads.append(Road(number, rule, array.array("q", nodes), array.array("d", longitudes), array.array("d", latitudes)))
@@ -156,5 +157,12 @@ class Survey:
             if tags.is_closed_barrier(barrier, self.profile.barriers, notes):
                 closed.add(number)
                 notes.append(("barriers", f"barrier={barrier['barrier']}"))
-            self.report.note_all(notes)
+            self.report.note_all(notes, "node", number)
         return closed
+
+    def note_ways_that_come_twice(self):
+        """Notes each road whose number is that of a road before it. Both are roads."""
+        counts = collections.Counter(road.number for road in self.roads)
+        for number, count in counts.items():
+            for _ in range(count - 1):
+                self.report.note("twice", "way", "way", number)

@@ -20,13 +20,14 @@ def one_limit(word):
     limits = profiles.limits()
     if word in limits.words:
         return limits.words[word]
-    zone = ZONE.fullmatch(word)
+    zone, number = ZONE.fullmatch(word), NUMBER.fullmatch(word)
     if zone:
-        return int(zone[1]) or None
-    number = NUMBER.fullmatch(word)
-    if not number or (number[2] and number[2] not in limits.units):
+        speed = int(zone[1])
+    elif number and (not number[2] or number[2] in limits.units):
+        speed = float(number[1]) * limits.units.get(number[2], 1)
+    else:
         return None
-    return float(number[1]) * limits.units.get(number[2], 1) or None
+    return speed if 0 < speed <= limits.most else None
 
 
 def limit_of(tags, side, notes):

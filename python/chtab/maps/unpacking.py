@@ -27,10 +27,27 @@ def main(path):
         for kinds in osmium.osm.NODE, others:
             osmium.apply(osmium.io.Reader(path, kinds), places, text)
         text.close()
+    except osmium.InvalidLocationError as fault:
+        numbers = nodes_that_lie_nowhere(osmium, path)
+        print(f"node {numbers[0]} is at no place on the earth" if numbers else fault, file=sys.stderr)
+        return FAULT
     except RuntimeError as fault:
         print(fault, file=sys.stderr)
         return FAULT
     return 0
+
+
+def nodes_that_lie_nowhere(osmium, path):
+    """The numbers of the nodes whose longitude and latitude are none."""
+    found = []
+
+    class Finder(osmium.SimpleHandler):
+        def node(self, node):
+            if node.visible and not node.location.valid():
+                found.append(node.id)
+
+    Finder().apply_file(path)
+    return found
 
 
 if __name__ == "__main__":

@@ -1,0 +1,81 @@
+"""Connections of the service, and those that are closed because their clients do nothing.
+
+aiohttp closes a connection that is idle after a request. It waits for ever for one that sends no request, or half of one, or that reads no
+answer. Here each connection is closed on which no request is being answered and no byte moves.
+"""
+import asyncio
+
+from aiohttp import web
+
+
+class Connection(asyncio.Protocol):
+    """A connection: it hands on what comes to the protocol of aiohttp, and remembers since when it is idle."""
+
+    def __init__(self, inner, connections):
+        self.inner, self.connections, self.transport = inner, connections, None
+        self.underway, self.since, self.unsent = 0, 0.0, 0
+
+    def connection_made(self, transport):
+        self.transport, self.since = transport, self.connections.now()
+        self.connections.by_transport[transport] = self
+        self.inner.connection_made(transport)
+
+    def connection_lost(self, fault):
+        self.connections.by_transport.pop(self.transport, None)
+        self.inner.connection_lost(fault)
+
+    def data_received(self, data):
+        self.inner.data_received(data)
+
+    def eof_received(self):
+        return self.inner.eof_received()
+
+    def pause_writing(self):
+        self.inner.pause_writing()
+
+    def resume_writing(self):
+        self.inner.resume_writing()
+
+    def is_idle_since(self, moment):
+        """Whether no request has been answered since then, and no byte of an answer was taken."""
+        unsent = self.transport.get_write_buffer_size()
+        if self.underway or unsent != self.unsent:
+            self.unsent, self.since = unsent, self.connections.now()
+        return self.since <= moment
+
+
+class Connections:
+    """The connections of a service, of which each is closed that is idle for so many seconds."""
+
+    def __init__(self, seconds):
+        self.seconds, self.by_transport = seconds, {}
+        self.now = asyncio.get_running_loop().time
+
+    def watched(self, server):
+        """The factory of protocols of such a server, each of them watched."""
+        return lambda: Connection(server(), self)
+
+    def middleware(self):
+        """A middleware: the connection of a request is not idle while the request is answered."""
+        @web.middleware
+        async def mark(request, handler):
+            connection = self.by_transport.get(request.transport)
+            if connection is None:
+                return await handler(request)
+            connection.underway += 1
+            try:
+                return await handler(request)
+            finally:
+                connection.underway -= 1
+                connection.since = self.now()
+
+        return mark
+
+    async def close_idle(self):
+        """Closes idle connections, until it is cancelled."""
+        while True:
+            await asyncio.sleep(min(1.0, self.seconds / 4))
+            moment = self.now() - self.seconds
+            for connection in list(self.by_transport.values()):
+                if connection.is_idle_since(moment):
+                    connection.transport.abort()

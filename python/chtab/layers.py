@@ -1,0 +1,80 @@
+"""What is read of a network's files, each when it is first asked for, and kept: the arcs, the places of nodes, roads."""
+import os
+import threading
+
+from chtab import files, forks, nearest
+from chtab.errors import ChtabError
+
+
+class Layers:
+    """The files of a network. Calls may come from several threads. It goes from process to process by pickle, as the names of its files.
+
+    Parameters
+    ----------
+    path : str
+        The graph (`.gr`).
+    coordinates, bends : str, optional
+        The files of the nodes' places and of the points between them; without them those beside the graph, where they are there.
+    """
+
+    def __init__(self, path, coordinates=None, bends=None):
+        base = os.path.splitext(path)[0]
+        self.path = path
+        self.paths = {"coordinates": coordinates or beside(base + ".co"), "bends": bends or beside(base + ".bends")}
+        self.kept = {}
+        self.leave_parent()
+        forks.follow(self)
+
+    def leave_parent(self):
+        """A lock that nobody holds: in a process that was forked too."""
+        self.lock = threading.RLock()
+
+    def __reduce__(self):
+        return Layers, (self.path, self.paths["coordinates"], self.paths["bends"])
+
+    def read(self, name, make):
+        with self.lock:
+            if name not in self.kept:
+                self.kept[name] = make()
+            return self.kept[name]
+
+    @property
+    def graph(self):
+        """The arcs, as `files.read_graph` gives them."""
+        return self.read("graph", lambda: files.read_graph(self.path))
+
+    @property
+    def coordinates(self):
+        """The nodes' places, as `files.read_coordinates` gives them."""
+        path = self.paths["coordinates"]
+        if path is None:
+            raise ChtabError(f"{self.path} has no file of coordinates beside it; name one by `coordinates`")
+        return self.read("coordinates", lambda: files.read_coordinates(path))
+
+    @property
+    def index(self):
+        """The nodes, to be looked for by their places."""
+        return self.read("index", lambda: nearest.index_of(self.coordinates))
+
+    @property
+    def roads(self):
+        """The roads between nodes, as `chtab.roads.Roads`."""
+        def make():
+            from chtab.roads import Roads
+
+            path = self.paths["bends"]
+            return Roads(self.graph, self.coordinates, files.read_bends(path) if path else None)
+
+        return self.read("roads", make)
+
+    def lines_of(self, routes):
+        """For each route of `files.Answer` the places that it passes, in degrees: with the bends of its roads, where they are known."""
+        if self.paths["bends"] is None:
+            return [[self.coordinates.of(node) for node in each.nodes] for each in routes]
+        from chtab.lines import tidied
+
+        return [line for line, _ in tidied(self.roads.lines_of(routes))]
+
+
+def beside(path):
+    return path if os.path.exists(path) else None

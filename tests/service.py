@@ -1,0 +1,207 @@
+#!/usr/bin/python3
+"""Tests the service of a network for programs: places that are too far, pages of other sites, health, and clients that do nothing.
+
+What needs a package that is missing is told and left out. The last line is 'N passed, N failed'.
+"""
+import concurrent.futures
+import contextlib
+import http.client
+import json
+import random
+import signal
+import socket
+import subprocess
+import time
+import urllib.parse
+
+# First of all, since it puts the package on the path.
+from helpers.maps import COUNTRY
+
+from helpers import running
+from helpers.commands import command
+from helpers.moods import STANDIN, mood
+from helpers.packages import PYTHON, run_checks
+from helpers.running import PROGRAM, ROOT
+import chtab
+from chtab import places
+
+VADUZ, ESCHEN, SEA = [9.5209, 47.1410], [9.5450, 47.2200], [9.5, 46.0]
+
+
+@contextlib.contextmanager
+def service(*words, out=COUNTRY, program=PROGRAM):
+    """The address of a service on a free port. It ends well and tells nothing."""
+    line = [PYTHON, ROOT / "tools" / "page.py", "--port", 0, "--program", program, *words, out]
+    child = subprocess.Popen(list(map(str, line)), stdout=subprocess.PIPE, stderr=subprocess.PIPE, text=True)
+    try:
+        yield urllib.parse.urlsplit(child.stdout.readline().strip())
+    finally:
+        child.send_signal(signal.SIGINT)
+        told = child.communicate(timeout=20)[1]
+    assert (child.returncode, told) == (0, ""), told
+
+
+def ask(address, path, body=None, method=None, headers=()):
+    """The status, the headers and the value of an answer."""
+    connection = http.client.HTTPConnection(address.hostname, address.port, timeout=60)
+    with contextlib.closing(connection):
+        data = None if body is None else json.dumps(body).encode()
+        connection.request(method or ("GET" if body is None else "POST"), path, data, dict(headers))
+        answer = connection.getresponse()
+        text = answer.read()
+        return answer.status, answer.headers, json.loads(text) if text else None
+
+
+def places_that_are_too_far():
+    """In a table they are null, with their index and what a person is told; in a route they are refused as A and B."""
+    with service() as address, chtab.Network.open(f"{COUNTRY}.gr", program=PROGRAM) as network:
+        spots = network.snap(*zip(VADUZ, ESCHEN))
+        weights = network.trip_table(spots, spots).tolist()
+        status, _, found = ask(address, "/api/table", {"sources": [SEA, VADUZ, ESCHEN], "targets": [VADUZ, SEA, ESCHEN]})
+        rows = [None, *([row[0], None, row[1]] for row in weights)]
+        assert status == 200 and found["weights"] == rows, found
+        metres = network.roads.find_any(*map(lambda part: [part], SEA)).metres[0]
+        told = [(each["list"], each["index"], each["metres"], each["error"]) for each in found["faults"]]
+        line = f"is {metres / 1000:.0f} km from the nearest road"
+        assert told == [("sources", 0, round(metres, 1), f"sources[0] {line}"), ("targets", 1, round(metres, 1), f"targets[1] {line}")], told
+        assert "faults" not in ask(address, "/api/table", {"sources": [VADUZ], "targets": [VADUZ]})[2]
+        status, _, found = ask(address, "/api/table", {"sources": [SEA, SEA], "targets": [VADUZ]})
+        assert (status, found["weights"], len(found["faults"])) == (200, [None, None], 2), found
+        status, _, found = ask(address, "/api/table", {"sources": [VADUZ], "targets": [SEA]})
+        assert (status, found["weights"]) == (200, [[None]]), found
+        for body, told in (
+            ({"from": SEA, "to": VADUZ}, f"A {line}"), ({"from": VADUZ, "to": SEA}, f"B {line}"), ({"from": SEA, "to": SEA}, f"A {line}; B {line}"),
+        ):
+            status, _, found = ask(address, "/api/route", body)
+            assert (status, found) == (400, {"error": told}), found
+        status, _, found = ask(address, "/api/reach", {"from": SEA, "limits": [1]})
+        assert (status, found) == (400, {"error": f"A {line}"}), found
+    for metres, text in (640.4, "640 m"), (999.6, "1 km"), (18_612, "18.6 km"), (99_960, "100 km"), (5_467_400, "5,467 km"), (0, "0 m"):
+        assert places.length_text(metres) == text, (metres, places.length_text(metres))
+
+
+def health_is_told_at_once():
+    """Also while requests wait; where no more are taken the status is 503."""
+    with mood("slow=1.5"), service("--waiting", 2, program=STANDIN) as address, concurrent.futures.ThreadPoolExecutor(2) as clients:
+        assert ask(address, "/health")[::2] == (200, {"status": "ready", "waiting": 0})
+        body = {"from": VADUZ, "to": ESCHEN}
+        waiting = [clients.submit(ask, address, "/api/route", body) for _ in range(2)]
+        time.sleep(0.7)
+        begun = time.monotonic()
+        assert ask(address, "/health")[::2] == (503, {"status": "busy", "waiting": 2}) and time.monotonic() - begun < 1
+        assert [each.result()[0] for each in waiting] == [200, 200]
+        assert ask(address, "/health")[::2] == (200, {"status": "ready", "waiting": 0})
+
+
+def pages_of_other_sites_may_ask():
+    """Only those that were named, or all; without the option none."""
+    body, name = {"from": VADUZ, "to": ESCHEN}, "Access-Control-Allow-Origin"
+
+    def allowed(address, origin, path="/api/route", body=body):
+        return ask(address, path, body, headers={"Origin": origin})[1][name]
+
+    with service("--cors", "https://a.example", "--cors", "https://b.example") as address:
+        for origin, wanted in ("https://a.example", "https://a.example"), ("https://b.example", "https://b.example"), ("https://c.example", None):
+            assert allowed(address, origin) == allowed(address, origin, "/health", None) == allowed(address, origin, "/api/route", {}) == wanted
+            status, headers, _ = ask(address, "/api/route", method="OPTIONS", headers={"Origin": origin, "Access-Control-Request-Method": "POST"})
+            assert (status, headers[name], headers["Vary"]) == (204, wanted, "Origin"), headers.items()
+            assert headers["Access-Control-Allow-Headers"] == "Content-Type" and "POST" in headers["Access-Control-Allow-Methods"]
+        assert ask(address, "/nothing", headers={"Origin": "https://a.example"})[0] == 404
+        connection = http.client.HTTPConnection(address.hostname, address.port, timeout=60)
+        connection.request("GET", "/", headers={"Origin": "https://a.example"})
+        assert connection.getresponse().headers[name] is None
+        connection.close()
+    with service("--cors", "*") as address:
+        assert allowed(address, "https://c.example") == "*"
+    with service() as address:
+        assert allowed(address, "https://a.example") is None and ask(address, "/api/route", method="OPTIONS")[0] == 405
+
+
+def closes_in(client, seconds):
+    """Whether the service closes a connection in so many seconds, and what it sent before."""
+    client.settimeout(seconds)
+    found = b""
+    try:
+        while part := client.recv(1 << 16):
+            found += part
+        return True, found
+    except ConnectionError:
+        return True, found
+    except TimeoutError:
+        return False, found
+
+
+def clients_that_do_nothing_are_dropped():
+    """One that sends nothing, half a head, a head a byte at a time, half a body, or a request and then nothing. One that waits for its
+    answer is not."""
+    body = json.dumps({"from": VADUZ, "to": ESCHEN}).encode()
+    head = b"POST /api/route HTTP/1.1\r\nHost: x\r\nContent-Length: %d\r\n\r\n" % len(body)
+    with mood("slow=1.5"), service("--idle", 1, "--sending", 1, program=STANDIN) as address:
+        def client(sent):
+            connection = socket.create_connection((address.hostname, address.port))
+            connection.sendall(sent)
+            return connection
+
+        begun = time.monotonic()
+        with client(b"") as silent, client(head[:20]) as half, client(head) as without_body, client(head + body) as patient:
+            assert closes_in(silent, 6) == (True, b"") and closes_in(half, 6) == (True, b"")
+            assert time.monotonic() - begun > 0.9
+            is_closed, found = closes_in(without_body, 6)
+            assert is_closed and found.startswith(b"HTTP/1.1 408 ") and b"took too long to come" in found, found
+            is_closed, found = closes_in(patient, 20)
+            assert is_closed and found.startswith(b"HTTP/1.1 200 ") and b"LineString" in found, found[:200]
+        with client(b"") as slow:
+            count = 0
+            with contextlib.suppress(ConnectionError):
+                for byte in head:
+                    slow.sendall(bytes([byte]))
+                    time.sleep(0.25)
+                    count += 1
+            assert count < 20, count
+
+
+def ports_that_are_none():
+    """A fault of the command line is a line, and no traceback."""
+    for word in "99999", "-1", "x", "65536":
+        line = [PYTHON, ROOT / "tools" / "page.py", "--program", PROGRAM, "--port", word, COUNTRY]
+        done = subprocess.run(list(map(str, line)), capture_output=True, text=True)
+        assert done.returncode == 2 and f"{word!r} is no port from 0 to 65535" in done.stderr and "Traceback" not in done.stderr, done
+    told = command("page", "--program", PROGRAM, "--host", "none.invalid", COUNTRY, status=1)
+    assert told.count("\n") == 1 and "Traceback" not in told, told
+
+
+def many_clients_get_their_own_answers():
+    """Fifty clients at once, each of whose answers is compared; a kept connection serves many requests."""
+    draw = random.Random("clients")
+    with chtab.Network.open(f"{COUNTRY}.gr", program=PROGRAM) as network:
+        known = network.coordinates.known()
+        ends = [network.coordinates.of(draw.choice(known)) for _ in range(30)]
+        spots = network.snap(*zip(*ends))
+        wanted = network.trip_table(spots, spots).tolist()
+    with service() as address:
+        def work(seed):
+            draw, wrong = random.Random(seed), 0
+            connection = http.client.HTTPConnection(address.hostname, address.port, timeout=60)
+            with contextlib.closing(connection):
+                for _ in range(20):
+                    k, l = draw.randrange(30), draw.randrange(30)
+                    connection.request("POST", "/api/route", json.dumps({"from": ends[k], "to": ends[l]}))
+                    found = json.loads(connection.getresponse().read())
+                    wrong += found["properties"]["weight"] != (wanted[k][l] if wanted[k][l] >= 0 else None)
+            return wrong
+
+        with concurrent.futures.ThreadPoolExecutor(50) as clients:
+            assert sum(clients.map(work, range(50))) == 0
+
+
+SERVICE = "python3-aiohttp", "python3-numpy", "python3-scipy", "python3-shapely", "libjs-leaflet"
+GROUPS = (
+    (SERVICE, [
+        places_that_are_too_far, health_is_told_at_once, pages_of_other_sites_may_ask, clients_that_do_nothing_are_dropped, ports_that_are_none,
+        many_clients_get_their_own_answers,
+    ]),
+)
+
+if __name__ == "__main__":
+    running.build()
+    run_checks(GROUPS)

@@ -1,0 +1,329 @@
+#!/usr/bin/python3
+"""Tests that a network may be shared: by threads, by processes of each way to start them, and by pickle; that what breaks a question off
+leaves no answer for the next one; and that a network which is no longer used leaves no run behind.
+
+Each answer is compared with scipy's own search. What needs a package that is missing is told and left out. The last line is
+'N passed, N failed'.
+"""
+import concurrent.futures
+import contextlib
+import ctypes
+import gc
+import multiprocessing
+import os
+import pathlib
+import pickle
+import random
+import signal
+import subprocess
+import sys
+import threading
+import time
+import traceback
+
+# First of all, since it puts the package on the path.
+from helpers.maps import COUNTRY
+
+from helpers import running
+from helpers.commands import raises
+from helpers.moods import STANDIN, asked, lives_on, living, mood
+from helpers.packages import PYTHON, run_checks
+from helpers.running import PROGRAM, ROOT
+import chtab
+from chtab import files
+
+FIRST = ROOT / "examples" / "first.gr"
+GRAPH = f"{COUNTRY}.gr"
+# Tables of each way to share, in parts of so many; the seconds after which a way has hung.
+TABLES, PART = 1_000, 50
+PATIENCE = 120
+WAYS = "fork", "spawn", "forkserver"
+# The network that forked processes find, and its nodes with the distances between them.
+NETWORK = None
+KNOWN = None
+
+
+def known():
+    """Forty nodes, and the distances between them by scipy."""
+    global KNOWN
+    if KNOWN is None:
+        import numpy
+        from scipy.sparse import csr_matrix
+        from scipy.sparse.csgraph import dijkstra
+
+        graph = files.read_graph(GRAPH)
+        least = {}
+        for tail, head, weight in sorted(zip(*graph[1:4]), reverse=True):
+            least[tail - 1, head - 1] = weight
+        matrix = csr_matrix((list(map(float, least.values())), tuple(zip(*least))), shape=(graph.nodes, graph.nodes))
+        nodes = numpy.random.default_rng(7).choice(graph.nodes, 40, replace=False) + 1
+        KNOWN = nodes, dijkstra(matrix, indices=nodes - 1)[:, nodes - 1].astype(numpy.int64)
+    return KNOWN
+
+
+def wrong_tables(network, seed, count=PART):
+    """How many of so many tables, distances and routes are wrong."""
+    draw, (nodes, wanted), wrong = random.Random(seed), known(), 0
+    for _ in range(count):
+        rows, columns = ([draw.randrange(40) for _ in range(draw.randint(1, most))] for most in (3, 6))
+        wrong += (network.table(nodes[rows], nodes[columns]) != wanted[rows][:, columns]).any()
+    [row], [column] = ([draw.randrange(40)] for _ in range(2))
+    wrong += network.distances([(nodes[row], nodes[column])])[0] != wanted[row, column]
+    wrong += network.routes([(nodes[row], nodes[column])])[0].weight != wanted[row, column]
+    return int(wrong)
+
+
+def wrong_tables_here(seed):
+    """The same by the network that this process was forked with."""
+    return wrong_tables(NETWORK, seed)
+
+
+def network_of_country(**more):
+    global NETWORK
+    known()
+    NETWORK = chtab.Network.open(GRAPH, program=PROGRAM, **more)
+    return NETWORK
+
+
+def seeds():
+    return range(TABLES // PART)
+
+
+def same_by_pool(call, words, context):
+    """All tables by a pool of processes, while threads of this one ask too."""
+    with context.Pool(2) as pool, concurrent.futures.ThreadPoolExecutor(2) as threads:
+        here = [threads.submit(wrong_tables, NETWORK, seed) for seed in (101, 102)]
+        found = pool.starmap_async(call, words).get(PATIENCE)
+        assert sum(found) == 0 and sum(each.result() for each in here) == 0, found
+
+
+def forked_pools_ask_the_network_of_their_parent():
+    """The network was asked before the pool was made, so its run is there when processes are forked."""
+    with network_of_country() as network:
+        assert wrong_tables(network, 0) == 0
+        same_by_pool(wrong_tables_here, [(seed,) for seed in seeds()], multiprocessing.get_context("fork"))
+        assert wrong_tables(network, 1) == 0
+
+
+def pools_of_each_way_unpickle_it():
+    with network_of_country() as network:
+        for way in WAYS:
+            same_by_pool(wrong_tables, [(network, seed) for seed in seeds()], multiprocessing.get_context(way))
+
+
+def both_executors():
+    with network_of_country() as network:
+        with concurrent.futures.ThreadPoolExecutor(8) as pool:
+            assert sum(pool.map(wrong_tables, [network] * len(seeds()), seeds(), timeout=PATIENCE)) == 0
+        for way in WAYS:
+            with concurrent.futures.ProcessPoolExecutor(2, multiprocessing.get_context(way)) as pool:
+                assert sum(pool.map(wrong_tables, [network] * len(seeds()), seeds(), timeout=PATIENCE)) == 0, way
+
+
+def forked(work):
+    """Whether a process that is forked here does some work well, in time."""
+    child = os.fork()
+    if not child:
+        try:
+            os._exit(0 if work() else 1)
+        except BaseException:
+            traceback.print_exc()
+            os._exit(2)
+    until = time.monotonic() + PATIENCE
+    while (ended := os.waitpid(child, os.WNOHANG)) == (0, 0):
+        if time.monotonic() > until:
+            os.kill(child, signal.SIGKILL)
+            os.waitpid(child, 0)
+            return False
+        time.sleep(0.01)
+    return ended[1] == 0
+
+
+def processes_are_forked_while_threads_ask():
+    """A process is forked at any time, also one of a process that was forked; a run of the parent is neither asked nor ended there."""
+    with network_of_country() as network, concurrent.futures.ThreadPoolExecutor(4) as threads:
+        asking = [threads.submit(wrong_tables, network, seed, 250) for seed in range(4)]
+        for seed in range(6):
+            assert forked(lambda: wrong_tables(network, seed) == 0 and forked(lambda: wrong_tables(network, seed) == 0))
+        assert [each.result() for each in asking] == [0] * 4
+
+
+def a_fork_holds_no_lock_and_no_pipe():
+    """A process is forked while a thread waits for an answer: it asks at once, has none of its parent's pipes, and ends none of its runs."""
+    with mood("slow=1"), chtab.Network.open(FIRST, program=STANDIN) as network:
+        held = {os.readlink(f"/proc/self/fd/{stream.fileno()}") for run in network._engine.runs.values() for stream in pipes_of(run)}
+
+        def is_free():
+            links = {os.readlink(f"/proc/self/fd/{name}") for name in os.listdir("/proc/self/fd") if os.path.exists(f"/proc/self/fd/{name}")}
+            return not links & held and network.table([1], [3]).tolist() == [[9]]
+
+        with concurrent.futures.ThreadPoolExecutor(1) as threads:
+            found = threads.submit(network.table, [1], [2])
+            time.sleep(0.3)
+            begun = time.monotonic()
+            assert len(held) == 2 and forked(is_free) and time.monotonic() - begun < 10
+            assert found.result().tolist() == [[4]]
+        assert network.table([1], [2, 3]).tolist() == [[4, 9]] and asked() == ["", ""], asked()
+
+
+def pipes_of(run):
+    return run.child.requests, run.child.answered
+
+
+def a_forked_process_ends_as_any_other():
+    """What runs at the end of the interpreter leaves the parent's run alone."""
+    text = "import os, sys; sys.path.insert(0, sys.argv[1]); import chtab\n"
+    text += "network = chtab.Network.open(sys.argv[2], program=sys.argv[3])\n"
+    text += "child = os.fork()\nif not child:\n    sys.exit(0)\n"
+    text += "os.waitpid(child, 0); print(network.table([1], [3]).tolist())\n"
+    with mood():
+        done = subprocess.run([PYTHON, "-c", text, ROOT / "python", FIRST, STANDIN], capture_output=True, text=True, timeout=PATIENCE)
+        assert (done.stdout, done.stderr) == ("[[9]]\n", "") and asked() == [""], (done, asked())
+
+
+def tasks_of_a_process_share_a_run():
+    """A pool that pickles the network with each task begins one run a process."""
+    with mood(), chtab.Network.open(FIRST, program=STANDIN, load=False) as network:
+        with multiprocessing.get_context("spawn").Pool(1) as pool:
+            found = pool.map_async(network.distances, [[(1, 3)], [(3, 1)], [(1, 2)], [(2, 3)]], 1).get(PATIENCE)
+        assert [each.tolist() for each in found] == [[9], [-1], [4], [5]] and asked() == [""], (found, asked())
+
+
+def interrupted(network, send):
+    """Asks again and again while something breaks questions off: how many were, and how many answered. No answer is wrong."""
+    draw, (nodes, wanted), broken, answered = random.Random("broken off"), known(), 0, 0
+    until = time.monotonic() + 8
+    while time.monotonic() < until:
+        # Half of the times while a run begins, and half while it answers.
+        late = draw.choice([0.002, 0.2])
+        try:
+            send(draw.uniform(0, late))
+            for _ in range(10_000):
+                row, column = draw.randrange(40), draw.randrange(40)
+                assert network.table(nodes[row], nodes[column])[0, 0] == wanted[row, column]
+                answered += 1
+                # What was sent may have come where Python passes it over, as in a destructor.
+                if time.monotonic() > until:
+                    break
+            time.sleep(late)
+        except (KeyboardInterrupt, Stopped):
+            broken += 1
+    return broken, answered
+
+
+class Stopped(BaseException):
+    """A thread is ended from outside."""
+
+
+def what_is_broken_off_leaves_no_answer():
+    """Ctrl-C at any time, and threads that are ended from outside: the next question gets its own answer, and none hangs."""
+    def alarm(number, frame):
+        raise KeyboardInterrupt
+
+    def end_thread(seconds):
+        threading.Timer(seconds, ctypes.pythonapi.PyThreadState_SetAsyncExc, (ctypes.c_ulong(threading.get_ident()), ctypes.py_object(Stopped))).start()
+
+    with network_of_country() as network:
+        held, before = descriptors(), signal.signal(signal.SIGALRM, alarm)
+        try:
+            found = interrupted(network, lambda seconds: signal.setitimer(signal.ITIMER_REAL, max(seconds, 1e-5), 1))
+        finally:
+            signal.setitimer(signal.ITIMER_REAL, 0)
+            signal.signal(signal.SIGALRM, before)
+        assert min(found) > 20, found
+        with concurrent.futures.ThreadPoolExecutor(1) as threads:
+            found = threads.submit(interrupted, network, end_thread).result(PATIENCE)
+        assert min(found) > 20, found
+        time.sleep(0.5)
+        assert wrong_tables(network, 5) == 0
+        gc.collect()
+        # Descriptors may be lost where a pipe was just made; runs are not.
+        assert descriptors() <= held + 60 and children() <= 1, (descriptors(), held, children())
+
+
+def children():
+    """How many runs of the program live that this process began."""
+    count = 0
+    for path in pathlib.Path("/proc").glob("[0-9]*/stat"):
+        with contextlib.suppress(OSError):
+            name, _, rest = path.read_text().partition("(")[2].rpartition(")")
+            state, parent = rest.split()[:2]
+            count += (name, int(parent)) == ("chtab", os.getpid()) and state != "Z"
+    return count
+
+
+def another_answer_is_found_out():
+    """A run that answers a table of other targets first: its number is not returned, and the run is ended."""
+    with mood("doubles=1"), chtab.Network.open(FIRST, program=STANDIN) as network:
+        raises(chtab.ProgramFault, network.table, [1], [3], told="not asked")
+        assert lives_on(0)
+        raises(chtab.ProgramFault, network.distances, [(1, 3)], told="not asked")
+        raises(chtab.ProgramFault, network.routes, [(1, 3)], told="not asked")
+
+
+def errors_and_answers_are_pickled():
+    for fault in (
+        chtab.ChtabError("a"), chtab.FileFault("b"), chtab.ProgramFault("c", -11), chtab.TimedOut("d"), chtab.TooFar("e", {3: 1500.0}),
+    ):
+        again = pickle.loads(pickle.dumps(fault))
+        assert (type(again), str(again), vars(again)) == (type(fault), str(fault), vars(fault)), again
+    with chtab.Network.open(FIRST, program=PROGRAM) as network:
+        routes = pickle.loads(pickle.dumps(network.routes([(1, 3)])))
+        assert routes[0].nodes == [1, 2, 3]
+
+
+def faults_come_back_from_a_pool():
+    """A fault of the program in a process of a pool is the caller's fault, and hangs nothing."""
+    with mood("stops=1"), chtab.Network.open(FIRST, program=STANDIN, load=False) as network:
+        with multiprocessing.get_context("fork").Pool(1) as pool:
+            fault = raises(chtab.ProgramFault, lambda: pool.apply_async(network.table, ([1], [2])).get(PATIENCE), told="out of memory")
+            assert fault.status == 3
+
+
+def descriptors():
+    return len(os.listdir("/proc/self/fd"))
+
+
+def what_is_dropped_is_ended():
+    """Twenty networks are opened and dropped: no run is left and no descriptor, also of those that gave routes that are kept."""
+    with mood():
+        gc.collect()
+        before, kept = descriptors(), []
+        for _ in range(20):
+            network = chtab.Network.open(FIRST, program=STANDIN)
+            kept.append(network.routes([(1, 3)]))
+            del network
+            assert lives_on(0), living()
+        assert descriptors() == before and len(asked()) == 40
+        network = chtab.Network.open(FIRST, program=STANDIN)
+        assert lives_on(2)
+        network = None
+        assert lives_on(0)
+
+
+def the_end_of_the_interpreter_ends_all():
+    """A script that closes nothing, one that fails, and one that a signal ends leave no run behind."""
+    text = "import os, sys; sys.path.insert(0, sys.argv[1]); import chtab\n"
+    text += "network = chtab.Network.open(sys.argv[2], program=sys.argv[3])\nprint(network.table([1], [3])[0, 0])\n"
+    for end, status in ("", 0), ("raise SystemExit(3)", 3), ("1 / 0", 1), ("os.kill(os.getpid(), 9)", -9):
+        with mood():
+            done = subprocess.run([PYTHON, "-uc", text + end, ROOT / "python", FIRST, STANDIN], capture_output=True, text=True, timeout=PATIENCE)
+            assert (done.returncode, done.stdout) == (status, "9\n"), done
+            assert lives_on(0), (end, living())
+
+
+GROUPS = (
+    (
+        ("python3-numpy", "python3-scipy"),
+        [
+            forked_pools_ask_the_network_of_their_parent, pools_of_each_way_unpickle_it, both_executors, processes_are_forked_while_threads_ask,
+            a_fork_holds_no_lock_and_no_pipe, a_forked_process_ends_as_any_other, tasks_of_a_process_share_a_run,
+            what_is_broken_off_leaves_no_answer, another_answer_is_found_out, errors_and_answers_are_pickled, faults_come_back_from_a_pool,
+            what_is_dropped_is_ended, the_end_of_the_interpreter_ends_all,
+        ],
+    ),
+)
+
+if __name__ == "__main__":
+    running.build()
+    run_checks(GROUPS)
