@@ -158,11 +158,12 @@ def refuse_threads(refusing, tally, name, words, wanted, asked):
 
 
 def count_threads(refusing, tally):
-    """One worker needs no thread, and each further one needs one, where there are as many pieces of one query."""
+    """One worker needs no thread, and each further one needs one where there are as many pieces: here 64 of one query, and before them
+    three of one node, when the saved hierarchy is checked."""
     (refusing.folder / "many.p2p").write_text("p aux sp p2p 64\n" + 64 * "q 1 3\n")
     words = ["dist", "--saved", "line.ch", "--piece", "1", "line.gr", "many.p2p"]
-    first, *others = (refusing.run([*words, "--workers", str(workers)])[1].threads for workers in (1, 2, 7, 64))
-    tally.expect(first == 0 and [threads - others[0] for threads in others] == [0, 5, 62], f"threads of 1, 2, 7 and 64 workers: {first}, {others}")
+    found = [refusing.run([*words, "--workers", str(workers)])[1].threads for workers in (1, 2, 7, 64)]
+    tally.expect(found == [0, 1 + 1, 6 + 2, 63 + 2], f"threads of 1, 2, 7 and 64 workers: {found}")
 
 
 def fail_help(refusing, tally):
