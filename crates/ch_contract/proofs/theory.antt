@@ -18,6 +18,9 @@ pub mod OneRounds
 pub mod RoundSteps
 pub mod RoundFirst
 pub mod RoundsMade
+pub mod Listing
+pub mod ShortcutsListed
+pub mod RoundsExist
 pub mod KeptCosts
 pub mod BuiltLegs
 pub mod BuiltKept

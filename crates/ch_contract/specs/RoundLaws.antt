@@ -14,3 +14,7 @@ RoundsAreContractions = (n h : ℕ) (L : Legs) (nodes : List ℕ) (M : Legs) →
 -- a hierarchy by rounds is right for its graph, whatever the bound on hops
 abbrev pub HierarchiesByRoundsAreKept : Type 0
 HierarchiesByRoundsAreKept = (g : Network) (h : ℕ) (H : LevelsAndLegs) → IsWithinLimits g → IsHopBound h → IsHierarchyByRounds g h H → IsKept g H
+
+-- each graph has a hierarchy by rounds
+abbrev pub GraphsHaveHierarchiesByRounds : Type 0
+GraphsHaveHierarchiesByRounds = (g : Network) (h : ℕ) → IsWithinLimits g → IsHopBound h → (H : LevelsAndLegs) × IsHierarchyByRounds g h H

@@ -90,7 +90,7 @@ gone_steps n m order L step j (suc k) lt le =
     ]
 
 -- legs turned round keep the limits
-turned_within : (n : ℕ) (L : Legs) → AreLegsWithin n L → AreLegsWithin n (turned_legs L)
+pub turned_within : (n : ℕ) (L : Legs) → AreLegsWithin n L → AreLegsWithin n (turned_legs L)
 turned_within n L within u w l e =
     let is = within w u l e in
     record { ends = (is.ends.1, is.ends.0, λ same. is.ends.2 (sym same)); weight = is.weight; arcs = is.arcs; middle = is.middle }

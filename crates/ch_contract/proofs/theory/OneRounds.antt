@@ -22,7 +22,7 @@ use Rattle.ch_contract.specs.RoundOrder.{round_at, nodes_before, depth_before, i
 use Rattle.ch_contract.specs.OneOrder.{RoundsNameOneHierarchy}
 use Rattle.ch_contract.proofs.theory.RowLegs.{one_row}
 use Rattle.ch_contract.proofs.theory.OneOrder.{one_map, taken_at, same_rows}
-use Rattle.ch_contract.proofs.theory.RoundNodes.{before_next, before_all, in_round, left, nodes_once}
+use Rattle.ch_contract.proofs.theory.RoundNodes.{begun_of, before_next, before_all, in_round, left, nodes_once}
 
 -- the shortcuts of a node in a round are one list
 one_round_list : (n h : ℕ) (L W : Legs) (v : ℕ) (xs ys : List Shortcut) → AreShortcutsAmong n h L W v xs → AreShortcutsAmong n h L W v ys → xs ≡ ys
@@ -164,7 +164,7 @@ module _ {g : Network} {h : ℕ} {rounds : List (List ℕ)} {L : ℕ → Legs} {
         let r : ℕ = length rounds in
         let a = agree r (omega arith) (omega arith) in
         let x : ℕ = slice_index (round_at other r) 0 in
-        let was = left q r x lt (Contains-get_or (round_at other r) 0 0 (q.some r lt)) in
+        let was = left (begun_of q) r x lt (Contains-get_or (round_at other r) 0 0 (q.some r lt)) in
         absurd (was.1 (subst (λ l. Contains l x) (sym (before_all rounds) ∙ before_along g.nodes h r rounds L other M a r (omega arith)) (p.all x was.0)))
     | inr le ↦ le
   ]

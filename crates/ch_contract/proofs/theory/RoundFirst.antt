@@ -11,11 +11,11 @@ use Rattle.ch_contract.specs.Legs.{Legs}
 use Rattle.ch_contract.specs.Rounds.{mixed_number, ComesBefore, IsWithinTwoLegs, IsRound}
 
 -- the order by a key and then by two numbers
-abbrev IsBeforeBy : ℤ → ℕ → ℕ → ℤ → ℕ → ℕ → Type 0
+abbrev pub IsBeforeBy : ℤ → ℕ → ℕ → ℤ → ℕ → ℕ → Type 0
 IsBeforeBy p a v q b x = (p ≤ℤ q) × (q ≤ℤ p → (a ≤ b) × (b ≤ a → v ≤ x))
 
 -- of two one comes first
-before_total : (p q : ℤ) (a v b x : ℕ) → IsBeforeBy p a v q b x ⊎ IsBeforeBy q b x p a v
+pub before_total : (p q : ℤ) (a v b x : ℕ) → IsBeforeBy p a v q b x ⊎ IsBeforeBy q b x p a v
 before_total p q a v b x = at (int_cmp p q) (int_ranks p q)
   where
     at : (o : Ordering) → MatchOrdering o (p <ℤ q) (p ≡ q) (q <ℤ p) → IsBeforeBy p a v q b x ⊎ IsBeforeBy q b x p a v

@@ -31,6 +31,11 @@ in_round (nodes ∷ rounds) x c = elim (Contains-append_cases nodes (concat roun
   | inr later ↦ let at = in_round rounds x later in (suc at.0, omega (arith, at.1), at.2)
 ]
 
+-- all nodes, and those of one more round
+pub concat_push : (rounds : List (List ℕ)) (nodes : List ℕ) → concat (rounds ++ nodes ∷ []) ≡ concat rounds ++ nodes
+concat_push [] nodes = append-nil nodes
+concat_push (x ∷ rounds) nodes = ap (λ l. x ++ l) (concat_push rounds nodes) ∙ sym (append_assoc x (concat rounds) nodes)
+
 -- a node of one of the first rounds is one of their nodes
 pub round_before : (rounds : List (List ℕ)) (r k v : ℕ) → r < k → Contains (round_at rounds r) v → Contains (nodes_before rounds k) v
 round_before rounds r zero v lt c = absurd (omega arith)
@@ -54,13 +59,13 @@ begun_all g h rounds L b all = record { start = b.start; some = b.some; round = 
 pub begun_of : {g : Network} {h : ℕ} {rounds : List (List ℕ)} {L : ℕ → Legs} → AreRounds g h rounds L → AreBegun g h rounds L
 begun_of are = record { start = are.start; some = are.some; round = are.round; legs = are.legs }
 
-module _ {g : Network} {h : ℕ} {rounds : List (List ℕ)} {L : ℕ → Legs} (are : AreRounds g h rounds L) where
+module _ {g : Network} {h : ℕ} {rounds : List (List ℕ)} {L : ℕ → Legs} (are : AreBegun g h rounds L) where
   -- what is in a round was left before it
   pub left : (r x : ℕ) → r < length rounds → Contains (round_at rounds r) x → IsLeftAfter g.nodes rounds r x
   left r x lt c = ((are.round r lt).sound x c).0
 
   -- the nodes of the first rounds are below n
-  below : (r : ℕ) → r ≤ length rounds → (x : ℕ) → Contains (nodes_before rounds r) x → x < g.nodes
+  pub below : (r : ℕ) → r ≤ length rounds → (x : ℕ) → Contains (nodes_before rounds r) x → x < g.nodes
   below zero le x c = absurd (contains_none x c)
   below (suc r) le x c = elim (Contains-append_cases (nodes_before rounds r) (round_at rounds r) x (subst (λ l. Contains l x) (before_next rounds r) c)) [
     | inl early ↦ below r (omega arith) x early
@@ -68,7 +73,7 @@ module _ {g : Network} {h : ℕ} {rounds : List (List ℕ)} {L : ℕ → Legs} (
   ]
 
   -- and different
-  different : (r : ℕ) → r ≤ length rounds → AllPairs ◌≢◌ (nodes_before rounds r)
+  pub different : (r : ℕ) → r ≤ length rounds → AllPairs ◌≢◌ (nodes_before rounds r)
   different zero le = λ i j d lt inside. absurd (omega arith)
   different (suc r) le =
       let round = are.round r (omega arith) in
@@ -76,11 +81,17 @@ module _ {g : Network} {h : ℕ} {rounds : List (List ℕ)} {L : ℕ → Legs} (
       (pairs_append ◌≢◌ (nodes_before rounds r) (round_at rounds r) (different r (omega arith)) (λ i j d lt inside e. let before = round.ordered i j d lt inside in omega arith)
       (λ x y early now same. (left r y (omega arith) now).1 (subst (Contains (nodes_before rounds r)) same early)))
 
-  -- each node is there once
-  pub nodes_once : (length (concat rounds) ≡ g.nodes) × All (λ v. v < g.nodes) (concat rounds) × AllPairs ◌≢◌ (concat rounds)
-  nodes_once =
-      let low : (x : ℕ) → Contains (concat rounds) x → x < g.nodes = λ x c. below (length rounds) (omega arith) x (subst (λ l. Contains l x) (sym (before_all rounds)) c) in
-      let distinct = subst (AllPairs ◌≢◌) (before_all rounds) (different (length rounds) (omega arith)) in
-      let most = distinct_most (concat rounds) g.nodes distinct low in
-      let least = whole_least (concat rounds) g.nodes are.all in
-      (omega arith, λ k d lt. low (slice_index_or (concat rounds) k d) (Contains-get_or (concat rounds) k d lt), distinct)
+-- the nodes of all rounds are below n, and different
+pub nodes_apart : {g : Network} {h : ℕ} {rounds : List (List ℕ)} {L : ℕ → Legs} → AreBegun g h rounds L → ((x : ℕ) → Contains (concat rounds) x → x < g.nodes) × AllPairs ◌≢◌ (concat rounds)
+nodes_apart {rounds = rounds} are = (
+  λ x c. below are (length rounds) (omega arith) x (subst (λ l. Contains l x) (sym (before_all rounds)) c),
+  subst (AllPairs ◌≢◌) (before_all rounds) (different are (length rounds) (omega arith)),
+)
+
+-- where all nodes are contracted, each is there once
+pub nodes_once : {g : Network} {h : ℕ} {rounds : List (List ℕ)} {L : ℕ → Legs} → AreRounds g h rounds L → (length (concat rounds) ≡ g.nodes) × All (λ v. v < g.nodes) (concat rounds) × AllPairs ◌≢◌ (concat rounds)
+nodes_once {g = g} {rounds = rounds} are =
+    let apart = nodes_apart (begun_of are) in
+    let most = distinct_most (concat rounds) g.nodes apart.1 apart.0 in
+    let least = whole_least (concat rounds) g.nodes are.all in
+    (omega arith, λ k d lt. apart.0 (slice_index_or (concat rounds) k d) (Contains-get_or (concat rounds) k d lt), apart.1)

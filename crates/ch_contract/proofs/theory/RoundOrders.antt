@@ -48,7 +48,7 @@ pub one_key : (n h : ℕ) (rounds : List (List ℕ)) (L : ℕ → Legs) (r x : �
 one_key n h rounds L r x p q a b = a.2 ∙ ap (λ c. key_by Depth c (count_touching n (L r) x) (depth_before rounds L r x)) (one_count n h rounds L r x a.0 b.0 a.1 b.1) ∙ sym b.2
 
 -- of two numbers that come before each other, in an order by three
-both_before : (p q : ℤ) (a b v x : ℕ) → (p ≤ℤ q) × (q ≤ℤ p → (a ≤ b) × (b ≤ a → v ≤ x)) → (q ≤ℤ p) × (p ≤ℤ q → (b ≤ a) × (a ≤ b → x ≤ v)) → v ≡ x
+pub both_before : (p q : ℤ) (a b v x : ℕ) → (p ≤ℤ q) × (q ≤ℤ p → (a ≤ b) × (b ≤ a → v ≤ x)) → (q ≤ℤ p) × (p ≤ℤ q → (b ≤ a) × (a ≤ b → x ≤ v)) → v ≡ x
 both_before p q a b v x h k =
     let f = h.1 k.0 in
     let g = k.1 h.0 in

@@ -21,7 +21,7 @@ use Rattle.ch_contract.specs.RoundProgress.{RoundProgress, IsKeyNow, is_due, IsR
 use Rattle.ch_contract.proofs.theory.OneOrder.{one_map}
 use Rattle.ch_contract.proofs.theory.RowSteps.{AreLevels}
 use Rattle.ch_contract.proofs.theory.OrderSteps.{then_legs}
-use Rattle.ch_contract.proofs.theory.RoundNodes.{AreBegun, begun_all, before_all, round_before, left, nodes_once}
+use Rattle.ch_contract.proofs.theory.RoundNodes.{AreBegun, begun_all, before_all, concat_push, round_before, left, nodes_once}
 use Rattle.ch_contract.proofs.theory.RoundOrders.{one_key, within_rounds, gone_rounds}
 use Rattle.ch_contract.proofs.theory.RoundSteps.{more, legs_more, here, agree, now, next, before, depth_more, before_more, counted_next, count_anew, count_kept, begun_none, begun_more}
 use Rattle.ch_contract.proofs.theory.RoundFirst.{round_some}
@@ -124,7 +124,7 @@ module _ {g : Network} {h : ℕ} {rounds : List (List ℕ)} {L : ℕ → Legs} {
 
   -- all their nodes
   nodes_more : concat (rounds ++ nodes ∷ []) ≡ concat rounds ++ nodes
-  nodes_more = sym (before_all (rounds ++ nodes ∷ [])) ∙ ap (nodes_before (rounds ++ nodes ∷ [])) size_more ∙ before_more rounds L nodes q.legs
+  nodes_more = concat_push rounds nodes
 
   -- a node of an earlier round is none of this one
   not_now : (v : ℕ) → Contains (nodes_before rounds (length rounds)) v → Contains nodes v → ⊥
@@ -244,7 +244,7 @@ rounds_at_end g h rounds L p H u e =
       record {
         sizes = (ap length e.level ∙ u.size, e.sizes.0, e.sizes.1);
         level = λ i lt. ap (λ l. slice_index l (slice_index (concat rounds) i)) e.level ∙ u.levels i (omega arith);
-        up = λ r v lt c. subst (AreLegsFrom (L r) v) (sym (e.rows v (left are r v lt c).0).0) (u.up r v lt c);
-        down = λ r v lt c. subst (AreLegsTo (L r) v) (sym (e.rows v (left are r v lt c).0).1) (u.down r v lt c);
+        up = λ r v lt c. subst (AreLegsFrom (L r) v) (sym (e.rows v (left u.begun r v lt c).0).0) (u.up r v lt c);
+        down = λ r v lt c. subst (AreLegsTo (L r) v) (sym (e.rows v (left u.begun r v lt c).0).1) (u.down r v lt c);
       },
     )

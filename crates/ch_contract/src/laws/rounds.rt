@@ -1,5 +1,5 @@
 //! Laws of contraction by rounds, each the contract of a function that does nothing.
-ghost use Rattle.ch_contract.specs.RoundLaws.{RoundsAreContractions, HierarchiesByRoundsAreKept};
+ghost use Rattle.ch_contract.specs.RoundLaws.{RoundsAreContractions, HierarchiesByRoundsAreKept, GraphsHaveHierarchiesByRounds};
 
 /// A round equals the contractions of its nodes one after the other, with enough shortcuts, if no two of them lie
 /// within two legs.
@@ -11,4 +11,10 @@ pub fn rounds_are_contractions()
 /// [`MOST_HOPS`](ch_graph::limits::MOST_HOPS).
 pub fn hierarchies_by_rounds_are_kept()
     ensures { HierarchiesByRoundsAreKept }
+{}
+
+/// Each graph within the limits has a hierarchy by rounds, for each bound on hops from 1 to
+/// [`MOST_HOPS`](ch_graph::limits::MOST_HOPS).
+pub fn graphs_have_hierarchies_by_rounds()
+    ensures { GraphsHaveHierarchiesByRounds }
 {}
