@@ -86,6 +86,7 @@ module _ (n : ℕ) (L : Legs) (limits : AreLegsWithin n L) (IsKey : ℕ → ℤ 
   abbrev IsBefore : ℕ → ℕ → Type 0
   IsBefore v x = x ≢ v → IsWithinTwoLegs L v x → ComesBefore (key v).0 v (key x).0 x
 
+  -- and that is decided
   before_or_not : (v x : ℕ) → IsBefore v x ⊎ (IsBefore v x → ⊥)
   before_or_not v x = elim (cases_eq x v) [
     | inl same ↦ inl (λ ne near. absurd (ne same))
