@@ -173,7 +173,7 @@ fn expect_passes<R: Threads + Abort + Sync>(
     rt: &R,
     alloc: Global,
     workers: u32,
-    passes: &[u64],
+    passes: [u64; 4],
 ) -> Result<(), Fail>
     requires { (0 < workers) × (workers < 65) }
 {
@@ -188,9 +188,9 @@ fn expect_passes<R: Threads + Abort + Sync>(
 /// Each of two targets and each of three sources is a piece. Where there are more workers than sources, each node is one too.
 #[test]
 fn gates_passed(rt: HostRuntime) -> Result<(), Fail> {
-    expect_passes(&rt, rt.alloc(), 1, &[2, 2, 1, 0])?;
-    expect_passes(&rt, rt.alloc(), 3, &[2, 2, 1, 0])?;
-    expect_passes(&rt, rt.alloc(), 4, &[3, 3, 2, 0])
+    expect_passes(&rt, rt.alloc(), 1, [2, 2, 1, 0])?;
+    expect_passes(&rt, rt.alloc(), 3, [2, 2, 1, 0])?;
+    expect_passes(&rt, rt.alloc(), 4, [3, 3, 2, 0])
 }
 
 /// The buckets of an example: of sources, by going up, or of targets, by going down; the nodes, counted from 1; the
