@@ -7,11 +7,11 @@ import signal
 import subprocess
 import urllib.parse
 
+from helpers.maps import COUNTRY
 from helpers.moods import STANDIN, mood
 from helpers.packages import PYTHON
 from helpers.running import PROGRAM, ROOT
 
-COUNTRY = ROOT / "examples" / "liechtenstein"
 # Debian's packages that the service needs, and a browser for its page.
 SERVICE = "python3-aiohttp", "python3-numpy", "python3-scipy", "python3-shapely", "libjs-leaflet"
 BROWSER = *SERVICE, "python3-selenium", "chromium", "chromium-driver"
