@@ -490,7 +490,8 @@ expect "a target that repeats" 0 $'t 5 4 4 0\nt 1 3 3 4' "" table ring.gr five_a
 expect "no target" 0 "t 2" "" table ring.gr node_2.ss nothing.ss
 expect "no source" 0 "" "" table ring.gr nothing.ss one.ss
 expect "no node, no table" 0 "" "" table none.gr nothing.ss nothing.ss
-expect "a missing file is told before a faulty one" 3 "" "chtab: cannot read queries" dist bad.txt missing.p2p
+expect "a missing file is told before a faulty one" 3 "" "chtab: missing.p2p: there is no such file
+chtab: cannot read queries" dist bad.txt missing.p2p
 "$root/chtab" dist none.gr none.p2p >/dev/full 2>err.txt
 compare "no query, on a full device, status" 0 "$?"
 
