@@ -19,8 +19,6 @@ PAGES = (
 )
 PROVED, MEASUREMENTS, REFERENCE = (ROOT / "docs" / name for name in ("PROVED.md", "MEASUREMENTS.md", "REFERENCE.md"))
 MOST_LINES_OF_README, MOST_LINES_OF_PARAGRAPH, MOST_COLUMNS, MOST_WORDS = 120, 5, 100, 30
-# The pages whose lines, sentences and words are not judged yet.
-NOT_YET = ROOT / "docs" / "GUIDE.md", ROOT / "docs" / "SERVICE.md"
 # What scripts write into a page, between two marks.
 WRITTEN = re.compile(r"<!-- What stands from here.*?<!-- End of what.*?-->", re.DOTALL)
 # Words that hide who does what, or that turn a sentence round.
@@ -424,8 +422,7 @@ def main():
         check_links(tally, page)
         check_names(tally, page)
         check_commits(tally, page)
-        if page not in NOT_YET:
-            check_prose(tally, page)
+        check_prose(tally, page)
     check_proved(tally)
     for edit in sorted([*ROOT.glob("crates/*/must-fail/*.edit"), *ROOT.glob("crates/*/planted/*.edit")]):
         check_edit(tally, edit)
