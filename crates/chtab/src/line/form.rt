@@ -69,14 +69,13 @@ fn with_numbers<'a>(alloc: Global, command: Command<'a>) -> Result<Command<'a>, 
     ensures local { (fields_of command.entry).has_globals ≡ false → IfOk result (λ c. (fields_of c).has_globals ≡ false) }
 {
     let workers = number(alloc, "workers", "N", MOST_WORKERS, "1").help(
-        "How many workers share the work, from 1 to 64: the answer is the same for each number",
+        "Share the work among N threads, from 1 to 64: no answer depends on N",
     );
     let piece = number(alloc, "piece", "K", MOST_PIECE, "64").help(
-        "How many queries or sources, and nodes while the hierarchy is built, a worker takes at once, \
-        from 1 to 1048576",
+        "How many queries, sources or nodes a thread takes at a time, from 1 to 1048576",
     );
     let hops = number(alloc, "hops", "H", MOST_HOPS, "5").help(
-        "The most legs of a witness path when the hierarchy is built, from 1 to 16",
+        "The most legs of a witness path while the hierarchy is built, from 1 to 16",
     );
     command.arg(workers)?.arg(piece)?.arg(hops)
 }
@@ -89,8 +88,8 @@ fn progress<'a>(alloc: Global) -> Arg<'a>
     flag(
         alloc,
         "progress",
-        "On standard error, tell how far the run is while it goes on, as is done on a terminal where it takes \
-        long: the answer is the same [default: off]",
+        "Report on standard error how far the run is. On a terminal that happens without this option, \
+        once a stage takes more than a second [default: off]",
     )
 }
 
@@ -110,8 +109,7 @@ fn routes<'a>(alloc: Global) -> Arg<'a>
     flag(
         alloc,
         "routes",
-        "After each distance, write `r K` and K lines `a U V W`, the arcs of a shortest path in order \
-        [default: off]",
+        "After each distance, write its route: `r K`, then K lines `a U V W`, the arcs in order [default: off]",
     )
 }
 
@@ -123,8 +121,8 @@ fn route_order<'a>(alloc: Global) -> Arg<'a>
     flag(
         alloc,
         "deep",
-        "With --routes, build the hierarchy in the order of depth, which is quicker: of equally good routes \
-        another may be written. It changes nothing else [default: off]",
+        "With --routes, build the hierarchy in depth order, which is faster. Of equally good routes \
+        another may be written [default: off]",
     )
 }
 
@@ -134,7 +132,7 @@ fn within<'a>(alloc: Global) -> Arg<'a>
     ensures local { result.global ≡ false }
 {
     limit(alloc, "within", "R", MOST_WITHIN).help(
-        "In tables, write distances of at most R alone, from 0 to 1152921504606846976: cells above R are written as - \
+        "In tables, write only distances of at most R, from 0 to 1152921504606846976: each other cell is - \
         [default: no limit]",
     )
 }
@@ -145,10 +143,9 @@ fn saved<'a>(alloc: Global) -> Arg<'a>
     ensures local { result.global ≡ false }
 {
     option(alloc, "saved", "FILE").help(
-        "Read the hierarchy from this file, and check it, in place of building one, and ignore --hops: \
-        `chtab save` or any other program wrote it, as `p ch N L`, N lines `o V`, the nodes in order of \
-        level, and L lines `l U V W A M`, a leg from U to V of weight W and A arcs with the middle M, \
-        or 0 for none [default: none]",
+        "Read the hierarchy from FILE and check it, instead of building one. `chtab save` or any other program \
+        wrote it, of this graph: one of another graph is refused, often by `saved line 1: size too large`. \
+        Options on how to build one then have no effect [default: none]",
     )
 }
 
@@ -160,8 +157,8 @@ fn graph<'a>(alloc: Global) -> Arg<'a>
     file(
         alloc,
         "GRAPH",
-        "A .gr file: `p sp N M`, then M lines `a U V W`, an arc from U to V of weight W; \
-        nodes are 1 to N",
+        "A .gr file: `p sp N M`, then M lines `a U V W`, an arc from node U to node V of weight W. \
+        Nodes are 1 to N",
     )
 }
 
@@ -173,11 +170,13 @@ fn dist_command<'a>(alloc: Global) -> Result<Command<'a>, AllocError>
     let plain = flag(
         alloc,
         "plain",
-        "Answer by rounds of relaxation over all arcs, without a hierarchy, and ignore --routes, --deep, \
-        --saved, --workers, --piece and --hops [default: off]",
+        "Answer without a hierarchy, by rounds of relaxation over all arcs. All other options but --progress \
+        then have no effect [default: off]",
     );
     let command = Command::new(alloc, "dist")
-        .about("For each query, writes `d S T X`: X is the distance from S to T, or - for no path")
+        .about(
+            "For each query, writes `d S T X`: X is the distance from S to T, or - if no path leads there",
+        )
         .after_help("Example: chtab dist --routes roads.gr pairs.p2p")
         .arg(plain)?
         .arg(routes(alloc))?
@@ -198,7 +197,7 @@ fn table_command<'a>(alloc: Global) -> Result<Command<'a>, AllocError>
     let command = Command::new(alloc, "table")
         .about(
             "For each source, writes `t S X ..`: an X for each target, the distance from S to it, or - \
-            for no path",
+            if no path leads there",
         )
         .after_help(
             "Examples:\n  \
@@ -225,11 +224,11 @@ fn save_command<'a>(alloc: Global) -> Result<Command<'a>, AllocError>
     let deep = flag(
         alloc,
         "deep",
-        "Build the hierarchy in the order of depth: that is quicker, and so are queries and tables by it; \
-        of equally good routes another may be told [default: off]",
+        "Build the hierarchy in depth order: that is faster, and so are queries and tables by it. \
+        Of equally good routes another may be written [default: off]",
     );
     let command = Command::new(alloc, "save")
-        .about("Writes the hierarchy of the graph, which `dist` and `table` read by --saved")
+        .about("Writes the hierarchy of the graph, for --saved of `dist`, `table` and `ask`")
         .after_help("Example: chtab save --deep roads.gr >roads.ch")
         .arg(deep)?;
     with_shared(alloc, command)?.arg(graph(alloc))
@@ -242,8 +241,8 @@ fn ask_command<'a>(alloc: Global) -> Result<Command<'a>, AllocError>
 {
     let command = Command::new(alloc, "ask")
         .about(
-            "Loads the graph once, and answers requests of standard input as they come: `q S T` as `dist` does, \
-            and `t K L`, then K lines `s V`, the sources, and L lines `s V`, the targets, as `table` does",
+            "Loads the graph once, and answers requests from standard input as they come. `q S T` asks for a \
+            distance. `t K L` asks for a table: then come K lines `s V`, the sources, and L lines `s V`, the targets",
         )
         .after_help("Example: chtab ask --saved roads.ch roads.gr <requests.txt")
         .arg(routes(alloc))?
@@ -259,7 +258,7 @@ pub fn command<'a>(alloc: Global) -> Result<Command<'a>, AllocError>
 {
     Command::new(alloc, "chtab")
         .bin_name("chtab")?
-        .about("Exact distances on directed graphs")
+        .about("Exact shortest paths in road networks")
         .after_help(
             "See `chtab dist --help`, `chtab table --help`, `chtab save --help` and `chtab ask --help`. Examples:\n  \
             chtab dist --routes roads.gr pairs.p2p\n  \
