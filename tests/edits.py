@@ -1,5 +1,5 @@
 #!/usr/bin/python3
-"""Prints at which goal or by which error the proofs refuse each planted bug of the gate, and fails where one is refused for a name or by a limit alone.
+"""Prints the goal or the error with which the proofs refuse each planted bug of the gate. It fails if a bug is refused for a name or by a limit alone.
 
   edits.py [LOG]
 

@@ -1,4 +1,4 @@
-"""What `rt` says of planted bugs: of each whether the proofs refuse it, and at which goal."""
+"""What `rt` says of planted bugs: whether the proofs refuse each of them, and the goal that refuses it."""
 import re
 
 EDIT = re.compile(r"rt: must-fail (\S+)\.edit: (.*)")
@@ -13,7 +13,7 @@ def name_of(edit):
 
 
 def judge(tally, edits, log):
-    """Prints at which goal each of the edits was refused, by what `rt` printed, and counts as failed what was not refused at a goal."""
+    """Reads what `rt` printed, and prints the goal that refused each edit. An edit that no goal refused counts as failed."""
     said = dict(EDIT.findall(log))
     for edit in edits:
         name = name_of(edit)

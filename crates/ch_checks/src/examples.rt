@@ -200,7 +200,7 @@ fn check_once<R: Threads + Sync>(
 ) -> Result<Hierarchy, CheckError>
     ensures { IfOk result IsKeptForSome }
 {
-    // The getter tells the proof that the graph keeps the limits.
+    // The proof learns from this call that the graph keeps the limits.
     let _ = graph.arcs();
     check(&crew(rt, alloc, &Plan::new(2, 1, 64), &Open), graph, saved)
 }

@@ -30,7 +30,7 @@ pub fn assemble(alloc: Global, graph: &Graph, saved: &Saved) -> Result<Hierarchy
         AnswersWhere result (Err (CheckError.Fault f))
         (IsEarly f × IsFirstFault graph.now saved.now f) }
 {
-    // The getter tells the proof that the graph keeps the limits.
+    // The proof learns from this call that the graph keeps the limits.
     let _ = graph.arcs();
     let nodes = graph.nodes();
     let Some(levels) = levels_of(alloc, nodes, saved.order.as_slice())? else {

@@ -20,7 +20,7 @@ pub(crate) fn first_without_arc(
 ) -> Result<Option<usize>, AllocError>
     ensures { IfOk result (λ found. MatchOption found (All (IsArcIfBase graph.now) legs.now) (IsFirstFailing (IsArcIfBase graph.now) legs.now)) }
 {
-    // The getter tells the proof that the graph keeps the limits.
+    // The proof learns from this call that the graph keeps the limits.
     let _ = graph.arcs();
     let rows = arc_rows(alloc, graph)?;
     for (place, leg) in legs.iter().enumerate() {

@@ -29,7 +29,7 @@ fn is_pair_covered(
     ensures covered { IsTrue result ↔ MeetsWithin hierarchy.now start end most }
     ensures sides { sides.new ≡ sides.old }
 {
-    // The getter tells the proof that the hierarchy has levels.
+    // The proof learns from this call that the hierarchy has levels.
     let _ = hierarchy.nodes();
     if is_leg_within(hierarchy, start, end, most) {
         return true;
@@ -150,7 +150,7 @@ pub(crate) fn first_uncovered<R: Threads + Sync, G: Gate>(
 {
     let nodes = hierarchy.nodes();
     crew.gate.watch(Stage::Checking, 0, crew.plan.pieces(nodes));
-    // The getter tells the proof that a piece has an item.
+    // The proof learns from this call that a piece has an item.
     let _ = crew.plan.piece();
     let firsts = run_pieces_with_rooms(crew, nodes, &CoverJob { hierarchy })?;
     Ok(first_of(firsts.as_slice()))

@@ -66,7 +66,7 @@ impl Side {
         ensures row { (v : ℕ) → v < nodes_of hierarchy.now → rank_of hierarchy.now v ≡ rank → result.now ≡ map (ranked_leg hierarchy.now) (row (rows_of hierarchy.now self) v) }
         ensures levelled { IsLevelled hierarchy.now }
     {
-        // The getter tells the proof that the hierarchy has levels.
+        // The proof learns from this call that the hierarchy has levels.
         let _ = hierarchy.nodes();
         hierarchy.ranked_legs(self.state(rank))
     }

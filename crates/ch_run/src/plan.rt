@@ -1,3 +1,3 @@
-//! Who does the work and how it is divided, and who is told how far it is: the crews, plans, gates and stages of `ch_work`.
+//! The crews, plans, gates and stages of `ch_work`: who does the work, how it is divided, and who receives its progress.
 
 pub use ch_work::{Crew, Gate, Open, Plan, Stage};

@@ -32,7 +32,7 @@ pub type Ended = (Result<(), RunFault>, MemoryOutput);
 const MOST: usize = 4096;
 
 /// Does what the run is asked for, over devices in memory.
-pub fn run<R: Threads + Sync>(
+pub(crate) fn run<R: Threads + Sync>(
     rt: &R,
     alloc: Global,
     files: &Files,

@@ -35,7 +35,7 @@ pub(crate) fn table_by_cells<R: Threads + Sync, G: Gate>(
     let rows = sources.len() as u32;
     let columns = targets.len() as u32;
     let nodes = hierarchy.nodes();
-    // The getter tells the proof that a piece has an item.
+    // The proof learns from this call that a piece has an item.
     let _ = crew.plan.piece();
     crew.gate
         .watch(Stage::Answering, 0, crew.plan.pieces(nodes));

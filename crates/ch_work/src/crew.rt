@@ -3,7 +3,7 @@
 use crate::plan::Plan;
 use std::alloc::Global;
 
-/// What work by several workers takes: the handle that starts threads, the memory, the plan by which work is cut
+/// What work by several workers takes: the handle that starts threads, the memory, the plan that divides the work
 /// among the workers, and the gate that they pass. It changes no answer.
 #[derive(Drop)]
 pub struct Crew<'a, R, G> {

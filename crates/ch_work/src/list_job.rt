@@ -90,7 +90,7 @@ pub fn run_list_in<R: Threads + Sync, G: Gate, J: ListJob>(
     ensures clean { All (J.clean job.now) rooms.new.items }
 {
     let pieces = ListPieces { job, items };
-    // The getter tells the proof that a piece has an item.
+    // The proof learns from this call that a piece has an item.
     let _ = crew.plan.piece();
     let lists = run_pieces_in(crew, items.len() as u32, rooms, &pieces)?;
     joined(crew.alloc, lists)

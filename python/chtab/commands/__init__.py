@@ -41,8 +41,8 @@ class Formatter(argparse.RawDescriptionHelpFormatter):
 def parser_of(name, about):
     """The parser of a command.
 
-    Its help is made of a text: a line on what the command does, lines with the forms of its words, and what there is to know besides. It has
-    the name by which the command was called: NAME.py in tools/, or chtab-NAME where it is installed. There the documents are installed too.
+    Its help is made of a text: a line on what the command does, lines with the forms of its words, and what there is to know besides. It uses
+    the name that the command was called by: NAME.py in tools/, or chtab-NAME where it is installed. There the documents are installed too.
     """
     called = os.path.basename(sys.argv[0])
     if called.startswith("chtab-"):

@@ -69,7 +69,7 @@ impl Remaining {
         ensures list { OnOk result (AreShortcuts self.now.nodes hops (legs_of self.now) v list.new.items) }
         ensures clean { OnOk result (IsClean self.now.nodes (known_of K.cost search.new.known)) }
     {
-        // The getter tells the proof that the legs keep the limits.
+        // The proof learns from this call that the legs keep the limits.
         let _ = self.nodes();
         self.fill_shortcuts(search, list, v, hops)?;
         let legs = self.out_legs(v).len() + self.in_legs(v).len();

@@ -54,7 +54,7 @@ pub(crate) fn checked_from<R: Threads + Sync, I: Input, S: Input, G: Gate>(
 {
     crew.gate.watch(Stage::Reading, 0, 2);
     let graph = graph_from(crew.alloc, graph)?;
-    // The getter tells the proof that the graph keeps the limits.
+    // The proof learns from this call that the graph keeps the limits.
     let _ = graph.arcs();
     crew.gate.watch(Stage::Reading, 1, 2);
     let saved = saved_from(crew.alloc, saved, &graph)?;
