@@ -1,32 +1,28 @@
 -- What a line asks for, of which files, and how its run ends.
 use Rattle.std.specs.Prelude.{◌≡◌, ◌⊎◌, ◌↔◌, ◌<◌, ◌≤◌, ℕ, [], ◌∷◌, List, Option, Some, None, Result, Err, IfSome, IsErrAnd, ⊤, vec_len, codes, length, get_or, map, option_map, if◌then◌else◌}
 use Rattle.std.specs.String.{string_bytes}
-use Rattle.ch_run.specs.declared.options.TheConstants.{MOST_HOPS, MOST_WITHIN}
+use Rattle.ch_contract.specs.declared.measure.OrderBy.TheVariants.{Difference, Depth}
+use Rattle.ch_run.specs.declared.options.Options.{Options}
 use Rattle.ch_run.specs.declared.fault.Which.{Which}
 use Rattle.ch_run.specs.declared.fault.RunFault.{RunFault}
 use Rattle.ch_run.specs.Device.{CountsAtMostOne, CountsAtMostOneOf}
 use Rattle.ch_run.specs.Run.{IsWrite, Reading}
-use Rattle.ch_work.specs.Plan.{IsWithinLimits}
-use Rattle.ch_line.specs.declared.line.Line.{Line}
-use Rattle.ch_line.specs.declared.line.Tool.{Tool}
+use Rattle.ch_words.specs.declared.line.Choices.{Choices}
+use Rattle.ch_words.specs.declared.line.Line.{Line}
+use Rattle.ch_words.specs.declared.line.Tool.{Tool}
 use Rattle.ch_line.specs.declared.inputs.Inputs.{Inputs}
 use Rattle.ch_line.specs.Files.{FileState, bytes_of}
 use Rattle.ch_line.specs.Inputs.{Task, EndsFor, HasFailedRead, Writes, task_of, whole_of}
 
--- the files of a tool, in their order
-abbrev pub file_names : Tool → List (List ℕ)
-file_names Tool.Dist = codes "GRAPH" ∷ codes "QUERIES" ∷ []
-file_names Tool.Table = codes "GRAPH" ∷ codes "SOURCES" ∷ codes "TARGETS" ∷ []
-file_names Tool.Save = codes "GRAPH" ∷ []
-file_names Tool.Ask = codes "GRAPH" ∷ []
-
--- the numbers of a line are within the program's limits, and it names each file of its tool
-pub record IsAllowed (line : Line) : Type 0 where
-  pub files : vec_len line.files ≡ length (file_names line.tool)
-  pub some_hops : 1 ≤ line.options.hops
-  pub few_hops : line.options.hops ≤ MOST_HOPS
-  pub limit : IfSome line.options.within (λ most. most ≤ MOST_WITHIN)
-  pub plan : IsWithinLimits line.plan
+-- the options of a run, as the words choose them: the order is that of depth where they ask for it
+abbrev pub options_for : Choices → Options
+options_for choices = record {
+  plain = choices.plain;
+  routes = choices.routes;
+  hops = choices.hops;
+  order = if choices.deep then Depth else Difference;
+  within = choices.within;
+}
 
 -- the name of a line's file at this place
 abbrev pub name_at : Line → ℕ → List ℕ
@@ -34,7 +30,7 @@ name_at line place = get_or (map string_bytes line.files.items) place []
 
 -- the saved hierarchy that is read, if one is: plain distances take none
 abbrev pub saved_name : Line → Option (List ℕ)
-saved_name line = if line.options.plain then None else option_map string_bytes line.saved
+saved_name line = if line.choices.plain then None else option_map string_bytes line.saved
 
 -- what is known of the bytes of a name's file, read to its end
 abbrev pub file_reading : (List ℕ → FileState) → List ℕ → Reading
@@ -147,7 +143,7 @@ HasReadFailed {I} left failed known line which = (inputs : Inputs I) × (task_of
 pub record IsRunOf {I J O : Type 0} (left : I → Option (List ℕ)) (failures : I → ℕ) (known : List ℕ → FileState) (left_requests : J → Option (List ℕ)) (failed_requests : J → ℕ)
     (taken : O → Option (List ℕ)) (failed idle : O → ℕ) (line : Line) (requests requests' : J) (old new : O) (result : Result Unit RunFault) : Type 0 where
   pub written : IsNotBegun known (line_files line) requests requests' old new result
-      ⊎ Writes line.options (line_task known line) left_requests failed_requests taken requests requests' old new result
+      ⊎ Writes (options_for line.choices) (line_task known line) left_requests failed_requests taken requests requests' old new result
   pub missing : EndsAtMissing known (line_files line) result
   pub ends : EndsFor (line_task known line) result ⊎ IsErrAnd result (IsUnopened known (line_files line))
   pub unread : (which : Which) → result ≡ Err (RunFault.Device which) → IsUnopened known (line_files line) (RunFault.Device which) ⊎ (which ≡ Which.Requests) ⊎ HasReadFailed left failures known line which

@@ -4,14 +4,15 @@ ghost use Rattle.std.specs.Prelude.{◌≡◌, ◌<◌, ◌↔◌, ◌⊎◌, Er
 ghost use Rattle.ch_run.specs.Device.{CanCountOneMore, CountsAtMostOne, CountsAtMostOneOf};
 ghost use Rattle.ch_run.specs.Run.{IsWrite};
 ghost use Rattle.ch_run.specs.declared.fault.Which.{Which as WhichInput};
+ghost use Rattle.ch_words.specs.Line.{IsAllowed};
 ghost use Rattle.ch_line.specs.Files.{bytes_of};
 ghost use Rattle.ch_line.specs.Inputs.{AreFresh, EndsFor, Writes, task_of};
-ghost use Rattle.ch_line.specs.Line.{EndsAtMissing, HasReadFailed, IsAllowed, IsNotBegun, IsNotOpened, IsUnopened, MayAllBeThere, MayBeThere, file_reading, hierarchy_files, line_files, line_task, lists_files, lists_task, name_at, queries_files, queries_task, requests_task, saved_name};
+ghost use Rattle.ch_line.specs.Line.{EndsAtMissing, HasReadFailed, IsNotBegun, IsNotOpened, IsUnopened, MayAllBeThere, MayBeThere, file_reading, hierarchy_files, line_files, line_task, lists_files, lists_task, name_at, options_for, queries_files, queries_task, requests_task, saved_name};
 
 use crate::files::{Files, OpenFault};
 use crate::inputs::{Inputs, run_inputs};
-use crate::line::{Line, Tool};
-use ch_run::{Crew, Gate, Input, Output, RunFault, Which};
+use ch_run::{Crew, Gate, Input, Options, OrderBy, Output, RunFault, Which};
+use ch_words::{Choices, Line, Tool};
 use std::alloc::Global;
 use std::thread::Threads;
 
@@ -36,7 +37,7 @@ pub fn run_line<R: Threads + Sync, F: Files, J: Input, O: Output, G: Gate>(
 
     // What is written is what the line asks for, of the files that it names; where one of them isn't opened, nothing is.
     ensures written { IsNotBegun (F.known files.now) (line_files line.now) requests.old requests.new output.old output.new result
-        ⊎ Writes line.now.options (line_task (F.known files.now) line.now) J.left J.failed O.taken requests.old requests.new output.old output.new result }
+        ⊎ Writes (options_for line.now.choices) (line_task (F.known files.now) line.now) J.left J.failed O.taken requests.old requests.new output.old output.new result }
 
     // A missing file ends it before anything is read, and otherwise a fault is of what the files hold.
     ensures missing { EndsAtMissing (F.known files.now) (line_files line.now) result }
@@ -57,7 +58,24 @@ pub fn run_line<R: Threads + Sync, F: Files, J: Input, O: Output, G: Gate>(
         plan: line.plan,
         gate,
     };
-    run_inputs(&crew, inputs, requests, output, &line.options)
+    run_inputs(&crew, inputs, requests, output, &options_of(&line.choices))
+}
+
+/// The options of a run, as the words choose them.
+pub fn options_of(choices: &Choices) -> Options
+    ensures { result ≡ options_for choices.now }
+{
+    Options {
+        plain: choices.plain,
+        routes: choices.routes,
+        hops: choices.hops,
+        order: if choices.deep {
+            OrderBy::Depth
+        } else {
+            OrderBy::Difference
+        },
+        within: choices.within,
+    }
 }
 
 /// Opens the files of a line, in the order of its arguments.
@@ -186,7 +204,7 @@ fn saved_of(line: &Line) -> Option<&str>
     ensures { option_map (λ name. name.now) result ≡ saved_name line.now }
 {
     match &line.saved {
-        Some(name) if !line.options.plain => Some(name.as_str()),
+        Some(name) if !line.choices.plain => Some(name.as_str()),
         _ => None,
     }
 }

@@ -1,18 +1,17 @@
 -- How the program answers its words, and how it ends.
 use Rattle.std.specs.Prelude.{◌≡◌, ◌⊎◌, ℕ, ◌++◌, ◌<◌, Bool, List, Option, Result, Ok, Err, IfErr, IsTrue, OnOk, codes, length, take}
 use Rattle.std.specs.String.{string_bytes}
-use Rattle.clap.specs.Words.{Text}
 use Rattle.ch_run.specs.declared.fault.RunFault.{RunFault}
 use Rattle.ch_run.specs.Device.{CountsFault, HasTaken}
 use Rattle.ch_run.specs.Fault.{status_of, fault_text as run_fault_text}
 use Rattle.ch_run.specs.Run.{IsWrite}
-use Rattle.ch_line.specs.declared.line.Line.{Line}
+use Rattle.ch_words.specs.declared.line.Line.{Line}
 use Rattle.ch_line.specs.Files.{FileState}
 use Rattle.ch_line.specs.Line.{IsRunOf}
-use Rattle.chtab.specs.declared.line.LineFault.{LineFault}
+use Rattle.ch_words.specs.declared.fault.LineFault.{LineFault}
 use Rattle.chtab.specs.declared.program.ProgramFault.{ProgramFault}
 use Rattle.chtab.specs.declared.program.TheConstants.{CLOSED_PIPE}
-use Rattle.chtab.specs.Line.{IsFaultOf, IsReadFrom, faults_of, line_status_of}
+use Rattle.ch_words.specs.Line.{IsFaultOf, IsReadFrom, faults_of, line_status_of}
 
 -- the exit status of a fault, of the words or of the run
 abbrev pub exit_status_of : ProgramFault → ℕ
@@ -54,7 +53,7 @@ AnswersFault taken failed idle LineFault.NoMemory old new answer = (answer ≡ E
 
 -- the words say a line, and the answer is how its run ended; or they have a fault, which is answered, and the requests are as they were
 abbrev pub IsAnswer : {I J O : Type 0} → (I → Option (List ℕ)) → (I → ℕ) → (List ℕ → FileState) → (J → Option (List ℕ)) → (J → ℕ)
-    → (O → Option (List ℕ)) → (O → ℕ) → (O → ℕ) → List Text → J → J → O → O → Result Unit ProgramFault → Type 0
+    → (O → Option (List ℕ)) → (O → ℕ) → (O → ℕ) → List (List ℕ) → J → J → O → O → Result Unit ProgramFault → Type 0
 IsAnswer left failures known left_requests failed_requests taken failed idle words requests requests' old new answer =
     ((line : Line) × (result : Result Unit RunFault) × IsReadFrom words line
     × IsRunOf left failures known left_requests failed_requests taken failed idle line requests requests' old new result × (answer ≡ answer_of result))

@@ -1,9 +1,8 @@
 //! `chtab`: exact least distances on directed graphs, from files to text.
 //!
-//! It stands on ch_contract, ch_line, ch_run, ch_work and clap.
+//! It stands on ch_line, ch_run and ch_words.
 #![tactic(auto)]
 
-mod line;
 mod program;
 mod system;
 mod watcher;
@@ -14,7 +13,7 @@ pub use ch_run::{
     run_ask_saved, run_dist, run_dist_saved, run_save, run_table, run_table_saved, status,
     write_all,
 };
-pub use line::{Line, LineFault, Tool, line_status, read_words};
+pub use ch_words::{Choices, Line, LineFault, Tool, line_status, read_words};
 use std::process::ExitCode;
 
 fn main(rt: HostRuntime) -> ExitCode {

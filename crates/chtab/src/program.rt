@@ -3,15 +3,14 @@
 ghost use Rattle.std.specs.Prelude.{◌≡◌, ◌↔◌, [], IfErr, IfOk, IsTrue, MatchResult, Result, map};
 ghost use Rattle.std.specs.String.{string_bytes};
 ghost use Rattle.ch_run.specs.Device.{CanCountOneMore};
-ghost use Rattle.ch_line.specs.Line.{IsAllowed};
-ghost use Rattle.chtab.specs.Line.{IsFaultOf, IsReadFrom, faults_of, line_status_of};
+ghost use Rattle.ch_words.specs.Line.{IsAllowed, IsFaultOf, IsReadFrom, faults_of, line_status_of};
 ghost use Rattle.chtab.specs.Program.{AnswersFault, IsAnswer, IsEnd, IsFaultEnd, IsTold, IsUnheard, answer_of, line_fault_text};
 ghost use Rattle.chtab.specs.declared.program.ProgramFault.{ProgramFault as FaultOf};
 
-use crate::line::{Line, LineFault, line_status, read_words};
 use crate::watcher::Watch;
 use ch_line::{Files, run_line};
 use ch_run::{Input, Output, RunFault, status, write_all};
+use ch_words::{Line, LineFault, line_status, read_words};
 use std::alloc::{AllocError, Global};
 use std::thread::Threads;
 

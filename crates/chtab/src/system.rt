@@ -2,11 +2,11 @@
 
 ghost use Rattle.ch_line.specs.Files.{FileState};
 
-use crate::line::{LineFault, refused};
 use crate::program::{self, System};
 use crate::watcher::{Lines, Timer, Watcher};
 use ch_line::{Files, OpenFault};
 use ch_run::{ReaderInput, WriterOutput};
+use ch_words::{LineFault, refused};
 use std::io::{ErrorKind, IsTerminal, Read, Stderr, Write};
 use std::rt::Env;
 use std::thread::Threads;

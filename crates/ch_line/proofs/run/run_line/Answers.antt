@@ -5,7 +5,7 @@ use Rattle.ch_line.specs.Line.{line_files}
 use Rattle.ch_line.proofs.run.run_line.Goals as goal
 
 pub returns-clause-written : goal.returns-clause-written
-returns-clause-written g c = inr (rw c.in_ok-inputs.ensures.asked at c.run_inputs.ensures.written)
+returns-clause-written g c = inr (rw c.options_of.ensures at (rw c.in_ok-inputs.ensures.asked at c.run_inputs.ensures.written))
 
 pub returns-clause-missing : goal.returns-clause-missing
 returns-clause-missing g c = goes-on (g.F.Files.known c.args.files.now) (line_files c.args.line.now) c.run_inputs.result c.in_ok-inputs.ensures.there

@@ -1,0 +1,125 @@
+-- From what clap says of its matches to what the words say.
+use Rattle.std.proofs.Common.{◌≡◌, ◌⊎◌, ◌||◌, ℕ, List, [], Option, Some, None, Result, Ok, refl, ap, ap₂, sym, ◌∙◌, subst, inl, inr, codes, true, false, Bool}
+use Rattle.std.specs.Box.{box_value}
+use Rattle.std.specs.Prelude.{Box, option_map}
+use Rattle.std.specs.Str.Parse.{ParsesUnsigned}
+use Rattle.clap.specs.Matches.{subcommand_name_of}
+use Rattle.clap.specs.Words.{AddsArg, App, HasMatchesOf, IsAmong, Kinds, ReadsOne, Row, Text, TriesOne, fault_of, is_simple_and_free, one_text, rows_of, subcommand_rows, subcommand_rows_of}
+use Rattle.clap.specs.declared.builder.arg.Arg.{Arg}
+use Rattle.clap.specs.declared.builder.command.Command.{Command}
+use Rattle.clap.specs.declared.builder.command.Command.TheViews.{out-Command}
+use Rattle.clap.specs.declared.error.kind.ErrorKind.{ErrorKind}
+use Rattle.clap.specs.declared.error.kind.ErrorKind.TheVariants.{OutOfMemory}
+use Rattle.clap.specs.declared.parser.matches.ArgMatches.{ArgMatches}
+use Rattle.clap.specs.declared.parser.matches.ArgMatches.TheViews.{out-ArgMatches, out-SubCommand}
+use Rattle.clap.specs.declared.parser.matches.Found.{Found}
+use Rattle.clap.specs.declared.parser.matches.SubCommand.{SubCommand}
+use Rattle.clap.proofs.WalkLemmas.{one_text-rows}
+use Rattle.ch_words.specs.Line.{IsFaultOf, IsFlag, IsFlagIn, IsGivenBy, IsReadFrom, IsToldOf, chtab_form, faults_of, given_by, name_of, number_in, number_of}
+use Rattle.ch_words.specs.declared.line.Line.{Line}
+use Rattle.ch_words.specs.declared.fault.LineFault.{LineFault}
+use Rattle.ch_words.specs.declared.line.Tool.{Tool}
+
+-- a command with no global argument has none once one that is not global is added
+pub stays_local : (old : Command) (arg : Arg) (new : Command) → AddsArg old arg new → (out-Command old).has_globals ≡ false → arg.global ≡ false → (out-Command new).has_globals ≡ false
+stays_local old arg new added here there = added.globals ∙ ap₂ ◌||◌ here there
+
+-- a flag is read by its text
+flag_is : (text : Option Text) (flag : Bool) → (text ≡ None → flag ≡ false) → (text ≡ Some (codes "true") → flag ≡ true) → (text ≡ Some (codes "false") → flag ≡ false) → IsFlag text flag
+flag_is None flag none on off = none refl
+flag_is (Some text) flag none on off = ((λ e. on (ap (λ t. Some t) e)), (λ e. off (ap (λ t. Some t) e)))
+
+-- the flag that is read under a name is the one given
+pub is_flag : (found : Found) (name : Text) (flag : Bool) → (one_text found name ≡ None → flag ≡ false)
+    → (one_text found name ≡ Some (codes "true") → flag ≡ true) → (one_text found name ≡ Some (codes "false") → flag ≡ false)
+    → IsFlagIn (rows_of found) name flag
+is_flag found name flag none on off =
+    let P : Option Text → Type 0 = λ text. IsFlag text flag in
+    subst P (one_text-rows found name) (flag_is _ flag none on off)
+
+-- the number that is read of the text given under a name is the one that it writes
+pub is_number : {E : Type 0} (gives : List ℕ → Result ℕ E → Type 0) (found : Found) (name : Text) (read : Option ℕ) (number : ℕ)
+    → ((text : List ℕ) (r : Result ℕ E) → gives text r → ParsesUnsigned 32 10 text r) → (one_text found name ≡ None → read ≡ None)
+    → ((text : List ℕ) → one_text found name ≡ Some text → ReadsOne gives text read) → read ≡ Some number
+    → Some number ≡ number_in (rows_of found) name
+is_number {E} gives found name read number parses none value is =
+    let P : Option Text → Type 0 = λ text. Some number ≡ option_map number_of text in
+    subst P (one_text-rows found name) (at (one_text found name) none value)
+  where
+    at : (text : Option Text) → (text ≡ None → read ≡ None) → ((t : List ℕ) → text ≡ Some t → ReadsOne gives t read)
+        → Some number ≡ option_map number_of text
+    at None none value =
+        let bad : None ≡ Some number = sym (none refl) ∙ is in
+        cc
+    at (Some text) none value =
+        let reads : ReadsOne gives text (Some number) = subst (λ (r : Option ℕ). ReadsOne gives text r) is (value text refl) in
+        let parsed = parses text (Ok number) reads in
+        ap (λ n. Some n) parsed.1
+
+-- the limit that is read of the text given under a name is the number that it writes, and none where none is given
+pub is_limit : {E : Type 0} (gives : List ℕ → Result ℕ E → Type 0) (found : Found) (name : Text) (read : Result (Option ℕ) E) (limit : Option ℕ)
+    → ((text : List ℕ) (r : Result ℕ E) → gives text r → ParsesUnsigned 64 10 text r) → (one_text found name ≡ None → read ≡ Ok None)
+    → ((text : List ℕ) → one_text found name ≡ Some text → TriesOne gives text read) → read ≡ Ok limit
+    → limit ≡ number_in (rows_of found) name
+is_limit {E} gives found name read limit parses none value is =
+    let P : Option Text → Type 0 = λ text. limit ≡ option_map number_of text in
+    subst P (one_text-rows found name) (at (one_text found name) none value)
+  where
+    written : (text : Text) (limit : Option ℕ) → TriesOne gives text (Ok limit) → limit ≡ Some (number_of text)
+    written text None tries = absurd tries
+    written text (Some number) tries = ap (λ n. Some n) (parses text (Ok number) tries).1
+
+    at : (text : Option Text) → (text ≡ None → read ≡ Ok None) → ((t : List ℕ) → text ≡ Some t → TriesOne gives t read)
+        → limit ≡ option_map number_of text
+    at None none value =
+        let both : Ok limit ≡ Ok None = sym is ∙ none refl in
+        cc
+    at (Some text) none value = written text limit (subst (λ (r : Result (Option ℕ) E). TriesOne gives text r) is (value text refl))
+
+-- what clap says of the faults of a command of this form holds of what is wrong with the words
+pub of-faults : (P : Kinds → Type 0) (form : App) (words : List Text) → form ≡ chtab_form → (is_simple_and_free form ≡ true → P (fault_of form words)) → P (faults_of words)
+of-faults P form words is said =
+    let Q : App → Type 0 = λ f. is_simple_and_free f ≡ true → P (fault_of f words) in
+    subst Q is said refl
+
+-- the name and the rows of the subcommand that was entered
+entry_of : (entry : Option (Text × List Row)) (name : Text) (given : List Row) → Some name ≡ option_map (λ p. p.0) entry
+    → Some given ≡ option_map (λ p. p.1) entry → entry ≡ Some (name, given)
+entry_of None name given is_name is_given = cc
+entry_of (Some entry) name given is_name is_given =
+    let same_name : entry.0 ≡ name = cc in
+    let same_rows : entry.1 ≡ given = cc in
+    ap₂ (λ n rows. Some (n, rows)) same_name same_rows
+
+-- the name that the matches tell is the one that stands beside their rows
+name_of_entry : (matches : ArgMatches) → subcommand_name_of matches ≡ option_map (λ p. p.0) (subcommand_rows_of matches)
+name_of_entry matches = go (out-ArgMatches matches).subcommand
+  where
+    go : {Z : Type 0} (sub : Option (Box SubCommand Z))
+        → option_map (λ b. (out-SubCommand (box_value b)).name.now) sub ≡ option_map (λ p. p.0) (subcommand_rows sub)
+    go None = refl
+    go (Some b) = refl
+
+-- the matches of a command of this form, with the name that stands beside them, are those given by the words
+pub given-by : (form : App) (words : List Text) (matches : ArgMatches) (name : Text) (given : List Row) → form ≡ chtab_form
+    → HasMatchesOf form words matches → Some name ≡ subcommand_name_of matches → Some given ≡ option_map (λ p. p.1) (subcommand_rows_of matches)
+    → given_by words ≡ Some (name, given)
+given-by form words matches name given is matched is_name is_given =
+    let P : App → Type 0 = λ f. HasMatchesOf f words matches in
+    let same = subst P is matched refl in
+    sym same.1 ∙ entry_of (subcommand_rows_of matches) name given (is_name ∙ name_of_entry matches) is_given
+
+-- what is told of an error tells what is wrong with the words
+pub fault-told : (kinds : Kinds) (kind : ErrorKind) (fault : LineFault) → IsToldOf kind fault → (kind ≡ OutOfMemory) ⊎ IsAmong kind kinds → IsFaultOf kinds fault
+fault-told kinds kind (LineFault.Help text) told (inl memory) = cc
+fault-told kinds kind (LineFault.Help text) told (inr among) = subst (λ (k : ErrorKind). IsAmong k kinds) told among
+fault-told kinds kind (LineFault.Refused text) told (inl memory) = absurd (told.1 memory)
+fault-told kinds kind (LineFault.Refused text) told (inr among) = (kind, told.0, among)
+fault-told kinds kind LineFault.NoMemory told among = tt
+
+-- a line of the tool that the words name, with what they give it, is read from them
+pub read-from : (line : Line) (words : List Text) (tool : Tool) (given : List Row) → faults_of words ≡ []
+    → given_by words ≡ Some (name_of tool, given) → line.tool ≡ tool → IsGivenBy given line → IsReadFrom words line
+read-from line words tool given right matched is_tool read =
+    let named = subst (λ (t : Tool). given_by words ≡ Some (name_of t, given)) (sym is_tool) matched in
+    record { right = right; given = given; matched = named; read = read }

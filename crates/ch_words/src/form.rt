@@ -1,0 +1,276 @@
+//! The command line as clap reads it: its tools, with their options and files.
+
+ghost use Rattle.std.specs.Prelude.{◌≡◌, IfOk, codes, false, fold};
+ghost use Rattle.clap.specs.Words.{app_of, rule_of, with_rule};
+ghost use Rattle.clap.specs.declared.builder.command.Command.TheViews.{out-Command as fields_of};
+ghost use Rattle.ch_words.specs.declared.line.Tool.TheVariants.{Ask, Dist, Save, Table};
+ghost use Rattle.ch_words.specs.Line.{chtab_form, deep_rule, file_rule, flag_rule, form_of, limit_rule, number_rule, number_rules, option_rule, progress_rule, routes_rule, saved_rule, shared_rules, within_rule};
+
+use ch_graph::limits::{MOST_HOPS, MOST_WEIGHT};
+use ch_work::limits::{MOST_PIECE, MOST_WORKERS};
+use clap::builder::ValueParser;
+use clap::{Arg, ArgAction, Command};
+use std::alloc::{AllocError, Global};
+
+/// A flag.
+fn flag<'a>(alloc: Global, name: &'a str, help: &'a str) -> Arg<'a>
+    ensures rule { rule_of result ≡ flag_rule name.entry.now }
+    ensures local { result.global ≡ false }
+{
+    Arg::new(alloc, name)
+        .long(name)
+        .action(ArgAction::SetTrue)
+        .help(help)
+}
+
+/// A file that must be named.
+fn file<'a>(alloc: Global, name: &'a str, help: &'a str) -> Arg<'a>
+    ensures rule { rule_of result ≡ file_rule name.entry.now }
+    ensures local { result.global ≡ false }
+{
+    Arg::new(alloc, name)
+        .required(true)
+        .action(ArgAction::Set)
+        .help(help)
+}
+
+/// An option with a value, which may be left out.
+fn option<'a>(alloc: Global, name: &'a str, value: &'a str) -> Arg<'a>
+    ensures rule { rule_of result ≡ option_rule name.entry.now }
+    ensures local { result.global ≡ false }
+{
+    Arg::new(alloc, name)
+        .long(name)
+        .action(ArgAction::Set)
+        .value_name(value)
+}
+
+/// An option: a number from 1 to `most`.
+fn number<'a>(alloc: Global, name: &'a str, value: &'a str, most: u32, default: &'a str) -> Arg<'a>
+    ensures rule { rule_of result ≡ number_rule name.entry.now most default.entry.now }
+    ensures local { result.global ≡ false }
+{
+    option(alloc, name, value)
+        .value_parser(ValueParser::signed(1, i64::from(most)))
+        .default_value(default)
+}
+
+/// An option that may be left out: a number from 0 to `most`.
+fn limit<'a>(alloc: Global, name: &'a str, value: &'a str, most: u64) -> Arg<'a>
+    ensures rule { rule_of result ≡ limit_rule name.entry.now most }
+    ensures local { result.global ≡ false }
+{
+    option(alloc, name, value).value_parser(ValueParser::unsigned(0, most))
+}
+
+/// Adds the numbers that each tool reads.
+fn with_numbers<'a>(alloc: Global, command: Command<'a>) -> Result<Command<'a>, AllocError>
+    ensures form { IfOk result (λ c. app_of c ≡ fold with_rule (app_of command.entry) number_rules) }
+    ensures local { (fields_of command.entry).has_globals ≡ false → IfOk result (λ c. (fields_of c).has_globals ≡ false) }
+{
+    let workers = number(alloc, "workers", "N", MOST_WORKERS, "1").help(
+        "Share the work among N threads, from 1 to 64: no answer depends on N",
+    );
+    let piece = number(alloc, "piece", "K", MOST_PIECE, "64").help(
+        "How many queries, sources or nodes a thread takes at a time, from 1 to 1048576",
+    );
+    let hops = number(alloc, "hops", "H", MOST_HOPS, "5").help(
+        "The most legs of a witness path while the hierarchy is built, from 1 to 16",
+    );
+    command.arg(workers)?.arg(piece)?.arg(hops)
+}
+
+/// Whether it is told how far a run is.
+fn progress<'a>(alloc: Global) -> Arg<'a>
+    ensures rule { rule_of result ≡ progress_rule }
+    ensures local { result.global ≡ false }
+{
+    flag(
+        alloc,
+        "progress",
+        "Report on standard error how far the run is. On a terminal that happens without this option, \
+        once a stage takes more than a second [default: off]",
+    )
+}
+
+/// Adds the options that each tool reads.
+fn with_shared<'a>(alloc: Global, command: Command<'a>) -> Result<Command<'a>, AllocError>
+    ensures form { IfOk result (λ c. app_of c ≡ fold with_rule (app_of command.entry) shared_rules) }
+    ensures local { (fields_of command.entry).has_globals ≡ false → IfOk result (λ c. (fields_of c).has_globals ≡ false) }
+{
+    with_numbers(alloc, command)?.arg(progress(alloc))
+}
+
+/// Whether routes are written.
+fn routes<'a>(alloc: Global) -> Arg<'a>
+    ensures rule { rule_of result ≡ routes_rule }
+    ensures local { result.global ≡ false }
+{
+    flag(
+        alloc,
+        "routes",
+        "After each distance, write its route: `r K`, then K lines `a U V W`, the arcs in order [default: off]",
+    )
+}
+
+/// By which order routes are found.
+fn route_order<'a>(alloc: Global) -> Arg<'a>
+    ensures rule { rule_of result ≡ deep_rule }
+    ensures local { result.global ≡ false }
+{
+    flag(
+        alloc,
+        "deep",
+        "With --routes, build the hierarchy in depth order, which is faster. Of equally good routes \
+        another may be written [default: off]",
+    )
+}
+
+/// The limit of a table's distances.
+fn within<'a>(alloc: Global) -> Arg<'a>
+    ensures rule { rule_of result ≡ within_rule }
+    ensures local { result.global ≡ false }
+{
+    limit(alloc, "within", "R", MOST_WEIGHT).help(
+        "In tables, write only distances of at most R, from 0 to 1152921504606846976: each other cell is - \
+        [default: no limit]",
+    )
+}
+
+/// The file of a saved hierarchy.
+fn saved<'a>(alloc: Global) -> Arg<'a>
+    ensures rule { rule_of result ≡ saved_rule }
+    ensures local { result.global ≡ false }
+{
+    option(alloc, "saved", "FILE").help(
+        "Read the hierarchy from FILE and check it, instead of building one. `chtab save` or any other program \
+        wrote it, of this graph: one of another graph is refused, often by `saved line 1: size too large`. \
+        Options on how to build one then have no effect [default: none]",
+    )
+}
+
+/// The file of the graph.
+fn graph<'a>(alloc: Global) -> Arg<'a>
+    ensures rule { rule_of result ≡ file_rule (codes "GRAPH") }
+    ensures local { result.global ≡ false }
+{
+    file(
+        alloc,
+        "GRAPH",
+        "A .gr file: `p sp N M`, then M lines `a U V W`, an arc from node U to node V of weight W. \
+        Nodes are 1 to N",
+    )
+}
+
+/// What clap reads after `dist`.
+fn dist_command<'a>(alloc: Global) -> Result<Command<'a>, AllocError>
+    ensures form { IfOk result (λ c. app_of c ≡ form_of Dist) }
+    ensures local { IfOk result (λ c. (fields_of c).has_globals ≡ false) }
+{
+    let plain = flag(
+        alloc,
+        "plain",
+        "Answer without a hierarchy, by rounds of relaxation over all arcs. All other options but --progress \
+        then have no effect [default: off]",
+    );
+    let command = Command::new(alloc, "dist")
+        .about(
+            "For each query, writes `d S T X`: X is the distance from S to T, or - if no path leads there",
+        )
+        .after_help("Example: chtab dist --routes roads.gr pairs.p2p")
+        .arg(plain)?
+        .arg(routes(alloc))?
+        .arg(route_order(alloc))?
+        .arg(saved(alloc))?;
+    with_shared(alloc, command)?.arg(graph(alloc))?.arg(file(
+        alloc,
+        "QUERIES",
+        "A .p2p file: `p aux sp p2p K`, then K lines `q S T`",
+    ))
+}
+
+/// What clap reads after `table`.
+fn table_command<'a>(alloc: Global) -> Result<Command<'a>, AllocError>
+    ensures form { IfOk result (λ c. app_of c ≡ form_of Table) }
+    ensures local { IfOk result (λ c. (fields_of c).has_globals ≡ false) }
+{
+    let command = Command::new(alloc, "table")
+        .about(
+            "For each source, writes `t S X ..`: an X for each target, the distance from S to it, or - \
+            if no path leads there",
+        )
+        .after_help(
+            "Examples:\n  \
+            chtab table roads.gr depots.ss shops.ss\n  \
+            chtab table --within 900000 roads.gr homes.ss doctors.ss",
+        )
+        .arg(within(alloc))?
+        .arg(saved(alloc))?;
+    with_shared(alloc, command)?
+        .arg(graph(alloc))?
+        .arg(file(
+            alloc,
+            "SOURCES",
+            "A .ss file: `p aux sp ss K`, then K lines `s V`",
+        ))?
+        .arg(file(alloc, "TARGETS", "A .ss file, as for SOURCES"))
+}
+
+/// What clap reads after `save`.
+fn save_command<'a>(alloc: Global) -> Result<Command<'a>, AllocError>
+    ensures form { IfOk result (λ c. app_of c ≡ form_of Save) }
+    ensures local { IfOk result (λ c. (fields_of c).has_globals ≡ false) }
+{
+    let deep = flag(
+        alloc,
+        "deep",
+        "Build the hierarchy in depth order: that is faster, and so are queries and tables by it. \
+        Of equally good routes another may be written [default: off]",
+    );
+    let command = Command::new(alloc, "save")
+        .about("Writes the hierarchy of the graph, for --saved of `dist`, `table` and `ask`")
+        .after_help("Example: chtab save --deep roads.gr >roads.ch")
+        .arg(deep)?;
+    with_shared(alloc, command)?.arg(graph(alloc))
+}
+
+/// What clap reads after `ask`.
+fn ask_command<'a>(alloc: Global) -> Result<Command<'a>, AllocError>
+    ensures form { IfOk result (λ c. app_of c ≡ form_of Ask) }
+    ensures local { IfOk result (λ c. (fields_of c).has_globals ≡ false) }
+{
+    let command = Command::new(alloc, "ask")
+        .about(
+            "Loads the graph once, and answers requests from standard input as they come. `q S T` asks for a \
+            distance. `t K L` asks for a table: then come K lines `s V`, the sources, and L lines `s V`, the targets",
+        )
+        .after_help("Example: chtab ask --saved roads.ch roads.gr <requests.txt")
+        .arg(routes(alloc))?
+        .arg(route_order(alloc))?
+        .arg(within(alloc))?
+        .arg(saved(alloc))?;
+    with_shared(alloc, command)?.arg(graph(alloc))
+}
+
+/// What clap reads: the words after the program's name.
+pub fn command<'a>(alloc: Global) -> Result<Command<'a>, AllocError>
+    ensures { IfOk result (λ c. app_of c ≡ chtab_form) }
+{
+    Command::new(alloc, "chtab")
+        .bin_name("chtab")?
+        .about("Exact shortest paths in road networks")
+        .after_help(
+            "See `chtab dist --help`, `chtab table --help`, `chtab save --help` and `chtab ask --help`. Examples:\n  \
+            chtab dist --routes roads.gr pairs.p2p\n  \
+            chtab table roads.gr depots.ss shops.ss\n  \
+            chtab save --deep roads.gr >roads.ch\n  \
+            chtab ask --saved roads.ch roads.gr <requests.txt",
+        )
+        .no_binary_name(true)
+        .subcommand_required(true)
+        .disable_help_subcommand(true)
+        .subcommand(dist_command(alloc)?)?
+        .subcommand(table_command(alloc)?)?
+        .subcommand(save_command(alloc)?)?
+        .subcommand(ask_command(alloc)?)
+}

@@ -1,6 +1,0 @@
-use Rattle.clap.specs.Words.{found_of}
-use Rattle.chtab.proofs.Words.{is_flag}
-use Rattle.chtab.proofs.line.given.flag_of.Goals as goal
-
-pub returns : goal.returns
-returns c = is_flag (found_of c.args.matches.now) c.args.name.now _ c.get_flag.ensures.none c.get_flag.ensures.value c.get_flag.ensures.other
