@@ -14,6 +14,9 @@ pub mod Meetings
 pub mod Turning
 pub mod Candidates
 pub mod ShortcutLemmas
+pub mod Touching
+pub mod FirstAround
+pub mod TakenOut
 pub mod Neighbours
 pub mod KeptPriorities
 pub mod ConstructionCalls

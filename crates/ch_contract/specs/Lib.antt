@@ -28,6 +28,8 @@ pub mod RoundOrder
 pub mod RoundLaws
 pub mod RoundReference
 pub mod RoundProgress
+pub mod FirstAround
+pub mod TakenOut
 pub mod HeldCosts
 pub mod KnownCosts
 pub mod LegLists

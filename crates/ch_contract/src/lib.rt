@@ -12,6 +12,7 @@
 #![tactic(auto)]
 
 mod construction;
+mod first_around;
 mod held_cost;
 mod known_costs;
 pub mod laws;
@@ -21,6 +22,7 @@ mod order;
 mod priority;
 mod remaining;
 mod room;
+mod round_jobs;
 mod shortcut;
 mod witness_search;
 mod witness_searches;

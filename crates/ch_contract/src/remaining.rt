@@ -5,6 +5,7 @@ mod contraction;
 mod light;
 mod opening;
 mod shortcuts;
+mod taken_out;
 mod witnesses;
 
 ghost use Rattle.std.specs.Prelude.{◌≡◌, ◌<◌, ◌≤◌, IsTrue, IfOk};

@@ -4,6 +4,10 @@ ghost use Rattle.ch_contract.specs.Legs.{IsHopBound};
 ghost use Rattle.ch_contract.specs.Contraction.{AreShortcuts};
 ghost use Rattle.ch_contract.specs.Measures.{IsMeasure};
 ghost use Rattle.ch_contract.specs.Remaining.{legs_of};
+ghost use Rattle.ch_contract.specs.Rounds.{AreShortcutsAmong};
+ghost use Rattle.ch_contract.specs.ShortcutLists.{legs_touching, AreTouching};
+ghost use Rattle.ch_graph.specs.declared.limits.TheConstants.{MOST_WEIGHT};
+ghost use Rattle.ch_hierarchy.specs.Rows.{row};
 
 use crate::held_cost::Word;
 use crate::measure::Measure;
@@ -57,5 +61,32 @@ impl WitnessSearches {
         }
         self.pairs.fit(alloc, remaining.nodes())?;
         remaining.measure_in(&mut self.pairs, list, v, hops)
+    }
+
+    /// The list becomes that of the shortcuts of a node that was taken out, of which a round consists. Witnesses are
+    /// looked for among the legs that are left.
+    pub(crate) fn shortcuts(
+        &mut self,
+        alloc: Global,
+        remaining: &Remaining,
+        list: &mut Vec<Shortcut>,
+        node: u32,
+        hops: u32,
+    ) -> Result<(), AllocError>
+        requires node { node < remaining.now.nodes }
+        requires hops { IsHopBound hops }
+        requires touching { AreTouching remaining.now.nodes MOST_WEIGHT node (row remaining.now.ups node) (row remaining.now.downs node) }
+        requires idle { AreIdle self.old }
+        ensures list { OnOk result (AreShortcutsAmong remaining.now.nodes hops
+            (legs_touching node (row remaining.now.ups node) (row remaining.now.downs node)) (legs_of remaining.now) node list.new.items) }
+        ensures idle { OnOk result (AreIdle self.new) }
+    {
+        let touching = remaining.touched(node);
+        if remaining.is_light() && touching.are_light() {
+            self.words.fit(alloc, remaining.nodes())?;
+            return remaining.fill_shortcuts(&mut self.words, list, &touching, hops);
+        }
+        self.pairs.fit(alloc, remaining.nodes())?;
+        remaining.fill_shortcuts(&mut self.pairs, list, &touching, hops)
     }
 }

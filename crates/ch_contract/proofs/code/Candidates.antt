@@ -24,7 +24,7 @@ use Rattle.std.proofs.lemmas.Option.{same_Some}
 use Rattle.ch_graph.specs.declared.limits.TheConstants.{MOST_NODES, MOST_WEIGHT, MOST_SUM, MOST_HOPS}
 use Rattle.ch_contract.specs.declared.held_cost.TheConstants.{MOST_CHAIN_ARCS, NEVER_ARCS}
 use Rattle.ch_contract.specs.declared.shortcut.Shortcut.{Shortcut}
-use Rattle.ch_contract.specs.Contraction.{IsShortcut}
+use Rattle.ch_contract.specs.Rounds.{IsShortcutAmong}
 use Rattle.ch_contract.specs.ShortcutLists.{AreShortcutsBefore, EndsBefore}
 use Rattle.ch_contract.proofs.code.ShortcutLemmas.{before_raise}
 use Rattle.ch_contract.proofs.code.KnownRounds.{wanted_small, chain_small}
@@ -137,27 +137,27 @@ bound_held limit n v L first up most small light here row bounded =
     subst (IsHeld limit) (sym is.3) (candidate_held limit n first l small (light first.node v (label_of first) here) (light v l.node (label_of l) leg) is.2)
 
 -- where no leg from a node makes a candidate with this leg to it, no shortcut begins with this leg
-pub before_no_candidate : (n h : ℕ) (L : Legs) (v : ℕ) (first : Leg) (up : List Leg) (list : List Shortcut) → L first.node v ≡ Some (label_of first) → AreLegsFrom L v up →
-    All (λ l. IsCandidate n first l → ⊥) up → AreShortcutsBefore n h L v first.node 0 list → AreShortcutsBefore n h L v (first.node + 1) 0 list
-before_no_candidate n h L v first up list here row none are =
-    before_raise n h L v first.node 0 (first.node + 1) 0 list are (omega arith, λ e. absurd (omega arith)) (λ s is e. early s is e (cases_eq first.node s.from))
+pub before_no_candidate : (n h : ℕ) (L W : Legs) (v : ℕ) (first : Leg) (up : List Leg) (list : List Shortcut) → L first.node v ≡ Some (label_of first) → AreLegsFrom L v up →
+    All (λ l. IsCandidate n first l → ⊥) up → AreShortcutsBefore n h L W v first.node 0 list → AreShortcutsBefore n h L W v (first.node + 1) 0 list
+before_no_candidate n h L W v first up list here row none are =
+    before_raise n h L W v first.node 0 (first.node + 1) 0 list are (omega arith, λ e. absurd (omega arith)) (λ s is e. early s is e (cases_eq first.node s.from))
   where
-    early : (s : Shortcut) → IsShortcut n h L v s → EndsBefore s (first.node + 1) 0 → (first.node ≡ s.from) ⊎ (first.node ≢ s.from) → EndsBefore s first.node 0
+    early : (s : Shortcut) → IsShortcutAmong n h L W v s → EndsBefore s (first.node + 1) 0 → (first.node ≡ s.from) ⊎ (first.node ≢ s.from) → EndsBefore s first.node 0
     early s is e (inr ne) = elim (cases_lt s.from (first.node + 1)) [
       | inl lt ↦ (omega arith, λ le. absurd (ne (omega arith)))
       | inr ge ↦ let no = e.1 ge in absurd (omega (arith, no))
     ]
     early s is e (inl same) =
-        let legs = is.legs in
+        let legs = is.pair.legs in
         let m : Contains up (leg_at s.to legs.1) = row_member up s.to legs.1 (row.1 s.to ∙ legs.3) in
         let begins : label_of first ≡ legs.0 = same_Some _ _ (sym here ∙ ap (λ z. L z v) same ∙ legs.2) in
         let sum : s.cost ≡ cost_sum first.cost legs.1.cost = legs.4 ∙ ap (λ (z : Label). cost_sum z.cost legs.1.cost) (sym begins) in
-        let weight = is.weight in
-        let arcs = is.arcs in
+        let weight = is.pair.weight in
+        let arcs = is.pair.arcs in
         absurd (All-contains (λ (l : Leg). IsCandidate n first l → ⊥) up (leg_at s.to legs.1) none m (record {
-          apart = λ e. is.apart (sym same ∙ e);
-          weight = subst (λ (z : Cost). z.weight ≤ MOST_WEIGHT) sum is.weight;
-          arcs = subst (λ (z : Cost). z.arcs < n) sum is.arcs;
+          apart = λ e. is.pair.apart (sym same ∙ e);
+          weight = subst (λ (z : Cost). z.weight ≤ MOST_WEIGHT) sum is.pair.weight;
+          arcs = subst (λ (z : Cost). z.arcs < n) sum is.pair.arcs;
         }))
 
 -- the legs from a node may be added to a leg

@@ -1,22 +1,23 @@
--- The lists that a contraction leaves.
+-- The lists that taking a node out leaves, and those that putting shortcuts in leaves.
 use Rattle.std.proofs.Common.{◌≡◌, ℕ, ◌<◌, Bool, true, false, List, [], length, set, Option, None, All, Contains, refl, sym, ◌∙◌, ap, subst, arith, inl, inr}
 use Rattle.std.specs.Prelude.{◌≢◌, ◌==◌, ◌||◌, if◌then◌else◌}
 use Rattle.std.proofs.lemmas.Bool.{cases_eq, eqb-true, eqb-false}
 use Rattle.std.proofs.lemmas.Bool.Decides.{nat_tests}
 use Rattle.std.proofs.lemmas.List.{length-set, get_or-set_same, get_or-set_other}
-use Rattle.std.proofs.lemmas.List.Elements.{All-from_get_or, Contains-get_or}
+use Rattle.std.proofs.lemmas.List.Elements.{All-from_get_or, All-contains, Contains-get_or}
+use Rattle.std.proofs.lemmas.Option.{same_Some}
+use Rattle.ch_graph.proofs.Lists.{contains_none}
 use Rattle.ch_hierarchy.specs.declared.leg.Leg.{Leg}
 use Rattle.ch_contract.specs.declared.shortcut.Shortcut.{Shortcut}
-use Rattle.ch_contract.specs.Legs.{Label, SameLegs}
-use Rattle.ch_contract.specs.Contraction.{AreShortcuts, legs_after_contraction}
+use Rattle.ch_contract.specs.Legs.{Label, SameLegs, IsLegWithin}
+use Rattle.ch_contract.specs.Contraction.{leg_after_shortcuts, legs_after_contraction, shortcut_label}
 use Rattle.ch_hierarchy.specs.Rows.{row, IsRow}
 use Rattle.ch_contract.specs.LegRows.{row_leg, label_of}
 use Rattle.ch_contract.specs.LegLists.{AreRows, HaveAll, AreOverridden, IsWithinLimits, legs_from, legs_into}
-use Rattle.ch_contract.proofs.theory.Contracting.{after, contracted_within, pairs_of_shortcuts}
+use Rattle.ch_contract.proofs.theory.Contracting.{contracted_within, override_cases}
 use Rattle.ch_contract.proofs.theory.Opening.{same_within}
 use Rattle.ch_contract.proofs.theory.RowLegs.{row_has, row_member, leg_at}
 use Rattle.ch_hierarchy.proofs.theory.NoLeg.{no_leg}
-use Rattle.ch_contract.proofs.code.ListEdits.{no_shortcut}
 
 -- the legs at v are taken out of all lists
 pub record AreWithout (v : ℕ) (old new : List (List Leg)) : Type 0 where
@@ -96,56 +97,49 @@ module _ (n : ℕ) (outs ins : List (List Leg)) (within : IsWithinLimits n outs 
       node : (l : Leg) → Contains (row ins v) l → l.node < length outs
       node l c = let lt = (within.legs l.node v (label_of l) (within.agree l.node v ∙ row_has (row ins v) l (within.rows.1 v) c)).ends.0 in omega (arith, within.sizes.0)
 
-  module _ (h : ℕ) (list : List Shortcut) (are : AreShortcuts n h (legs_from outs) v list) where
-    -- the ends of a shortcut are nodes
-    pub from_within : All (λ s. s.from < n) list
-    from_within = All-from_get_or (λ (s : Shortcut). s.from < n) list no_shortcut (λ i lt. node _ (Contains-get_or list i no_shortcut lt))
+  -- both sides once no leg touches v
+  module _ (new_outs new_ins : List (List Leg)) (from : AreCleared v outs new_outs) (into : AreCleared v ins new_ins) where
+    -- the lists of legs to each node have the same legs
+    ins_cleared : SameLegs (legs_into new_ins) (legs_after_contraction (legs_from outs) v [])
+    ins_cleared u w = into.legs w u ∙ at (w == v) (u == v)
       where
-        node : (s : Shortcut) → Contains list s → s.from < n
-        node s c = let legs = (are.sound s c).legs in (within.legs s.from v legs.0 legs.2).ends.0
+        at : (p q : Bool) → (if p || q then None else legs_into ins u w) ≡ (if q || p then None else legs_from outs u w)
+        at true true = refl
+        at true false = refl
+        at false true = refl
+        at false false = sym (within.agree u w)
 
-    pub to_within : All (λ s. s.to < n) list
-    to_within = All-from_get_or (λ (s : Shortcut). s.to < n) list no_shortcut (λ i lt. node _ (Contains-get_or list i no_shortcut lt))
-      where
-        node : (s : Shortcut) → Contains list s → s.to < n
-        node s c = let legs = (are.sound s c).legs in (within.legs v s.to legs.1 legs.3).ends.1
+    pub within_cleared : IsWithinLimits n new_outs new_ins
+    within_cleared = record {
+      nodes = within.nodes;
+      sizes = (from.size ∙ within.sizes.0, into.size ∙ within.sizes.1);
+      rows = (from.rows, into.rows);
+      agree = λ u w. from.legs u w ∙ sym (ins_cleared u w);
+      legs = same_within n (legs_from new_outs) (legs_after_contraction (legs_from outs) v []) from.legs (contracted_within n (legs_from outs) v [] within.legs (λ s c. absurd (contains_none s c)));
+    }
 
-    module _ (mid_outs mid_ins new_outs new_ins : List (List Leg)) (from : AreCleared v outs mid_outs) (into : AreCleared v ins mid_ins)
-        (put : AreOverridden legs_from v list mid_outs new_outs) (put_turned : AreOverridden legs_into v list mid_ins new_ins) where
-      -- both sides have the legs after the contraction
-      pub outs_after : SameLegs (legs_from new_outs) (legs_after_contraction (legs_from outs) v list)
-      outs_after = after n h v (legs_from outs) (legs_from mid_outs) (legs_from new_outs) list within.legs are from.legs put.legs
+-- what taking a node out does to both sides, call after call
+pub clearing_leaves : (n : ℕ) (outs ins : List (List Leg)) → IsWithinLimits n outs ins → (v : ℕ) → v < n → (mid_outs mid_ins new_outs new_ins : List (List Leg)) →
+    mid_outs ≡ set outs v [] → mid_ins ≡ set ins v [] → AreWithout v mid_outs new_outs → AreWithout v mid_ins new_ins →
+    IsWithinLimits n new_outs new_ins × SameLegs (legs_from new_outs) (legs_after_contraction (legs_from outs) v [])
+clearing_leaves n outs ins within v inside mid_outs mid_ins new_outs new_ins e f a b =
+    let from = cleared v outs mid_outs (omega (arith, within.sizes.0)) e new_outs a in
+    let into = cleared v ins mid_ins (omega (arith, within.sizes.1)) f new_ins b in
+    (within_cleared n outs ins within v new_outs new_ins from into, λ u w. from.legs u w)
 
-      ins_after : SameLegs (legs_into new_ins) (legs_after_contraction (legs_from outs) v list)
-      ins_after = after n h v (legs_from outs) (legs_into mid_ins) (legs_into new_ins) list within.legs are gone put_turned.legs
-        where
-          at : (p q : Bool) (u w : ℕ) → (if p || q then None else legs_into ins u w) ≡ (if q || p then None else legs_from outs u w)
-          at true true u w = refl
-          at true false u w = refl
-          at false true u w = refl
-          at false false u w = sym (within.agree u w)
-
-          gone : SameLegs (legs_into mid_ins) (legs_after_contraction (legs_from outs) v [])
-          gone u w = into.legs w u ∙ at (w == v) (u == v) u w
-
-      pub within_after : IsWithinLimits n new_outs new_ins
-      within_after = record {
-        nodes = within.nodes;
-        sizes = (put.size ∙ from.size ∙ within.sizes.0, put_turned.size ∙ into.size ∙ within.sizes.1);
-        rows = (put.rows, put_turned.rows);
-        agree = λ u w. outs_after u w ∙ sym (ins_after u w);
-        legs = same_within n (legs_from new_outs) (legs_after_contraction (legs_from outs) v list) outs_after (contracted_within n (legs_from outs) v list within.legs (pairs_of_shortcuts n h (legs_from outs) v list are));
-      }
-
--- what a contraction does to both sides, call after call
-pub contraction_leaves : (n : ℕ) (outs ins : List (List Leg)) → IsWithinLimits n outs ins → (v : ℕ) → v < n → (h : ℕ) (list : List Shortcut) →
-    AreShortcuts n h (legs_from outs) v list → (mid_outs mid_ins taken_outs taken_ins new_outs new_ins : List (List Leg)) →
-    mid_outs ≡ set outs v [] → mid_ins ≡ set ins v [] → AreWithout v mid_outs taken_outs → AreWithout v mid_ins taken_ins →
-    AreOverridden legs_from v list taken_outs new_outs → AreOverridden legs_into v list taken_ins new_ins →
-    IsWithinLimits n new_outs new_ins × SameLegs (legs_from new_outs) (legs_after_contraction (legs_from outs) v list)
-contraction_leaves n outs ins within v inside h list are mid_outs mid_ins taken_outs taken_ins new_outs new_ins e f a b put put_turned =
-    let from = cleared v outs mid_outs (omega (arith, within.sizes.0)) e taken_outs a in
-    let into = cleared v ins mid_ins (omega (arith, within.sizes.1)) f taken_ins b in (
-      within_after n outs ins within v h list are taken_outs taken_ins new_outs new_ins from into put put_turned,
-      outs_after n outs ins within v h list are taken_outs taken_ins new_outs new_ins from into put put_turned,
-    )
+-- what putting shortcuts in does to both sides
+pub putting_leaves : (n : ℕ) (outs ins : List (List Leg)) → IsWithinLimits n outs ins → (v : ℕ) (list : List Shortcut) → All (λ s. IsLegWithin n s.from s.to (shortcut_label v s)) list → (new_outs new_ins : List (List Leg)) →
+    AreOverridden legs_from v list outs new_outs → AreOverridden legs_into v list ins new_ins → IsWithinLimits n new_outs new_ins
+putting_leaves n outs ins within v list are new_outs new_ins put put_turned = record {
+  nodes = within.nodes;
+  sizes = (put.size ∙ within.sizes.0, put_turned.size ∙ within.sizes.1);
+  rows = (put.rows, put_turned.rows);
+  agree = λ u w. put.legs u w ∙ ap (leg_after_shortcuts v list u w) (within.agree u w) ∙ sym (put_turned.legs u w);
+  legs = λ u w l e. elim (override_cases v list u w (legs_from outs u w)) [
+    | inl stays ↦ within.legs u w l (sym stays ∙ sym (put.legs u w) ∙ e)
+    | inr s ↦
+        let is = All-contains (λ (t : Shortcut). IsLegWithin n t.from t.to (shortcut_label v t)) list s.0 are s.1 in
+        let label = same_Some _ _ (sym s.4 ∙ sym (put.legs u w) ∙ e) in
+        subst (IsLegWithin n u w) label (subst (λ z. IsLegWithin n z w (shortcut_label v s.0)) s.2 (subst (λ z. IsLegWithin n s.0.from z (shortcut_label v s.0)) s.3 is))
+  ];
+}

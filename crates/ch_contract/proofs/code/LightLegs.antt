@@ -1,17 +1,20 @@
 -- Legs that are light enough for searches over words, and stay so.
-use Rattle.std.proofs.Common.{ℕ, ◌≤◌, List, sym, ◌∙◌, subst, inl, inr}
+use Rattle.std.proofs.Common.{◌≡◌, ℕ, ◌≤◌, List, [], sym, ◌∙◌, subst, inl, inr}
 use Rattle.std.specs.Prelude.{All}
 use Rattle.std.proofs.lemmas.List.Elements.{All-contains}
+use Rattle.std.proofs.lemmas.Option.{same_Some}
+use Rattle.ch_graph.proofs.Lists.{contains_none}
 use Rattle.ch_graph.specs.declared.limits.TheConstants.{MOST_WEIGHT}
 use Rattle.ch_graph.specs.declared.arc.InArc.{InArc}
 use Rattle.ch_graph.specs.Graph.{Network}
 use Rattle.ch_hierarchy.specs.declared.leg.Leg.{Leg}
 use Rattle.ch_contract.specs.declared.shortcut.Shortcut.{Shortcut}
 use Rattle.ch_contract.specs.Legs.{Label, Legs, SameLegs, AreLegsWithin, opening}
-use Rattle.ch_contract.specs.Contraction.{legs_after_contraction}
+use Rattle.ch_contract.specs.Contraction.{leg_after_shortcuts, legs_after_contraction}
 use Rattle.ch_contract.specs.LegLists.{legs_from, legs_into}
 use Rattle.ch_contract.specs.KnownCosts.{AreLegsUpTo}
 use Rattle.ch_contract.proofs.theory.OpeningLegs.{arc, opening_leg}
+use Rattle.ch_contract.proofs.theory.Contracting.{override_cases}
 use Rattle.ch_contract.proofs.theory.Levelled.{contracted_cases}
 
 -- legs within the limits
@@ -28,9 +31,16 @@ opened_light limit g L light same u w l e =
     let is = opening_leg g u w l (sym (same u w) ∙ e) in
     subst (λ (z : Label). z.cost.weight ≤ limit) (sym is.label) (All-contains (λ (a : InArc). a.weight ≤ limit) g.arcs (arc u w is.weight) light is.arc_is)
 
--- light legs after light shortcuts are put in
-pub contracted_light : (limit : ℕ) (L : Legs) (v : ℕ) (list : List Shortcut) (M : Legs) → AreLegsUpTo limit L → All (λ s. s.cost.weight ≤ limit) list → SameLegs M (legs_after_contraction L v list) → AreLegsUpTo limit M
-contracted_light limit L v list M before light same u w l e = elim (contracted_cases L v list u w l (sym (same u w) ∙ e)) [
+-- light legs after a node is taken out
+pub cleared_light : (limit : ℕ) (L : Legs) (v : ℕ) (M : Legs) → AreLegsUpTo limit L → SameLegs M (legs_after_contraction L v []) → AreLegsUpTo limit M
+cleared_light limit L v M before same u w l e = elim (contracted_cases L v [] u w l (sym (same u w) ∙ e)) [
   | inl old ↦ before u w l old
-  | inr made ↦ subst (λ (z : Label). z.cost.weight ≤ limit) made.4 (All-contains (λ (s : Shortcut). s.cost.weight ≤ limit) list made.0 light made.1)
+  | inr made ↦ absurd (contains_none made.0 made.1)
+]
+
+-- light legs after light shortcuts are put in
+pub put_light : (limit : ℕ) (L : Legs) (v : ℕ) (list : List Shortcut) (M : Legs) → AreLegsUpTo limit L → All (λ s. s.cost.weight ≤ limit) list → ((u w : ℕ) → M u w ≡ leg_after_shortcuts v list u w (L u w)) → AreLegsUpTo limit M
+put_light limit L v list M before light same u w l e = elim (override_cases v list u w (L u w)) [
+  | inl stays ↦ before u w l (sym stays ∙ sym (same u w) ∙ e)
+  | inr s ↦ subst (λ (z : Label). z.cost.weight ≤ limit) (same_Some _ _ (sym s.4 ∙ sym (same u w) ∙ e)) (All-contains (λ (t : Shortcut). t.cost.weight ≤ limit) list s.0 light s.1)
 ]

@@ -67,7 +67,7 @@ module _ (n : ℕ) (L : Legs) (v : ℕ) (list : List Shortcut) (limits : AreLegs
       at false false e f = refl
 
   -- a pair keeps the limits
-  shortcut_within : (s : Shortcut) → IsPairThrough n L v s → IsLegWithin n s.from s.to (shortcut_label v s)
+  pub shortcut_within : (s : Shortcut) → IsPairThrough n L v s → IsLegWithin n s.from s.to (shortcut_label v s)
   shortcut_within s is =
       let first = limits s.from v is.legs.0 is.legs.2 in
       let second = limits v s.to is.legs.1 is.legs.3 in

@@ -94,7 +94,7 @@ pub one_priority_after : (by : OrderBy) (n h : ℕ) (order : List ℕ) (L : ℕ 
 one_priority_after by n h order L i x p q a b = one_priority by n h (L a.0) (depth_after order L a.0) x p q a.2 (subst (λ j. IsPriorityBy by n h (L j) (depth_after order L j) x q) (sym (one_touch order L i x a.0 b.0 a.1 b.1)) b.2)
 
 -- of an order of different nodes, no node stands among those before its place
-not_before : (i : ℕ) (order : List ℕ) → i < length order → AllPairs ◌≢◌ order → Contains (take i order) (slice_index order i) → ⊥
+pub not_before : (i : ℕ) (order : List ℕ) → i < length order → AllPairs ◌≢◌ order → Contains (take i order) (slice_index order i) → ⊥
 not_before i order lt distinct c =
     let k = c.0 in
     let short = c.1 in

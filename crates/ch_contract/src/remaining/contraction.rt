@@ -1,7 +1,7 @@
 //! The contraction of one node.
-ghost use Rattle.std.specs.Prelude.{◌≡◌, ℕ, ◌<◌, IfOk};
-ghost use Rattle.ch_contract.specs.Legs.{SameLegs, IsHopBound, turned_legs};
-ghost use Rattle.ch_contract.specs.Contraction.{AreShortcuts, Contracts, legs_after_contraction};
+ghost use Rattle.std.specs.Prelude.{◌≡◌, ℕ, ◌<◌, [], All, AllPairs, IfOk};
+ghost use Rattle.ch_contract.specs.Legs.{SameLegs, IsHopBound, IsLegWithin, turned_legs};
+ghost use Rattle.ch_contract.specs.Contraction.{AreShortcuts, Contracts, IsPairBefore, leg_after_shortcuts, legs_after_contraction, shortcut_label};
 ghost use Rattle.ch_contract.specs.LegRows.{AreLegsFrom, AreLegsTo};
 ghost use Rattle.ch_contract.specs.Remaining.{legs_of, IsSetAside};
 
@@ -43,6 +43,59 @@ impl Remaining {
         Ok((remaining, Removed { up, down }))
     }
 
+    /// Takes `v` out with all legs that touch it, and sets its own aside.
+    pub(crate) fn take_out(self, v: u32) -> Remaining
+        requires node { v < self.nodes }
+        ensures nodes { result.nodes ≡ self.nodes }
+        ensures legs { SameLegs (legs_of result) (legs_after_contraction (legs_of self) v []) }
+        ensures up { IsSetAside (legs_of self) v self.ups result.ups }
+        ensures down { IsSetAside (turned_legs (legs_of self)) v self.downs result.downs }
+    {
+        let Remaining {
+            nodes,
+            mut outs,
+            mut ins,
+            light,
+            alloc,
+        } = self;
+        outs.set_aside(v);
+        ins.set_aside(v);
+        outs.take_from(v, ins.aside(v));
+        ins.take_from(v, outs.aside(v));
+        Remaining {
+            nodes,
+            outs,
+            ins,
+            light,
+            alloc,
+        }
+    }
+
+    /// Puts these shortcuts of `v` in.
+    pub(crate) fn put(self, v: u32, shortcuts: &[Shortcut]) -> Result<Remaining, AllocError>
+        requires ordered { AllPairs IsPairBefore shortcuts.now }
+        requires within { All (λ s. IsLegWithin self.nodes s.from s.to (shortcut_label v s)) shortcuts.now }
+        ensures nodes { IfOk result (λ r. r.nodes ≡ self.nodes) }
+        ensures legs { IfOk result (λ r. (u w : ℕ) → legs_of r u w ≡ leg_after_shortcuts v shortcuts.now u w (legs_of self u w)) }
+        ensures aside { IfOk result (λ r. (r.ups ≡ self.ups) × (r.downs ≡ self.downs)) }
+    {
+        let Remaining {
+            nodes,
+            mut outs,
+            mut ins,
+            light,
+            alloc,
+        } = self;
+        put_shortcuts(&mut outs, &mut ins, v, shortcuts)?;
+        Ok(Remaining {
+            nodes,
+            outs,
+            ins,
+            light: light && are_light(shortcuts),
+            alloc,
+        })
+    }
+
     /// Takes `v` out with all legs that touch it, sets its own aside, and puts these shortcuts in, which are those of `v`.
     pub(crate) fn contract_with(
         self,
@@ -56,24 +109,8 @@ impl Remaining {
         ensures up { IfOk result (λ r. IsSetAside (legs_of self) v self.ups r.ups) }
         ensures down { IfOk result (λ r. IsSetAside (turned_legs (legs_of self)) v self.downs r.downs) }
     {
-        let Remaining {
-            nodes,
-            mut outs,
-            mut ins,
-            light,
-            alloc,
-        } = self;
-        outs.set_aside(v);
-        ins.set_aside(v);
-        outs.take_from(v, ins.aside(v));
-        ins.take_from(v, outs.aside(v));
-        put_shortcuts(&mut outs, &mut ins, v, shortcuts)?;
-        Ok(Remaining {
-            nodes,
-            outs,
-            ins,
-            light: light && are_light(shortcuts),
-            alloc,
-        })
+        // The proof learns from this call that the legs keep the limits.
+        let _ = self.nodes();
+        self.take_out(v).put(v, shortcuts)
     }
 }

@@ -1,10 +1,13 @@
 //! The shortcuts that the contraction of a node would leave, and its priority.
-ghost use Rattle.std.specs.Prelude.{◌≡◌, ◌+◌, ◌<◌, IfOk, OnOk, Some};
-ghost use Rattle.ch_contract.specs.Legs.{IsHopBound};
+ghost use Rattle.std.specs.Prelude.{◌≡◌, ◌+◌, ◌<◌, ◌≤◌, All, IfOk, IsTrue, OnOk, Some};
+ghost use Rattle.ch_contract.specs.declared.held_cost.TheConstants.{MOST_LIGHT};
+ghost use Rattle.ch_hierarchy.specs.Rows.{row};
+ghost use Rattle.ch_contract.specs.Legs.{Legs, IsHopBound, IsLegWithin};
 ghost use Rattle.ch_contract.specs.Contraction.{AreShortcuts, IsPriority};
-ghost use Rattle.ch_contract.specs.LegRows.{AreLegsFrom, label_of};
+ghost use Rattle.ch_contract.specs.LegRows.{AreLegsFrom, AreLegsTo, label_of};
+ghost use Rattle.ch_contract.specs.Rounds.{AreShortcutsAmong};
 ghost use Rattle.ch_contract.specs.Measures.{IsMeasure};
-ghost use Rattle.ch_contract.specs.ShortcutLists.{AreShortcutsBefore, IsShortcutBetween};
+ghost use Rattle.ch_contract.specs.ShortcutLists.{legs_touching, AreTouching, AreShortcutsBefore, IsShortcutBetween};
 ghost use Rattle.ch_contract.specs.HeldCosts.{IsHeld};
 ghost use Rattle.ch_contract.specs.KnownCosts.{known_of, IsClean, AreLegsUpTo};
 ghost use Rattle.ch_contract.specs.Candidates.{IsKnown, IsMostFor};
@@ -14,6 +17,7 @@ use crate::held_cost::HeldCost;
 use crate::measure::{Measure, OrderBy};
 use crate::remaining::Remaining;
 use crate::remaining::candidates::{candidate_cost, most_cost};
+use crate::remaining::light::are_light_legs;
 use crate::shortcut::Shortcut;
 use crate::witness_search::{Wanted, WitnessSearch};
 use ch_graph::Cost;
@@ -33,7 +37,8 @@ impl Remaining {
     {
         let mut search: WitnessSearch<Cost> = WitnessSearch::new(self.alloc, self.nodes())?;
         let mut list = Vec::new(self.alloc);
-        self.fill_shortcuts(&mut search, &mut list, v, hops)?;
+        let touching = self.touching(v);
+        self.fill_shortcuts(&mut search, &mut list, &touching, hops)?;
         Ok(list)
     }
 
@@ -71,71 +76,100 @@ impl Remaining {
     {
         // The proof learns from this call that the legs keep the limits.
         let _ = self.nodes();
-        self.fill_shortcuts(search, list, v, hops)?;
-        let legs = self.out_legs(v).len() + self.in_legs(v).len();
+        let touching = self.touching(v);
+        self.fill_shortcuts(search, list, &touching, hops)?;
+        let legs = touching.up.len() + touching.down.len();
         Ok(Measure {
             shortcuts: list.len() as u64,
             legs: legs as u64,
         })
     }
 
-    /// Makes the list that of the shortcuts of `v`, judged in this room for searches. It takes memory only
-    /// where the room or the list has to grow.
-    fn fill_shortcuts<K: HeldCost>(
+    /// A node with the legs that touch it now.
+    fn touching(&self, node: u32) -> Touching<'_>
+        requires { node < self.now.nodes }
+        ensures node { result.node ≡ node }
+        ensures up { AreLegsFrom (legs_of self.now) result.node result.up.now }
+        ensures down { AreLegsTo (legs_of self.now) result.node result.down.now }
+    {
+        Touching {
+            node,
+            up: self.out_legs(node),
+            down: self.in_legs(node),
+        }
+    }
+
+    /// A node with the legs that touched it when it was taken out.
+    pub(crate) fn touched(&self, node: u32) -> Touching<'_>
+        requires { node < self.now.nodes }
+        ensures node { result.node ≡ node }
+        ensures up { result.up.now ≡ row self.now.ups node }
+        ensures down { result.down.now ≡ row self.now.downs node }
+    {
+        Touching {
+            node,
+            up: self.up_legs(node),
+            down: self.down_legs(node),
+        }
+    }
+
+    /// Makes the list that of the shortcuts of a node with these legs, which may have been set aside, judged in this
+    /// room for searches. It takes memory only where the room or the list has to grow.
+    pub(crate) fn fill_shortcuts<K: HeldCost>(
         &self,
         search: &mut WitnessSearch<K>,
         list: &mut Vec<Shortcut>,
-        v: u32,
+        touching: &Touching<'_>,
         hops: u32,
     ) -> Result<(), AllocError>
-        requires node { v < self.now.nodes }
         requires hops { IsHopBound hops }
         requires light { AreLegsUpTo K.limit (legs_of self.now) }
+        requires touching { AreTouching self.now.nodes K.limit touching.now.node touching.now.up.now touching.now.down.now }
         requires clean { IsClean self.now.nodes (known_of K.cost search.old.known) }
-        ensures list { OnOk result (AreShortcuts self.now.nodes hops (legs_of self.now) v list.new.items) }
+        ensures list { OnOk result (AreShortcutsAmong self.now.nodes hops
+            (legs_touching touching.now.node touching.now.up.now touching.now.down.now) (legs_of self.now) touching.now.node list.new.items) }
         ensures clean { OnOk result (IsClean self.now.nodes (known_of K.cost search.new.known)) }
     {
         list.clear();
-        let up = self.out_legs(v);
-        for first in self.in_legs(v) {
-            self.push_shortcuts(search, list, v, *first, up, hops)?;
+        for first in touching.down {
+            self.push_shortcuts(search, list, touching, *first, hops)?;
         }
         Ok(())
     }
 
-    /// Puts the shortcuts of `v` at the end of the list that begin with this leg to `v`: one search for all
+    /// Puts the shortcuts of a node at the end of the list that begin with this leg to it: one search for all
     /// of them.
     fn push_shortcuts<K: HeldCost>(
         &self,
         search: &mut WitnessSearch<K>,
         list: &mut Vec<Shortcut>,
-        v: u32,
+        touching: &Touching<'_>,
         first: Leg,
-        up: &[Leg],
         hops: u32,
     ) -> Result<(), AllocError>
-        requires node { v < self.now.nodes }
         requires hops { IsHopBound hops }
         requires light { AreLegsUpTo K.limit (legs_of self.now) }
-        requires first { legs_of self.now first.node v ≡ Some (label_of first) }
-        requires up { AreLegsFrom (legs_of self.now) v up.now }
+        requires touching { AreTouching self.now.nodes K.limit touching.now.node touching.now.up.now touching.now.down.now }
+        requires first { legs_touching touching.now.node touching.now.up.now touching.now.down.now first.node touching.now.node ≡ Some (label_of first) }
         requires clean { IsClean self.now.nodes (known_of K.cost search.old.known) }
-        requires list { AreShortcutsBefore self.now.nodes hops (legs_of self.now) v first.node 0 list.old.items }
+        requires list { AreShortcutsBefore self.now.nodes hops (legs_touching touching.now.node touching.now.up.now touching.now.down.now)
+            (legs_of self.now) touching.now.node first.node 0 list.old.items }
         ensures list { OnOk result
-            (AreShortcutsBefore self.now.nodes hops (legs_of self.now) v (first.node + 1) 0 list.new.items) }
+            (AreShortcutsBefore self.now.nodes hops (legs_touching touching.now.node touching.now.up.now touching.now.down.now)
+            (legs_of self.now) touching.now.node (first.node + 1) 0 list.new.items) }
         ensures clean { OnOk result (IsClean self.now.nodes (known_of K.cost search.new.known)) }
     {
         let nodes = self.nodes();
-        let Some(most) = most_cost(nodes, first, up) else {
+        let Some(most) = most_cost(nodes, first, touching.up) else {
             return Ok(());
         };
         let wanted = Wanted {
             end: first.node,
-            avoided: v,
+            avoided: touching.node,
             most,
         };
         self.reach(search, wanted, hops)?;
-        for second in up {
+        for second in touching.up {
             if let Some(shortcut) = self.shortcut(search, wanted, first, *second, hops) {
                 list.push(shortcut)?;
             }
@@ -157,12 +191,13 @@ impl Remaining {
         requires hops { IsHopBound hops }
         requires light { AreLegsUpTo K.limit (legs_of self.now) }
         requires end { wanted.end ≡ first.node }
-        requires first { legs_of self.now first.node wanted.avoided ≡ Some (label_of first) }
-        requires second { legs_of self.now wanted.avoided second.node ≡ Some (label_of second) }
+        requires first { IsLegWithin self.now.nodes first.node wanted.avoided (label_of first) × (first.cost.weight ≤ K.limit) }
+        requires second { IsLegWithin self.now.nodes wanted.avoided second.node (label_of second) × (second.cost.weight ≤ K.limit) }
         requires known { IsKnown self.now wanted hops (known_of K.cost search.now.known) }
         requires held { IsHeld K.limit wanted.most }
         requires most { IsMostFor self.now.nodes first wanted.most second }
-        ensures { IsShortcutBetween self.now.nodes hops (legs_of self.now) wanted.avoided first.node second.node result }
+        ensures { (L : Legs) → L first.node wanted.avoided ≡ Some (label_of first) → L wanted.avoided second.node ≡ Some (label_of second) →
+            IsShortcutBetween self.now.nodes hops L (legs_of self.now) wanted.avoided first.node second.node result }
     {
         let nodes = self.nodes();
         let cost = candidate_cost(nodes, first, second)?;
@@ -174,5 +209,23 @@ impl Remaining {
             to: second.node,
             cost,
         })
+    }
+}
+
+/// A node, with the legs from it and those to it.
+#[derive(Clone, Copy)]
+pub(crate) struct Touching<'a> {
+    pub(crate) node: u32,
+    pub(crate) up: &'a [Leg],
+    pub(crate) down: &'a [Leg],
+}
+
+impl Touching<'_> {
+    /// Whether no leg of these is too heavy for searches over words.
+    pub(crate) fn are_light(&self) -> bool
+        ensures up { IsTrue result → All (λ l. l.cost.weight ≤ MOST_LIGHT) self.now.up.now }
+        ensures down { IsTrue result → All (λ l. l.cost.weight ≤ MOST_LIGHT) self.now.down.now }
+    {
+        are_light_legs(self.up) && are_light_legs(self.down)
     }
 }

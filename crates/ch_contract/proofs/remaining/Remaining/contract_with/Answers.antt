@@ -1,113 +1,38 @@
-use Rattle.std.proofs.Common.{◌≡◌, ◌<◌, ℕ, length, List, All, sym, ◌∙◌, ap, subst, arith}
-use Rattle.std.proofs.lemmas.List.{length-set}
-use Rattle.ch_contract.specs.declared.held_cost.TheConstants.{MOST_LIGHT}
-use Rattle.ch_hierarchy.specs.declared.leg.Leg.{Leg}
-use Rattle.ch_hierarchy.specs.Rows.{row}
+use Rattle.std.proofs.Common.{◌≡◌, sym, ◌∙◌, ap, subst, All}
+use Rattle.std.proofs.lemmas.Result.{IfOk-weaker}
+use Rattle.std.proofs.lemmas.List.Elements.{All-from_get_or, Contains-get_or}
 use Rattle.ch_contract.specs.declared.shortcut.Shortcut.{Shortcut}
-use Rattle.ch_contract.specs.Legs.{Legs, SameLegs, turned_legs}
-use Rattle.ch_contract.specs.Contraction.{AreShortcuts, legs_after_contraction}
-use Rattle.ch_contract.specs.LegRows.{AreLegsFrom}
-use Rattle.ch_contract.specs.LegLists.{HaveAll, IsReplaced, IsWithinLimits, legs_from}
-use Rattle.ch_contract.specs.Remaining.{RemainingLegs, IsSetAside, legs_of}
-use Rattle.ch_contract.proofs.code.ClearedLists.{outs_at, ins_at, outs_within, ins_within, from_within, to_within, aside_rows, aside_size, aside_all, contraction_leaves}
-use Rattle.ch_contract.proofs.code.Candidates.{from_rows, to_rows}
-use Rattle.ch_contract.proofs.code.LightLegs.{contracted_light}
-use Rattle.ch_contract.proofs.remaining.Remaining.contract_with.Goals.{After-set_aside-2, After-take_from-2, In_ok-put_shortcuts, then-light, else-light}
+use Rattle.ch_contract.specs.Legs.{IsLegWithin, turned_legs}
+use Rattle.ch_contract.specs.Contraction.{shortcut_label}
+use Rattle.ch_contract.specs.Remaining.{IsSetAside, legs_of}
+use Rattle.ch_contract.proofs.theory.Contracting.{after, pairs_of_shortcuts, shortcut_within}
+use Rattle.ch_contract.proofs.code.ListEdits.{no_shortcut}
 use Rattle.ch_contract.proofs.remaining.Remaining.contract_with.Goals as goal
 
--- the node is one of those that have lists
-inside : (c : After-set_aside-2) → c.args.v < c.self.inside.nodes
-inside c = subst (λ (m : RemainingLegs). c.args.v < m.nodes) (sym c.self.view_is) c.requires.node
+pub put-requires-clause-ordered : goal.put-requires-clause-ordered
+put-requires-clause-ordered c = c.requires.shortcuts.1.ordered
 
-pub take_from-requires : goal.take_from-requires
-take_from-requires c =
-    let within = c.self.invariant.0 in
-    let outs = c.self.inside.outs.rows in
-    let lent = c.aside.ensures ∙ c.set_aside-2.ensures.aside.here in
-    let here : c.args.v < length outs = (let lt = inside (goal.at.take_from-requires c).After-set_aside-2 in omega (arith, within.sizes.0)) in
-    let size = aside_size c.args.v outs c.set_aside.new.self.rows here c.set_aside.ensures.rows in
-    record {
-      rows = aside_rows c.args.v outs c.set_aside.new.self.rows here c.set_aside.ensures.rows within.rows.0;
-      nodes = subst (λ n. All (λ (l : Leg). l.node < n) c.aside.result.now) (sym size) (subst (λ (z : List Leg). All (λ l. l.node < length outs) z) (sym lent) (ins_within c.self.inside.nodes outs c.self.inside.ins.rows within c.args.v));
-      covers = subst (HaveAll c.set_aside.new.self.rows c.args.v) (sym lent) (aside_all c.args.v outs c.set_aside.new.self.rows here c.set_aside.ensures.rows (row c.self.inside.ins.rows c.args.v) (outs_at c.self.inside.nodes outs c.self.inside.ins.rows within c.args.v));
-    }
-
-pub take_from-requires-2 : goal.take_from-requires-2
-take_from-requires-2 c =
-    let within = c.self.invariant.0 in
-    let ins = c.self.inside.ins.rows in
-    let lent = c.aside-2.ensures ∙ ap (λ l. row l c.args.v) c.take_from.ensures.aside ∙ c.set_aside.ensures.aside.here in
-    let here : c.args.v < length ins = (let lt = inside (goal.at.take_from-requires-2 c).After-set_aside-2 in omega (arith, within.sizes.1)) in
-    let size = aside_size c.args.v ins c.set_aside-2.new.self.rows here c.set_aside-2.ensures.rows in
-    record {
-      rows = aside_rows c.args.v ins c.set_aside-2.new.self.rows here c.set_aside-2.ensures.rows within.rows.1;
-      nodes = subst (λ n. All (λ (l : Leg). l.node < n) c.aside-2.result.now) (sym size) (subst (λ (z : List Leg). All (λ l. l.node < length ins) z) (sym lent) (outs_within c.self.inside.nodes c.self.inside.outs.rows ins within c.args.v));
-      covers = subst (HaveAll c.set_aside-2.new.self.rows c.args.v) (sym lent) (aside_all c.args.v ins c.set_aside-2.new.self.rows here c.set_aside-2.ensures.rows (row c.self.inside.outs.rows c.args.v) (ins_at c.self.inside.nodes c.self.inside.outs.rows ins within c.args.v));
-    }
-
--- the shortcuts are those of the node among the legs that are left
-are_shortcuts : (c : After-set_aside-2) → AreShortcuts c.self.inside.nodes c.requires.shortcuts.0 (legs_from c.self.inside.outs.rows) c.args.v c.args.shortcuts.now
-unfolding legs_of
-are_shortcuts c = subst (λ (m : RemainingLegs). AreShortcuts m.nodes c.requires.shortcuts.0 (legs_of m) c.args.v c.args.shortcuts.now) (sym c.self.view_is) c.requires.shortcuts.1
-
--- there are as many lists on both sides as before
-sizes : (c : After-take_from-2) → (length c.take_from.new.self.rows ≡ c.self.inside.nodes) × (length c.take_from-2.new.self.rows ≡ c.self.inside.nodes)
-sizes c = (
-  c.take_from.ensures.size ∙ ap length c.set_aside.ensures.rows ∙ length-set c.self.inside.outs.rows c.args.v _ ∙ c.self.invariant.0.sizes.0,
-  c.take_from-2.ensures.size ∙ ap length c.set_aside-2.ensures.rows ∙ length-set c.self.inside.ins.rows c.args.v _ ∙ c.self.invariant.0.sizes.1,
-)
-
-pub put_shortcuts-requires-clause-from : goal.put_shortcuts-requires-clause-from
-put_shortcuts-requires-clause-from c =
-    let are = are_shortcuts (goal.at.put_shortcuts-requires-clause-from c).After-set_aside-2 in
-    let size = (sizes (goal.at.put_shortcuts-requires-clause-from c).After-take_from-2).0 in
-    subst (λ n. All (λ (s : Shortcut). s.from < n) c.args.shortcuts.now) (sym size) (from_within c.self.inside.nodes c.self.inside.outs.rows c.self.inside.ins.rows c.self.invariant.0 c.args.v _ c.args.shortcuts.now are)
-
-pub put_shortcuts-requires-clause-to : goal.put_shortcuts-requires-clause-to
-put_shortcuts-requires-clause-to c =
-    let are = are_shortcuts (goal.at.put_shortcuts-requires-clause-to c).After-set_aside-2 in
-    let size = (sizes (goal.at.put_shortcuts-requires-clause-to c).After-take_from-2).1 in
-    subst (λ n. All (λ (s : Shortcut). s.to < n) c.args.shortcuts.now) (sym size) (to_within c.self.inside.nodes c.self.inside.outs.rows c.self.inside.ins.rows c.self.invariant.0 c.args.v _ c.args.shortcuts.now are)
-
--- both sides keep the limits, and have the legs after the contraction
-left : (c : In_ok-put_shortcuts) → IsWithinLimits c.self.inside.nodes c.put_shortcuts.new.outs.rows c.put_shortcuts.new.ins.rows × SameLegs (legs_from c.put_shortcuts.new.outs.rows) (legs_after_contraction (legs_from c.self.inside.outs.rows) c.args.v c.args.shortcuts.now)
-unfolding legs_of
-left c =
-    let are = subst (λ (m : RemainingLegs). AreShortcuts m.nodes c.requires.shortcuts.0 (legs_of m) c.args.v c.args.shortcuts.now) (sym c.self.view_is) c.requires.shortcuts.1 in
-    let within = subst (λ (m : RemainingLegs). c.args.v < m.nodes) (sym c.self.view_is) c.requires.node in
-    contraction_leaves c.self.inside.nodes c.self.inside.outs.rows c.self.inside.ins.rows c.self.invariant.0 c.args.v within c.requires.shortcuts.0 c.args.shortcuts.now are _ _ _ _ _ _
-    c.set_aside.ensures.rows c.set_aside-2.ensures.rows
-    (record { size = c.take_from.ensures.size; rows = c.take_from.ensures.rows; legs = c.take_from.ensures.legs }) (record { size = c.take_from-2.ensures.size; rows = c.take_from-2.ensures.rows; legs = c.take_from-2.ensures.legs })
-    c.in_ok-put_shortcuts.ensures.outs c.in_ok-put_shortcuts.ensures.ins
-
--- legs that are set aside, as calls that come after leave them
-set_aside : (L : Legs) (v : ℕ) (legs : List Leg) (old mid new told : List (List Leg)) → AreLegsFrom L v legs → IsReplaced v legs old mid → new ≡ mid → old ≡ told → IsSetAside L v told new
-set_aside L v legs old mid new told are put same was =
-    subst (λ z. IsSetAside L v told z) (sym same) (subst (λ z. IsSetAside L v z mid) was (record { size = put.size; legs = subst (AreLegsFrom L v) (sym put.here) are; kept = put.kept }))
-
-pub invariant_of-result : goal.invariant_of-result
-invariant_of-result c =
-    let kept = left (goal.at.invariant_of-result c).In_ok-put_shortcuts in (
-      kept.0,
-      λ yes. elim c.if-light.branch [
-        | then-light w ↦ contracted_light MOST_LIGHT (legs_from c.self.inside.outs.rows) c.args.v c.args.shortcuts.now (legs_from c.put_shortcuts.new.outs.rows) (c.self.invariant.1 w.if-light.true) (w.are_light.ensures (sym w.result-is ∙ yes)) kept.1
-        | else-light w ↦ let no = sym w.result-is ∙ yes in cc
-      ],
-    )
-
-pub returns : goal.returns
-unfolding legs_of
-returns c =
+pub put-requires-clause-within : goal.put-requires-clause-within
+put-requires-clause-within c =
+    let n = c.args.self.nodes in
     let v = c.args.v in
-    let outs = c.self.inside.outs in
-    let ins = c.self.inside.ins in
-    record {
-      nodes = ap (λ (m : RemainingLegs). m.nodes) c.self.view_is;
-      legs = subst (λ (m : RemainingLegs). SameLegs (legs_from c.put_shortcuts.new.outs.rows) (legs_after_contraction (legs_of m) v c.args.shortcuts.now)) c.self.view_is (left (goal.at.returns c).In_ok-put_shortcuts).1;
-      up = set_aside (legs_of c.args.self) v (row outs.rows v) outs.aside c.set_aside.new.self.aside c.put_shortcuts.new.outs.aside c.args.self.ups
-          (subst (λ (m : RemainingLegs). AreLegsFrom (legs_of m) v (row outs.rows v)) c.self.view_is (from_rows c.self.inside.nodes outs.rows ins.rows c.self.invariant.0 v))
-          c.set_aside.ensures.aside (c.in_ok-put_shortcuts.ensures.aside.0 ∙ c.take_from.ensures.aside) (ap (λ (m : RemainingLegs). m.ups) c.self.view_is);
-      down = set_aside (turned_legs (legs_of c.args.self)) v (row ins.rows v) ins.aside c.set_aside-2.new.self.aside c.put_shortcuts.new.ins.aside c.args.self.downs
-          (subst (λ (m : RemainingLegs). AreLegsFrom (turned_legs (legs_of m)) v (row ins.rows v)) c.self.view_is (to_rows c.self.inside.nodes outs.rows ins.rows c.self.invariant.0 v))
-          c.set_aside-2.ensures.aside (c.in_ok-put_shortcuts.ensures.aside.1 ∙ c.take_from-2.ensures.aside) (ap (λ (m : RemainingLegs). m.downs) c.self.view_is);
-    }
+    let list = c.args.shortcuts.now in
+    let pairs = pairs_of_shortcuts n c.requires.shortcuts.0 (legs_of c.args.self) v list c.requires.shortcuts.1 in
+    subst (λ m. All (λ (s : Shortcut). IsLegWithin m s.from s.to (shortcut_label v s)) list) (sym c.take_out.ensures.nodes)
+    (All-from_get_or (λ (s : Shortcut). IsLegWithin n s.from s.to (shortcut_label v s)) list no_shortcut
+    (λ i lt. shortcut_within n (legs_of c.args.self) v list c.nodes.ensures.limits pairs _ (pairs _ (Contains-get_or list i no_shortcut lt))))
+
+pub returns-clause-nodes : goal.returns-clause-nodes
+returns-clause-nodes c = IfOk-weaker c.put.result _ _ (λ r e. e ∙ c.take_out.ensures.nodes) c.put.ensures.nodes
+
+pub returns-clause-legs : goal.returns-clause-legs
+returns-clause-legs c =
+    IfOk-weaker c.put.result _ _ (λ r put. after c.args.self.nodes c.requires.shortcuts.0 c.args.v (legs_of c.args.self) (legs_of c.take_out.result) (legs_of r) c.args.shortcuts.now c.nodes.ensures.limits c.requires.shortcuts.1 c.take_out.ensures.legs put) c.put.ensures.legs
+
+pub returns-clause-up : goal.returns-clause-up
+returns-clause-up c =
+    IfOk-weaker c.put.result _ _ (λ r same. subst (λ z. IsSetAside (legs_of c.args.self) c.args.v c.args.self.ups z) (sym same.0) c.take_out.ensures.up) c.put.ensures.aside
+
+pub returns-clause-down : goal.returns-clause-down
+returns-clause-down c =
+    IfOk-weaker c.put.result _ _ (λ r same. subst (λ z. IsSetAside (turned_legs (legs_of c.args.self)) c.args.v c.args.self.downs z) (sym same.1) c.take_out.ensures.down) c.put.ensures.aside

@@ -1,5 +1,6 @@
 use Rattle.std.proofs.Common.{◌+◌, get_or}
 use Rattle.ch_contract.specs.Remaining.{legs_of}
+use Rattle.ch_contract.specs.ShortcutLists.{legs_touching}
 use Rattle.ch_contract.proofs.theory.RowLemmas.{leg_to_at}
 use Rattle.ch_hierarchy.proofs.theory.NoLeg.{no_leg}
 use Rattle.ch_contract.proofs.code.ShortcutLemmas.{boundary_next, before_next_down, before_end_down}
@@ -7,27 +8,30 @@ use Rattle.ch_contract.proofs.remaining.Remaining.fill_shortcuts.Goals as goal
 
 pub push_shortcuts-requires-clause-first : goal.push_shortcuts-requires-clause-first
 push_shortcuts-requires-clause-first g c =
-    leg_to_at (legs_of c.args.self.now) c.args.v c.in_legs-first-items.result.now c.loop-first.first-index no_leg c.in_legs-first-items.ensures c.loop-first-test.true
+    let t = c.args.touching.now in
+    leg_to_at (legs_touching t.node t.up.now t.down.now) t.node t.down.now c.loop-first.first-index no_leg c.requires.touching.to c.loop-first-test.true
 
 pub push_shortcuts-requires-clause-clean : goal.push_shortcuts-requires-clause-clean
 push_shortcuts-requires-clause-clean g c = c.loop-first.invariant.1
 
 pub push_shortcuts-requires-clause-list : goal.push_shortcuts-requires-clause-list
 push_shortcuts-requires-clause-list g c =
+    let t = c.args.touching.now in
     let so_far = c.loop-first.invariant.0 in
-    before_next_down c.args.self.now.nodes c.args.hops (legs_of c.args.self.now) c.args.v so_far.0 c.loop-first.first-index no_leg c.in_legs-first-items.result.now c.loop-first.list.items
-    c.in_legs-first-items.ensures so_far.1 c.loop-first-test.true so_far.2
+    before_next_down c.args.self.now.nodes c.args.hops (legs_touching t.node t.up.now t.down.now) (legs_of c.args.self.now) t.node so_far.0 c.loop-first.first-index no_leg t.down.now c.loop-first.list.items
+    c.requires.touching.to so_far.1 c.loop-first-test.true so_far.2
 
 pub loop-first-preserved : goal.loop-first-preserved
 loop-first-preserved g c =
-    let down = c.in_legs-first-items.result.now in
-    (((get_or down c.loop-first.first-index no_leg).node + 1, boundary_next down c.loop-first.first-index no_leg c.in_legs-first-items.ensures.0 c.loop-first-test.true, c.in_ok-push_shortcuts.ensures.list), c.in_ok-push_shortcuts.ensures.clean)
+    let down = c.args.touching.now.down.now in
+    (((get_or down c.loop-first.first-index no_leg).node + 1, boundary_next down c.loop-first.first-index no_leg c.requires.touching.to.0 c.loop-first-test.true, c.in_ok-push_shortcuts.ensures.list), c.in_ok-push_shortcuts.ensures.clean)
 
 pub returns : goal.returns
 returns g c =
+    let t = c.args.touching.now in
     let so_far = c.loop-first.invariant.0 in
     record {
-      list = before_end_down c.args.self.now.nodes c.args.hops (legs_of c.args.self.now) c.args.v so_far.0 c.loop-first.first-index c.in_legs-first-items.result.now c.loop-first.list.items
-          c.in_legs-first-items.ensures so_far.1 c.loop-first-test.false so_far.2;
+      list = before_end_down c.args.self.now.nodes c.args.hops (legs_touching t.node t.up.now t.down.now) (legs_of c.args.self.now) t.node so_far.0 c.loop-first.first-index t.down.now c.loop-first.list.items
+          c.requires.touching.to so_far.1 c.loop-first-test.false so_far.2;
       clean = c.loop-first.invariant.1;
     }

@@ -1,10 +1,10 @@
 use Rattle.std.proofs.Common.{ℕ}
 use Rattle.ch_contract.specs.KnownCosts.{IsClean, known_of}
 use Rattle.ch_contract.specs.Remaining.{legs_of}
-use Rattle.ch_contract.specs.ShortcutLists.{AreShortcutsBefore}
+use Rattle.ch_contract.specs.ShortcutLists.{legs_touching, AreShortcutsBefore}
 use Rattle.ch_contract.proofs.code.ShortcutLemmas.{IsBoundary}
 use Rattle.ch_contract.proofs.remaining.Remaining.fill_shortcuts.Given as goal
 
 -- the list has the shortcuts before some boundary between the legs that were taken and the others, and the room is clean
 abbrev pub invariant-loop-first : goal.invariant-loop-first
-invariant-loop-first g l = ((a : ℕ) × IsBoundary l.first-items l.first-index a × AreShortcutsBefore l.self.nodes l.hops (legs_of l.self) l.v a 0 l.list.items) × IsClean l.self.nodes (known_of g.K.HeldCost.cost l.search.known)
+invariant-loop-first g l = ((a : ℕ) × IsBoundary l.touching.down.now l.first-index a × AreShortcutsBefore l.self.nodes l.hops (legs_touching l.touching.node l.touching.up.now l.touching.down.now) (legs_of l.self) l.touching.node a 0 l.list.items) × IsClean l.self.nodes (known_of g.K.HeldCost.cost l.search.known)

@@ -1,0 +1,92 @@
+-- The legs that touch a node, as two rows have them.
+use Rattle.std.proofs.Common.{◌≡◌, ℕ, Bool, true, false, cond, List, Option, Some, None, Contains, refl, sym, ◌∙◌, ap, subst}
+use Rattle.std.specs.Prelude.{All, ◌≤◌, ◌==◌, if◌then◌else◌}
+use Rattle.std.proofs.lemmas.List.Elements.{All-contains}
+use Rattle.ch_contract.proofs.theory.RowLegs.{row_member, leg_at}
+use Rattle.std.proofs.lemmas.Bool.{eqb-true}
+use Rattle.std.proofs.lemmas.Option.{none-some}
+use Rattle.ch_graph.proofs.Numbers.{eqb-refl}
+use Rattle.ch_hierarchy.specs.declared.leg.Leg.{Leg}
+use Rattle.ch_contract.specs.declared.shortcut.Shortcut.{Shortcut}
+use Rattle.ch_contract.specs.Legs.{Label, Legs, AreLegsWithin}
+use Rattle.ch_contract.specs.LegRows.{row_leg, AreLegsFrom, AreLegsTo}
+use Rattle.ch_contract.specs.KnownCosts.{AreLegsUpTo}
+use Rattle.ch_contract.specs.Enough.{IsPairThrough}
+use Rattle.ch_contract.specs.Contraction.{AreShortcuts}
+use Rattle.ch_contract.specs.Rounds.{IsShortcutAmong, AreShortcutsAmong}
+use Rattle.ch_contract.specs.ShortcutLists.{legs_touching, AreTouching}
+use Rattle.ch_contract.proofs.theory.Contracting.{pair_of_shortcut}
+
+-- pairs of legs through v are those of any legs that are the same at v
+pair_same : (n : ℕ) (K L : Legs) (v : ℕ) → ((x : ℕ) → K v x ≡ L v x) → ((x : ℕ) → K x v ≡ L x v) → (s : Shortcut) → IsPairThrough n K v s → IsPairThrough n L v s
+pair_same n K L v from to s is = record {
+  apart = is.apart;
+  legs = (is.legs.0, is.legs.1, sym (to s.from) ∙ is.legs.2, sym (from s.to) ∙ is.legs.3, is.legs.4);
+  weight = is.weight;
+  arcs = is.arcs;
+}
+
+-- so are their shortcuts
+pub among_same : (n h : ℕ) (K L W : Legs) (v : ℕ) (list : List Shortcut) → ((x : ℕ) → K v x ≡ L v x) → ((x : ℕ) → K x v ≡ L x v) → AreShortcutsAmong n h K W v list → AreShortcutsAmong n h L W v list
+among_same n h K L W v list from to are = record {
+  ordered = are.ordered;
+  sound = λ s c. let is = are.sound s c in record { pair = pair_same n K L v from to s is.pair; needed = is.needed };
+  whole = λ s is. are.whole s (record { pair = pair_same n L K v (λ x. sym (from x)) (λ x. sym (to x)) s is.pair; needed = is.needed });
+}
+
+-- shortcuts whose witnesses are among the legs themselves
+pub among_own : (n h : ℕ) (L : Legs) (v : ℕ) (list : List Shortcut) → AreShortcutsAmong n h L L v list → AreShortcuts n h L v list
+among_own n h L v list are = record {
+  ordered = are.ordered;
+  sound = λ s c. let is = are.sound s c in record { apart = is.pair.apart; legs = is.pair.legs; weight = is.pair.weight; arcs = is.pair.arcs; needed = is.needed };
+  whole = λ s is. are.whole s (record { pair = pair_of_shortcut n h L v s is; needed = is.needed });
+}
+
+module _ (L : Legs) (v : ℕ) (up down : List Leg) (from : AreLegsFrom L v up) (to : AreLegsTo L v down) where
+  -- the rows have the legs from v
+  pub touching_from : (x : ℕ) → legs_touching v up down v x ≡ L v x
+  touching_from x = rw (eqb-refl v) (from.1 x)
+
+  -- and those to it
+  pub touching_to : (x : ℕ) → legs_touching v up down x v ≡ L x v
+  touching_to x = at (x == v) refl
+    where
+      at : (b : Bool) → (x == v) ≡ b → cond b (row_leg up v) (if v == v then row_leg down x else None) ≡ L x v
+      at true e = from.1 v ∙ ap (λ z. L z v) (sym (eqb-true x v e))
+      at false e = rw (eqb-refl v) (to.1 x)
+
+  -- and no others
+  pub touching_leg : (u w : ℕ) (l : Label) → legs_touching v up down u w ≡ Some l → L u w ≡ Some l
+  touching_leg u w l e = at (u == v) (w == v) refl refl e
+    where
+      at : (a b : Bool) → (u == v) ≡ a → (w == v) ≡ b → cond a (row_leg up w) (cond b (row_leg down u) None) ≡ Some l → L u w ≡ Some l
+      at true b p q f = ap (λ z. L z w) (eqb-true u v p) ∙ sym (from.1 w) ∙ f
+      at false true p q f = ap (L u) (eqb-true w v q) ∙ sym (to.1 u) ∙ f
+      at false false p q f = absurd (none-some l f)
+
+  -- rows of legs that keep the limits
+  pub are_touching : (n limit : ℕ) → AreLegsWithin n L → AreLegsUpTo limit L → AreTouching n limit v up down
+  are_touching n limit within light = record {
+    from = (from.0, λ x. from.1 x ∙ sym (touching_from x));
+    to = (to.0, λ x. to.1 x ∙ sym (touching_to x));
+    within = λ u w l e. within u w l (touching_leg u w l e);
+    light = λ u w l e. light u w l (touching_leg u w l e);
+  }
+
+  -- shortcuts of the rows are those of the node
+  pub own_shortcuts : (n h : ℕ) (list : List Shortcut) → AreShortcutsAmong n h (legs_touching v up down) L v list → AreShortcuts n h L v list
+  own_shortcuts n h list are = among_own n h L v list (among_same n h (legs_touching v up down) L L v list touching_from touching_to are)
+
+-- rows without heavy legs
+pub lighter_touching : (n limit most v : ℕ) (up down : List Leg) → AreTouching n most v up down → All (λ l. l.cost.weight ≤ limit) up → All (λ l. l.cost.weight ≤ limit) down → AreTouching n limit v up down
+lighter_touching n limit most v up down are above below = record {
+  from = are.from;
+  to = are.to;
+  within = are.within;
+  light = λ u w l e. at u w l (u == v) (w == v) e;
+}
+  where
+    at : (u w : ℕ) (l : Label) (a b : Bool) → cond a (row_leg up w) (cond b (row_leg down u) None) ≡ Some l → l.cost.weight ≤ limit
+    at u w l true b f = All-contains (λ (k : Leg). k.cost.weight ≤ limit) up (leg_at w l) above (row_member up w l f)
+    at u w l false true f = All-contains (λ (k : Leg). k.cost.weight ≤ limit) down (leg_at u l) below (row_member down u l f)
+    at u w l false false f = absurd (none-some l f)

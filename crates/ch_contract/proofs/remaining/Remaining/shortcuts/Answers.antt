@@ -1,0 +1,17 @@
+use Rattle.std.proofs.Common.{subst}
+use Rattle.ch_contract.specs.Contraction.{AreShortcuts}
+use Rattle.ch_contract.specs.Remaining.{legs_of}
+use Rattle.ch_contract.proofs.code.LightLegs.{within_light}
+use Rattle.ch_contract.proofs.code.Touching.{are_touching, own_shortcuts}
+use Rattle.ch_contract.proofs.remaining.Remaining.shortcuts.Goals as goal
+
+pub fill_shortcuts-requires-clause-touching : goal.fill_shortcuts-requires-clause-touching
+fill_shortcuts-requires-clause-touching c =
+    let limits = c.nodes.ensures.limits in
+    are_touching (legs_of c.args.self.now) _ _ _ c.touching-touching.ensures.up c.touching-touching.ensures.down _ _ limits (within_light _ _ limits)
+
+pub returns : goal.returns
+returns c =
+    let t = c.touching-touching in
+    subst (λ v. AreShortcuts c.args.self.now.nodes c.args.hops (legs_of c.args.self.now) v c.fill_shortcuts.new.list.items) t.ensures.node
+    (own_shortcuts (legs_of c.args.self.now) t.result.node t.result.up.now t.result.down.now t.ensures.up t.ensures.down _ _ _ c.in_ok-fill_shortcuts.ensures.list)

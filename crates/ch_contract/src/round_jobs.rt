@@ -1,0 +1,89 @@
+//! What workers do for a round: the counts of shortcuts, and the shortcuts themselves.
+ghost use Rattle.std.specs.Prelude.{◌<◌};
+ghost use Rattle.ch_graph.specs.declared.limits.TheConstants.{MOST_WEIGHT};
+ghost use Rattle.ch_hierarchy.specs.Rows.{row};
+ghost use Rattle.ch_contract.specs.Legs.{IsHopBound};
+ghost use Rattle.ch_contract.specs.Remaining.{legs_of};
+ghost use Rattle.ch_contract.specs.Rooms.{IsIdleRoom};
+ghost use Rattle.ch_contract.specs.RoundProgress.{IsCount};
+ghost use Rattle.ch_contract.specs.Rounds.{AreShortcutsAmong};
+ghost use Rattle.ch_contract.specs.ShortcutLists.{legs_touching, AreTouching};
+
+use crate::remaining::Remaining;
+use crate::room::Room;
+use crate::shortcut::Shortcut;
+use ch_work::ListJob;
+use std::alloc::{AllocError, Global};
+
+/// How many shortcuts nodes have with the legs that are left, of which the keys of rounds consist.
+#[derive(Drop)]
+pub(crate) struct CountJob<'a> {
+    pub(crate) remaining: &'a Remaining,
+    pub(crate) hops: u32,
+    ghost bound: { IsHopBound hops },
+}
+
+impl ListJob for CountJob<'_> {
+    type Item = u32;
+
+    type Room = Room;
+
+    type Out = u64;
+
+    ghost takes = { λ job x. x < job.remaining.now.nodes };
+
+    ghost meaning = { λ job x c. IsCount job.remaining.now.nodes job.hops (legs_of job.remaining.now) x c };
+
+    ghost clean = { λ job room. IsIdleRoom room };
+
+    fn room(&self, alloc: Global) -> Result<Room, AllocError> {
+        Ok(Room::new(alloc))
+    }
+
+    fn value(&self, alloc: Global, room: &mut Room, item: &u32) -> Result<u64, AllocError> {
+        room.forget();
+        let measure = room.judge(alloc, self.remaining, *item, self.hops)?;
+        Ok(measure.shortcuts)
+    }
+}
+
+/// The shortcuts of the nodes of a round, each once all nodes of the round are taken out, so that its witnesses avoid
+/// them all.
+#[derive(Drop)]
+pub(crate) struct ShortcutJob<'a> {
+    pub(crate) remaining: &'a Remaining,
+    pub(crate) hops: u32,
+    ghost bound: { IsHopBound hops },
+}
+
+impl ListJob for ShortcutJob<'_> {
+    type Item = u32;
+
+    type Room = Room;
+
+    type Out = Vec<Shortcut>;
+
+    ghost takes = { λ job v. (v < job.remaining.now.nodes)
+        × AreTouching job.remaining.now.nodes MOST_WEIGHT v (row job.remaining.now.ups v) (row job.remaining.now.downs v) };
+
+    ghost meaning = { λ job v list. AreShortcutsAmong job.remaining.now.nodes job.hops
+        (legs_touching v (row job.remaining.now.ups v) (row job.remaining.now.downs v)) (legs_of job.remaining.now) v list.items };
+
+    ghost clean = { λ job room. IsIdleRoom room };
+
+    fn room(&self, alloc: Global) -> Result<Room, AllocError> {
+        Ok(Room::new(alloc))
+    }
+
+    fn value(
+        &self,
+        alloc: Global,
+        room: &mut Room,
+        item: &u32,
+    ) -> Result<Vec<Shortcut>, AllocError> {
+        let mut list = Vec::new(alloc);
+        room.searches
+            .shortcuts(alloc, self.remaining, &mut list, *item, self.hops)?;
+        Ok(list)
+    }
+}
