@@ -1,0 +1,14 @@
+pub mod Distances
+pub mod Facing
+pub mod Filled
+pub mod Firsts
+pub mod GraphRows
+pub mod LeastRows
+pub mod NearRows
+pub mod Offered
+pub mod OneFirst
+pub mod Orders
+pub mod Pigeons
+pub mod Summed
+pub mod Swept
+pub mod Takings

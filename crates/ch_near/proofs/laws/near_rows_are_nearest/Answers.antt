@@ -1,0 +1,5 @@
+use Rattle.ch_near.proofs.GraphRows.{row_of_graph}
+use Rattle.ch_near.proofs.laws.near_rows_are_nearest.Goals as goal
+
+pub returns : goal.returns
+returns c g H direction limit count targets s row limits kept near = row_of_graph g H direction limit count targets s row limits kept near

@@ -1,0 +1,10 @@
+use Rattle.std.proofs.Common.{length}
+use Rattle.ch_near.specs.Offers.{AreUnoffered}
+use Rattle.ch_near.specs.Sweep.{AreRowsTo}
+use Rattle.ch_near.proofs.rows.Nearest.sweep.Given as goal
+
+abbrev pub invariant-loop-rank : goal.invariant-loop-rank
+invariant-loop-rank l = record {
+  rows : AreRowsTo l.self l.rank l.rows;
+  offers : AreUnoffered (length l.self.targets) l.offers;
+}

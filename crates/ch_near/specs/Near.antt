@@ -1,0 +1,37 @@
+-- The targets that are nearest to a source.
+use Rattle.std.specs.Prelude.{ℕ, ◌<◌, List, length, slice_index, Option, Some}
+use Rattle.ch_graph.specs.Graph.{Network}
+use Rattle.ch_graph.specs.Walk.{IsDistance}
+use Rattle.ch_hierarchy.specs.Hierarchy.{LevelsAndLegs}
+use Rattle.ch_query.specs.Limits.{IsWithin, IsDistanceWithin}
+use Rattle.ch_near.specs.declared.direction.Direction.{Direction}
+use Rattle.ch_near.specs.declared.direction.Direction.TheVariants.{To, From}
+use Rattle.ch_near.specs.First.{AreFirst}
+
+-- the least weight of a walk from the source to the target, or from the target to the source
+abbrev pub IsDistanceIn : Network → Direction → ℕ → ℕ → ℕ → Type 0
+IsDistanceIn g To s t x = IsDistance g s t x
+IsDistanceIn g From s t x = IsDistance g t s x
+
+-- the weight is the least of a walk between s and the target at this place, in this direction, and within the limit
+abbrev pub IsWalkTo : Network → Direction → Option ℕ → List ℕ → ℕ → ℕ × ℕ → Type 0
+IsWalkTo g direction limit targets s e = (e.1 < length targets) × IsDistanceIn g direction s (slice_index targets e.1) e.0 × IsWithin limit e.0
+
+-- of the targets to which there is a walk of a weight within the limit, the first `count` in order of their least weights and then of place,
+-- or all where there is no such number: each as its least weight and its place
+abbrev pub IsNearestRow : Network → Direction → Option ℕ → Option ℕ → List ℕ → ℕ → List (ℕ × ℕ) → Type 0
+IsNearestRow g direction limit count targets s row = AreFirst count (IsWalkTo g direction limit targets s) row
+
+-- the same by a hierarchy: the weight is the distance from s to the target at this place, within the limit
+abbrev pub IsDistanceTo : LevelsAndLegs → Option ℕ → List ℕ → ℕ → ℕ × ℕ → Type 0
+IsDistanceTo H limit targets s e = (e.1 < length targets) × IsDistanceWithin H limit s (slice_index targets e.1) (Some e.0)
+
+abbrev pub IsNearRow : LevelsAndLegs → Option ℕ → Option ℕ → List ℕ → ℕ → List (ℕ × ℕ) → Type 0
+IsNearRow H limit count targets s row = AreFirst count (IsDistanceTo H limit targets s) row
+
+-- what near rows are asked for: in which hierarchy, to which targets, within which limit, and how many at most
+pub record Wanted : Type 0 where
+  pub hierarchy : LevelsAndLegs
+  pub targets : List ℕ
+  pub limit : Option ℕ
+  pub count : Option ℕ

@@ -1,0 +1,118 @@
+//! The nearest targets of many sources.
+ghost use Rattle.std.specs.Prelude.{◌≡◌, ◌<◌, ◌≤◌, length, All, IfOk};
+ghost use Rattle.std.specs.List.{AllZip};
+ghost use Rattle.ch_graph.specs.declared.limits.TheConstants.{MOST_LISTED};
+ghost use Rattle.ch_hierarchy.specs.Hierarchy.{nodes_of};
+ghost use Rattle.ch_near.specs.Direction.{facing};
+ghost use Rattle.ch_near.specs.Near.{IsNearRow};
+ghost use Rattle.ch_query.specs.Distance.{IsKeptForSome};
+
+use crate::buckets::buckets_of;
+use crate::direction::Direction;
+use crate::rows::{Nearest, Room};
+use crate::spaces::search_targets;
+use ch_hierarchy::Hierarchy;
+use ch_work::{Crew, Gate, Stage, run_list_in};
+use std::alloc::{AllocError, Global};
+use std::marker::Model;
+use std::thread::Threads;
+
+/// For each source the first `count` targets in order of distance and then of place, or all where there is no such number;
+/// with a limit `within` those alone whose distance is at most that. The distances are to the targets, or from them. A row has
+/// pairs of a distance and a place in the list of targets, in this order. A target that comes again has each of its places.
+///
+/// # Errors
+/// `AllocError` where there is no memory.
+pub fn near<R: Threads + Sync, G: Gate>(
+    crew: &Crew<'_, R, G>,
+    hierarchy: &Hierarchy,
+    direction: Direction,
+    sources: &[u32],
+    targets: &[u32],
+    within: Option<u64>,
+    count: Option<u32>,
+) -> Result<Vec<Vec<(u64, u32)>>, AllocError>
+    requires kept { IsKeptForSome hierarchy.now }
+    requires sources { All (λ s. s < nodes_of hierarchy.now) sources.now }
+    requires targets { All (λ t. t < nodes_of hierarchy.now) targets.now }
+    requires lists { (length sources.now ≤ MOST_LISTED) × (length targets.now ≤ MOST_LISTED) }
+    ensures { IfOk result (λ rows. AllZip (λ s row. IsNearRow (facing direction hierarchy.now) within count targets.now s row.items) sources.now rows.items) }
+{
+    let mut near = NearTargets::search(crew, hierarchy, direction, targets, within, count)?;
+    near.rows(crew, sources)
+}
+
+/// Targets that were searched from, of which the nearest to sources are asked for: one search from each target serves any
+/// number of sources. What workers need for a row stays from one call to the next.
+#[derive(Drop)]
+pub struct NearTargets<'a> {
+    pub(crate) nearest: Nearest<'a>,
+    rooms: Vec<Room>,
+}
+
+impl<'a> Model for NearTargets<'a> {
+    ghost use Rattle.std.specs.Prelude.{◌≡◌, All, length};
+    ghost use Rattle.ch_hierarchy.specs.Hierarchy.{nodes_of};
+    ghost use Rattle.ch_near.specs.Near.{Wanted};
+    ghost use Rattle.ch_near.specs.Offers.{AreUnoffered};
+
+    ghost Value = { Wanted };
+
+    ghost view = { λ t. t.nearest };
+
+    ghost invariant = { λ t. All (λ room. (room.scratch ≡ nodes_of t.nearest.hierarchy) × AreUnoffered (length t.nearest.targets) room.offers) t.rooms.items };
+}
+
+impl<'a> NearTargets<'a> {
+    /// Searches from each target, along its paths to higher nodes. The workers share the targets.
+    ///
+    /// # Errors
+    /// `AllocError` where there is no memory.
+    pub fn search<R: Threads + Sync, G: Gate>(
+        crew: &Crew<'_, R, G>,
+        hierarchy: &'a Hierarchy,
+        direction: Direction,
+        targets: &[u32],
+        within: Option<u64>,
+        count: Option<u32>,
+    ) -> Result<NearTargets<'a>, AllocError>
+        requires kept { IsKeptForSome hierarchy.now }
+        requires targets { All (λ t. t < nodes_of hierarchy.now) targets.now }
+        requires listed { length targets.now ≤ MOST_LISTED }
+        ensures { IfOk result (λ near. near ≡ record { hierarchy = facing direction hierarchy.now; targets = targets.now; limit = within; count = count }) }
+    {
+        let spaces = search_targets(crew, hierarchy, direction, targets, within)?;
+        let buckets = buckets_of(crew.alloc, hierarchy.nodes(), spaces, count)?;
+        let listed = Vec::from_slice(crew.alloc, targets)?;
+        let nearest = Nearest {
+            hierarchy,
+            direction,
+            targets: listed,
+            within,
+            count,
+            buckets,
+        };
+        Ok(NearTargets {
+            nearest,
+            rooms: Vec::new(crew.alloc),
+        })
+    }
+
+    /// The row of each source, in order. The workers share the sources.
+    ///
+    /// # Errors
+    /// `AllocError` where there is no memory. What is asked for next is answered as before.
+    pub fn rows<R: Threads + Sync, G: Gate>(
+        &mut self,
+        crew: &Crew<'_, R, G>,
+        sources: &[u32],
+    ) -> Result<Vec<Vec<(u64, u32)>>, AllocError>
+        requires sources { All (λ s. s < nodes_of self.old.hierarchy) sources.now }
+        requires listed { length sources.now ≤ MOST_LISTED }
+        ensures rows { IfOk result (λ rows. AllZip (λ s row. IsNearRow self.old.hierarchy self.old.limit self.old.count self.old.targets s row.items) sources.now rows.items) }
+        ensures same { self.new ≡ self.old }
+    {
+        crew.gate.watch(Stage::Answering, 0, crew.plan.pieces(sources.len() as u32));
+        run_list_in(crew, sources, &mut self.rooms, &self.nearest)
+    }
+}

@@ -1,0 +1,192 @@
+//! The rows of sources by searches, one from each source.
+ghost use Rattle.std.specs.Prelude.{◌≡◌, ◌<◌, ◌≤◌, ℕ, true, Some, length, OnOk};
+ghost use Rattle.ch_hierarchy.specs.Hierarchy.{nodes_of};
+ghost use Rattle.ch_near.specs.Near.{IsNearRow};
+ghost use Rattle.ch_near.specs.Offers.{AreUnoffered};
+ghost use Rattle.ch_query.specs.Limits.{IsWithin};
+
+use crate::direction::Direction;
+use crate::first::sort_and_cut;
+use crate::offers::Offers;
+use crate::sums::offer_all;
+use ch_graph::Rows;
+use ch_graph::limits::MOST_WEIGHT;
+use ch_hierarchy::Hierarchy;
+use ch_query::{Scratch, ranked_space};
+use ch_work::ListJob;
+use std::alloc::{AllocError, Global};
+use std::marker::Model;
+
+/// The rows of sources, each made of the source's search space and the buckets of the targets.
+#[derive(Drop)]
+pub(crate) struct Nearest<'a> {
+    pub(crate) hierarchy: &'a Hierarchy,
+    pub(crate) direction: Direction,
+    pub(crate) targets: Vec<u32>,
+    pub(crate) within: Option<u64>,
+    pub(crate) count: Option<u32>,
+    /// By rank, the weights and places of the targets that are nearest to the node.
+    pub(crate) buckets: Rows<(u64, u32)>,
+}
+
+impl<'a> Model for Nearest<'a> {
+    ghost use Rattle.ch_near.specs.Buckets.{HoldNearest};
+    ghost use Rattle.ch_near.specs.Direction.{facing};
+    ghost use Rattle.ch_near.specs.Near.{Wanted};
+
+    ghost Value = { Wanted };
+
+    ghost view = { λ t. record { hierarchy = facing t.direction t.hierarchy.now; targets = t.targets.items; limit = t.within; count = t.count } };
+
+    ghost invariant = { λ t. HoldNearest (facing t.direction t.hierarchy.now) t.within t.count t.targets.items t.buckets };
+}
+
+impl<'a> Nearest<'a> {
+    /// Makes the row of a source, of what is within a bound that is no more than the limit.
+    fn fill(
+        &self,
+        alloc: Global,
+        room: &mut Room,
+        source: u32,
+        bound: Option<u64>,
+    ) -> Result<(), AllocError>
+        requires source { source < nodes_of self.now.hierarchy }
+        requires bound { (x : ℕ) → IsWithin bound x → IsWithin self.now.limit x }
+        requires scratch { room.old.scratch ≡ nodes_of self.now.hierarchy }
+        requires offers { AreUnoffered (length self.now.targets) room.old.offers }
+        ensures row { OnOk result (IsNearRow self.now.hierarchy bound self.now.count self.now.targets source room.new.row.items) }
+        ensures scratch { OnOk result (room.new.scratch ≡ nodes_of self.now.hierarchy) }
+        ensures offers { OnOk result (AreUnoffered (length self.now.targets) room.new.offers) }
+    {
+        let Room {
+            scratch,
+            offers,
+            row,
+            ..
+        } = room;
+        let space = ranked_space(
+            alloc,
+            self.hierarchy,
+            scratch,
+            source,
+            self.direction.side(),
+            bound,
+        )?;
+        offer_all(offers, &space, &self.buckets, bound)?;
+        offers.take(row)?;
+        sort_and_cut(row, self.count);
+        Ok(())
+    }
+
+    /// Makes the row of a source: within the guess, where that is less than the limit, and where it is not full then within
+    /// the limit.
+    fn fill_by_guess(&self, alloc: Global, room: &mut Room, source: u32) -> Result<(), AllocError>
+        requires source { source < nodes_of self.now.hierarchy }
+        requires scratch { room.old.scratch ≡ nodes_of self.now.hierarchy }
+        requires offers { AreUnoffered (length self.now.targets) room.old.offers }
+        ensures row { OnOk result (IsNearRow self.now.hierarchy self.now.limit self.now.count self.now.targets source room.new.row.items) }
+        ensures scratch { OnOk result (room.new.scratch ≡ nodes_of self.now.hierarchy) }
+        ensures offers { OnOk result (AreUnoffered (length self.now.targets) room.new.offers) }
+    {
+        let guess = room.guess;
+        if is_lesser(guess, self.within) {
+            self.fill(alloc, room, source, Some(guess))?;
+            if room.is_full(self.count) {
+                return Ok(());
+            }
+        }
+        self.fill(alloc, room, source, self.within)
+    }
+}
+
+/// What a worker has for the rows of sources: it is lent to one after the other.
+#[derive(Drop)]
+pub(crate) struct Room {
+    pub(crate) scratch: Scratch,
+    pub(crate) offers: Offers,
+    row: Vec<(u64, u32)>,
+    /// How far the nearest targets may be: a guess by the last row. It changes no row.
+    guess: u64,
+}
+
+impl Room {
+    /// Whether the row has as many as are asked for.
+    fn is_full(&self, count: Option<u32>) -> bool
+        ensures { result ≡ true → count ≡ Some (length self.now.row.items) }
+    {
+        match count {
+            Some(most) => self.row.len() == most as usize,
+            None => false,
+        }
+    }
+
+    /// Guesses that the nearest targets of the next source are at most twice as far as the last of this row, where the row is
+    /// full, and else as far as any.
+    fn guess_by(&mut self, count: Option<u32>)
+        ensures scratch { self.new.scratch ≡ self.old.scratch }
+        ensures offers { self.new.offers ≡ self.old.offers }
+        ensures row { self.new.row.items ≡ self.old.row.items }
+    {
+        let last = match self.row.last() {
+            Some((weight, _)) => *weight,
+            None => MOST_WEIGHT,
+        };
+        self.guess = if self.is_full(count) {
+            last.saturating_mul(2)
+        } else {
+            MOST_WEIGHT
+        };
+    }
+}
+
+/// Whether a limit that was guessed is less than the one that is asked for, if there is one, and than that of all paths.
+fn is_lesser(guess: u64, within: Option<u64>) -> bool
+    ensures { result ≡ true → (x : ℕ) → x ≤ guess → IsWithin within x }
+{
+    match within {
+        Some(most) => guess < most && guess < MOST_WEIGHT,
+        None => guess < MOST_WEIGHT,
+    }
+}
+
+impl<'a> ListJob for Nearest<'a> {
+    ghost use Rattle.std.specs.Prelude.{◌≡◌, ◌<◌, length};
+    ghost use Rattle.ch_hierarchy.specs.Hierarchy.{nodes_of};
+    ghost use Rattle.ch_near.specs.Near.{IsNearRow};
+    ghost use Rattle.ch_near.specs.Offers.{AreUnoffered};
+
+    type Item = u32;
+
+    type Room = Room;
+
+    type Out = Vec<(u64, u32)>;
+
+    ghost takes = { λ wanted s. s < nodes_of wanted.hierarchy };
+
+    ghost meaning = { λ wanted s row. IsNearRow wanted.hierarchy wanted.limit wanted.count wanted.targets s row.items };
+
+    ghost clean = { λ wanted room. (room.scratch ≡ nodes_of wanted.hierarchy) × AreUnoffered (length wanted.targets) room.offers };
+
+    fn room(&self, alloc: Global) -> Result<Room, AllocError> {
+        let scratch = Scratch::new(alloc, self.hierarchy.nodes())?;
+        let offers = Offers::new(alloc, self.targets.len() as u32)?;
+        Ok(Room {
+            scratch,
+            offers,
+            row: Vec::new(alloc),
+            guess: MOST_WEIGHT,
+        })
+    }
+
+    fn value(
+        &self,
+        alloc: Global,
+        room: &mut Room,
+        item: &u32,
+    ) -> Result<Vec<(u64, u32)>, AllocError> {
+        self.fill_by_guess(alloc, room, *item)?;
+        let row = Vec::from_slice(alloc, &room.row)?;
+        room.guess_by(self.count);
+        Ok(row)
+    }
+}
