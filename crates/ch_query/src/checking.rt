@@ -11,7 +11,7 @@ ghost use Rattle.ch_query.specs.Checking.{IsArcIfBase, IsIfFault, IsOkWhere, Nam
 ghost use Rattle.ch_query.specs.Covering.{IsFirstUncovered};
 
 use crate::founding::{first_false_shortcut, first_unserved, first_without_arc};
-use crate::lower::first_uncovered;
+use crate::lower::{first_uncovered, first_uncovered_alone};
 use ch_graph::{Graph, Saved};
 use ch_hierarchy::{CheckError, CheckFault, Hierarchy, assemble};
 use ch_work::{Crew, Gate, Stage};
@@ -63,6 +63,20 @@ pub fn check_watched<R: Threads + Sync, G: Gate>(
     covered(crew, hierarchy)
 }
 
+/// As [`check`], by the caller alone: no thread is started and no gate is passed. It is for programs that have no handle
+/// to start threads with.
+///
+/// # Errors
+/// The first fault of all seven kinds, or `NoMemory`; what was lent is as before.
+pub fn check_alone(alloc: Global, graph: &Graph, saved: &Saved) -> Result<Hierarchy, CheckError>
+    ensures accepted { IsOkWhere result (IsFaultless graph.now saved.now) }
+    ensures hierarchy { IfOk result (NamesKept graph.now saved.now) }
+    ensures fault { (f : AnyFault) → AnswersWhere result (Err (CheckError.Fault f)) (IsFirstFault graph.now saved.now f) }
+{
+    let hierarchy = founded(alloc, graph, saved)?;
+    covered_alone(alloc, hierarchy)
+}
+
 /// The hierarchy that a saved one names, where each leg is what it stands for and each arc has its leg: all of
 /// the check but the pairs of legs through lower nodes.
 fn founded(alloc: Global, graph: &Graph, saved: &Saved) -> Result<Hierarchy, CheckError>
@@ -111,6 +125,17 @@ fn covered<R: Threads + Sync, G: Gate>(
     ensures fault { IfErr result (IsIfFault (λ f. (v : ℕ) × (f ≡ CheckFault.Lower v) × IsFirstUncovered hierarchy v)) }
 {
     match first_uncovered(crew, &hierarchy)? {
+        Some(node) => Err(CheckError::Fault(CheckFault::Lower(node))),
+        None => Ok(hierarchy),
+    }
+}
+
+/// As [`covered`], by the caller alone.
+fn covered_alone(alloc: Global, hierarchy: Hierarchy) -> Result<Hierarchy, CheckError>
+    ensures value { IfOk result (λ H. (H ≡ hierarchy) × ((v : ℕ) → v < nodes_of H → IsCovered H v)) }
+    ensures fault { IfErr result (IsIfFault (λ f. (v : ℕ) × (f ≡ CheckFault.Lower v) × IsFirstUncovered hierarchy v)) }
+{
+    match first_uncovered_alone(alloc, &hierarchy)? {
         Some(node) => Err(CheckError::Fault(CheckFault::Lower(node))),
         None => Ok(hierarchy),
     }

@@ -35,7 +35,7 @@ mod unpacking;
 mod weight_search;
 
 pub use answer::{Answer, answer_all, answer_all_in};
-pub use checking::{check, check_watched};
+pub use checking::{check, check_alone, check_watched};
 pub use query::{distance, route};
 pub use routes::Route;
 pub use scratch::Scratch;

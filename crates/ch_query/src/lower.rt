@@ -155,3 +155,15 @@ pub(crate) fn first_uncovered<R: Threads + Sync, G: Gate>(
     let firsts = run_pieces_with_rooms(crew, nodes, &CoverJob { hierarchy })?;
     Ok(first_of(firsts.as_slice()))
 }
+
+/// As [`first_uncovered`], by the caller alone.
+pub(crate) fn first_uncovered_alone(
+    alloc: Global,
+    hierarchy: &Hierarchy,
+) -> Result<Option<u32>, AllocError>
+    ensures { IfOk result (λ first. MatchOption first ((v : ℕ) → v < nodes_of hierarchy.now → IsCovered hierarchy.now v) (IsFirstUncovered hierarchy.now)) }
+{
+    let nodes = hierarchy.nodes();
+    let mut sides = Sides::new(alloc, nodes)?;
+    Ok(first_uncovered_of(hierarchy, &mut sides, 0, nodes))
+}

@@ -1,9 +1,11 @@
-//! Tables whose rows workers make, each row by one worker.
+//! Tables whose rows workers make, each row by one worker, and those that the caller makes alone.
 ghost use Rattle.std.specs.Prelude.{◌≡◌, ◌<◌, ◌≤◌, length, All, IfOk};
 ghost use Rattle.std.specs.List.{AllZip};
 ghost use Rattle.ch_graph.specs.declared.limits.TheConstants.{MOST_LISTED};
 ghost use Rattle.ch_hierarchy.specs.Hierarchy.{nodes_of};
+ghost use Rattle.ch_query.specs.declared.side.Side.TheVariants.{Down};
 ghost use Rattle.ch_query.specs.Distance.{IsKeptForSome};
+ghost use Rattle.ch_query.specs.SearchSpace.{IsRankedSpace};
 ghost use Rattle.ch_table.specs.Table.{IsRowBy};
 
 use crate::cells::Table;
@@ -11,7 +13,7 @@ use crate::row::{UNREACHED, cells_of, lower_by_space};
 use crate::spaces::{Room, search_spaces};
 use ch_graph::{Rows, gather};
 use ch_hierarchy::Hierarchy;
-use ch_query::{Side, ranked_space};
+use ch_query::{Scratch, Side, ranked_space};
 use ch_work::{Crew, Gate, ListJob, Stage, run_list_in};
 use std::alloc::{AllocError, Global};
 use std::marker::Model;
@@ -34,18 +36,59 @@ pub(crate) fn table_by_rows<R: Threads + Sync, G: Gate>(
 {
     let mut rooms = Vec::new(crew.alloc);
     let spaces = search_spaces(crew, hierarchy, targets, Side::Down, within, &mut rooms)?;
-    let buckets = gather(crew.alloc, hierarchy.nodes(), &spaces)?;
-    // The rows take their memory.
-    drop(spaces);
-    let job = SourceRows {
-        hierarchy,
-        targets,
-        within,
-        buckets,
-    };
+    let job = SourceRows::of(crew.alloc, hierarchy, targets, within, spaces)?;
     crew.gate.watch(Stage::Answering, 0, crew.plan.pieces(sources.len() as u32));
     let rows = run_list_in(crew, sources, &mut rooms, &job)?;
     Ok(Table { rows })
+}
+
+/// The distances from each source to each target, as [`table`](crate::table) gives them, by the caller alone in a scratch
+/// of its own: no thread is started and no gate is passed. The scratch is for as many nodes.
+///
+/// # Errors
+/// `AllocError` where there is no memory; the scratch then serves on.
+pub fn table_alone(
+    alloc: Global,
+    hierarchy: &Hierarchy,
+    scratch: &mut Scratch,
+    sources: &[u32],
+    targets: &[u32],
+    within: Option<u64>,
+) -> Result<Table, AllocError>
+    requires kept { IsKeptForSome hierarchy.now }
+    requires scratch { scratch.old ≡ nodes_of hierarchy.now }
+    requires sources { All (λ s. s < nodes_of hierarchy.now) sources.now }
+    requires targets { All (λ t. t < nodes_of hierarchy.now) targets.now }
+    requires lists { (length sources.now ≤ MOST_LISTED) × (length targets.now ≤ MOST_LISTED) }
+    ensures table { IfOk result (AllZip (IsRowBy hierarchy.now within targets.now) sources.now) }
+    ensures scratch { scratch.new ≡ scratch.old }
+{
+    let spaces = spaces_alone(alloc, hierarchy, scratch, targets, within)?;
+    let job = SourceRows::of(alloc, hierarchy, targets, within, spaces)?;
+    let rows = job.rows_alone(alloc, scratch, sources)?;
+    Ok(Table { rows })
+}
+
+/// The search spaces down to these targets, within the limit, by ranks, one after the other.
+fn spaces_alone(
+    alloc: Global,
+    hierarchy: &Hierarchy,
+    scratch: &mut Scratch,
+    targets: &[u32],
+    within: Option<u64>,
+) -> Result<Vec<Vec<(u32, u64)>>, AllocError>
+    requires kept { IsKeptForSome hierarchy.now }
+    requires scratch { scratch.old ≡ nodes_of hierarchy.now }
+    requires targets { All (λ t. t < nodes_of hierarchy.now) targets.now }
+    ensures spaces { IfOk result (λ spaces. AllZip (λ node space. IsRankedSpace hierarchy.now Down within node space.items) targets.now spaces.items) }
+    ensures scratch { scratch.new ≡ scratch.old }
+{
+    let mut spaces = Vec::with_capacity(alloc, targets.len())?;
+    for target in targets {
+        let space = ranked_space(alloc, hierarchy, scratch, *target, Side::Down, within)?;
+        spaces.push_reserved(space);
+    }
+    Ok(spaces)
 }
 
 /// The rows of sources, each made of the source's search space and the buckets of the targets.
@@ -66,6 +109,78 @@ impl<'a> Model for SourceRows<'a> {
     ghost view = { λ job. record { hierarchy = job.hierarchy.now; targets = job.targets.now; limit = job.within } };
 
     ghost invariant = { λ job. AreTargetsOf job.hierarchy.now job.within job.targets.now job.buckets };
+}
+
+impl<'a> SourceRows<'a> {
+    /// The job over sources that the search spaces of the targets make. The rows take their memory.
+    fn of(
+        alloc: Global,
+        hierarchy: &'a Hierarchy,
+        targets: &'a [u32],
+        within: Option<u64>,
+        spaces: Vec<Vec<(u32, u64)>>,
+    ) -> Result<SourceRows<'a>, AllocError>
+        requires kept { IsKeptForSome hierarchy.now }
+        requires count { length targets.now ≤ MOST_LISTED }
+        requires spaces { AllZip (λ node space. IsRankedSpace hierarchy.now Down within node space.items) targets.now spaces.items }
+        ensures { IfOk result (λ job. job ≡ record { hierarchy = hierarchy.now; targets = targets.now; limit = within }) }
+    {
+        let buckets = gather(alloc, hierarchy.nodes(), &spaces)?;
+        Ok(SourceRows {
+            hierarchy,
+            targets,
+            within,
+            buckets,
+        })
+    }
+
+    /// The rows of these sources, one after the other.
+    fn rows_alone(
+        &self,
+        alloc: Global,
+        scratch: &mut Scratch,
+        sources: &[u32],
+    ) -> Result<Vec<Vec<Option<u64>>>, AllocError>
+        requires scratch { scratch.old ≡ nodes_of self.now.hierarchy }
+        requires sources { All (λ s. s < nodes_of self.now.hierarchy) sources.now }
+        ensures rows { IfOk result (λ rows. AllZip (λ s row. IsRowBy self.now.hierarchy self.now.limit self.now.targets s row.items) sources.now rows.items) }
+        ensures scratch { scratch.new ≡ scratch.old }
+    {
+        let mut words = Vec::with_capacity(alloc, self.targets.len())?;
+        let mut rows = Vec::with_capacity(alloc, sources.len())?;
+        for source in sources {
+            let row = self.row(alloc, scratch, &mut words, *source)?;
+            rows.push_reserved(row);
+        }
+        Ok(rows)
+    }
+
+    /// The row of a source, by a search in this scratch and these words.
+    fn row(
+        &self,
+        alloc: Global,
+        scratch: &mut Scratch,
+        row: &mut Vec<u64>,
+        source: u32,
+    ) -> Result<Vec<Option<u64>>, AllocError>
+        requires scratch { scratch.old ≡ nodes_of self.now.hierarchy }
+        requires source { source < nodes_of self.now.hierarchy }
+        ensures row { IfOk result (λ cells. IsRowBy self.now.hierarchy self.now.limit self.now.targets source cells.items) }
+        ensures scratch { scratch.new ≡ scratch.old }
+    {
+        let space = ranked_space(
+            alloc,
+            self.hierarchy,
+            scratch,
+            source,
+            Side::Up,
+            self.within,
+        )?;
+        row.clear();
+        row.resize(self.targets.len(), UNREACHED)?;
+        lower_by_space(row, &space, &self.buckets);
+        cells_of(alloc, row, self.within)
+    }
 }
 
 impl<'a> ListJob for SourceRows<'a> {
@@ -96,10 +211,6 @@ impl<'a> ListJob for SourceRows<'a> {
         item: &u32,
     ) -> Result<Vec<Option<u64>>, AllocError> {
         let Room { scratch, row } = room;
-        let space = ranked_space(alloc, self.hierarchy, scratch, *item, Side::Up, self.within)?;
-        row.clear();
-        row.resize(self.targets.len(), UNREACHED)?;
-        lower_by_space(row, &space, &self.buckets);
-        cells_of(alloc, row, self.within)
+        self.row(alloc, scratch, row, *item)
     }
 }

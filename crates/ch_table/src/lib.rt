@@ -20,5 +20,6 @@ mod spaces;
 mod sums;
 
 pub use buckets::Buckets;
+pub use by_rows::table_alone;
 pub use cells::Table;
 pub use many_to_many::table;

@@ -36,14 +36,16 @@ module _ (H : LevelsAndLegs) (n : ℕ) where
         after_covered (k * p) (k * p + p) (omega arith) (first_some firsts) h.0 (subst (λ i. IsFirstUncoveredOf H i n (first_some firsts)) next rest)
     first_from k (Some u ∷ firsts) le h = let to = h.0.1 in (h.0.0, omega arith, h.0.2, h.0.3)
 
+-- the first of all numbers is the first of all nodes
+pub first_of_nodes : (H : LevelsAndLegs) (n : ℕ) (first : Option ℕ) → n ≡ nodes_of H → IsFirstUncoveredOf H 0 n first →
+    MatchOption first ((v : ℕ) → v < nodes_of H → IsCovered H v) (IsFirstUncovered H)
+first_of_nodes H n None count h = λ v lt. h v (omega arith) (omega (arith, count))
+first_of_nodes H n (Some u) count h = let to = h.1 in record { within = omega (arith, count); fails = h.2; first = λ v lt. h.3 v (omega arith) lt }
+
 -- the first of the pieces that cover all nodes is the first of all
 pub first_of_all : (H : LevelsAndLegs) (n p : ℕ) (firsts : List (Option ℕ)) → n ≡ nodes_of H → 0 < p → AreValues (IsFirstUncoveredOf H) n p 0 (pieces_of n p) firsts →
     MatchOption (first_some firsts) ((v : ℕ) → v < nodes_of H → IsCovered H v) (IsFirstUncovered H)
 first_of_all H n p firsts count positive h =
     let start : 0 * p ≡ 0 = omega arith in
     let all : n ≤ (0 + length firsts) * p = rw h.0 (covers n p positive) in
-    whole (first_some firsts) (subst (λ i. IsFirstUncoveredOf H i n (first_some firsts)) start (first_from H n p 0 firsts all h.1))
-  where
-    whole : (first : Option ℕ) → IsFirstUncoveredOf H 0 n first → MatchOption first ((v : ℕ) → v < nodes_of H → IsCovered H v) (IsFirstUncovered H)
-    whole None h = λ v lt. h v (omega arith) (omega (arith, count))
-    whole (Some u) h = let to = h.1 in record { within = omega (arith, count); fails = h.2; first = λ v lt. h.3 v (omega arith) lt }
+    first_of_nodes H n (first_some firsts) count (subst (λ i. IsFirstUncoveredOf H i n (first_some firsts)) start (first_from H n p 0 firsts all h.1))

@@ -10,7 +10,7 @@ use Rattle.ch_table.specs.Sums.{IsEntryAmong}
 use Rattle.ch_table.specs.Table.{IsRowBy}
 use Rattle.ch_table.proofs.RowCells.{space_among, refilled, row_is}
 use Rattle.ch_table.proofs.Tables.{entries_among}
-use Rattle.ch_table.proofs.by_rows.SourceRowsListJob.value.Goals as goal
+use Rattle.ch_table.proofs.by_rows.SourceRows.row.Goals as goal
 
 pub lower_by_space-requires-clause-space : goal.lower_by_space-requires-clause-space
 lower_by_space-requires-clause-space c =
@@ -19,7 +19,7 @@ lower_by_space-requires-clause-space c =
     let space = c.in_ok-space.space.items in
     subst (All (λ entry. (entry.0 < length inside.buckets) × (entry.1 ≤ MOST_WEIGHT))) (sym c.deref.ensures.value)
     (subst (λ n. All (λ entry. (entry.0 < n) × (entry.1 ≤ MOST_WEIGHT)) space) (sym are.fall.held.count)
-    (space_among inside.hierarchy.now inside.within are.kept.2.levelled c.args.item.now space c.in_ok-space.ensures.space))
+    (space_among inside.hierarchy.now inside.within are.kept.2.levelled c.args.source space c.in_ok-space.ensures.space))
 
 pub lower_by_space-requires-clause-buckets : goal.lower_by_space-requires-clause-buckets
 lower_by_space-requires-clause-buckets c =
@@ -28,13 +28,13 @@ lower_by_space-requires-clause-buckets c =
     λ rank. subst (λ n. All (IsEntryAmong n) (slice_index_or inside.buckets rank [])) (sym size)
     (entries_among inside.hierarchy.now Down inside.within (λ r. r) inside.targets.now inside.buckets c.self.invariant.fall rank)
 
-pub returns-clause-value : goal.returns-clause-value
-returns-clause-value c =
+pub returns-clause-row : goal.returns-clause-row
+returns-clause-row c =
     let inside = c.self.inside in
     let H = inside.hierarchy.now in
     let targets = inside.targets.now in
     let limit = inside.within in
-    let s = c.args.item.now in
+    let s = c.args.source in
     let low = c.lower_by_space.new.row in
     let long = c.lower_by_space.auto.row ∙ c.deref_mut.ensures.len in
     let row : c.deref-2.result.now ≡ low = c.deref-2.ensures.value ∙ with_items_is c.resize.new.self low long in

@@ -1,0 +1,45 @@
+-- When a network is not opened, and a question not answered.
+use Rattle.std.specs.Prelude.{◌≡◌, ℕ, ◌*◌, ◌<◌, ◌≤◌, List, length, All, ⊤}
+use Rattle.ch_graph.specs.declared.limits.TheConstants.{MOST_LISTED}
+use Rattle.ch_graph.specs.Graph.{Network}
+use Rattle.ch_graph.specs.Saved.{OrderAndLegs}
+use Rattle.ch_hierarchy.specs.Saved.{IsFirstFault}
+use Rattle.ch_read.specs.declared.form.Form.TheVariants.{Graph, Saved}
+use Rattle.ch_read.specs.Checks.{IsFault}
+use Rattle.ch_read.specs.Names.{NamesGraph, NamesSaved}
+use Rattle.ch_engine.specs.declared.fault.OpenError.{OpenError}
+use Rattle.ch_engine.specs.declared.fault.OpenError.TheVariants as OpenError
+use Rattle.ch_engine.specs.declared.fault.Refusal.{Refusal}
+use Rattle.ch_engine.specs.declared.fault.Refusal.TheVariants as Refusal
+
+-- what the error says is so of the bytes of a graph and of a saved hierarchy
+abbrev pub IsOpenError : List ℕ → List ℕ → OpenError → Type 0
+IsOpenError graph saved OpenError.NoMemory = ⊤
+IsOpenError graph saved (OpenError.BadGraph f) = IsFault Graph graph f.line f.kind
+IsOpenError graph saved (OpenError.BadSaved f) = (g : Network) × NamesGraph graph g × IsFault (Saved g.nodes) saved f.line f.kind
+IsOpenError graph saved (OpenError.WrongSaved f) = (g : Network) × (s : OrderAndLegs) × NamesGraph graph g × NamesSaved saved g.nodes s × IsFirstFault g s f
+
+-- the numbers are nodes of a network of n nodes
+abbrev pub AreNodes : ℕ → List ℕ → Type 0
+AreNodes n nodes = All (λ node. node < n) nodes
+
+-- why as many words as `room` are not written for pairs of nodes
+abbrev pub IsRefusalOfPairs : ℕ → List ℕ → List ℕ → ℕ → Refusal → Type 0
+IsRefusalOfPairs n sources targets room Refusal.NoMemory = ⊥
+IsRefusalOfPairs n sources targets room Refusal.NodeRange = AreNodes n sources × AreNodes n targets → ⊥
+IsRefusalOfPairs n sources targets room Refusal.Lengths = (length sources ≡ room) × (length targets ≡ room) → ⊥
+IsRefusalOfPairs n sources targets room Refusal.TooLarge = ⊥
+
+-- why a table is not written
+abbrev pub IsRefusalOfTable : ℕ → List ℕ → List ℕ → ℕ → Refusal → Type 0
+IsRefusalOfTable n sources targets room Refusal.NoMemory = ⊤
+IsRefusalOfTable n sources targets room Refusal.NodeRange = AreNodes n sources × AreNodes n targets → ⊥
+IsRefusalOfTable n sources targets room Refusal.Lengths = length sources * length targets ≡ room → ⊥
+IsRefusalOfTable n sources targets room Refusal.TooLarge = (length sources ≤ MOST_LISTED) × (length targets ≤ MOST_LISTED) → ⊥
+
+-- why a route is not given
+abbrev pub IsRefusalOfRoute : ℕ → ℕ → ℕ → Refusal → Type 0
+IsRefusalOfRoute n source target Refusal.NoMemory = ⊤
+IsRefusalOfRoute n source target Refusal.NodeRange = (source < n) × (target < n) → ⊥
+IsRefusalOfRoute n source target Refusal.Lengths = ⊥
+IsRefusalOfRoute n source target Refusal.TooLarge = ⊥

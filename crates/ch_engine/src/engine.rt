@@ -1,0 +1,197 @@
+//! A network, and room for the questions of one thread.
+ghost use Rattle.std.specs.Prelude.{◌≡◌, ◌<◌, length, IfErr, IfOk, None, OnOk, MatchOption, ⊤};
+ghost use Rattle.ch_graph.specs.Graph.{Network as Given};
+ghost use Rattle.ch_hierarchy.specs.Hierarchy.{nodes_of};
+ghost use Rattle.ch_hierarchy.specs.Kept.{IsKept};
+ghost use Rattle.ch_query.specs.Distance.{IsKeptForSome};
+ghost use Rattle.ch_query.specs.Routes.{IsRouteBy};
+ghost use Rattle.ch_read.specs.Names.{NamesGraph};
+ghost use Rattle.ch_engine.specs.Cells.{ArePairCells, AreTableCells, IsCell};
+ghost use Rattle.ch_engine.specs.Refusals.{AreNodes, IsOpenError, IsRefusalOfPairs, IsRefusalOfRoute, IsRefusalOfTable};
+
+use crate::fault::{OpenError, Refusal};
+use crate::network::Network;
+use crate::opening::opened;
+use crate::words::{are_nodes, word_of, write_table};
+use ch_graph::limits::MOST_LISTED;
+use ch_hierarchy::Hierarchy;
+use ch_query::{Route, Scratch, distance, route};
+use ch_table::table_alone;
+use std::alloc::{AllocError, Global};
+use std::marker::Model;
+use std::sync::Arc;
+
+/// A network, which several engines may share, and room for the questions of one. Contracts see its hierarchy, so the room
+/// is always that of its own network.
+#[derive(Drop)]
+pub struct Engine {
+    network: Arc<Network, Global>,
+    scratch: Scratch,
+}
+
+impl Model for Engine {
+    ghost use Rattle.std.specs.Prelude.{◌≡◌};
+    ghost use Rattle.std.specs.Arc.{arc_value};
+    ghost use Rattle.ch_hierarchy.specs.Hierarchy.{LevelsAndLegs, nodes_of};
+
+    ghost Value = { LevelsAndLegs };
+
+    ghost view = { λ engine. arc_value engine.network };
+
+    ghost invariant = { λ engine. engine.scratch ≡ nodes_of (arc_value engine.network) };
+}
+
+impl Engine {
+    /// The engine of a graph and of its saved hierarchy, as files have them. The hierarchy is checked against the graph.
+    ///
+    /// # Errors
+    /// The first fault of the graph, else that of the saved hierarchy's bytes, else its first fault for the graph; or
+    /// `NoMemory`.
+    pub fn open(alloc: Global, graph: &[u8], saved: &[u8]) -> Result<Engine, OpenError>
+        ensures value { IfOk result (λ H. (g : Given) × NamesGraph graph.now g × IsKept g H) }
+        ensures error { IfErr result (IsOpenError graph.now saved.now) }
+    {
+        let hierarchy = opened(alloc, graph, saved)?;
+        Ok(Engine::of(alloc, hierarchy)?)
+    }
+
+    fn of(alloc: Global, hierarchy: Hierarchy) -> Result<Engine, AllocError>
+        requires { IsKeptForSome hierarchy }
+        ensures { IfOk result (λ H. H ≡ hierarchy) }
+    {
+        let scratch = Scratch::new(alloc, hierarchy.nodes())?;
+        let network = Arc::new(alloc, Network { hierarchy })?;
+        Ok(Engine { network, scratch })
+    }
+
+    /// A second engine in the same network, with room of its own.
+    ///
+    /// # Errors
+    /// `AllocError` where there is no memory, or where more engines share the network than can be counted.
+    pub fn share(&self, alloc: Global) -> Result<Engine, AllocError>
+        ensures { IfOk result (λ H. H ≡ self.now) }
+    {
+        let network = Arc::try_clone(&self.network)?;
+        let scratch = Scratch::new(alloc, network.hierarchy().nodes())?;
+        Ok(Engine { network, scratch })
+    }
+
+    /// The number of nodes.
+    pub fn nodes(&self) -> u32
+        ensures { result ≡ nodes_of self.now }
+    {
+        self.network.hierarchy().nodes()
+    }
+
+    /// Writes the distance from each source to the target at the same place, as a word:
+    /// [`NO_DISTANCE`](crate::NO_DISTANCE) where there is no walk.
+    ///
+    /// # Errors
+    /// A refusal by lengths that differ, else by a number that is no node; then nothing is written.
+    pub fn distances(
+        &mut self,
+        sources: &[u32],
+        targets: &[u32],
+        out: &mut [u64],
+    ) -> Result<(), Refusal>
+        ensures cells { OnOk result (ArePairCells self.old sources.now targets.now out.new) }
+        ensures refused { IfErr result (λ refusal. (out.new ≡ out.old) × IsRefusalOfPairs (nodes_of self.old) sources.now targets.now (length out.old) refusal) }
+        ensures same { self.new ≡ self.old }
+    {
+        if sources.len() != out.len() || targets.len() != out.len() {
+            return Err(Refusal::Lengths);
+        }
+        let nodes = self.nodes();
+        if !are_nodes(sources, nodes) || !are_nodes(targets, nodes) {
+            return Err(Refusal::NodeRange);
+        }
+        self.write_distances(sources, targets, out);
+        Ok(())
+    }
+
+    fn write_distances(&mut self, sources: &[u32], targets: &[u32], out: &mut [u64])
+        requires lengths { (length sources.now ≡ length out.old) × (length targets.now ≡ length out.old) }
+        requires sources { AreNodes (nodes_of self.old) sources.now }
+        requires targets { AreNodes (nodes_of self.old) targets.now }
+        ensures cells { ArePairCells self.old sources.now targets.now out.new }
+        ensures same { self.new ≡ self.old }
+    {
+        for i in 0..out.len() {
+            out[i] = self.cell(sources[i], targets[i]);
+        }
+    }
+
+    fn cell(&mut self, source: u32, target: u32) -> u64
+        requires source { source < nodes_of self.old }
+        requires target { target < nodes_of self.old }
+        ensures cell { IsCell self.old None source target result }
+        ensures same { self.new ≡ self.old }
+    {
+        let answer = distance(self.network.hierarchy(), &mut self.scratch, source, target);
+        word_of(answer)
+    }
+
+    /// Writes the distance from each source to each target, row after row, as words:
+    /// [`NO_DISTANCE`](crate::NO_DISTANCE) where there is no walk, or none of a weight within the limit.
+    ///
+    /// # Errors
+    /// A refusal by lengths, else by a number that is no node, else by the size; or `NoMemory`. Then nothing is written.
+    pub fn table(
+        &mut self,
+        alloc: Global,
+        sources: &[u32],
+        targets: &[u32],
+        within: Option<u64>,
+        out: &mut [u64],
+    ) -> Result<(), Refusal>
+        ensures cells { OnOk result (AreTableCells self.old within sources.now targets.now out.new) }
+        ensures refused { IfErr result (λ refusal. (out.new ≡ out.old) × IsRefusalOfTable (nodes_of self.old) sources.now targets.now (length out.old) refusal) }
+        ensures same { self.new ≡ self.old }
+    {
+        if sources.len().checked_mul(targets.len()) != Some(out.len()) {
+            return Err(Refusal::Lengths);
+        }
+        let nodes = self.nodes();
+        if !are_nodes(sources, nodes) || !are_nodes(targets, nodes) {
+            return Err(Refusal::NodeRange);
+        }
+        let most = MOST_LISTED as usize;
+        if sources.len() > most || targets.len() > most {
+            return Err(Refusal::TooLarge);
+        }
+        let hierarchy = self.network.hierarchy();
+        let table = table_alone(
+            alloc,
+            hierarchy,
+            &mut self.scratch,
+            sources,
+            targets,
+            within,
+        )?;
+        write_table(&table, sources.len(), targets.len(), out);
+        Ok(())
+    }
+
+    /// The route from a node to another, or none where there is no walk.
+    ///
+    /// # Errors
+    /// A refusal by a number that is no node, or `NoMemory`.
+    pub fn route(
+        &mut self,
+        alloc: Global,
+        source: u32,
+        target: u32,
+    ) -> Result<Option<Route>, Refusal>
+        ensures route { IfOk result (IsRouteBy self.old source target) }
+        ensures few { IfOk result (λ answer. MatchOption answer ⊤ (λ route. length route.arcs < nodes_of self.old)) }
+        ensures refused { IfErr result (IsRefusalOfRoute (nodes_of self.old) source target) }
+        ensures same { self.new ≡ self.old }
+    {
+        let nodes = self.nodes();
+        if source >= nodes || target >= nodes {
+            return Err(Refusal::NodeRange);
+        }
+        let hierarchy = self.network.hierarchy();
+        Ok(route(alloc, hierarchy, &mut self.scratch, source, target)?)
+    }
+}

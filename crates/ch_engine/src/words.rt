@@ -1,0 +1,55 @@
+//! Distances as words of 64 bits.
+ghost use Rattle.std.specs.Prelude.{◌≡◌, ◌*◌, ◌/◌, ◌%◌, ◌<◌, ◌≤◌, ◌↔◌, ℕ, [], length, slice_index_or, IsTrue};
+ghost use Rattle.ch_graph.specs.declared.limits.TheConstants.{MOST_LISTED};
+ghost use Rattle.ch_engine.specs.Cells.{AreRowWords, word_of as the_word};
+ghost use Rattle.ch_engine.specs.Refusals.{AreNodes};
+
+use ch_table::Table;
+
+/// The word where there is no distance: none is as great.
+pub const NO_DISTANCE: u64 = u64::MAX;
+
+/// The word of an answer.
+pub(crate) fn word_of(answer: Option<u64>) -> u64
+    ensures { result ≡ the_word answer }
+{
+    match answer {
+        Some(weight) => weight,
+        None => NO_DISTANCE,
+    }
+}
+
+/// Whether all numbers are nodes of a network of so many.
+pub(crate) fn are_nodes(numbers: &[u32], nodes: u32) -> bool
+    ensures { IsTrue result ↔ AreNodes nodes numbers.now }
+{
+    for number in numbers {
+        if *number >= nodes {
+            return false;
+        }
+    }
+    true
+}
+
+/// Writes the words of a table's answers, row after row.
+pub(crate) fn write_table(table: &Table, rows: usize, columns: usize, out: &mut [u64])
+    requires room { length out.old ≡ rows * columns }
+    requires rows { (length table.now ≡ rows) × (rows ≤ MOST_LISTED) }
+    requires columns { (i : ℕ) → i < rows → length (slice_index_or table.now i []) ≡ columns }
+    ensures words { AreRowWords table.now columns out.new }
+    ensures room { length out.new ≡ length out.old }
+{
+    for k in 0..out.len() {
+        let (row, column) = place_of(k, rows, columns);
+        out[k] = word_of(table.row(row as u32)[column]);
+    }
+}
+
+/// The row and the column of a cell, of which there are as many as rows times columns.
+fn place_of(cell: usize, rows: usize, columns: usize) -> (usize, usize)
+    requires { cell < rows * columns }
+    ensures place { (result.0 ≡ cell / columns) × (result.1 ≡ cell % columns) }
+    ensures inside { (result.0 < rows) × (result.1 < columns) }
+{
+    (cell / columns, cell % columns)
+}
