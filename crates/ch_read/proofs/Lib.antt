@@ -1,5 +1,6 @@
 pub mod OneAnswer
 pub mod Splits
+pub mod Cuts
 pub mod Numbers
 pub mod Judging
 pub mod Reading

@@ -1,10 +1,10 @@
 -- The reader's loop over the lines of a file.
-use Rattle.std.proofs.Common.{◌≡◌, ℕ, zero, suc, ◌+◌, ◌-◌, ◌<◌, ◌≤◌, true, eqb, ltb, List, [], ◌∷◌, ◌++◌, length, map, take, drop, get_or, Option, Some, None, refl, sym, ◌∙◌, ap, subst, arith, length-drop, add-zero}
+use Rattle.std.proofs.Common.{◌≡◌, ℕ, zero, suc, ◌+◌, ◌-◌, ◌<◌, ◌≤◌, true, eqb, ltb, List, [], ◌∷◌, ◌++◌, length, map, take, drop, get_or, Option, Some, None, refl, sym, ◌∙◌, ap, subst, arith, length-drop, length-take, add-zero}
 use Rattle.std.specs.Prelude.{slice_get, All}
 use Rattle.std.specs.List.{filter_map, cons_option}
 use Rattle.std.proofs.lemmas.Bool.{eqb-true}
 use Rattle.std.proofs.lemmas.Bool.Decides.{nat_tests}
-use Rattle.std.proofs.lemmas.List.{append-nil, drop_more, take_more, get_or-drop, length_push, length-map, map-append, take_all, nil_from_length}
+use Rattle.std.proofs.lemmas.List.{append-nil, drop_more, take_more, get_or-drop, length_push, length-map, map-append, take_all, take-append-drop, take-append-le, get_or-take, get_or_default, nil_from_length}
 use Rattle.std.proofs.lemmas.List.Elements.{filter_map-append, All-append}
 use Rattle.std.proofs.lemmas.Option.{none-some}
 use Rattle.ch_read.specs.declared.fault.FaultKind.{FaultKind}
@@ -16,8 +16,11 @@ use Rattle.ch_read.specs.declared.form.Heading.{Heading}
 use Rattle.ch_read.specs.declared.form.Item.{Item}
 use Rattle.ch_read.specs.Words.{lines, words}
 use Rattle.ch_read.specs.Forms.{heading, item, heading_in, items_in, count_of, counts_in}
-use Rattle.ch_read.specs.Checks.{first_failing, line_checks, line_fault, end_checks, fault_at, IsFault}
-use Rattle.ch_read.specs.Reading.{item_from, AreItemsWithin, IsWithin, IsFile, values_in, IsProblem, IsNoItem, IsItem, IsItemWithin, IsEnd}
+use Rattle.ch_read.specs.Checks.{first_failing, line_checks, end_checks, fault_at, IsFault}
+use Rattle.ch_read.specs.declared.fault.ReadError.{ReadError}
+use Rattle.ch_read.specs.declared.fault.ReadError.TheVariants.{Fault, NoMemory}
+use Rattle.ch_read.specs.Sections.{seen_after, fault_after, IsFaultAfter, IsErrorAfter, AreLines, IsSection, BeginsWith}
+use Rattle.ch_read.specs.Reading.{item_from, AreItemsWithin, IsWithin, IsFile, values_in, IsProblem, IsNoItem, IsItem, IsItemWithin, IsEnd, IsErrorOf}
 use Rattle.ch_read.proofs.OneAnswer.{AreClear, clear_more, at_end}
 
 -- one more line
@@ -37,8 +40,8 @@ module _ (all : List (List ℕ)) (i : ℕ) (text : List ℕ) (more : List (List 
   pub drop_line : drop (i + 1) all ≡ more
   drop_line = ap (λ (xs : List (List ℕ)). drop 1 xs) (sym (drop_more all i [] line_within) ∙ next)
 
-  pub at_line : (form : Form) → fault_at form all i ≡ line_fault form (take i all) text
-  at_line form = let within : ltb i (length all) ≡ true = (let lt = line_within in grind (arith, nat_tests)) in rw within (ap (line_fault form (take i all)) line_is)
+  pub at_line : (form : Form) (begun : Option Heading) → fault_after form begun all i ≡ first_failing (line_checks form (seen_after form begun (take i all)) (counts_in form (take i all)) (words text))
+  at_line form begun = ap (λ (line : List ℕ). first_failing (line_checks form (seen_after form begun (take i all)) (counts_in form (take i all)) (words line))) line_is
 
 -- what a line adds to what was read
 
@@ -58,6 +61,14 @@ module _ (form : Form) (before : List (List ℕ)) (text : List ℕ) where
       ∙ first_of_none (filter_map (λ line. heading form (words line)) before) (filter_map (λ line. heading form (words line)) (text ∷ [])) none
       ∙ ap (λ h. slice_get (cons_option h []) 0) found
 
+  seen_same : (begun : Option Heading) → heading form (words text) ≡ None → seen_after form begun (before ++ text ∷ []) ≡ seen_after form begun before
+  seen_same None none = heading_same none
+  seen_same (Some h) none = refl
+
+  seen_found : (begun : Option Heading) (h : Heading) → seen_after form begun before ≡ None → heading form (words text) ≡ Some h → seen_after form begun (before ++ text ∷ []) ≡ Some h
+  seen_found None h none found = heading_found h none found
+  seen_found (Some k) h none found = absurd (none-some k (sym none))
+
   items_same : (part : Part) → item form part (words text) ≡ None → items_in form part (before ++ text ∷ []) ≡ items_in form part before
   items_same part none =
       filter_map-append (λ line. item form part (words line)) before (text ∷ []) ∙ ap (λ h. items_in form part before ++ cons_option h []) none ∙ append-nil (items_in form part before)
@@ -76,7 +87,7 @@ module _ (form : Form) (before : List (List ℕ)) (text : List ℕ) where
 
 -- what is within the limits
 
-none_within : (form : Form) (part : Part) (h : Heading) → AreItemsWithin form part h []
+pub none_within : (form : Form) (part : Part) (h : Heading) → AreItemsWithin form part h []
 none_within form part h = record { few = omega arith; each = λ k d lt. absurd (omega arith) }
 
 pub one : {X : Type 0} (P : X → Type 0) (x : X) → P x → All P (x ∷ [])
@@ -95,26 +106,30 @@ within_same form seen first second first' second' e f within =
     subst (λ its. IsWithin form seen its second') (sym e) (subst (λ its. IsWithin form seen first its) (sym f) within)
 
 -- the invariant of the loop: some lines were read and have no fault, and these are what they hold
-pub record HasRead {A B : Type 0} (a : Item → A) (b : Item → B) (form : Form) (bytes rest : List ℕ) (line : ℕ) (seen : Option Heading) (first : List A) (second : List B) : Type 0 where
+pub record HasRead {A B : Type 0} (a : Item → A) (b : Item → B) (form : Form) (begun : Option Heading) (bytes rest : List ℕ) (line : ℕ) (seen : Option Heading) (first : List A) (second : List B) : Type 0 where
   pub counted : line ≤ length (lines bytes)
   pub room : line + length rest ≤ length bytes
   pub left : drop line (lines bytes) ≡ lines rest
-  pub seen_is : seen ≡ heading_in form (take line (lines bytes))
+  pub seen_is : seen ≡ seen_after form begun (take line (lines bytes))
   pub first_is : first ≡ values_in a form First (take line (lines bytes))
   pub second_is : second ≡ values_in b form Second (take line (lines bytes))
-  pub clear : AreClear (fault_at form (lines bytes)) line
+  pub clear : AreClear (fault_after form begun (lines bytes)) line
   pub within : IsWithin form seen (items_in form First (take line (lines bytes))) (items_in form Second (take line (lines bytes)))
 
-pub nothing_read : {A B : Type 0} (a : Item → A) (b : Item → B) (form : Form) (bytes : List ℕ) → HasRead a b form bytes bytes 0 None [] []
-nothing_read a b form bytes = record {
+none_seen : (form : Form) (begun : Option Heading) → begun ≡ seen_after form begun []
+none_seen form None = refl
+none_seen form (Some h) = refl
+
+pub nothing_read : {A B : Type 0} (a : Item → A) (b : Item → B) (form : Form) (begun : Option Heading) (bytes : List ℕ) → IsWithin form begun [] [] → HasRead a b form begun bytes bytes 0 begun [] []
+nothing_read a b form begun bytes within = record {
   counted = omega arith;
   room = omega arith;
   left = refl;
-  seen_is = refl;
+  seen_is = none_seen form begun;
   first_is = refl;
   second_is = refl;
   clear = λ i lt. absurd (omega arith);
-  within = (refl, refl);
+  within = within;
 }
 
 -- the values are counted, and are as many as the items
@@ -133,8 +148,8 @@ counts_are a b form all counts first second counted first_is second_is =
     let others : counts.second ≡ length (items_in form Second all) = counted.second_is ∙ ap length second_is ∙ length-map (items_in form Second all) (λ ns. b (item_from ns)) in
     λ i. record { first = ones i; second = others i }
 
-module _ {A B : Type 0} (a : Item → A) (b : Item → B) (form : Form) (bytes rest text after : List ℕ) (line : ℕ) (counts : Counts) (seen : Option Heading) (first : List A) (second : List B)
-    (read : HasRead a b form bytes rest line seen first second) (split : lines rest ≡ text ∷ lines after) (less : length after < length rest)
+module _ {A B : Type 0} (a : Item → A) (b : Item → B) (form : Form) (begun : Option Heading) (bytes rest text after : List ℕ) (line : ℕ) (counts : Counts) (seen : Option Heading) (first : List A) (second : List B)
+    (read : HasRead a b form begun bytes rest line seen first second) (split : lines rest ≡ text ∷ lines after) (less : length after < length rest)
     (counted : AreCounted counts first second) where
   abbrev all : List (List ℕ)
   all = lines bytes
@@ -151,24 +166,24 @@ module _ {A B : Type 0} (a : Item → A) (b : Item → B) (form : Form) (bytes r
   counts_is : counts ≡ counts_in form before
   counts_is = counts_are a b form before counts first second counted read.first_is read.second_is
 
-  checks_are : fault_at form all line ≡ first_failing (line_checks form seen counts (words text))
-  checks_are = at_line all line text (lines after) next form ∙ sym (ap (λ s. first_failing (line_checks form s counts (words text))) read.seen_is
-      ∙ ap (λ n. first_failing (line_checks form (heading_in form before) n (words text))) counts_is)
+  checks_are : fault_after form begun all line ≡ first_failing (line_checks form seen counts (words text))
+  checks_are = at_line all line text (lines after) next form begun ∙ sym (ap (λ s. first_failing (line_checks form s counts (words text))) read.seen_is
+      ∙ ap (λ n. first_failing (line_checks form (seen_after form begun before) n (words text))) counts_is)
 
-  pub fault_here : (kind : FaultKind) → first_failing (line_checks form seen counts (words text)) ≡ Some kind → IsFault form bytes (line + 1) kind
+  pub fault_here : (kind : FaultKind) → first_failing (line_checks form seen counts (words text)) ≡ Some kind → IsFaultAfter form begun bytes (line + 1) kind
   fault_here kind e =
       let back : line + 1 - 1 ≡ line = omega arith in
       let within = within_all in
       record {
         counted = (omega arith, omega arith);
-        kind_is = ap (fault_at form all) back ∙ checks_are ∙ e;
+        kind_is = ap (fault_after form begun all) back ∙ checks_are ∙ e;
         first = λ i lt. read.clear i (omega arith);
       }
 
   -- the facts of one more line, after what it holds is known
-  more : (seen' : Option Heading) (first' : List A) (second' : List B) → first_failing (line_checks form seen counts (words text)) ≡ None → seen' ≡ heading_in form (before ++ text ∷ []) →
+  more : (seen' : Option Heading) (first' : List A) (second' : List B) → first_failing (line_checks form seen counts (words text)) ≡ None → seen' ≡ seen_after form begun (before ++ text ∷ []) →
       first' ≡ values_in a form First (before ++ text ∷ []) → second' ≡ values_in b form Second (before ++ text ∷ []) →
-      IsWithin form seen' (items_in form First (before ++ text ∷ [])) (items_in form Second (before ++ text ∷ [])) → HasRead a b form bytes after (line + 1) seen' first' second'
+      IsWithin form seen' (items_in form First (before ++ text ∷ [])) (items_in form Second (before ++ text ∷ [])) → HasRead a b form begun bytes after (line + 1) seen' first' second'
   more seen' first' second' passes seen_is first_is second_is within =
       let one_more : take (line + 1) all ≡ before ++ text ∷ [] = take_line all line text (lines after) next in
       let inside = within_all in
@@ -177,28 +192,28 @@ module _ {A B : Type 0} (a : Item → A) (b : Item → B) (form : Form) (bytes r
         counted = omega arith;
         room = omega arith;
         left = drop_line all line text (lines after) next;
-        seen_is = seen_is ∙ ap (heading_in form) (sym one_more);
+        seen_is = seen_is ∙ ap (seen_after form begun) (sym one_more);
         first_is = first_is ∙ ap (values_in a form First) (sym one_more);
         second_is = second_is ∙ ap (values_in b form Second) (sym one_more);
-        clear = λ i lt. clear_more (fault_at form all) line read.clear (checks_are ∙ passes) i (omega arith);
+        clear = λ i lt. clear_more (fault_after form begun all) line read.clear (checks_are ∙ passes) i (omega arith);
         within = subst (λ (ls : List (List ℕ)). IsWithin form seen' (items_in form First ls) (items_in form Second ls)) (sym one_more) within;
       }
 
   pub skipped : first_failing (line_checks form seen counts (words text)) ≡ None → heading form (words text) ≡ None → IsNoItem form (words text) →
-      HasRead a b form bytes after (line + 1) seen first second
+      HasRead a b form begun bytes after (line + 1) seen first second
   skipped passes no_heading no_item = more seen first second passes
-      (read.seen_is ∙ sym (heading_same form before text no_heading))
+      (read.seen_is ∙ sym (seen_same form before text begun no_heading))
       (read.first_is ∙ sym (values_same form before text a First no_item.0))
       (read.second_is ∙ sym (values_same form before text b Second no_item.1))
       (within_same form seen _ _ _ _ (items_same form before text First no_item.0) (items_same form before text Second no_item.1) read.within)
 
   pub found : (h : Heading) → first_failing (line_checks form seen counts (words text)) ≡ None → IsProblem form seen (words text) h → IsNoItem form (words text) →
-      HasRead a b form bytes after (line + 1) (Some h) first second
+      HasRead a b form begun bytes after (line + 1) (Some h) first second
   found h passes problem no_item =
       let none : (items_in form First before ≡ []) × (items_in form Second before ≡ []) =
       subst (λ s. IsWithin form s (items_in form First before) (items_in form Second before)) problem.first read.within in
       more (Some h) first second passes
-      (sym (heading_found form before text h (sym read.seen_is ∙ problem.first) problem.declares))
+      (sym (seen_found form before text begun h (sym read.seen_is ∙ problem.first) problem.declares))
       (read.first_is ∙ sym (values_same form before text a First no_item.0))
       (read.second_is ∙ sym (values_same form before text b Second no_item.1))
       (within_same form (Some h) [] [] _ _ (items_same form before text First no_item.0 ∙ none.0) (items_same form before text Second no_item.1 ∙ none.1)
@@ -209,75 +224,140 @@ module _ {A B : Type 0} (a : Item → A) (b : Item → B) (form : Form) (bytes r
   before_item h is = subst (λ s. IsWithin form s (items_in form First before) (items_in form Second before)) is read.within
 
   pub taken_first : (i : Item) → first_failing (line_checks form seen counts (words text)) ≡ None → heading form (words text) ≡ None →
-      IsItem form First seen counts.first (item form First (words text)) i → item form Second (words text) ≡ None → HasRead a b form bytes after (line + 1) seen (first ++ a i ∷ []) second
+      IsItem form First seen counts.first (item form First (words text)) i → item form Second (words text) ≡ None → HasRead a b form begun bytes after (line + 1) seen (first ++ a i ∷ []) second
   taken_first i passes no_heading has no_other =
       let within = before_item has.declared has.seen_is in
       let few : counts.first ≡ length (items_in form First before) = ap (λ (c : Counts). c.first) counts_is in
       let room = has.room in
       let one_more = more_within form First has.declared (items_in form First before) has.ns within.1 (omega arith) has.within in
       more seen (first ++ a i ∷ []) second passes
-      (read.seen_is ∙ sym (heading_same form before text no_heading))
+      (read.seen_is ∙ sym (seen_same form before text begun no_heading))
       (ap (λ v. v ++ a i ∷ []) read.first_is ∙ sym (values_more form before text a First has.ns i has.has has.value))
       (read.second_is ∙ sym (values_same form before text b Second no_other))
       (subst (λ s. IsWithin form s (items_in form First (before ++ text ∷ [])) (items_in form Second (before ++ text ∷ []))) (sym has.seen_is)
       (within_same form (Some has.declared) _ _ _ _ (items_more form before text First has.ns has.has) (items_same form before text Second no_other) (within.0, one_more, within.2)))
 
   pub taken_second : (i : Item) → first_failing (line_checks form seen counts (words text)) ≡ None → heading form (words text) ≡ None →
-      IsItem form Second seen counts.second (item form Second (words text)) i → item form First (words text) ≡ None → HasRead a b form bytes after (line + 1) seen first (second ++ b i ∷ [])
+      IsItem form Second seen counts.second (item form Second (words text)) i → item form First (words text) ≡ None → HasRead a b form begun bytes after (line + 1) seen first (second ++ b i ∷ [])
   taken_second i passes no_heading has no_other =
       let within = before_item has.declared has.seen_is in
       let few : counts.second ≡ length (items_in form Second before) = ap (λ (c : Counts). c.second) counts_is in
       let room = has.room in
       let one_more = more_within form Second has.declared (items_in form Second before) has.ns within.2 (omega arith) has.within in
       more seen first (second ++ b i ∷ []) passes
-      (read.seen_is ∙ sym (heading_same form before text no_heading))
+      (read.seen_is ∙ sym (seen_same form before text begun no_heading))
       (read.first_is ∙ sym (values_same form before text a First no_other))
       (ap (λ v. v ++ b i ∷ []) read.second_is ∙ sym (values_more form before text b Second has.ns i has.has has.value))
       (subst (λ s. IsWithin form s (items_in form First (before ++ text ∷ [])) (items_in form Second (before ++ text ∷ []))) (sym has.seen_is)
       (within_same form (Some has.declared) _ _ _ _ (items_same form before text First no_other) (items_more form before text Second has.ns has.has) (within.0, within.1, one_more)))
 
+-- all lines were read
+pub all_lines : {A B : Type 0} (a : Item → A) (b : Item → B) (form : Form) (begun : Option Heading) (bytes rest : List ℕ) (line : ℕ) (seen : Option Heading) (first : List A) (second : List B) →
+    HasRead a b form begun bytes rest line seen first second → true ≡ eqb (length rest) 0 → AreLines a b form begun (lines bytes) line seen first second
+all_lines a b form begun bytes rest line seen first second read none =
+    let empty : rest ≡ [] = nil_from_length rest (eqb-true (length rest) 0 (sym none)) in
+    let no_more : length (drop line (lines bytes)) ≡ 0 = ap length (read.left ∙ ap lines empty) in
+    let within = read.counted in
+    let end : line ≡ length (lines bytes) = omega (arith, length-drop line (lines bytes)) in
+    let all_taken : take line (lines bytes) ≡ lines bytes = take_all line (lines bytes) (omega arith) in
+    record {
+      counted = end;
+      clear = λ i lt. read.clear i (omega arith);
+      seen_is = read.seen_is ∙ ap (seen_after form begun) all_taken;
+      first_is = read.first_is ∙ ap (values_in a form First) all_taken;
+      second_is = read.second_is ∙ ap (values_in b form Second) all_taken;
+      within = subst (λ (ls : List (List ℕ)). IsWithin form seen (items_in form First ls) (items_in form Second ls)) all_taken read.within;
+    }
+
+-- the fault of a line that nothing was seen before
+from_start : (form : Form) (all : List (List ℕ)) (i : ℕ) → i < length all → fault_at form all i ≡ fault_after form None all i
+from_start form all i lt = let within : ltb i (length all) ≡ true = grind (arith, nat_tests) in rw within refl
+
+-- the first fault of the lines of a file is its first
+pub error_from_start : (form : Form) (bytes : List ℕ) (e : ReadError) → IsErrorAfter form None bytes e → IsErrorOf form bytes e
+error_from_start form bytes NoMemory is = tt
+error_from_start form bytes (Fault f) is =
+    let counted = is.counted in
+    record {
+      counted = (counted.0, omega arith);
+      kind_is = from_start form (lines bytes) (f.line - 1) (omega arith) ∙ is.kind_is;
+      first = λ i lt. from_start form (lines bytes) i (omega arith) ∙ is.first i lt;
+    }
+
 -- after the last line
-module _ {A B : Type 0} (a : Item → A) (b : Item → B) (form : Form) (bytes rest : List ℕ) (line : ℕ) (counts : Counts) (seen : Option Heading) (first : List A) (second : List B)
-    (read : HasRead a b form bytes rest line seen first second) (none : true ≡ eqb (length rest) 0) (counted : AreCounted counts first second) where
-  end_is : line ≡ length (lines bytes)
-  end_is =
-      let empty : rest ≡ [] = nil_from_length rest (eqb-true (length rest) 0 (sym none)) in
-      let no_more : length (drop line (lines bytes)) ≡ 0 = ap length (read.left ∙ ap lines empty) in
-      let within = read.counted in
-      omega (arith, length-drop line (lines bytes))
-
-  all_taken : take line (lines bytes) ≡ lines bytes
-  all_taken = let end = end_is in take_all line (lines bytes) (omega arith)
-
-  seen_in_all : seen ≡ heading_in form (lines bytes)
-  seen_in_all = read.seen_is ∙ ap (heading_in form) all_taken
-
-  pub first_of_all : first ≡ values_in a form First (lines bytes)
-  first_of_all = read.first_is ∙ ap (values_in a form First) all_taken
-
-  pub second_of_all : second ≡ values_in b form Second (lines bytes)
-  second_of_all = read.second_is ∙ ap (values_in b form Second) all_taken
+module _ {A B : Type 0} (a : Item → A) (b : Item → B) (form : Form) (bytes : List ℕ) (line : ℕ) (counts : Counts) (seen : Option Heading) (first : List A) (second : List B)
+    (read : AreLines a b form None (lines bytes) line seen first second) (counted : AreCounted counts first second) where
+  clear_at : (i : ℕ) → i < length (lines bytes) → fault_at form (lines bytes) i ≡ None
+  clear_at i lt = from_start form (lines bytes) i lt ∙ read.clear i lt
 
   end_checks_are : fault_at form (lines bytes) line ≡ first_failing (end_checks seen counts)
   end_checks_are =
-      let counts_is : counts ≡ counts_in form (lines bytes) = counts_are a b form (lines bytes) counts first second counted first_of_all second_of_all in
-      ap (fault_at form (lines bytes)) end_is ∙ at_end form (lines bytes)
-      ∙ sym (ap (λ s. first_failing (end_checks s counts)) seen_in_all ∙ ap (λ n. first_failing (end_checks (heading_in form (lines bytes)) n)) counts_is)
+      let counts_is : counts ≡ counts_in form (lines bytes) = counts_are a b form (lines bytes) counts first second counted read.first_is read.second_is in
+      ap (fault_at form (lines bytes)) read.counted ∙ at_end form (lines bytes)
+      ∙ sym (ap (λ s. first_failing (end_checks s counts)) read.seen_is ∙ ap (λ n. first_failing (end_checks (heading_in form (lines bytes)) n)) counts_is)
 
   pub fault_at_end : (kind : FaultKind) → first_failing (end_checks seen counts) ≡ Some kind → IsFault form bytes (line + 1) kind
   fault_at_end kind e =
       let back : line + 1 - 1 ≡ line = omega arith in
-      let end = end_is in
+      let end = read.counted in
       record {
         counted = (omega arith, omega arith);
         kind_is = ap (fault_at form (lines bytes)) back ∙ end_checks_are ∙ e;
-        first = λ i lt. read.clear i (omega arith);
+        first = λ i lt. clear_at i (omega arith);
       }
 
   pub whole_file : (h : Heading) → IsEnd seen counts h → IsFile form bytes h
   whole_file h passes = record {
-    accepted = λ i le. (let end = end_is in clear_more (fault_at form (lines bytes)) line read.clear (end_checks_are ∙ passes.0) i (omega arith));
-    heading_is = sym seen_in_all ∙ passes.1;
-    within = subst (λ s. IsWithin form s (items_in form First (lines bytes)) (items_in form Second (lines bytes))) passes.1
-        (subst (λ (ls : List (List ℕ)). IsWithin form seen (items_in form First ls) (items_in form Second ls)) all_taken read.within);
+    accepted = λ i le. (let end = read.counted in clear_more (fault_at form (lines bytes)) line (λ k lt. clear_at k (omega arith)) (end_checks_are ∙ passes.0) i (omega arith));
+    heading_is = sym read.seen_is ∙ passes.1;
+    within = subst (λ s. IsWithin form s (items_in form First (lines bytes)) (items_in form Second (lines bytes))) passes.1 read.within;
   }
+
+-- what the lines of a section hold
+pub section_read : {A B : Type 0} (a : Item → A) (b : Item → B) (form : Form) (h : Heading) (all : List (List ℕ)) (line : ℕ) (seen : Option Heading) (first : List A) (second : List B) →
+    AreLines a b form (Some h) all line seen first second → IsSection a b form h all first second
+section_read a b form h all line seen first second read =
+    let within = subst (λ s. IsWithin form s (items_in form First all) (items_in form Second all)) read.seen_is read.within in
+    record {
+      passes = λ k d lt. (counts_in form (take k all), subst (λ line. first_failing (line_checks form (Some h) (counts_in form (take k all)) (words line)) ≡ None) (get_or_default all k [] d lt) (read.clear k lt));
+      first_is = read.first_is;
+      second_is = read.second_is;
+      first_within = within.1.each;
+      second_within = within.2.each;
+    }
+
+-- the head of a file was read, up to the problem line
+pub head_read : {A B : Type 0} (a : Item → A) (b : Item → B) (form : Form) (bytes rest : List ℕ) (line : ℕ) (h : Heading) →
+    HasRead {A = A} {B = B} a b form None bytes rest line (Some h) [] [] → BeginsWith form bytes h rest
+head_read a b form bytes rest line h read =
+    let front = take line (lines bytes) in
+    let counted = read.counted in
+    let long : length front ≡ line = omega (arith, length-take line (lines bytes)) in
+    record {
+      front = front;
+      split = sym (take-append-drop line (lines bytes)) ∙ ap (λ ls. front ++ ls) read.left;
+      head = record {
+        clear = λ i lt. rw (sym (take-append-le i front (drop line (lines bytes)) (omega arith)) ∙ ap (take i) (take-append-drop line (lines bytes)), get_or-take line (lines bytes) i [] (omega arith)) (read.clear i (omega arith));
+        heading_is = sym read.seen_is;
+        no_first = nil_from_length (items_in form First front) (sym (ap length read.first_is ∙ length-map (items_in form First front) (λ ns. a (item_from ns))));
+        no_second = nil_from_length (items_in form Second front) (sym (ap length read.second_is ∙ length-map (items_in form Second front) (λ ns. b (item_from ns))));
+        size = read.within.0;
+      };
+    }
+
+-- the lines so far are skipped ones
+abbrev pub HasSkipped : Form → List ℕ → List ℕ → Type 0
+HasSkipped form bytes rest = (line : ℕ) × HasRead {A = Unit {0}} {B = Unit {0}} (λ i. tt) (λ i. tt) form None bytes rest line None [] []
+
+pub skip_line : (form : Form) (bytes rest text after : List ℕ) (counts : Counts) → HasSkipped form bytes rest → lines rest ≡ text ∷ lines after → length after < length rest → counts ≡ record { first = 0; second = 0 } →
+    first_failing (line_checks form None counts (words text)) ≡ None → heading form (words text) ≡ None → IsNoItem form (words text) → HasSkipped form bytes after
+skip_line form bytes rest text after counts read split less is passes no_heading no_item = (
+  read.0 + 1,
+  skipped {A = Unit {0}} {B = Unit {0}} (λ i. tt) (λ i. tt) form None bytes rest text after read.0 counts None [] [] read.1 split less (counted_by counts 0 0 [] [] is refl refl) passes no_heading no_item,
+)
+
+pub head_line : (form : Form) (bytes rest text after : List ℕ) (counts : Counts) (h : Heading) → HasSkipped form bytes rest → lines rest ≡ text ∷ lines after → length after < length rest → counts ≡ record { first = 0; second = 0 } →
+    first_failing (line_checks form None counts (words text)) ≡ None → IsProblem form None (words text) h → IsNoItem form (words text) → BeginsWith form bytes h after
+head_line form bytes rest text after counts h read split less is passes problem no_item =
+    head_read {A = Unit {0}} {B = Unit {0}} (λ i. tt) (λ i. tt) form bytes after (read.0 + 1) h
+    (found {A = Unit {0}} {B = Unit {0}} (λ i. tt) (λ i. tt) form None bytes rest text after read.0 counts None [] [] read.1 split less (counted_by counts 0 0 [] [] is refl refl) h passes problem no_item)

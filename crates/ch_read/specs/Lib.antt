@@ -5,6 +5,7 @@ pub mod Names
 pub mod Answers
 pub mod Text
 pub mod Reading
+pub mod Sections
 pub mod RequestLists
 pub mod Requests
 pub mod RequestSteps

@@ -14,6 +14,7 @@ use crate::number::{MOST_NUMBERS, numbers_of};
 use ch_graph::limits::{MOST_ARCS, MOST_LEGS, MOST_LISTED, MOST_NODES, MOST_QUERIES, MOST_WEIGHT};
 
 /// What a line that passes its checks holds.
+#[derive(Drop)]
 pub enum Line {
     /// No word, or a comment.
     Skipped,

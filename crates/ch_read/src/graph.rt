@@ -8,8 +8,11 @@ ghost use Rattle.ch_read.specs.Names.{NamesGraph};
 use crate::fault::ReadError;
 use crate::form::{Form, Item};
 use crate::reader::{FromItem, read_items};
+use crate::sections::{SECTION, read_items_by};
 use ch_graph::{Graph, InArc};
+use ch_work::{Crew, Gate};
 use std::alloc::Global;
+use std::thread::Threads;
 
 /// The graph that the bytes of a `.gr` file name. The work is linear in the number of bytes, and room
 /// grows by the lines read, whatever the problem line declares.
@@ -22,6 +25,38 @@ pub fn read_graph(alloc: Global, bytes: &[u8]) -> Result<Graph, ReadError>
         AnswersWhere result (Err (ReadError.Fault f)) (IsFault Form.Graph bytes.now f.line f.kind) }
 {
     let (heading, arcs, _) = read_items::<InArc, ()>(alloc, Form::Graph, bytes)?;
+    Ok(Graph::from_judged(heading.nodes, arcs))
+}
+
+/// As [`read_graph`], by the workers of a crew, who share sections of the file. They pass no gate.
+///
+/// # Errors
+/// As those of [`read_graph`].
+pub fn read_graph_by<R: Threads + Sync, G: Gate>(
+    crew: &Crew<'_, R, G>,
+    bytes: &[u8],
+) -> Result<Graph, ReadError>
+    ensures value { (g : Network) → AnswersWhere result (Ok g) (NamesGraph bytes.now g) }
+    ensures fault { (f : FaultAt) →
+        AnswersWhere result (Err (ReadError.Fault f)) (IsFault Form.Graph bytes.now f.line f.kind) }
+{
+    read_graph_in_sections(crew, SECTION, bytes)
+}
+
+/// As [`read_graph_by`], in sections of more than `size` bytes each, but for the last. No answer depends on the size.
+///
+/// # Errors
+/// As those of [`read_graph`].
+pub fn read_graph_in_sections<R: Threads + Sync, G: Gate>(
+    crew: &Crew<'_, R, G>,
+    size: usize,
+    bytes: &[u8],
+) -> Result<Graph, ReadError>
+    ensures value { (g : Network) → AnswersWhere result (Ok g) (NamesGraph bytes.now g) }
+    ensures fault { (f : FaultAt) →
+        AnswersWhere result (Err (ReadError.Fault f)) (IsFault Form.Graph bytes.now f.line f.kind) }
+{
+    let (heading, arcs, _) = read_items_by::<R, G, InArc, ()>(crew, size, Form::Graph, bytes)?;
     Ok(Graph::from_judged(heading.nodes, arcs))
 }
 

@@ -4,7 +4,7 @@
 //! It stands on ch_graph and ch_work. From ch_graph it has graphs, arcs and hierarchies as data, from ch_work the limit on cells. Proved
 //! of it: memory aside, a reader answers the value that the bytes name, exactly where they name one, and the first
 //! fault of the first faulty line, exactly where there is one; each list of bytes names one value or has one fault,
-//! and not both. What a [`RequestReader`] gives is what its bytes tell, however they are cut: each request as soon as
+//! and not both. Workers who read a file in sections answer the same. What a [`RequestReader`] gives is what its bytes tell, however they are cut: each request as soon as
 //! its last line is whole, in order and each once, and then the first fault.
 //!
 //! # The order of checks
@@ -62,14 +62,15 @@ mod request_fault;
 mod request_line;
 mod request_reader;
 mod saved;
+mod sections;
 
 pub use fault::{FaultKind, ReadError, ReadFault};
 pub use form::Form;
-pub use graph::read_graph;
+pub use graph::{read_graph, read_graph_by, read_graph_in_sections};
 pub use laws::{one_answer, requests_by_parts, requests_whole_in_turn};
 pub use nodes::read_nodes;
 pub use queries::read_queries;
 pub use request::{Request, TableLists};
 pub use request_fault::{RequestError, RequestFault};
 pub use request_reader::RequestReader;
-pub use saved::read_saved;
+pub use saved::{read_saved, read_saved_by, read_saved_in_sections};

@@ -4,7 +4,7 @@ ghost use Rattle.ch_read.specs.Words.{is_blank, lines, words};
 ghost use Rattle.ch_read.specs.RequestSteps.{HasNoLine, IsLineAhead};
 
 /// Where the first line feed stands.
-fn line_feed_at(bytes: &[u8]) -> Option<usize>
+pub(crate) fn line_feed_at(bytes: &[u8]) -> Option<usize>
     ensures { result ≡ position (λ b. b == 10) bytes.now }
 {
     bytes.iter().position(|b| *b == b'\n')

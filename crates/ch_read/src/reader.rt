@@ -1,9 +1,10 @@
 //! The loop over the lines of a file of any kind.
-ghost use Rattle.std.specs.Prelude.{◌≡◌, MatchResult};
+ghost use Rattle.std.specs.Prelude.{◌≡◌, ◌≤◌, [], length, MatchResult};
 ghost use Rattle.ch_read.specs.declared.form.Item.{Item};
 ghost use Rattle.ch_read.specs.declared.form.Part.TheVariants as Part;
 ghost use Rattle.ch_read.specs.Words.{lines};
-ghost use Rattle.ch_read.specs.Reading.{IsFile, IsErrorOf, values_in};
+ghost use Rattle.ch_read.specs.Reading.{IsFile, IsErrorOf, IsWithin, values_in};
+ghost use Rattle.ch_read.specs.Sections.{AreLines, IsErrorAfter};
 
 use crate::check::{Line, check_end, check_line};
 use crate::fault::{ReadError, ReadFault};
@@ -25,20 +26,31 @@ impl FromItem for () {
     fn from_item(_item: Item) {}
 }
 
-/// What a file declares, and the items of its two parts in the order of their lines. A file without a
-/// second part is read with `()` for `B`.
-pub fn read_items<A: FromItem, B: FromItem>(
+/// What some lines hold.
+#[derive(Drop)]
+pub(crate) struct Content<A, B> {
+    /// How many lines there are.
+    pub(crate) lines: u64,
+    /// What was declared before the lines or is declared in them.
+    pub(crate) seen: Option<Heading>,
+    pub(crate) first: Vec<A>,
+    pub(crate) second: Vec<B>,
+}
+
+/// What the lines hold, where this was declared before them, or nothing was.
+pub(crate) fn read_lines<A: FromItem, B: FromItem>(
     alloc: Global,
     form: Form,
+    begun: Option<Heading>,
     bytes: &[u8],
-) -> Result<(Heading, Vec<A>, Vec<B>), ReadError>
+) -> Result<Content<A, B>, ReadError>
+    requires { IsWithin form begun [] [] }
     ensures { MatchResult result
-        (λ (heading, first, second). IsFile form bytes.now heading
-        × (first.items ≡ values_in A.from_item_gives form Part.First (lines bytes.now))
-        × (second.items ≡ values_in B.from_item_gives form Part.Second (lines bytes.now)))
-        (IsErrorOf form bytes.now) }
+        (λ content. AreLines A.from_item_gives B.from_item_gives form begun (lines bytes.now) content.lines content.seen content.first.items content.second.items
+        × (content.lines ≤ length bytes.now))
+        (IsErrorAfter form begun bytes.now) }
 {
-    let mut seen = None;
+    let mut seen = begun;
     let mut first = Vec::new(alloc);
     let mut second = Vec::new(alloc);
     let mut line = 0u64;
@@ -55,10 +67,35 @@ pub fn read_items<A: FromItem, B: FromItem>(
         }
         rest = after;
     }
-    match check_end(seen, Counts::new(first.len(), second.len())) {
-        Ok(heading) => Ok((heading, first, second)),
+    Ok(Content {
+        lines: line,
+        seen,
+        first,
+        second,
+    })
+}
+
+/// What a file declares, and the items of its two parts in the order of their lines. A file without a
+/// second part is read with `()` for `B`.
+pub fn read_items<A: FromItem, B: FromItem>(
+    alloc: Global,
+    form: Form,
+    bytes: &[u8],
+) -> Result<(Heading, Vec<A>, Vec<B>), ReadError>
+    ensures { MatchResult result
+        (λ (heading, first, second). IsFile form bytes.now heading
+        × (first.items ≡ values_in A.from_item_gives form Part.First (lines bytes.now))
+        × (second.items ≡ values_in B.from_item_gives form Part.Second (lines bytes.now)))
+        (IsErrorOf form bytes.now) }
+{
+    let read = match read_lines::<A, B>(alloc, form, None, bytes) {
+        Ok(read) => read,
+        Err(error) => return Err(error),
+    };
+    match check_end(read.seen, Counts::new(read.first.len(), read.second.len())) {
+        Ok(heading) => Ok((heading, read.first, read.second)),
         Err(kind) => {
-            let line = line + 1;
+            let line = read.lines + 1;
             Err(ReadError::Fault(ReadFault { line, kind }))
         }
     }

@@ -1,48 +1,19 @@
 use Rattle.std.proofs.Common.{arith}
-use Rattle.ch_read.proofs.Reading.{skipped, found, taken_first, taken_second, fault_here, fault_at_end, whole_file, first_of_all, second_of_all, counted_by}
+use Rattle.ch_read.proofs.Reading.{error_from_start, fault_at_end, whole_file, counted_by}
 use Rattle.ch_read.proofs.reader.read_items.Goals as goal
 
-pub loop-rest-preserved-in-Ok-Skipped : goal.loop-rest-preserved-in-Ok-Skipped
-loop-rest-preserved-in-Ok-Skipped g c =
-    let holds = rw (c.in-Ok-Skipped.field-0-is) at c.in-Ok-Skipped.ensures in
-    skipped g.A.FromItem.from_item_gives g.B.FromItem.from_item_gives c.args.form c.args.bytes.now c.loop-rest.rest.now _ _ c.loop-rest.line c.new.result c.loop-rest.seen c.loop-rest.first.items c.loop-rest.second.items
-    c.loop-rest.invariant c.split_line.ensures.line c.split_line.ensures.less (counted_by _ c.len.result c.len-in-loop-rest.result _ _ c.new.ensures (omega arith) (omega arith)) holds.0 holds.1 holds.2
-
-pub loop-rest-preserved-in-Ok-Problem : goal.loop-rest-preserved-in-Ok-Problem
-loop-rest-preserved-in-Ok-Problem g c =
-    let holds = rw (c.in-Ok-Problem.field-0-is) at c.in-Ok-Problem.ensures in
-    found g.A.FromItem.from_item_gives g.B.FromItem.from_item_gives c.args.form c.args.bytes.now c.loop-rest.rest.now _ _ c.loop-rest.line c.new.result c.loop-rest.seen c.loop-rest.first.items c.loop-rest.second.items
-    c.loop-rest.invariant c.split_line.ensures.line c.split_line.ensures.less (counted_by _ c.len.result c.len-in-loop-rest.result _ _ c.new.ensures (omega arith) (omega arith)) c.in-Ok-Problem.heading holds.0 holds.1 holds.2
-
-pub loop-rest-preserved-in_ok-push-in-Ok-First : goal.loop-rest-preserved-in_ok-push-in-Ok-First
-loop-rest-preserved-in_ok-push-in-Ok-First g c =
-    let holds = rw (c.in-Ok-First.field-0-is) at c.in-Ok-First.ensures in
-    rw (c.in_ok-push-in-Ok-First.ensures.items, c.from_item.ensures)
-    (taken_first g.A.FromItem.from_item_gives g.B.FromItem.from_item_gives c.args.form c.args.bytes.now c.loop-rest.rest.now _ _ c.loop-rest.line c.new.result c.loop-rest.seen c.loop-rest.first.items c.loop-rest.second.items
-    c.loop-rest.invariant c.split_line.ensures.line c.split_line.ensures.less (counted_by _ c.len.result c.len-in-loop-rest.result _ _ c.new.ensures (omega arith) (omega arith)) c.in-Ok-First.item holds.0 holds.1 holds.2 holds.3)
-
-pub loop-rest-preserved : goal.loop-rest-preserved
-loop-rest-preserved g c =
-    let holds = rw (c.in-Ok-Second.field-0-is) at c.in-Ok-Second.ensures in
-    rw (c.in_ok-push-in-Ok-Second.ensures.items, c.from_item-in-Ok-Second.ensures)
-    (taken_second g.A.FromItem.from_item_gives g.B.FromItem.from_item_gives c.args.form c.args.bytes.now c.loop-rest.rest.now _ _ c.loop-rest.line c.new.result c.loop-rest.seen c.loop-rest.first.items c.loop-rest.second.items
-    c.loop-rest.invariant c.split_line.ensures.line c.split_line.ensures.less (counted_by _ c.len.result c.len-in-loop-rest.result _ _ c.new.ensures (omega arith) (omega arith)) c.in-Ok-Second.item holds.0 holds.1 holds.2 holds.3)
-
 pub returns-in-Err : goal.returns-in-Err
-returns-in-Err g c = fault_here g.A.FromItem.from_item_gives g.B.FromItem.from_item_gives c.args.form c.args.bytes.now c.loop-rest.rest.now _ _ c.loop-rest.line c.new.result c.loop-rest.seen c.loop-rest.first.items c.loop-rest.second.items
-    c.loop-rest.invariant c.split_line.ensures.line c.split_line.ensures.less (counted_by _ c.len.result c.len-in-loop-rest.result _ _ c.new.ensures (omega arith) (omega arith)) c.in-Err.kind c.in-Err.ensures
+returns-in-Err g c = error_from_start c.args.form c.args.bytes.now c.in-Err.error c.in-Err.ensures
 
-pub returns-in-Ok : goal.returns-in-Ok
-returns-in-Ok g c = (
-  whole_file g.A.FromItem.from_item_gives g.B.FromItem.from_item_gives c.args.form c.args.bytes.now c.loop-rest.rest.now c.loop-rest.line c.new-2.result c.loop-rest.seen c.loop-rest.first.items c.loop-rest.second.items
-      c.loop-rest.invariant c.loop-rest-test.ensures (counted_by _ c.len-2.result c.len-3.result _ _ c.new-2.ensures (omega arith) (omega arith)) c.in-Ok.heading c.in-Ok.ensures,
-  first_of_all g.A.FromItem.from_item_gives g.B.FromItem.from_item_gives c.args.form c.args.bytes.now c.loop-rest.rest.now c.loop-rest.line c.new-2.result c.loop-rest.seen c.loop-rest.first.items c.loop-rest.second.items
-      c.loop-rest.invariant c.loop-rest-test.ensures (counted_by _ c.len-2.result c.len-3.result _ _ c.new-2.ensures (omega arith) (omega arith)),
-  second_of_all g.A.FromItem.from_item_gives g.B.FromItem.from_item_gives c.args.form c.args.bytes.now c.loop-rest.rest.now c.loop-rest.line c.new-2.result c.loop-rest.seen c.loop-rest.first.items c.loop-rest.second.items
-      c.loop-rest.invariant c.loop-rest-test.ensures (counted_by _ c.len-2.result c.len-3.result _ _ c.new-2.ensures (omega arith) (omega arith)),
+pub returns-in-Ok-check_end : goal.returns-in-Ok-check_end
+returns-in-Ok-check_end g c = (
+  whole_file g.A.FromItem.from_item_gives g.B.FromItem.from_item_gives c.args.form c.args.bytes.now c.in-Ok.read.lines c.new.result c.in-Ok.read.seen c.in-Ok.read.first.items c.in-Ok.read.second.items
+      c.in-Ok.ensures.0 (counted_by _ c.len.result c.len-2.result _ _ c.new.ensures (omega arith) (omega arith)) c.in-Ok-check_end.heading c.in-Ok-check_end.ensures,
+  c.in-Ok.ensures.0.first_is,
+  c.in-Ok.ensures.0.second_is,
 )
 
 pub returns-in-Err-check_end : goal.returns-in-Err-check_end
 returns-in-Err-check_end g c =
-    fault_at_end g.A.FromItem.from_item_gives g.B.FromItem.from_item_gives c.args.form c.args.bytes.now c.loop-rest.rest.now c.loop-rest.line c.new-2.result c.loop-rest.seen c.loop-rest.first.items c.loop-rest.second.items
-    c.loop-rest.invariant c.loop-rest-test.ensures (counted_by _ c.len-2.result c.len-3.result _ _ c.new-2.ensures (omega arith) (omega arith)) c.in-Err-check_end.kind c.in-Err-check_end.ensures
+    fault_at_end g.A.FromItem.from_item_gives g.B.FromItem.from_item_gives c.args.form c.args.bytes.now c.in-Ok.read.lines c.new.result c.in-Ok.read.seen c.in-Ok.read.first.items c.in-Ok.read.second.items
+    c.in-Ok.ensures.0 (counted_by _ c.len.result c.len-2.result _ _ c.new.ensures (omega arith) (omega arith)) c.in-Err-check_end.kind c.in-Err-check_end.ensures
