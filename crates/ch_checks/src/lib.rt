@@ -2,7 +2,7 @@
 //!
 //! That is that calls succeed where there is memory, values from outside, texts of faults, what a refusal of memory
 //! leaves, and what workers do at once. Nothing but tests stands here, so the crates below are proved once.
-//! It stands on ch_contract, ch_graph, ch_hierarchy, ch_lists, ch_query, ch_queue, ch_read, ch_table and ch_work.
+//! It stands on ch_contract, ch_engine, ch_graph, ch_hierarchy, ch_lists, ch_near, ch_query, ch_queue, ch_read, ch_table and ch_work.
 #![tactic(auto)]
 
 #[cfg(test)]
@@ -12,6 +12,8 @@ mod contract;
 #[cfg(test)]
 mod crew;
 #[cfg(test)]
+mod engine;
+#[cfg(test)]
 mod examples;
 #[cfg(test)]
 mod graph;
@@ -19,6 +21,8 @@ mod graph;
 mod hierarchy;
 #[cfg(test)]
 mod lists;
+#[cfg(test)]
+mod near;
 #[cfg(test)]
 mod query;
 #[cfg(test)]

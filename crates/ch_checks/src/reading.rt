@@ -1,5 +1,6 @@
 //! Readers of files, and of requests that come in parts.
 mod requests;
+mod sections;
 
 use ch_graph::{Cost, InArc, SavedLeg};
 use ch_read::{Form, ReadError, read_graph, read_nodes, read_queries, read_saved};

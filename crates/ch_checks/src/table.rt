@@ -17,7 +17,7 @@ use std::test::Fail;
 use std::thread::Threads;
 
 /// The nodes, counted from 0.
-fn from_zero<R: Abort>(
+pub(crate) fn from_zero<R: Abort>(
     rt: &R,
     alloc: Global,
     hierarchy: &Hierarchy,

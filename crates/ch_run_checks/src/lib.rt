@@ -2,7 +2,7 @@
 //! a request for memory that is refused, devices that fail in mid-stream, and workers that share a run.
 //!
 //! They are in a crate of their own, because a crate with tests is proved twice.
-//! It stands on ch_contract, ch_graph, ch_line, ch_query, ch_read, ch_run and ch_work.
+//! It stands on ch_contract, ch_graph, ch_line, ch_query, ch_read, ch_run, ch_words and ch_work.
 #![tactic(auto)]
 
 #[cfg(test)]

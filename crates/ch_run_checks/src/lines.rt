@@ -1,9 +1,10 @@
 //! Lines over files in memory: each tool, by a hierarchy that is built and by a saved one.
 ghost use Rattle.std.specs.Prelude.{◌≡◌, IfOk, length, vec_len};
-ghost use Rattle.ch_line.specs.Line.{IsAllowed, file_names};
+ghost use Rattle.ch_words.specs.Line.{IsAllowed, file_names};
 
-use ch_line::{Line, MemoryFile, MemoryFiles, Tool, run_line};
-use ch_run::{MemoryInput, MemoryOutput, Open, Options, OrderBy, Plan};
+use ch_line::{MemoryFile, MemoryFiles, run_line};
+use ch_run::{MemoryInput, MemoryOutput, Open, Plan};
+use ch_words::{Choices, Line, Tool};
 use std::alloc::{AllocError, Global};
 use std::process::Abort;
 use std::test::Fail;
@@ -73,11 +74,11 @@ fn line_of(
         tool,
         files: strings(alloc, names)?,
         saved,
-        options: Options {
+        choices: Choices {
             plain: false,
             routes: true,
+            deep: false,
             hops: 5,
-            order: OrderBy::Difference,
             within: None,
         },
         plan: Plan::new(1, 64, 64),
