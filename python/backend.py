@@ -1,6 +1,6 @@
 """The build of the package: by setuptools, where Debian has it if it isn't elsewhere, so that `pip install ./python` needs no network.
 
-A wheel takes the proved program along, where the checkout has built it (`./chtab --help`).
+A wheel takes the proved program along, where the checkout has built it (`./chtab --help`), and its command `chtab`.
 """
 import contextlib
 import os
@@ -17,7 +17,12 @@ if find_spec("setuptools") is not None:
     from setuptools.build_meta import *  # noqa: F403
 
 HERE = pathlib.Path(__file__).resolve().parent
-PROGRAM = HERE.parent / "crates" / "chtab" / "out" / "chtab"
+ROOT = HERE.parent
+# The script that runs the program, with what it reads, and the program; each with its name in the package's folder bin.
+PARTS = (
+    (ROOT / "packaging" / "chtab", "chtab"), (ROOT / "packaging" / "telling", "telling"), (ROOT / "VERSION", "VERSION"),
+    (ROOT / "crates" / "chtab" / "out" / "chtab", "program"),
+)
 
 
 def get_requires_for_build_wheel(config_settings=None):
@@ -28,20 +33,23 @@ def get_requires_for_build_wheel(config_settings=None):
 @contextlib.contextmanager
 def program_along():
     """The words for a wheel of this machine with the program in it, none where there is no program."""
-    if not (PROGRAM.is_file() and os.access(PROGRAM, os.X_OK)):
+    program = PARTS[-1][0]
+    if not (program.is_file() and os.access(program, os.X_OK)):
         yield []
         return
     folder = HERE / "chtab" / "bin"
     folder.mkdir(exist_ok=True)
     try:
-        shutil.copy(PROGRAM, folder / "chtab")
+        for part, name in PARTS:
+            shutil.copy(part, folder / name)
         yield ["--plat-name", sysconfig.get_platform()]
     finally:
         shutil.rmtree(folder)
 
 
 def build_wheel(wheel_directory, config_settings=None, metadata_directory=None):
-    """The wheel, with the program where there is one."""
+    """The wheel, with the program where there is one, and with nothing that an earlier build left."""
+    shutil.rmtree(HERE / "build", ignore_errors=True)
     with program_along() as words:
         settings = dict(config_settings or {})
         settings["--build-option"] = [*settings.get("--build-option", []), *words]

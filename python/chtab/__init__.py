@@ -7,9 +7,9 @@
 
 `Network` needs numpy; `chtab.files`, which reads and writes each kind of file, and the commands of `tools/` need nothing.
 """
-from chtab.errors import ChtabError, FileFault, ProgramFault, TimedOut, TooFar
+from chtab.errors import ChtabError, DataFault, FileFault, ProgramFault, TimedOut, TooFar
 
-__all__ = ["ChtabError", "FileFault", "Network", "ProgramFault", "TimedOut", "TooFar"]
+__all__ = ["ChtabError", "DataFault", "FileFault", "Network", "ProgramFault", "TimedOut", "TooFar"]
 
 
 def __getattr__(name):

@@ -120,8 +120,8 @@ def send_package(client):
     with tempfile.TemporaryDirectory() as kept:
         path = os.path.join(kept, "chtab.zip")
         with zipfile.ZipFile(path, "w") as archive:
-            for source in folder.glob("*.py"):
-                archive.write(source, f"chtab/{source.name}")
+            for source in folder.rglob("*.py"):
+                archive.write(source, f"chtab/{source.relative_to(folder)}")
         client.upload_file(path)
 
 

@@ -150,33 +150,31 @@ class Child:
     def load(self):
         """Asks a first question where none was asked. Its answer comes when the run has read what it answers by, which may take any time."""
         if not self.is_loaded:
-            self.ask(answers.table([1], [1]))
+            self.ask(answers.Table([1], [1]))
             self.is_loaded = True
 
     def ask(self, question, seconds=None):
         """The value of the answer to a question, in so many seconds or any (None). Whatever goes wrong ends the run."""
         self.is_busy = True
         try:
-            before, behind = (answers.guard(self.nodes, self.has_routes) for _ in range(2))
-            arrival = answers.Arrival(question, before, behind)
-            text = self.exchange(memoryview(before.request + question.request + behind.request), arrival, Deadline(seconds))
-            value = question.value_of(arrival.inner(text))
+            answer = answers.Answer(question, self.nodes, self.has_routes)
+            self.exchange(answer, Deadline(seconds))
+            value = answer.value()
         except BaseException:
             self.close()
             raise
         self.is_busy = False
         return value
 
-    def exchange(self, left, arrival, deadline):
-        """Writes what is left of a request and reads what is there of the answer, in turns, so that neither side waits for the other."""
+    def exchange(self, answer, deadline):
+        """Writes the request of an answer and reads what is there of the answer, in turns, so that neither side waits for the other."""
         if self.read():
             raise unasked()
-        text = bytearray()
-        while left or not arrival.is_whole(text):
+        left = memoryview(answer.request)
+        while left or not answer.is_whole:
             self.wait(left, deadline)
             left = self.write(left)
-            text += self.read()
-        return text
+            answer.feed(self.read())
 
     def wait(self, left, deadline):
         """Waits until there is something to read, or something of what is left can be written."""

@@ -44,6 +44,21 @@ class Connection(asyncio.Protocol):
         return self.since <= moment
 
 
+class Handler(web.RequestHandler):
+    """The protocol of aiohttp. What is no request of HTTP gets JSON with a line, in the forms of both interfaces, and is not logged."""
+
+    __slots__ = ()
+
+    def handle_error(self, request, status=500, exc=None, message=None):
+        if status >= 500:
+            return super().handle_error(request, status, exc, message)
+        text = "this is no request of HTTP, or its address or a header is too long"
+        value = {"error": text, "code": "InvalidUrl", "message": text}
+        response = web.json_response(value, status=status, headers={"X-Content-Type-Options": "nosniff"})
+        response.force_close()
+        return response
+
+
 class Connections:
     """The connections of a service, of which each is closed that is idle for so many seconds."""
 
@@ -51,9 +66,10 @@ class Connections:
         self.seconds, self.by_transport = seconds, {}
         self.now = asyncio.get_running_loop().time
 
-    def watched(self, server):
-        """The factory of protocols of such a server, each of them watched."""
-        return lambda: Connection(server(), self)
+    def watched(self, server, **more):
+        """The factory of protocols of such a server, with more words for each, all of them watched."""
+        loop = asyncio.get_running_loop()
+        return lambda: Connection(Handler(server, loop=loop, **more), self)
 
     def middleware(self):
         """A middleware: the connection of a request is not idle while the request is answered."""

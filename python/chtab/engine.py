@@ -1,4 +1,5 @@
 """What is asked of the program: distances, routes and tables, by runs of `chtab ask` that are kept."""
+import collections
 import os
 import threading
 from dataclasses import dataclass
@@ -59,8 +60,8 @@ class Run:
     The child is begun by the first question. One whose exchange was broken off is ended before the next question, and another is begun.
     """
 
-    def __init__(self, setting, nodes, options, before):
-        self.setting, self.nodes, self.options, self.before = setting, nodes, options, before
+    def __init__(self, setting, nodes, options, before, tally):
+        self.setting, self.nodes, self.options, self.before, self.tally = setting, nodes, options, before, tally
         self.lock, self.child = threading.Lock(), None
         # Whether it made way for another, and whether it was ended at once.
         self.is_over, self.is_killed = False, False
@@ -89,6 +90,7 @@ class Run:
             self.before[-1].end()
             self.before.pop()
         self.child = Child(self.setting.command(self.options), self.nodes, self.has_routes)
+        self.tally["begun"] += 1
         if self.is_killed:
             self.child.close()
             raise ChtabError(CLOSED)
@@ -134,7 +136,7 @@ class Engine:
     def leave_parent(self):
         """Begins with no run, and with a lock that nobody holds: in a process that was forked too."""
         self.lock, self.runs = threading.Lock(), {}
-        self.owner = os.getpid()
+        self.owner, self.tally = os.getpid(), collections.Counter()
 
     def load(self, with_routes=False):
         """Begins a run, so that a file that is refused is told now. Of a graph without nodes nothing can be asked."""
@@ -143,7 +145,7 @@ class Engine:
 
     def distances(self, pairs):
         """The distances of pairs of nodes, an array (n, 2): int64 (n,), -1 where there is no walk."""
-        return self.ask([PLAIN, ROUTES], lambda run: answers.distances(pairs, run.has_routes))
+        return self.ask([PLAIN, ROUTES], lambda run: answers.Distances(pairs, run.has_routes))
 
     def distances_together(self):
         """How many distances are best asked for together: fewer where the run that is there tells a route after each."""
@@ -151,7 +153,13 @@ class Engine:
 
     def routes(self, pairs):
         """The routes of pairs of nodes, as a list of `files.Answer`."""
-        return self.ask([ROUTES], lambda run: answers.routes(pairs))
+        return self.ask([ROUTES], lambda run: answers.Routes(pairs))
+
+    def walks(self, pairs):
+        """The same, of pairs in an array (n, 2), as `walks.Walks`."""
+        from chtab.walks import WalkQuestion
+
+        return self.ask([ROUTES], lambda run: WalkQuestion(pairs))
 
     def table(self, sources, targets, within=None):
         """What `chtab table` writes for these lists of nodes, with the engine's limit.
@@ -159,7 +167,12 @@ class Engine:
         With `within` it may leave out cells of more than that, and the caller leaves out the others.
         """
         kinds = [self.tabled(within), self.tabled(None), ROUTES] if self.setting.within is None else [self.tabled(None)]
-        return self.ask(kinds, lambda run: answers.table(sources, targets, run.limit()))
+        return self.ask(kinds, lambda run: answers.Table(sources, targets, run.limit()))
+
+    def tables(self, parts):
+        """The cells of several small tables, pairs of lists of nodes, in one column. A run that tells routes is asked first, because routes are
+        what callers ask for next."""
+        return self.ask([ROUTES, PLAIN], lambda run: answers.Tables(parts))
 
     def tabled(self, within):
         """The options of a run that is made for tables within a limit, or for others."""
@@ -196,7 +209,7 @@ class Engine:
             else:
                 # Without room a run for tables of any limit is begun, not one for this limit: two limits would take turns.
                 kind = kinds[0] if has_room or len(kinds) < 3 else kinds[1]
-                run = Run(self.setting, self.nodes, kind, [] if has_room else [self.retired()])
+                run = Run(self.setting, self.nodes, kind, [] if has_room else [self.retired()], self.tally)
             self.runs[kind] = run
             return run
 
@@ -205,6 +218,16 @@ class Engine:
         run = self.runs.pop(next(iter(self.runs)))
         run.is_over = True
         return run
+
+    @property
+    def begun(self):
+        """How many programs were begun in this process."""
+        return self.tally["begun"]
+
+    def living(self):
+        """How many runs have a program that answers."""
+        children = [run.child for run in list(self.runs.values())]
+        return sum(child is not None and child.is_open and child.process.poll() is None for child in children)
 
     def close(self):
         """Ends all runs. A call that is under way in another thread fails."""

@@ -9,6 +9,22 @@ class FileFault(ChtabError, ValueError):
     """A file or text is not what it is read as; the text names it."""
 
 
+class DataFault(ChtabError, ValueError):
+    """A column has a value that is refused, or a label is no node of the network; the text names the column and the row.
+
+    Attributes
+    ----------
+    column : str
+        The name of the column: of the argument, or of the frame's column.
+    row : int or None
+        The place of the value in the column, from 0 on; None where the column is refused as a whole.
+    """
+
+    def __init__(self, text, column="", row=None):
+        super().__init__(text)
+        self.column, self.row = column, row
+
+
 class TooFar(ChtabError, ValueError):
     """A place lies farther from each road or node than is allowed.
 

@@ -1,4 +1,4 @@
-"""What is read of a network's files, each when it is first asked for, and kept: the arcs, the places of nodes, roads."""
+"""What is read of a network's files, each when it is first asked for, and kept: the arcs, the places and labels of nodes, roads."""
 import os
 import threading
 
@@ -15,12 +15,14 @@ class Layers:
         The graph (`.gr`).
     coordinates, bends : str, optional
         The files of the nodes' places and of the points between them; without them those beside the graph, where they are there.
+    labelling : str, optional
+        The file of the nodes' labels; without it nodes are called by their numbers.
     """
 
-    def __init__(self, path, coordinates=None, bends=None):
+    def __init__(self, path, coordinates=None, bends=None, labelling=None):
         base = os.path.splitext(path)[0]
         self.path = path
-        self.paths = {"coordinates": coordinates or beside(base + ".co"), "bends": bends or beside(base + ".bends")}
+        self.paths = {"coordinates": coordinates or beside(base + ".co"), "bends": bends or beside(base + ".bends"), "labelling": labelling}
         self.kept = {}
         self.leave_parent()
         forks.follow(self)
@@ -30,7 +32,7 @@ class Layers:
         self.lock = threading.RLock()
 
     def __reduce__(self):
-        return Layers, (self.path, self.paths["coordinates"], self.paths["bends"])
+        return Layers, (self.path, self.paths["coordinates"], self.paths["bends"], self.paths["labelling"])
 
     def read(self, name, make):
         with self.lock:
@@ -50,6 +52,27 @@ class Layers:
         if path is None:
             raise ChtabError(f"{self.path} has no file of coordinates beside it; name one by `coordinates`")
         return self.read("coordinates", lambda: files.read_coordinates(path))
+
+    @property
+    def labelling(self):
+        """What `files.read_labels` gives, None of a network whose nodes are called by their numbers."""
+        def make():
+            from chtab.making import read_labelling
+
+            return read_labelling(self.paths["labelling"], self.path)
+
+        return None if self.paths["labelling"] is None else self.read("labelling", make)
+
+    @property
+    def labels(self):
+        """What the nodes are called, as `chtab.labels.Labels` or `chtab.labels.Numbers`."""
+        def make():
+            from chtab import labels
+
+            found = self.labelling
+            return labels.Numbers(files.count_nodes(self.path)) if found is None else labels.labels_of_nodes("labels", found.labels)
+
+        return self.read("labels", make)
 
     @property
     def index(self):

@@ -102,6 +102,14 @@ class Lines:
         lines = numpy.searchsorted(self.firsts, steps, "right") - 1
         return lines, self.parts[steps] + shares * (self.parts[steps + 1] - self.parts[steps]), *degrees(*at.T)
 
+    def nearest_some(self, longitude, latitude, most):
+        """The same of one place and its nearest lines, at most so many, the nearest first."""
+        if self.pieces is None:
+            self.pieces = Pieces(self)
+        steps, shares, at = self.pieces.nearest_some(mercator([longitude], [latitude]), most, self.firsts)
+        lines = numpy.searchsorted(self.firsts, steps, "right") - 1
+        return lines, self.parts[steps] + shares * (self.parts[steps + 1] - self.parts[steps]), *degrees(*at.T)
+
 
 class Pieces:
     """The steps of lines, to be looked for: cut into pieces of at most a length, whose middles stand in a k-d tree."""
@@ -129,13 +137,42 @@ class Pieces:
         """The nearest step to each point of the plane, how far along it its nearest point stands, from 0 to 1, and that point."""
         if not len(places):
             return numpy.zeros(0, int), numpy.zeros(0), numpy.zeros((0, 2))
-        near = self.tree.query_ball_point(places, self.tree.query(places)[0] * (1 + 1e-9) + self.reach + 1e-12)
+        near = self.within(places, self.tree.query(places)[0])
         owner = numpy.repeat(numpy.arange(len(places)), list(map(len, near)))
         steps = self.steps[numpy.concatenate([numpy.asarray(each, int) for each in near])]
-        ways, off = self.ways[steps], places[owner] - self.starts[steps]
-        squares = (ways * ways).sum(axis=1)
-        shares = numpy.clip((ways * off).sum(axis=1) / numpy.where(squares > 0, squares, 1), 0, 1)
-        apart = ((off - ways * shares[:, None]) ** 2).sum(axis=1)
+        shares, apart, at = self.feet(steps, places[owner])
         order = numpy.lexsort([steps, apart, owner])
         best = order[numpy.searchsorted(owner, numpy.arange(len(places)))]
-        return steps[best], shares[best], self.starts[steps[best]] + ways[best] * shares[best, None]
+        return steps[best], shares[best], at[best]
+
+    def within(self, places, distances):
+        """The pieces of which a point is so near to each place, and some more: no point of a piece is farther from its middle than `reach`."""
+        return self.tree.query_ball_point(places, distances * (1 + 1e-9) + self.reach + 1e-12)
+
+    def feet(self, steps, places):
+        """The nearest points of steps to places, one each: how far along the step, from 0 to 1, the square of the distance, and the point."""
+        ways, off = self.ways[steps], places - self.starts[steps]
+        squares = (ways * ways).sum(axis=1)
+        shares = numpy.clip((ways * off).sum(axis=1) / numpy.where(squares > 0, squares, 1), 0, 1)
+        return shares, ((off - ways * shares[:, None]) ** 2).sum(axis=1), self.starts[steps] + ways * shares[:, None]
+
+    def nearest_some(self, place, most, firsts):
+        """The same of one place and at most so many lines, which begin at `firsts`: of each line its nearest step, the nearest first."""
+        def best_of(steps):
+            """The nearest step of each line, in order; of equally near ones the first."""
+            shares, apart, at = self.feet(steps, place)
+            lines = numpy.searchsorted(firsts, steps, "right")
+            order = numpy.lexsort([steps, apart])
+            order = order[numpy.sort(numpy.unique(lines[order], return_index=True)[1])][:most]
+            return steps[order], shares[order], at[order], apart[order]
+
+        count, found = 4 * most, ()
+        while len(found) < most:
+            distances, near = self.tree.query(place[0], min(count, len(self.steps)))
+            found, *_, apart = best_of(self.steps[numpy.atleast_1d(near)])
+            if count >= len(self.steps):
+                break
+            count *= 2
+        # What is as near as the last of these may lie on a piece whose middle is farther away.
+        [near] = self.within(place, numpy.sqrt(apart[-1:]))
+        return best_of(self.steps[numpy.asarray(near, int)])[:3]

@@ -7,73 +7,71 @@
 Weights are whole numbers in the graph's unit, mostly milliseconds (`network.unit`). Where there is no walk a distance is -1: so columns stay
 arrays of int64, as numpy, pandas and `blocks.py` have them, which a masked array or NaN would not, and no distance is below 0.
 """
-import math
-import os
-from dataclasses import dataclass
-
 import numpy
 
-from chtab import answers, blocks, engine, files, trips
-from chtab.errors import TooFar
-from chtab.layers import Layers
-from chtab.program import program_of
-from chtab.routes import NO_WALK, Routes
+from chtab import engine, files, graphs, making, opening
+from chtab.between_places import BetweenPlaces
+from chtab.node_queries import NodeQueries
+from chtab.routes import Routes
+from chtab.trips import Trips
 
 
-@dataclass(frozen=True)
-class Opening:
-    """What a network was opened by, from which another process opens it anew."""
-
-    setting: engine.Setting
-    coordinates: str | None
-    bends: str | None
-
-
-class Network:
-    """Answers on one graph, by a run of the program that is kept. `Network.open` opens one.
+class Network(BetweenPlaces):
+    """Answers on one graph, by a run of the program that is kept. `Network.open` opens one of files; `Network.from_arrays`, `from_frame` and
+    `from_networkx` make one of your own arcs.
 
     Each answer is matched to its question. One that doesn't fit is a `ProgramFault`, and no number of it is returned.
+
+    Nodes of a network of files are called by their numbers, from 1 on. Those of your own arcs keep their labels, integers or strings: where
+    a call takes or gives nodes, these are labels.
 
     Calls may come from several threads, and from processes that were forked; such a process begins a run of its own. A network can be
     pickled, as what it was opened by; where it is unpickled it begins a run of its own too. The run ends by `close`, at the end of a `with`,
     when the network is no longer used, and when the interpreter ends. The last four networks that a process unpickled are used until then.
     """
 
-    def __init__(self, opening):
-        self._opening = opening
-        self._layers = Layers(opening.setting.graph, opening.coordinates, opening.bends)
-        self.nodes = files.count_nodes(opening.setting.graph)
-        self._engine = engine.Engine(opening.setting)
+    def __init__(self, opened, folder=None, known=None):
+        self._opened, self._folder = opened, folder
+        self._layers = opened.layers(known)
+        self.nodes = files.count_nodes(opened.setting.graph)
+        self._engine = engine.Engine(opened.setting)
+        self._queries = NodeQueries(self._engine)
+        self._trips = Trips(self._queries, self._layers)
 
     @classmethod
-    def open(
-        cls, graph, saved=None, *, coordinates=None, bends=None, program=None, workers=1, timeout=None, load=True, routes=False, runs=1
-    ):
+    def open(cls, graph, saved=None, *, coordinates=None, bends=None, **running):
         """Opens the network of a graph, once it was read and its hierarchy built or, where `saved` is given, checked.
 
         Parameters
         ----------
         graph : str or path
-            The graph (`.gr`).
+            The graph (`.gr`); or the folder of a network that was made with `folder=`.
         saved : str or path, optional
             A file of `chtab save`. By it a run begins in less than half the time.
         coordinates, bends : str or path, optional
             The files of the nodes' places and of the points between them. Without them those beside the graph are taken (`.co`, `.bends`),
             where they are there.
+
+        Other Parameters
+        ----------------
         program : str or path, optional
             The program chtab. Without it the program is looked for beside the package, beside the script that runs, and on the path.
         workers : int
-            Threads of the program, from 1 to 64.
+            Threads of the program, from 1 to 64; 1 where it is not given.
         timeout : float, optional
             The seconds that an answer may take; None: any. Loading is not counted.
         load : bool
-            Whether the graph is read now. Without it the first question does so.
+            Whether the graph is read now, as it is where this is not given. Without it the first question does so.
         routes : bool
             Whether the run that is loaded tells routes too. It answers everything, but many distances more slowly.
         runs : int
-            The most runs that are kept at once, from 1 on. Each of them holds the network in memory. One run answers everything: the first
-            route ends a run that tells no routes, and begins one that does. With more there is one for distances and tables, one for
-            routes, and one for tables within limits up to each power of two, whose searches end at the limit.
+            The most runs that are kept at once, from 1 on; 1 where it is not given. Each of them holds the network in memory. One run answers
+            everything: the first route ends a run that tells no routes, and begins one that does. With more there is one for distances and
+            tables, one for routes, and one for tables within limits up to each power of two, whose searches end at the limit.
+
+        Returns
+        -------
+        Network
 
         Raises
         ------
@@ -81,33 +79,174 @@ class Network:
             The program refuses the graph or the hierarchy, or died. The next call runs it again.
         TimedOut
             The program took too long, and was ended.
+        FileFault
+            The labels of the folder are not those of its graph.
         ChtabError
             There is no program.
         OSError
             A file can't be opened.
         """
-        if runs < 1:
-            raise ValueError("there is at least one run")
-        graph, saved, coordinates, bends = (None if path is None else os.path.abspath(path) for path in (graph, saved, coordinates, bends))
-        for path in filter(None, (graph, saved, coordinates, bends)):
-            open(path, "rb").close()
-        setting = engine.Setting(program_of(program), graph, saved, workers, timeout, runs)
-        network = cls(Opening(setting, coordinates, bends))
-        if load:
-            network._engine.load(routes)
+        running = opening.Running(**running)
+        network = cls(opening.opening_of(graph, saved, coordinates, bends, running))
+        network._load(running)
         return network
 
+    @classmethod
+    def from_arrays(cls, sources, targets, weights, *, nodes=None, x=None, y=None, scale=None, both_ways=False, folder=None, **running):
+        """Makes a network of arcs: arc k leads from `sources[k]` to `targets[k]`, and its weight is `weights[k]`.
+
+        Several arcs may lead from one node to another: the one of least weight counts. Columns may be arrays, lists, or columns of a frame.
+
+        Parameters
+        ----------
+        sources, targets : array of int or str, shape (m,)
+            The labels of both ends: all integers of any size, or all strings.
+        weights : array of int or float, shape (m,)
+            Whole numbers from 0 on; with `scale` any numbers from 0 on. In the graph a weight times the number of nodes is at most 2^60.
+        nodes : array of int or str, shape (n,), optional
+            The labels of all nodes, each once. Without it these are the labels of `sources` and `targets`, in ascending order.
+        x, y : array of float, shape (n,), optional
+            Longitudes and latitudes of `nodes` in degrees, for `nearest`, `snap`, `trips`, `reach` and maps.
+        scale : float, optional
+            Weights are multiplied by this and rounded once to whole numbers, by 1000 from seconds to milliseconds. `rounding` says by how much.
+        both_ways : bool
+            Whether each arc leads back too, at the same weight.
+        folder : str or path, optional
+            A folder that is not there yet, or is empty. The files stand there, with the hierarchy: `Network.open(folder)` opens the same
+            network quickly. Without it they stand in a temporary folder, until `close` or until the network is no longer used.
+        **running
+            `program`, `workers`, `timeout`, `load`, `routes` and `runs`, as `Network.open` takes them.
+
+        Returns
+        -------
+        Network
+
+        Raises
+        ------
+        DataFault
+            A value is refused, such as a label 1.0, a weight NaN, or a row that is missing. The text names it; `column` and `row` of the error
+            say where it stands. Nothing was written.
+        FileExistsError
+            `folder` is there, and is not empty.
+        ProgramFault, ChtabError, OSError
+            As `Network.open` raises them. A folder is whole or not there.
+
+        Examples
+        --------
+        >>> network = Network.from_arrays(["inn", "inn"], ["farm", "mill"], [2.5, 4.0], scale=1000, both_ways=True)  # doctest: +SKIP
+        >>> network.distances([("farm", "mill")])                                                                    # doctest: +SKIP
+        array([6500])
+        """
+        running = opening.Running(**running)
+        given = making.Columns(sources, targets, weights, nodes, x, y, scale, both_ways)
+        return cls._made(making.arcs_of(given), folder, running)
+
+    @classmethod
+    def from_frame(cls, frame, source="source", target="target", weight="weight", *, folder=None, **more):
+        """Makes a network of a frame with a row for each arc, such as a DataFrame of pandas.
+
+        Parameters
+        ----------
+        frame : pandas.DataFrame
+            The arcs.
+        source, target, weight : str
+            The names of the columns with the labels of both ends and the weight: as `sources`, `targets`, `weights` of `from_arrays`.
+        folder : str or path, optional
+            As `from_arrays` takes it.
+        **more
+            `nodes`, `x`, `y`, `scale` and `both_ways`, as `from_arrays` takes them, and what `Network.open` takes of a run.
+
+        Returns
+        -------
+        Network
+
+        Raises
+        ------
+        DataFault
+            The frame lacks a column, or a value is refused: `row` of the error is its place in the frame, as `frame.iloc` counts.
+        FileExistsError, ProgramFault, ChtabError, OSError
+            As `from_arrays` raises them.
+
+        Examples
+        --------
+        >>> roads = pandas.read_csv("roads.csv")                                            # doctest: +SKIP
+        >>> network = Network.from_frame(roads, "from", "to", "minutes", scale=60_000)      # doctest: +SKIP
+        """
+        columns, running = graphs.columns_of_frame(frame, (source, target, weight), more)
+        running = opening.Running(**running)
+        return cls._made(making.arcs_of(columns), folder, running)
+
+    @classmethod
+    def from_networkx(cls, graph, weight="travel_time", scale=1000, *, x="x", y="y", folder=None, **running):
+        """Makes a network of a graph of networkx, such as one of osmnx as it is.
+
+        An edge of a graph without directions leads both ways. Of several edges from one node to another the one of least weight counts.
+
+        Parameters
+        ----------
+        graph : networkx.Graph, DiGraph, MultiGraph or MultiDiGraph
+            The graph, whose nodes are all integers or all strings.
+        weight : str
+            The attribute of edges with their weight. `travel_time` of osmnx is in seconds, and `length` in metres.
+        scale : float, optional
+            As `from_arrays` takes it: by 1000 from seconds to milliseconds, or from metres to millimetres.
+        x, y : str, optional
+            The attributes of nodes with longitude and latitude in degrees. Where no node has them, or for None, the network has no places.
+        folder : str or path, optional
+            As `from_arrays` takes it.
+        **running
+            What `Network.open` takes of a run.
+
+        Returns
+        -------
+        Network
+            Its labels are the graph's nodes, in their order.
+
+        Raises
+        ------
+        DataFault
+            A node or an edge lacks an attribute, or has a value that is refused. The text names it.
+        FileExistsError, ProgramFault, ChtabError, OSError
+            As `from_arrays` raises them.
+
+        Examples
+        --------
+        >>> streets = osmnx.add_edge_travel_times(osmnx.add_edge_speeds(streets))          # doctest: +SKIP
+        >>> network = Network.from_networkx(streets)                                       # doctest: +SKIP
+        """
+        running = opening.Running(**running)
+        return cls._made(graphs.arcs_of_networkx(graph, weight, scale, (x, y)), folder, running)
+
+    @classmethod
+    def _made(cls, arcs, folder, running):
+        """The network of these arcs, whose files are written."""
+        opened, kept = opening.made(arcs, folder, running)
+        try:
+            network = cls(opened, kept, making.layers_of(arcs))
+            network._load(running)
+        except BaseException:
+            if kept is not None:
+                kept.remove()
+            raise
+        return network
+
+    def _load(self, running):
+        if running.load:
+            self._engine.load(running.routes)
+
     def __reduce__(self):
-        return reopened, (self._opening,)
+        return reopened, (self._opened,)
 
     def __repr__(self):
-        setting = self._opening.setting
+        setting = self._opened.setting
         saved = "" if setting.saved is None else f" by {setting.saved}"
         return f"<chtab.Network {setting.graph}{saved}: {self.nodes:,} nodes{', closed' * self._engine.is_closed}>"
 
     def close(self):
-        """Ends the program. A call that is under way in another thread fails."""
+        """Ends the program, and removes a temporary folder of the network. A call that is under way in another thread fails."""
         self._engine.close()
+        if self._folder is not None:
+            self._folder.remove()
 
     def __enter__(self):
         return self
@@ -115,11 +254,32 @@ class Network:
     def __exit__(self, *_):
         self.close()
 
-    # What is read of the files when it is first needed.
+    # What is known of the network, and what is read of the files when it is first needed.
+
+    @property
+    def labels(self):
+        """What the nodes are called: int64 or objects (`str`, or `int` of more than 64 bits), shape (nodes,). Of files it is 1, 2, ..
+
+        The array can't be written to.
+        """
+        return self._layers.labels.values
+
+    @property
+    def scale(self):
+        """What weights were multiplied by before they were rounded, None where they were taken as they are."""
+        return self._layers.labelling and self._layers.labelling.scale
+
+    @property
+    def rounding(self):
+        """The most by which the weight of an arc differs from the caller's weight times `scale`, at most 0.5; None of a network of files.
+
+        So the weight of a walk of k arcs differs by at most k times as much.
+        """
+        return self._layers.labelling and self._layers.labelling.rounding
 
     @property
     def graph(self):
-        """The arcs, as `files.read_graph` gives them."""
+        """The arcs, as `files.read_graph` gives them, between nodes by number: node k is `labels[k - 1]`."""
         return self._layers.graph
 
     @property
@@ -129,13 +289,8 @@ class Network:
 
     @property
     def coordinates(self):
-        """The nodes' places, as `files.read_coordinates` gives them."""
+        """The nodes' places, as `files.read_coordinates` gives them, of nodes by number. Without such a file that is a `ChtabError`."""
         return self._layers.coordinates
-
-    @property
-    def roads(self):
-        """The roads between nodes, as `chtab.roads.Roads`."""
-        return self._layers.roads
 
     # Between nodes.
 
@@ -144,31 +299,37 @@ class Network:
 
         Parameters
         ----------
-        pairs : array of int, shape (n, 2)
-            Pairs of nodes from 1 on; or their sources, shape (n,), where `targets` are given.
-        targets : array of int, shape (n,), optional
+        pairs : array of labels, shape (n, 2)
+            Pairs of nodes; or their sources, shape (n,), where `targets` are given.
+        targets : array of labels, shape (n,), optional
             The targets.
 
         Returns
         -------
         array of int64, shape (n,)
             The weights; -1 where there is no walk.
+
+        Raises
+        ------
+        ValueError
+            A label is that of no node; the error of labels of your own is a `DataFault`.
+        ProgramFault, TimedOut
+            The program died, or took too long. The next call runs it again.
+
+        Examples
+        --------
+        >>> network.distances([(1, 3), (3, 1)])        # doctest: +SKIP
+        array([ 9, -1])
         """
-        pairs = pairs_in(pairs, targets, self.nodes)
-        found, start = numpy.empty(len(pairs), numpy.int64), 0
-        while start < len(pairs):
-            end = start + self._engine.distances_together()
-            found[start:end] = self._engine.distances(pairs[start:end])
-            start = end
-        return found
+        return self._queries.distances(self._pairs(pairs, targets))
 
     def table(self, sources, targets, within=None):
         """The distances from each source to each target. Tables past the limits of one are made in blocks.
 
         Parameters
         ----------
-        sources, targets : array of int, shape (k,) and (l,)
-            Nodes from 1 on; they may repeat.
+        sources, targets : array of labels, shape (k,) and (l,)
+            Nodes; they may repeat.
         within : int, optional
             A limit from 0 to 2^60.
 
@@ -176,193 +337,90 @@ class Network:
         -------
         array of int64, shape (k, l)
             The weights; -1 where there is no walk, or none of at most `within`.
+
+        Raises
+        ------
+        ValueError, ProgramFault, TimedOut
+            As `distances` raises them; a limit is out of its range.
         """
-        sources, targets = (nodes_in(nodes, self.nodes).reshape(-1) for nodes in (sources, targets))
-        if within is not None and not 0 <= within <= 2**60:
-            raise ValueError("a limit is from 0 to 2^60")
-        table = numpy.empty((len(sources), len(targets)), numpy.int64)
-        for block in blocks.cut(sources.tolist(), targets.tolist()):
-            rows = answers.numbers(self._engine.table(block.sources, block.targets, shared_limit(within)), 1 + len(block.targets))
-            table[block.row:block.row + len(block.sources), block.column:block.column + len(block.targets)] = rows[:, 1:]
-        if within is not None:
-            table[table > within] = NO_WALK
-        return table
+        return self._queries.table(self._nodes("sources", sources), self._nodes("targets", targets), within)
 
     def frame(self, sources, targets, within=None):
-        """The same as a pandas DataFrame: a row for each source, a column for each target."""
+        """The same as a DataFrame of pandas.
+
+        Parameters
+        ----------
+        sources, targets : array of labels, shape (k,) and (l,)
+            Nodes.
+        within : int, optional
+            A limit.
+
+        Returns
+        -------
+        pandas.DataFrame
+            A row for each source, a column for each target; -1 where there is no walk, or none of at most `within`.
+
+        Raises
+        ------
+        ImportError
+            pandas is not there.
+        ValueError, ProgramFault, TimedOut
+            As `table` raises them.
+        """
         import pandas
 
-        sources, targets = (pandas.Index(nodes, name=name) for nodes, name in ((sources, "source"), (targets, "target")))
-        return pandas.DataFrame(self.table(sources, targets, within), sources, targets)
+        table = self.table(sources, targets, within)
+        return pandas.DataFrame(table, pandas.Index(sources, name="source"), pandas.Index(targets, name="target"))
 
     def routes(self, pairs, targets=None):
-        """The routes of pairs of nodes, which are given as to `distances`: a sequence of `files.Answer` (`chtab.routes.Routes`)."""
-        pairs = pairs_in(pairs, targets, self.nodes).tolist()
-        found = []
-        for start in range(0, len(pairs), engine.FEW):
-            found += self._engine.routes(pairs[start:start + engine.FEW])
-        return Routes(found, self._layers)
-
-    # Between places.
-
-    def nearest(self, longitudes, latitudes, max_metres=None):
-        """The nearest node to each place.
-
-        Of a graph with turns these are nodes where trips begin; `coordinates.ends()` says where they end.
+        """The routes of pairs of nodes: each of least weight, and of these with the fewest arcs.
 
         Parameters
         ----------
-        longitudes, latitudes : array of float, shape (n,)
-            Places in degrees, from -180 to 180 and from -90 to 90.
-        max_metres : float, optional
-            How far a place may be from its node; None: any distance.
+        pairs, targets : array of labels
+            As `distances` takes them.
 
         Returns
         -------
-        array of int64, shape (n,)
-            The nodes.
-        array of float, shape (n,)
-            The metres from each place to its node.
+        chtab.routes.Routes
+            A sequence of `files.Answer`, in the order of the pairs, with `to_frame` and `to_geojson`.
 
         Raises
         ------
-        TooFar
-            A place is farther away than `max_metres`.
-        ValueError
-            A number is no degree, such as NaN.
+        ValueError, ProgramFault, TimedOut
+            As `distances` raises them.
         """
-        from chtab.places import far_text, places_in
+        return Routes(self._queries.routes(self._pairs(pairs, targets)), self._layers)
 
-        longitudes, latitudes = places_in(longitudes, latitudes)
-        nodes, metres = self._layers.index.nearest(longitudes, latitudes)
-        nodes, metres = numpy.asarray(nodes, numpy.int64), numpy.asarray(metres, float)
-        far = numpy.flatnonzero(metres > (numpy.inf if max_metres is None else max_metres)).tolist()
-        if far:
-            text = far_text(longitudes[far[0]], latitudes[far[0]], metres[far[0]], "node", max_metres)
-            raise TooFar(text, {place: float(metres[place]) for place in far})
-        return nodes, metres
+    def _nodes(self, name, given):
+        """The nodes of labels, in a column."""
+        return self._layers.labels.nodes_of(name, given).reshape(-1)
 
-    def snap(self, longitudes, latitudes, max_metres=1_000.0):
-        """The places, taken to the nearest points of the roads.
-
-        Parameters
-        ----------
-        longitudes, latitudes : array of float, shape (n,)
-            Places in degrees, from -180 to 180 and from -90 to 90.
-        max_metres : float
-            How far a place may be from each road.
-
-        Returns
-        -------
-        chtab.roads.Spots
-            An item for each place.
-
-        Raises
-        ------
-        TooFar
-            Places are farther from each road than `max_metres`; `places` of the error has all of them.
-        ValueError
-            A number is no degree, such as NaN.
-        """
-        return self.roads.find(longitudes, latitudes, max_metres)
-
-    def trips(self, starts, ends):
-        """The weights of trips from spot k of `starts` to spot k of `ends`, int64 (n,), -1 where there is no way."""
-        return trips.trip_weights(self, starts, ends)
-
-    def trip_table(self, starts, ends, within=None):
-        """The weights of trips from each spot of `starts` to each of `ends`, int64 (k, l), -1 where there is no way (of at most `within`)."""
-        return trips.trip_table(self, starts, ends, within)
-
-    def trip_routes(self, starts, ends):
-        """The ways from spot k of `starts` to spot k of `ends`: a list of `chtab.routes.Trip`."""
-        return trips.trip_routes(self, starts, ends)
-
-    def reach(self, spot, within=None):
-        """The weights at which nodes are reached from a spot.
-
-        Parameters
-        ----------
-        spot : chtab.roads.Spots
-            One spot.
-        within : int, optional
-            A limit from 0 to 2^60.
-
-        Returns
-        -------
-        array of int64, shape (nodes,)
-            The weights of nodes 1, 2, ..; -1 of a node that is not reached, or not within the limit.
-        """
-        return trips.reach(self, one_of(spot), within)
-
-    def isochrones(self, spot, limits):
-        """Polygons of what is reached from a spot within each limit.
-
-        Parameters
-        ----------
-        spot : chtab.roads.Spots
-            One spot.
-        limits : list of int
-            Weights above 0.
-
-        Returns
-        -------
-        dict
-            A collection of GeoJSON with a MultiPolygon for each limit, the largest first, whose property `limit` is the weight.
-        """
-        from chtab import reach
-
-        if not len(limits) or min(limits) <= 0:
-            raise ValueError("a limit of reach is above 0")
-        return reach.polygons(self.roads, one_of(spot), self.reach(spot, max(limits)), limits)
+    def _pairs(self, pairs, targets):
+        """Nodes (n, 2) from pairs of labels, or from two columns of one length."""
+        if targets is not None:
+            columns = self._nodes("sources", pairs), self._nodes("targets", targets)
+            if len(columns[0]) != len(columns[1]):
+                raise ValueError(f"there are {len(columns[0]):,} sources and {len(columns[1]):,} targets")
+            return numpy.column_stack(columns)
+        pairs = self._layers.labels.nodes_of("pairs", pairs)
+        if pairs.size == 0:
+            return pairs.reshape(0, 2)
+        if pairs.ndim != 2 or pairs.shape[1] != 2:
+            raise ValueError(f"pairs have the shape (n, 2), not {pairs.shape}")
+        return pairs
 
 
 # The networks that were unpickled in this process, those of one opening once, so that a pool's tasks don't each begin a run.
 REOPENED, MOST_REOPENED = {}, 4
 
 
-def reopened(opening):
+def reopened(opened):
     """The network of an opening, in a process where one was unpickled. Its run begins with the first question."""
-    network = REOPENED.pop(opening, None)
+    network = REOPENED.pop(opened, None)
     if network is None or network._engine.is_closed:
-        network = Network(opening)
-    REOPENED[opening] = network
+        network = Network(opened)
+    REOPENED[opened] = network
     for oldest in list(REOPENED)[:-MOST_REOPENED]:
         REOPENED.pop(oldest, None)
     return network
-
-
-def nodes_in(nodes, count):
-    """The nodes as a column of int64; any other number is refused."""
-    column = numpy.asarray(nodes)
-    if column.size and not (numpy.issubdtype(column.dtype, numpy.integer) or numpy.all(column == numpy.floor(column))):
-        raise ValueError("a node is a whole number")
-    column = column.astype(numpy.int64)
-    outside = column[(column < 1) | (column > count)]
-    if outside.size:
-        raise ValueError(f"node {outside.flat[0]} is not from 1 to {count:,}")
-    return column
-
-
-def pairs_in(pairs, targets, count):
-    """Pairs (n, 2) from such an array, or from two columns of one length."""
-    if targets is not None:
-        pairs = numpy.column_stack([numpy.reshape(pairs, -1), numpy.reshape(targets, -1)])
-    pairs = nodes_in(pairs, count)
-    if pairs.size == 0:
-        return pairs.reshape(0, 2)
-    if pairs.ndim != 2 or pairs.shape[1] != 2:
-        raise ValueError(f"pairs have the shape (n, 2), not {pairs.shape}")
-    return pairs
-
-
-def one_of(spot):
-    """A spot that is one."""
-    if len(spot) != 1:
-        raise ValueError(f"reach begins at one spot, not at {len(spot)}: take one of them, as spots[:1]")
-    return spot
-
-
-def shared_limit(within):
-    """The limit of the run that makes tables within this one: the next power of two. What lies between is left out afterwards."""
-    return None if within is None else 1 << max(math.ceil(within) - 1, 0).bit_length()

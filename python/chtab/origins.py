@@ -1,13 +1,22 @@
 """Pages of other sites that may ask the service (CORS: the Fetch standard of WHATWG)."""
+import re
+
 from aiohttp import web
 
+# Requests of OSRM's interface: its services, and whatever else has its form.
+FORM = r"(?:route|table|nearest|match|trip|tile)(?:/.*)?|\w+/v\d+/.*"
+OSRM, IS_OSRM = f"/{{words:{FORM}}}", re.compile(f"/(?:{FORM})", re.DOTALL)
 # What pages of other sites may ask for, and the seconds for which a browser remembers that it may.
 OPEN_TO_OTHERS = ("/api/", "/health", "/roads/")
 REMEMBERED = 86_400
 
 
+def is_osrm(path):
+    return bool(IS_OSRM.fullmatch(path))
+
+
 def is_open(request):
-    return request.path.startswith(OPEN_TO_OTHERS)
+    return request.path.startswith(OPEN_TO_OTHERS) or is_osrm(request.path)
 
 
 def allower(origins):

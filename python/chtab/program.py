@@ -16,7 +16,7 @@ def program_of(path=None):
     """The path of the program.
 
     It is looked for in this order: the one that was named; that of the checkout or of the installation that the package stands in; the one
-    that was installed along with the package by pip; the one beside the script that runs; `chtab` on the path.
+    that was installed along with the package, by pip or by Debian; the one beside the script that runs; `chtab` on the path.
 
     Parameters
     ----------
@@ -45,6 +45,7 @@ def candidates():
     if (root / "crates.txt").exists() or (root / "program").exists():
         yield root / "chtab"
     yield pathlib.Path(__file__).parent / "bin" / "chtab"
+    yield root.parent / "chtab" / "chtab"
     if os.path.isfile(sys.argv[0]):
         script = pathlib.Path(os.path.abspath(sys.argv[0]))
         for folder in script.parent, script.resolve().parent:

@@ -162,7 +162,17 @@ class Roads:
         """The same of places at any distance from roads, as two arrays."""
         if not len(self):
             raise ChtabError("the graph has no road between two places")
-        roads, parts, xs, ys = self.lines.nearest(longitudes, latitudes)
+        return self.spots_at(longitudes, latitudes, *self.lines.nearest(longitudes, latitudes))
+
+    def find_some(self, longitude, latitude, most):
+        """One place, taken to each of its nearest roads, at most so many, the nearest first."""
+        if not len(self):
+            raise ChtabError("the graph has no road between two places")
+        found = self.lines.nearest_some(longitude, latitude, most)
+        return self.spots_at(numpy.full(len(found[0]), longitude), numpy.full(len(found[0]), latitude), *found)
+
+    def spots_at(self, longitudes, latitudes, roads, parts, xs, ys):
+        """The spots of places at these parts of roads."""
         metres = metres_between(longitudes, latitudes, xs, ys)
         lengths = self.lines.metres[roads]
         parts = numpy.where(parts * lengths < AT_END, 0.0, parts)

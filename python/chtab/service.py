@@ -1,138 +1,71 @@
-"""A service of one network over HTTP, for the page and for programs: docs/SERVICE.md has its form.
+"""A service of one network over HTTP, for the page and for programs: docs/SERVICE.md has its forms.
 
-Requests wait in a queue of bounded length, and a few are answered at once, in threads. Whatever goes wrong, a client gets JSON with a line
-that says what, and never a traceback.
+Requests wait for their turn in lines of bounded length, and a few are answered at once, in threads. Whatever goes wrong, a client gets JSON
+with a line that says what, and never a traceback.
 """
 import asyncio
-import concurrent.futures
-import contextlib
 import json
-import logging
 import math
 import pathlib
-from dataclasses import dataclass
+import resource
 
 import numpy
 from aiohttp import web
 
 from chtab import origins
-from chtab.errors import ChtabError, TimedOut
+from chtab.clients import client_of, is_gone
+from chtab.faults import fault_teller
+from chtab.metrics import Metrics
+from chtab.osrm.answering import Answers
 from chtab.places import length_text
+from chtab.requests import Limits, Refused, fields_of, number_in, place_in, places_in
 from chtab.tiles import Tiles
+from chtab.turns import Job, Turns
 from chtab.web_policy import header_adder
 
 PAGE = pathlib.Path(__file__).parent / "page"
 # Debian's package libjs-leaflet.
 LEAFLET = pathlib.Path("/usr/share/javascript/leaflet")
-LOG = logging.getLogger("chtab.service")
 # What the places of a route are called, as on the page.
 ENDS = "A", "B"
-# Requests for routes that are answered together.
-TOGETHER = 32
-
-
-@dataclass(frozen=True)
-class Limits:
-    """What one client may ask for, and how many may ask."""
-
-    # Bytes of a request.
-    body: int = 1 << 20
-    # Places in a list of a table, its cells, and bands of reach.
-    list: int = 1_000
-    cells: int = 100_000
-    bands: int = 12
-    # Metres from a place to the nearest road.
-    metres: float = 1_000.0
-    # Requests that are answered at once, and that wait.
-    at_once: int = 2
-    waiting: int = 200
-    # Seconds for the body of a request, and those after which a connection is closed on which nothing happens.
-    sending: float = 30.0
-    idle: float = 60.0
-
-
-class Refused(Exception):
-    """A request that is refused, with the status and the line for the client."""
-
-    def __init__(self, text, status=400):
-        super().__init__(text)
-        self.status = status
-
-
-def number_in(value, low, high, name):
-    if isinstance(value, bool) or not isinstance(value, (int, float)) or not math.isfinite(value) or not low <= value <= high:
-        raise Refused(f"{name} is a number from {low:,} to {high:,}")
-    return value
-
-
-def place_in(value, name):
-    """A place: [longitude, latitude] in degrees."""
-    if not isinstance(value, list) or len(value) != 2:
-        raise Refused(f"{name} is a place [longitude, latitude]")
-    return number_in(value[0], -180, 180, f"the longitude of {name}"), number_in(value[1], -90, 90, f"the latitude of {name}")
-
-
-def places_in(value, name, most):
-    if not isinstance(value, list) or not 1 <= len(value) <= most:
-        raise Refused(f"{name} is a list of 1 to {most:,} places")
-    return [place_in(place, f"{name}[{index}]") for index, place in enumerate(value)]
-
-
-def fields_of(body, needed, optional=()):
-    """The fields of a request, which is an object of JSON with these and no others."""
-    try:
-        fields = json.loads(body)
-    except (ValueError, RecursionError):
-        raise Refused("the request is not JSON") from None
-    if not isinstance(fields, dict):
-        raise Refused("the request is an object of JSON")
-    for name in needed:
-        if name not in fields:
-            raise Refused(f"{name} is missing")
-    for name in fields:
-        if name not in (*needed, *optional):
-            raise Refused(f"{name[:40]} is not known; the fields are {', '.join((*needed, *optional))}")
-    return fields
-
-
-class Wanted:
-    """A route that a client waits for, between two places, and its answer, which may be an error."""
-
-    def __init__(self, places):
-        self.places, self.answer = places, concurrent.futures.Future()
-
-
-def see_that_there(request):
-    """Refuses a request whose client went away."""
-    if request.transport is None or request.transport.is_closing():
-        raise Refused("the client went away", 499)
 
 
 class Service:
-    """The answers to requests, by a network that it keeps and doesn't close. Pages of the `allowed` origins may ask too."""
+    """The answers to requests, by a network that it keeps and doesn't close.
 
-    def __init__(self, network, title="", places=(), tiles=None, limits=Limits(), allowed=()):
+    Pages of the `allowed` origins may ask too. `profile` is what OSRM's interface calls the network, where that is not the name that it was
+    made for. Requests that come from the address `proxy` are those of the clients that it names. `row` counts what this process answers, among
+    those of `metrics`.
+    """
+
+    def __init__(self, network, title="", places=(), tiles=None, limits=Limits(), allowed=(), profile="", proxy=None, metrics=None, row=0):
         self.network, self.title, self.places, self.tile_layer, self.limits = network, title, places, tiles, limits
-        self.allowed = allowed
-        self.threads = concurrent.futures.ThreadPoolExecutor(limits.at_once)
+        self.allowed, self.proxy = allowed, proxy
+        self.metrics = metrics or Metrics()
+        self.row = self.metrics.of_processes[row]
+        # What was begun by a process that ended, and that this one stands in for.
+        self.begun_before = self.row.of("begun")
         self.tiles = Tiles(network.roads, network.unit == "milliseconds")
-        self.gate = asyncio.Semaphore(limits.at_once)
-        self.wanted = []
-        self.waiting = 0
+        self.osrm = Answers(network, profile)
+        # What places are looked for in is made now, and not while the first client waits.
+        network.roads.find_any([0.0], [0.0])
+        self.turns = Turns(limits.at_once, limits.waiting, limits.together)
 
     def application(self, middlewares=()):
         preflight = [origins.preflight] if self.allowed else []
-        app = web.Application(client_max_size=self.limits.body, middlewares=[*middlewares, *preflight, tell_faults])
+        app = web.Application(client_max_size=self.limits.body, middlewares=[*middlewares, *preflight, fault_teller(self.limits.body)])
         app.add_routes([
             web.get("/", lambda request: web.FileResponse(PAGE / "index.html")),
             web.static("/page", PAGE),
             web.static("/leaflet", LEAFLET, follow_symlinks=True),
             web.get("/health", self.health),
+            web.get("/metrics", self.tell_metrics),
             web.get("/api/network", self.describe),
             web.get(r"/roads/{zoom:\d{1,2}}/{x:\d{1,8}}/{y:\d{1,8}}.svg", self.tile),
             web.post("/api/route", self.answer_route),
             web.post("/api/table", self.answering(self.table)),
             web.post("/api/reach", self.answering(self.reach)),
+            web.get(origins.OSRM, self.answer_osrm),
         ])
         if self.allowed:
             app.on_response_prepare.append(origins.allower(self.allowed))
@@ -141,25 +74,16 @@ class Service:
         return app
 
     async def close(self, app):
-        self.threads.shutdown(wait=False, cancel_futures=True)
+        self.turns.close()
 
-    @contextlib.contextmanager
-    def place_in_queue(self):
-        """A place among the requests that are underway or wait. Where there is none the request is refused."""
-        if self.waiting >= self.limits.waiting:
-            raise Refused("too many requests are waiting; try again in a second", 503)
-        self.waiting += 1
-        try:
-            yield
-        finally:
-            self.waiting -= 1
+    async def answer(self, request, call, question, is_shared=False, size=1):
+        """The answer to a question of a client, once it is its turn: `call` answers a list of questions."""
+        job = Job(client_of(request, self.proxy), call, question, lambda: is_gone(request), is_shared, size)
+        return await self.turns.answer(job)
 
-    async def in_thread(self, request, call, *words):
-        """The value of a call, made in a thread once it is its turn. A client that went away while it waited gets none."""
-        with self.place_in_queue():
-            async with self.gate:
-                see_that_there(request)
-                return await asyncio.get_running_loop().run_in_executor(self.threads, call, *words)
+    async def answer_alone(self, request, call, *words):
+        """The value of a call, made in a thread once it is the client's turn."""
+        return await self.answer(request, lambda questions: [call(*words)], None)
 
     async def body_of(self, request):
         """The bytes of a request, once all are there."""
@@ -172,46 +96,37 @@ class Service:
         """A handler that answers the body of a request with JSON."""
         async def handle(request):
             body = await self.body_of(request)
-            text = await self.in_thread(request, lambda: json.dumps(call(body)))
-            return web.Response(text=text, content_type="application/json")
+            return json_of(await self.answer_alone(request, lambda: json.dumps(call(body))))
 
         return handle
 
     async def answer_route(self, request):
         """Answers a request for a route, together with those that wait beside it: one question to the program serves them all."""
         fields = fields_of(await self.body_of(request), ("from", "to"))
-        wanted = Wanted([place_in(fields[name], name) for name in ("from", "to")])
-        with self.place_in_queue():
-            self.wanted.append(wanted)
-            try:
-                async with self.gate:
-                    if wanted in self.wanted:
-                        see_that_there(request)
-                        self.wanted.remove(wanted)
-                        some, self.wanted = [wanted, *self.wanted[:TOGETHER - 1]], self.wanted[TOGETHER - 1:]
-                        await asyncio.get_running_loop().run_in_executor(self.threads, self.answer_wanted, some)
-                text = await asyncio.wrap_future(wanted.answer)
-            finally:
-                if wanted in self.wanted:
-                    self.wanted.remove(wanted)
-        return web.Response(text=text, content_type="application/json")
+        places = [place_in(fields[name], name) for name in ("from", "to")]
+        return json_of(await self.answer(request, self.route_texts, places, is_shared=True))
 
-    def answer_wanted(self, some):
-        """Answers requests for routes, each with a text or an error."""
-        try:
-            texts = self.route_texts([each.places for each in some])
-        except Exception as fault:
-            texts = [fault] * len(some)
-        for each, text in zip(some, texts):
-            if isinstance(text, Exception):
-                each.answer.set_exception(text)
-            else:
-                each.answer.set_result(text)
+    async def answer_osrm(self, request):
+        """Answers a request of OSRM's interface; routes together with those that wait beside them."""
+        question = self.osrm.question(request.raw_path)
+        if question.service == "route":
+            return json_of(await self.answer(request, self.osrm.routes, question, True, len(question.coordinates) - 1))
+        return json_of(await self.answer_alone(request, getattr(self.osrm, question.service), question))
 
     async def health(self, request):
         """Whether a request that comes now is taken. It is answered at once, whatever waits."""
-        is_ready = self.waiting < self.limits.waiting
-        return web.json_response({"status": "ready" if is_ready else "busy", "waiting": self.waiting}, status=200 if is_ready else 503)
+        is_full, waiting = self.turns.is_full, self.turns.unanswered
+        return web.json_response({"status": "busy" if is_full else "ready", "waiting": waiting}, status=503 if is_full else 200)
+
+    async def tell_metrics(self, request):
+        """What all processes of the service counted."""
+        self.note()
+        return web.Response(body=self.metrics.text().encode(), headers={"Content-Type": "text/plain; version=0.0.4; charset=utf-8"})
+
+    def note(self):
+        """Notes how things stand in this process, for whichever process tells the metrics."""
+        engine = self.network._engine
+        self.row.note(waiting=self.turns.unanswered, engines=engine.living(), begun=self.begun_before + engine.begun, memory=resident_bytes())
 
     async def describe(self, request):
         """What the page has to know."""
@@ -229,7 +144,7 @@ class Service:
         zoom, x, y = (int(request.match_info[name]) for name in ("zoom", "x", "y"))
         if zoom > 22 or max(x, y) >= 2**zoom:
             raise Refused("there is no such tile", 404)
-        text = await self.in_thread(request, self.tiles.tile, zoom, x, y)
+        text = await self.answer_alone(request, self.tiles.tile, zoom, x, y)
         return web.Response(text=text, content_type="image/svg+xml", headers={"Cache-Control": "max-age=3600"})
 
     def spots(self, places, names):
@@ -302,28 +217,11 @@ def spot_of(spots, place):
     }
 
 
-def fault(text, status):
-    return web.json_response({"error": text}, status=status, headers={"Retry-After": "1"} if status == 503 else None)
+def json_of(text):
+    return web.Response(text=text, content_type="application/json")
 
 
-@web.middleware
-async def tell_faults(request, handler):
-    """Each fault as JSON with a line."""
-    try:
-        return await handler(request)
-    except Refused as refused:
-        return fault(str(refused), refused.status)
-    except TimedOut:
-        return fault("the answer took too long", 504)
-    except web.HTTPRequestEntityTooLarge:
-        return fault(f"a request has at most {request.app._client_max_size:,} bytes", 413)
-    except web.HTTPException as known:
-        return fault(known.reason, known.status)
-    except ConnectionError:
-        return fault("the client went away", 499)
-    except ChtabError as broken:
-        LOG.error("%s", broken)
-        return fault("the program did not answer; try again", 503)
-    except Exception:
-        LOG.exception("a request failed")
-        return fault("the service has a fault", 500)
+def resident_bytes():
+    """The memory of this process."""
+    pages = pathlib.Path("/proc/self/statm").read_text().split()[1]
+    return int(pages) * resource.getpagesize()

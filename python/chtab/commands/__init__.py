@@ -6,6 +6,7 @@ signal and without a word; what the command had begun (children, files that are 
 import argparse
 import importlib
 import os
+import pathlib
 import re
 import signal
 import sys
@@ -13,7 +14,9 @@ import sys
 from chtab.errors import ChtabError
 
 
-SAVED = "read the hierarchy from FILE, as `chtab save` wrote it of this graph, and check it; one of another graph is refused, often by " \
+# The names of the commands, which are those of the modules beside this one.
+NAMES = sorted(path.stem for path in pathlib.Path(__file__).parent.glob("[!_]*.py"))
+SAVED = "read the hierarchy of the graph from FILE, as `chtab save` writes it, and check it; that of another graph is refused, often by " \
     "`chtab: saved line 1: size too large`"
 
 
@@ -22,6 +25,7 @@ class Terminated(BaseException):
 
 
 def raise_terminated(number, frame):
+    """The handler of SIGTERM."""
     raise Terminated
 
 
@@ -31,10 +35,26 @@ def end_by(number):
     os.kill(os.getpid(), number)
 
 
+def as_called(text):
+    """A help text as it reads where the commands are installed: there they and the documents have other names."""
+    text = re.sub(rf"(?:tools/)?\b({'|'.join(NAMES)})\.py\b", lambda found: "chtab-" + found[1].replace("_", "-"), text)
+    return text.replace("./chtab ", "chtab ").replace("docs/", documents())
+
+
+class Parser(argparse.ArgumentParser):
+    """A parser whose help names the commands as this one was called."""
+
+    def format_help(self):
+        """The help text, with the names of commands as this one was called."""
+        text = super().format_help()
+        return as_called(text) if self.prog.startswith("chtab-") else text
+
+
 class Formatter(argparse.RawDescriptionHelpFormatter):
     """Help as it stands in a text, with headings as the program chtab has them, from which manual pages are made."""
 
     def add_usage(self, usage, actions, groups, prefix=None):
+        """The forms of the words, below the heading Usage."""
         super().add_usage(usage, actions, groups, "Usage: ")
 
 
@@ -42,19 +62,15 @@ def parser_of(name, about):
     """The parser of a command.
 
     Its help is made of a text: a line on what the command does, lines with the forms of its words, and what there is to know besides. It uses
-    the name that the command was called by: NAME.py in tools/, or chtab-NAME where it is installed. There the documents are installed too.
+    the name that the command was called by: NAME.py in tools/, or chtab-NAME once it is installed. Then the documents are installed too.
     """
     called = os.path.basename(sys.argv[0])
-    if called.startswith("chtab-"):
-        about = about.replace(f"tools/{name}.py", called).replace(f"{name}.py", called)
-        about = re.sub(r"tools/(\w+)\.py", lambda found: "chtab-" + found[1].replace("_", "-"), about).replace("./chtab ", "chtab ")
-        about = about.replace("docs/", documents())
-    else:
+    if not called.startswith("chtab-"):
         called = f"{name}.py"
     does, forms, *rest = about.strip().split("\n\n")
     usage = "\n   or: ".join(form.strip() for form in forms.splitlines())
     examples = next((at for at, part in enumerate(rest) if part.startswith("Example:")), len(rest))
-    parser = argparse.ArgumentParser(
+    parser = Parser(
         called, usage=usage, description="\n\n".join([does, *rest[:examples]]), epilog="\n\n".join(rest[examples:]), formatter_class=Formatter
     )
     parser._positionals.title, parser._optionals.title = "Arguments", "Options"
@@ -72,10 +88,11 @@ def add_network(parser):
     """The words of a command that opens a network and takes places to its roads."""
     add_max_metres(parser, "road")
     add_runs(parser)
-    parser.add_argument("out", metavar="OUT", help="stands for OUT.gr, OUT.co and, where it is there, OUT.bends")
+    parser.add_argument("out", metavar="OUT", help="the network: OUT.gr, OUT.co and, if it exists, OUT.bends")
 
 
 def add_max_metres(parser, what):
+    """The option of a command that refuses places which lie too far from each road, or each node."""
     parser.add_argument(
         "--max-metres", type=float, default=1_000, metavar="M", help=f"refuse a place that is more than M metres from each {what} (1,000)"
     )
@@ -85,7 +102,7 @@ def add_runs(parser):
     """The words of a command that runs the program."""
     parser.add_argument("--saved", metavar="FILE", help=SAVED)
     parser.add_argument("--workers", type=int, default=1, metavar="W", help="threads of the program, 1 to 64 (1)")
-    parser.add_argument("--program", metavar="FILE", help="the program chtab, where it is not found beside this command or on the path")
+    parser.add_argument("--program", metavar="FILE", help="the program chtab, if it is neither beside this command nor on the path")
 
 
 def open_network(words):

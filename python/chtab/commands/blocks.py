@@ -2,14 +2,14 @@
 
   blocks.py [OPTIONS] GRAPH SOURCES.ss TARGETS.ss OUT
 
-GRAPH, SOURCES.ss and TARGETS.ss are as for `chtab table`, but the lists may have any length. They are cut into blocks, each of which is made
-by chtab. The cells are put together in OUT, which is there once it is whole, and not before:
-  OUT.csv   a row for each source, a column for each target, an empty cell where there is no walk, or none within the limit
-  OUT.npy   a matrix of 64-bit numbers as numpy reads it, -1 for such a cell, rows and columns in the lists' order
+GRAPH, SOURCES.ss and TARGETS.ss are as for `chtab table`, but the lists may have any length. The table is cut into blocks, and chtab makes
+each block. The file OUT appears only when it is whole:
+  OUT.csv   a row for each source, and a column for each target. A cell is empty if there is no walk, or none within the limit
+  OUT.npy   a matrix of 64-bit numbers for numpy, with -1 for such a cell. Rows and columns are in the order of the lists
 
 Each process keeps a run of `chtab ask`. With --scheduler the blocks go to a Dask scheduler (Debian's package python3-distributed) and its
-workers, on any number of machines. All of them have GRAPH, the saved hierarchy and the program at the same path. Dask does a block again
-whose worker is lost. Where a block fails it is told which, no more blocks are begun, and the status is 1.
+workers, on any number of machines. All of them need GRAPH, the saved hierarchy and the program at the same path. If a worker is lost, Dask
+makes its block again. If a block fails, the fault names it, no more blocks are begun, and the status is 1.
 
 Example:  tools/blocks.py --processes 2 roads.gr from.ss to.ss table.csv
 """
@@ -21,9 +21,10 @@ from chtab.program import program_of
 
 
 def words_of(words):
+    """The choices that the words of the command line make. Words that are refused end the process with status 2."""
     parser = commands.parser_of("blocks", __doc__)
-    parser.add_argument("--side", type=int, metavar="K", help="blocks of K by K, 1 to 2,048 (as large as a table may be)")
-    parser.add_argument("--processes", type=int, default=os.cpu_count(), metavar="P", help="blocks that are made at a time (as many as processors)")
+    parser.add_argument("--side", type=int, metavar="K", help="make blocks of K by K cells, 1 to 2,048 (as large as a table may be)")
+    parser.add_argument("--processes", type=int, default=os.cpu_count(), metavar="P", help="how many blocks are made at a time (the number of processors)")
     parser.add_argument("--scheduler", metavar="ADDRESS", help="the address of a Dask scheduler, whose workers make the blocks")
     parser.add_argument("--within", type=int, metavar="R", help="leave out distances above R, from 0 to 2^60")
     commands.add_runs(parser)
@@ -39,6 +40,7 @@ def words_of(words):
 
 
 def main(words):
+    """Makes the table that the words ask for, and prints how large it is."""
     words = words_of(words)
     saved = os.path.abspath(words.saved) if words.saved else None
     setting = engine.Setting(program_of(words.program), os.path.abspath(words.graph), saved, words.workers, within=words.within)
@@ -51,4 +53,5 @@ def main(words):
 
 
 def command():
+    """Runs this command on the words that the process was called with."""
     commands.run("blocks", main)

@@ -2,14 +2,15 @@
 
   nearest.py [OPTIONS] OUT.co [PLACES]
 
-PLACES has a place a line: longitude, latitude and, where you like, a name. Without --queries a list is written: `s NODE` a line. Before
-each item stands a comment with the place's name and its distance to the node in metres. Where a place is refused nothing is written.
+Each line of PLACES is a place: longitude, latitude and, if you like, a name. Without --queries a list is written, with a line `s NODE` for
+each place. The comment before each line has the place's name and its distance to the node in metres. If a place is refused, nothing is
+written.
 
-Where OUT.co was made with turns (tools/osm_to_gr.py --turns), trips begin and end at different nodes of a crossing. With --queries the
-second place of a query ends at the right one, and --targets makes a list of targets.
+If OUT.co was made with turns (tools/osm_to_gr.py --turns), trips begin and end at different nodes of a crossing. With --queries the second
+place of each query becomes the node where trips end. --targets makes a list of such nodes.
 
-OUT.co is the coordinate file of tools/osm_to_gr.py or of the challenge, in millionths of a degree. Of nodes at one point the least
-numbered is taken. From Python, `chtab.Network` also takes places to roads between nodes.
+OUT.co is the coordinate file that tools/osm_to_gr.py writes, or one of the DIMACS challenge, in millionths of a degree. If several nodes
+lie at one point, the one with the least number is taken. From Python, `chtab.Network` also takes places to roads between nodes.
 
 Example:  echo "9.5209 47.1410 Vaduz" | tools/nearest.py roads.co
 """
@@ -24,15 +25,16 @@ MANY = 1_000
 
 
 def words_of(words):
+    """The choices that the words of the command line make. Words that are refused end the process with status 2."""
     parser = commands.parser_of("nearest", __doc__)
     kinds = parser.add_mutually_exclusive_group()
     kinds.add_argument("--queries", action="store_true", help="write queries: the first and second place make one, the third and fourth, and so on")
-    kinds.add_argument("--targets", action="store_true", help="write a list of targets")
+    kinds.add_argument("--targets", action="store_true", help="write a list of targets: the nodes where trips end")
     parser.add_argument("--all", action="store_true", help="write a list of all nodes in order, without PLACES")
-    parser.add_argument("--plain", action="store_true", help="search by a grid, as is done where scipy (Debian's package python3-scipy) is missing")
+    parser.add_argument("--plain", action="store_true", help="search by a grid, as without scipy (Debian's package python3-scipy)")
     commands.add_max_metres(parser, "node")
-    parser.add_argument("coordinates", metavar="OUT.co", help="the places of nodes")
-    parser.add_argument("places", metavar="PLACES", nargs="?", help="the places (standard input)")
+    parser.add_argument("coordinates", metavar="OUT.co", help="the coordinates of the nodes")
+    parser.add_argument("places", metavar="PLACES", nargs="?", help="the file of places (standard input)")
     return parser.parse_intermixed_args(words)
 
 
@@ -57,6 +59,7 @@ def found_at(places, coordinates, words):
 
 
 def main(words):
+    """Writes the list or the queries that the words ask for to standard output."""
     words = words_of(words)
     coordinates = files.read_coordinates(words.coordinates)
     if words.all:
@@ -72,4 +75,5 @@ def main(words):
 
 
 def command():
+    """Runs this command on the words that the process was called with."""
     commands.run("nearest", main)

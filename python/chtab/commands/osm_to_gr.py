@@ -4,12 +4,13 @@
 
 It writes
   OUT.gr     the graph: arcs in the order of the map's ways, weights rounded to the nearest whole number
-  OUT.co     the coordinates in the challenge's form: `v NODE X Y`, longitude and latitude times 1,000,000
-  OUT.nodes  a line for each node, in order: OpenStreetMap's number of it; nodes are numbered by that
-  OUT.bends  with --bends: the points of each arc between its ends, `b ARC X Y`; where there are none, an older file is taken away
-and tells on standard error how far it is, where it takes long, and in one table what was left out.
+  OUT.co     the coordinates, in the form of the DIMACS challenge: `v NODE X Y`, longitude and latitude times 1,000,000
+  OUT.nodes  line k has the number on OpenStreetMap's map of node k. Nodes are in the order of these numbers
+  OUT.bends  with --bends: the points of each arc between its ends, `b ARC X Y`. If no arc has any, an older file is removed
 
-docs/MAPS.md says what becomes a road, for whom and how fast. Lengths are those of great circles on a sphere of 6,371,008.8 m.
+Standard error has a table of what was left out. Before that, it says how far a long conversion is.
+
+docs/MAPS.md says what becomes a road, for whom and how fast. Lengths are those of great circles on a sphere with a radius of 6,371,008.8 m.
 
 Example:  tools/osm_to_gr.py liechtenstein.osm.bz2 roads
 """
@@ -32,22 +33,23 @@ def part_of(word):
 
 
 def words_of(words):
+    """The choices that the words of the command line make. Words that are refused end the process with status 2."""
     parser = commands.parser_of("osm_to_gr", __doc__)
-    parser.add_argument("--profile", choices=profiles.NAMES, default="car", help="who travels: their kinds of way, access tags, barriers and speeds (car)")
+    parser.add_argument("--profile", choices=profiles.NAMES, default="car", help="who travels, which decides on ways, access, barriers and speeds (car)")
     parser.add_argument("--metric", choices=UNITS, default="time", help="weights are milliseconds of travel, or metres (time)")
-    parser.add_argument("--turns", action="store_true", help="restrictions of turns hold: the graph has several nodes for the map's node of one")
+    parser.add_argument("--turns", action="store_true", help="no turn is taken that the map forbids: a crossing with such turns becomes several nodes")
     parser.add_argument(
         "--nodes", choices=("crossings", "all"), default="crossings",
-        help="a node is where ways meet or end, and an arc all of a way between two of them; or each bend of a road is a node (crossings)",
+        help="crossings: nodes are where ways meet or end, and an arc is a stretch of way between two of them; all: each bend is a node too (crossings)",
     )
     parser.add_argument(
         "--part", type=part_of, default="largest", metavar="{largest,all,N}",
-        help="keep the largest strongly connected part, where each node reaches each other one; or all; or the N-th by size (largest)",
+        help="keep the largest part whose nodes all reach each other, or all parts, or the N-th by size (largest)",
     )
     parser.add_argument("--no-ferries", action="store_false", dest="ferries", help="leave ferries out")
-    parser.add_argument("--bends", action="store_true", help="write OUT.bends, so that roads can be drawn as they lie")
-    parser.add_argument("--log", metavar="FILE", help="write a line of CSV for each object that was left out or passed over: its number and why")
-    parser.add_argument("--quiet", action="store_true", help="tell nothing on standard error")
+    parser.add_argument("--bends", action="store_true", help="write OUT.bends, to draw roads with their bends")
+    parser.add_argument("--log", metavar="FILE", help="write a line of CSV for each object that was left out or ignored: its number, and why")
+    parser.add_argument("--quiet", action="store_true", help="write nothing on standard error")
     parser.add_argument(
         "map", metavar="MAP",
         help="OpenStreetMap's XML, plain or packed (.gz, .bz2, .xz), or .osm.pbf (by Debian's package python3-pyosmium); - is standard input",
@@ -57,6 +59,7 @@ def words_of(words):
 
 
 def main(words):
+    """Makes the graph that the words ask for, and reports what was left out of the map."""
     words = words_of(words)
     choices = converting.Choices(**{name: getattr(words, name) for name in converting.Choices._fields})
     made, report = converting.convert(words.map, choices, not words.quiet, words.log is not None)
@@ -70,4 +73,5 @@ def main(words):
 
 
 def command():
+    """Runs this command on the words that the process was called with."""
     commands.run("osm_to_gr", main)

@@ -2,15 +2,16 @@
 
   page.py [OPTIONS] OUT
 
-The address is told on standard output, once the network was read and its hierarchy built or, with --saved, checked. Whoever reaches that
-address may ask. Roads are drawn from the graph, so that no other service is needed. Ctrl-C ends it.
-
-Example:  tools/page.py --places places.txt roads
+First the network is read, and its hierarchy is built or, with --saved, checked. Then standard output has the address. Everybody who reaches
+that address may ask. Roads are drawn from the graph, and no other service is needed. Ctrl-C ends it.
 
 It needs Debian's packages python3-aiohttp, python3-numpy, python3-scipy, python3-shapely and libjs-leaflet.
+
+Example:  tools/page.py --places places.txt roads
 """
 import argparse
 import logging
+import math
 import sys
 
 from chtab import commands, files
@@ -28,7 +29,15 @@ def port_of(word):
     return int(word)
 
 
+def processes_of(word):
+    """A number of processes from 1 to 64."""
+    if not word.isdecimal() or not 1 <= int(word) <= 64:
+        raise argparse.ArgumentTypeError(f"{word!r} is no number of processes from 1 to 64")
+    return int(word)
+
+
 def words_of(words):
+    """The choices that the words of the command line make. Words that are refused end the process with status 2."""
     parser = commands.parser_of("page", __doc__)
     parser.add_argument("--places", metavar="FILE", help="places with names, for labels: a longitude, a latitude and a name a line")
     parser.add_argument("--title", metavar="T", help="the title of the page (the name of OUT)")
@@ -41,62 +50,63 @@ def words_of(words):
         "--cors", action="append", default=[], metavar="ORIGIN",
         help="let pages of this site ask too, as 'https://example.org', or of any site: '*'; it may be given several times",
     )
-    parser.add_argument("--waiting", type=int, default=200, metavar="N", help="how many requests may wait (200); more are told that the service is busy")
-    for name, seconds in ("--timeout", 60), ("--sending", 30), ("--idle", 60):
+    parser.add_argument(
+        "--profile", default="", metavar="NAME",
+        help="what clients of OSRM's interface call the network, such as driving (the name that the graph was made for, such as car)",
+    )
+    parser.add_argument(
+        "--processes", type=processes_of, default=1, metavar="N", help="how many processes answer, 1 to 64 (1); each holds the network in memory"
+    )
+    parser.add_argument("--log", metavar="FILE", help="write a line for each request to the end of FILE; '-' is standard output")
+    parser.add_argument(
+        "--proxy", metavar="ADDRESS", help="the address of your proxy, such as 127.0.0.1; its header X-Forwarded-For names the client that asks"
+    )
+    parser.add_argument("--waiting", type=int, default=200, metavar="N", help="how many requests may wait (200); the service answers further ones that it is busy")
+    for name, seconds in ("--timeout", 60), ("--sending", 30), ("--idle", 60), ("--ending", 30):
         parser.add_argument(name, type=float, default=seconds, help=argparse.SUPPRESS)
     commands.add_runs(parser)
-    parser.add_argument("out", metavar="OUT", help="stands for OUT.gr, OUT.co and, where it is there, OUT.bends")
+    parser.add_argument("out", metavar="OUT", help="the network: OUT.gr, OUT.co and, if it exists, OUT.bends")
     return parser.parse_args(words)
 
 
-async def serve(network, words, places):
-    """Serves until a signal comes."""
-    import asyncio
-    import signal
-
-    from aiohttp import web
-
-    from chtab.connections import Connections
-    from chtab.service import LEAFLET, Limits, Service
-
-    if not LEAFLET.is_dir():
-        raise ChtabError("the page needs Debian's package libjs-leaflet")
-    title = words.title or words.out.rpartition("/")[2]
-    limits = Limits(waiting=words.waiting, sending=words.sending, idle=words.idle)
-    service, connections = Service(network, title, places, words.tiles, limits, words.cors), Connections(limits.idle)
-    runner = web.AppRunner(service.application([connections.middleware()]), access_log=None, keepalive_timeout=limits.idle)
-    await runner.setup()
-    loop, ended = asyncio.get_running_loop(), asyncio.Event()
-    server = await loop.create_server(connections.watched(runner.server), words.host, words.port, reuse_address=True)
-    closing = loop.create_task(connections.close_idle())
-    try:
-        for number in (signal.SIGINT, signal.SIGTERM):
-            loop.add_signal_handler(number, ended.set)
-        host, port = server.sockets[0].getsockname()[:2]
-        print(f"http://{f'[{host}]' if ':' in host else host}:{port}/", flush=True)
-        await ended.wait()
-    finally:
-        closing.cancel()
-        server.close()
-        network.close()
-        await runner.shutdown()
-        await runner.server.shutdown(5)
-        await runner.cleanup()
-
-
 def main(words):
+    """Serves the page that the words ask for, until a signal ends it."""
     import asyncio
 
+    from chtab.metrics import Metrics
     from chtab.network import Network
+    from chtab.recording import log_to
+    from chtab.requests import Limits
+    from chtab.service import LEAFLET, Service
+    from chtab.serving import Family, address_of, listener, serve
 
     words = words_of(words)
     logging.basicConfig(format="chtab-page: %(message)s")
+    if not LEAFLET.is_dir():
+        raise ChtabError("the page needs Debian's package libjs-leaflet")
+    if words.log:
+        log_to(words.log)
     places = list(files.read_places(words.places)) if words.places else []
+    title = words.title or words.out.rpartition("/")[2]
+    limits = Limits(waiting=words.waiting, sending=words.sending, idle=words.idle, ending=words.ending)
+    metrics = Metrics(words.processes)
     sys.setswitchinterval(TURN)
-    more = {"program": words.program, "workers": words.workers, "timeout": words.timeout}
+    more = {"program": words.program, "workers": words.workers, "timeout": words.timeout, "load": words.processes == 1}
     with Network.open(words.out + ".gr", words.saved, routes=True, **more) as network:
-        asyncio.run(serve(network, words, places))
+        def service(row):
+            network._engine.load(with_routes=True)
+            return Service(network, title, places, words.tiles, limits, words.cors, words.profile, words.proxy, metrics, row)
+
+        if words.processes == 1:
+            listening = listener(words.host, words.port, False)
+            asyncio.run(serve(service(0), listening, lambda: print(address_of(listening), flush=True)))
+        else:
+            # What is read before processes are forked is in memory once.
+            network.snap(0, 0, math.inf)
+            family = Family(words.processes, service, metrics, words.host, words.port)
+            family.run(lambda: print(address_of(family.listening), flush=True))
 
 
 def command():
+    """Runs this command on the words that the process was called with."""
     commands.run("chtab-page", main, needs=("aiohttp", "numpy", "scipy", "shapely"))

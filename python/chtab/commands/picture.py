@@ -4,15 +4,15 @@
   picture.py [OPTIONS] routes OUT [TEXT]
   picture.py [OPTIONS] reach OUT TARGETS.ss [TEXT]
 
-OUT stands for OUT.gr and OUT.co. TEXT is what chtab wrote (standard input where it isn't given). Words may stand in any order.
+OUT stands for OUT.gr and OUT.co. TEXT is what chtab wrote (standard input if you leave it out). Words may stand in any order.
   network  the roads alone
-  routes   the text of `chtab dist --routes`: each route in a colour of its own, a ring where it begins and a dot where it ends. Where
-           routes share a road, the later ones are drawn thin over the wide ones
-  reach    the text of `chtab table` with one source: which roads are reached, in bands of equal time. Roads are coloured from the
-           nodes of TARGETS.ss, which is a list of all nodes, as `nearest.py --all` writes it. Of more nodes than a run of chtab
-           takes, `blocks.py` makes the row, in OUT.csv, which is read in place of the text
+  routes   the text of `chtab dist --routes`. Each route has a colour, a ring where it begins and a dot where it ends. Where routes share
+           a road, the later ones are drawn thin over the wide ones
+  reach    the text of `chtab table` with one source. Roads are coloured by the weights of their nodes, in bands from 0 to the limit.
+           TARGETS.ss has to be a list of all nodes, as `nearest.py --all` writes it. If that is more than a run of chtab takes, let
+           `blocks.py` write the row as OUT.csv, and give that file for TEXT
 
-Weights are told in minutes or kilometres where a comment of OUT.gr says that they are milliseconds or metres.
+The picture has minutes or kilometres if a comment of OUT.gr says that weights are milliseconds or metres.
 
 Example:  ./chtab table --within 600000 roads.gr from.ss all.ss | tools/picture.py reach roads --limit 600000 all.ss > reach.svg
 """
@@ -25,15 +25,16 @@ FILES = {"network": (), "routes": ("TEXT",), "reach": ("TARGETS.ss", "TEXT")}
 
 
 def words_of(words):
+    """The choices that the words of the command line make. Words that are refused end the process with status 2."""
     parser = commands.parser_of("picture", __doc__)
     parser.add_argument("--size", type=int, default=800, metavar="P", help="pixels of the longer side of the map (800)")
-    parser.add_argument("--title", default="", metavar="T", help="a title")
-    parser.add_argument("--names", metavar="FILE", help="a list or queries that nearest.py wrote, or OUT.nodes: the legend has the names of nodes")
+    parser.add_argument("--title", default="", metavar="T", help="the title of the picture")
+    parser.add_argument("--names", metavar="FILE", help="name nodes in the legend by a list or queries that nearest.py wrote, or by OUT.nodes")
     parser.add_argument("--limit", type=int, metavar="R", help="how far reach goes, in the graph's unit (as far as the farthest target)")
-    parser.add_argument("--bands", type=int, default=5, metavar="B", help="bands of reach (5)")
+    parser.add_argument("--bands", type=int, default=5, metavar="B", help="how many bands of reach (5)")
     parser.add_argument("kind", choices=FILES, help="what is drawn")
     parser.add_argument("out", metavar="OUT", help="the network")
-    parser.add_argument("files", metavar="FILE", nargs="*", help="the files of this kind")
+    parser.add_argument("files", metavar="FILE", nargs="*", help="what the kind of picture needs, as above")
     words = parser.parse_intermixed_args(words)
     takes = FILES[words.kind]
     if not max(0, len(takes) - 1) <= len(words.files) <= len(takes):
@@ -55,6 +56,7 @@ def reach_of(words):
 
 
 def main(words):
+    """Writes the picture that the words ask for to standard output."""
     words = words_of(words)
     network = picture.Network(files.read_graph(words.out + ".gr"), files.read_coordinates(words.out + ".co"), words.size)
     names = files.read_names(words.names) if words.names else {}
@@ -68,4 +70,5 @@ def main(words):
 
 
 def command():
+    """Runs this command on the words that the process was called with."""
     commands.run("picture", main)

@@ -2,16 +2,16 @@
 
   reach.py --limits R[,R..] [OPTIONS] OUT [PLACE]
 
-The first line of PLACE has a longitude, a latitude and, where you like, a name. The place is taken to the nearest point of the nearest road.
+The first line of PLACE has a longitude, a latitude and, if you like, a name. The place is taken to the nearest point of the nearest road.
 The network may have any number of nodes.
 
-To standard output goes a MultiPolygon for each limit, the largest first, with the properties `limit` and `from`. A polygon is what lies
-within 90 metres of a stretch of road that is reached, or within a square of a grid where the squares are wider (a 320th of the whole). Of a
-graph with turns (tools/osm_to_gr.py --turns) the restrictions hold.
-
-Example:  echo "9.5209 47.1410 Vaduz" | tools/reach.py --limits 300000,600000 roads > reach.geojson
+Standard output has a MultiPolygon for each limit, the largest first, with the properties `limit` and `from`. A polygon ends 90 metres from
+the roads that are reached. It is made of squares, each a 320th as wide as all that is reached, and it ends one square from the roads if
+that is more. If the graph was made with turns (tools/osm_to_gr.py --turns), no forbidden turn is taken.
 
 It needs Debian's packages python3-numpy, python3-scipy and python3-shapely. From Python, `chtab.Network` does the same.
+
+Example:  echo "9.5209 47.1410 Vaduz" | tools/reach.py --limits 300000,600000 roads > reach.geojson
 """
 import argparse
 import itertools
@@ -30,14 +30,16 @@ def limits_of(word):
 
 
 def words_of(words):
+    """The choices that the words of the command line make. Words that are refused end the process with status 2."""
     parser = commands.parser_of("reach", __doc__)
     parser.add_argument("--limits", type=limits_of, required=True, metavar="R,R..", help="limits in the graph's unit, from 1 to 2^60")
     commands.add_network(parser)
-    parser.add_argument("place", metavar="PLACE", nargs="?", help="the place (standard input)")
+    parser.add_argument("place", metavar="PLACE", nargs="?", help="the file with the place (standard input)")
     return parser.parse_intermixed_args(words)
 
 
 def main(words):
+    """Writes the polygons that the words ask for to standard output."""
     words = words_of(words)
     places = list(itertools.islice(files.read_places(words.place or sys.stdin), 1))
     if not places:
@@ -52,4 +54,5 @@ def main(words):
 
 
 def command():
+    """Runs this command on the words that the process was called with."""
     commands.run("reach", main, needs=("numpy", "scipy", "shapely"))

@@ -3,11 +3,11 @@
   to_geojson.py [OPTIONS] routes OUT.co [TEXT]
   to_geojson.py [OPTIONS] table TARGETS.ss [TEXT]
 
-TEXT is what chtab wrote (standard input where it isn't given). The result goes to standard output.
-  routes  the text of `chtab dist --routes` to GeoJSON (RFC 7946): a line for each route, with the properties from, to, weight and arcs,
-          and from_name and to_name where they are known. A query without a walk has no line. A text without routes is refused
-  table   the text of `chtab table` to CSV: a row for each source, a column for each target in the order of TARGETS.ss, an empty
-          cell where there is no walk. A node is called by its name, where it is known, and else by its number
+TEXT is what chtab wrote (standard input if you leave it out). The result goes to standard output.
+  routes  turns the text of `chtab dist --routes` into GeoJSON (RFC 7946), with a line for each route. Its properties are from, to,
+          weight and arcs, and with names from_name and to_name. A query without a walk has no line. A text without routes is refused
+  table   turns the text of `chtab table` into CSV, with a row for each source, and a column for each target in the order of TARGETS.ss.
+          A cell is empty if there is no walk. Nodes have their names, if they have any, or else their numbers
 
 Example:  ./chtab dist --routes roads.gr trip.p2p | tools/to_geojson.py routes roads.co > trip.geojson
 """
@@ -17,9 +17,10 @@ from chtab import commands, files, geojson
 
 
 def words_of(words):
+    """The choices that the words of the command line make. Words that are refused end the process with status 2."""
     parser = commands.parser_of("to_geojson", __doc__)
     parser.add_argument(
-        "--names", metavar="FILE", help="the names of nodes: a list or queries that nearest.py wrote, or a file whose line k names node k, as OUT.nodes"
+        "--names", metavar="FILE", help="name nodes by a list or queries that nearest.py wrote, or by a file whose line k names node k, such as OUT.nodes"
     )
     parser.add_argument("kind", choices=("routes", "table"), help="what TEXT holds")
     parser.add_argument("file", metavar="FILE", help="OUT.co of routes, TARGETS.ss of a table")
@@ -28,6 +29,7 @@ def words_of(words):
 
 
 def write_table(path, names, text, out):
+    """Writes a table as CSV. `path` names the list of its targets, `names` has the names of nodes."""
     def called(node):
         return names.get(node, node)
 
@@ -37,6 +39,7 @@ def write_table(path, names, text, out):
 
 
 def main(words):
+    """Writes the text that the words name to standard output, as GeoJSON or CSV."""
     words = words_of(words)
     names = files.read_names(words.names) if words.names else {}
     text = words.text or sys.stdin
@@ -47,4 +50,5 @@ def main(words):
 
 
 def command():
+    """Runs this command on the words that the process was called with."""
     commands.run("to_geojson", main)

@@ -21,6 +21,7 @@ from chtab import commands, files, geojson
 
 
 def words_of(words):
+    """The choices that the words of the command line make. Words that are refused end the process with status 2."""
     parser = commands.parser_of("trips", __doc__)
     kinds = parser.add_mutually_exclusive_group()
     kinds.add_argument("--table", action="store_true", help="write CSV with a row and a column for each place")
@@ -41,6 +42,7 @@ def write_trips(places, spots, weights, out):
 
 
 def write_table(names, table, out):
+    """Writes a table of all places as CSV, by their names, with an empty cell where there is no way."""
     rows = ((name, [None if weight < 0 else weight for weight in row]) for name, row in zip(names, table.tolist()))
     files.write_csv(out, names, rows)
 
@@ -54,6 +56,7 @@ def write_lines(places, trips, out):
 
 
 def main(words):
+    """Writes the trips that the words ask for to standard output."""
     words = words_of(words)
     places = list(files.read_places(words.places or sys.stdin))
     if len(places) % 2 and not words.table:
@@ -69,4 +72,5 @@ def main(words):
 
 
 def command():
+    """Runs this command on the words that the process was called with."""
     commands.run("trips", main, needs=("numpy", "scipy"))

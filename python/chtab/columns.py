@@ -1,0 +1,210 @@
+"""Columns as callers give them: arrays, lists, and columns of frames. A value that is refused is a `DataFault`, which names its row.
+
+Nothing is guessed. A missing or masked value is refused, and so is a column of several kinds: numpy alone would take the label 1 beside the
+label "a" for the label "1".
+"""
+import contextlib
+import reprlib
+
+import numpy
+
+from chtab.errors import DataFault
+
+# The whole numbers of 64 bits, and the most bits of a label. Python itself does not write integers of many thousand digits.
+LEAST, GREATEST = -(2**63), 2**63 - 1
+MOST_BITS = 4_096
+INTEGERS, STRINGS = "integers", "strings"
+
+
+def told(value):
+    """A value as it stands in a message, cut short."""
+    is_long = isinstance(value, int) and value.bit_length() > MOST_BITS
+    return f"an integer of {value.bit_length():,} bits" if is_long else reprlib.repr(value)
+
+
+def refused(name, row, text):
+    """The fault of the value in a row of a column."""
+    return DataFault(f"{name}[{row}]: {text}", name, row)
+
+
+def first_of(marks):
+    """The first place where an array is true, None where it is nowhere."""
+    marks = numpy.reshape(marks, -1)
+    place = int(marks.argmax()) if marks.size else 0
+    return place if marks.size and marks[place] else None
+
+
+def array_of(name, column):
+    """The array of a column. A list becomes an array of objects, so that no value of it is made another."""
+    if isinstance(column, numpy.ma.MaskedArray):
+        see_that_there(name, numpy.ma.getmaskarray(column), "is masked")
+        column = column.data
+    elif hasattr(column, "isna"):
+        see_that_there(name, numpy.asarray(column.isna()), "is missing")
+    return numpy.asarray(column, None if hasattr(column, "__array__") else object)
+
+
+def see_that_there(name, marks, what):
+    """Refuses the first value of a column that is marked as missing."""
+    place = first_of(marks)
+    if place is not None:
+        raise refused(name, row_of(marks, place), f"the value {what}")
+
+
+def width_of(array):
+    """How many values of an array stand in a row."""
+    return int(numpy.prod(array.shape[1:]))
+
+
+def row_of(array, place):
+    """The row of an array in which its value of a place stands, in the order of its values."""
+    return place // width_of(array)
+
+
+def see_that_flat(name, array):
+    """Refuses an array that is no column."""
+    if array.ndim != 1:
+        raise DataFault(f"{name} has the shape {array.shape}, and not that of one column", name)
+
+
+def see_that_long(names, columns):
+    """Refuses columns that are not of one length."""
+    rows = len(columns[0])
+    for name, count in zip(names, map(len, columns)):
+        if count != rows:
+            short, row = (name, count) if count < rows else (names[0], rows)
+            raise DataFault(f"{names[0]} has {rows:,} rows and {name} has {count:,}: row {row} of {short} is missing", short, row)
+
+
+# Labels.
+
+
+def is_integer(kind):
+    return issubclass(kind, int | numpy.integer) and not issubclass(kind, bool)
+
+
+def kind_of(kind):
+    """The kind of labels that a type of values makes, None where it makes none."""
+    return STRINGS if issubclass(kind, str) else INTEGERS if is_integer(kind) else None
+
+
+def labels_in(name, column):
+    """The labels of a column, of any shape.
+
+    Returns
+    -------
+    array of int64 or object
+        Integers, as objects where one of them has more than 64 bits; or objects of `str`.
+
+    Raises
+    ------
+    DataFault
+        A value is neither an integer nor a string, such as 1.0 or NaN; or there are both. The first one is named.
+    """
+    array = array_of(name, column)
+    if array.size == 0:
+        return array.astype(numpy.int64)
+    if array.dtype.kind == "i" or array.dtype.kind == "u" and array.max() <= GREATEST:
+        return array.astype(numpy.int64)
+    if array.dtype.kind == "U":
+        return array.astype(object)
+    if array.dtype.kind != "O":
+        raise no_label(name, array)
+    values = array.reshape(-1).tolist()
+    types = see_that_labels(name, values, width_of(array))
+    if kind_of(next(iter(types))) == INTEGERS:
+        return integers_like(name, array, values)
+    return array if types == {str} else objects_like(array, map(str, values))
+
+
+def no_label(name, array):
+    """The fault of an array of another kind: of its first NaN, or else of its first value."""
+    place = first_of(numpy.isnan(array)) if array.dtype.kind == "f" else None
+    value = array.reshape(-1)[place or 0]
+    return refused(name, row_of(array, place or 0), f"{told(value)} is no label; a label is an integer or a string")
+
+
+def see_that_labels(name, values, width=1):
+    """The types of a list of labels, of which so many stand in a row. The first one that is no label, or of another kind, is a fault."""
+    types = set(map(type, values))
+    kinds = set(map(kind_of, types))
+    if len(kinds) < 2 and None not in kinds:
+        return types
+    first = kind_of(type(values[0]))
+    place = 0 if first is None else next(place for place, value in enumerate(values) if kind_of(type(value)) != first)
+    if kind_of(type(values[place])) is None:
+        raise refused(name, place // width, f"{told(values[place])} is no label; a label is an integer or a string")
+    raise refused(name, place // width, f"the label {told(values[place])} is not one of {first}, as those before it")
+
+
+def objects_like(array, values):
+    """An array of objects in the shape of another."""
+    made = numpy.empty(array.size, object)
+    made[:] = list(values)
+    return made.reshape(array.shape)
+
+
+def integers_like(name, array, values):
+    """Integers in the shape of an array: of int64 where all of them are. One of too many bits is a fault."""
+    try:
+        return numpy.array(values, numpy.int64).reshape(array.shape)
+    except OverflowError:
+        values = list(map(int, values))
+    place = next((place for place, value in enumerate(values) if value.bit_length() > MOST_BITS), None)
+    if place is not None:
+        raise refused(name, row_of(array, place), f"{told(values[place])} is no label; one has at most {MOST_BITS:,} bits")
+    return objects_like(array, values)
+
+
+# Numbers.
+
+
+def numbers_in(name, column):
+    """The numbers of a column: int64, or of the widest decimal numbers that the machine has.
+
+    Those of most machines hold each whole number of 64 bits, and the product of most decimal numbers and a thousand.
+    """
+    array = array_of(name, column)
+    see_that_flat(name, array)
+    if array.size == 0:
+        return array.astype(numpy.int64)
+    if array.dtype.kind == "O":
+        return numbers_of_objects(name, array.tolist())
+    if array.dtype.kind not in "iuf":
+        raise refused(name, 0, f"{told(array[0])} is neither an integer nor a float")
+    if array.dtype.kind == "f":
+        return array.astype(numpy.longdouble)
+    place = first_of(array > GREATEST) if array.dtype.kind == "u" else None
+    if place is not None:
+        raise refused(name, place, f"{array[place]} is too large")
+    return array.astype(numpy.int64)
+
+
+def numbers_of_objects(name, values):
+    """The same of a list."""
+    kinds = set(map(type, values))
+    if not all(map(is_number, kinds)):
+        place = next(place for place, value in enumerate(values) if not is_number(type(value)))
+        raise refused(name, place, "there is none" if values[place] is None else f"{told(values[place])} is neither an integer nor a float")
+    if kinds == {float}:
+        return numpy.array(values).astype(numpy.longdouble)
+    if all(map(is_integer, kinds)):
+        with contextlib.suppress(OverflowError):
+            return numpy.array(values, numpy.int64)
+    place = next((place for place, value in enumerate(values) if is_integer(type(value)) and not LEAST <= value <= GREATEST), None)
+    if place is not None:
+        raise refused(name, place, f"{told(values[place])} is {'too large' if values[place] > 0 else 'below 0'}")
+    return numpy.array([*map(numpy.longdouble, values)], numpy.longdouble)
+
+
+def is_number(kind):
+    return is_integer(kind) or issubclass(kind, float | numpy.floating)
+
+
+def degrees_in(name, column, most):
+    """Degrees from -`most` to `most`, float64."""
+    degrees = numbers_in(name, column).astype(float)
+    place = first_of(~(abs(degrees) <= most))
+    if place is not None:
+        raise refused(name, place, f"{degrees[place]:.12g} is not from -{most} to {most} degrees")
+    return degrees

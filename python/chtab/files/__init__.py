@@ -1,0 +1,36 @@
+"""The files of chtab: each kind is read and written here, and nowhere else. Nothing but Python's own library is needed.
+
+| file | what it holds | read | write |
+|---|---|---|---|
+| `.gr` | a graph: arcs in order | `read_graph` | `write_graph` |
+| `.co` | longitudes and latitudes of nodes, in millionths of a degree | `read_coordinates` | `write_coordinates` |
+| `.bends` | the points of each arc between its ends | `read_bends` | `write_bends` |
+| `.nodes` | a line for each node: its name, in OpenStreetMap or elsewhere | `read_names` | `write_names` |
+| `.p2p` | queries: pairs of nodes | `read_queries` | `write_queries` |
+| `.ss` | a list of nodes: sources or targets | `read_list` | `write_list` |
+| places | longitude, latitude and a name a line | `read_places` | |
+| text of `dist` | distances and routes | `read_answers` | |
+| `.json` | what the nodes of a network are called by its owner | `read_labels` | `write_labels` |
+| text of `table` | a row for each source | `read_rows`, `read_row_texts` | `write_csv`, `write_csv_of_texts`, `write_npy_of_texts` |
+
+Nodes are numbered from 1, arcs by their order from 0. Columns of numbers are `array.array`s, which numpy takes without a copy.
+What is read may be a path, an open file or lines; what is written a path or an open file. A `FileFault` names the file.
+"""
+from chtab.errors import FileFault
+from chtab.files.forms import whole
+from chtab.files.graphs import (
+    UNITS, Coordinates, Graph, count_nodes, read_bends, read_coordinates, read_graph, scale_comment, write_bends, write_coordinate_columns,
+    write_coordinates, write_graph, write_graph_columns,
+)
+from chtab.files.labels import Labelling, read_labels, write_labels
+from chtab.files.lists import Place, read_list, read_names, read_places, read_queries, write_list, write_names, write_queries
+from chtab.files.texts import (
+    Answer, read_answers, read_routes, read_row_texts, read_rows, write_csv, write_csv_of_texts, write_npy_of_texts,
+)
+
+__all__ = [
+    "UNITS", "Answer", "Coordinates", "FileFault", "Graph", "Labelling", "Place", "count_nodes", "read_answers", "read_bends", "read_coordinates",
+    "read_graph", "read_labels", "read_list", "read_names", "read_places", "read_queries", "read_routes", "read_row_texts", "read_rows",
+    "scale_comment", "whole", "write_bends", "write_coordinate_columns", "write_coordinates", "write_csv", "write_csv_of_texts", "write_graph",
+    "write_graph_columns", "write_labels", "write_list", "write_names", "write_npy_of_texts", "write_queries",
+]

@@ -1,0 +1,101 @@
+"""What the files of each kind have in common: paths and open files, columns of numbers, comments, and lines written many at once."""
+import array
+import contextlib
+import itertools
+import os
+
+from chtab.errors import FileFault
+
+# Lines that are formatted at once.
+ROWS_AT_ONCE = 1_000
+# Rows of columns that are made lists at once.
+COLUMNS_AT_ONCE = 1 << 16
+
+
+@contextlib.contextmanager
+def reading(source, mode="r"):
+    """The file of a path, opened, or an open file or lines as they are. Bytes that are no text are a fault of the file."""
+    with open(source, mode) if isinstance(source, (str, os.PathLike)) else contextlib.nullcontext(source) as file:
+        try:
+            yield file
+        except UnicodeDecodeError:
+            raise FileFault(f"{name_of(source)}: not a text") from None
+
+
+@contextlib.contextmanager
+def writing(target, mode="w"):
+    """An open file as it is, or the file of a path, made new."""
+    with contextlib.nullcontext(target) if hasattr(target, "write") else open(target, mode) as file:
+        yield file
+
+
+def name_of(source):
+    return str(getattr(source, "name", source))
+
+
+def columns(source, letter, count):
+    """The numbers of all lines of a letter, in as many columns; and the comments and problem lines, as words of bytes."""
+    heads = []
+
+    def items(file):
+        for number, line in enumerate(file, 1):
+            words = line.split()
+            if words[:1] == [letter]:
+                if len(words) != count + 1:
+                    raise FileFault(f"{name_of(source)} line {number}: not `{letter.decode()}` and {count} numbers")
+                yield from words[1:]
+            elif line[:1] in (b"c", b"p"):
+                heads.append(line)
+
+    with reading(source, "rb") as file:
+        try:
+            numbers = array.array("q", map(int, items(file)))
+        except OverflowError:
+            raise FileFault(f"{name_of(source)}: a number is too large") from None
+        except ValueError as fault:
+            raise fault if isinstance(fault, FileFault) else FileFault(f"{name_of(source)}: {fault}") from None
+    return [numbers[place::count] for place in range(count)], heads
+
+
+def comments_of(heads):
+    return [line[1:].strip().decode(errors="replace") for line in heads if line[:1] == b"c"]
+
+
+def write_comments(file, comments):
+    file.writelines(f"c {comment}\n" for comment in comments)
+
+
+def write_rows(file, form, rows):
+    """A line of this form for each row of numbers; many are formatted at once, which takes half of the time."""
+    rows = iter(rows)
+    while some := list(itertools.islice(rows, ROWS_AT_ONCE)):
+        file.write(form * len(some) % tuple(itertools.chain.from_iterable(some)))
+
+
+def write_columns(file, form, numbers):
+    """A line of this form for each row of columns, which are arrays of whole numbers. Parts of them become lists, one after the other."""
+    for start in range(0, len(numbers[0]), COLUMNS_AT_ONCE):
+        write_rows(file, form, zip(*(column[start:start + COLUMNS_AT_ONCE].tolist() for column in numbers)))
+
+
+@contextlib.contextmanager
+def whole(path):
+    """Gives a path beside this one, which takes its name once it was written without a fault, and else is gone.
+
+    Parameters
+    ----------
+    path : str
+        The name that the file gets.
+
+    Yields
+    ------
+    str
+        The path to write to, as long as the `with` lasts.
+    """
+    part = f"{path}.part-{os.getpid()}"
+    try:
+        yield part
+        os.replace(part, path)
+    finally:
+        with contextlib.suppress(FileNotFoundError):
+            os.unlink(part)

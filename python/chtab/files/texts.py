@@ -1,0 +1,236 @@
+"""What the program writes, distances, routes and tables, and the same as CSV and as an array of numpy."""
+import array
+import csv
+import itertools
+import struct
+import sys
+from typing import NamedTuple
+
+from chtab.errors import FileFault
+from chtab.files.forms import reading, writing
+
+
+class Answer(NamedTuple):
+    """What `dist` says of a query. `weight` is None where there is no walk; `nodes` of the route and the `weights` of its arcs are
+    None where there is none or the text has distances alone."""
+
+    source: int
+    target: int
+    weight: int | None
+    nodes: list | None
+    weights: list | None
+
+
+def number_of(cell):
+    return None if cell == "-" else int(cell)
+
+
+def read_answers(source):
+    """Reads the answers of a text of `chtab dist`, one at a time.
+
+    Parameters
+    ----------
+    source : path, open file or lines
+        What is read.
+
+    Yields
+    ------
+    Answer
+        The answer to the next query.
+
+    Raises
+    ------
+    FileFault
+        A route is cut short, or a line is another one.
+    """
+    with reading(source) as file:
+        lines = iter(file)
+        line = next(lines, "")
+        while line:
+            words = line.split()
+            if words[:1] != ["d"] or len(words) != 4:
+                raise FileFault(f"not a line of `chtab dist`: {line.strip()[:60]}")
+            answer = Answer(int(words[1]), int(words[2]), number_of(words[3]), None, None)
+            line = next(lines, "")
+            if line.startswith("r") and answer.weight is not None:
+                answer = with_route(answer, line, lines)
+                line = next(lines, "")
+            yield answer
+
+
+def with_route(answer, line, lines):
+    """The answer with its route, of which `line` is the first line."""
+    nodes, weights = [answer.source], []
+    words = line.split()
+    count = int(words[1]) if len(words) == 2 and words[1].isdigit() else -1
+    for arc in itertools.islice(lines, max(count, 0)):
+        words = arc.split()
+        if words[:1] != ["a"] or len(words) != 4 or int(words[1]) != nodes[-1]:
+            break
+        nodes.append(int(words[2]))
+        weights.append(int(words[3]))
+    if len(weights) != count or nodes[-1] != answer.target:
+        raise FileFault("the text is cut short, or is not what `chtab dist --routes` writes")
+    return answer._replace(nodes=nodes, weights=weights)
+
+
+def read_routes(source):
+    """Reads the answers of a text of `chtab dist --routes` that have a walk.
+
+    Parameters
+    ----------
+    source : path, open file or lines
+        What is read.
+
+    Yields
+    ------
+    Answer
+        The next answer, with its route.
+
+    Raises
+    ------
+    FileFault
+        The text has no routes, or is no such text.
+    """
+    count = 0
+    for answer in read_answers(source):
+        count += 1
+        if answer.weight is not None and answer.nodes is None:
+            raise FileFault("the text has no routes: `chtab dist` writes them with --routes")
+        if answer.nodes:
+            yield answer
+    if not count:
+        raise FileFault("the text is empty: there is no line of `chtab dist --routes`")
+
+
+def read_rows(source, width):
+    """Reads the rows of a text of `chtab table`, or of a table in CSV as `write_csv` writes it.
+
+    Parameters
+    ----------
+    source : path, open file or lines
+        What is read.
+    width : int
+        The number of targets.
+
+    Yields
+    ------
+    (int, list)
+        The next source and its cells, None where there is no walk.
+
+    Raises
+    ------
+    FileFault
+        A line is no row with so many targets.
+    """
+    with reading(source) as file:
+        first = next(file, "")
+        is_csv = first.startswith("source,")
+        for line in file if is_csv else itertools.chain([first], file):
+            words = ["t", *(cell or "-" for cell in line.strip("\n").split(","))] if is_csv else line.split()
+            if words[:1] != ["t"] or len(words) != 2 + width:
+                raise FileFault(f"not a row of `chtab table` with {width} targets: {line.strip()[:60]}")
+            yield int(words[1]), [number_of(cell) for cell in words[2:]]
+
+
+def write_csv(target, targets, rows):
+    """Writes a table as CSV: a row for each source, a column for each target.
+
+    Parameters
+    ----------
+    target : path or open file
+        Where it goes to.
+    targets : list of int
+        The targets, which stand in the first line.
+    rows : list of (int, list)
+        A source and its cells each; None makes an empty cell.
+
+    Raises
+    ------
+    OSError
+        The file can't be written.
+    """
+    with writing(target) as file:
+        lines = csv.writer(file, lineterminator="\n")
+        lines.writerow(["source", *targets])
+        lines.writerows([source, *("" if cell is None else cell for cell in cells)] for source, cells in rows)
+
+
+def read_row_texts(source, width):
+    """Reads the rows of a text of `chtab table` as they stand there, in a part of the time that their numbers take.
+
+    Parameters
+    ----------
+    source : path, open file or lines
+        What is read.
+    width : int
+        The number of targets.
+
+    Yields
+    ------
+    (bytes, bytes)
+        The next source and its cells, with a blank between two.
+
+    Raises
+    ------
+    FileFault
+        A line is no row with so many targets.
+    """
+    with reading(source, "rb") as file:
+        for line in file:
+            words = line.rstrip(b"\n").split(b" ", 2)
+            if words[0] != b"t" or line.count(b" ") != 1 + width:
+                raise FileFault(f"not a row of `chtab table` with {width} targets: {line[:60]}")
+            yield words[1], words[2]
+
+
+def write_csv_of_texts(target, targets, rows):
+    """Writes what `write_csv` writes, from rows of text.
+
+    Parameters
+    ----------
+    target : path or open file
+        Where it goes to.
+    targets : list of int
+        The targets.
+    rows : list of bytes
+        The source and the cells, with a blank between two, and `-` for none.
+
+    Raises
+    ------
+    OSError
+        The file can't be written.
+    """
+    with writing(target, "wb") as file:
+        file.write(",".join(["source", *map(str, targets)]).encode() + b"\n")
+        file.writelines(row.replace(b" ", b",").replace(b"-", b"") + b"\n" for row in rows)
+
+
+def write_npy_of_texts(target, height, width, rows):
+    """Writes a matrix of 64-bit numbers as numpy reads it, -1 for none, from such rows of text.
+
+    The form is that of numpy, version 1.0: its head is filled with blanks to a multiple of 64 bytes.
+
+    Parameters
+    ----------
+    target : path or open file
+        Where it goes to.
+    height, width : int
+        How many rows and columns there are.
+    rows : list of bytes
+        As `write_csv_of_texts` takes them.
+
+    Raises
+    ------
+    OSError
+        The file can't be written.
+    """
+    head = f"{{'descr': '<i8', 'fortran_order': False, 'shape': ({height}, {width}), }}"
+    head += " " * (-(len(head) + 11) % 64) + "\n"
+    with writing(target, "wb") as file:
+        file.write(b"\x93NUMPY\x01\x00" + struct.pack("<H", len(head)) + head.encode())
+        for row in rows:
+            numbers = array.array("q", map(int, row.replace(b"-", b"-1").split()[1:]))
+            if sys.byteorder == "big":
+                numbers.byteswap()
+            file.write(numbers.tobytes())

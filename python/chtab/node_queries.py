@@ -1,0 +1,60 @@
+"""Distances, tables and routes between nodes by their numbers, in arrays, over the runs of one engine."""
+import math
+
+import numpy
+
+from chtab import answers, blocks, engine
+from chtab.routes import NO_WALK
+from chtab.walks import together
+
+# The greatest distance, and so the greatest limit.
+MOST = 2**60
+
+
+class NodeQueries:
+    """What is asked of an engine between nodes from 1 on. Questions of any size are cut into those that a run takes at once."""
+
+    def __init__(self, runs):
+        self.runs = runs
+
+    def distances(self, pairs):
+        """The weights of pairs of nodes, an array (n, 2) of int64: int64 (n,), -1 where there is no walk."""
+        found, start = numpy.empty(len(pairs), numpy.int64), 0
+        while start < len(pairs):
+            end = start + self.runs.distances_together()
+            found[start:end] = self.runs.distances(pairs[start:end])
+            start = end
+        return found
+
+    def table(self, sources, targets, within=None):
+        """The weights from each node of one array to each of another, int64 (k, l), -1 where there is no walk, or none of at most `within`."""
+        if within is not None and not 0 <= within <= MOST:
+            raise ValueError("a limit is from 0 to 2^60")
+        table = numpy.empty((len(sources), len(targets)), numpy.int64)
+        for block in blocks.cut(sources.tolist(), targets.tolist()):
+            rows = answers.numbers(self.runs.table(block.sources, block.targets, shared_limit(within)), 1 + len(block.targets))
+            table[block.row:block.row + len(block.sources), block.column:block.column + len(block.targets)] = rows[:, 1:]
+        if within is not None:
+            table[table > within] = NO_WALK
+        return table
+
+    def routes(self, pairs):
+        """The routes of pairs of nodes, an array (n, 2) of int64, as a list of `files.Answer`."""
+        pairs, found = pairs.tolist(), []
+        for start in range(0, len(pairs), engine.FEW):
+            found += self.runs.routes(pairs[start:start + engine.FEW])
+        return found
+
+    def walks(self, pairs):
+        """The same in flat arrays, as `chtab.walks.Walks`."""
+        return together([self.runs.walks(pairs[start:start + engine.FEW]) for start in range(0, max(1, len(pairs)), engine.FEW)])
+
+    def small_tables(self, parts):
+        """The cells of several small tables in one column, int64, -1 where there is no walk. Each part is a list of sources and one of targets."""
+        cells = [self.runs.tables(parts[start:start + engine.FEW]) for start in range(0, len(parts), engine.FEW)]
+        return numpy.concatenate([numpy.zeros(0, numpy.int64), *cells])
+
+
+def shared_limit(within):
+    """The limit of the run that makes tables within this one: the next power of two. What lies between is left out afterwards."""
+    return None if within is None else 1 << max(math.ceil(within) - 1, 0).bit_length()
