@@ -1,10 +1,12 @@
 #!/usr/bin/python3
 """Tests that the documents name what exists: links and their anchors, files, commits, the calls and clauses that carry what is proved,
 the scripts of all figures, and the text of planted bugs. Tests that docs/REFERENCE.md has each option, limit, fault and status once, that
-lines and sentences are short, that there is one version, and that no file speaks of the machine that it was written on.
+lines and sentences are short, in the help of the tools too, that what users of Python see has docstrings, that there is one version, and
+that no file speaks of the machine that it was written on.
 
 It only reads files, and needs no built program. The last line is 'N passed, N failed'.
 """
+import ast
 import functools
 import re
 import subprocess
@@ -22,7 +24,10 @@ MOST_LINES_OF_README, MOST_LINES_OF_PARAGRAPH, MOST_COLUMNS, MOST_WORDS = 120, 5
 # What scripts write into a page, between two marks.
 WRITTEN = re.compile(r"<!-- What stands from here.*?<!-- End of what.*?-->", re.DOTALL)
 # Words that hide who does what, or that turn a sentence round.
-HARD = re.compile(r"\b(?:as ever|(?:by|for|from|in|of|on|over|through|to|with) which|(?:is|are) told|is there|are there|so that|whoever)\b|, since\b", re.IGNORECASE)
+HARD = re.compile(
+    r"\b(?:as ever|(?:by|for|from|in|of|on|over|through|to|with) which|(?:by|of|to) whom|of whose|(?:is|are|was|were|be|been|being) told|is there"
+    r"|are there|so that|whoever|hence|thus|thereby|signs? of life)\b|, (?:since|nor)\b", re.IGNORECASE,
+)
 # A name of a file or folder with a slash; one without, of what a document is about; and the suffixes of text.
 PATH = re.compile(r"[\w.-]+(?:/[\w.-]+)+/?|[\w-]+/")
 FILE = re.compile(r"[\w-]+\.(?:antt|c|cpp|md|py|rs|rt|sh|toml)")
@@ -229,6 +234,13 @@ def sentences(page):
         yield from re.split(r"(?<=[.?!])[*)]* (?=\[|\W*[A-Z\d])", words)
 
 
+def check_sentence(tally, path, sentence):
+    count = len(re.findall(r"\w[\w.,'-]*", sentence))
+    tally.expect(count <= MOST_WORDS, f"{told(path)}: {count} words: {sentence}")
+    found = HARD.search(sentence)
+    tally.expect(not found, f"{told(path)} has '{found and found[0]}': {sentence}")
+
+
 def check_prose(tally, page):
     """Lines, sentences and words of a page are those that a reader understands at once. Tables may have long lines."""
     for number, line in enumerate(by_hand(page).splitlines(), 1):
@@ -237,15 +249,24 @@ def check_prose(tally, page):
         count = len(paragraph.splitlines())
         tally.expect(count <= MOST_LINES_OF_PARAGRAPH, f"{told(page)}: {count} lines: {paragraph[:80]}")
     for sentence in sentences(page):
-        count = len(re.findall(r"\w[\w.,'-]*", sentence))
-        tally.expect(count <= MOST_WORDS, f"{told(page)}: {count} words: {sentence}")
-        found = HARD.search(sentence)
-        tally.expect(not found, f"{told(page)} has '{found and found[0]}': {sentence}")
+        check_sentence(tally, page, sentence)
+
+
+def check_help(tally, path):
+    """The sentences of a tool's help are as those of pages: its text, and what it says of each option and argument."""
+    tree = ast.parse(path.read_text())
+    asked = [node for node in ast.walk(tree) if isinstance(node, ast.keyword) and node.arg == "help" and isinstance(node.value, ast.Constant)]
+    texts = [ast.get_docstring(tree), *(node.value.value for node in asked)]
+    tally.expect(texts[0], f"{told(path)} has no text of help")
+    for block in filter(None, re.split(r"\n\n|\n  ", "\n\n".join(map(str, texts)))):
+        for sentence in re.split(r"(?<=[.?!:;]) ", " ".join(block.split())):
+            check_sentence(tally, path, sentence)
 
 
 # What docs/REFERENCE.md has once.
 
-COMMAND_LINE, FAULTS = ROOT / "crates/chtab/src/line/form.rt", ROOT / "crates/ch_run/specs/Fault.antt"
+COMMAND_LINE, FAULTS = ROOT / "crates/ch_words/src/form.rt", ROOT / "crates/ch_run/specs/Fault.antt"
+COMMANDS = ROOT / "python/chtab/commands"
 # The constants of limits with the rows that state them, and those that no user meets.
 LIMITS = (
     ("MOST_NODES", "nodes of a graph"), ("MOST_ARCS", "arcs of a graph"), ("MOST_WEIGHT", "number of nodes times the weight of any arc"),
@@ -306,11 +327,13 @@ def check_options(tally):
     for name, default in all_in(tally, COMMAND_LINE, r'\bnumber\(\s*alloc,\s*"(\w+)", "\w+", \w+, "(\d+)"'):
         found = [row[3] for row in rows("Options") if row[0].startswith(f"`--{name} ")]
         tally.expect(found == [default], f"REFERENCE.md: the default of --{name} is {default}, not {found}")
-    tools = "".join(path.read_text() for path in (ROOT / "python/chtab/commands").glob("*.py"))
-    names = {name for name, more in re.findall(r'add_argument\("--([\w-]+)"(.*)', tools) if "SUPPRESS" not in more}
+    tools = "".join(path.read_text() for path in COMMANDS.glob("*.py"))
+    names = {name for name, more in re.findall(r'add_argument\(\s*"--([\w-]+)"(.*)', tools) if "SUPPRESS" not in more}
     tally.expect(names, "documents.py finds no options of the tools")
     for name in names:
         expect_once(tally, f"the tools' option --{name}", [row for row in rows("Options of the tools") if re.match(rf"`--{name}\b(?!-)", row[1])])
+    for row in rows("Options of the tools")[1:]:
+        tally.expect(row[1].strip("`").split()[0].removeprefix("--") in names, f"REFERENCE.md has the option {row[1]}, which no tool has")
 
 
 def check_faults(tally):
@@ -319,16 +342,21 @@ def check_faults(tally):
         begins = f"`{text}line N" if name == "read_heading" or more else f"`{text}"
         expect_once(tally, f"the line {text}", [row for row in rows("What does a fault look like?") if row[0].startswith(begins)])
     for file, heading in ("ch_read/specs/Text.antt", "What does FAULT mean?"), ("ch_hierarchy/specs/FaultText.antt", "What does WORD mean?"):
-        for text in all_in(tally, ROOT / "crates" / file, r'^(?:kind|fault)_text \(?[A-Z].* = codes "([^"]*)"$'):
+        texts = all_in(tally, ROOT / "crates" / file, r'^(?:kind|fault)_text \(?[A-Z].* = codes "([^"]*)"$')
+        for text in texts:
             expect_once(tally, text, [row for row in rows(heading) if row[0] == f"`{text}`"])
+        for row in rows(heading)[1:]:
+            tally.expect(row[0].strip("`") in texts, f"REFERENCE.md has {row[0]}, which no file is refused for")
 
 
 def check_statuses(tally):
     """Each exit status of the program and of its script has one row."""
-    found = [*all_in(tally, FAULTS, r"^status_of .* = (\d+)$"), *all_in(tally, ROOT / "crates/chtab/specs/Line.antt", r"status_of .* = (\d+)$")]
+    found = [*all_in(tally, FAULTS, r"^status_of .* = (\d+)$"), *all_in(tally, ROOT / "crates/ch_words/specs/Line.antt", r"status_of .* = (\d+)$")]
     found += [*all_in(tally, ROOT / "chtab", r"^ +exit (\d+)$"), *all_in(tally, ROOT / "crates/chtab/src/program.rt", r"\bCLOSED_PIPE: u8 = (\d+)")]
     for status in sorted(set(found)):
         expect_once(tally, f"the status {status}", [row for row in rows("Exit statuses") if row[0] == status])
+    for row in rows("Exit statuses")[1:]:
+        tally.expect(row[0] in found, f"REFERENCE.md has the status {row[0]}, which nothing ends with")
 
 
 # Planted bugs, figures, and what no file has.
@@ -379,9 +407,35 @@ NOT_MEASURED = "Not measured yet"
 
 
 def check_versions(tally):
-    """The engine and the package have one version."""
+    """The engine, the Python package, the package that README names and the list of changes have one version."""
     version = re.search(r'^version = "(.*)"$', (ROOT / "python" / "pyproject.toml").read_text(), re.MULTILINE)[1]
     tally.expect((ROOT / "VERSION").read_text().startswith(f"chtab {version}\n"), f"VERSION and python/pyproject.toml, {version}, differ")
+    named = re.findall(r"\bchtab_([\d.]+)_", (ROOT / "README.md").read_text())
+    tally.expect(set(named) == {version}, f"README.md names packages of the versions {named}, not {version}")
+    changed = re.findall(r"^## \[([\d.]+)\] - \d{4}-\d\d-\d\d$", (ROOT / "CHANGELOG.md").read_text(), re.MULTILINE)
+    tally.expect(changed[:1] == [version], f"CHANGELOG.md begins with the version {changed[:1]}, not {version}")
+
+
+def public(body, above=""):
+    """The public functions and classes of a module with their methods, each with its name."""
+    for node in body:
+        if isinstance(node, (ast.FunctionDef, ast.AsyncFunctionDef, ast.ClassDef)) and not node.name.startswith("_"):
+            yield above + node.name, node
+            if isinstance(node, ast.ClassDef):
+                yield from public(node.body, f"{above}{node.name}.")
+
+
+def check_docstrings(tally):
+    """What users of the Python package see has docstrings: its modules, networks, errors, commands, and what `chtab.files` exports."""
+    package = ROOT / "python" / "chtab"
+    exported = set(re.findall(r'"(\w+)"', (package / "files" / "__init__.py").read_text()))
+    for path in sorted(package.glob("**/*.py")):
+        tree = ast.parse(path.read_text())
+        tally.expect(ast.get_docstring(tree), f"{told(path)} has no docstring")
+        for name, node in public(tree.body):
+            is_file = path.parent.name == "files" and name.split(".")[0] in exported
+            is_seen = is_file or path.parent == COMMANDS or path in (package / "errors.py", package / "network.py")
+            tally.expect(not is_seen or ast.get_docstring(node), f"{told(path)}: {name} has no docstring")
 
 
 def check_parts(tally):
@@ -423,6 +477,8 @@ def main():
         check_names(tally, page)
         check_commits(tally, page)
         check_prose(tally, page)
+    for path in sorted(COMMANDS.glob("*.py")):
+        check_help(tally, path)
     check_proved(tally)
     for edit in sorted([*ROOT.glob("crates/*/must-fail/*.edit"), *ROOT.glob("crates/*/planted/*.edit")]):
         check_edit(tally, edit)
@@ -433,6 +489,7 @@ def main():
     believe.check_page(tally)
     check_figures(tally)
     check_versions(tally)
+    check_docstrings(tally)
     check_parts(tally)
     check_layers(tally)
     for path in tracked():

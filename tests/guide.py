@@ -19,6 +19,8 @@ from helpers.running import ROOT, Count, build
 
 PAGES = ROOT / "README.md", ROOT / "docs" / "GUIDE.md", ROOT / "examples" / "README.md"
 PACKAGES = "python3-numpy", "python3-scipy", "python3-shapely"
+# Those of a section that imports one.
+OF_SECTIONS = {"pandas": "python3-pandas", "osmnx": "python3-osmnx"}
 PICTURES = "routes.svg", "reach.svg"
 # What the commands find in the folder that they are run in, beside the program.
 PLACES = "tools", "examples", "tests"
@@ -43,10 +45,19 @@ def needs_packages(command):
     return command.startswith(("tools/trips.py", "tools/reach.py"))
 
 
+def has_packages(section):
+    """Whether the packages are there that the Python of a section imports; those that are missing are told."""
+    lacking = missing(*(OF_SECTIONS[name] for name in re.findall(r">>> import (\w+)$", section, re.MULTILINE) if name in OF_SECTIONS))
+    if lacking:
+        print(f"left out: the Python of {section.splitlines()[0]} needs {', '.join(lacking)}")
+    return not lacking
+
+
 def run_python(tally, page, folder):
     """Runs the lines of Python of a page, all in one."""
     sys.path.insert(0, str(ROOT / "python"))
-    test = doctest.DocTestParser().get_doctest(page.read_text(), {}, page.name, str(page), 0)
+    text = "".join(section for section in re.split("(?m)^(?=## )", page.read_text()) if has_packages(section))
+    test = doctest.DocTestParser().get_doctest(text, {}, page.name, str(page), 0)
     told = io.StringIO()
     with contextlib.chdir(folder):
         found = doctest.DocTestRunner(verbose=False).run(test, out=told.write)

@@ -1,17 +1,23 @@
 #!/usr/bin/python3
-"""Tests the scripts `chtab` and `install`: through links, without the command rt, and what is installed below a prefix.
+"""Tests the scripts `chtab` and `install`, Debian's package and the wheel: through links, without the command rt, what is installed below a
+prefix, what the package puts into a root of its own and leaves there, and what pip puts into a new environment.
 
-The last line is 'N passed, N failed'.
+What needs a package that is missing, or a root of its own, is told and left out. The last line is 'N passed, N failed'.
 """
+import hashlib
 import os
 import re
 import shutil
 import subprocess
 import sys
+import sysconfig
 import tempfile
+import zipfile
 from pathlib import Path
 
-from helpers.running import ROOT, Count, build
+from helpers.packages import PYTHON, missing
+from helpers.rooting import a_root
+from helpers.running import PROGRAM, ROOT, Count, build
 
 FIRST = [ROOT / "examples" / "first.gr", ROOT / "examples" / "first.p2p"]
 FIRST_TEXT = "d 1 3 9\nd 3 1 -\n"
@@ -59,6 +65,51 @@ def check_without_rt(tally, folder):
     tally.expect(said(["checkout/chtab", "--version"], folder, SYSTEM) == (0, VERSION, ""), "the version, without rt and a program")
 
 
+# A stand-in for rt, which builds what `./chtab` asks it for, and says what a file beside the checkout has it say.
+RT = """#!/bin/sh
+crate=$(basename "$PWD")
+mkdir -p out/rlib
+[ "$1" != run ] || { printf '#!/bin/sh\\necho run "$@"\\n' >out/chtab && chmod +x out/chtab; }
+. "$SAYS"
+"""
+
+
+def check_verdicts(tally, folder):
+    """What rt says of each crate when it is built is kept beside what was built, and is as new as the last build that passed."""
+    checkout, says = folder / "proved", folder / "says"
+    for crate, head in ("low", "low:"), ("low_checks", "low_checks: low"), ("chtab", "chtab: low"):
+        for part in "src", "specs", "proofs":
+            (checkout / "crates" / crate / part).mkdir(parents=True)
+        with (checkout / "crates.txt").open("a") as layers:
+            layers.write(f"{head}\n")
+    for name in "chtab", "VERSION":
+        shutil.copy(ROOT / name, checkout)
+    (checkout / "HANDLES").write_text("Handles allowed: none.\n")
+    (folder / "bin").mkdir()
+    (folder / "bin" / "rt").write_text(RT)
+    (folder / "bin" / "rt").chmod(0o755)
+    source = checkout / "crates" / "low" / "src" / "lib.rt"
+    kept = [checkout / "crates" / crate / "out" / "verdict" for crate in ("low", "chtab")]
+
+    def built(saying):
+        says.write_text(saying)
+        source.touch()
+        return said(["proved/chtab", "one"], folder, f"{folder}/bin:{SYSTEM}", SAYS=str(says))
+
+    said_all = 'echo "logic=proved functions=1"; echo "logic=proved functions=2 crate=$crate"; echo more\n'
+    status, out, err = built(said_all)
+    tally.expect((status, out) == (0, "run one\n"), f"built by a stand-in for rt: {status} {out} {err}")
+    for saying in said_all, "exit 0\n":
+        status, _, err = built(saying)
+        lines = [path.read_text() if path.exists() else "" for path in kept]
+        tally.expect(status == 0 and lines == [f"logic=proved functions=2 crate={crate}\n" for crate in ("low", "chtab")], f"verdicts: {lines} {err}")
+        is_new = all(path.exists() and path.stat().st_mtime >= source.stat().st_mtime for path in kept)
+        tally.expect(is_new, f"verdicts older than what was built, of {saying}")
+    status, _, err = built("echo no proof; exit 1\n")
+    tally.expect(status == 70 and "no proof" in err, f"refused by a stand-in for rt: {status} {err}")
+    tally.expect(kept[0].stat().st_mtime < source.stat().st_mtime, "a refused crate has a verdict of its new source")
+
+
 def check_lines_of_the_kit(tally):
     """The kit's line is one in all places. Another kit will do that has the same logic, because the proofs rest on that alone."""
     line = VERSION.splitlines()[1]
@@ -99,6 +150,8 @@ def check_installed(tally, prefix, folder):
         tally.expect((status, err) == (0, "") and "usage:" in out.lower(), f"{name} --help: {status} {err}")
         check_page(tally, prefix, name, {f"\\fB{option}\\fR" for option in options_of([name], folder, path)} | {".SH SYNOPSIS"})
         tally.expect(out.startswith(f"Usage: {name} "), f"{name} is told by another name: {out[:60]}")
+    unit = prefix / "share" / "doc" / "chtab" / "chtab-page.service"
+    tally.expect(f"\nExecStart={prefix}/bin/chtab-page " in unit.read_text(), "the unit for systemd names another command than the installed one")
     check_page(tally, prefix, "chtab", tools | {"--help", "--version"})
     check_found(tally, prefix, folder)
 
@@ -114,6 +167,8 @@ def check_page(tally, prefix, name, words):
         for document in re.findall(r"/[^()\n]*\bdocs/\w+\.md", re.sub(r"\\[/,]|\\f[A-Z]", "", text)):
             tally.expect(Path(document).is_file(), f"the manual page of {name} names {document}, which is not installed")
         tally.expect("usage:" not in text.lower(), f"the manual page of {name} has a mangled usage")
+        for heading in "EXAMPLES", '"EXIT STATUS"', "FILES", '"SEE ALSO"':
+            tally.expect(text.count(f"\n.SH {heading}\n") == 1, f"the manual page of {name} has not one section {heading}")
 
 
 def check_found(tally, prefix, folder):
@@ -153,6 +208,155 @@ def check_install(tally, folder):
         tally.expect(said([ROOT / "install", *words], folder)[0] == 2, f"install {words} is not refused")
 
 
+# Debian's package.
+
+
+def crates_of_the_program():
+    """The crates that the program is made of: its own and all on which it stands."""
+    below = {name: words.split() for name, words in re.findall(r"^(\w+).*?:(.*)$", (ROOT / "crates.txt").read_text(), re.MULTILINE)}
+    found, waiting = set(), ["chtab"]
+    while waiting:
+        name = waiting.pop()
+        if name in below and name not in found:
+            found.add(name)
+            waiting += below[name]
+    return found
+
+
+def check_description(tally, package):
+    """What the package says of itself, and the lines of verdict that it has."""
+    fields = dict(re.findall(r"^ ?([A-Z][\w-]+): (.*)$", said(["dpkg-deb", "--field", package], package.parent)[1], re.MULTILINE))
+    version = VERSION.split()[1]
+    tally.expect((fields["Package"], fields["Version"]) == ("chtab", version), f"the package is {fields}")
+    tally.expect(package.name == f"chtab_{version}_{fields['Architecture']}.deb", f"the package's file is {package.name}")
+    needed = {name for name in re.findall(r"[\w-]+(?= |,|$)", fields["Depends"] + "," + fields["Recommends"]) if "-" in name or name == "python3"}
+    tally.expect({"python3", "python3-numpy", "python3-shapely", "libjs-leaflet"} <= needed, f"the package depends on {needed}")
+    known = said(["apt-cache", "show", "--no-all-versions", *sorted(needed)], package.parent)
+    tally.expect(known[0] == 0, f"a name of these is not Debian's: {sorted(needed)}")
+    listed = said(["dpkg-deb", "--contents", package], package.parent)[1].splitlines()
+    strange = [line for line in listed if " root/root " not in line or re.match(r".{5}w|.{8}w", line) and not line.startswith("l")]
+    tally.expect(listed and not strange, f"files of others in the package, or that others may write: {strange}")
+    text = subprocess.run(f'dpkg-deb --fsys-tarfile "{package}" | tar -xO ./usr/share/doc/chtab/verdicts', shell=True, capture_output=True, text=True).stdout
+    proved = re.findall(r"^(\w+): logic=proved functions=\d+ ", text, re.MULTILINE)
+    tally.expect(sorted(proved) == sorted(crates_of_the_program()), f"the package has verdicts of {proved}")
+    tally.expect(hashlib.sha256(PROGRAM.read_bytes()).hexdigest() in text, "the package names another program than the one that was built")
+
+
+def check_in_root(tally, root, package):
+    """The package is installed into a root of its own, runs there for a user without rights, and goes without a rest."""
+    for file in FIRST:
+        root.put(file, f"first/{file.name}")
+    root.put(package, "first/chtab.deb")
+    first = [f"/first/{file.name}" for file in FIRST]
+    before = root.changes()
+    for _ in range(2):
+        status, _, err = root.run(["dpkg", "--install", "/first/chtab.deb"])
+        tally.expect(status == 0, f"dpkg --install: {err}")
+    tally.expect(root.run(["chtab", "dist", *first], "nobody") == (0, FIRST_TEXT, ""), "the program of the package")
+    tally.expect(root.run(["chtab", "--version"], "nobody") == (0, VERSION, ""), "the version of the package")
+    listed = root.run(["dpkg", "--listfiles", "chtab"])[1].splitlines()
+    commands = [Path(path).name for path in listed if path.startswith("/usr/bin/")]
+    tally.expect(len(commands) == 1 + len(list((ROOT / "tools").glob("*.py"))), f"the package has the commands {commands}")
+    for name in commands:
+        tally.expect(f"/usr/share/man/man1/{name}.1.gz" in listed, f"the package has no manual page of {name}")
+        for user in "nobody", "root":
+            status, out, err = root.run([name, "--help"], user)
+            named = set(re.findall(r"/usr/share/doc/\S+\.md", out))
+            tally.expect((status, err) == (0, "") and named <= set(listed), f"{name} --help of {user}: {status} {err} {named}")
+    for path in "share/bash-completion/completions/chtab", "share/doc/chtab/copyright", "share/doc/chtab/chtab-page.service", "lib/python3/dist-packages/chtab/py.typed":
+        tally.expect(f"/usr/{path}" in listed, f"the package has no /usr/{path}")
+    text = f"import chtab; n = chtab.Network.open('{first[0]}'); print(n.distances([(1, 3)])[0], chtab.__file__)"
+    found = root.run(["/usr/bin/python3", "-c", text], "nobody")
+    tally.expect(found == (0, "9 /usr/lib/python3/dist-packages/chtab/__init__.py\n", ""), f"from Python: {found}")
+    text = "from chtab.program import program_of; print(program_of())"
+    found = root.run(["env", "PATH=/nowhere", "/usr/bin/python3", "-c", text], "nobody")
+    tally.expect(found == (0, "/usr/lib/chtab/chtab\n", ""), f"the program, where its folder is not on the path: {found}")
+    tally.expect(root.run(["dpkg", "--verify", "chtab"]) == (0, "", ""), "the files of the package are as they were made")
+    status, _, err = root.run(["dpkg", "--purge", "chtab"])
+    left = root.changes()
+    tally.expect((status, left) == (0, before), f"left after the package was removed: {sorted(set(left) ^ set(before))} {err}")
+
+
+def check_package(tally, folder):
+    """The package is made, and tried in a root of its own where that may be done."""
+    for words in ["--fast"], ["one", "two"]:
+        tally.expect(said([ROOT / "packaging" / "deb", *words], folder)[0] == 2, f"packaging/deb {words} is not refused")
+    status, out, err = said([ROOT / "packaging" / "deb", "none"], folder)
+    tally.expect((status, out) == (1, "") and "none" in err, f"packaging/deb into no folder: {status} {out} {err}")
+    lacking = [name for name in ("dpkg-deb", "rt") if not shutil.which(name)] + missing("help2man", "python3-numpy")
+    if lacking:
+        print(f"left out: Debian's package needs {', '.join(lacking)}")
+        return
+    status, out, err = said([ROOT / "packaging" / "deb", folder], folder)
+    tally.expect(status == 0 and Path(out.strip()).is_file(), f"packaging/deb: {status} {out} {err}")
+    if status == 0:
+        package = Path(out.strip())
+        check_description(tally, package)
+        (folder / "layers").mkdir()
+        with a_root(folder / "layers") as root:
+            if root:
+                check_in_root(tally, root, package)
+            else:
+                print("left out: installing Debian's package needs root, unshare, nsenter and overlays")
+
+
+# The wheel.
+
+
+def wheel_of(folder, name, has_program):
+    """A wheel that pip makes of a checkout that has the program or hasn't, and that a build before this one has used."""
+    checkout = folder / name
+    for part in "python", "packaging":
+        shutil.copytree(ROOT / part, checkout / part, ignore=shutil.ignore_patterns("build", "*.egg-info", "__pycache__"))
+    shutil.copy(ROOT / "VERSION", checkout)
+    stale = checkout / "python" / "build" / "lib" / "chtab" / "bin" / "program"
+    stale.parent.mkdir(parents=True)
+    stale.write_text("an older program")
+    if has_program:
+        (checkout / "crates" / "chtab" / "out").mkdir(parents=True)
+        shutil.copy(PROGRAM, checkout / "crates" / "chtab" / "out")
+    words = [PYTHON, "-m", "pip", "wheel", "--no-index", "--no-deps", "--no-input", "--disable-pip-version-check", "--wheel-dir", checkout]
+    done = said([*words, checkout / "python"], folder)
+    return next(checkout.glob("*.whl"), None), done
+
+
+def check_wheel(tally, folder):
+    """A wheel has the program where it was built. It is installed into a new environment off the path, runs there, and goes without a rest."""
+    lacking = missing("python3-numpy", "python3-pip", "python3-setuptools", "python3-venv", "python3-wheel")
+    if lacking:
+        print(f"left out: the wheel needs {', '.join(lacking)}")
+        return
+    plain, done = wheel_of(folder, "unbuilt", False)
+    names = zipfile.ZipFile(plain).namelist() if plain else []
+    tally.expect(plain and plain.name.endswith("-py3-none-any.whl"), f"a wheel without the program: {plain} {done}")
+    tally.expect(names and not [name for name in names if "/bin/" in name or "/scripts/" in name], f"what a wheel without the program has: {names}")
+    wheel, done = wheel_of(folder, "built", True)
+    platform = sysconfig.get_platform().replace("-", "_").replace(".", "_")
+    tally.expect(wheel and wheel.name == f"chtab-{VERSION.split()[1]}-py3-none-{platform}.whl", f"a wheel with the program: {wheel} {done}")
+    if wheel:
+        tally.expect(zipfile.ZipFile(wheel).read("chtab/bin/program") == PROGRAM.read_bytes(), "the program of the wheel is not the one that was built")
+        check_environment(tally, folder, wheel)
+
+
+def check_environment(tally, folder, wheel):
+    said([PYTHON, "-m", "venv", "--system-site-packages", "environment"], folder)
+    bin, pip = folder / "environment" / "bin", ["-m", "pip", "--no-input", "--disable-pip-version-check"]
+    before = sorted(bin.parent.glob("**/*"))
+    done = said([bin / "python", *pip, "install", "--no-index", wheel], folder)
+    tally.expect(done[0] == 0, f"pip install: {done}")
+    elsewhere = "/usr/bin:/bin"
+    tally.expect(said([bin / "chtab", "dist", *FIRST], "/", elsewhere) == (0, FIRST_TEXT, ""), "the program of the wheel")
+    tally.expect(said([bin / "chtab", "--version"], "/", elsewhere) == (0, VERSION, ""), "the version of the wheel")
+    found = said([bin / "chtab", "dist", "none.gr", "none.p2p"], "/", elsewhere)
+    tally.expect(found[0] == 3 and found[2].startswith("chtab: none.gr: there is no such file\n"), f"files that are not there: {found}")
+    text = f"import chtab, chtab.program; n = chtab.Network.open('{FIRST[0]}'); print(n.distances([(1, 3)])[0], chtab.program.program_of())"
+    found = said([bin / "python", "-c", text], "/", elsewhere)
+    tally.expect(found[0] == 0 and found[1].startswith("9 ") and found[1].endswith("chtab/bin/chtab\n"), f"from Python, by the wheel: {found}")
+    said([bin / "python", *pip, "uninstall", "--yes", "chtab"], folder)
+    left = sorted(set(bin.parent.glob("**/*")) - set(before))
+    tally.expect(not left, f"left after pip uninstall: {left}")
+
+
 def main():
     build()
     tally = Count()
@@ -160,8 +364,11 @@ def main():
         folder = Path(kept)
         check_links(tally, folder)
         check_without_rt(tally, folder)
+        check_verdicts(tally, folder)
         check_lines_of_the_kit(tally)
         check_install(tally, folder)
+        check_package(tally, folder)
+        check_wheel(tally, folder)
     tally.finish()
 
 

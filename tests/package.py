@@ -3,9 +3,11 @@
 
 What needs a package that is missing is told and left out. The last line is 'N passed, N failed'.
 """
+import inspect
 import os
 import pathlib
 import random
+import re
 import signal
 import subprocess
 import sys
@@ -25,6 +27,7 @@ from helpers.writing import write_graph
 import chtab
 from chtab import answers, blocks, files
 from chtab.progress import Progress
+from chtab.routes import Routes
 
 FIRST = ROOT / "examples" / "first.gr"
 VADUZ, MALBUN = (9.5209, 47.1410), (9.6079, 47.1020)
@@ -75,13 +78,30 @@ def what_is_told_of_the_package():
     import pydoc
 
     assert "Network" in dir(chtab) and set(chtab.__all__) <= set(dir(chtab))
-    wanted = "close coordinates distances frame graph isochrones nearest open reach roads routes snap table trip_routes trip_table trips unit"
+    wanted = "close coordinates distances frame from_arrays from_frame from_networkx graph isochrones labels nearest open reach roads rounding "
+    wanted += "routes scale snap table trip_routes trip_table trips unit"
     assert [name for name in dir(chtab.Network) if not name.startswith("_")] == wanted.split()
     text = pydoc.render_doc(chtab.Network)
     assert "Parameters" in text and "Raises" in text and "leave_parent" not in text, text
     with chtab.Network.open(FIRST, program=PROGRAM) as network:
         assert repr(network) == f"<chtab.Network {FIRST}: 3 nodes>" and repr(network.routes([(1, 3)])) == f"<1 routes on {FIRST}>"
     assert repr(network).endswith("3 nodes, closed>")
+
+
+def each_call_tells_what_it_takes_and_gives():
+    """The text of each call that users see has its parameters by name, with what it gives and what goes wrong, in the form of numpy."""
+    calls = [(name, getattr(files, name)) for name in files.__all__ if inspect.isfunction(getattr(files, name))]
+    calls += [(name, getattr(chtab.Network, name)) for name in dir(chtab.Network) if name[0] != "_"]
+    for name, call in [*calls, *((f"Routes.{name}", getattr(Routes, name)) for name in ("to_frame", "to_geojson"))]:
+        if isinstance(call, property):
+            assert call.fget.__doc__, name
+            continue
+        words = [word for word in inspect.signature(call).parameters if word not in ("self", "running", "more")]
+        text = inspect.getdoc(call)
+        parts = dict(re.findall(r"^(Parameters|Returns|Yields|Raises)\n-+\n(.*?)(?=\n\n\w|\Z)", text, re.MULTILINE | re.DOTALL))
+        told = [word for line in re.findall(r"^(\w.*?) :", parts.get("Parameters", ""), re.MULTILINE) for word in line.split(", ")]
+        assert told == words, (name, told, words)
+        assert name == "close" or {"Returns", "Yields", "Raises"} & {*parts}, name
 
 
 def random_graphs_answer_as_dijkstra():
@@ -224,23 +244,23 @@ def answers_are_matched_whole():
 
     pairs = numpy.array([[1, 3], [3, 1]])
     cases = (
-        (answers.distances(pairs, False), b"d 1 3 9\nd 3 1 -\n", (
+        (answers.Distances(pairs, False), b"d 1 3 9\nd 3 1 -\n", (
             b"", b"d 1 3 9\n", b"d 3 1 -\nd 1 3 9\n", b"d 1 3 9\nd 3 2 -\n", b"d 1 3 9\nd 3 1 x\n", b"d 1 3 9\nd 3 1 5-3\n",
             b"d 1 3 9\nd 3 1 -\nd 1 1 0\n", b"d 1 3 9 d 3 1 -\n", b"d 1 3 9\nd 3 1 " + b"9" * 20 + b"\n",
         )),
-        (answers.distances(pairs, True), b"d 1 3 9\nr 1\na 1 3 9\nd 3 1 -\n", (b"d 1 3 9\nd 3 1 -\n", b"d 1 3 9\nr 1\na 1 3 9\nt 3 1 -\n")),
-        (answers.table([1, 3], [2, 3]), b"t 1 4 9\nt 3 - 0\n", (
+        (answers.Distances(pairs, True), b"d 1 3 9\nr 1\na 1 3 9\nd 3 1 -\n", (b"d 1 3 9\nd 3 1 -\n", b"d 1 3 9\nr 1\na 1 3 9\nt 3 1 -\n")),
+        (answers.Table([1, 3], [2, 3]), b"t 1 4 9\nt 3 - 0\n", (
             b"t 1 4 9\n", b"t 3 - 0\nt 1 4 9\n", b"t 1 4\nt 3 - 0\n", b"t 1 4 9 9\nt 3 - 0\n", b"t 1 4 9\nt 31 - 0\n", b"t 1 4  9\nt 3 - 0\n",
             b"t 1 4 9-\nt 3 - 0\n", b"t 1 4 9\nt 3 - 0\nt 3 - 0\n", b"t 1 4 9\nt 3 - 0", b"t 1 4 9 t 3 - 0\n",
         )),
-        (answers.table([1], [2, 3], 8), b"t 1 4 -\n", (b"t 1 4 9\n", b"t 1 10 -\n")),
-        (answers.table([1], [2, 3], 9), b"t 1 4 9\n", (b"t 1 4 10\n",)),
+        (answers.Table([1], [2, 3], 8), b"t 1 4 -\n", (b"t 1 4 9\n", b"t 1 10 -\n")),
+        (answers.Table([1], [2, 3], 9), b"t 1 4 9\n", (b"t 1 4 10\n",)),
     )
     for question, right, others in cases:
         question.value_of(right)
         for text in others:
             raises(chtab.ProgramFault, question.value_of, text, told="not asked")
-    question = answers.routes([(1, 3), (3, 1)])
+    question = answers.Routes([(1, 3), (3, 1)])
     right = b"d 1 3 9\nr 2\na 1 2 4\na 2 3 5\nd 3 1 -\n"
     assert [each.nodes for each in question.value_of(right)] == [[1, 2, 3], None]
     for old, new in (
@@ -395,7 +415,7 @@ def installed(name, has_program):
     """The Python of a new environment in which pip installed the package, from a checkout that has the program or hasn't."""
     checkout = pathlib.Path(f"checkout-{name}")
     checkout.mkdir()
-    subprocess.run(["cp", "-r", str(ROOT / "python"), str(checkout / "python")], check=True)
+    subprocess.run(["cp", "-r", str(ROOT / "python"), str(ROOT / "packaging"), str(ROOT / "VERSION"), str(checkout)], check=True)
     if has_program:
         (checkout / "crates" / "chtab" / "out").mkdir(parents=True)
         subprocess.run(["cp", str(PROGRAM), str(checkout / "crates" / "chtab" / "out")], check=True)
@@ -434,7 +454,7 @@ GROUPS = (
         ("python3-numpy",),
         [
             random_graphs_answer_as_dijkstra, what_is_not_a_question_is_refused, a_program_that_fails_is_told_and_gone, one_run_answers_all,
-            what_is_told_of_the_package,
+            what_is_told_of_the_package, each_call_tells_what_it_takes_and_gives,
             more_runs_where_they_are_wanted, answers_are_matched_whole,
             closing_ends_what_is_under_way, what_is_longer_than_a_pipe_holds, threads_share_a_network,
         ],

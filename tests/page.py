@@ -142,7 +142,7 @@ def fifty_clients_for_a_minute():
 
 
 def a_full_queue_and_a_program_that_dies():
-    """Where too many wait some are told to come again, and none is lost; a program that died is begun anew."""
+    """Where too many wait some are told to come again, and none is lost; a program that died is begun anew and asked once more."""
     with faulty_service("slow=0.1", "--waiting", "4") as (_, address), concurrent.futures.ThreadPoolExecutor(20) as clients:
         found = list(clients.map(lambda _: ask(address, "/api/route", {"from": VADUZ, "to": ESCHEN}), range(20)))
         count = [status for status, _ in found].count(200)
@@ -150,7 +150,9 @@ def a_full_queue_and_a_program_that_dies():
         assert all(status == 200 or (status == 503 and "waiting" in value["error"]) for status, value in found), found
     with faulty_service("dies=9") as (_, address):
         found = [ask(address, "/api/table", {"sources": [VADUZ], "targets": [ESCHEN]})[0] for _ in range(30)]
-        assert set(found) == {200, 503} and found.count(503) <= 4, found
+        assert found == [200] * 30, found
+    with faulty_service("dies=1") as (_, address):
+        assert ask(address, "/api/table", {"sources": [VADUZ], "targets": [ESCHEN]})[0] == 503
     assert "Traceback" not in open("told").read()
 
 

@@ -115,7 +115,7 @@ def barriers():
 
     kinds = {kind for profile in ALL for kind in profile.barriers.open | profile.barriers.closed}
     others = [["closed", "open"][profile.barriers.others_open] for profile in ALL]
-    return table([*profiles.NAMES, "`barrier`"], [*grouped(kinds, answer), [*others, "all others, which are told"]])
+    return table([*profiles.NAMES, "`barrier`"], [*grouped(kinds, answer), [*others, "all others, which are reported"]])
 
 
 def everything():

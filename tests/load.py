@@ -1,0 +1,345 @@
+#!/usr/bin/python3
+"""Tests the service under load and as a process of the system: many clients while runs are killed, slow and half-open clients, an address that
+asks for more than its share, several processes behind one port, how it ends, what it counts and logs, and what stands before it: nginx and
+systemd.
+
+  load.py [SECONDS]
+
+Clients ask for SECONDS (10). What needs a package that is missing is told and left out. The last line is 'N passed, N failed'.
+"""
+import concurrent.futures
+import contextlib
+import http.client
+import json
+import os
+import pathlib
+import random
+import re
+import signal
+import socket
+import subprocess
+import sys
+import time
+import urllib.parse
+
+from helpers import running
+from helpers.moods import STANDIN, mood
+from helpers.packages import PYTHON, run_checks
+from helpers.running import PROGRAM, ROOT
+from helpers.serving import COUNTRY, SERVICE, ask, faulty_service, send, service
+
+sys.path.insert(0, str(ROOT / "python"))
+
+import chtab  # noqa: E402
+from chtab import files  # noqa: E402
+
+VADUZ, ESCHEN = [9.5209, 47.1410], [9.5450, 47.2200]
+ROUTE = "/route/v1/car/9.5209,47.1410;9.5450,47.2200"
+SECONDS = float(sys.argv[1]) if len(sys.argv) > 1 else 10.0
+CLIENTS = 50
+
+
+class Country:
+    """Places beside roads, with the weights and the metres of trips between them, by a network of its own."""
+
+    def __init__(self, count, seed):
+        draw = random.Random(seed)
+        with chtab.Network.open(f"{COUNTRY}.gr", program=PROGRAM) as network:
+            known = network.coordinates.known()
+            self.places = [[round(part + draw.gauss(0, 0.0004), 6) for part in network.coordinates.of(draw.choice(known))] for _ in range(count)]
+            spots = network.snap(*zip(*self.places))
+            self.weights = network.trip_table(spots, spots).tolist()
+
+    def text(self, *which):
+        return ";".join(f"{x:.6f},{y:.6f}" for x, y in (self.places[each] for each in which))
+
+
+def processes_below(number):
+    """The numbers of all processes below one."""
+    children = subprocess.run(["ps", "-o", "pid=", "--ppid", str(number)], capture_output=True, text=True).stdout.split()
+    return [each for child in map(int, children) for each in (child, *processes_below(child))]
+
+
+def runs_below(number):
+    """The runs of the program below a process."""
+    return [each for each in processes_below(number) if name_of(each) == "chtab"]
+
+
+def name_of(number):
+    with contextlib.suppress(OSError):
+        return pathlib.Path(f"/proc/{number}/comm").read_text().strip()
+
+
+def memory_of(numbers):
+    """Bytes that processes hold and share with none, so that what they share is not counted for each."""
+    total = 0
+    for number in numbers:
+        with contextlib.suppress(OSError):
+            text = pathlib.Path(f"/proc/{number}/smaps_rollup").read_text()
+            total += 1024 * sum(int(size) for size in re.findall(r"^Private_\w+:\s+(\d+) kB$", text, re.MULTILINE))
+    return total
+
+
+class Client:
+    """A client on a connection that is kept, and begun anew where the service closed it."""
+
+    def __init__(self, address, source=None):
+        self.address, self.source = address, source and (source, 0)
+        self.connection = None
+
+    def ask(self, path, body=None, headers=None):
+        if self.connection is None:
+            self.connection = http.client.HTTPConnection(self.address.hostname, self.address.port, timeout=60, source_address=self.source)
+        data = None if body is None else json.dumps(body).encode()
+        self.connection.request("GET" if body is None else "POST", path, data, headers or {})
+        answer = self.connection.getresponse()
+        value = json.loads(answer.read())
+        if answer.will_close:
+            self.close()
+        return answer.status, value
+
+    def close(self):
+        if self.connection is not None:
+            self.connection.close()
+            self.connection = None
+
+
+def one_question(client, country, draw):
+    """Asks a question of a kind that is drawn, and tells what is wrong with its answer; None where nothing is."""
+    k, l, m = (draw.randrange(len(country.places)) for _ in range(3))
+    wanted, kind = country.weights, draw.randrange(5)
+    if kind == 0:
+        status, value = client.ask("/api/route", {"from": country.places[k], "to": country.places[l]})
+        found, due = status == 200 and value["properties"]["weight"], wanted[k][l]
+    elif kind == 1:
+        status, value = client.ask(f"/table/v1/car/{country.text(k, l, m)}?annotations=duration,distance&sources=0;2&destinations=1")
+        found, due = status == 200 and [row[0] for row in value["durations"]], [wanted[k][l] / 1000, wanted[m][l] / 1000]
+    elif kind == 2:
+        status, value = client.ask(f"/nearest/v1/car/{country.text(k)}?number=2")
+        found, due = status == 200 and len(value["waypoints"]), 2
+    else:
+        query = "overview=false" if kind == 3 else "overview=full&geometries=geojson&steps=true&annotations=true"
+        status, value = client.ask(f"/route/v1/car/{country.text(k, l, m)}?{query}")
+        found = status == 200 and [leg["duration"] for leg in value["routes"][0]["legs"]]
+        due = [wanted[k][l] / 1000, wanted[l][m] / 1000]
+    return None if found == due else (kind, k, l, m, status, found or value, due)
+
+
+def work(address, country, seed, until):
+    """How many answers a client got, and those that were wrong."""
+    draw, client, count, wrong = random.Random(seed), Client(address), 0, []
+    while time.monotonic() < until:
+        fault = one_question(client, country, draw)
+        count += 1
+        if fault:
+            wrong.append(fault)
+    client.close()
+    return count, wrong
+
+
+@contextlib.contextmanager
+def idle_clients(address, count=20):
+    """Clients that send half a request and no more, and others that ask for much and read nothing."""
+    halves = [socket.create_connection((address.hostname, address.port)) for _ in range(count)]
+    for place, client in enumerate(halves):
+        request = f"GET {ROUTE}?overview=full&annotations=true HTTP/1.1\r\nHost: x\r\n\r\n".encode()
+        with contextlib.suppress(OSError):
+            client.sendall(request[:place] if place % 2 else request * 20)
+    try:
+        yield
+    finally:
+        for client in halves:
+            client.close()
+
+
+def fifty_clients_while_runs_are_killed(*words):
+    """No answer is wrong, none is lost, also while runs are killed twice, and memory is steady from half of the time on."""
+    country = Country(20, "load")
+    with service(COUNTRY, *words) as (child, address), idle_clients(address), concurrent.futures.ThreadPoolExecutor(CLIENTS) as clients:
+        until = time.monotonic() + SECONDS
+        working = [clients.submit(work, address, country, seed, until) for seed in range(CLIENTS)]
+        for _ in range(2):
+            time.sleep(SECONDS / 4)
+            runs = runs_below(child.pid)
+            assert runs
+            for number in runs:
+                os.kill(number, signal.SIGKILL)
+        held = memory_of(own := [child.pid, *processes_below(child.pid)])
+        found = [each.result() for each in working]
+        wrong = [fault for _, faults in found for fault in faults]
+        count = sum(count for count, _ in found)
+        assert not wrong and count > 5 * CLIENTS, (count, len(wrong), wrong[:3])
+        assert memory_of([child.pid, *processes_below(child.pid)]) < 1.1 * held + 16e6 * (1 + len(own) / 2), held
+
+
+def also_by_several_processes():
+    fifty_clients_while_runs_are_killed("--processes", "3")
+
+
+def an_address_takes_its_share():
+    """One address with many requests that take long keeps no other waiting; with a proxy it is the client that the proxy names."""
+    with faulty_service("slow=0.4", "--waiting", "12", "--proxy", "127.0.0.3") as (_, address):
+        def greedy(place):
+            return Client(address, "127.0.0.1").ask(f"/table/v1/car/{9.52 + place / 1000:.3f},47.1410;9.5450,47.2200")[0]
+
+        def proxied(place):
+            headers = {"X-Forwarded-For": f"10.0.0.9, 10.1.{place % 2}.1"}
+            return Client(address, "127.0.0.3").ask(ROUTE, headers=headers)[0]
+
+        with concurrent.futures.ThreadPoolExecutor(40) as clients:
+            asking = [clients.submit(greedy, place) for place in range(30)]
+            time.sleep(1)
+            for source in "127.0.0.2", "127.0.0.4":
+                begun = time.monotonic()
+                status, value = Client(address, source).ask(ROUTE)
+                assert status == 200 and time.monotonic() - begun < 4, (status, value, time.monotonic() - begun)
+            others = [clients.submit(proxied, place).result() for place in range(2)]
+            found = [each.result() for each in asking]
+            assert others == [200, 200] and set(found) == {200, 503} and found.count(200) >= 8, (others, found)
+
+
+def it_ends_once_it_has_answered():
+    """SIGTERM lets requests underway come to their answers, takes no more, and ends with status 0; so do several processes."""
+    for words in (), ("--processes", "2"):
+        with mood("slow=1.0"), service(COUNTRY, *words, program=STANDIN) as (child, address), concurrent.futures.ThreadPoolExecutor(8) as clients:
+            with socket.create_connection((address.hostname, address.port)):
+                waiting = [clients.submit(ask, address, f"{ROUTE}?overview=false") for _ in range(4)]
+                time.sleep(0.7)
+                child.send_signal(signal.SIGTERM)
+                begun = time.monotonic()
+                assert [each.result()[0] for each in waiting] == [200] * 4
+                assert child.wait(20) == 0 and time.monotonic() - begun < 15, words
+            assert open("told").read() == "", open("told").read()
+            with contextlib.suppress(ConnectionError):
+                ask(address, "/health")
+                raise AssertionError("it still answers")
+
+
+def processes_are_begun_anew():
+    """A process that is killed is replaced; those of a first process that is killed end; one network that is refused ends all with a line."""
+    with service(COUNTRY, "--processes", "2") as (child, address):
+        first, second = (number for number in processes_below(child.pid) if name_of(number) != "chtab")
+        os.kill(first, signal.SIGKILL)
+        until = time.monotonic() + 30
+        while (first in (below := processes_below(child.pid)) or len(below) < 4) and time.monotonic() < until:
+            time.sleep(0.1)
+        assert all(ask(address, f"{ROUTE}?overview=false")[0] == 200 for _ in range(10))
+        assert "is begun anew" in open("told").read()
+        below = processes_below(child.pid)
+        assert second in below and len(below) == 4, below
+        child.kill()
+        until = time.monotonic() + 20
+        while any(name_of(number) for number in below) and time.monotonic() < until:
+            time.sleep(0.1)
+        assert not any(name_of(number) for number in below)
+    pathlib.Path("none.ch").write_text("what?\n")
+    words = [PYTHON, ROOT / "tools" / "page.py", "--port", 0, "--processes", 2, "--program", PROGRAM, "--saved", "none.ch", COUNTRY]
+    done = subprocess.run(list(map(str, words)), capture_output=True, text=True, timeout=60)
+    assert done.returncode == 1 and "saved" in done.stderr and "Traceback" not in done.stderr and not done.stdout, done
+
+
+def requests_are_counted_and_logged():
+    """Metrics are text that Prometheus' own library reads, summed over processes; each request is a line of the log, and no line is two."""
+    from prometheus_client.parser import text_string_to_metric_families
+
+    with service(COUNTRY, "--processes", "2", "--log", "access.log") as (_, address):
+        for path in [f"{ROUTE}?overview=false"] * 6 + [f"{ROUTE}?steps=perhaps"] * 3 + ["/nothing", "/table/v1/car/9.5,47.1;9.6,47.2", "/health%0aforged"]:
+            send(address, path)
+        send(address, "/api/route", {"from": VADUZ, "to": ESCHEN})
+        _, headers, text = send(address, "/metrics")
+        found = {(one.name, *sorted(one.labels.items())): one.value for family in text_string_to_metric_families(text.decode()) for one in family.samples}
+        assert headers["Content-Type"].startswith("text/plain; version=0.0.4")
+
+        def count(service_name, status):
+            return found["chtab_requests_total", ("service", service_name), ("status", str(status))]
+
+        assert (count("route", 200), count("route", 400), count("table", 200), count("api", 200), count("page", 404)) == (6, 3, 1, 1, 2), found
+        assert found["chtab_request_seconds_count",] == 13 and 0 < found["chtab_request_seconds_sum",] < 60
+        assert 0 < found["chtab_request_seconds", ("quantile", "0.5")] <= found["chtab_request_seconds", ("quantile", "0.99")] < 10
+    lines = open("access.log").read().splitlines()
+    form = re.compile(r'\d{4}-\d\d-\d\dT\d\d:\d\d:\d\dZ 127\.0\.0\.1 "(GET|POST) \S+" \d{3} \d+ \d+\.\d')
+    assert len(lines) == 14 and all(map(form.fullmatch, lines)), lines
+    assert sum(f'"GET {ROUTE}?overview=false" 200' in line for line in lines) == 6 and sum("/health%0aforged" in line for line in lines) == 1
+
+
+def nginx_stands_before_it():
+    """The page of nginx passes on addresses as they came, tells the clients apart, and keeps the counts to itself."""
+    text = (ROOT / "packaging" / "nginx.conf").read_text()
+    subprocess.run(
+        ["openssl", "req", "-x509", "-newkey", "rsa:2048", "-nodes", "-keyout", "key.pem", "-out", "cert.pem", "-days", "2", "-subj", "/CN=routes.example.org"],
+        check=True, capture_output=True,
+    )
+    with socket.create_server(("127.0.0.1", 0)) as probe:
+        port = probe.getsockname()[1]
+    with service(COUNTRY, "--proxy", "127.0.0.1", "--log", "access.log") as (_, address):
+        here = os.getcwd()
+        for old, new in ("127.0.0.1:8080", f"127.0.0.1:{address.port}"), ("listen 443 ssl", f"listen 127.0.0.1:{port} ssl"), \
+                ("/etc/ssl/CERTIFICATE.pem", f"{here}/cert.pem"), ("/etc/ssl/KEY.pem", f"{here}/key.pem"):
+            assert old in text
+            text = text.replace(old, new)
+        pathlib.Path("site.conf").write_text(text)
+        pathlib.Path("nginx.conf").write_text(
+            f"daemon off; pid {here}/nginx.pid; error_log {here}/error.log;{' user root;' * (os.getuid() == 0)}\nevents {{}}\nhttp {{ access_log off; "
+            + "".join(f"{kind}_temp_path {here}/{kind}; " for kind in ("client_body", "proxy", "fastcgi", "uwsgi", "scgi")) + f"include {here}/site.conf; }}\n"
+        )
+        assert subprocess.run(["/usr/sbin/nginx", "-t", "-q", "-c", f"{here}/nginx.conf"]).returncode == 0
+        server = subprocess.Popen(["/usr/sbin/nginx", "-c", f"{here}/nginx.conf"])
+        try:
+            until = time.monotonic() + 20
+            while socket.socket().connect_ex(("127.0.0.1", port)) and time.monotonic() < until:
+                time.sleep(0.1)
+
+            def through(path, *words):
+                line = ["curl", "-sk", "--path-as-is", "-w", "\n%{http_code}", "--resolve", f"routes.example.org:{port}:127.0.0.1", *words]
+                done = subprocess.run([*line, f"https://routes.example.org:{port}{path}"], capture_output=True, text=True, check=True)
+                body, _, status = done.stdout.rpartition("\n")
+                return int(status), body
+
+            wanted = send(address, f"{ROUTE}?overview=full")[2].decode()
+            encoded = ROUTE.replace(";", "%3B").replace(",", "%2C")
+            assert through(f"{encoded}?overview=full", "-H", "X-Forwarded-For: 10.9.9.9") == (200, wanted)
+            many = ";".join(f"{VADUZ[0] + place / 100_000:.6f},{VADUZ[1]:.6f}" for place in range(500))
+            status, body = through(f"/route/v1/car/{many}?overview=false")
+            assert status == 200 and len(json.loads(body)["routes"][0]["legs"]) == 499
+            assert through("/metrics")[0] == 403 and through("/health")[0] == 200 and through("/")[0] == 200
+        finally:
+            server.terminate()
+            server.wait(20)
+        assert "10.9.9.9" not in open("access.log").read() and encoded in open("access.log").read()
+
+
+def the_unit_is_one_of_systemd():
+    """systemd finds nothing wrong with the unit, thinks it well kept apart, and its command is one that the tool knows."""
+    text = (ROOT / "packaging" / "chtab-page.service").read_text()
+    [command] = re.findall(r"^ExecStart=(.*)$", text, re.MULTILINE)
+    pathlib.Path("chtab-page.service").write_text(text.replace(command.split()[0], "/usr/bin/python3").replace("Documentation=man:chtab-page(1)\n", ""))
+    done = subprocess.run(["systemd-analyze", "verify", "./chtab-page.service"], capture_output=True, text=True)
+    assert done.returncode == 0 and "chtab-page" not in done.stderr, done
+    done = subprocess.run(["systemd-analyze", "security", "--offline=yes", "--threshold=30", "./chtab-page.service"], capture_output=True, text=True)
+    assert done.returncode == 0, done.stdout[-300:]
+    words = [COUNTRY if word == "/var/lib/chtab/roads" else "roads.ch" if word.endswith(".ch") else word for word in command.split()[1:]]
+    with open("roads.ch", "wb") as saved:
+        subprocess.run([PROGRAM, "save", "--deep", f"{COUNTRY}.gr"], check=True, stdout=saved)
+    line = [PYTHON, ROOT / "tools" / "page.py", "--port", 0, "--program", PROGRAM, *words]
+    child = subprocess.Popen(list(map(str, line)), stdout=subprocess.PIPE, text=True)
+    try:
+        address = urllib.parse.urlsplit(child.stdout.readline().strip())
+        assert ask(address, ROUTE)[0] == 200
+        assert f'"GET {ROUTE}" 200' in child.stdout.readline()
+    finally:
+        child.terminate()
+        assert child.wait(45) == 0
+
+
+GROUPS = (
+    (SERVICE, [
+        fifty_clients_while_runs_are_killed, also_by_several_processes, an_address_takes_its_share, it_ends_once_it_has_answered, processes_are_begun_anew,
+    ]),
+    ((*SERVICE, "python3-prometheus-client"), [requests_are_counted_and_logged]),
+    ((*SERVICE, "nginx", "openssl", "curl"), [nginx_stands_before_it]),
+    ((*SERVICE, "systemd"), [the_unit_is_one_of_systemd]),
+)
+
+if __name__ == "__main__":
+    running.build()
+    run_checks(GROUPS)
