@@ -11,7 +11,7 @@ const GRAPH: &[u8] = b"p sp 3 2\na 1 2 4\na 2 3 5\n";
 const SAVED: &[u8] = b"p ch 3 2\no 1\no 2\no 3\nl 1 2 4 1 0\nl 2 3 5 1 0\n";
 
 #[test]
-fn a_engine_and_one_that_shares_its_network_answer(rt: HostRuntime) -> Result<(), Fail> {
+fn an_engine_and_one_that_shares_its_network_answer(rt: HostRuntime) -> Result<(), Fail> {
     let alloc = rt.alloc();
     let opened = Engine::open(alloc, GRAPH, SAVED);
     assert!(rt; opened.is_ok());
@@ -32,12 +32,17 @@ fn a_engine_and_one_that_shares_its_network_answer(rt: HostRuntime) -> Result<()
     );
     assert_eq!(rt; cells, [4, NO_DISTANCE, 0, 5]);
     let answer = engine.route(alloc, 0, 2);
-    assert!(rt; matches!(answer, Ok(Some(route)) if route.weight == 9 && route.arcs.len() == 2));
+    assert!(rt; matches!(answer, Ok(Some(_))));
+    let Ok(Some(route)) = answer else {
+        return Ok(());
+    };
+    assert_eq!(rt; route.weight, 9);
+    assert_eq!(rt; route.arcs.len(), 2);
     Ok(())
 }
 
 #[test]
-fn a_engine_refuses(rt: HostRuntime) -> Result<(), Fail> {
+fn an_engine_refuses(rt: HostRuntime) -> Result<(), Fail> {
     let alloc = rt.alloc();
     let opened = Engine::open(alloc, GRAPH, SAVED);
     assert!(rt; opened.is_ok());

@@ -21,11 +21,10 @@ fn said_by<R: Threads + Sync>(
     alloc: Global,
     form: Form,
     text: &str,
-    workers: u32,
+    plan: &Plan,
     size: usize,
 ) -> Result<String, Fail> {
-    let plan = Plan::new(workers, 1, 64);
-    let crew = crew(rt, alloc, &plan, &Open);
+    let crew = crew(rt, alloc, plan, &Open);
     let error = match form {
         Form::Saved(nodes) => read_saved_in_sections(&crew, size, text.as_bytes(), nodes).err(),
         _ => read_graph_in_sections(&crew, size, text.as_bytes()).err(),
@@ -68,7 +67,8 @@ fn saved_hierarchies_are_the_same_in_sections(rt: HostRuntime) -> Result<(), Fai
     let text =
         b"p ch 3 3\no 2\nl 1 2 7 1 0\no 3\nc between the items\nl 2 3 8 1 0\nl 1 3 15 2 2\no 1";
     let whole = read_saved(alloc, text, 3)?;
-    assert_eq!(rt; whole.legs.as_slice()[2], leg(0, 2, 15, 2, Some(1)));
+    let last = leg(0, 2, 15, 2, Some(1));
+    assert_eq!(rt; whole.legs.as_slice().last(), Some(&last));
     for workers in WORKERS {
         for size in SIZES {
             let plan = Plan::new(workers, 1, 64);
@@ -153,8 +153,9 @@ fn faults_are_the_same_in_sections(rt: HostRuntime) -> Result<(), Fail> {
     ] {
         assert_eq!(rt; said(alloc, form, text)?.as_str(), expected, "{text}");
         for workers in WORKERS {
+            let plan = Plan::new(workers, 1, 64);
             for size in SIZES {
-                let told = said_by(&rt, alloc, form, text, workers, size)?;
+                let told = said_by(&rt, alloc, form, text, &plan, size)?;
                 assert_eq!(rt; told.as_str(), expected, "{text} {workers} {size}");
             }
         }
