@@ -299,7 +299,7 @@ def limits():
     values = {}
     for file in "ch_graph/src/limits.rt", "ch_work/src/limits.rt", "ch_run/src/options.rt":
         for name, value in re.findall(r"^pub const (\w+): \w+ = (.*);", (ROOT / "crates" / file).read_text(), re.MULTILINE):
-            values[name] = eval(value.replace("limits::", "").replace(" as u64", ""), {}, dict(values))
+            values[name] = eval(re.sub(r"limits::| as u\d+", "", value), {}, dict(values))
     return values
 
 

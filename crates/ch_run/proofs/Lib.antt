@@ -10,3 +10,5 @@ pub mod ReadBack
 pub mod Answered
 pub mod Served
 pub mod Counted
+pub mod Nears
+pub mod OneNearText

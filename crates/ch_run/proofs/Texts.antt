@@ -29,13 +29,13 @@ grown f items i d start before after within so_far more =
 pub all_grown : {X : Type 0} (f : X → List ℕ) (items : List X) (i : ℕ) (start text : List ℕ) → length items ≤ i → text ≡ start ++ flat_map f (take i items) → text ≡ start ++ flat_map f items
 all_grown f items i start text past so_far = so_far ∙ ap (λ xs. start ++ flat_map f xs) (take_all i items past)
 
--- one more row of a table is written
-pub row_grown : {X Y : Type 0} (f : X × Y → List ℕ) (xs : List X) (ys : List Y) (i : ℕ) (d : X) (e : Y) (before after : List ℕ) → i < length xs → length ys ≡ length xs →
-    before ≡ flat_map f (take i (zip xs ys)) → after ≡ before ++ f (get_or xs i d, get_or ys i e) → after ≡ flat_map f (take (i + 1) (zip xs ys))
-row_grown f xs ys i d e before after within same so_far more =
+-- one more row is written
+pub row_grown : {X Y : Type 0} (f : X × Y → List ℕ) (xs : List X) (ys : List Y) (i : ℕ) (d : X) (e : Y) (start before after : List ℕ) → i < length xs → length ys ≡ length xs →
+    before ≡ start ++ flat_map f (take i (zip xs ys)) → after ≡ before ++ f (get_or xs i d, get_or ys i e) → after ≡ start ++ flat_map f (take (i + 1) (zip xs ys))
+row_grown f xs ys i d e start before after within same so_far more =
     let inside : i < length ys = omega arith in
     let long : i < length (zip xs ys) = let l = length-zip xs ys in omega arith in
-    grown f (zip xs ys) i (d, e) [] before after long so_far (more ∙ ap (λ p. before ++ f p) (sym (get_or-zip xs ys i (d, e) within inside)))
+    grown f (zip xs ys) i (d, e) start before after long so_far (more ∙ ap (λ p. before ++ f p) (sym (get_or-zip xs ys i (d, e) within inside)))
 
 -- all rows are written
 pub rows_grown : {X Y : Type 0} (f : X × Y → List ℕ) (xs : List X) (ys : List Y) (i : ℕ) (text : List ℕ) → length xs ≤ i → text ≡ flat_map f (take i (zip xs ys)) → text ≡ flat_map f (zip xs ys)

@@ -1,7 +1,6 @@
 -- What the program says of a fault.
 use Rattle.std.specs.Prelude.{ℕ, ◌++◌, List, codes, decimal}
 use Rattle.ch_hierarchy.specs.FaultText.{fault_text as check_fault_text}
-use Rattle.ch_read.specs.declared.fault.ReadFault.{ReadFault}
 use Rattle.ch_read.specs.declared.fault.ReadError.{ReadError}
 use Rattle.ch_read.specs.declared.fault.ReadError.TheVariants.{Fault, NoMemory}
 use Rattle.ch_read.specs.Text.{fault_text as read_fault_text}

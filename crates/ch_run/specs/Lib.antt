@@ -10,3 +10,7 @@ pub mod TextLaws
 pub mod Text
 pub mod Ask
 pub mod Serving
+pub mod NearText
+pub mod NearTextLaws
+pub mod NearRun
+pub mod NearRows

@@ -1,4 +1,5 @@
 //! Laws of texts, each the contract of a function that does nothing.
+ghost use Rattle.ch_run.specs.NearTextLaws.{AllNearRowsHaveOneText, NearRowsHaveOneText, SavedAllNearRowsAreThoseOfTheGraph, SavedNearRowsAreThoseOfTheGraph};
 ghost use Rattle.ch_run.specs.SavedTextLaws.{HierarchiesHaveOneText, HierarchyTextsReadBack, SavedAnswersHaveOneText, SavedTablesHaveOneText, SavedTextsReadBack};
 ghost use Rattle.ch_run.specs.TextLaws.{AnswersHaveOneText, TablesHaveOneText};
 
@@ -15,6 +16,15 @@ pub fn one_saved_text()
     ensures answers { SavedAnswersHaveOneText }
     ensures tables { SavedTablesHaveOneText }
     ensures hierarchies { HierarchiesHaveOneText }
+{}
+
+/// They name one text of near rows, of a list of sources and of all nodes. What they name by a saved hierarchy, of any origin, is
+/// that text.
+pub fn one_near_text()
+    ensures rows { NearRowsHaveOneText }
+    ensures all { AllNearRowsHaveOneText }
+    ensures saved { SavedNearRowsAreThoseOfTheGraph }
+    ensures saved_all { SavedAllNearRowsAreThoseOfTheGraph }
 {}
 
 /// The text of a hierarchy, of any origin, that is right for a graph names that hierarchy again, so it is accepted;

@@ -3,7 +3,8 @@ ghost use Rattle.ch_contract.specs.Legs.{IsHopBound};
 
 use ch_run::{
     Crew, MemoryInput, MemoryOutput, Open, Options, Plan, RunFault, run_ask, run_ask_saved,
-    run_dist, run_dist_saved, run_save, run_table, run_table_saved,
+    run_dist, run_dist_saved, run_near, run_near_all, run_near_all_saved, run_near_saved, run_save,
+    run_table, run_table_saved,
 };
 use std::alloc::{AllocError, Global};
 use std::thread::Threads;
@@ -14,6 +15,8 @@ pub enum Asked<'a> {
     Hierarchy,
     Answers(&'a [u8]),
     Table(&'a [u8], &'a [u8]),
+    Near(&'a [u8], &'a [u8]),
+    NearAll(&'a [u8]),
     Requests(&'a [u8]),
 }
 
@@ -61,6 +64,14 @@ pub(crate) fn run<R: Threads + Sync>(
         (Asked::Table(sources, targets), None) => ended!(run_table, graph, sources, targets),
         (Asked::Table(sources, targets), Some(saved)) => {
             ended!(run_table_saved, graph, saved, sources, targets)
+        }
+        (Asked::Near(sources, targets), None) => ended!(run_near, graph, sources, targets),
+        (Asked::Near(sources, targets), Some(saved)) => {
+            ended!(run_near_saved, graph, saved, sources, targets)
+        }
+        (Asked::NearAll(targets), None) => ended!(run_near_all, graph, targets),
+        (Asked::NearAll(targets), Some(saved)) => {
+            ended!(run_near_all_saved, graph, saved, targets)
         }
         (Asked::Requests(requests), None) => ended!(run_ask, graph, requests),
         (Asked::Requests(requests), Some(saved)) => ended!(run_ask_saved, graph, saved, requests),

@@ -14,6 +14,8 @@ mod files;
 #[cfg(test)]
 mod lines;
 #[cfg(test)]
+mod near;
+#[cfg(test)]
 mod runs;
 #[cfg(test)]
 mod workers;

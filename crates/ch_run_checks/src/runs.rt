@@ -1,7 +1,7 @@
 //! Each kind of run: by any plan, and with each request for memory refused.
 
 use crate::files::{Asked, Files, run};
-use ch_run::{Options, OrderBy, Plan, RunFault};
+use ch_run::{Direction, Options, OrderBy, Plan, RunFault};
 use std::alloc::AllocError;
 use std::test::Fail;
 
@@ -11,6 +11,8 @@ pub const BY_HIERARCHY: Options = Options {
     hops: 5,
     order: OrderBy::Difference,
     within: None,
+    count: None,
+    direction: Direction::To,
 };
 
 pub const PLAIN: Options = Options {
@@ -32,12 +34,22 @@ pub const TARGETS: &[u8] = b"p aux sp ss 2\ns 3\ns 2\n";
 
 const TABLE: &[u8] = b"t 1 9 4\nt 1 9 4\nt 3 0 -\n";
 
+/// The targets that are near each node of the line.
+const NEAR_EACH: &[u8] = b"n 1 2 2 4 3 9\nn 2 2 2 0 3 5\nn 3 1 3 0\n";
+
 /// Four nodes, each of the others tied to the first, a query between two of these, and its answer with its route.
 pub const STAR: &[u8] = b"p sp 4 6\na 1 2 1\na 2 1 1\na 1 3 1\na 3 1 1\na 1 4 1\na 4 1 1\n";
 
 pub const ACROSS: &[u8] = b"p aux sp p2p 1\nq 3 4\n";
 
 const STAR_ROUTE: &[u8] = b"d 3 4 2\nr 2\na 3 1 1\na 1 4 1\n";
+
+/// A source and targets on the star, one of them twice, and the row of the source. It is one of four nodes, so it is searched from.
+const END: &[u8] = b"p aux sp ss 1\ns 3\n";
+
+const TWICE: &[u8] = b"p aux sp ss 3\ns 4\ns 1\ns 4\n";
+
+const NEAR_END: &[u8] = b"n 3 3 1 1 4 2 4 2\n";
 
 /// The hierarchies of these two graphs.
 pub const LINE_SAVED: &[u8] = b"p ch 3 2\no 1\no 2\no 3\nl 1 2 4 1 0\nl 2 3 5 1 0\n";
@@ -51,7 +63,7 @@ const TABLE_ASKED: &[u8] = b"t 3 2\ns 1\ns 1\ns 3\ns 3\ns 2";
 const QUERY_ASKED: &[u8] = b"q 3 4";
 
 /// Runs of each kind, with routes, and their texts. Each of those over requests has one answer, which is whole at the end.
-const EACH_RUN: [(Files<'static>, &[u8]); 7] = [
+const EACH_RUN: [(Files<'static>, &[u8]); 11] = [
     (
         Files {
             graph: STAR,
@@ -91,6 +103,38 @@ const EACH_RUN: [(Files<'static>, &[u8]); 7] = [
             asked: Asked::Table(SOURCES, TARGETS),
         },
         TABLE,
+    ),
+    (
+        Files {
+            graph: STAR,
+            saved: None,
+            asked: Asked::Near(END, TWICE),
+        },
+        NEAR_END,
+    ),
+    (
+        Files {
+            graph: LINE,
+            saved: None,
+            asked: Asked::NearAll(TARGETS),
+        },
+        NEAR_EACH,
+    ),
+    (
+        Files {
+            graph: STAR,
+            saved: Some(STAR_SAVED),
+            asked: Asked::Near(END, TWICE),
+        },
+        NEAR_END,
+    ),
+    (
+        Files {
+            graph: LINE,
+            saved: Some(LINE_SAVED),
+            asked: Asked::NearAll(TARGETS),
+        },
+        NEAR_EACH,
     ),
     (
         Files {

@@ -65,7 +65,7 @@ pub fn run_ask<R: Threads + Sync, I: Input, J: Input, O: Output, G: Gate>(
     ensures output_once { CountsAtMostOneOf (O.failed output.old) (O.failed output.new) (O.idle output.old) (O.idle output.new) }
 {
     crew.gate.watch(Stage::Reading, 0, 1);
-    let graph = graph_from(crew.alloc, graph)?;
+    let graph = graph_from(crew, graph)?;
     let order = order_for(options);
     let hierarchy = build_by(crew, &graph, options.hops, order)?;
     let checked = Checked { graph, hierarchy };

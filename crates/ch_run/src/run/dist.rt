@@ -69,7 +69,7 @@ pub fn run_dist<R: Threads + Sync, I: Input, J: Input, O: Output, G: Gate>(
         ⊎ (IfErr result IsWrite × AcceptsQueries (reading I.left graph.old graph.new) (reading J.left queries.old queries.new)) }
 {
     crew.gate.watch(Stage::Reading, 0, 1);
-    let graph = graph_from(crew.alloc, graph)?;
+    let graph = graph_from(crew, graph)?;
     let queries = queries_from(crew.alloc, queries, &graph)?;
     let text = text_of(crew, graph, &queries, options)?;
     write_text(output, &text)

@@ -8,12 +8,17 @@ ghost use Rattle.ch_query.specs.Answers.{AreQueries};
 
 use crate::device::{Input, ReadAllFault, read_all};
 use crate::fault::{RunFault, Which};
+use crate::plan::{Crew, Gate};
 use ch_graph::Graph;
-use ch_read::{read_graph, read_nodes, read_queries};
+use ch_read::{read_graph_by, read_nodes, read_queries};
 use std::alloc::Global;
+use std::thread::Threads;
 
-/// Reads an input to its end, as a graph.
-pub(crate) fn graph_from<I: Input>(alloc: Global, input: &mut I) -> Result<Graph, RunFault>
+/// Reads an input to its end, as a graph. All workers read its bytes.
+pub(crate) fn graph_from<R: Threads + Sync, I: Input, G: Gate>(
+    crew: &Crew<'_, R, G>,
+    input: &mut I,
+) -> Result<Graph, RunFault>
     requires { CanCountOneMore (I.failed input.old) }
     ensures value { IfOk result (ReadsGraph (reading I.left input.old input.new)) }
     ensures refused { (fault : FaultAt) → result ≡ Err (RunFault.Read Which.Graph fault) → IsGraphRefused (reading I.left input.old input.new) fault }
@@ -21,8 +26,8 @@ pub(crate) fn graph_from<I: Input>(alloc: Global, input: &mut I) -> Result<Graph
     ensures once { CountsAtMostOne (I.failed input.old) (I.failed input.new) }
     ensures of_input { IfErr result (IsOf Which.Graph) }
 {
-    let bytes = bytes_from(alloc, input, Which::Graph)?;
-    match read_graph(alloc, &bytes) {
+    let bytes = bytes_from(crew.alloc, input, Which::Graph)?;
+    match read_graph_by(crew, &bytes) {
         Ok(graph) => Ok(graph),
         Err(error) => Err(Which::Graph.refusal(error)),
     }

@@ -57,7 +57,7 @@ pub fn run_save<R: Threads + Sync, I: Input, O: Output, G: Gate>(
         ⊎ (IfErr result IsWrite × AcceptsGraph (reading I.left graph.old graph.new)) }
 {
     crew.gate.watch(Stage::Reading, 0, 1);
-    let graph = graph_from(crew.alloc, graph)?;
+    let graph = graph_from(crew, graph)?;
     let hierarchy = build_by(crew, &graph, options.hops, options.order)?;
     drop(graph);
     let text = save_text(crew.alloc, &hierarchy)?;

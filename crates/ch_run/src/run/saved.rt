@@ -14,8 +14,7 @@ use crate::plan::{Crew, Gate, Stage};
 use ch_contract::{CheckError, Hierarchy};
 use ch_graph::{Graph, Saved};
 use ch_query::check_watched;
-use ch_read::read_saved;
-use std::alloc::Global;
+use ch_read::read_saved_by;
 use std::thread::Threads;
 
 /// A graph, and a hierarchy that is right for it.
@@ -53,11 +52,11 @@ pub(crate) fn checked_from<R: Threads + Sync, I: Input, S: Input, G: Gate>(
         ⊎ (GoesPast Which.Graph result × AcceptsGraph (reading I.left graph.old graph.new)) }
 {
     crew.gate.watch(Stage::Reading, 0, 2);
-    let graph = graph_from(crew.alloc, graph)?;
+    let graph = graph_from(crew, graph)?;
     // The proof learns from this call that the graph keeps the limits.
     let _ = graph.arcs();
     crew.gate.watch(Stage::Reading, 1, 2);
-    let saved = saved_from(crew.alloc, saved, &graph)?;
+    let saved = saved_from(crew, saved, &graph)?;
     match check_watched(crew, &graph, saved) {
         Ok(hierarchy) => Ok(Checked { graph, hierarchy }),
         Err(CheckError::Fault(fault)) => Err(RunFault::Check(fault)),
@@ -65,8 +64,12 @@ pub(crate) fn checked_from<R: Threads + Sync, I: Input, S: Input, G: Gate>(
     }
 }
 
-/// Reads an input to its end, as a saved hierarchy on this graph.
-fn saved_from<S: Input>(alloc: Global, input: &mut S, graph: &Graph) -> Result<Saved, RunFault>
+/// Reads an input to its end, as a saved hierarchy on this graph. All workers read its bytes.
+fn saved_from<R: Threads + Sync, S: Input, G: Gate>(
+    crew: &Crew<'_, R, G>,
+    input: &mut S,
+    graph: &Graph,
+) -> Result<Saved, RunFault>
     requires { CanCountOneMore (S.failed input.old) }
     ensures value { IfOk result (ReadsSaved (reading S.left input.old input.new) graph.now.nodes) }
     ensures refused { (fault : FaultAt) → result ≡ Err (RunFault.Read Which.Saved fault) → IsSavedRefused (reading S.left input.old input.new) graph.now.nodes fault }
@@ -75,8 +78,8 @@ fn saved_from<S: Input>(alloc: Global, input: &mut S, graph: &Graph) -> Result<S
     ensures of_input { IfErr result (IsOf Which.Saved) }
     ensures unchecked { (fault : FaultOf) → result ≡ Err (RunFault.Check fault) → ⊥ }
 {
-    let bytes = bytes_from(alloc, input, Which::Saved)?;
-    match read_saved(alloc, &bytes, graph.nodes()) {
+    let bytes = bytes_from(crew.alloc, input, Which::Saved)?;
+    match read_saved_by(crew, &bytes, graph.nodes()) {
         Ok(saved) => Ok(saved),
         Err(error) => Err(Which::Saved.refusal(error)),
     }

@@ -84,7 +84,7 @@ pub fn run_table<R: Threads + Sync, I: Input, J: Input, L: Input, O: Output, G: 
         × AcceptsLists (reading I.left graph.old graph.new) (reading J.left sources.old sources.new) (reading L.left targets.old targets.new)) }
 {
     crew.gate.watch(Stage::Reading, 0, 1);
-    let graph = graph_from(crew.alloc, graph)?;
+    let graph = graph_from(crew, graph)?;
     let lists = lists_from(crew.alloc, sources, targets, &graph)?;
     let text = table_of(crew, graph, &lists, options)?;
     write_text(output, &text)

@@ -18,7 +18,7 @@ returns-in-Ok-clause-value g c =
 pub returns-clause-refused : goal.returns-clause-refused
 returns-clause-refused g c fault same =
     let is : c.in-Err.error ≡ Fault fault = refused_for Which.Graph _ fault (sym c.refusal.ensures ∙ cc) in
-    let refused = (c.read_graph.ensures.fault fault).0 (rw (c.in-Err.is, is) refl) in
+    let refused = (c.read_graph_by.ensures.fault fault).0 (rw (c.in-Err.is, is) refl) in
     (c.in_ok-bytes.bytes.items, c.in_ok-bytes.ensures.bytes, subst (λ bytes. IsFault Graph bytes fault.line fault.kind) c.deref.ensures.value refused)
 
 pub returns-in_err-bytes-clause-refused : goal.returns-in_err-bytes-clause-refused

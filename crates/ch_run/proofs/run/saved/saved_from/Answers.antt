@@ -18,7 +18,7 @@ returns-in-Ok-clause-value g c =
 pub returns-clause-refused : goal.returns-clause-refused
 returns-clause-refused g c fault same =
     let is : c.in-Err.error ≡ Fault fault = refused_for Which.Saved _ fault (sym c.refusal.ensures ∙ cc) in
-    let refused = rw c.nodes.ensures at (c.read_saved.ensures.fault fault).0 (rw (c.in-Err.is, is) refl) in
+    let refused = rw c.nodes.ensures at (c.read_saved_by.ensures.fault fault).0 (rw (c.in-Err.is, is) refl) in
     (c.in_ok-bytes.bytes.items, c.in_ok-bytes.ensures.bytes, subst (λ bytes. IsFault (Saved c.args.graph.now.nodes) bytes fault.line fault.kind) c.deref.ensures.value refused)
 
 pub returns-in_err-bytes-clause-refused : goal.returns-in_err-bytes-clause-refused
