@@ -134,7 +134,7 @@ class Crate:
         self.words = set(re.findall(r"\w+", "\n".join([*self.files.values(), specs])))
 
     def read(self, path, text):
-        starts = [found.start() for found in re.finditer(r"^ *(?:pub )?(?:unsafe )?fn \w+", text, re.MULTILINE)] + [len(text)]
+        starts = [found.start() for found in re.finditer(r"^ *(?:pub )?(?:unsafe )?(?:extern \"C\" )?fn \w+", text, re.MULTILINE)] + [len(text)]
         for start, end in zip(starts, starts[1:]):
             name = re.search(r"fn (\w+)", text[start:end])[1]
             self.clauses.setdefault(name, set()).update(re.findall(r"^ *ensures (\w+) \{", text[start:end], re.MULTILINE))

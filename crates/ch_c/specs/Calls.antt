@@ -1,0 +1,110 @@
+-- What the calls for C answer, and what then is so.
+use Rattle.std.specs.Prelude.{◌≡◌, ◌⊎◌, ℕ, ◌+◌, ◌<◌, ◌≤◌, List, length, slice_index, slice_index_or, Option, Some, None}
+use Rattle.ch_graph.specs.declared.arc.InArc.{InArc}
+use Rattle.ch_graph.specs.Graph.{Network}
+use Rattle.ch_hierarchy.specs.declared.fault.CheckFault.{CheckFault}
+use Rattle.ch_hierarchy.specs.Hierarchy.{LevelsAndLegs, nodes_of}
+use Rattle.ch_hierarchy.specs.Kept.{IsKept}
+use Rattle.ch_read.specs.declared.fault.FaultKind.{FaultKind}
+use Rattle.ch_read.specs.Names.{NamesGraph}
+use Rattle.ch_query.specs.declared.routes.Route.{Route}
+use Rattle.ch_query.specs.Routes.{IsRouteBy}
+use Rattle.ch_engine.specs.declared.fault.OpenError.{OpenError}
+use Rattle.ch_engine.specs.declared.fault.Refusal.{Refusal}
+use Rattle.ch_engine.specs.Cells.{ArePairCells, AreTableCells, no_distance}
+use Rattle.ch_engine.specs.Refusals.{IsOpenError, IsRefusalOfPairs, IsRefusalOfRoute, IsRefusalOfTable}
+use Rattle.ch_c.specs.declared.faults.Fault.{Fault}
+use Rattle.ch_c.specs.declared.answers.Found.{Found}
+use Rattle.ch_c.specs.declared.status.TheConstants.{OK, NO_MEMORY, CLOSED, IS_OPEN, NODE_RANGE, LENGTHS, TOO_LARGE, TOO_SHORT, BAD_GRAPH, BAD_SAVED, WRONG_SAVED}
+
+-- the status of a refusal
+abbrev pub refusal_status : Refusal → ℕ
+refusal_status Refusal.NoMemory = NO_MEMORY
+refusal_status Refusal.NodeRange = NODE_RANGE
+refusal_status Refusal.Lengths = LENGTHS
+refusal_status Refusal.TooLarge = TOO_LARGE
+
+-- the status of an error of opening
+abbrev pub error_status : OpenError → ℕ
+error_status OpenError.NoMemory = NO_MEMORY
+error_status (OpenError.BadGraph f) = BAD_GRAPH
+error_status (OpenError.BadSaved f) = BAD_SAVED
+error_status (OpenError.WrongSaved f) = WRONG_SAVED
+
+-- the number of a kind of fault of a file's bytes
+abbrev pub kind_number : FaultKind → ℕ
+kind_number FaultKind.UnknownLine = 1
+kind_number FaultKind.BadProblem = 2
+kind_number FaultKind.SecondProblem = 3
+kind_number FaultKind.NoProblem = 4
+kind_number FaultKind.BadLine = 5
+kind_number FaultKind.NodeRange = 6
+kind_number FaultKind.Sum = 7
+kind_number FaultKind.Size = 8
+kind_number FaultKind.TooMany = 9
+kind_number FaultKind.TooFew = 10
+
+-- what is told of a hierarchy's fault for its graph: the kind's number and the place
+abbrev pub check_fault : CheckFault → Fault
+check_fault CheckFault.Order = record { line = 0; place = 0; kind = 11 }
+check_fault (CheckFault.Pair place) = record { line = 0; place = place; kind = 12 }
+check_fault (CheckFault.Bound place) = record { line = 0; place = place; kind = 13 }
+check_fault (CheckFault.Base place) = record { line = 0; place = place; kind = 14 }
+check_fault (CheckFault.Middle place) = record { line = 0; place = place; kind = 15 }
+check_fault (CheckFault.Arc place) = record { line = 0; place = place; kind = 16 }
+check_fault (CheckFault.Lower node) = record { line = 0; place = node; kind = 17 }
+
+-- what is told of an error of opening
+abbrev pub fault_of : OpenError → Fault
+fault_of OpenError.NoMemory = record { line = 0; place = 0; kind = 0 }
+fault_of (OpenError.BadGraph f) = record { line = f.line; place = 0; kind = kind_number f.kind }
+fault_of (OpenError.BadSaved f) = record { line = f.line; place = 0; kind = kind_number f.kind }
+fault_of (OpenError.WrongSaved f) = check_fault f
+
+-- a closed handle answers that it is closed, and all else stays; an open one answers what is said of its network
+abbrev pub OfNetwork : Option LevelsAndLegs → ℕ → Type 0 → (LevelsAndLegs → Type 0) → Type 0
+OfNetwork None status Stays Answers = (status ≡ CLOSED) × Stays
+OfNetwork (Some H) status Stays Answers = Answers H
+
+-- a call is done, or it is refused
+abbrev pub IsOutcome : ℕ → Type 0 → (Refusal → Type 0) → Type 0
+IsOutcome status Done Refused = ((status ≡ OK) × Done) ⊎ ((refusal : Refusal) × (status ≡ refusal_status refusal) × Refused refusal)
+
+-- distances of pairs are written, or refused
+abbrev pub ArePairsAnswered : LevelsAndLegs → List ℕ → List ℕ → List ℕ → List ℕ → ℕ → Type 0
+ArePairsAnswered H sources targets before after status =
+    IsOutcome status (ArePairCells H sources targets after) (λ refusal. (after ≡ before) × IsRefusalOfPairs (nodes_of H) sources targets (length before) refusal)
+
+-- a table is written, with the distances up to the limit, or refused
+abbrev pub IsTableAnswered : LevelsAndLegs → ℕ → List ℕ → List ℕ → List ℕ → List ℕ → ℕ → Type 0
+IsTableAnswered H limit sources targets before after status =
+    IsOutcome status (AreTableCells H (Some limit) sources targets after) (λ refusal. (after ≡ before) × IsRefusalOfTable (nodes_of H) sources targets (length before) refusal)
+
+-- the nodes of a route from s: s, and where each arc leads
+abbrev pub AreRouteNodes : ℕ → List InArc → List ℕ → Type 0
+AreRouteNodes s arcs nodes = (slice_index nodes 0 ≡ s) × ((k : ℕ) (d : InArc) → k < length arcs → slice_index nodes (k + 1) ≡ (slice_index_or arcs k d).to)
+
+-- a route is told with its weight and its number of nodes, and its nodes are written where there is room
+abbrev pub IsRouteTold : ℕ → Option Route → Found → List ℕ → List ℕ → ℕ → Type 0
+IsRouteTold s None found before after status = (status ≡ OK) × (found.weight ≡ no_distance) × (found.nodes ≡ 0) × (after ≡ before)
+IsRouteTold s (Some route) found before after status = (found.weight ≡ route.weight) × (found.nodes ≡ length route.arcs + 1)
+    × (((status ≡ OK) × (length route.arcs < length after) × AreRouteNodes s route.arcs after) ⊎ ((status ≡ TOO_SHORT) × (length before ≤ length route.arcs) × (after ≡ before)))
+
+-- a route, which has at most as many nodes as the network, is told, or refused
+abbrev pub IsRouteAnswered : LevelsAndLegs → ℕ → ℕ → Found → Found → List ℕ → List ℕ → ℕ → Type 0
+IsRouteAnswered H s t found_before found before after status =
+    ((answer : Option Route) × IsRouteBy H s t answer × (found.nodes ≤ nodes_of H) × IsRouteTold s answer found before after status)
+    ⊎ ((refusal : Refusal) × (status ≡ refusal_status refusal) × (found ≡ found_before) × (after ≡ before) × IsRefusalOfRoute (nodes_of H) s t refusal)
+
+-- an open handle stays; a closed one opens with a hierarchy that is right for the graph, or stays closed and tells an error that is so
+abbrev pub IsOpening : List ℕ → List ℕ → Option LevelsAndLegs → Option LevelsAndLegs → Fault → Fault → ℕ → Type 0
+IsOpening graph saved (Some H) after fault_before fault status = (status ≡ IS_OPEN) × (after ≡ Some H) × (fault ≡ fault_before)
+IsOpening graph saved None after fault_before fault status =
+    ((status ≡ OK) × ((H : LevelsAndLegs) × (after ≡ Some H) × ((g : Network) × NamesGraph graph g × IsKept g H)) × (fault ≡ fault_before))
+    ⊎ ((error : OpenError) × (status ≡ error_status error) × (after ≡ None) × (fault ≡ fault_of error) × IsOpenError graph saved error)
+
+-- an open handle is not opened again; else it takes the network of an open one, or there is no memory
+abbrev pub IsSharing : Option LevelsAndLegs → Option LevelsAndLegs → Option LevelsAndLegs → ℕ → Type 0
+IsSharing network (Some G) after status = (status ≡ IS_OPEN) × (after ≡ Some G)
+IsSharing None None after status = (status ≡ CLOSED) × (after ≡ None)
+IsSharing (Some H) None after status = ((status ≡ OK) × (after ≡ Some H)) ⊎ ((status ≡ NO_MEMORY) × (after ≡ None))

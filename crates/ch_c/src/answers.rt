@@ -1,0 +1,136 @@
+//! What an engine answers, as C sees it.
+ghost use Rattle.std.specs.Prelude.{◌≡◌, ◌+◌, ◌<◌, ℕ, length, IfErr, IfOk, Option, Some};
+ghost use Rattle.ch_graph.specs.Graph.{Network};
+ghost use Rattle.ch_hierarchy.specs.Kept.{IsKept};
+ghost use Rattle.ch_read.specs.Names.{NamesGraph};
+ghost use Rattle.ch_engine.specs.Refusals.{IsOpenError};
+ghost use Rattle.ch_c.specs.Calls.{ArePairsAnswered, AreRouteNodes, IsRouteAnswered, IsRouteTold, IsTableAnswered};
+
+use crate::status::{OK, TOO_SHORT, status_of};
+use ch_engine::{Engine, NO_DISTANCE, OpenError};
+use ch_graph::InArc;
+use ch_query::Route;
+use std::alloc::Global;
+
+/// What is told of a route beside its nodes.
+#[repr(C)]
+#[derive(Clone, Copy, Debug, PartialEq, Eq)]
+pub struct Found {
+    /// The sum of the weights of its arcs, or [`NO_DISTANCE`] where there is no route.
+    pub weight: u64,
+    /// How many nodes it has, both ends among them; 0 where there is no route.
+    pub nodes: u64,
+}
+
+/// An engine on the heap, of a graph and of its saved hierarchy.
+///
+/// # Errors
+/// Those of [`Engine::open`].
+pub(crate) fn opened(
+    alloc: Global,
+    graph: &[u8],
+    saved: &[u8],
+) -> Result<Box<Engine, Global>, OpenError>
+    ensures value { IfOk result (λ engine. (g : Network) × NamesGraph graph.now g × IsKept g engine.value) }
+    ensures error { IfErr result (IsOpenError graph.now saved.now) }
+{
+    let engine = Engine::open(alloc, graph, saved)?;
+    match Box::new(alloc, engine) {
+        Ok(engine) => Ok(engine),
+        Err(_) => Err(OpenError::NoMemory),
+    }
+}
+
+/// A second engine on the heap in the same network, where there is memory.
+pub(crate) fn shared(alloc: Global, engine: &Engine) -> Option<Box<Engine, Global>>
+    ensures { (second : _) → result ≡ Some second → second.value ≡ engine.now }
+{
+    let Ok(second) = engine.share(alloc) else {
+        return None;
+    };
+    match Box::new(alloc, second) {
+        Ok(second) => Some(second),
+        Err(_) => None,
+    }
+}
+
+/// Writes the distance from each source to the target at the same place, and answers a status.
+pub(crate) fn write_distances(
+    engine: &mut Engine,
+    sources: &[u32],
+    targets: &[u32],
+    out: &mut [u64],
+) -> u32
+    ensures answered { ArePairsAnswered engine.old sources.now targets.now out.old out.new result }
+    ensures same { engine.new ≡ engine.old }
+{
+    match engine.distances(sources, targets, out) {
+        Ok(()) => OK,
+        Err(refusal) => status_of(refusal),
+    }
+}
+
+/// Writes the distances from each source to each target that are at most the limit, row after row, and answers a status.
+pub(crate) fn write_table(
+    alloc: Global,
+    engine: &mut Engine,
+    sources: &[u32],
+    targets: &[u32],
+    limit: u64,
+    out: &mut [u64],
+) -> u32
+    ensures answered { IsTableAnswered engine.old limit sources.now targets.now out.old out.new result }
+    ensures same { engine.new ≡ engine.old }
+{
+    match engine.table(alloc, sources, targets, Some(limit), out) {
+        Ok(()) => OK,
+        Err(refusal) => status_of(refusal),
+    }
+}
+
+/// Writes the route from a node to another where there is room for its nodes, and answers a status.
+pub(crate) fn write_route(
+    alloc: Global,
+    engine: &mut Engine,
+    source: u32,
+    target: u32,
+    found: &mut Found,
+    nodes: &mut [u32],
+) -> u32
+    ensures answered { IsRouteAnswered engine.old source target found.old found.new nodes.old nodes.new result }
+    ensures same { engine.new ≡ engine.old }
+{
+    match engine.route(alloc, source, target) {
+        Ok(answer) => tell_route(source, answer, found, nodes),
+        Err(refusal) => status_of(refusal),
+    }
+}
+
+fn tell_route(source: u32, answer: Option<Route>, found: &mut Found, nodes: &mut [u32]) -> u32
+    ensures { IsRouteTold source answer found.new nodes.old nodes.new result }
+{
+    let Some(route) = answer else {
+        found.weight = NO_DISTANCE;
+        found.nodes = 0;
+        return OK;
+    };
+    found.weight = route.weight;
+    found.nodes = route.arcs.len() as u64 + 1;
+    if route.arcs.len() >= nodes.len() {
+        return TOO_SHORT;
+    }
+    write_nodes(source, route.arcs.as_slice(), nodes);
+    OK
+}
+
+/// Writes the source and where each arc leads.
+fn write_nodes(source: u32, arcs: &[InArc], nodes: &mut [u32])
+    requires { length arcs.now < length nodes.old }
+    ensures nodes { AreRouteNodes source arcs.now nodes.new }
+    ensures room { length nodes.new ≡ length nodes.old }
+{
+    nodes[0] = source;
+    for i in 0..arcs.len() {
+        nodes[i + 1] = arcs[i].to;
+    }
+}

@@ -1,0 +1,209 @@
+//! What C holds, and what it calls.
+ghost use Rattle.std.specs.Prelude.{◌≡◌, ◌↔◌, IsSome, MatchOption, None, Some};
+ghost use Rattle.ch_hierarchy.specs.Hierarchy.{nodes_of};
+ghost use Rattle.ch_c.specs.Calls.{ArePairsAnswered, IsOpening, IsRouteAnswered, IsSharing, IsTableAnswered, OfNetwork};
+ghost use Rattle.ch_c.specs.declared.status.TheConstants.{OK};
+
+pub use crate::answers::Found;
+use crate::answers::{opened, shared, write_distances, write_route, write_table};
+use crate::erased::ErasedEngine;
+use crate::faults::{Fault, fault_of, status_of_error};
+use crate::raw_box::RawBox;
+use crate::status::{CLOSED, IS_OPEN, NO_MEMORY, OK};
+use ch_engine::Engine;
+use std::alloc::Global;
+use std::mem;
+
+/// The version: millions for the first number of `VERSION`, thousands for the second.
+const VERSION: u32 = 1_001_000;
+
+/// What C holds of an engine: 16 bytes, all 0 where it is closed.
+#[repr(C)]
+#[derive(Drop)]
+pub struct Handle {
+    is_open: u64,
+    engine: ErasedEngine,
+    ghost held: { IsSome engine.network ↔ (is_open ≡ 1) },
+}
+
+impl Handle {
+    fn closed(alloc: Global) -> Handle
+        ensures { result.engine.network ≡ None }
+    {
+        Handle {
+            is_open: 0,
+            engine: ErasedEngine::none(alloc),
+        }
+    }
+
+    /// Puts an engine into a closed handle, so that none is lost.
+    fn put(&mut self, engine: Box<Engine, Global>)
+        requires { self.old.engine.network ≡ None }
+        ensures { self.new.engine.network ≡ Some engine.value }
+    {
+        *self = Handle {
+            is_open: 1,
+            engine: ErasedEngine::of(RawBox::of(engine)),
+        };
+    }
+
+    /// Takes the engine out of an open handle, which then is closed.
+    fn take(&mut self, alloc: Global) -> Option<Box<Engine, Global>>
+        ensures taken { MatchOption result (self.old.engine.network ≡ None) (λ engine. self.old.engine.network ≡ Some engine.value) }
+        ensures closed { self.new.engine.network ≡ None }
+    {
+        let Handle { is_open, engine } = mem::replace(self, Handle::closed(alloc));
+        if is_open != 1 {
+            return None;
+        }
+        Some(engine.into_box())
+    }
+}
+
+/// The version of the library.
+#[unsafe(no_mangle)]
+pub extern "C" fn chtab_version() -> u32
+    ensures { result ≡ 1001000 }
+{
+    VERSION
+}
+
+/// Opens a closed handle with a graph and its saved hierarchy, which is checked against the graph.
+#[unsafe(no_mangle)]
+pub extern "C" fn chtab_open(
+    alloc: Global,
+    handle: &mut Handle,
+    graph: &[u8],
+    saved: &[u8],
+    fault: &mut Fault,
+) -> u32
+    ensures { IsOpening graph.now saved.now handle.old.engine.network handle.new.engine.network fault.old fault.new result }
+{
+    if handle.is_open == 1 {
+        return IS_OPEN;
+    }
+    match opened(alloc, graph, saved) {
+        Ok(engine) => {
+            handle.put(engine);
+            OK
+        }
+        Err(error) => {
+            *fault = fault_of(error);
+            status_of_error(&error)
+        }
+    }
+}
+
+/// Opens a closed handle in the network of an open one.
+#[unsafe(no_mangle)]
+pub extern "C" fn chtab_share(alloc: Global, handle: &mut Handle, other: &mut Handle) -> u32
+    ensures sharing { IsSharing handle.old.engine.network other.old.engine.network other.new.engine.network result }
+    ensures same { handle.new.engine.network ≡ handle.old.engine.network }
+{
+    if other.is_open == 1 {
+        return IS_OPEN;
+    }
+    let Some(engine) = handle.take(alloc) else {
+        return CLOSED;
+    };
+    let second = shared(alloc, &engine);
+    handle.put(engine);
+    match second {
+        Some(second) => {
+            other.put(second);
+            OK
+        }
+        None => NO_MEMORY,
+    }
+}
+
+/// Closes a handle, and gives its memory back.
+#[unsafe(no_mangle)]
+pub extern "C" fn chtab_close(alloc: Global, handle: &mut Handle) -> u32
+    ensures status { MatchOption handle.old.engine.network (result ≡ CLOSED) (λ _. result ≡ OK) }
+    ensures closed { handle.new.engine.network ≡ None }
+{
+    match handle.take(alloc) {
+        Some(engine) => {
+            drop(engine);
+            OK
+        }
+        None => CLOSED,
+    }
+}
+
+/// Writes the number of nodes.
+#[unsafe(no_mangle)]
+pub extern "C" fn chtab_nodes(alloc: Global, handle: &mut Handle, nodes: &mut u32) -> u32
+    ensures answered { OfNetwork handle.old.engine.network result (nodes.new ≡ nodes.old) (λ H. (result ≡ OK) × (nodes.new ≡ nodes_of H)) }
+    ensures same { handle.new.engine.network ≡ handle.old.engine.network }
+{
+    let Some(engine) = handle.take(alloc) else {
+        return CLOSED;
+    };
+    *nodes = engine.nodes();
+    handle.put(engine);
+    OK
+}
+
+/// Writes the distance from each source to the target at the same place.
+#[unsafe(no_mangle)]
+pub extern "C" fn chtab_distances(
+    alloc: Global,
+    handle: &mut Handle,
+    sources: &[u32],
+    targets: &[u32],
+    out: &mut [u64],
+) -> u32
+    ensures answered { OfNetwork handle.old.engine.network result (out.new ≡ out.old) (λ H. ArePairsAnswered H sources.now targets.now out.old out.new result) }
+    ensures same { handle.new.engine.network ≡ handle.old.engine.network }
+{
+    let Some(mut engine) = handle.take(alloc) else {
+        return CLOSED;
+    };
+    let status = write_distances(&mut engine, sources, targets, out);
+    handle.put(engine);
+    status
+}
+
+/// Writes the distances from each source to each target that are at most the limit, row after row.
+#[unsafe(no_mangle)]
+pub extern "C" fn chtab_table(
+    alloc: Global,
+    handle: &mut Handle,
+    sources: &[u32],
+    targets: &[u32],
+    limit: u64,
+    out: &mut [u64],
+) -> u32
+    ensures answered { OfNetwork handle.old.engine.network result (out.new ≡ out.old) (λ H. IsTableAnswered H limit sources.now targets.now out.old out.new result) }
+    ensures same { handle.new.engine.network ≡ handle.old.engine.network }
+{
+    let Some(mut engine) = handle.take(alloc) else {
+        return CLOSED;
+    };
+    let status = write_table(alloc, &mut engine, sources, targets, limit, out);
+    handle.put(engine);
+    status
+}
+
+/// Writes the route from a node to another: its weight, how many nodes it has, and these where there is room.
+#[unsafe(no_mangle)]
+pub extern "C" fn chtab_route(
+    alloc: Global,
+    handle: &mut Handle,
+    source: u32,
+    target: u32,
+    found: &mut Found,
+    nodes: &mut [u32],
+) -> u32
+    ensures answered { OfNetwork handle.old.engine.network result ((found.new ≡ found.old) × (nodes.new ≡ nodes.old)) (λ H. IsRouteAnswered H source target found.old found.new nodes.old nodes.new result) }
+    ensures same { handle.new.engine.network ≡ handle.old.engine.network }
+{
+    let Some(mut engine) = handle.take(alloc) else {
+        return CLOSED;
+    };
+    let status = write_route(alloc, &mut engine, source, target, found, nodes);
+    handle.put(engine);
+    status
+}

@@ -1,0 +1,91 @@
+"""The library for C, called by ctypes: its header's names and numbers, and handles."""
+import ctypes
+import re
+
+from helpers.running import ROOT
+
+HEADER = ROOT / "include" / "chtab.h"
+# Where `packaging/library` puts what it makes.
+MADE = ROOT / "out" / "library"
+SHARED = MADE / "lib" / "libchtab.so"
+NO_DISTANCE = 2**64 - 1
+
+
+class Handle(ctypes.Structure):
+    _fields_ = [("is_open", ctypes.c_uint64), ("engine", ctypes.c_void_p)]
+
+
+class Fault(ctypes.Structure):
+    _fields_ = [("line", ctypes.c_uint64), ("place", ctypes.c_uint64), ("kind", ctypes.c_uint32)]
+
+    def told(self):
+        return self.line, self.place, self.kind
+
+
+class Found(ctypes.Structure):
+    _fields_ = [("weight", ctypes.c_uint64), ("nodes", ctypes.c_uint64)]
+
+
+def statuses():
+    """The names of `chtab_status` with their numbers, as the header has them."""
+    body = re.search(r"enum chtab_status \{(.*?)\}", HEADER.read_text(), re.DOTALL).group(1)
+    return {name: int(number) for name, number in re.findall(r"CHTAB_(\w+) = (\d+)", body)}
+
+
+def declared():
+    """The functions that the header declares and does not define."""
+    return set(re.findall(r"^uint32_t (chtab_\w+)\(", HEADER.read_text(), re.MULTILINE))
+
+
+def numbers(nodes, kind=ctypes.c_uint32):
+    """An array of C. It has room for one element at least, so that its address is one also where it is empty."""
+    return (kind * max(len(nodes), 1))(*nodes)
+
+
+class Library:
+    """The calls, each with the lengths of what it is given."""
+
+    def __init__(self, path=SHARED):
+        self.calls = ctypes.CDLL(str(path))
+        for name in declared():
+            getattr(self.calls, name).restype = ctypes.c_uint32
+
+    def open(self, graph, saved, handle=None):
+        """The status, the handle and the fault."""
+        handle, fault = handle or Handle(), Fault()
+        status = self.calls.chtab_open(ctypes.byref(handle), graph, ctypes.c_size_t(len(graph)), saved, ctypes.c_size_t(len(saved)), ctypes.byref(fault))
+        return status, handle, fault
+
+    def close(self, handle):
+        return self.calls.chtab_close(ctypes.byref(handle))
+
+    def share(self, handle, other):
+        return self.calls.chtab_share(ctypes.byref(handle), ctypes.byref(other))
+
+    def nodes(self, handle):
+        count = ctypes.c_uint32()
+        return self.calls.chtab_nodes(ctypes.byref(handle), ctypes.byref(count)), count.value
+
+    def distances(self, handle, sources, targets, room=None):
+        """The status and the words, in which 7 stands where nothing was written. One word more than the room is given, and stays."""
+        room = len(sources) if room is None else room
+        out = numbers([7] * (room + 1), ctypes.c_uint64)
+        status = self.calls.chtab_distances(ctypes.byref(handle), numbers(sources), ctypes.c_size_t(len(sources)), numbers(targets),
+                                            ctypes.c_size_t(len(targets)), out, ctypes.c_size_t(room))
+        assert out[room] == 7, "a word past the room is written"
+        return status, list(out)[:room]
+
+    def table(self, handle, sources, targets, limit=NO_DISTANCE, room=None):
+        room = len(sources) * len(targets) if room is None else room
+        out = numbers([7] * (room + 1), ctypes.c_uint64)
+        status = self.calls.chtab_table(ctypes.byref(handle), numbers(sources), ctypes.c_size_t(len(sources)), numbers(targets),
+                                        ctypes.c_size_t(len(targets)), ctypes.c_uint64(limit), out, ctypes.c_size_t(room))
+        assert out[room] == 7, "a word past the room is written"
+        return status, list(out)[:room]
+
+    def route(self, handle, source, target, room):
+        """The status, the weight, the number of nodes, and what stands in the room."""
+        found, nodes = Found(7, 7), numbers([7] * (room + 1))
+        status = self.calls.chtab_route(ctypes.byref(handle), ctypes.c_uint32(source), ctypes.c_uint32(target), ctypes.byref(found), nodes, ctypes.c_size_t(room))
+        assert nodes[room] == 7, "a node past the room is written"
+        return status, found.weight, found.nodes, list(nodes)[:room]

@@ -1,0 +1,268 @@
+#!/usr/bin/python3
+"""Tests the library for C: its header, its names, its links, an example in C, its answers beside those of the program, and hostile calls.
+
+  library.py [--calls CALLS]
+
+Makes the library by `packaging/library`. The header and tests/library/example.c are compiled as C and as C++ with all warnings. The example is
+linked to the shared object and to the archive, by pkg-config where that is there, and runs under valgrind where that is there. Each request for
+memory is refused in turn (tests/library/refusals.c). Answers are those of the program on the shipped graphs. CALLS hostile calls (5,000) are made
+by tests/library/fuzz.py. The last line is 'N passed, N failed'.
+"""
+import argparse
+import ctypes
+import random
+import re
+import shutil
+import subprocess
+import sys
+import tempfile
+import threading
+from pathlib import Path
+
+from helpers.in_process import HEADER, MADE, NO_DISTANCE, SHARED, Handle, Library, declared, statuses
+from helpers.running import ROOT, Count, build, run
+from helpers.writing import write_list, write_queries
+from oracles.reading import graph_of
+
+WARNINGS = "-Wall", "-Wextra", "-Wconversion", "-pedantic", "-Werror"
+STANDARDS = ("gcc", "c89", "c"), ("gcc", "c99", "c"), ("gcc", "c17", "c"), ("g++", "c++98", "c++"), ("g++", "c++20", "c++")
+EXAMPLE = ROOT / "tests/library/example.c"
+REFUSALS = ROOT / "tests/library/refusals.c"
+SOURCES = ROOT / "crates/ch_c/src"
+GRAPHS = ROOT / "examples/first.gr", ROOT / "examples/liechtenstein.gr"
+STATUS = statuses()
+# How many questions of each kind are compared on a graph.
+ASKED = 400
+# What valgrind says of memory that is left. Other programs are found by their exit status.
+VALGRIND = "valgrind", "--quiet", "--leak-check=full", "--errors-for-leak-kinds=all", "--error-exitcode=9"
+
+
+def done(*words, folder=None):
+    return subprocess.run(list(map(str, words)), cwd=folder, capture_output=True, text=True)
+
+
+def make(tally):
+    """Makes the library, or ends this script."""
+    made = done(ROOT / "packaging/library")
+    tally.expect(made.returncode == 0, made.stderr)
+    if made.returncode:
+        tally.finish()
+
+
+def compile_header(tally, folder):
+    """The header alone, and the example, by each standard."""
+    (folder / "alone.c").write_text("#include <chtab.h>\n")
+    for compiler, standard, language in STANDARDS:
+        for source in folder / "alone.c", EXAMPLE:
+            told = done(compiler, f"-std={standard}", "-x", language, *WARNINGS, f"-I{HEADER.parent}", "-c", source, "-o", folder / "object.o")
+            tally.expect(told.returncode == 0 and not told.stderr, f"{compiler} -std={standard} {source.name}: {told.stderr}")
+
+
+def constants(path):
+    """The public numbers of a source file."""
+    return {name: int(number.replace("_", "")) for name, number in re.findall(r"const (\w+): u32 = ([\d_]+);", path.read_text())}
+
+
+def kinds_of_faults():
+    """The numbers of kinds that the sources answer, in order."""
+    text = (SOURCES / "faults.rt").read_text()
+    return [int(number) for number in re.findall(r"=> (\d+),$", text, re.MULTILINE) + re.findall(r"=> at\((\d+), 0,", text) if number != "0"]
+
+
+def compare_names(tally):
+    """The header's functions and numbers are those of the library, which needs the C library alone."""
+    lines = [line.split() for line in done("nm", "-D", "--defined-only", SHARED).stdout.splitlines()]
+    tally.expect({line[-1] for line in lines} == declared(), f"the header declares {sorted(declared())}, the library has {lines}")
+    tally.expect(constants(SOURCES / "status.rt") == STATUS, f"the header's statuses are not those of status.rt: {STATUS}")
+    kinds = [int(number) for number in re.findall(r"CHTAB_FAULT_\w+ = (\d+)", HEADER.read_text())]
+    tally.expect(kinds == [0, *kinds_of_faults()] == list(range(18)), f"the kinds of faults: {kinds} {kinds_of_faults()}")
+    major, minor = map(int, re.match(r"chtab (\d+)\.(\d+)", (ROOT / "VERSION").read_text()).groups())
+    number = int(re.search(r"define CHTAB_VERSION (\d+)", HEADER.read_text()).group(1))
+    tally.expect(number == major * 1_000_000 + minor * 1_000 == Library().calls.chtab_version(), "the version")
+    needed = re.findall(r"NEEDED\s+(\S+)", done("objdump", "-p", SHARED).stdout)
+    tally.expect(set(needed) <= {"libc.so.6"}, f"the library needs {needed}")
+    tally.expect(ctypes.sizeof(Handle) == 16, "a handle has 16 bytes")
+
+
+def flags():
+    """How the example is compiled and linked, by pkg-config where it is there."""
+    if shutil.which("pkg-config"):
+        given = subprocess.run(["pkg-config", "--cflags", "--libs", "chtab"], capture_output=True, text=True, env={"PKG_CONFIG_PATH": f"{MADE}/lib/pkgconfig", "PATH": "/usr/bin:/bin"})
+        return given.stdout.split()
+    print("left out: pkg-config is not there")
+    return [f"-I{MADE}/include", f"-L{MADE}/lib", "-lchtab"]
+
+
+def run_example(tally, folder, saved):
+    """The example by the shared object and by the archive: one text, status 0, and no memory left."""
+    shared = done("gcc", "-std=c89", *WARNINGS, EXAMPLE, *flags(), f"-Wl,-rpath,{MADE}/lib", "-o", folder / "shared")
+    archive = done("gcc", "-std=c89", *WARNINGS, EXAMPLE, f"-I{MADE}/include", MADE / "lib/libchtab.a", "-o", folder / "archive")
+    for name, built in ("shared", shared), ("archive", archive):
+        tally.expect(built.returncode == 0 and not built.stderr, f"the example by the {name} library: {built.stderr}")
+    watched = VALGRIND if shutil.which("valgrind") else ()
+    if not watched:
+        print("left out: valgrind is not there")
+    texts = set()
+    for graph, hierarchy in saved.items():
+        for name in "shared", "archive":
+            answer = done(*watched, folder / name, graph, hierarchy)
+            texts.add((graph, answer.stdout))
+            tally.expect(answer.returncode == 0 and not answer.stderr, f"the example by the {name} library: {answer.returncode} {answer.stdout}{answer.stderr}")
+    tally.expect(len(texts) == len(saved), "the example answers the same by both libraries")
+
+
+def refuse_memory(tally, folder, saved):
+    """Each request for memory of each call is refused in turn, and no memory is left."""
+    built = done("gcc", "-std=c89", *WARNINGS, REFUSALS, f"-I{MADE}/include", MADE / "lib/libchtab.a", "-Wl,--wrap=malloc,--wrap=realloc", "-o", folder / "refusals")
+    tally.expect(built.returncode == 0 and not built.stderr, f"{REFUSALS.name}: {built.stderr}")
+    for graph, hierarchy in saved.items():
+        answer = done(*(VALGRIND if shutil.which("valgrind") and graph is GRAPHS[0] else ()), folder / "refusals", graph, hierarchy)
+        refused = re.fullmatch(r"(\d+) requests refused\n", answer.stdout)
+        tally.expect(answer.returncode == 0 and not answer.stderr and refused, f"{REFUSALS.name} on {graph.name}: {answer.stdout}{answer.stderr}")
+        tally.passed += int(refused[1]) if refused else 0
+
+
+def run_page(tally, folder):
+    """The lines of C of docs/CALLING.md, as they stand there, on the shipped example: 9 from its first node to its last."""
+    code = re.search(r"^```c\n(.*?)^```", (ROOT / "docs/CALLING.md").read_text(), re.MULTILINE | re.DOTALL).group(1)
+    files = [(ROOT / "examples" / name).read_bytes() for name in ("first.gr", "first.ch")]
+    arrays = [f"static const uint8_t {name}[] = {{{','.join(map(str, text))}}};" for name, text in zip(("graph", "saved"), files)]
+    ask = "int main(void) { printf(\"%lu\", (unsigned long)distance_of(graph, sizeof graph, saved, sizeof saved, 0, 2)); return 0; }"
+    (folder / "page.c").write_text("\n".join(["#include <chtab.h>", "#include <stdio.h>", *arrays, code.replace("uint64_t distance_of", "static uint64_t distance_of"), ask]))
+    built = done("gcc", "-std=c99", "-Wall", "-Wextra", "-pedantic", "-Werror", folder / "page.c", *flags(), f"-Wl,-rpath,{MADE}/lib", "-o", folder / "page")
+    answer = done(folder / "page") if built.returncode == 0 else built
+    tally.expect((answer.returncode, answer.stdout, answer.stderr) == (0, "9", ""), f"the C of CALLING.md: {answer.stdout}{answer.stderr}")
+
+
+def words_of(text):
+    """The distances of a text of `dist` or `table`, as words."""
+    return [NO_DISTANCE if word == "-" else int(word) for word in text]
+
+
+def asked_of_program(folder, graph, hierarchy, pairs, sources, targets, limit):
+    """The program's distances, cells and routes, each route as its nodes."""
+    write_queries(folder / "pairs.p2p", [(source + 1, target + 1) for source, target in pairs])
+    for name, nodes in ("from.ss", sources), ("to.ss", targets):
+        write_list(folder / name, [node + 1 for node in nodes])
+    routes = run(["dist", "--routes", "--saved", hierarchy, graph, "pairs.p2p"], folder)
+    cells = run(["table", "--saved", hierarchy, "--within", str(limit), graph, "from.ss", "to.ss"], folder)
+    assert routes.status == cells.status == 0, (routes, cells)
+    distances, nodes = [], []
+    for letter, *numbers in (line.split() for line in routes.out.decode().splitlines()):
+        if letter == "d":
+            distances.append(numbers[2])
+            nodes.append([] if numbers[2] == "-" else [int(numbers[0]) - 1])
+        elif letter == "a":
+            nodes[-1].append(int(numbers[1]) - 1)
+    return words_of(distances), words_of([word for line in cells.out.decode().splitlines() for word in line.split()[2:]]), nodes
+
+
+def compare_answers(tally, folder, library, graph, hierarchy):
+    """Distances, cells and routes are those of the program."""
+    count, _ = graph_of(graph)
+    draw = random.Random(f"library {graph.name}")
+    pairs = [(draw.randrange(count), draw.randrange(count)) for _ in range(ASKED)]
+    sources, targets = ([draw.randrange(count) for _ in range(40)] for _ in range(2))
+    limit = 9_000
+    distances, cells, routes = asked_of_program(folder, graph, hierarchy, pairs, sources, targets, limit)
+    status, handle, _ = library.open(graph.read_bytes(), hierarchy.read_bytes())
+    tally.expect(status == STATUS["OK"] and library.nodes(handle) == (0, count), f"{graph.name} opens")
+    tally.expect(library.distances(handle, *map(list, zip(*pairs))) == (0, distances), f"{graph.name}: distances")
+    tally.expect(library.table(handle, sources, targets, limit) == (0, cells), f"{graph.name}: a table within {limit}")
+    whole = library.table(handle, sources, targets)
+    for place, (source, target) in enumerate((source, target) for source in sources for target in targets):
+        tally.expect(library.distances(handle, [source], [target]) == (0, [whole[1][place]]), f"{graph.name}: the cell of {source} and {target}")
+    for (source, target), distance, nodes in zip(pairs, distances, routes):
+        wanted = 0, distance, len(nodes), nodes
+        status, weight, length, came = library.route(handle, source, target, count)
+        tally.expect((status, weight, length, came[:length]) == wanted, f"{graph.name}: the route from {source} to {target}")
+    library.close(handle)
+
+
+def ask_in_threads(tally, library, graph, hierarchy):
+    """Four threads, with a handle each, answer what one does."""
+    count, _ = graph_of(graph)
+    draw = random.Random("library threads")
+    pairs = [[draw.randrange(count) for _ in range(2_000)] for _ in range(2)]
+    status, first, _ = library.open(graph.read_bytes(), hierarchy.read_bytes())
+    handles = [first, *(Handle() for _ in range(3))]
+    shared = [library.share(first, handle) for handle in handles[1:]]
+    answers = [None] * len(handles)
+
+    def ask(place):
+        answers[place] = library.distances(handles[place], *pairs)
+
+    threads = [threading.Thread(target=ask, args=(place,)) for place in range(len(handles))]
+    for thread in threads:
+        thread.start()
+    for thread in threads:
+        thread.join()
+    tally.expect([status, *shared] == [0] * 4 and answers[0][0] == 0 and answers.count(answers[0]) == 4, "four threads answer the same")
+    tally.expect([library.close(handle) for handle in handles] == [0] * 4, "four handles close")
+
+
+# Faulty files: the graph, the hierarchy, and the status with line, place and kind.
+LINE, OF_LINE = b"p sp 3 2\na 1 2 4\na 2 3 5\n", b"p ch 3 2\no 1\no 2\no 3\nl 1 2 4 1 0\nl 2 3 5 1 0\n"
+FAULTY = (
+    (b"", OF_LINE, "BAD_GRAPH", (1, 0, 4)),
+    (LINE + b"a 1 2 3\n", OF_LINE, "BAD_GRAPH", (4, 0, 9)),
+    (LINE.replace(b"a 2 3", b"a 2 4"), OF_LINE, "BAD_GRAPH", (3, 0, 6)),
+    (LINE, OF_LINE.replace(b"p ch 3", b"p ch 4"), "BAD_SAVED", (1, 0, 8)),
+    (LINE, OF_LINE.replace(b"l 2", b"x 2"), "BAD_SAVED", (6, 0, 1)),
+    (LINE, OF_LINE.replace(b"o 2", b"o 1"), "WRONG_SAVED", (0, 0, 11)),
+    (LINE, OF_LINE.replace(b"l 2 3 5", b"l 2 3 6"), "WRONG_SAVED", (0, 1, 14)),
+    (LINE, OF_LINE.replace(b"p ch 3 2", b"p ch 3 1").replace(b"l 2 3 5 1 0\n", b""), "WRONG_SAVED", (0, 1, 16)),
+)
+
+
+def tell_faults(tally, library):
+    """Each fault with its line, or its place, and its kind; the handle stays closed."""
+    for graph, saved, name, told in FAULTY:
+        status, handle, fault = library.open(graph, saved)
+        tally.expect((status, fault.told(), handle.is_open) == (STATUS[name], told, 0), f"{graph} {saved}: {status} {fault.told()}, not {name} {told}")
+
+
+def ask_too_much(tally, library):
+    """A table of more sources, or of more targets, than a list may have, with room for it."""
+    status, handle, _ = library.open(LINE, OF_LINE)
+    most = [0] * 65_536
+    tally.expect(status == 0 and library.table(handle, most, [1]) == (0, [4] * len(most)), "a table of as many sources as may be")
+    for sources, targets in ([*most, 0], [1]), ([1], [*most, 0]):
+        tally.expect(library.table(handle, sources, targets) == (STATUS["TOO_LARGE"], [7] * (len(most) + 1)), "a table that is too large")
+    library.close(handle)
+
+
+def main():
+    given = argparse.ArgumentParser(usage="library.py [--calls CALLS]", description=__doc__, formatter_class=argparse.RawDescriptionHelpFormatter)
+    given.add_argument("--calls", default=5_000, type=int)
+    calls = given.parse_args().calls
+    build()
+    tally = Count()
+    make(tally)
+    library = Library()
+    with tempfile.TemporaryDirectory() as kept:
+        folder = Path(kept)
+        saved = {}
+        for graph in GRAPHS:
+            saved[graph] = folder / f"{graph.stem}.ch"
+            saved[graph].write_bytes(run(["save", graph], folder).out)
+        compile_header(tally, folder)
+        compare_names(tally)
+        run_example(tally, folder, saved)
+        refuse_memory(tally, folder, saved)
+        run_page(tally, folder)
+        ask_too_much(tally, library)
+        tell_faults(tally, library)
+        for graph in GRAPHS:
+            compare_answers(tally, folder, library, graph, saved[graph])
+        ask_in_threads(tally, library, GRAPHS[1], saved[GRAPHS[1]])
+    fuzzed = done(sys.executable, ROOT / "tests/library/fuzz.py", calls, 1)
+    passed, failed = map(int, (re.search(r"(\d+) passed, (\d+) failed$", fuzzed.stdout.strip()) or re.match("(0) (1)", "0 1")).groups())
+    print(fuzzed.stdout + fuzzed.stderr, end="")
+    tally.passed += passed
+    tally.failed += failed
+    tally.finish()
+
+
+if __name__ == "__main__":
+    main()

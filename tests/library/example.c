@@ -1,0 +1,96 @@
+/* Opens a network and asks it for distances, a table and a route: once each way, and once each wrong way that a program can take.
+ *
+ *   example GRAPH SAVED
+ *
+ * Prints what it is answered, and ends with status 0 if all of it is as it must be. */
+#include <chtab.h>
+
+#include <stdio.h>
+#include <stdlib.h>
+
+static int failures = 0;
+
+static void expect(int holds, const char *told) {
+    if (!holds) {
+        printf("failed: %s\n", told);
+        failures++;
+    }
+}
+
+/* All bytes of a file, which the caller frees. */
+static uint8_t *bytes_of(const char *path, size_t *len) {
+    FILE *file = fopen(path, "rb");
+    uint8_t *bytes;
+    long size;
+    if (!file || fseek(file, 0, SEEK_END) || (size = ftell(file)) < 0) exit(2);
+    rewind(file);
+    bytes = (uint8_t *)malloc((size_t)size + 1);
+    if (!bytes || fread(bytes, 1, (size_t)size, file) != (size_t)size) exit(2);
+    fclose(file);
+    *len = (size_t)size;
+    return bytes;
+}
+
+static void ask(chtab *network) {
+    static uint32_t nodes[100000];
+    uint32_t sources[2] = {0, 1}, targets[2], count = 0, k;
+    uint64_t pairs[2], cells[4];
+    chtab_found found;
+    expect(chtab_nodes(network, &count) == CHTAB_OK && count > 1, "nodes");
+    targets[0] = count - 1;
+    targets[1] = count / 2;
+    expect(chtab_distances(network, sources, 2, targets, 2, pairs, 2) == CHTAB_OK, "distances");
+    expect(chtab_table(network, sources, 2, targets, 2, CHTAB_NO_LIMIT, cells, 4) == CHTAB_OK, "table");
+    expect(cells[0] == pairs[0] && cells[3] == pairs[1], "a cell is the distance of its pair");
+    expect(chtab_route(network, sources[0], targets[0], &found, nodes, 100000) == CHTAB_OK, "route");
+    expect(found.weight == pairs[0], "a route weighs the distance");
+    printf("nodes %lu distances %lu %lu cells %lu %lu route", (unsigned long)count, (unsigned long)pairs[0], (unsigned long)pairs[1],
+           (unsigned long)cells[1], (unsigned long)cells[2]);
+    for (k = 0; k < found.nodes; k++) printf(" %lu", (unsigned long)nodes[k]);
+    printf("\n");
+}
+
+static void ask_wrongly(chtab *network) {
+    uint32_t node = 0, past = 0, nodes[1] = {7};
+    uint64_t out[2] = {5, 5};
+    chtab_found found = {3, 3};
+    expect(chtab_nodes(network, &past) == CHTAB_OK, "nodes");
+    expect(chtab_distances(network, &past, 1, &node, 1, out, 1) == CHTAB_NODE_RANGE, "a source past the nodes");
+    expect(chtab_distances(network, &node, 1, &node, 1, out, 2) == CHTAB_LENGTHS, "lengths of distances");
+    expect(chtab_table(network, &node, 1, &past, 1, 0, out, 1) == CHTAB_NODE_RANGE, "a target past the nodes");
+    expect(chtab_table(network, &node, 1, &node, 1, 0, out, 2) == CHTAB_LENGTHS, "lengths of a table");
+    expect(chtab_route(network, past, node, &found, nodes, 1) == CHTAB_NODE_RANGE, "a route from past the nodes");
+    expect(out[0] == 5 && out[1] == 5 && found.weight == 3 && found.nodes == 3 && nodes[0] == 7, "a refusal writes nothing");
+    expect(chtab_route(network, node, node, &found, nodes, 0) == CHTAB_TOO_SHORT && found.nodes == 1 && nodes[0] == 7, "no room");
+    expect(chtab_route(network, node, node, &found, nodes, 1) == CHTAB_OK && found.weight == 0 && nodes[0] == 0, "a route of one node");
+}
+
+int main(int count, char **words) {
+    chtab network = CHTAB_CLOSED_HANDLE, other = CHTAB_CLOSED_HANDLE;
+    chtab_fault fault = {9, 9, 9};
+    size_t graph_len, saved_len;
+    uint8_t *graph, *saved;
+    uint32_t nodes = 6;
+    if (count != 3) return 2;
+    graph = bytes_of(words[1], &graph_len);
+    saved = bytes_of(words[2], &saved_len);
+    expect(chtab_version() == CHTAB_VERSION, "the version");
+    expect(chtab_nodes(&network, &nodes) == CHTAB_CLOSED && nodes == 6, "a closed handle");
+    expect(chtab_close(&network) == CHTAB_CLOSED, "a closed handle closed");
+    expect(chtab_share(&network, &other) == CHTAB_CLOSED, "a closed handle shared");
+    expect(chtab_open(&network, saved, saved_len, saved, saved_len, &fault) == CHTAB_BAD_GRAPH, "no graph");
+    expect(fault.line == 1 && fault.kind == CHTAB_FAULT_BAD_PROBLEM && fault.place == 0, "the fault of a graph");
+    expect(chtab_open(&network, graph, graph_len, graph, graph_len, &fault) == CHTAB_BAD_SAVED, "no hierarchy");
+    expect(chtab_open(&network, graph, graph_len, saved, saved_len, &fault) == CHTAB_OK, "open");
+    expect(chtab_open(&network, graph, graph_len, saved, saved_len, &fault) == CHTAB_IS_OPEN, "open again");
+    free(graph);
+    free(saved);
+    expect(chtab_share(&network, &other) == CHTAB_OK, "share");
+    expect(chtab_share(&network, &other) == CHTAB_IS_OPEN, "share into an open handle");
+    expect(chtab_close(&network) == CHTAB_OK, "close");
+    expect(chtab_close(&network) == CHTAB_CLOSED, "close again");
+    ask(&other);
+    ask_wrongly(&other);
+    expect(chtab_close(&other) == CHTAB_OK, "close the other");
+    return failures > 0;
+}

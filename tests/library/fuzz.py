@@ -1,0 +1,176 @@
+#!/usr/bin/python3
+"""Calls the library for C as a hostile program would: with files that are changed, handles in every state, and nodes, lengths and rooms at random.
+
+  fuzz.py [CALLS [SEED]]
+
+Makes CALLS calls (5,000) on random networks, drawn from a seed (1). Their hierarchies are those of an independent program. Each status must be
+the one that the header says, a refusal must write nothing, and an answer must be that of Dijkstra's algorithm. A crash ends this script, and
+memory must not grow. The last line is 'N passed, N failed'.
+"""
+import random
+import resource
+import sys
+from pathlib import Path
+
+sys.path.insert(0, str(Path(__file__).resolve().parent.parent))
+
+from helpers.cases import Case  # noqa: E402
+from helpers.in_process import NO_DISTANCE, Handle, Library, statuses  # noqa: E402
+from helpers.running import Count  # noqa: E402
+from oracles.rules import hierarchy_text  # noqa: E402
+
+STATUS = statuses()
+# What a change of a file's bytes may put there.
+BYTES = b"0123456789 pascolch\n\0\xff"
+# Kilobytes by which memory may grow once half of the calls are made.
+MOST_GROWTH = 4096
+# How many calls are made on one network.
+PER_NETWORK = 200
+
+
+def changed(draw, text):
+    """The bytes with a few of them replaced, left out or doubled."""
+    text = bytearray(text)
+    for _ in range(draw.randrange(4)):
+        place = draw.randrange(len(text))
+        text[place:place + draw.choice((0, 1, 1, 1))] = bytes([draw.choice(BYTES)]) * draw.choice((0, 1, 1, 2))
+    return bytes(text)
+
+
+class Caller:
+    """The files of a small network, its distances, and two handles in it."""
+
+    def __init__(self, draw, case, library, tally):
+        self.draw, self.library, self.tally, self.count = draw, library, tally, case.nodes
+        self.graph = "".join([f"p sp {case.nodes} {len(case.arcs)}\n", *(f"a {start} {end} {weight}\n" for start, end, weight in case.arcs)]).encode()
+        self.saved = hierarchy_text(case.nodes, case.arcs, 5, False).encode()
+        # The least weights and numbers of arcs, from each node to each, or None.
+        self.away = [[case.costs[source].get(target) for target in range(1, case.nodes + 1)] for source in range(1, case.nodes + 1)]
+        self.handles = [Handle(), Handle()]
+
+    def word(self, source, target, limit=NO_DISTANCE):
+        away = self.away[source][target]
+        return NO_DISTANCE if away is None or away[0] > limit else away[0]
+
+    def expect(self, holds, *told):
+        self.tally.expect(holds, told)
+
+    def node(self):
+        """A node mostly, or a number that is none."""
+        return self.draw.randrange(self.count) if self.draw.random() < 0.95 else self.draw.choice((self.count, self.count + 1, 2**31, 2**32 - 1))
+
+    def nodes(self):
+        return [self.node() for _ in range(self.draw.choice((0, 1, 1, 2, 3, 8)))]
+
+    def are_nodes(self, *lists):
+        return all(node < self.count for nodes in lists for node in nodes)
+
+    def open_changed(self):
+        """A changed network opens only where both files are right; nothing of it is kept."""
+        status, handle, fault = self.library.open(changed(self.draw, self.graph), changed(self.draw, self.saved))
+        names = "OK", "BAD_GRAPH", "BAD_SAVED", "WRONG_SAVED"
+        self.expect(status in [STATUS[name] for name in names], "opened changed files", status)
+        is_told = fault.told() != (0, 0, 0)
+        self.expect(is_told == (status != 0) and bool(handle.is_open) == (status == 0), "what is told of changed files", status, fault.told())
+        self.expect(self.library.close(handle) == (STATUS["OK"] if status == 0 else STATUS["CLOSED"]), "closed changed files", status)
+
+    def open_or_close(self):
+        handle = self.draw.choice(self.handles)
+        if self.draw.random() < 0.3:
+            wanted = STATUS["OK" if handle.is_open else "CLOSED"]
+            self.expect(self.library.close(handle) == wanted and not handle.is_open, "close", wanted)
+        else:
+            wanted = STATUS["IS_OPEN" if handle.is_open else "OK"]
+            self.expect(self.library.open(self.graph, self.saved, handle)[0] == wanted and handle.is_open, "open", wanted)
+
+    def share(self):
+        handle, other = self.handles if self.draw.random() < 0.5 else self.handles[::-1]
+        wanted = STATUS["IS_OPEN" if other.is_open else "OK" if handle.is_open else "CLOSED"]
+        self.expect(self.library.share(handle, other) == wanted, "share", wanted)
+
+    def ask_nodes(self):
+        handle = self.draw.choice(self.handles)
+        self.expect(self.library.nodes(handle) == ((STATUS["OK"], self.count) if handle.is_open else (STATUS["CLOSED"], 0)), "nodes")
+
+    def ask_distances(self):
+        handle, sources, targets = self.draw.choice(self.handles), self.nodes(), self.nodes()
+        if self.draw.random() < 0.7:
+            targets = [self.node() for _ in sources]
+        room = len(sources) if self.draw.random() < 0.8 else self.draw.randrange(9)
+        wanted, words = "OK", [7] * room
+        if not handle.is_open:
+            wanted = "CLOSED"
+        elif not len(sources) == len(targets) == room:
+            wanted = "LENGTHS"
+        elif not self.are_nodes(sources, targets):
+            wanted = "NODE_RANGE"
+        else:
+            words = [self.word(*pair) for pair in zip(sources, targets)]
+        self.expect(self.library.distances(handle, sources, targets, room) == (STATUS[wanted], words), "distances", sources, targets, room, wanted)
+
+    def ask_table(self):
+        handle, sources, targets = self.draw.choice(self.handles), self.nodes(), self.nodes()
+        limit = self.draw.choice((0, 1, 5, 100, 2**60, NO_DISTANCE))
+        room = len(sources) * len(targets) if self.draw.random() < 0.8 else self.draw.randrange(9)
+        wanted, words = "OK", [7] * room
+        if not handle.is_open:
+            wanted = "CLOSED"
+        elif len(sources) * len(targets) != room:
+            wanted = "LENGTHS"
+        elif not self.are_nodes(sources, targets):
+            wanted = "NODE_RANGE"
+        else:
+            words = [self.word(source, target, limit) for source in sources for target in targets]
+        self.expect(self.library.table(handle, sources, targets, limit, room) == (STATUS[wanted], words), "table", sources, targets, limit, room, wanted)
+
+    def ask_route(self):
+        handle, source, target, room = self.draw.choice(self.handles), self.node(), self.node(), self.draw.choice((0, 1, 2, 3, self.count))
+        status, weight, count, nodes = self.library.route(handle, source, target, room)
+        told = "route", source, target, room, status, weight, count, nodes
+        untouched = [7] * room
+        if not handle.is_open:
+            self.expect((status, weight, count, nodes) == (STATUS["CLOSED"], 7, 7, untouched), *told)
+        elif not self.are_nodes([source, target]):
+            self.expect((status, weight, count, nodes) == (STATUS["NODE_RANGE"], 7, 7, untouched), *told)
+        elif self.away[source][target] is None:
+            self.expect((status, weight, count, nodes) == (STATUS["OK"], NO_DISTANCE, 0, untouched), *told)
+        else:
+            least, arcs = self.away[source][target]
+            self.expect((weight, count) == (least, arcs + 1) and status == STATUS["OK" if count <= room else "TOO_SHORT"], *told)
+            self.expect(self.is_way(nodes[:count], least) if count <= room else nodes == untouched, *told)
+
+    def is_way(self, nodes, least):
+        """Whether the least weights from node to node add up."""
+        return sum(self.away[one][other][0] for one, other in zip(nodes, nodes[1:])) == least
+
+    def close(self):
+        for handle in self.handles:
+            self.library.close(handle)
+
+    def call(self):
+        calls = self.open_changed, self.open_or_close, self.share, self.ask_nodes, self.ask_distances, self.ask_table, self.ask_route
+        self.draw.choices(calls, (20, 5, 3, 2, 30, 20, 20))[0]()
+
+
+def memory():
+    """The most kilobytes that this process has held."""
+    return resource.getrusage(resource.RUSAGE_SELF).ru_maxrss
+
+
+def main():
+    calls, seed = (int(word) for word in (sys.argv[1:] + ["5000", "1"][len(sys.argv) - 1:]))
+    tally, library, draw = Count(), Library(), random.Random(f"library {seed}")
+    for done in range(calls):
+        if done % PER_NETWORK == 0:
+            caller = Caller(draw, Case(f"library {seed} {done}"), library, tally)
+        if done == calls // 2:
+            before = memory()
+        caller.call()
+        if done % PER_NETWORK == PER_NETWORK - 1 or done == calls - 1:
+            caller.close()
+    tally.expect(memory() - before <= MOST_GROWTH, f"memory grew by {memory() - before} KB over {calls - calls // 2} calls")
+    tally.finish()
+
+
+if __name__ == "__main__":
+    main()

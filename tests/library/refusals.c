@@ -1,0 +1,135 @@
+/* Refuses each request for memory of each call in turn, alone and with all that come after it.
+ *
+ *   refusals GRAPH SAVED
+ *
+ * Each call answers what it answers with ample memory, or CHTAB_NO_MEMORY; then its handle and its outputs are as before, and the same call
+ * made again is answered. Link it with the archive and `-Wl,--wrap=malloc,--wrap=realloc`. It prints how many requests it refused. */
+#include <chtab.h>
+
+#include <stdio.h>
+#include <stdlib.h>
+#include <string.h>
+
+enum { MOST_NODES = 100000 };
+
+/* Requests before the one that is refused, or -1 where none is; and whether those after it are refused too. */
+static long granted = -1;
+static int all_after = 0;
+static long refused = 0;
+static int failures = 0;
+
+void *__real_malloc(size_t size);
+void *__real_realloc(void *block, size_t size);
+void *__wrap_malloc(size_t size);
+void *__wrap_realloc(void *block, size_t size);
+
+static int is_refused(void) {
+    if (granted < 0) return 0;
+    if (granted > 0) {
+        granted--;
+        return 0;
+    }
+    if (!all_after) granted = -1;
+    refused++;
+    return 1;
+}
+
+void *__wrap_malloc(size_t size) { return is_refused() ? NULL : __real_malloc(size); }
+void *__wrap_realloc(void *block, size_t size) { return is_refused() ? NULL : __real_realloc(block, size); }
+
+static void expect(int holds, const char *told) {
+    if (!holds) {
+        printf("failed: %s\n", told);
+        failures++;
+    }
+}
+
+/* What the calls are given, and what they write. */
+static struct {
+    uint8_t *graph, *saved;
+    size_t graph_len, saved_len;
+    chtab network, other;
+    chtab_found found;
+    uint32_t ends[8];
+    uint32_t nodes[MOST_NODES];
+    uint64_t cells[64];
+} g;
+
+static uint32_t open_network(void) {
+    chtab_fault fault = {9, 9, 9};
+    uint32_t status = chtab_open(&g.network, g.graph, g.graph_len, g.saved, g.saved_len, &fault), count;
+    if (status) expect(!fault.line && !fault.place && !fault.kind && chtab_nodes(&g.network, &count) == CHTAB_CLOSED, "a handle stays closed");
+    return status;
+}
+
+static uint32_t share_network(void) {
+    uint32_t status = chtab_share(&g.network, &g.other), count;
+    expect(chtab_nodes(&g.network, &count) == CHTAB_OK, "the shared handle stays open");
+    if (status) expect(chtab_nodes(&g.other, &count) == CHTAB_CLOSED, "the other handle stays closed");
+    return status;
+}
+
+static uint32_t make_table(void) {
+    uint32_t status;
+    int k;
+    memset(g.cells, 7, sizeof g.cells);
+    status = chtab_table(&g.network, g.ends, 8, g.ends, 8, CHTAB_NO_LIMIT, g.cells, 64);
+    for (k = 0; status && k < (int)sizeof g.cells; k++) expect(((unsigned char *)g.cells)[k] == 7, "a table stays");
+    return status;
+}
+
+static uint32_t find_route(void) {
+    uint32_t status;
+    g.found.weight = 3;
+    g.nodes[0] = 7;
+    status = chtab_route(&g.network, g.ends[0], g.ends[7], &g.found, g.nodes, MOST_NODES);
+    if (status) expect(g.found.weight == 3 && g.nodes[0] == 7, "a route stays");
+    return status;
+}
+
+/* Refuses one request more or less each time, until the call meets no refusal. */
+static void refuse_each(uint32_t (*call)(void), void (*undo)(void), const char *told) {
+    long at;
+    for (all_after = 0; all_after < 2; all_after++) {
+        for (at = 0;; at++) {
+            long before = refused;
+            uint32_t status;
+            granted = at;
+            status = call();
+            granted = -1;
+            expect(status == (refused == before ? CHTAB_OK : CHTAB_NO_MEMORY), told);
+            if (status == CHTAB_OK && undo) undo();
+            if (refused == before) break;
+        }
+    }
+}
+
+static void close_network(void) { expect(chtab_close(&g.network) == CHTAB_OK, "close"); }
+static void close_other(void) { expect(chtab_close(&g.other) == CHTAB_OK, "close"); }
+
+static uint8_t *bytes_of(const char *path, size_t *len) {
+    FILE *file = fopen(path, "rb");
+    uint8_t *bytes = (uint8_t *)malloc(1 << 24);
+    if (!file || !bytes) exit(2);
+    *len = fread(bytes, 1, 1 << 24, file);
+    fclose(file);
+    return bytes;
+}
+
+int main(int count, char **words) {
+    uint32_t nodes = 0, k;
+    if (count != 3) return 2;
+    g.graph = bytes_of(words[1], &g.graph_len);
+    g.saved = bytes_of(words[2], &g.saved_len);
+    refuse_each(open_network, close_network, "open");
+    expect(open_network() == CHTAB_OK && chtab_nodes(&g.network, &nodes) == CHTAB_OK, "open");
+    for (k = 0; k < 8; k++) g.ends[k] = k * (nodes - 1) / 7;
+    refuse_each(share_network, close_other, "share");
+    refuse_each(make_table, NULL, "table");
+    refuse_each(find_route, NULL, "route");
+    close_network();
+    free(g.graph);
+    free(g.saved);
+    printf("%ld requests refused\n", refused);
+    return failures > 0;
+}
