@@ -272,7 +272,8 @@ LIMITS = (
     ("MOST_NODES", "nodes of a graph"), ("MOST_ARCS", "arcs of a graph"), ("MOST_WEIGHT", "number of nodes times the weight of any arc"),
     ("MOST_QUERIES", "queries of a file"), ("MOST_LISTED", "nodes of a list of sources or of targets"), ("MOST_LEGS", "legs of a saved hierarchy"),
     ("MOST_CELLS", "cells of a table, sources times targets"), ("MOST_WEIGHT", "weight of a leg"), ("MOST_NODES", "arcs that a leg stands for"),
-    ("MOST_WITHIN", "`--within R`"), ("MOST_WORKERS", "`--workers N`"), ("MOST_PIECE", "`--piece K`"), ("MOST_HOPS", "`--hops H`"),
+    ("MOST_WITHIN", "`--within R`"), ("MOST_COUNT", "`--count K`"), ("MOST_WORKERS", "`--workers N`"), ("MOST_PIECE", "`--piece K`"),
+    ("MOST_HOPS", "`--hops H`"),
 )
 INNER_LIMITS = "MOST_SUM", "MOST_PATH_ARCS", "MOST_OFFER"
 

@@ -29,8 +29,12 @@ KINDS = [
     (["dist"], ["graph", "queries"]),
     (["dist", "--plain"], ["graph", "queries"]),
     (["table"], ["graph", "sources", "targets"]),
+    (["near"], ["graph", "sources", "targets"]),
+    (["near", "--all"], ["graph", "targets"]),
     (["dist"], ["graph", "saved", "queries"]),
     (["table"], ["graph", "saved", "sources", "targets"]),
+    (["near"], ["graph", "saved", "sources", "targets"]),
+    (["near", "--all"], ["graph", "saved", "targets"]),
 ]
 
 # The faults of files, those of saved hierarchies, and that none is found.

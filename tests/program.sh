@@ -187,6 +187,22 @@ expect "Liechtenstein, saved, two workers" 0 "$table" "" table --workers 2 --sav
 expect "Liechtenstein, saved, within a limit" 0 "$("$root/chtab" table --within 60000 "$lg" from.ss to.ss)" "" \
   table --within 60000 --saved same.ch "$lg" from.ss to.ss
 
+# expect_near NAME WORD..: the near rows of these words, as an independent program makes them, also by the hierarchy in same.ch and two workers.
+expect_near() {
+  local name=$1 rows
+  shift
+  rows=$(python3 -m oracles.nearest "$@")
+  expect "$name" 0 "$rows" "" near "$@"
+  expect "$name, saved, two workers" 0 "$rows" "" near --saved same.ch --workers 2 --piece 7 "$@"
+}
+
+for direction in --from ""; do
+  for limits in "" "--count 3" "--within 60000" "--within 300000 --count 65536"; do
+    expect_near "near rows $direction $limits" $direction $limits "$lg" from.ss to.ss
+  done
+  expect_near "near rows $direction of all nodes" $direction --count 2 --within 900000 --all "$lg" to.ss
+done
+
 printf 'p sp 3 2\na 1 2 4\na 2 3 5\n' >graph.gr
 python3 -c '
 for name, count in ("most.ss", 2048), ("more.ss", 2049):
@@ -202,6 +218,12 @@ expect "too many cells" 1 "" "chtab: too many cells" table graph.gr more.ss most
 list_of 1 2 >two.ss
 list_of 4 >four.ss
 printf 'p aux sp ss 65537\n' >many.ss
+"$root/chtab" near --count 1 graph.gr more.ss most.ss >rows.txt
+compare "near rows of many cells" "2049 n 1 1 1 0" "$(uniq -c rows.txt | sed 's/^ *//')"
+expect "a source of near rows out of range" 1 "" "chtab: sources line 2: node out of range" near graph.gr four.ss two.ss
+expect "a target of near rows out of range" 1 "" "chtab: targets line 2: node out of range" near --all graph.gr four.ss
+expect "missing targets of near rows" 3 "" "chtab: missing.ss: there is no such file
+chtab: cannot read targets" near --all --count 3 graph.gr missing.ss
 expect "a source out of range" 1 "" "chtab: sources line 2: node out of range" table graph.gr four.ss two.ss
 expect "a target out of range" 1 "" "chtab: targets line 2: node out of range" table graph.gr two.ss four.ss
 expect "too many sources" 1 "" "chtab: sources line 1: size too large" table graph.gr many.ss two.ss
@@ -414,6 +436,7 @@ reads="chtab: reading, 0 of 1 files"
 expect_progress "dist" "$reads" dist --workers 2 "$lg" fifty.p2p
 expect_progress "dist, plain" "$reads" dist --plain "$g" "$q"
 expect_progress "table" "$reads" table "$lg" from.ss to.ss
+expect_progress "near" "$reads" near --count 3 "$lg" from.ss to.ss
 expect_progress "save" "$reads" save "$lg"
 expect_progress "ask" "$reads" ask "$g"
 expect_progress "dist, saved" "chtab: reading, 0 of 2 files" dist --saved "$ch" "$g" "$q"
@@ -488,6 +511,11 @@ list_of 4 4 5 >fours.ss
 list_of 2 >node_2.ss
 expect "a target that repeats" 0 $'t 5 4 4 0\nt 1 3 3 4' "" table ring.gr five_and_one.ss fours.ss
 expect "no target" 0 "t 2" "" table ring.gr node_2.ss nothing.ss
+expect "a near target that repeats" 0 $'n 5 3 5 0 4 4 4 4\nn 1 3 4 3 4 3 5 4' "" near ring.gr five_and_one.ss fours.ss
+expect "the first of two equal targets" 0 $'n 5 1 5 0\nn 1 1 4 3' "" near --count 1 ring.gr five_and_one.ss fours.ss
+expect "no near target" 0 "n 2 0" "" near ring.gr node_2.ss nothing.ss
+expect "no source of near rows" 0 "" "" near ring.gr nothing.ss one.ss
+expect "no node, no near rows" 0 "" "" near --all none.gr nothing.ss
 expect "no source" 0 "" "" table ring.gr nothing.ss one.ss
 expect "no node, no table" 0 "" "" table none.gr nothing.ss nothing.ss
 expect "a missing file is told before a faulty one" 3 "" "chtab: missing.p2p: there is no such file

@@ -4,8 +4,9 @@
   random_graphs.py [GRAPHS [SEED]]
 
 Weights of 0, parallel arcs, loops, unreachable parts and weights up to the limit are among them (300 graphs, seed 1). For each graph,
-by the difference and by depth, with bounds on hops from 1 to 16 and with 1, 2 and 64 workers: `dist`, `dist --routes` and `table`,
-also within a limit; `save`, and the same by the saved hierarchy; and `dist --plain`. Distances are those of Dijkstra's algorithm over
+by the difference and by depth, with bounds on hops from 1 to 16 and with 1, 2 and 64 workers: `dist`, `dist --routes`, `table` and
+`near`, also within a limit; `near --all`, to and from the targets, and no more than a count; `save`, and the same by the saved hierarchy;
+and `dist --plain`. Distances are those of Dijkstra's algorithm over
 pairs of weight and number of arcs, each route is a walk of the graph of that weight and that number of arcs, and the one that the rules
 name, all runs of one kind write the same bytes, what is saved is the hierarchy that the rules name, and an independent checker finds no
 fault in it. A hierarchy that an independent program makes by an order of its own is accepted, and gives the same distances. The last
@@ -34,12 +35,24 @@ def check_saved(case, hops, deep, text):
     return routes_text(order, legs, case.queries)
 
 
+def check_near(case, folder, *options):
+    """The near rows of runs with these options are right: of the sources and of all nodes, to the targets and from them."""
+    limits = ["--count", str(case.count), "--within", str(case.limit)]
+    for words, sources in (["graph.gr", "from.ss", "to.ss"], case.lists[0]), (["--all", "graph.gr", "to.ss"], range(1, case.nodes + 1)):
+        for direction in [], ["--from"]:
+            is_from = bool(direction)
+            assert folder.run("near", *direction, *options, *words) == case.near(sources, is_from), (direction, words)
+            found = folder.run("near", *limits, *direction, *options, *words)
+            assert found == case.near(sources, is_from, case.limit, case.count), (limits, direction, words)
+
+
 def check_runs(case, folder, *options, order=()):
-    """The distances and tables of runs with these options are right; gives the text of routes, in this order."""
+    """The distances, tables and near rows of runs with these options are right; gives the text of routes, in this order."""
     lists = ["graph.gr", "from.ss", "to.ss"]
     assert folder.run("dist", *options, "graph.gr", "queries.p2p") == case.distances()
     assert folder.run("table", *options, *lists) == case.table()
     assert folder.run("table", "--within", str(case.limit), *options, *lists) == case.table(case.limit)
+    check_near(case, folder, *options)
     text = folder.run("dist", "--routes", *order, *options, "graph.gr", "queries.p2p")
     assert case.has_right_routes(text), text
     return text

@@ -60,6 +60,8 @@ STAR_ROUTES = b"d 3 4 2\nr 2\na 3 1 1\na 1 4 1\nd 4 2 2\nr 2\na 4 1 1\na 1 2 1\n
 LINE_ROUTES = b"d 1 3 9\nr 2\na 1 2 4\na 2 3 5\nd 3 1 -\n"
 LINE_TABLE = b"t 1 9 4\nt 1 9 4\nt 3 0 -\n"
 LINE_TABLE_WITHIN_8 = b"t 1 - 4\nt 1 - 4\nt 3 0 -\n"
+LINE_NEAREST = b"n 1 1 2 4\nn 1 1 2 4\nn 3 1 3 0\n"
+LINE_NEAREST_OF_ALL = b"n 1 1 2 4\nn 2 1 2 0\nn 3 1 3 0\n"
 TWO_WORKERS = ["--workers", "2", "--piece", "1"]
 
 # The kinds of run: their words, and the answer with ample memory; None where other tests look at the text.
@@ -73,12 +75,18 @@ KINDS = {
     "a table": (["table", "line.gr", "from.ss", "to.ss"], Answer(0, LINE_TABLE, b"")),
     "a table by two workers": (["table", *TWO_WORKERS, "line.gr", "from.ss", "to.ss"], Answer(0, LINE_TABLE, b"")),
     "a table within a limit": (["table", "--within", "8", "line.gr", "from.ss", "to.ss"], Answer(0, LINE_TABLE_WITHIN_8, b"")),
+    "near rows": (["near", "--count", "1", "line.gr", "from.ss", "to.ss"], Answer(0, LINE_NEAREST, b"")),
+    "near rows of all nodes by two workers": (["near", *TWO_WORKERS, "--count", "1", "--all", "line.gr", "to.ss"],
+                                              Answer(0, LINE_NEAREST_OF_ALL, b"")),
     "a hierarchy": (["save", "star.gr"], Answer(0, STAR_SAVED, b"")),
     "a hierarchy by two workers": (["save", *TWO_WORKERS, "star.gr"], Answer(0, STAR_SAVED, b"")),
     "routes by a saved hierarchy": (["dist", "--routes", "--saved", "star.ch", "star.gr", "star.p2p"], Answer(0, STAR_ROUTES, b"")),
     "a table by a saved hierarchy": (["table", "--saved", "line.ch", "line.gr", "from.ss", "to.ss"], Answer(0, LINE_TABLE, b"")),
+    "near rows by a saved hierarchy": (["near", "--count", "1", "--saved", "line.ch", "line.gr", "from.ss", "to.ss"],
+                                       Answer(0, LINE_NEAREST, b"")),
     "help": (["--help"], Answer(0, None, b"")),
     "refused words": (["dist", "--fast", "line.gr", "line.p2p"], Answer(2, b"", None)),
+    "refused lists": (["near", "--all", "line.gr", "from.ss", "to.ss"], Answer(2, b"", None)),
     "a word that is not UTF-8": (["dist", b"\xff", "line.p2p"], Answer(2, b"", None)),
     "a refused graph": (["dist", "outside.gr", "line.p2p"], Answer(1, b"", b"chtab: graph line 2: node out of range\n")),
     "a refused hierarchy": (["dist", "--saved", "wrong.ch", "line.gr", "line.p2p"],
@@ -103,6 +111,9 @@ RUNS = {
     "routes on a line": (["dist", "--routes"], {"graph": "line.gr", "queries": "line.p2p"}, LINE_ROUTES),
     "routes on a star": (["dist", "--routes"], {"graph": "star.gr", "queries": "star.p2p"}, STAR_ROUTES),
     "a table": (["table"], {"graph": "line.gr", "sources": "from.ss", "targets": "to.ss"}, LINE_TABLE),
+    "near rows": (["near", "--count", "1"], {"graph": "line.gr", "sources": "from.ss", "targets": "to.ss"}, LINE_NEAREST),
+    "near rows of all nodes by a saved hierarchy": (["near", "--count", "1", "--all"], {"graph": "line.gr", "saved": "line.ch", "targets": "to.ss"},
+                                                    LINE_NEAREST_OF_ALL),
     "a hierarchy": (["save"], {"graph": "star.gr"}, STAR_SAVED),
     "routes by a saved hierarchy": (["dist", "--routes"], {"graph": "star.gr", "saved": "star.ch", "queries": "star.p2p"}, STAR_ROUTES),
     "a table by a saved hierarchy": (["table"], {"graph": "line.gr", "saved": "line.ch", "sources": "from.ss", "targets": "to.ss"},

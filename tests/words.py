@@ -32,6 +32,11 @@ ROUTES = "d 1 3 9\nr 2\na 1 2 4\na 2 3 5\nd 3 1 -\n"
 TABLE = "t 1 9 4\nt 3 0 -\n"
 WITHIN_4 = "t 1 - 4\nt 3 0 -\n"
 WITHIN_0 = "t 1 - -\nt 3 0 -\n"
+NEAR = "n 1 2 2 4 3 9\nn 3 1 3 0\n"
+NEAREST = "n 1 1 2 4\nn 3 1 3 0\n"
+NEAR_WITHIN_0 = "n 1 0\nn 3 1 3 0\n"
+NEAR_FROM = "n 1 0\nn 3 2 3 0 2 5\n"
+NEAR_ALL = "n 1 2 2 4 3 9\nn 2 2 2 0 3 5\nn 3 1 3 0\n"
 BY_DIFFERENCE = "d 2 4 2\nr 2\na 2 1 1\na 1 4 1\n"
 BY_DEPTH = "d 2 4 2\nr 2\na 2 3 1\na 3 4 1\n"
 SAVED = "p ch 3 2\no 1\no 2\no 3\nl 1 2 4 1 0\nl 2 3 5 1 0\n"
@@ -62,6 +67,20 @@ READ = [
     ("table --within 1152921504606846976 line.gr from.ss to.ss", TABLE),
     ("table line.gr --within +004 from.ss to.ss", WITHIN_4),
     ("table line.gr --saved line.ch from.ss --within 0 to.ss", WITHIN_0),
+    ("near line.gr from.ss to.ss", NEAR),
+    ("near line.gr to.ss from.ss", "n 3 1 3 0\nn 2 1 3 5\n"),
+    ("near line.gr from.ss --from to.ss", NEAR_FROM),
+    ("near --count 1 line.gr from.ss to.ss", NEAREST),
+    ("near line.gr from.ss to.ss --count=+065536", NEAR),
+    ("near --within 8 line.gr from.ss to.ss", NEAREST),
+    ("near line.gr from.ss to.ss --within=0", NEAR_WITHIN_0),
+    ("near line.gr --from --within 4 --count 2 from.ss to.ss", "n 1 0\nn 3 1 3 0\n"),
+    ("near --saved line.ch --workers 2 line.gr --hops 1 from.ss --piece 1 to.ss", NEAR),
+    ("near --all line.gr to.ss", NEAR_ALL),
+    ("near line.gr to.ss --all --count 1", "n 1 1 2 4\nn 2 1 2 0\nn 3 1 3 0\n"),
+    ("near line.gr --all --saved=line.ch to.ss", NEAR_ALL),
+    ("near --from --all line.gr to.ss", "n 1 0\nn 2 1 2 0\nn 3 2 3 0 2 5\n"),
+    ("near --all line.gr -- from.ss", "n 1 2 1 0 3 9\nn 2 1 3 5\nn 3 1 3 0\n"),
     ("save line.gr", SAVED),
     ("save line.gr --deep", SAVED_BY_DEPTH),
     ("save --workers 64 line.gr --piece 1 --hops 16", SAVED),
@@ -81,6 +100,11 @@ ELSEWHERE = [
     ("dist line.gr line.p2p --saved=line.gr", 1, "chtab: saved line 1: bad problem line\n"),
     ("dist --saved none.ch line.gr line.p2p", 3, "chtab: cannot read saved\n"),
     ("table --saved= line.gr from.ss to.ss", 3, "chtab: cannot read saved\n"),
+    ("near line.gr to.ss line.p2p", 1, "chtab: targets line 1: bad problem line\n"),
+    ("near line.gr line.p2p to.ss", 1, "chtab: sources line 1: bad problem line\n"),
+    ("near --all line.gr line.p2p", 1, "chtab: targets line 1: bad problem line\n"),
+    ("near --all --saved none.ch line.gr to.ss", 3, "chtab: cannot read saved\n"),
+    ("near --all line.p2p none.ss", 3, "chtab: cannot read targets\n"),
     ("dist line.p2p none.p2p", 3, "chtab: cannot read queries\n"),
     ("table line.p2p from.ss none.ss", 3, "chtab: cannot read targets\n"),
 ]
@@ -103,6 +127,16 @@ LIMITS = [
     ("--within=x", "invalid value 'x'"),
     ("--within=", "for '--within <R>'"),
 ]
+COUNTS = [
+    ("--count=65537", "65537 is not in 1..=65536"),
+    ("--count=0", "0 is not in 1..=65536"),
+    ("--count=-1", "invalid value '-1'"),
+    ("--count=x", "invalid value 'x'"),
+    ("--count=", "for '--count <K>'"),
+]
+
+# What is told where `near` has other lists than it reads.
+OTHER_LISTS = "SOURCES and TARGETS are needed, or with --all TARGETS alone"
 
 # Other words that are refused, and part of what is told of them.
 REFUSED = [
@@ -130,6 +164,25 @@ REFUSED = [
     ("table --within -1 g s t", "unexpected argument '-1'"),
     ("table g s t --within", "a value is required"),
     ("table --within 1 --within 1 g s t", "cannot be used multiple times"),
+    ("table --count 1 g s t", "unexpected argument '--count'"),
+    ("table --from g s t", "unexpected argument '--from'"),
+    ("table --all g t", "unexpected argument '--all'"),
+    ("near", "required arguments were not provided"),
+    ("near g", "required arguments were not provided"),
+    ("near --all g", "required arguments were not provided"),
+    ("near g t", OTHER_LISTS),
+    ("near --all g s t", OTHER_LISTS),
+    ("near g s t --all", OTHER_LISTS),
+    ("near g s --from t u", OTHER_LISTS),
+    ("near g t", "Usage: chtab near [OPTIONS] <GRAPH> <SOURCES> <TARGETS>"),
+    ("near g t", "chtab near [OPTIONS] --all <GRAPH> <TARGETS>"),
+    ("near g s t u", "unexpected value 'u'"),
+    ("near --all --all g t", "cannot be used multiple times"),
+    ("near --count 1 --count 1 g s t", "cannot be used multiple times"),
+    ("near g s t --count", "a value is required"),
+    ("near --plain g s t", "unexpected argument '--plain'"),
+    ("near --routes g s t", "unexpected argument '--routes'"),
+    ("near --deep g s t", "unexpected argument '--deep'"),
     ("save", "required arguments were not provided"),
     ("save g h", "unexpected argument 'h'"),
     ("save --saved h g", "unexpected argument '--saved'"),
@@ -142,8 +195,8 @@ REFUSED = [
 # Words that ask for help, and parts of what it says.
 HELPS = {
     "--help": [
-        "Usage: chtab <COMMAND>", "dist", "table", "save", "ask", "chtab dist --routes roads.gr pairs.p2p",
-        "chtab table roads.gr depots.ss shops.ss", "chtab save --deep roads.gr >roads.ch",
+        "Usage: chtab <COMMAND>", "dist", "table", "near", "save", "ask", "chtab dist --routes roads.gr pairs.p2p",
+        "chtab table roads.gr depots.ss shops.ss", "chtab near --count 3 roads.gr homes.ss doctors.ss", "chtab save --deep roads.gr >roads.ch",
         "chtab ask --saved roads.ch roads.gr <requests.txt",
     ],
     "dist --help": [
@@ -159,6 +212,13 @@ HELPS = {
         "Usage: chtab table [OPTIONS] <GRAPH> <SOURCES> <TARGETS>", "--workers <N>", "--piece <K>", "--hops <H>", "p aux sp ss K",
         "--within <R>", "from 0 to 1152921504606846976: each other cell is - [default: no limit]", "--saved <FILE>",
         "--progress", "chtab table roads.gr depots.ss shops.ss", "chtab table --within 900000 roads.gr homes.ss doctors.ss",
+    ],
+    "near --help": [
+        "Usage: chtab near [OPTIONS] <GRAPH> <SOURCES> <TARGETS>\n       chtab near [OPTIONS] --all <GRAPH> <TARGETS>\n", "`n S K T1 X1 ..`",
+        "--count <K>", "from 1 to 65536 [default: all]", "--within <R>", "from 0 to 1152921504606846976 [default: no limit]", "--from", "--all",
+        "Then no SOURCES are given [default: off]", "--saved <FILE>", "--workers <N>", "--piece <K>", "--hops <H>", "--progress",
+        "SOURCES and TARGETS, or with --all TARGETS alone", "p aux sp ss K", "chtab near --count 3 roads.gr homes.ss doctors.ss",
+        "chtab near --all --within 900000 roads.gr doctors.ss",
     ],
     "save --help": [
         "Usage: chtab save [OPTIONS] <GRAPH>", "--deep", "another may be written [default: off]", "--workers <N>", "--piece <K>",
@@ -198,11 +258,14 @@ def expect_refused(tally, folder, line, part):
 def check_refused(tally, folder):
     """Each word that no tool reads."""
     for option, number, part in NUMBERS:
-        for line in f"dist {option} {number} --routes g q", f"table {option} {number} g s t", f"save g {option} {number}", f"ask {option} {number} g":
+        for line in (f"dist {option} {number} --routes g q", f"table {option} {number} g s t", f"near {option} {number} --all g t",
+                     f"save g {option} {number}", f"ask {option} {number} g"):
             expect_refused(tally, folder, line, part)
     for limit, part in LIMITS:
-        for line in f"table {limit} g s t", f"ask g {limit}":
+        for line in f"table {limit} g s t", f"near g s t {limit}", f"ask g {limit}":
             expect_refused(tally, folder, line, part)
+    for count, part in COUNTS:
+        expect_refused(tally, folder, f"near {count} g s t", part)
     for line, part in REFUSED:
         expect_refused(tally, folder, line, part)
 

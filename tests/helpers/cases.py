@@ -6,6 +6,7 @@ from pathlib import Path
 from helpers.running import PROGRAM
 from helpers.writing import write_graph, write_list, write_queries
 from oracles.dijkstra import arcs_ahead, least_costs
+from oracles.nearest import near_text
 from oracles.routes import checked
 
 # The number of nodes times any weight is at most this.
@@ -42,6 +43,7 @@ class Case:
         self.limit = draw.choice([0, LIMIT, *(weight for known in self.costs.values() for weight, _ in known.values())])
         self.order = draw.sample(range(1, self.nodes + 1), self.nodes)
         self.hops = draw.sample(range(1, 17), 2)
+        self.count = draw.choice((1, 2, 3, 65_536))
 
     def answers(self):
         """Each query with the least weight and the least number of arcs of a walk of that weight, or twice None where there is no walk."""
@@ -65,6 +67,17 @@ class Case:
         """The rows, in which cells above `most` are none."""
         rows = [["t", str(source), *(self.cell(source, target, most) for target in self.lists[1])] for source in self.lists[0]]
         return "".join(" ".join(row) + "\n" for row in rows)
+
+    def near(self, sources, is_from=False, most=None, count=None):
+        """The near rows of these sources: their targets at most so far away, and no more than `count` of them. With `is_from` the distances
+        are those from the targets."""
+        weights = {source: {} for source in sources}
+        for source in weights:
+            for target in self.lists[1]:
+                start, end = (target, source) if is_from else (source, target)
+                if end in self.costs[start]:
+                    weights[source][target] = self.costs[start][end][0]
+        return near_text(weights, sources, self.lists[1], most, count)
 
     def write(self, folder):
         """The files graph.gr, queries.p2p, from.ss and to.ss."""

@@ -131,3 +131,9 @@ def queries_of(path, nodes):
     """The queries (from, to) of a file."""
     _, (queries,) = read("queries", Path(path).read_bytes(), nodes)
     return [tuple(query) for query in queries]
+
+
+def list_of(name, path, nodes):
+    """The nodes of a file of sources or of targets."""
+    _, (listed,) = read(name, Path(path).read_bytes(), nodes)
+    return [node for node, in listed]

@@ -9,6 +9,7 @@ use Rattle.ch_hierarchy.specs.Hierarchy.{LevelsAndLegs}
 use Rattle.ch_run.specs.declared.options.Options.{Options}
 use Rattle.ch_run.specs.Run.{IsAnsweredBy, IsTabledBy}
 use Rattle.ch_run.specs.Lists.{ReadsLists}
+use Rattle.ch_run.specs.NearRun.{IsNearAllBy, IsNearAllFrom, IsNearBy, IsNearFrom}
 use Rattle.ch_run.specs.SavedRun.{AreChecked, IsAnsweredFrom, IsSavedBy, IsTabledFrom}
 use Rattle.ch_run.specs.Ask.{ServesBy, ServesFrom}
 use Rattle.ch_line.specs.Inputs.{whole_of}
@@ -51,9 +52,25 @@ answered-by-whole options gb ga sb sa qb qa text t = (t.0, t.1, t.2, checked-who
 pub tabled-whole : (options : Options) (gb ga jb ja lb la : Option (List ℕ)) (text : List ℕ) → IsTabledBy options (read_from gb ga) (read_from jb ja) (read_from lb la) text → IsTabledBy options (whole_of gb) (whole_of jb) (whole_of lb) text
 tabled-whole options gb ga jb ja lb la text t = (t.0, t.1, t.2, to-whole gb ga _ t.3, to-whole jb ja _ t.4, to-whole lb la _ t.5, t.6, t.7)
 
--- and a table by a saved hierarchy
+-- a table by a saved hierarchy
 pub tabled-by-whole : (options : Options) (gb ga sb sa jb ja lb la : Option (List ℕ)) (text : List ℕ) → IsTabledFrom options (read_from gb ga) (read_from sb sa) (read_from jb ja) (read_from lb la) text → IsTabledFrom options (whole_of gb) (whole_of sb) (whole_of jb) (whole_of lb) text
 tabled-by-whole options gb ga sb sa jb ja lb la text t = (t.0, t.1, t.2, checked-whole gb ga sb sa _ _ _ t.3, (t.4.0, t.4.1, lists-whole jb ja lb la _ _ _ t.4.2, t.4.3))
+
+-- near rows
+pub near-whole : (options : Options) (gb ga jb ja lb la : Option (List ℕ)) (text : List ℕ) → IsNearBy options (read_from gb ga) (read_from jb ja) (read_from lb la) text → IsNearBy options (whole_of gb) (whole_of jb) (whole_of lb) text
+near-whole options gb ga jb ja lb la text t = (t.0, t.1, t.2, to-whole gb ga _ t.3, (to-whole jb ja _ t.4.0, to-whole lb la _ t.4.1), t.5)
+
+-- near rows by a saved hierarchy
+pub near-by-whole : (options : Options) (gb ga sb sa jb ja lb la : Option (List ℕ)) (text : List ℕ) → IsNearFrom options (read_from gb ga) (read_from sb sa) (read_from jb ja) (read_from lb la) text → IsNearFrom options (whole_of gb) (whole_of sb) (whole_of jb) (whole_of lb) text
+near-by-whole options gb ga sb sa jb ja lb la text t = (t.0, t.1, t.2, checked-whole gb ga sb sa _ _ _ t.3, (t.4.0, t.4.1, (to-whole jb ja _ t.4.2.0, to-whole lb la _ t.4.2.1), t.4.3))
+
+-- near rows of all nodes
+pub near-all-whole : (options : Options) (gb ga lb la : Option (List ℕ)) (text : List ℕ) → IsNearAllBy options (read_from gb ga) (read_from lb la) text → IsNearAllBy options (whole_of gb) (whole_of lb) text
+near-all-whole options gb ga lb la text t = (t.0, t.1, to-whole gb ga _ t.2, to-whole lb la _ t.3, t.4)
+
+-- and near rows of all nodes by a saved hierarchy
+pub near-all-by-whole : (options : Options) (gb ga sb sa lb la : Option (List ℕ)) (text : List ℕ) → IsNearAllFrom options (read_from gb ga) (read_from sb sa) (read_from lb la) text → IsNearAllFrom options (whole_of gb) (whole_of sb) (whole_of lb) text
+near-all-by-whole options gb ga sb sa lb la text t = (t.0, t.1, t.2, checked-whole gb ga sb sa _ _ _ t.3, (t.4.0, to-whole lb la _ t.4.1, t.4.2))
 
 -- answers to requests
 pub served-whole : {T : Type 0} (options : Options) (gb ga : Option (List ℕ)) (requests : Reading) (old new : Option (List ℕ)) (r : Result T RunFault)

@@ -5,6 +5,7 @@ use Rattle.ch_hierarchy.specs.declared.fault.CheckFault.{CheckFault}
 use Rattle.ch_run.specs.declared.fault.Which.{Which}
 use Rattle.ch_run.specs.declared.fault.RunFault.{RunFault}
 use Rattle.ch_run.specs.declared.options.Options.{Options}
+use Rattle.ch_run.specs.NearRun.{HasTargetsRefusedNext, HasTargetsRefusedNextFrom, IsNearAllBy, IsNearAllFrom, IsNearBy, IsNearFrom, IsOfNear, IsOfNearAll, IsOfNearAllSaved, IsOfNearSaved}
 use Rattle.ch_run.specs.Run.{Delivers, HasCellsRefused, HasQueriesRefused, HasSourcesRefused, HasTargetsRefused, IsAnsweredBy, IsGraphRefused, IsOf, IsOfDist, IsOfTable, IsTabledBy, IsWrite, Reading, reading}
 use Rattle.ch_run.specs.SavedRun.{HasCellsRefusedFrom, HasCheckRefused, HasQueriesRefusedFrom, HasSavedRefused, HasSourcesRefusedFrom, HasTargetsRefusedFrom, IsAnsweredFrom, IsOfChecked, IsOfDistSaved, IsOfSave, IsOfTableSaved, IsSavedBy, IsTabledFrom}
 use Rattle.ch_run.specs.Ask.{IsOfAsk, IsOfAskSaved, ServesBy, ServesFrom}
@@ -20,6 +21,10 @@ pub data Task : Type 0 where
   AnswersBy : (graph saved queries : Reading) → Task
   Table : (graph sources targets : Reading) → Task
   TableBy : (graph saved sources targets : Reading) → Task
+  Near : (graph sources targets : Reading) → Task
+  NearBy : (graph saved sources targets : Reading) → Task
+  NearAll : (graph targets : Reading) → Task
+  NearAllBy : (graph saved targets : Reading) → Task
   Hierarchy : (graph : Reading) → Task
   Requests : (graph : Reading) → Task
   RequestsBy : (graph saved : Reading) → Task
@@ -30,6 +35,10 @@ task_of left (Inputs.Queries graph queries) = Answers (whole_of (left graph)) (w
 task_of left (Inputs.QueriesBy graph saved queries) = AnswersBy (whole_of (left graph)) (whole_of (left saved)) (whole_of (left queries))
 task_of left (Inputs.Lists graph sources targets) = Table (whole_of (left graph)) (whole_of (left sources)) (whole_of (left targets))
 task_of left (Inputs.ListsBy graph saved sources targets) = TableBy (whole_of (left graph)) (whole_of (left saved)) (whole_of (left sources)) (whole_of (left targets))
+task_of left (Inputs.Near graph sources targets) = Near (whole_of (left graph)) (whole_of (left sources)) (whole_of (left targets))
+task_of left (Inputs.NearBy graph saved sources targets) = NearBy (whole_of (left graph)) (whole_of (left saved)) (whole_of (left sources)) (whole_of (left targets))
+task_of left (Inputs.NearAll graph targets) = NearAll (whole_of (left graph)) (whole_of (left targets))
+task_of left (Inputs.NearAllBy graph saved targets) = NearAllBy (whole_of (left graph)) (whole_of (left saved)) (whole_of (left targets))
 task_of left (Inputs.Hierarchy graph) = Hierarchy (whole_of (left graph))
 task_of left (Inputs.Requests graph) = Requests (whole_of (left graph))
 task_of left (Inputs.RequestsBy graph saved) = RequestsBy (whole_of (left graph)) (whole_of (left saved))
@@ -54,6 +63,10 @@ Writes options (Answers graph queries) left failed = WritesText (IsAnsweredBy op
 Writes options (AnswersBy graph saved queries) left failed = WritesText (IsAnsweredFrom options graph saved queries)
 Writes options (Table graph sources targets) left failed = WritesText (IsTabledBy options graph sources targets)
 Writes options (TableBy graph saved sources targets) left failed = WritesText (IsTabledFrom options graph saved sources targets)
+Writes options (Near graph sources targets) left failed = WritesText (IsNearBy options graph sources targets)
+Writes options (NearBy graph saved sources targets) left failed = WritesText (IsNearFrom options graph saved sources targets)
+Writes options (NearAll graph targets) left failed = WritesText (IsNearAllBy options graph targets)
+Writes options (NearAllBy graph saved targets) left failed = WritesText (IsNearAllFrom options graph saved targets)
 Writes options (Hierarchy graph) left failed = WritesText (IsSavedBy options graph)
 Writes options (Requests graph) left failed = WritesAnswers (IsOf Which.Graph) (ServesBy options graph) left failed
 Writes options (RequestsBy graph saved) left failed = WritesAnswers IsOfChecked (ServesFrom options graph saved) left failed
@@ -90,6 +103,36 @@ pub record EndsTableBy (graph saved sources targets : Reading) (result : Result 
   pub targets_refused : (fault : ReadFault) → result ≡ Err (RunFault.Read Which.Targets fault) → HasTargetsRefusedFrom graph saved sources targets fault
   pub cells_refused : result ≡ Err RunFault.Cells → HasCellsRefusedFrom graph saved sources targets
 
+-- and one that makes near rows
+pub record EndsNear (graph sources targets : Reading) (result : Result Unit RunFault) : Type 0 where
+  pub own : IfErr result IsOfNear
+  pub graph_refused : (fault : ReadFault) → result ≡ Err (RunFault.Read Which.Graph fault) → IsGraphRefused graph fault
+  pub sources_refused : (fault : ReadFault) → result ≡ Err (RunFault.Read Which.Sources fault) → HasSourcesRefused graph sources fault
+  pub targets_refused : (fault : ReadFault) → result ≡ Err (RunFault.Read Which.Targets fault) → HasTargetsRefused graph sources targets fault
+
+-- and one that makes near rows by a saved hierarchy
+pub record EndsNearBy (graph saved sources targets : Reading) (result : Result Unit RunFault) : Type 0 where
+  pub own : IfErr result IsOfNearSaved
+  pub graph_refused : (fault : ReadFault) → result ≡ Err (RunFault.Read Which.Graph fault) → IsGraphRefused graph fault
+  pub saved_refused : (fault : ReadFault) → result ≡ Err (RunFault.Read Which.Saved fault) → HasSavedRefused graph saved fault
+  pub check_refused : (fault : CheckFault) → result ≡ Err (RunFault.Check fault) → HasCheckRefused graph saved fault
+  pub sources_refused : (fault : ReadFault) → result ≡ Err (RunFault.Read Which.Sources fault) → HasSourcesRefusedFrom graph saved sources fault
+  pub targets_refused : (fault : ReadFault) → result ≡ Err (RunFault.Read Which.Targets fault) → HasTargetsRefusedFrom graph saved sources targets fault
+
+-- and one that makes near rows of all nodes
+pub record EndsNearAll (graph targets : Reading) (result : Result Unit RunFault) : Type 0 where
+  pub own : IfErr result IsOfNearAll
+  pub graph_refused : (fault : ReadFault) → result ≡ Err (RunFault.Read Which.Graph fault) → IsGraphRefused graph fault
+  pub targets_refused : (fault : ReadFault) → result ≡ Err (RunFault.Read Which.Targets fault) → HasTargetsRefusedNext graph targets fault
+
+-- and one that makes near rows of all nodes by a saved hierarchy
+pub record EndsNearAllBy (graph saved targets : Reading) (result : Result Unit RunFault) : Type 0 where
+  pub own : IfErr result IsOfNearAllSaved
+  pub graph_refused : (fault : ReadFault) → result ≡ Err (RunFault.Read Which.Graph fault) → IsGraphRefused graph fault
+  pub saved_refused : (fault : ReadFault) → result ≡ Err (RunFault.Read Which.Saved fault) → HasSavedRefused graph saved fault
+  pub check_refused : (fault : CheckFault) → result ≡ Err (RunFault.Check fault) → HasCheckRefused graph saved fault
+  pub targets_refused : (fault : ReadFault) → result ≡ Err (RunFault.Read Which.Targets fault) → HasTargetsRefusedNextFrom graph saved targets fault
+
 -- and one that saves a hierarchy
 pub record EndsHierarchy (graph : Reading) (result : Result Unit RunFault) : Type 0 where
   pub own : IfErr result IsOfSave
@@ -113,6 +156,10 @@ EndsFor (Answers graph queries) = EndsAnswers graph queries
 EndsFor (AnswersBy graph saved queries) = EndsAnswersBy graph saved queries
 EndsFor (Table graph sources targets) = EndsTable graph sources targets
 EndsFor (TableBy graph saved sources targets) = EndsTableBy graph saved sources targets
+EndsFor (Near graph sources targets) = EndsNear graph sources targets
+EndsFor (NearBy graph saved sources targets) = EndsNearBy graph saved sources targets
+EndsFor (NearAll graph targets) = EndsNearAll graph targets
+EndsFor (NearAllBy graph saved targets) = EndsNearAllBy graph saved targets
 EndsFor (Hierarchy graph) = EndsHierarchy graph
 EndsFor (Requests graph) = EndsRequests graph
 EndsFor (RequestsBy graph saved) = EndsRequestsBy graph saved
@@ -123,6 +170,10 @@ AllInputs P (Inputs.Queries graph queries) = P Which.Graph graph × P Which.Quer
 AllInputs P (Inputs.QueriesBy graph saved queries) = P Which.Graph graph × P Which.Saved saved × P Which.Queries queries
 AllInputs P (Inputs.Lists graph sources targets) = P Which.Graph graph × P Which.Sources sources × P Which.Targets targets
 AllInputs P (Inputs.ListsBy graph saved sources targets) = P Which.Graph graph × P Which.Saved saved × P Which.Sources sources × P Which.Targets targets
+AllInputs P (Inputs.Near graph sources targets) = P Which.Graph graph × P Which.Sources sources × P Which.Targets targets
+AllInputs P (Inputs.NearBy graph saved sources targets) = P Which.Graph graph × P Which.Saved saved × P Which.Sources sources × P Which.Targets targets
+AllInputs P (Inputs.NearAll graph targets) = P Which.Graph graph × P Which.Targets targets
+AllInputs P (Inputs.NearAllBy graph saved targets) = P Which.Graph graph × P Which.Saved saved × P Which.Targets targets
 AllInputs P (Inputs.Hierarchy graph) = P Which.Graph graph
 AllInputs P (Inputs.Requests graph) = P Which.Graph graph
 AllInputs P (Inputs.RequestsBy graph saved) = P Which.Graph graph × P Which.Saved saved
@@ -141,6 +192,10 @@ SomeInput P (Inputs.Queries graph queries) = P Which.Graph graph ⊎ P Which.Que
 SomeInput P (Inputs.QueriesBy graph saved queries) = P Which.Graph graph ⊎ P Which.Saved saved ⊎ P Which.Queries queries
 SomeInput P (Inputs.Lists graph sources targets) = P Which.Graph graph ⊎ P Which.Sources sources ⊎ P Which.Targets targets
 SomeInput P (Inputs.ListsBy graph saved sources targets) = P Which.Graph graph ⊎ P Which.Saved saved ⊎ P Which.Sources sources ⊎ P Which.Targets targets
+SomeInput P (Inputs.Near graph sources targets) = P Which.Graph graph ⊎ P Which.Sources sources ⊎ P Which.Targets targets
+SomeInput P (Inputs.NearBy graph saved sources targets) = P Which.Graph graph ⊎ P Which.Saved saved ⊎ P Which.Sources sources ⊎ P Which.Targets targets
+SomeInput P (Inputs.NearAll graph targets) = P Which.Graph graph ⊎ P Which.Targets targets
+SomeInput P (Inputs.NearAllBy graph saved targets) = P Which.Graph graph ⊎ P Which.Saved saved ⊎ P Which.Targets targets
 SomeInput P (Inputs.Hierarchy graph) = P Which.Graph graph
 SomeInput P (Inputs.Requests graph) = P Which.Graph graph
 SomeInput P (Inputs.RequestsBy graph saved) = P Which.Graph graph ⊎ P Which.Saved saved

@@ -1,7 +1,8 @@
 -- What a line asks for, of which files, and how its run ends.
-use Rattle.std.specs.Prelude.{◌≡◌, ◌⊎◌, ◌↔◌, ◌<◌, ◌≤◌, ℕ, [], ◌∷◌, List, Option, Some, None, Result, Err, IfSome, IsErrAnd, ⊤, vec_len, codes, length, get_or, map, option_map, if◌then◌else◌}
+use Rattle.std.specs.Prelude.{◌≡◌, ◌⊎◌, ◌↔◌, ◌<◌, ◌≤◌, ℕ, [], ◌∷◌, List, Option, Some, None, Result, Err, IsErrAnd, ⊤, option_map, if◌then◌else◌}
 use Rattle.std.specs.String.{string_bytes}
 use Rattle.ch_contract.specs.declared.measure.OrderBy.TheVariants.{Difference, Depth}
+use Rattle.ch_near.specs.declared.direction.Direction.TheVariants.{To, From}
 use Rattle.ch_run.specs.declared.options.Options.{Options}
 use Rattle.ch_run.specs.declared.fault.Which.{Which}
 use Rattle.ch_run.specs.declared.fault.RunFault.{RunFault}
@@ -14,7 +15,7 @@ use Rattle.ch_line.specs.declared.inputs.Inputs.{Inputs}
 use Rattle.ch_line.specs.Files.{FileState, bytes_of}
 use Rattle.ch_line.specs.Inputs.{Task, EndsFor, HasFailedRead, Writes, task_of, whole_of}
 
--- the options of a run, as the words choose them: the order is that of depth where they ask for it
+-- the options of a run, as the words choose them: the order is that of depth and distances are those from the targets where they ask for it
 abbrev pub options_for : Choices → Options
 options_for choices = record {
   plain = choices.plain;
@@ -22,15 +23,13 @@ options_for choices = record {
   hops = choices.hops;
   order = if choices.deep then Depth else Difference;
   within = choices.within;
+  count = choices.count;
+  direction = if choices.from then From else To;
 }
 
--- the name of a line's file at this place
-abbrev pub name_at : Line → ℕ → List ℕ
-name_at line place = get_or (map string_bytes line.files.items) place []
-
--- the saved hierarchy that is read, if one is: plain distances take none
+-- the saved hierarchy that is read, if one is
 abbrev pub saved_name : Line → Option (List ℕ)
-saved_name line = if line.choices.plain then None else option_map string_bytes line.saved
+saved_name line = option_map string_bytes line.saved
 
 -- what is known of the bytes of a name's file, read to its end
 abbrev pub file_reading : (List ℕ → FileState) → List ℕ → Reading
@@ -46,21 +45,33 @@ abbrev pub lists_task : Reading → Option Reading → Reading → Reading → T
 lists_task graph None sources targets = Task.Table graph sources targets
 lists_task graph (Some saved) sources targets = Task.TableBy graph saved sources targets
 
+-- what is asked for near rows of a graph, a saved hierarchy, if there is one, sources and targets
+abbrev pub near_task : Reading → Option Reading → Reading → Reading → Task
+near_task graph None sources targets = Task.Near graph sources targets
+near_task graph (Some saved) sources targets = Task.NearBy graph saved sources targets
+
+-- what is asked for near rows of all nodes of a graph, a saved hierarchy, if there is one, and targets
+abbrev pub near_all_task : Reading → Option Reading → Reading → Task
+near_all_task graph None targets = Task.NearAll graph targets
+near_all_task graph (Some saved) targets = Task.NearAllBy graph saved targets
+
 -- what is asked of a graph and a saved hierarchy, if there is one, by which requests are answered
 abbrev pub requests_task : Reading → Option Reading → Task
 requests_task graph None = Task.Requests graph
 requests_task graph (Some saved) = Task.RequestsBy graph saved
 
--- what a tool asks of its files and of a saved hierarchy, or none
-abbrev pub tool_task : Tool → (ℕ → Reading) → Option Reading → Task
-tool_task Tool.Dist file saved = queries_task (file 0) saved (file 1)
-tool_task Tool.Table file saved = lists_task (file 0) saved (file 1) (file 2)
-tool_task Tool.Save file saved = Task.Hierarchy (file 0)
-tool_task Tool.Ask file saved = requests_task (file 0) saved
+-- what a tool asks of its files, which are read by their names, and of a saved hierarchy, or none
+abbrev pub tool_task : (List ℕ → Reading) → Tool → Option (List ℕ) → Task
+tool_task read (Tool.Dist graph queries) saved = queries_task (read (string_bytes graph)) (option_map read saved) (read (string_bytes queries))
+tool_task read (Tool.Table graph sources targets) saved = lists_task (read (string_bytes graph)) (option_map read saved) (read (string_bytes sources)) (read (string_bytes targets))
+tool_task read (Tool.Near graph sources targets) saved = near_task (read (string_bytes graph)) (option_map read saved) (read (string_bytes sources)) (read (string_bytes targets))
+tool_task read (Tool.NearAll graph targets) saved = near_all_task (read (string_bytes graph)) (option_map read saved) (read (string_bytes targets))
+tool_task read (Tool.Save graph) saved = Task.Hierarchy (read (string_bytes graph))
+tool_task read (Tool.Ask graph) saved = requests_task (read (string_bytes graph)) (option_map read saved)
 
 -- what a line asks for of the bytes that are known of its files
 abbrev pub line_task : (List ℕ → FileState) → Line → Task
-line_task known line = tool_task line.tool (λ n. file_reading known (name_at line n)) (option_map (file_reading known) (saved_name line))
+line_task known line = tool_task (file_reading known) line.tool (saved_name line)
 
 -- an input and the name of its file
 abbrev pub File : Type 0
@@ -71,10 +82,15 @@ abbrev pub queries_files : List ℕ → Option (List ℕ) → List ℕ → List 
 queries_files graph None queries = (Which.Graph, graph) ∷ (Which.Queries, queries) ∷ []
 queries_files graph (Some saved) queries = (Which.Graph, graph) ∷ (Which.Saved, saved) ∷ (Which.Queries, queries) ∷ []
 
--- the files of a run that makes a table
+-- the files of a run that makes a table or near rows
 abbrev pub lists_files : List ℕ → Option (List ℕ) → List ℕ → List ℕ → List File
 lists_files graph None sources targets = (Which.Graph, graph) ∷ (Which.Sources, sources) ∷ (Which.Targets, targets) ∷ []
 lists_files graph (Some saved) sources targets = (Which.Graph, graph) ∷ (Which.Saved, saved) ∷ (Which.Sources, sources) ∷ (Which.Targets, targets) ∷ []
+
+-- the files of a run that makes near rows of all nodes
+abbrev pub targets_files : List ℕ → Option (List ℕ) → List ℕ → List File
+targets_files graph None targets = (Which.Graph, graph) ∷ (Which.Targets, targets) ∷ []
+targets_files graph (Some saved) targets = (Which.Graph, graph) ∷ (Which.Saved, saved) ∷ (Which.Targets, targets) ∷ []
 
 -- the files of a run that answers requests
 abbrev pub hierarchy_files : List ℕ → Option (List ℕ) → List File
@@ -82,15 +98,17 @@ hierarchy_files graph None = (Which.Graph, graph) ∷ []
 hierarchy_files graph (Some saved) = (Which.Graph, graph) ∷ (Which.Saved, saved) ∷ []
 
 -- the files that a tool opens, in order
-abbrev pub tool_files : Tool → (ℕ → List ℕ) → Option (List ℕ) → List File
-tool_files Tool.Dist file saved = queries_files (file 0) saved (file 1)
-tool_files Tool.Table file saved = lists_files (file 0) saved (file 1) (file 2)
-tool_files Tool.Save file saved = (Which.Graph, file 0) ∷ []
-tool_files Tool.Ask file saved = hierarchy_files (file 0) saved
+abbrev pub tool_files : Tool → Option (List ℕ) → List File
+tool_files (Tool.Dist graph queries) saved = queries_files (string_bytes graph) saved (string_bytes queries)
+tool_files (Tool.Table graph sources targets) saved = lists_files (string_bytes graph) saved (string_bytes sources) (string_bytes targets)
+tool_files (Tool.Near graph sources targets) saved = lists_files (string_bytes graph) saved (string_bytes sources) (string_bytes targets)
+tool_files (Tool.NearAll graph targets) saved = targets_files (string_bytes graph) saved (string_bytes targets)
+tool_files (Tool.Save graph) saved = (Which.Graph, string_bytes graph) ∷ []
+tool_files (Tool.Ask graph) saved = hierarchy_files (string_bytes graph) saved
 
 -- the files that the run of a line opens, in order
 abbrev pub line_files : Line → List File
-line_files line = tool_files line.tool (name_at line) (saved_name line)
+line_files line = tool_files line.tool (saved_name line)
 
 -- there may be such a file
 abbrev pub MayBeThere : FileState → Type 0

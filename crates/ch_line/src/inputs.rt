@@ -9,7 +9,8 @@ ghost use Rattle.ch_line.specs.Inputs.{AreFresh, EndsFor, HasFailedRead, Writes,
 
 use ch_run::{
     Crew, Gate, Input, Options, Output, RunFault, Which, run_ask, run_ask_saved, run_dist,
-    run_dist_saved, run_save, run_table, run_table_saved,
+    run_dist_saved, run_near, run_near_all, run_near_all_saved, run_near_saved, run_save,
+    run_table, run_table_saved,
 };
 use std::thread::Threads;
 
@@ -34,6 +35,26 @@ pub enum Inputs<I: Drop> {
         graph: I,
         saved: I,
         sources: I,
+        targets: I,
+    },
+    Near {
+        graph: I,
+        sources: I,
+        targets: I,
+    },
+    NearBy {
+        graph: I,
+        saved: I,
+        sources: I,
+        targets: I,
+    },
+    NearAll {
+        graph: I,
+        targets: I,
+    },
+    NearAllBy {
+        graph: I,
+        saved: I,
         targets: I,
     },
     Hierarchy {
@@ -109,6 +130,32 @@ pub fn run_inputs<R: Threads + Sync, I: Input + Drop, J: Input, O: Output, G: Ga
             &mut sources,
             &mut targets
         ),
+        Inputs::Near {
+            mut graph,
+            mut sources,
+            mut targets,
+        } => over!(run_near, &mut graph, &mut sources, &mut targets),
+        Inputs::NearBy {
+            mut graph,
+            mut saved,
+            mut sources,
+            mut targets,
+        } => over!(
+            run_near_saved,
+            &mut graph,
+            &mut saved,
+            &mut sources,
+            &mut targets
+        ),
+        Inputs::NearAll {
+            mut graph,
+            mut targets,
+        } => over!(run_near_all, &mut graph, &mut targets),
+        Inputs::NearAllBy {
+            mut graph,
+            mut saved,
+            mut targets,
+        } => over!(run_near_all_saved, &mut graph, &mut saved, &mut targets),
         Inputs::Hierarchy { mut graph } => over!(run_save, &mut graph),
         Inputs::Requests { mut graph } => over!(run_ask, &mut graph, requests),
         Inputs::RequestsBy {

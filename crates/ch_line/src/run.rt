@@ -1,17 +1,17 @@
 //! The run that a line asks for, over files that are opened by their names.
 
-ghost use Rattle.std.specs.Prelude.{◌≡◌, ◌<◌, ◌↔◌, ◌⊎◌, Err, IfErr, IfOk, IsErrAnd, option_map, vec_len};
+ghost use Rattle.std.specs.Prelude.{◌≡◌, ◌<◌, ◌↔◌, ◌⊎◌, Err, IfErr, IfOk, IsErrAnd, option_map};
 ghost use Rattle.ch_run.specs.Device.{CanCountOneMore, CountsAtMostOne, CountsAtMostOneOf};
 ghost use Rattle.ch_run.specs.Run.{IsWrite};
 ghost use Rattle.ch_run.specs.declared.fault.Which.{Which as WhichInput};
 ghost use Rattle.ch_words.specs.Line.{IsAllowed};
 ghost use Rattle.ch_line.specs.Files.{bytes_of};
 ghost use Rattle.ch_line.specs.Inputs.{AreFresh, EndsFor, Writes, task_of};
-ghost use Rattle.ch_line.specs.Line.{EndsAtMissing, HasReadFailed, IsNotBegun, IsNotOpened, IsUnopened, MayAllBeThere, MayBeThere, file_reading, hierarchy_files, line_files, line_task, lists_files, lists_task, name_at, options_for, queries_files, queries_task, requests_task, saved_name};
+ghost use Rattle.ch_line.specs.Line.{EndsAtMissing, HasReadFailed, IsNotBegun, IsNotOpened, IsUnopened, MayAllBeThere, MayBeThere, file_reading, hierarchy_files, line_files, line_task, lists_files, lists_task, near_all_task, near_task, options_for, queries_files, queries_task, requests_task, saved_name, targets_files};
 
 use crate::files::{Files, OpenFault};
 use crate::inputs::{Inputs, run_inputs};
-use ch_run::{Crew, Gate, Input, Options, OrderBy, Output, RunFault, Which};
+use ch_run::{Crew, Direction, Gate, Input, Options, OrderBy, Output, RunFault, Which};
 use ch_words::{Choices, Line, Tool};
 use std::alloc::Global;
 use std::thread::Threads;
@@ -75,6 +75,12 @@ pub fn options_of(choices: &Choices) -> Options
             OrderBy::Difference
         },
         within: choices.within,
+        count: choices.count,
+        direction: if choices.from {
+            Direction::From
+        } else {
+            Direction::To
+        },
     }
 }
 
@@ -83,26 +89,46 @@ pub fn options_of(choices: &Choices) -> Options
 /// # Errors
 /// `Device` of the first that can't be opened, or `Memory`.
 pub fn open_inputs<F: Files>(files: &F, line: &Line) -> Result<Inputs<F::Input>, RunFault>
-    requires { IsAllowed line.now }
     ensures fresh { IfOk result (AreFresh F.Input.failed) }
     ensures asked { IfOk result (λ inputs. task_of F.Input.left inputs ≡ line_task (F.known files.now) line.now) }
     ensures there { IfOk result (λ _. MayAllBeThere (F.known files.now) (line_files line.now)) }
     ensures missing { EndsAtMissing (F.known files.now) (line_files line.now) result }
     ensures unopened { IfErr result (IsUnopened (F.known files.now) (line_files line.now)) }
 {
-    match line.tool {
-        Tool::Dist => open_queries(files, name_of(line, 0), saved_of(line), name_of(line, 1)),
-        Tool::Table => open_lists(
+    let saved = saved_of(line);
+    match &line.tool {
+        Tool::Dist { graph, queries } => {
+            open_queries(files, graph.as_str(), saved, queries.as_str())
+        }
+        Tool::Table {
+            graph,
+            sources,
+            targets,
+        } => open_lists(
             files,
-            name_of(line, 0),
-            saved_of(line),
-            name_of(line, 1),
-            name_of(line, 2),
+            graph.as_str(),
+            saved,
+            sources.as_str(),
+            targets.as_str(),
         ),
-        Tool::Save => Ok(Inputs::Hierarchy {
-            graph: open_input(files, name_of(line, 0), Which::Graph)?,
+        Tool::Near {
+            graph,
+            sources,
+            targets,
+        } => open_near(
+            files,
+            graph.as_str(),
+            saved,
+            sources.as_str(),
+            targets.as_str(),
+        ),
+        Tool::NearAll { graph, targets } => {
+            open_near_all(files, graph.as_str(), saved, targets.as_str())
+        }
+        Tool::Save { graph } => Ok(Inputs::Hierarchy {
+            graph: open_input(files, graph.as_str(), Which::Graph)?,
         }),
-        Tool::Ask => open_hierarchy(files, name_of(line, 0), saved_of(line)),
+        Tool::Ask { graph } => open_hierarchy(files, graph.as_str(), saved),
     }
 }
 
@@ -134,7 +160,7 @@ fn open_queries<F: Files>(
     })
 }
 
-/// Opens a graph, a saved hierarchy, if one is named, sources and targets.
+/// Opens a graph, a saved hierarchy, if one is named, sources and targets, for a table.
 fn open_lists<F: Files>(
     files: &F,
     graph: &str,
@@ -170,6 +196,70 @@ fn open_lists<F: Files>(
     })
 }
 
+/// Opens a graph, a saved hierarchy, if one is named, sources and targets, for near rows.
+fn open_near<F: Files>(
+    files: &F,
+    graph: &str,
+    saved: Option<&str>,
+    sources: &str,
+    targets: &str,
+) -> Result<Inputs<F::Input>, RunFault>
+    ensures fresh { IfOk result (AreFresh F.Input.failed) }
+    ensures asked { IfOk result (λ inputs. task_of F.Input.left inputs
+        ≡ near_task (file_reading (F.known files.now) graph.now) (option_map (file_reading (F.known files.now)) (option_map (λ name. name.now) saved.entry)) (file_reading (F.known files.now) sources.now) (file_reading (F.known files.now) targets.now)) }
+    ensures there { IfOk result (λ _. MayAllBeThere (F.known files.now) (lists_files graph.now (option_map (λ name. name.now) saved.entry) sources.now targets.now)) }
+    ensures missing { EndsAtMissing (F.known files.now) (lists_files graph.now (option_map (λ name. name.now) saved.entry) sources.now targets.now) result }
+    ensures unopened { IfErr result (IsUnopened (F.known files.now) (lists_files graph.now (option_map (λ name. name.now) saved.entry) sources.now targets.now)) }
+{
+    let graph = open_input(files, graph, Which::Graph)?;
+    let Some(saved) = saved else {
+        let sources = open_input(files, sources, Which::Sources)?;
+        let targets = open_input(files, targets, Which::Targets)?;
+        return Ok(Inputs::Near {
+            graph,
+            sources,
+            targets,
+        });
+    };
+    let saved = open_input(files, saved, Which::Saved)?;
+    let sources = open_input(files, sources, Which::Sources)?;
+    let targets = open_input(files, targets, Which::Targets)?;
+    Ok(Inputs::NearBy {
+        graph,
+        saved,
+        sources,
+        targets,
+    })
+}
+
+/// Opens a graph, a saved hierarchy, if one is named, and targets, for near rows of all nodes.
+fn open_near_all<F: Files>(
+    files: &F,
+    graph: &str,
+    saved: Option<&str>,
+    targets: &str,
+) -> Result<Inputs<F::Input>, RunFault>
+    ensures fresh { IfOk result (AreFresh F.Input.failed) }
+    ensures asked { IfOk result (λ inputs. task_of F.Input.left inputs
+        ≡ near_all_task (file_reading (F.known files.now) graph.now) (option_map (file_reading (F.known files.now)) (option_map (λ name. name.now) saved.entry)) (file_reading (F.known files.now) targets.now)) }
+    ensures there { IfOk result (λ _. MayAllBeThere (F.known files.now) (targets_files graph.now (option_map (λ name. name.now) saved.entry) targets.now)) }
+    ensures missing { EndsAtMissing (F.known files.now) (targets_files graph.now (option_map (λ name. name.now) saved.entry) targets.now) result }
+    ensures unopened { IfErr result (IsUnopened (F.known files.now) (targets_files graph.now (option_map (λ name. name.now) saved.entry) targets.now)) }
+{
+    let graph = open_input(files, graph, Which::Graph)?;
+    let Some(saved) = saved else {
+        let targets = open_input(files, targets, Which::Targets)?;
+        return Ok(Inputs::NearAll { graph, targets });
+    };
+    let saved = open_input(files, saved, Which::Saved)?;
+    let targets = open_input(files, targets, Which::Targets)?;
+    Ok(Inputs::NearAllBy {
+        graph,
+        saved,
+        targets,
+    })
+}
+
 /// Opens a graph and a saved hierarchy, if one is named, by which requests are answered.
 fn open_hierarchy<F: Files>(
     files: &F,
@@ -191,21 +281,13 @@ fn open_hierarchy<F: Files>(
     Ok(Inputs::RequestsBy { graph, saved })
 }
 
-/// The name of a line's file at this place.
-fn name_of(line: &Line, place: usize) -> &str
-    requires { place < vec_len line.now.files }
-    ensures { result.now ≡ name_at line.now place }
-{
-    line.files[place].as_str()
-}
-
 /// The name of the saved hierarchy that the run of a line reads.
 fn saved_of(line: &Line) -> Option<&str>
     ensures { option_map (λ name. name.now) result ≡ saved_name line.now }
 {
     match &line.saved {
-        Some(name) if !line.choices.plain => Some(name.as_str()),
-        _ => None,
+        Some(name) => Some(name.as_str()),
+        None => None,
     }
 }
 

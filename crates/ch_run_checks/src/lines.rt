@@ -1,6 +1,6 @@
 //! Lines over files in memory: each tool, by a hierarchy that is built and by a saved one.
-ghost use Rattle.std.specs.Prelude.{◌≡◌, IfOk, length, vec_len};
-ghost use Rattle.ch_words.specs.Line.{IsAllowed, file_names};
+ghost use Rattle.std.specs.Prelude.{IfOk};
+ghost use Rattle.ch_words.specs.Line.{IsAllowed};
 
 use ch_line::{MemoryFile, MemoryFiles, run_line};
 use ch_run::{MemoryInput, MemoryOutput, Open, Plan};
@@ -40,30 +40,23 @@ const ROUTES: &[u8] = b"d 1 3 9\nr 2\na 1 2 4\na 2 3 5\nd 3 1 -\n";
 
 const TABLE: &[u8] = b"t 1 9 4\nt 3 0 -\n";
 
+/// The nearest target of each source, and of each node.
+const NEAR: &[u8] = b"n 1 1 2 4\nn 3 1 3 0\n";
+
+const NEAR_ALL: &[u8] = b"n 1 1 2 4\nn 2 1 2 0\nn 3 1 3 0\n";
+
 /// The same queries, lists and table as requests, and their answers.
 const REQUESTS: &[u8] = b"q 1 3\nq 3 1\nt 2 2\ns 1\ns 3\ns 3\ns 2\n";
 
 const ANSWERS: &[u8] = b"d 1 3 9\nr 2\na 1 2 4\na 2 3 5\nd 3 1 -\nt 1 9 4\nt 3 0 -\n";
 
-/// The texts in memory of their own.
-fn strings(alloc: Global, texts: &[&str]) -> Result<Vec<String>, AllocError>
-    ensures { IfOk result (λ strings. vec_len strings ≡ length texts.now) }
-{
-    let mut strings = Vec::new(alloc);
-    for text in texts {
-        strings.push(String::from_str(alloc, text)?)?;
-    }
-    Ok(strings)
+/// The name of the graph, in memory of its own.
+fn graph(alloc: Global) -> Result<String, AllocError> {
+    String::from_str(alloc, "line.gr")
 }
 
-/// A line of these files, with routes.
-fn line_of(
-    alloc: Global,
-    tool: Tool,
-    names: &[&str],
-    saved: Option<&str>,
-) -> Result<Line, AllocError>
-    requires { length names.now ≡ length (file_names tool) }
+/// A line of this tool and of this saved hierarchy, with routes, and with one target in each near row.
+fn line_of(alloc: Global, tool: Tool, saved: Option<&str>) -> Result<Line, AllocError>
     ensures { IfOk result IsAllowed }
 {
     let saved = match saved {
@@ -72,7 +65,6 @@ fn line_of(
     };
     Ok(Line {
         tool,
-        files: strings(alloc, names)?,
         saved,
         choices: Choices {
             plain: false,
@@ -80,6 +72,8 @@ fn line_of(
             deep: false,
             hops: 5,
             within: None,
+            count: Some(1),
+            from: false,
         },
         plan: Plan::new(1, 64, 64),
         progress: false,
@@ -108,14 +102,35 @@ fn expect<R: Threads + Abort + Sync>(
 fn each_tool_writes_its_text(rt: HostRuntime) -> Result<(), Fail> {
     let alloc = rt.alloc();
     for saved in [None, Some("line.ch")] {
-        let line = line_of(alloc, Tool::Dist, &["line.gr", "line.p2p"], saved)?;
-        expect(&rt, alloc, &line, ROUTES)?;
-        let lists = ["line.gr", "from.ss", "to.ss"];
-        let line = line_of(alloc, Tool::Table, &lists, saved)?;
-        expect(&rt, alloc, &line, TABLE)?;
-        let line = line_of(alloc, Tool::Ask, &["line.gr"], saved)?;
-        expect(&rt, alloc, &line, ANSWERS)?;
+        let dist = Tool::Dist {
+            graph: graph(alloc)?,
+            queries: String::from_str(alloc, "line.p2p")?,
+        };
+        expect(&rt, alloc, &line_of(alloc, dist, saved)?, ROUTES)?;
+        let table = Tool::Table {
+            graph: graph(alloc)?,
+            sources: String::from_str(alloc, "from.ss")?,
+            targets: String::from_str(alloc, "to.ss")?,
+        };
+        expect(&rt, alloc, &line_of(alloc, table, saved)?, TABLE)?;
+        let near = Tool::Near {
+            graph: graph(alloc)?,
+            sources: String::from_str(alloc, "from.ss")?,
+            targets: String::from_str(alloc, "to.ss")?,
+        };
+        expect(&rt, alloc, &line_of(alloc, near, saved)?, NEAR)?;
+        let near_all = Tool::NearAll {
+            graph: graph(alloc)?,
+            targets: String::from_str(alloc, "to.ss")?,
+        };
+        expect(&rt, alloc, &line_of(alloc, near_all, saved)?, NEAR_ALL)?;
+        let ask = Tool::Ask {
+            graph: graph(alloc)?,
+        };
+        expect(&rt, alloc, &line_of(alloc, ask, saved)?, ANSWERS)?;
     }
-    let line = line_of(alloc, Tool::Save, &["line.gr"], None)?;
-    expect(&rt, alloc, &line, SAVED)
+    let save = Tool::Save {
+        graph: graph(alloc)?,
+    };
+    expect(&rt, alloc, &line_of(alloc, save, None)?, SAVED)
 }

@@ -1,24 +1,24 @@
 -- From what clap says of its matches to what the words say.
-use Rattle.std.proofs.Common.{◌≡◌, ◌⊎◌, ◌||◌, ℕ, List, [], Option, Some, None, Result, Ok, refl, ap, ap₂, sym, ◌∙◌, subst, inl, inr, codes, true, false, Bool}
+use Rattle.std.proofs.Common.{◌≡◌, ◌⊎◌, ◌||◌, ℕ, List, [], Option, Some, None, Result, Ok, refl, ap, ap₂, sym, ◌∙◌, subst, inl, inr, codes, true, false, Bool, map, length, slice_index_or, ◌∷◌, if◌then◌else◌, unwrap_or, Bor, arith}
 use Rattle.std.specs.Box.{box_value}
 use Rattle.std.specs.Prelude.{Box, option_map}
 use Rattle.std.specs.Str.Parse.{ParsesUnsigned}
 use Rattle.clap.specs.Matches.{subcommand_name_of}
-use Rattle.clap.specs.Words.{AddsArg, App, HasMatchesOf, IsAmong, Kinds, ReadsOne, Row, Text, TriesOne, fault_of, is_simple_and_free, one_text, rows_of, subcommand_rows, subcommand_rows_of}
+use Rattle.clap.specs.Words.{AddsArg, App, HasMatchesOf, IsAmong, Kinds, ReadsOne, Row, Text, TriesOne, fault_of, is_simple_and_free, one_text, rows_of, subcommand_rows, subcommand_rows_of, raw_values, matched_of}
 use Rattle.clap.specs.declared.builder.arg.Arg.{Arg}
 use Rattle.clap.specs.declared.builder.command.Command.{Command}
 use Rattle.clap.specs.declared.builder.command.Command.TheViews.{out-Command}
 use Rattle.clap.specs.declared.error.kind.ErrorKind.{ErrorKind}
-use Rattle.clap.specs.declared.error.kind.ErrorKind.TheVariants.{OutOfMemory}
+use Rattle.clap.specs.declared.error.kind.ErrorKind.TheVariants.{OutOfMemory, WrongNumberOfValues}
 use Rattle.clap.specs.declared.parser.matches.ArgMatches.{ArgMatches}
 use Rattle.clap.specs.declared.parser.matches.ArgMatches.TheViews.{out-ArgMatches, out-SubCommand}
 use Rattle.clap.specs.declared.parser.matches.Found.{Found}
 use Rattle.clap.specs.declared.parser.matches.SubCommand.{SubCommand}
-use Rattle.clap.proofs.WalkLemmas.{one_text-rows}
-use Rattle.ch_words.specs.Line.{IsFaultOf, IsFlag, IsFlagIn, IsGivenBy, IsReadFrom, IsToldOf, chtab_form, faults_of, given_by, name_of, number_in, number_of}
+use Rattle.std.proofs.lemmas.List.{length-map}
+use Rattle.clap.proofs.WalkLemmas.{one_text-rows, raw_values-rows}
+use Rattle.ch_words.specs.Line.{AreRefusedLists, HasOtherLists, IsFaultOf, IsFlag, IsFlagIn, IsGivenBy, IsReadFrom, IsToldOf, chtab_form, faults_of, given_by, name_of, number_in, number_of, lists_in}
 use Rattle.ch_words.specs.declared.line.Line.{Line}
 use Rattle.ch_words.specs.declared.fault.LineFault.{LineFault}
-use Rattle.ch_words.specs.declared.line.Tool.{Tool}
 
 -- a command with no global argument has none once one that is not global is added
 pub stays_local : (old : Command) (arg : Arg) (new : Command) → AddsArg old arg new → (out-Command old).has_globals ≡ false → arg.global ≡ false → (out-Command new).has_globals ≡ false
@@ -110,16 +110,54 @@ given-by form words matches name given is matched is_name is_given =
     sym same.1 ∙ entry_of (subcommand_rows_of matches) name given (is_name ∙ name_of_entry matches) is_given
 
 -- what is told of an error tells what is wrong with the words
-pub fault-told : (kinds : Kinds) (kind : ErrorKind) (fault : LineFault) → IsToldOf kind fault → (kind ≡ OutOfMemory) ⊎ IsAmong kind kinds → IsFaultOf kinds fault
-fault-told kinds kind (LineFault.Help text) told (inl memory) = cc
-fault-told kinds kind (LineFault.Help text) told (inr among) = subst (λ (k : ErrorKind). IsAmong k kinds) told among
-fault-told kinds kind (LineFault.Refused text) told (inl memory) = absurd (told.1 memory)
-fault-told kinds kind (LineFault.Refused text) told (inr among) = (kind, told.0, among)
-fault-told kinds kind LineFault.NoMemory told among = tt
+pub fault-told : (words : List Text) (kind : ErrorKind) (fault : LineFault) → IsToldOf kind fault → (kind ≡ OutOfMemory) ⊎ IsAmong kind (faults_of words) → IsFaultOf words fault
+fault-told words kind (LineFault.Help text) told (inl memory) = cc
+fault-told words kind (LineFault.Help text) told (inr among) = subst (λ (k : ErrorKind). IsAmong k (faults_of words)) told among
+fault-told words kind (LineFault.Refused text) told (inl memory) = absurd (told.1 memory)
+fault-told words kind (LineFault.Refused text) told (inr among) = inl (kind, told.0, among)
+fault-told words kind LineFault.NoMemory told among = tt
+
+-- the lists that are read are those that `near` is given
+pub lists-read : (found : Found) (lists : List (Bor Text)) → Some (map (λ (v : Bor Text). v.now) lists) ≡ option_map raw_values (matched_of found (codes "LISTS"))
+    → lists_in (rows_of found) ≡ map (λ (v : Bor Text). v.now) lists
+lists-read found lists named = sym (ap (λ given. unwrap_or given []) (named ∙ raw_values-rows found (codes "LISTS")))
+
+-- other lists than `near` reads, by how many there are
+pub other-lists : (found : Found) (lists : List (Bor Text)) (all : Bool) → Some (map (λ (v : Bor Text). v.now) lists) ≡ option_map raw_values (matched_of found (codes "LISTS"))
+    → IsFlagIn (rows_of found) (codes "all") all → (length lists ≡ (if all then 1 else 2) → ⊥) → HasOtherLists (rows_of found)
+other-lists found lists all named flag other =
+    let count : length (lists_in (rows_of found)) ≡ length lists = ap length (lists-read found lists named) ∙ length-map lists (λ (v : Bor Text). v.now) in
+    (all, flag, λ same. other (sym count ∙ same))
+
+-- a list of one, and of two
+pub one-listed : (lists : List (Bor Text)) (d : Bor Text) → length lists ≡ 1 → map (λ (v : Bor Text). v.now) lists ≡ (slice_index_or lists 0 d).now ∷ []
+one-listed [] d one = cc
+one-listed (x ∷ []) d one = refl
+one-listed (x ∷ y ∷ rest) d one = absurd (omega arith)
+
+pub two-listed : (lists : List (Bor Text)) (d e : Bor Text) → length lists ≡ 2
+    → map (λ (v : Bor Text). v.now) lists ≡ (slice_index_or lists 0 d).now ∷ (slice_index_or lists 1 e).now ∷ []
+two-listed [] d e two = cc
+two-listed (x ∷ []) d e two = absurd (omega arith)
+two-listed (x ∷ y ∷ []) d e two = refl
+two-listed (x ∷ y ∷ z ∷ rest) d e two = absurd (omega arith)
+
+-- an error of the number of lists that is told refuses other lists
+pub refused-lists : (given : List Row) (fault : LineFault) → IsToldOf WrongNumberOfValues fault → HasOtherLists given → AreRefusedLists (codes "near") given fault
+refused-lists given (LineFault.Help text) told other = cc
+refused-lists given (LineFault.Refused text) told other = (refl, other)
+refused-lists given LineFault.NoMemory told other = tt
+
+-- lists that are refused are what is wrong with words in which clap finds nothing wrong
+pub lists-fault : (words : List Text) (name : Text) (given : List Row) (fault : LineFault) → faults_of words ≡ []
+    → given_by words ≡ Some (name, given) → AreRefusedLists name given fault → IsFaultOf words fault
+lists-fault words name given (LineFault.Help text) right matched refused = absurd refused
+lists-fault words name given (LineFault.Refused text) right matched refused = inr (right, rw matched refused)
+lists-fault words name given LineFault.NoMemory right matched refused = tt
 
 -- a line of the tool that the words name, with what they give it, is read from them
-pub read-from : (line : Line) (words : List Text) (tool : Tool) (given : List Row) → faults_of words ≡ []
-    → given_by words ≡ Some (name_of tool, given) → line.tool ≡ tool → IsGivenBy given line → IsReadFrom words line
-read-from line words tool given right matched is_tool read =
-    let named = subst (λ (t : Tool). given_by words ≡ Some (name_of t, given)) (sym is_tool) matched in
+pub read-from : (line : Line) (words : List Text) (name : Text) (given : List Row) → faults_of words ≡ []
+    → given_by words ≡ Some (name, given) → name ≡ name_of line.tool → IsGivenBy given line → IsReadFrom words line
+read-from line words name given right matched is_named read =
+    let named = subst (λ (n : Text). given_by words ≡ Some (n, given)) is_named matched in
     record { right = right; given = given; matched = named; read = read }

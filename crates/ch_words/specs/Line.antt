@@ -1,43 +1,42 @@
 -- The words of the command line, and what they say.
-use Rattle.std.specs.Prelude.{◌≡◌, ◌≢◌, ◌≤◌, ℕ, pos, [], ◌∷◌, ◌++◌, Bool, IfSome, List, Option, Some, None, true, false, codes, fold, length, map, option_map, vec_len, ⊤}
+use Rattle.std.specs.Prelude.{◌≡◌, ◌≢◌, ◌≤◌, ◌⊎◌, ℕ, pos, [], ◌∷◌, ◌++◌, Bool, IfSome, List, Option, Some, None, true, false, codes, fold, if◌then◌else◌, length, option_map, unwrap_or, ⊤}
 use Rattle.std.specs.Str.Parse.{digits_value, without_leading_plus}
 use Rattle.std.specs.String.{string_bytes}
-use Rattle.clap.specs.Words.{App, IsAmong, Kinds, Row, Rule, Text, fault_of, first_of, new_app, new_rule, one_of, subcommand_of, with_rule, with_subcommand}
+use Rattle.clap.specs.Words.{App, IsAmong, Kinds, Row, Rule, Text, all_of, fault_of, first_of, new_app, new_rule, one_of, subcommand_of, with_rule, with_subcommand}
 use Rattle.clap.specs.Simple.{on_top}
-use Rattle.clap.specs.declared.builder.ArgAction.TheVariants.{Set, SetTrue}
+use Rattle.clap.specs.declared.builder.ArgAction.TheVariants.{Append, Set, SetTrue}
 use Rattle.clap.specs.declared.builder.value_parser.ValueParser.TheVariants as parser
 use Rattle.clap.specs.declared.error.kind.ErrorKind.{ErrorKind}
 use Rattle.clap.specs.declared.error.kind.ErrorKind.TheVariants.{DisplayHelp, OutOfMemory}
-use Rattle.ch_graph.specs.declared.limits.TheConstants.{MOST_HOPS, MOST_WEIGHT}
+use Rattle.ch_graph.specs.declared.limits.TheConstants.{MOST_HOPS, MOST_LISTED, MOST_WEIGHT}
 use Rattle.ch_work.specs.declared.limits.TheConstants.{MOST_WORKERS, MOST_PIECE}
 use Rattle.ch_work.specs.Plan.{Division, IsWithinLimits}
 use Rattle.ch_words.specs.declared.fault.LineFault.{LineFault}
 use Rattle.ch_words.specs.declared.line.Choices.{Choices}
 use Rattle.ch_words.specs.declared.line.Line.{Line}
 use Rattle.ch_words.specs.declared.line.Tool.{Tool}
-use Rattle.ch_words.specs.declared.line.Tool.TheVariants.{Dist, Table, Save, Ask}
+use Rattle.ch_words.specs.declared.line.Tool.TheVariants.{Ask, Dist, Near, NearAll, Save, Table}
 
--- the files of a tool, in their order
-abbrev pub file_names : Tool → List Text
-file_names Dist = codes "GRAPH" ∷ codes "QUERIES" ∷ []
-file_names Table = codes "GRAPH" ∷ codes "SOURCES" ∷ codes "TARGETS" ∷ []
-file_names Save = codes "GRAPH" ∷ []
-file_names Ask = codes "GRAPH" ∷ []
+-- the most targets of a near row
+abbrev pub IsCount : ℕ → Type 0
+IsCount most = (1 ≤ most) × (most ≤ MOST_LISTED)
 
--- the numbers of a line are within the program's limits, and it names each file of its tool
+-- the numbers of a line are within the program's limits
 pub record IsAllowed (line : Line) : Type 0 where
-  pub files : vec_len line.files ≡ length (file_names line.tool)
   pub some_hops : 1 ≤ line.choices.hops
   pub few_hops : line.choices.hops ≤ MOST_HOPS
   pub limit : IfSome line.choices.within (λ most. most ≤ MOST_WEIGHT)
+  pub count : IfSome line.choices.count IsCount
   pub plan : IsWithinLimits line.plan
 
 -- the word that names a tool
 abbrev pub name_of : Tool → Text
-name_of Dist = codes "dist"
-name_of Table = codes "table"
-name_of Save = codes "save"
-name_of Ask = codes "ask"
+name_of (Dist graph queries) = codes "dist"
+name_of (Table graph sources targets) = codes "table"
+name_of (Near graph sources targets) = codes "near"
+name_of (NearAll graph targets) = codes "near"
+name_of (Save graph) = codes "save"
+name_of (Ask graph) = codes "ask"
 
 -- a flag
 abbrev pub flag_rule : Text → Rule
@@ -51,13 +50,17 @@ option_rule name = record (new_rule name) { long = Some name; action = Some Set;
 abbrev pub number_rule : Text → ℕ → Text → Rule
 number_rule name most default = record (option_rule name) { parser = Some (parser.Signed (pos 1) (pos most)); defaults = default ∷ [] }
 
--- an option: a number from 0 to the most, which may be left out
-abbrev pub limit_rule : Text → ℕ → Rule
-limit_rule name most = record (option_rule name) { parser = Some (parser.Unsigned 0 most) }
+-- an option: a number from the least to the most, which may be left out
+abbrev pub limit_rule : Text → ℕ → ℕ → Rule
+limit_rule name least most = record (option_rule name) { parser = Some (parser.Unsigned least most) }
 
 -- a file that must be named
 abbrev pub file_rule : Text → Rule
 file_rule name = record (new_rule name) { required = true; action = Some Set }
+
+-- the lists of `near`: one or two
+abbrev pub lists_rule : Rule
+lists_rule = record (new_rule (codes "LISTS")) { required = true; action = Some Append; range = Some (record { start_inclusive = 1; end_inclusive = 2 }) }
 
 -- `[--routes]`
 abbrev pub routes_rule : Rule
@@ -69,7 +72,7 @@ deep_rule = flag_rule (codes "deep")
 
 -- `[--within R]`
 abbrev pub within_rule : Rule
-within_rule = limit_rule (codes "within") MOST_WEIGHT
+within_rule = limit_rule (codes "within") 0 MOST_WEIGHT
 
 -- `[--saved FILE]`
 abbrev pub saved_rule : Rule
@@ -79,13 +82,6 @@ saved_rule = option_rule (codes "saved")
 abbrev pub progress_rule : Rule
 progress_rule = flag_rule (codes "progress")
 
--- the options of a tool beside those that each tool reads
-abbrev pub own_rules : Tool → List Rule
-own_rules Dist = flag_rule (codes "plain") ∷ routes_rule ∷ deep_rule ∷ saved_rule ∷ []
-own_rules Table = within_rule ∷ saved_rule ∷ []
-own_rules Save = deep_rule ∷ []
-own_rules Ask = routes_rule ∷ deep_rule ∷ within_rule ∷ saved_rule ∷ []
-
 -- `[--workers N] [--piece K] [--hops H]`
 abbrev pub number_rules : List Rule
 number_rules = number_rule (codes "workers") MOST_WORKERS (codes "1") ∷ number_rule (codes "piece") MOST_PIECE (codes "64") ∷ number_rule (codes "hops") MOST_HOPS (codes "5") ∷ []
@@ -94,9 +90,33 @@ number_rules = number_rule (codes "workers") MOST_WORKERS (codes "1") ∷ number
 abbrev pub shared_rules : List Rule
 shared_rules = number_rules ++ progress_rule ∷ []
 
--- the words after a tool's name: its own options, those that each tool reads, and its files
-abbrev pub form_of : Tool → App
-form_of tool = fold with_rule (new_app (name_of tool)) (own_rules tool ++ shared_rules ++ map file_rule (file_names tool))
+-- the words after this name of a tool: these options of its own, those that each tool reads, and these files
+abbrev pub tool_form : Text → List Rule → List Rule → App
+tool_form name own files = fold with_rule (new_app name) (own ++ shared_rules ++ files)
+
+-- `dist [--plain] [--routes] [--deep] [--saved FILE] .. GRAPH QUERIES`
+abbrev pub dist_form : App
+dist_form = tool_form (codes "dist") (flag_rule (codes "plain") ∷ routes_rule ∷ deep_rule ∷ saved_rule ∷ []) (file_rule (codes "GRAPH") ∷ file_rule (codes "QUERIES") ∷ [])
+
+-- `table [--within R] [--saved FILE] .. GRAPH SOURCES TARGETS`
+abbrev pub table_form : App
+table_form = tool_form (codes "table") (within_rule ∷ saved_rule ∷ []) (file_rule (codes "GRAPH") ∷ file_rule (codes "SOURCES") ∷ file_rule (codes "TARGETS") ∷ [])
+
+-- `[--count K] [--within R] [--from] [--all]`
+abbrev pub near_rules : List Rule
+near_rules = limit_rule (codes "count") 1 MOST_LISTED ∷ within_rule ∷ flag_rule (codes "from") ∷ flag_rule (codes "all") ∷ []
+
+-- `near [--count K] [--within R] [--from] [--all] [--saved FILE] .. GRAPH LISTS..`
+abbrev pub near_form : App
+near_form = tool_form (codes "near") (near_rules ++ saved_rule ∷ []) (file_rule (codes "GRAPH") ∷ lists_rule ∷ [])
+
+-- `save [--deep] .. GRAPH`
+abbrev pub save_form : App
+save_form = tool_form (codes "save") (deep_rule ∷ []) (file_rule (codes "GRAPH") ∷ [])
+
+-- `ask [--routes] [--deep] [--within R] [--saved FILE] .. GRAPH`
+abbrev pub ask_form : App
+ask_form = tool_form (codes "ask") (routes_rule ∷ deep_rule ∷ within_rule ∷ saved_rule ∷ []) (file_rule (codes "GRAPH") ∷ [])
 
 -- the program's own words, before its tools are added
 abbrev pub program_form : App
@@ -104,7 +124,7 @@ program_form = on_top (λ s. record s { no_binary_name = true; subcommand_requir
 
 -- the words after the program's name: a tool, and its words
 abbrev pub chtab_form : App
-chtab_form = fold (λ form tool. with_subcommand form (form_of tool).top) program_form (Dist ∷ Table ∷ Save ∷ Ask ∷ [])
+chtab_form = fold (λ form tool. with_subcommand form tool.top) program_form (dist_form ∷ table_form ∷ near_form ∷ save_form ∷ ask_form ∷ [])
 
 -- what is wrong with the words, as clap tells it: nothing, or the kinds of fault that come first
 abbrev pub faults_of : List Text → Kinds
@@ -131,16 +151,35 @@ number_of text = digits_value 10 (without_leading_plus text)
 abbrev pub number_in : List Row → Text → Option ℕ
 number_in given name = option_map number_of (one_of name given)
 
--- the files given for these names
-abbrev pub files_in : List Row → List Text → List (Option Text)
-files_in given = map (λ name. first_of name given)
+-- the file given for this name
+abbrev pub IsFileIn : List Row → Text → Text → Type 0
+IsFileIn given name file = Some file ≡ first_of name given
+
+-- the lists that `near` is given
+abbrev pub lists_in : List Row → List Text
+lists_in given = unwrap_or (all_of (codes "LISTS") given) []
+
+-- the files of a tool are those given for their names. `near` is given a list of sources and one of targets, or with `--all` one of targets
+abbrev pub AreFilesIn : List Row → Tool → Type 0
+AreFilesIn given (Dist graph queries) = IsFileIn given (codes "GRAPH") (string_bytes graph) × IsFileIn given (codes "QUERIES") (string_bytes queries)
+AreFilesIn given (Table graph sources targets) = IsFileIn given (codes "GRAPH") (string_bytes graph) × IsFileIn given (codes "SOURCES") (string_bytes sources) × IsFileIn given (codes "TARGETS") (string_bytes targets)
+AreFilesIn given (Near graph sources targets) = IsFileIn given (codes "GRAPH") (string_bytes graph) × IsFlagIn given (codes "all") false × (lists_in given ≡ string_bytes sources ∷ string_bytes targets ∷ [])
+AreFilesIn given (NearAll graph targets) = IsFileIn given (codes "GRAPH") (string_bytes graph) × IsFlagIn given (codes "all") true × (lists_in given ≡ string_bytes targets ∷ [])
+AreFilesIn given (Save graph) = IsFileIn given (codes "GRAPH") (string_bytes graph)
+AreFilesIn given (Ask graph) = IsFileIn given (codes "GRAPH") (string_bytes graph)
+
+-- the file given of a saved hierarchy, if there is one: plain distances take none
+abbrev pub saved_in : List Row → Bool → Option Text
+saved_in given plain = if plain then None else first_of (codes "saved") given
 
 -- the flags that a tool has are as given, and the others are off
 abbrev pub AreFlagsIn : List Row → Tool → Choices → Type 0
-AreFlagsIn given Dist choices = IsFlagIn given (codes "plain") choices.plain × IsFlagIn given (codes "routes") choices.routes × IsFlagIn given (codes "deep") choices.deep
-AreFlagsIn given Table choices = (choices.plain ≡ false) × (choices.routes ≡ false) × (choices.deep ≡ false)
-AreFlagsIn given Save choices = (choices.plain ≡ false) × (choices.routes ≡ false) × IsFlagIn given (codes "deep") choices.deep
-AreFlagsIn given Ask choices = (choices.plain ≡ false) × IsFlagIn given (codes "routes") choices.routes × IsFlagIn given (codes "deep") choices.deep
+AreFlagsIn given (Dist graph queries) choices = IsFlagIn given (codes "plain") choices.plain × IsFlagIn given (codes "routes") choices.routes × IsFlagIn given (codes "deep") choices.deep × (choices.from ≡ false)
+AreFlagsIn given (Table graph sources targets) choices = (choices.plain ≡ false) × (choices.routes ≡ false) × (choices.deep ≡ false) × (choices.from ≡ false)
+AreFlagsIn given (Near graph sources targets) choices = (choices.plain ≡ false) × (choices.routes ≡ false) × (choices.deep ≡ false) × IsFlagIn given (codes "from") choices.from
+AreFlagsIn given (NearAll graph targets) choices = (choices.plain ≡ false) × (choices.routes ≡ false) × (choices.deep ≡ false) × IsFlagIn given (codes "from") choices.from
+AreFlagsIn given (Save graph) choices = (choices.plain ≡ false) × (choices.routes ≡ false) × IsFlagIn given (codes "deep") choices.deep × (choices.from ≡ false)
+AreFlagsIn given (Ask graph) choices = (choices.plain ≡ false) × IsFlagIn given (codes "routes") choices.routes × IsFlagIn given (codes "deep") choices.deep × (choices.from ≡ false)
 
 -- workers and pieces are as given, and a step's work is shared from 64 items on
 pub record IsPlanIn (given : List Row) (plan : Division) : Type 0 where
@@ -153,10 +192,11 @@ pub record IsGivenBy (given : List Row) (line : Line) : Type 0 where
   pub flags : AreFlagsIn given line.tool line.choices
   pub hops : Some line.choices.hops ≡ number_in given (codes "hops")
   pub limit : line.choices.within ≡ number_in given (codes "within")
+  pub count : line.choices.count ≡ number_in given (codes "count")
   pub plan : IsPlanIn given line.plan
   pub progress : IsFlagIn given (codes "progress") line.progress
-  pub saved : option_map string_bytes line.saved ≡ first_of (codes "saved") given
-  pub named : map (λ file. Some (string_bytes file)) line.files.items ≡ files_in given (file_names line.tool)
+  pub saved : option_map string_bytes line.saved ≡ saved_in given line.choices.plain
+  pub named : AreFilesIn given line.tool
 
 -- nothing is wrong with the words, and they name the line's tool and give it what the line holds
 pub record IsReadFrom (words : List Text) (line : Line) : Type 0 where
@@ -171,11 +211,26 @@ IsToldOf kind (LineFault.Help _) = kind ≡ DisplayHelp
 IsToldOf kind (LineFault.Refused _) = (kind ≢ DisplayHelp) × (kind ≢ OutOfMemory)
 IsToldOf kind LineFault.NoMemory = ⊤
 
--- help is told where the words ask for it, and words are refused where something else is wrong
-abbrev pub IsFaultOf : Kinds → LineFault → Type 0
-IsFaultOf kinds (LineFault.Help _) = IsAmong DisplayHelp kinds
-IsFaultOf kinds (LineFault.Refused _) = (kind : ErrorKind) × (kind ≢ DisplayHelp) × IsAmong kind kinds
-IsFaultOf kinds LineFault.NoMemory = ⊤
+-- `near` is given other lists than it reads: with `--all` one, and else two
+abbrev pub HasOtherLists : List Row → Type 0
+HasOtherLists given = (all : Bool) × IsFlagIn given (codes "all") all × (length (lists_in given) ≢ (if all then 1 else 2))
+
+-- the words name `near`, with other lists than it reads
+abbrev pub NamesOtherLists : Option (Text × List Row) → Type 0
+NamesOtherLists None = ⊥
+NamesOtherLists (Some (name, given)) = (name ≡ codes "near") × HasOtherLists given
+
+-- words after this name, which clap reads, are refused for the lists of `near`, or there is no memory
+abbrev pub AreRefusedLists : Text → List Row → LineFault → Type 0
+AreRefusedLists name given (LineFault.Help _) = ⊥
+AreRefusedLists name given (LineFault.Refused _) = (name ≡ codes "near") × HasOtherLists given
+AreRefusedLists name given LineFault.NoMemory = ⊤
+
+-- help is told where the words ask for it; and words are refused where clap finds something else wrong, or else for the lists of `near`
+abbrev pub IsFaultOf : List Text → LineFault → Type 0
+IsFaultOf words (LineFault.Help _) = IsAmong DisplayHelp (faults_of words)
+IsFaultOf words (LineFault.Refused _) = ((kind : ErrorKind) × (kind ≢ DisplayHelp) × IsAmong kind (faults_of words)) ⊎ ((faults_of words ≡ []) × NamesOtherLists (given_by words))
+IsFaultOf words LineFault.NoMemory = ⊤
 
 -- the exit status where no line is read: 0 for help, 2 for words that are refused, 3 for no memory
 abbrev pub line_status_of : LineFault → ℕ

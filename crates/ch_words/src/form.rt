@@ -3,10 +3,9 @@
 ghost use Rattle.std.specs.Prelude.{◌≡◌, IfOk, codes, false, fold};
 ghost use Rattle.clap.specs.Words.{app_of, rule_of, with_rule};
 ghost use Rattle.clap.specs.declared.builder.command.Command.TheViews.{out-Command as fields_of};
-ghost use Rattle.ch_words.specs.declared.line.Tool.TheVariants.{Ask, Dist, Save, Table};
-ghost use Rattle.ch_words.specs.Line.{chtab_form, deep_rule, file_rule, flag_rule, form_of, limit_rule, number_rule, number_rules, option_rule, progress_rule, routes_rule, saved_rule, shared_rules, within_rule};
+ghost use Rattle.ch_words.specs.Line.{ask_form, chtab_form, deep_rule, dist_form, file_rule, flag_rule, limit_rule, lists_rule, near_form, near_rules, number_rule, number_rules, option_rule, program_form, progress_rule, routes_rule, save_form, saved_rule, shared_rules, table_form, within_rule};
 
-use ch_graph::limits::{MOST_HOPS, MOST_WEIGHT};
+use ch_graph::limits::{MOST_HOPS, MOST_LISTED, MOST_WEIGHT};
 use ch_work::limits::{MOST_PIECE, MOST_WORKERS};
 use clap::builder::ValueParser;
 use clap::{Arg, ArgAction, Command};
@@ -55,12 +54,12 @@ fn number<'a>(alloc: Global, name: &'a str, value: &'a str, most: u32, default: 
         .default_value(default)
 }
 
-/// An option that may be left out: a number from 0 to `most`.
-fn limit<'a>(alloc: Global, name: &'a str, value: &'a str, most: u64) -> Arg<'a>
-    ensures rule { rule_of result ≡ limit_rule name.entry.now most }
+/// An option that may be left out: a number from `least` to `most`.
+fn limit<'a>(alloc: Global, name: &'a str, value: &'a str, least: u64, most: u64) -> Arg<'a>
+    ensures rule { rule_of result ≡ limit_rule name.entry.now least most }
     ensures local { result.global ≡ false }
 {
-    option(alloc, name, value).value_parser(ValueParser::unsigned(0, most))
+    option(alloc, name, value).value_parser(ValueParser::unsigned(least, most))
 }
 
 /// Adds the numbers that each tool reads.
@@ -126,12 +125,21 @@ fn route_order<'a>(alloc: Global) -> Arg<'a>
     )
 }
 
+/// The limit of distances.
+fn limit_of_distances<'a>(alloc: Global, help: &'a str) -> Arg<'a>
+    ensures rule { rule_of result ≡ within_rule }
+    ensures local { result.global ≡ false }
+{
+    limit(alloc, "within", "R", 0, MOST_WEIGHT).help(help)
+}
+
 /// The limit of a table's distances.
 fn within<'a>(alloc: Global) -> Arg<'a>
     ensures rule { rule_of result ≡ within_rule }
     ensures local { result.global ≡ false }
 {
-    limit(alloc, "within", "R", MOST_WEIGHT).help(
+    limit_of_distances(
+        alloc,
         "In tables, write only distances of at most R, from 0 to 1152921504606846976: each other cell is - \
         [default: no limit]",
     )
@@ -164,7 +172,7 @@ fn graph<'a>(alloc: Global) -> Arg<'a>
 
 /// What clap reads after `dist`.
 fn dist_command<'a>(alloc: Global) -> Result<Command<'a>, AllocError>
-    ensures form { IfOk result (λ c. app_of c ≡ form_of Dist) }
+    ensures form { IfOk result (λ c. app_of c ≡ dist_form) }
     ensures local { IfOk result (λ c. (fields_of c).has_globals ≡ false) }
 {
     let plain = flag(
@@ -191,7 +199,7 @@ fn dist_command<'a>(alloc: Global) -> Result<Command<'a>, AllocError>
 
 /// What clap reads after `table`.
 fn table_command<'a>(alloc: Global) -> Result<Command<'a>, AllocError>
-    ensures form { IfOk result (λ c. app_of c ≡ form_of Table) }
+    ensures form { IfOk result (λ c. app_of c ≡ table_form) }
     ensures local { IfOk result (λ c. (fields_of c).has_globals ≡ false) }
 {
     let command = Command::new(alloc, "table")
@@ -216,9 +224,73 @@ fn table_command<'a>(alloc: Global) -> Result<Command<'a>, AllocError>
         .arg(file(alloc, "TARGETS", "A .ss file, as for SOURCES"))
 }
 
+/// What a near row leaves out, and which way its distances go.
+fn with_nearness<'a>(alloc: Global, command: Command<'a>) -> Result<Command<'a>, AllocError>
+    ensures form { IfOk result (λ c. app_of c ≡ fold with_rule (app_of command.entry) near_rules) }
+    ensures local { (fields_of command.entry).has_globals ≡ false → IfOk result (λ c. (fields_of c).has_globals ≡ false) }
+{
+    let count = limit(alloc, "count", "K", 1, MOST_LISTED).help(
+        "Write at most the K nearest targets of each source, from 1 to 65536 [default: all]",
+    );
+    let within = limit_of_distances(
+        alloc,
+        "Write only targets at a distance of at most R, from 0 to 1152921504606846976 [default: no limit]",
+    );
+    let from = flag(
+        alloc,
+        "from",
+        "Take the distances from the targets to the source, and not those from the source to the targets [default: off]",
+    );
+    let all = flag(
+        alloc,
+        "all",
+        "Take each node of the graph as a source, in order. Then no SOURCES are given [default: off]",
+    );
+    command.arg(count)?.arg(within)?.arg(from)?.arg(all)
+}
+
+/// The lists of `near`. Clap takes one or two of them, since it can't require the first of two only where `--all` is not given.
+fn lists<'a>(alloc: Global) -> Arg<'a>
+    ensures rule { rule_of result ≡ lists_rule }
+    ensures local { result.global ≡ false }
+{
+    Arg::new(alloc, "LISTS")
+        .required(true)
+        .action(ArgAction::Append)
+        .num_args(1..=2)
+        .help(
+            "SOURCES and TARGETS, or with --all TARGETS alone. Each is a .ss file: `p aux sp ss K`, then K lines `s V`",
+        )
+}
+
+/// What clap reads after `near`.
+pub(crate) fn near_command<'a>(alloc: Global) -> Result<Command<'a>, AllocError>
+    ensures form { IfOk result (λ c. app_of c ≡ near_form) }
+    ensures local { IfOk result (λ c. (fields_of c).has_globals ≡ false) }
+{
+    let command = Command::new(alloc, "near")
+        .about(
+            "For each source, writes `n S K T1 X1 ..`: K is how many targets follow, and each T has its distance X \
+            from S. The nearest comes first, and of equally near ones that which TARGETS names first",
+        )
+        .override_usage(
+            "chtab near [OPTIONS] <GRAPH> <SOURCES> <TARGETS>\n       \
+            chtab near [OPTIONS] --all <GRAPH> <TARGETS>",
+        )
+        .after_help(
+            "Examples:\n  \
+            chtab near --count 3 roads.gr homes.ss doctors.ss\n  \
+            chtab near --all --within 900000 roads.gr doctors.ss",
+        );
+    let command = with_nearness(alloc, command)?.arg(saved(alloc))?;
+    with_shared(alloc, command)?
+        .arg(graph(alloc))?
+        .arg(lists(alloc))
+}
+
 /// What clap reads after `save`.
 fn save_command<'a>(alloc: Global) -> Result<Command<'a>, AllocError>
-    ensures form { IfOk result (λ c. app_of c ≡ form_of Save) }
+    ensures form { IfOk result (λ c. app_of c ≡ save_form) }
     ensures local { IfOk result (λ c. (fields_of c).has_globals ≡ false) }
 {
     let deep = flag(
@@ -228,7 +300,9 @@ fn save_command<'a>(alloc: Global) -> Result<Command<'a>, AllocError>
         Of equally good routes another may be written [default: off]",
     );
     let command = Command::new(alloc, "save")
-        .about("Writes the hierarchy of the graph, for --saved of `dist`, `table` and `ask`")
+        .about(
+            "Writes the hierarchy of the graph, for --saved of `dist`, `table`, `near` and `ask`",
+        )
         .after_help("Example: chtab save --deep roads.gr >roads.ch")
         .arg(deep)?;
     with_shared(alloc, command)?.arg(graph(alloc))
@@ -236,7 +310,7 @@ fn save_command<'a>(alloc: Global) -> Result<Command<'a>, AllocError>
 
 /// What clap reads after `ask`.
 fn ask_command<'a>(alloc: Global) -> Result<Command<'a>, AllocError>
-    ensures form { IfOk result (λ c. app_of c ≡ form_of Ask) }
+    ensures form { IfOk result (λ c. app_of c ≡ ask_form) }
     ensures local { IfOk result (λ c. (fields_of c).has_globals ≡ false) }
 {
     let command = Command::new(alloc, "ask")
@@ -252,25 +326,36 @@ fn ask_command<'a>(alloc: Global) -> Result<Command<'a>, AllocError>
     with_shared(alloc, command)?.arg(graph(alloc))
 }
 
-/// What clap reads: the words after the program's name.
-pub fn command<'a>(alloc: Global) -> Result<Command<'a>, AllocError>
-    ensures { IfOk result (λ c. app_of c ≡ chtab_form) }
+/// What clap reads of the program's own words: `--help` alone. A tool must follow.
+fn program<'a>(alloc: Global) -> Result<Command<'a>, AllocError>
+    ensures { IfOk result (λ c. app_of c ≡ program_form) }
 {
-    Command::new(alloc, "chtab")
+    let command = Command::new(alloc, "chtab")
         .bin_name("chtab")?
         .about("Exact shortest paths in road networks")
         .after_help(
-            "See `chtab dist --help`, `chtab table --help`, `chtab save --help` and `chtab ask --help`. Examples:\n  \
+            "See `chtab dist --help`, `chtab table --help`, `chtab near --help`, `chtab save --help` and `chtab ask --help`. \
+            Examples:\n  \
             chtab dist --routes roads.gr pairs.p2p\n  \
             chtab table roads.gr depots.ss shops.ss\n  \
+            chtab near --count 3 roads.gr homes.ss doctors.ss\n  \
             chtab save --deep roads.gr >roads.ch\n  \
             chtab ask --saved roads.ch roads.gr <requests.txt",
         )
         .no_binary_name(true)
         .subcommand_required(true)
-        .disable_help_subcommand(true)
+        .disable_help_subcommand(true);
+    Ok(command)
+}
+
+/// What clap reads: the words after the program's name.
+pub fn command<'a>(alloc: Global) -> Result<Command<'a>, AllocError>
+    ensures { IfOk result (λ c. app_of c ≡ chtab_form) }
+{
+    program(alloc)?
         .subcommand(dist_command(alloc)?)?
         .subcommand(table_command(alloc)?)?
+        .subcommand(near_command(alloc)?)?
         .subcommand(save_command(alloc)?)?
         .subcommand(ask_command(alloc)?)
 }

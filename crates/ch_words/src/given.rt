@@ -1,17 +1,21 @@
 //! What the words give the arguments of a tool.
 
-ghost use Rattle.std.specs.Prelude.{◌≡◌, ◌≤◌, IfOk, IfSome, Some, codes, map, option_map};
+ghost use Rattle.std.specs.Prelude.{◌≡◌, ◌≤◌, IfErr, IfOk, IfSome, Some, codes, option_map};
 ghost use Rattle.std.specs.String.{string_bytes};
-ghost use Rattle.clap.specs.Words.{first_of, found_of, rows_of};
+ghost use Rattle.clap.specs.Words.{first_of, found_of, kind_of, rows_of};
+ghost use Rattle.clap.specs.declared.error.kind.ErrorKind.TheVariants.{WrongNumberOfValues};
 ghost use Rattle.ch_graph.specs.declared.limits.TheConstants.{MOST_HOPS, MOST_WEIGHT};
 ghost use Rattle.ch_work.specs.Plan.{IsWithinLimits};
-ghost use Rattle.ch_words.specs.Line.{AreFlagsIn, IsAllowed, IsFlagIn, IsGivenBy, IsPlanIn, file_names, files_in, number_in};
+ghost use Rattle.ch_words.specs.Line.{AreFilesIn, AreFlagsIn, AreRefusedLists, IsAllowed, IsCount, IsFileIn, IsFlagIn, IsGivenBy, IsPlanIn, IsToldOf, name_of, number_in, saved_in};
 
+use crate::fault::{LineFault, fault_of};
+use crate::form::near_command;
 use crate::line::{Choices, Line, Tool};
-use ch_graph::limits::{MOST_HOPS, MOST_WEIGHT};
+use ch_graph::limits::{MOST_HOPS, MOST_LISTED, MOST_WEIGHT};
 use ch_work::Plan;
 use ch_work::limits::{MOST_PIECE, MOST_WORKERS};
 use clap::ArgMatches;
+use clap::error::ErrorKind;
 use std::alloc::{AllocError, Global};
 
 /// From how many items on a step's work is shared.
@@ -41,21 +45,84 @@ fn file_of(alloc: Global, matches: &ArgMatches<'_>, name: &str) -> Result<String
     }
 }
 
-/// The files of a tool, in the order of its arguments.
-fn files_of(alloc: Global, tool: Tool, matches: &ArgMatches<'_>) -> Result<Vec<String>, AllocError>
-    ensures { IfOk result (λ files. map (λ file. Some (string_bytes file)) files.items ≡ files_in (rows_of (found_of matches.now)) (file_names tool)) }
+/// The tool of this name, with the files that its arguments are given. Clap has refused words that name no tool.
+///
+/// # Errors
+/// `Refused` for lists that `near` doesn't read; `NoMemory`.
+fn tool_of(alloc: Global, name: &str, matches: &ArgMatches<'_>) -> Result<Tool, LineFault>
+    ensures named { IfOk result (λ tool. name.now ≡ name_of tool) }
+    ensures files { IfOk result (AreFilesIn (rows_of (found_of matches.now))) }
+    ensures refused { IfErr result (AreRefusedLists name.now (rows_of (found_of matches.now))) }
 {
-    let mut files = Vec::new(alloc);
-    files.push(file_of(alloc, matches, "GRAPH")?)?;
-    match tool {
-        Tool::Dist => files.push(file_of(alloc, matches, "QUERIES")?)?,
-        Tool::Table => {
-            files.push(file_of(alloc, matches, "SOURCES")?)?;
-            files.push(file_of(alloc, matches, "TARGETS")?)?;
-        }
-        Tool::Save | Tool::Ask => {}
+    let graph = file_of(alloc, matches, "GRAPH")?;
+    match name {
+        "dist" => Ok(Tool::Dist {
+            graph,
+            queries: file_of(alloc, matches, "QUERIES")?,
+        }),
+        "table" => Ok(Tool::Table {
+            graph,
+            sources: file_of(alloc, matches, "SOURCES")?,
+            targets: file_of(alloc, matches, "TARGETS")?,
+        }),
+        "near" => near_of(alloc, graph, matches),
+        "save" => Ok(Tool::Save { graph }),
+        "ask" => Ok(Tool::Ask { graph }),
+        _ => Err(LineFault::NoMemory),
     }
-    Ok(files)
+}
+
+/// The near rows of this graph that the words ask for: from a list of sources, or with `--all` from each node.
+///
+/// # Errors
+/// `Refused` where other lists are given than it reads, of which clap only knows that they are one or two; `NoMemory`.
+fn near_of(alloc: Global, graph: String, matches: &ArgMatches<'_>) -> Result<Tool, LineFault>
+    requires graph { IsFileIn (rows_of (found_of matches.now)) (codes "GRAPH") (string_bytes graph) }
+    ensures named { IfOk result (λ tool. codes "near" ≡ name_of tool) }
+    ensures files { IfOk result (AreFilesIn (rows_of (found_of matches.now))) }
+    ensures refused { IfErr result (AreRefusedLists (codes "near") (rows_of (found_of matches.now))) }
+{
+    // Clap has refused words that give none.
+    let Some(lists) = matches.get_strs("LISTS") else {
+        return Err(LineFault::NoMemory);
+    };
+    if flag_of(matches, "all") {
+        if lists.len() != 1 {
+            return Err(other_lists(alloc));
+        }
+        let targets = String::from_str(alloc, lists[0])?;
+        return Ok(Tool::NearAll { graph, targets });
+    }
+    if lists.len() != 2 {
+        return Err(other_lists(alloc));
+    }
+    let sources = String::from_str(alloc, lists[0])?;
+    let targets = String::from_str(alloc, lists[1])?;
+    Ok(Tool::Near {
+        graph,
+        sources,
+        targets,
+    })
+}
+
+/// Why lists are refused that `near` doesn't read.
+fn other_lists(alloc: Global) -> LineFault
+    ensures { IsToldOf WrongNumberOfValues result }
+{
+    match lists_error(alloc) {
+        Ok(error) => fault_of(alloc, &error),
+        Err(_) => LineFault::NoMemory,
+    }
+}
+
+/// The error of lists that `near` doesn't read, as clap tells it.
+fn lists_error(alloc: Global) -> Result<clap::Error, AllocError>
+    ensures { IfOk result (λ error. kind_of error ≡ WrongNumberOfValues) }
+{
+    near_command(alloc)?.error(
+        ErrorKind::WrongNumberOfValues,
+        "SOURCES and TARGETS are needed, or with --all TARGETS alone",
+    )
 }
 
 /// The number of this name. Clap has refused words that give none from 1 to `most`.
@@ -81,6 +148,18 @@ fn limit_given(matches: &ArgMatches<'_>, name: &str, most: u64) -> Result<Option
     }
 }
 
+/// The most targets of a near row, where a number is given. Clap has refused 0 and what is above [`MOST_LISTED`].
+fn count_given(matches: &ArgMatches<'_>) -> Result<Option<u32>, AllocError>
+    ensures range { IfOk result (λ count. IfSome count IsCount) }
+    ensures given { IfOk result (λ count. count ≡ number_in (rows_of (found_of matches.now)) (codes "count")) }
+{
+    match limit_given(matches, "count", MOST_LISTED)? {
+        None => Ok(None),
+        Some(0) => Err(AllocError),
+        Some(count) => Ok(Some(count as u32)),
+    }
+}
+
 /// Whether the flag of this name is given.
 fn flag_of(matches: &ArgMatches<'_>, name: &str) -> bool
     ensures { IsFlagIn (rows_of (found_of matches.now)) name.now result }
@@ -98,23 +177,34 @@ fn plan_of(matches: &ArgMatches<'_>) -> Result<Plan, AllocError>
     Ok(Plan::new(workers, piece, WIDE))
 }
 
-/// What is chosen for a tool. `table` has no flags, and `save` and `ask` have not all.
-fn choices_of(tool: Tool, matches: &ArgMatches<'_>) -> Result<Choices, AllocError>
+/// What is chosen for a tool. Each has some of the flags, and the others are off.
+fn choices_of(tool: &Tool, matches: &ArgMatches<'_>) -> Result<Choices, AllocError>
     ensures range { IfOk result (λ choices. (1 ≤ choices.hops) × (choices.hops ≤ MOST_HOPS)) }
     ensures hops { IfOk result (λ choices. Some choices.hops ≡ number_in (rows_of (found_of matches.now)) (codes "hops")) }
-    ensures flags { IfOk result (AreFlagsIn (rows_of (found_of matches.now)) tool) }
+    ensures flags { IfOk result (AreFlagsIn (rows_of (found_of matches.now)) tool.now) }
     ensures limit { IfOk result (λ choices. choices.within ≡ number_in (rows_of (found_of matches.now)) (codes "within")) }
     ensures small_limit { IfOk result (λ choices. IfSome choices.within (λ most. most ≤ MOST_WEIGHT)) }
+    ensures count { IfOk result (λ choices. choices.count ≡ number_in (rows_of (found_of matches.now)) (codes "count")) }
+    ensures small_count { IfOk result (λ choices. IfSome choices.count IsCount) }
 {
-    let (plain, routes, deep) = match tool {
-        Tool::Dist => (
+    let (plain, routes, deep, from) = match tool {
+        Tool::Dist { .. } => (
             flag_of(matches, "plain"),
             flag_of(matches, "routes"),
             flag_of(matches, "deep"),
+            false,
         ),
-        Tool::Table => (false, false, false),
-        Tool::Save => (false, false, flag_of(matches, "deep")),
-        Tool::Ask => (false, flag_of(matches, "routes"), flag_of(matches, "deep")),
+        Tool::Table { .. } => (false, false, false, false),
+        Tool::Near { .. } | Tool::NearAll { .. } => {
+            (false, false, false, flag_of(matches, "from"))
+        }
+        Tool::Save { .. } => (false, false, flag_of(matches, "deep"), false),
+        Tool::Ask { .. } => (
+            false,
+            flag_of(matches, "routes"),
+            flag_of(matches, "deep"),
+            false,
+        ),
     };
     Ok(Choices {
         plain,
@@ -122,20 +212,41 @@ fn choices_of(tool: Tool, matches: &ArgMatches<'_>) -> Result<Choices, AllocErro
         deep,
         hops: number_of(matches, "hops", MOST_HOPS)?,
         within: limit_given(matches, "within", MOST_WEIGHT)?,
+        count: count_given(matches)?,
+        from,
     })
 }
 
-/// The line of a tool, from what its arguments are given.
-pub fn line_of(alloc: Global, tool: Tool, matches: &ArgMatches<'_>) -> Result<Line, AllocError>
-    ensures tool { IfOk result (λ line. line.tool ≡ tool) }
+/// The file of a saved hierarchy, where one is given. Plain distances take none.
+fn saved_of(
+    alloc: Global,
+    choices: &Choices,
+    matches: &ArgMatches<'_>,
+) -> Result<Option<String>, AllocError>
+    ensures { IfOk result (λ saved. option_map string_bytes saved ≡ saved_in (rows_of (found_of matches.now)) choices.now.plain) }
+{
+    if choices.plain {
+        return Ok(None);
+    }
+    file_given(alloc, matches, "saved")
+}
+
+/// The line of the tool of this name, from what its arguments are given.
+///
+/// # Errors
+/// `Refused` for lists that `near` doesn't read; `NoMemory`.
+pub fn line_of(alloc: Global, name: &str, matches: &ArgMatches<'_>) -> Result<Line, LineFault>
+    ensures named { IfOk result (λ line. name.now ≡ name_of line.tool) }
     ensures allowed { IfOk result IsAllowed }
     ensures given { IfOk result (IsGivenBy (rows_of (found_of matches.now))) }
+    ensures refused { IfErr result (AreRefusedLists name.now (rows_of (found_of matches.now))) }
 {
+    let tool = tool_of(alloc, name, matches)?;
+    let choices = choices_of(&tool, matches)?;
     Ok(Line {
         tool,
-        files: files_of(alloc, tool, matches)?,
-        saved: file_given(alloc, matches, "saved")?,
-        choices: choices_of(tool, matches)?,
+        saved: saved_of(alloc, &choices, matches)?,
+        choices,
         plan: plan_of(matches)?,
         progress: flag_of(matches, "progress"),
     })

@@ -1,30 +1,19 @@
 //! The words after the program's name, read.
 
-ghost use Rattle.std.specs.Prelude.{◌≡◌, IfErr, IfOk, IfSome, map};
-ghost use Rattle.ch_words.specs.Line.{IsAllowed, IsFaultOf, IsReadFrom, faults_of, name_of};
+ghost use Rattle.std.specs.Prelude.{IfErr, IfOk, map};
+ghost use Rattle.ch_words.specs.Line.{IsAllowed, IsFaultOf, IsReadFrom};
 
 use crate::fault::{LineFault, fault_of};
 use crate::form::command;
 use crate::given::line_of;
-use crate::line::{Line, Tool};
+use crate::line::Line;
 use std::alloc::Global;
-
-/// The tool of this name.
-fn tool_of(name: &str) -> Option<Tool>
-    ensures { IfSome result (λ tool. name.now ≡ name_of tool) }
-{
-    match name {
-        "dist" => Some(Tool::Dist),
-        "table" => Some(Tool::Table),
-        "save" => Some(Tool::Save),
-        "ask" => Some(Tool::Ask),
-        _ => None,
-    }
-}
 
 /// Reads the words after the program's name:
 /// `dist [--plain] [--routes] [--deep] [--saved FILE] [--workers N] [--piece K] [--hops H] [--progress] GRAPH QUERIES`,
 /// `table [--within R] [--saved FILE] [--workers N] [--piece K] [--hops H] [--progress] GRAPH SOURCES TARGETS`,
+/// `near [--count K] [--within R] [--from] [--saved FILE] [--workers N] [--piece K] [--hops H] [--progress] GRAPH SOURCES TARGETS`,
+/// the same with `--all GRAPH TARGETS`,
 /// `save [--deep] [--workers N] [--piece K] [--hops H] [--progress] GRAPH` or
 /// `ask [--routes] [--deep] [--within R] [--saved FILE] [--workers N] [--piece K] [--hops H] [--progress] GRAPH`.
 ///
@@ -33,7 +22,7 @@ fn tool_of(name: &str) -> Option<Tool>
 pub fn read_words<'a>(alloc: Global, words: &'a [&'a str]) -> Result<Line, LineFault>
     ensures limits { IfOk result IsAllowed }
     ensures read { IfOk result (IsReadFrom (map (λ word. word.now) words.entry.now)) }
-    ensures fault { IfErr result (IsFaultOf (faults_of (map (λ word. word.now) words.entry.now))) }
+    ensures fault { IfErr result (IsFaultOf (map (λ word. word.now) words.entry.now)) }
 {
     let matches = match command(alloc)?.try_get_matches_from(words) {
         Ok(matches) => matches,
@@ -43,8 +32,5 @@ pub fn read_words<'a>(alloc: Global, words: &'a [&'a str]) -> Result<Line, LineF
     let Some((name, matches)) = matches.subcommand() else {
         return Err(LineFault::NoMemory);
     };
-    match tool_of(name) {
-        Some(tool) => Ok(line_of(alloc, tool, matches)?),
-        None => Err(LineFault::NoMemory),
-    }
+    line_of(alloc, name, matches)
 }

@@ -11,7 +11,7 @@ use Rattle.ch_line.specs.Line.{IsRunOf}
 use Rattle.ch_words.specs.declared.fault.LineFault.{LineFault}
 use Rattle.chtab.specs.declared.program.ProgramFault.{ProgramFault}
 use Rattle.chtab.specs.declared.program.TheConstants.{CLOSED_PIPE}
-use Rattle.ch_words.specs.Line.{IsFaultOf, IsReadFrom, faults_of, line_status_of}
+use Rattle.ch_words.specs.Line.{IsFaultOf, IsReadFrom, line_status_of}
 
 -- the exit status of a fault, of the words or of the run
 abbrev pub exit_status_of : ProgramFault → ℕ
@@ -57,7 +57,7 @@ abbrev pub IsAnswer : {I J O : Type 0} → (I → Option (List ℕ)) → (I → 
 IsAnswer left failures known left_requests failed_requests taken failed idle words requests requests' old new answer =
     ((line : Line) × (result : Result Unit RunFault) × IsReadFrom words line
     × IsRunOf left failures known left_requests failed_requests taken failed idle line requests requests' old new result × (answer ≡ answer_of result))
-    ⊎ ((fault : LineFault) × IsFaultOf (faults_of words) fault × (requests' ≡ requests) × AnswersFault taken failed idle fault old new answer)
+    ⊎ ((fault : LineFault) × IsFaultOf words fault × (requests' ≡ requests) × AnswersFault taken failed idle fault old new answer)
 
 -- the errors took this text, as far as they take any
 abbrev pub IsTold : {E : Type 0} → (E → Option (List ℕ)) → (E → ℕ) → (E → ℕ) → List ℕ → E → E → Type 0

@@ -8,10 +8,10 @@ mod system;
 mod watcher;
 
 pub use ch_run::{
-    Crew, DeviceFault, Gate, Input, MemoryInput, MemoryOutput, Open, Options, Output, Plan,
-    ReadAllFault, ReaderInput, RunFault, Stage, Which, WriterOutput, laws, read_all, run_ask,
-    run_ask_saved, run_dist, run_dist_saved, run_save, run_table, run_table_saved, status,
-    write_all,
+    Crew, DeviceFault, Direction, Gate, Input, MemoryInput, MemoryOutput, Open, Options, Output,
+    Plan, ReadAllFault, ReaderInput, RunFault, Stage, Which, WriterOutput, laws, read_all, run_ask,
+    run_ask_saved, run_dist, run_dist_saved, run_near, run_near_all, run_near_all_saved,
+    run_near_saved, run_save, run_table, run_table_saved, status, write_all,
 };
 pub use ch_words::{Choices, Line, LineFault, Tool, line_status, read_words};
 use std::process::ExitCode;

@@ -3,7 +3,7 @@
 ghost use Rattle.std.specs.Prelude.{◌≡◌, ◌↔◌, [], IfErr, IfOk, IsTrue, MatchResult, Result, map};
 ghost use Rattle.std.specs.String.{string_bytes};
 ghost use Rattle.ch_run.specs.Device.{CanCountOneMore};
-ghost use Rattle.ch_words.specs.Line.{IsAllowed, IsFaultOf, IsReadFrom, faults_of, line_status_of};
+ghost use Rattle.ch_words.specs.Line.{IsAllowed, IsFaultOf, IsReadFrom, line_status_of};
 ghost use Rattle.chtab.specs.Program.{AnswersFault, IsAnswer, IsEnd, IsFaultEnd, IsTold, IsUnheard, answer_of, line_fault_text};
 ghost use Rattle.chtab.specs.declared.program.ProgramFault.{ProgramFault as FaultOf};
 
@@ -126,7 +126,7 @@ fn answer_words<R: Threads + Sync, F: Files, J: Input, O: Output, G: Watch>(
 fn line_of(alloc: Global, words: &[String]) -> Result<Line, LineFault>
     ensures limits { IfOk result IsAllowed }
     ensures read { IfOk result (IsReadFrom (map string_bytes words.now)) }
-    ensures fault { IfErr result (IsFaultOf (faults_of (map string_bytes words.now))) }
+    ensures fault { IfErr result (IsFaultOf (map string_bytes words.now)) }
 {
     let texts = texts_of(alloc, words)?;
     read_words(alloc, &texts)

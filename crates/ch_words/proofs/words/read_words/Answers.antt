@@ -1,8 +1,9 @@
 use Rattle.std.proofs.Common.{◌≡◌, Some, [], rules}
+use Rattle.std.proofs.lemmas.Result.{IfErr-weaker, IfOk-weaker}
+use Rattle.clap.proofs.WalkLemmas.{IfOk-both}
 use Rattle.clap.specs.Matches.{subcommand_name_of}
 use Rattle.clap.specs.Words.{HasKind, found_of, rows_of}
-use Rattle.ch_words.specs.Line.{name_of}
-use Rattle.ch_words.proofs.Matches.{fault-told, given-by, of-faults, read-from}
+use Rattle.ch_words.proofs.Matches.{fault-told, given-by, lists-fault, of-faults, read-from}
 use Rattle.ch_words.proofs.words.read_words.Goals as goal
 
 pub returns-in-Err-clause-fault : goal.returns-in-Err-clause-fault
@@ -10,11 +11,19 @@ returns-in-Err-clause-fault c =
     fault-told _ _ _ c.fault_of.ensures
     (of-faults (λ kinds. HasKind kinds c.in-Err.error) _ _ c.in_ok-command.ensures c.in-Err.ensures.kinds)
 
-pub returns-in-Some-tool_of-clause-read : goal.returns-in-Some-tool_of-clause-read
-returns-in-Some-tool_of-clause-read c =
+pub returns-clause-read : goal.returns-clause-read
+returns-clause-read c =
     let given = rows_of (found_of c.in-Some.matches.now) in
-    let line_is = c.in_ok-line_of-in-Some-tool_of.ensures in
     let right = of-faults (λ kinds. kinds ≡ []) _ _ c.in_ok-command.ensures c.in-Ok.ensures.kinds in
-    let named : Some (name_of c.in-Some-tool_of.tool) ≡ subcommand_name_of c.in-Ok.matches = search rules in
+    let named : Some c.in-Some.name.now ≡ subcommand_name_of c.in-Ok.matches = search rules in
     let matched = given-by _ _ _ _ given c.in_ok-command.ensures c.in-Ok.ensures.matches named c.in-Some.ensures.rows in
-    read-from _ _ c.in-Some-tool_of.tool given right matched line_is.tool line_is.given
+    let both = IfOk-both c.line_of.result _ _ c.line_of.ensures.named c.line_of.ensures.given in
+    IfOk-weaker c.line_of.result _ _ (λ line is. read-from _ _ c.in-Some.name.now given right matched is.0 is.1) both
+
+pub returns-clause-fault : goal.returns-clause-fault
+returns-clause-fault c =
+    let given = rows_of (found_of c.in-Some.matches.now) in
+    let right = of-faults (λ kinds. kinds ≡ []) _ _ c.in_ok-command.ensures c.in-Ok.ensures.kinds in
+    let named : Some c.in-Some.name.now ≡ subcommand_name_of c.in-Ok.matches = search rules in
+    let matched = given-by _ _ _ _ given c.in_ok-command.ensures c.in-Ok.ensures.matches named c.in-Some.ensures.rows in
+    IfErr-weaker c.line_of.result _ _ (λ fault refused. lists-fault _ _ given fault right matched refused) c.line_of.ensures.refused
