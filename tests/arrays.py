@@ -5,7 +5,6 @@ Answers are compared with scipy's and networkx's own searches. What is refused h
 a package that is missing is told and left out. The last line is 'N passed, N failed'.
 """
 import concurrent.futures
-import contextlib
 import gc
 import json
 import multiprocessing
@@ -15,14 +14,13 @@ import pickle
 import shutil
 import subprocess
 import sys
-import tempfile
 
 # First of all, since it puts the package on the path.
 from helpers.maps import COUNTRY
 
 from helpers import running
 from helpers.columns import drawn, forms_of, labels_drawn, least_of, refusals
-from helpers.commands import raises
+from helpers.commands import raises, temporary
 from helpers.moods import STANDIN, lives_on, mood, noted
 from helpers.packages import PYTHON, run_checks
 from helpers.running import PROGRAM, ROOT
@@ -41,19 +39,6 @@ SOURCES, TARGETS, WEIGHTS = ["a", "b", "c", "a"], ["b", "c", "a", "c"], [4, 5, 1
 
 def of_arrays(*columns, **more):
     return chtab.Network.from_arrays(*columns, program=PROGRAM, **more)
-
-
-@contextlib.contextmanager
-def temporary():
-    """A folder of temporary files for this check alone: a call that lists what stands there."""
-    before = tempfile.tempdir
-    with tempfile.TemporaryDirectory() as folder:
-        tempfile.tempdir = os.environ["TMPDIR"] = folder
-        try:
-            yield lambda: os.listdir(folder)
-        finally:
-            tempfile.tempdir = before
-            del os.environ["TMPDIR"]
 
 
 def random_arcs_answer_as_scipy():

@@ -21,7 +21,7 @@ PAGES = ROOT / "README.md", ROOT / "docs" / "GUIDE.md", ROOT / "examples" / "REA
 PACKAGES = "python3-numpy", "python3-scipy", "python3-shapely"
 # Those of a section that imports one.
 OF_SECTIONS = {"pandas": "python3-pandas", "osmnx": "python3-osmnx"}
-PICTURES = "routes.svg", "reach.svg"
+PICTURES = "routes.svg", "reach.svg", "near.svg"
 # What the commands find in the folder that they are run in, beside the program.
 PLACES = "tools", "examples", "tests"
 

@@ -26,6 +26,7 @@ from helpers.running import PROGRAM, ROOT
 from helpers.writing import write_graph
 import chtab
 from chtab import answers, blocks, files
+from chtab.accessibility import Near
 from chtab.progress import Progress
 from chtab.routes import Routes
 
@@ -78,8 +79,8 @@ def what_is_told_of_the_package():
     import pydoc
 
     assert "Network" in dir(chtab) and set(chtab.__all__) <= set(dir(chtab))
-    wanted = "close coordinates distances frame from_arrays from_frame from_networkx graph isochrones labels nearest open reach roads rounding "
-    wanted += "routes scale snap table trip_routes trip_table trips unit"
+    wanted = "close coordinates distances frame from_arrays from_frame from_networkx graph isochrones labels near nearest nearest_of open reach "
+    wanted += "roads rounding routes scale snap sum_within table trip_routes trip_table trips unit"
     assert [name for name in dir(chtab.Network) if not name.startswith("_")] == wanted.split()
     text = pydoc.render_doc(chtab.Network)
     assert "Parameters" in text and "Raises" in text and "leave_parent" not in text, text
@@ -92,7 +93,9 @@ def each_call_tells_what_it_takes_and_gives():
     """The text of each call that users see has its parameters by name, with what it gives and what goes wrong, in the form of numpy."""
     calls = [(name, getattr(files, name)) for name in files.__all__ if inspect.isfunction(getattr(files, name))]
     calls += [(name, getattr(chtab.Network, name)) for name in dir(chtab.Network) if name[0] != "_"]
-    for name, call in [*calls, *((f"Routes.{name}", getattr(Routes, name)) for name in ("to_frame", "to_geojson"))]:
+    calls += [(f"Routes.{name}", getattr(Routes, name)) for name in ("to_frame", "to_geojson")]
+    calls += [(f"Near.{name}", getattr(Near, name)) for name in ("owners", "to_frame", "to_sparse")]
+    for name, call in calls:
         if isinstance(call, property):
             assert call.fget.__doc__, name
             continue

@@ -146,6 +146,21 @@ def pictures():
     for same in near, tool("to_geojson", "table", "all.ss", text=rows):
         assert paths_of(tool("picture", "reach", "roads", "--limit", "12437", "--bands", "1", "all.ss", text=same)) == reach
     assert "one source" in tool("picture", "reach", "roads", "all.ss", text=rows + rows, status=1)
+    nearest_targets(reach)
+
+
+def nearest_targets(reach):
+    """Roads by the weight to the nearest target, and from it: of one target that is drawn as reach, and rings at all."""
+    weights = {int(node): cell for node, cell in zip(range(1, 7), run(PROGRAM, "table", "roads.gr", "one.ss", "all.ss").split()[2:])}
+    rows = "".join(f"n {node} 1 6 {cell}\n" if cell != "-" else f"n {node} 0\n" for node, cell in weights.items())
+    words = "near", "roads", "--limit", "12437", "--bands", "1"
+    assert paths_of(tool("picture", *words, "--from", text=rows)) == reach
+    to = paths_of(tool("picture", *words, text="n 1 1 6 24874\nn 6 2 6 0 1 24874\nn 5 0\n"))
+    assert to[1] == ("#440154", "M64 64l0 1066"), to
+    both = tool("picture", "near", "roads", text="n 1 1 1 0\nn 6 1 6 0\nn 2 1 1 9\n")
+    assert both.count("<circle") == 2 and "to the nearest place" in both
+    for text in "", "t 1 5\n", "n 1 2 6 0\n", "n 1 1 6\n", "n 1 1 6 -\n", "n 1\n":
+        assert tool("picture", "near", "roads", text=text, status=1).count("\n") == 1
 
 
 def titles_names_and_shared_roads():

@@ -49,9 +49,17 @@ class Setting:
     within: int | None = None
 
     def command(self, options):
-        """The words of a run."""
+        """The words of a run that answers requests."""
+        return [self.program, "ask", "--deep", *options, *self.words(), self.graph]
+
+    def near_command(self, options, lists):
+        """The words of a run that tells near rows of the nodes in these files."""
+        return [self.program, "near", *options, *self.words(), self.graph, *lists]
+
+    def words(self):
+        """The words by which each run has its threads and its hierarchy."""
         saved = () if self.saved is None else ("--saved", self.saved)
-        return [self.program, "ask", "--deep", *options, "--workers", str(self.workers), *saved, self.graph]
+        return ["--workers", str(self.workers), *saved]
 
 
 class Run:

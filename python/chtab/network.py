@@ -10,13 +10,15 @@ arrays of int64, as numpy, pandas and `blocks.py` have them, which a masked arra
 import numpy
 
 from chtab import engine, files, graphs, making, opening
+from chtab.accessibility import Accessibility
 from chtab.between_places import BetweenPlaces
+from chtab.near_runs import NearRuns
 from chtab.node_queries import NodeQueries
 from chtab.routes import Routes
 from chtab.trips import Trips
 
 
-class Network(BetweenPlaces):
+class Network(BetweenPlaces, Accessibility):
     """Answers on one graph, by a run of the program that is kept. `Network.open` opens one of files; `Network.from_arrays`, `from_frame` and
     `from_networkx` make one of your own arcs.
 
@@ -35,7 +37,8 @@ class Network(BetweenPlaces):
         self._layers = opened.layers(known)
         self.nodes = files.count_nodes(opened.setting.graph)
         self._engine = engine.Engine(opened.setting)
-        self._queries = NodeQueries(self._engine)
+        self._near = NearRuns(opened.setting, self.nodes)
+        self._queries = NodeQueries(self._engine, self._near)
         self._trips = Trips(self._queries, self._layers)
 
     @classmethod
@@ -59,7 +62,7 @@ class Network(BetweenPlaces):
         workers : int
             Threads of the program, from 1 to 64; 1 where it is not given.
         timeout : float, optional
-            The seconds that an answer may take; None: any. Loading is not counted.
+            The seconds that an answer may take; None: any. Loading is not counted, except where a call runs the program anew, as `near` does.
         load : bool
             Whether the graph is read now, as it is where this is not given. Without it the first question does so.
         routes : bool
@@ -244,6 +247,7 @@ class Network(BetweenPlaces):
 
     def close(self):
         """Ends the program, and removes a temporary folder of the network. A call that is under way in another thread fails."""
+        self._near.kill()
         self._engine.close()
         if self._folder is not None:
             self._folder.remove()

@@ -4,18 +4,22 @@ import math
 import numpy
 
 from chtab import answers, blocks, engine
+from chtab.near_runs import has_near
 from chtab.routes import NO_WALK
 from chtab.walks import together
 
 # The greatest distance, and so the greatest limit.
 MOST = 2**60
+# Beside a run that is kept, near rows of all nodes by a saved hierarchy take as long as a row of a table with this share of the nodes.
+SHARE = 2 / 3
 
 
 class NodeQueries:
-    """What is asked of an engine between nodes from 1 on. Questions of any size are cut into those that a run takes at once."""
+    """What is asked of an engine between nodes from 1 on. Questions of any size are cut into those that a run takes at once. `near` are the
+    runs of `chtab near` on the same network."""
 
-    def __init__(self, runs):
-        self.runs = runs
+    def __init__(self, runs, near):
+        self.runs, self.near = runs, near
 
     def distances(self, pairs):
         """The weights of pairs of nodes, an array (n, 2) of int64: int64 (n,), -1 where there is no walk."""
@@ -37,6 +41,14 @@ class NodeQueries:
         if within is not None:
             table[table > within] = NO_WALK
         return table
+
+    def is_near_best(self, count):
+        """Whether near rows of all nodes are told sooner than a row of a table with so many targets. Their run reads the network, and a table
+        searches from each target."""
+        setting = self.runs.setting
+        if not has_near(setting.program):
+            return False
+        return not self.runs.runs or setting.saved is not None and count > SHARE * self.runs.nodes
 
     def routes(self, pairs):
         """The routes of pairs of nodes, an array (n, 2) of int64, as a list of `files.Answer`."""

@@ -1,4 +1,4 @@
-"""Draws a road network, routes and what is reached in a time, as SVG."""
+"""Draws a road network, routes, what is reached in a time, and how far the nearest place is, as SVG."""
 import collections
 import html
 import math
@@ -111,10 +111,9 @@ def draw_routes(network, routes, names):
     return shapes + marks, legend
 
 
-def banded(network, times, borders):
-    """For each band the pieces of roads on which a traveller is within it. borders[k] and borders[k + 1] bound band k."""
+def banded(network, graph, times, borders):
+    """For each band the pieces of a graph's arcs on which a traveller is within it. borders[k] and borders[k + 1] bound band k."""
     bands = [[] for _ in borders[1:]]
-    graph = network.graph
     for start, end, weight in zip(graph.tails, graph.heads, graph.weights):
         if start not in times:
             continue
@@ -135,19 +134,33 @@ def colour_of(place, count):
     return "#" + "".join(f"{round(a + (b - a) * (part % 1)):02x}" for a, b in zip(low, high))
 
 
-def draw_reach(network, source, times, limit, count, names):
-    """What is reached from the source, whose `times` are {node: weight}, in bands up to the limit (None: the farthest)."""
+def draw_bands(network, graph, times, limit, count):
+    """Roads in bands by the `times` of nodes, {node: weight}, up to the limit (None: the greatest). Along an arc of the graph the time grows."""
     limit = max(times.values(), default=0) if limit is None else limit
     borders = [limit * place / count for place in range(count + 1)]
     times = {node: time for node, time in times.items() if time <= limit}
     shapes, legend = roads(network), []
-    for place, band in reversed(list(enumerate(banded(network, times, borders)))):
+    for place, band in reversed(list(enumerate(banded(network, graph, times, borders)))):
         shapes.append(stroke(band, colour_of(place, count), 1.6))
         legend.insert(0, (colour_of(place, count), f"up to {network.told(borders[place + 1])}"))
-    legend.append(("#a3a39b", "not reached"))
+    return shapes, [*legend, ("#a3a39b", "not reached")]
+
+
+def draw_reach(network, source, times, limit, count, names):
+    """What is reached from the source, whose `times` are {node: weight}, in bands up to the limit (None: the farthest)."""
+    shapes, legend = draw_bands(network, network.graph, times, limit, count)
     if source in names:
         legend.insert(0, ("#000000", f"from {names[source]}"))
     return [*shapes, circle(network.at(source), "#000000", "#ffffff")], legend
+
+
+def draw_near(network, nearest, limit, count, is_from):
+    """How far the nearest target is, in bands up to the limit (None: the farthest). `nearest` is {node: (target, weight)}, the weights those to
+    the target or from it."""
+    graph = network.graph if is_from else network.graph._replace(tails=network.graph.heads, heads=network.graph.tails)
+    shapes, legend = draw_bands(network, graph, {node: weight for node, (_, weight) in nearest.items()}, limit, count)
+    legend.insert(0, ("#000000", f"{'from' if is_from else 'to'} the nearest place"))
+    return [*shapes, *(circle(network.at(target), "#000000", "#ffffff") for target in sorted({target for target, _ in nearest.values()}))], legend
 
 
 def text(x, y, words, size=13):

@@ -4,7 +4,9 @@
 """
 import numpy
 
+from chtab import near_rows
 from chtab.legs import FAR, legs_between, table_ways, totals, ways_between
+from chtab.near_runs import NearQuestion
 from chtab.routes import NO_WALK, Trip
 
 # Trips whose routes are asked for together.
@@ -65,17 +67,33 @@ class Trips:
         """What `Network.reach` answers."""
         see_that_one(spot)
         outs = spot.out_nodes[0] > 0
-        nodes, weights = spot.out_nodes[0][outs], spot.out_weights[0][outs]
-        count = len(self.roads.places)
-        times = numpy.full(count, NO_WALK)
-        if within is None:
-            near = numpy.arange(1, count + 1)
-        else:
-            near = self.roads.nodes_near(nodes, within - weights)
+        nodes, added = spot.out_nodes[0][outs], spot.out_weights[0][outs]
+        limit = FAR - 1 if within is None else within
+        near = numpy.arange(1, len(self.roads.places) + 1) if within is None else self.roads.nodes_near(nodes, within - added)
+        by = self.by_near if self.queries.is_near_best(len(near)) else self.by_table
+        found = by(nodes, added, near, within)
+        return numpy.where(found <= limit, found, NO_WALK)
+
+    def by_table(self, nodes, added, near, within):
+        """The least weights at which all nodes are reached by way of some nodes, with what is added to each of these; `FAR` where one is not.
+        Asked for are those that may be near."""
+        found = numpy.full(len(self.roads.places), FAR)
         table = self.queries.table(nodes, near, within)
-        found = numpy.where(table >= 0, table + weights[:, None], FAR).min(axis=0, initial=FAR)
-        times[near - 1] = numpy.where(found <= (FAR - 1 if within is None else within), found, NO_WALK)
-        return times
+        found[near - 1] = numpy.where(table >= 0, table + added[:, None], FAR).min(axis=0, initial=FAR)
+        return found
+
+    def by_near(self, nodes, added, near, within):
+        """The same by near rows of all nodes."""
+        found = numpy.full(len(self.roads.places), FAR)
+        own = None if within is None else int(within) - int(added.min(initial=0))
+        if not len(nodes) or own is not None and own < 0:
+            return found
+        for start, rows in near_rows.portions(self.queries.near, NearQuestion(None, nodes, within=own, is_from=True)):
+            owners = start + rows.owners()
+            for place, more in enumerate(added.tolist()):
+                is_its = rows.places == place
+                found[owners[is_its]] = numpy.minimum(found[owners[is_its]], rows.weights[is_its] + more)
+        return found
 
     def isochrones(self, spot, limits):
         """What `Network.isochrones` answers."""

@@ -1,5 +1,8 @@
-"""For the tests of the Python package: its commands, and calls that have to fail."""
+"""For the tests of the Python package: its commands, calls that have to fail, and what is left of temporary files."""
+import contextlib
+import os
 import subprocess
+import tempfile
 
 from helpers.packages import PYTHON
 from helpers.running import ROOT
@@ -21,3 +24,16 @@ def command(name, *words, text="", status=0):
     done = subprocess.run(list(map(str, words)), input=text, capture_output=True, text=True)
     assert done.returncode == status and bool(done.stderr) == bool(status), done
     return done.stderr if status else done.stdout
+
+
+@contextlib.contextmanager
+def temporary():
+    """A folder of temporary files for this check alone: a call that lists what stands there."""
+    before = tempfile.tempdir
+    with tempfile.TemporaryDirectory() as folder:
+        tempfile.tempdir = os.environ["TMPDIR"] = folder
+        try:
+            yield lambda: os.listdir(folder)
+        finally:
+            tempfile.tempdir = before
+            del os.environ["TMPDIR"]

@@ -31,9 +31,14 @@ def asked():
     return [" ".join(words[2:-3]) for _, *words in noted() if words[0] == "ask"]
 
 
+def nears():
+    """The options of each run of `chtab near` that was noted, up to those that each run has."""
+    return [" ".join(words[1:words.index("--workers")]) for _, *words in noted() if words[0] == "near" and "--workers" in words]
+
+
 def living():
-    """The numbers of the runs of `chtab ask` that were noted and live on."""
-    return [int(number) for number, *_ in noted() if b"ask" in command_of(number)]
+    """The numbers of the runs of `chtab ask` and `chtab near` that were noted and live on."""
+    return [int(number) for number, *_ in noted() if {b"ask", b"near"} & set(command_of(number))]
 
 
 def lives_on(count):

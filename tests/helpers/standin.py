@@ -1,5 +1,6 @@
 #!/usr/bin/python3
-"""The built program with a fault, for tests of what stands above it: what is asked of a run of `chtab ask` passes through here.
+"""The built program with a fault, for tests of what stands above it: what is asked of a run of `chtab ask` passes through here, and what a
+run of `chtab near` answers.
 
   standin.py WORDS..
 
@@ -7,6 +8,9 @@ STANDIN says what goes wrong: after K requests `dies=K` ends it by a signal, `st
 answer no more, `garbles=K` makes it answer each by two lines that are none, and `doubles=K` makes it answer another table before each.
 `loads=S` makes it wait S seconds before the first request, `slow=S` before each. `notes=FILE` adds its process number and its words to a
 file, and the number of the run below it. A query from a node to itself, which guards a request, is passed on and not counted.
+
+A run of `chtab near` has one request. What goes wrong there does so after half of the lines; `doubles=0` writes them again, and `cuts=0` leaves
+out the others without a fault.
 """
 import os
 import signal
@@ -67,9 +71,29 @@ def pass_on(lines, run):
             run.stdin.write(line)
 
 
+def answer(text):
+    """Writes the text of a run of `chtab near`, or what goes wrong with it."""
+    time.sleep(float(MOODS.get("slow", 0)))
+    lines = text.splitlines(keepends=True)
+    sys.stdout.buffer.write(b"".join(lines[:len(lines) // 2]))
+    sys.stdout.buffer.flush()
+    if is_past("hangs", 1):
+        time.sleep(3600)
+    if is_past("dies", 1):
+        os.kill(os.getpid(), signal.SIGSEGV)
+    if is_past("stops", 1):
+        sys.exit("chtab: out of memory")
+    rest = b"what?\n" if is_past("garbles", 1) else b"" if is_past("cuts", 1) else b"".join(lines[len(lines) // 2:])
+    sys.stdout.buffer.write(rest + text * is_past("doubles", 1))
+
+
 def main():
     words = [PROGRAM, *sys.argv[1:]]
     note(os.getpid(), *words[1:])
+    if words[1:2] == ["near"] and "--help" not in words:
+        done = subprocess.run(words, stdout=subprocess.PIPE)
+        answer(done.stdout)
+        sys.exit(done.returncode)
     if words[1:2] != ["ask"]:
         os.execv(PROGRAM, words)
     run = subprocess.Popen(words, stdin=subprocess.PIPE, bufsize=0)

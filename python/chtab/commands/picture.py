@@ -3,6 +3,7 @@
   picture.py [OPTIONS] network OUT
   picture.py [OPTIONS] routes OUT [TEXT]
   picture.py [OPTIONS] reach OUT TARGETS.ss [TEXT]
+  picture.py [OPTIONS] near OUT [TEXT]
 
 OUT stands for OUT.gr and OUT.co. TEXT is what chtab wrote (standard input if you leave it out). Words may stand in any order.
   network  the roads alone
@@ -11,6 +12,8 @@ OUT stands for OUT.gr and OUT.co. TEXT is what chtab wrote (standard input if yo
   reach    the text of `chtab table` with one source. Roads are coloured by the weights of their nodes, in bands from 0 to the limit.
            TARGETS.ss has to be a list of all nodes, as `nearest.py --all` writes it. If that is more than a run of chtab takes, let
            `blocks.py` write the row as OUT.csv, and give that file for TEXT
+  near     the text of `chtab near --all`. Roads are coloured by the weight to the nearest target, in bands from 0 to the limit. Targets are
+           rings. If the text was made with `--from`, give that option here too
 
 The picture has minutes or kilometres if a comment of OUT.gr says that weights are milliseconds or metres.
 
@@ -21,7 +24,7 @@ import sys
 from chtab import commands, files, picture
 
 # The files of each kind after OUT, of which the last may be left out.
-FILES = {"network": (), "routes": ("TEXT",), "reach": ("TARGETS.ss", "TEXT")}
+FILES = {"network": (), "routes": ("TEXT",), "reach": ("TARGETS.ss", "TEXT"), "near": ("TEXT",)}
 
 
 def words_of(words):
@@ -30,8 +33,9 @@ def words_of(words):
     parser.add_argument("--size", type=int, default=800, metavar="P", help="pixels of the longer side of the map (800)")
     parser.add_argument("--title", default="", metavar="T", help="the title of the picture")
     parser.add_argument("--names", metavar="FILE", help="name nodes in the legend by a list or queries that nearest.py wrote, or by OUT.nodes")
-    parser.add_argument("--limit", type=int, metavar="R", help="how far reach goes, in the graph's unit (as far as the farthest target)")
-    parser.add_argument("--bands", type=int, default=5, metavar="B", help="how many bands of reach (5)")
+    parser.add_argument("--limit", type=int, metavar="R", help="how far the bands go, in the graph's unit (as far as the farthest target)")
+    parser.add_argument("--bands", type=int, default=5, metavar="B", help="how many bands there are (5)")
+    parser.add_argument("--from", action="store_true", dest="is_from", help="the weights of near are those from the targets")
     parser.add_argument("kind", choices=FILES, help="what is drawn")
     parser.add_argument("out", metavar="OUT", help="the network")
     parser.add_argument("files", metavar="FILE", nargs="*", help="what the kind of picture needs, as above")
@@ -64,6 +68,9 @@ def main(words):
         shapes, legend = picture.roads(network), []
     elif words.kind == "routes":
         shapes, legend = picture.draw_routes(network, list(files.read_routes(words.text)), names)
+    elif words.kind == "near":
+        nearest = {source: row[0] for source, row in files.read_near(words.text) if row}
+        shapes, legend = picture.draw_near(network, nearest, words.limit, words.bands, words.is_from)
     else:
         shapes, legend = picture.draw_reach(network, *reach_of(words), words.limit, words.bands, names)
     picture.write(network, words.title, shapes, legend, sys.stdout)

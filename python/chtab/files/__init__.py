@@ -11,6 +11,7 @@
 | places | longitude, latitude and a name a line | `read_places` | |
 | text of `dist` | distances and routes | `read_answers` | |
 | `.json` | what the nodes of a network are called by its owner | `read_labels` | `write_labels` |
+| text of `near` | the targets near each source | `read_near` | |
 | text of `table` | a row for each source | `read_rows`, `read_row_texts` | `write_csv`, `write_csv_of_texts`, `write_npy_of_texts` |
 
 Nodes are numbered from 1, arcs by their order from 0. Columns of numbers are `array.array`s, which numpy takes without a copy.
@@ -23,14 +24,16 @@ from chtab.files.graphs import (
     write_coordinates, write_graph, write_graph_columns,
 )
 from chtab.files.labels import Labelling, read_labels, write_labels
-from chtab.files.lists import Place, read_list, read_names, read_places, read_queries, write_list, write_names, write_queries
+from chtab.files.lists import (
+    Place, read_list, read_names, read_places, read_queries, write_list, write_list_column, write_names, write_queries,
+)
 from chtab.files.texts import (
-    Answer, read_answers, read_routes, read_row_texts, read_rows, write_csv, write_csv_of_texts, write_npy_of_texts,
+    Answer, read_answers, read_near, read_routes, read_row_texts, read_rows, write_csv, write_csv_of_texts, write_npy_of_texts,
 )
 
 __all__ = [
     "UNITS", "Answer", "Coordinates", "FileFault", "Graph", "Labelling", "Place", "count_nodes", "read_answers", "read_bends", "read_coordinates",
-    "read_graph", "read_labels", "read_list", "read_names", "read_places", "read_queries", "read_routes", "read_row_texts", "read_rows",
+    "read_graph", "read_labels", "read_list", "read_names", "read_near", "read_places", "read_queries", "read_routes", "read_row_texts", "read_rows",
     "scale_comment", "whole", "write_bends", "write_coordinate_columns", "write_coordinates", "write_csv", "write_csv_of_texts", "write_graph",
-    "write_graph_columns", "write_labels", "write_list", "write_names", "write_npy_of_texts", "write_queries",
+    "write_graph_columns", "write_labels", "write_list", "write_list_column", "write_names", "write_npy_of_texts", "write_queries",
 ]

@@ -4,7 +4,7 @@ import re
 from typing import NamedTuple
 
 from chtab.errors import FileFault
-from chtab.files.forms import columns, reading, write_comments, writing
+from chtab.files.forms import columns, reading, write_columns, write_comments, writing
 
 # What stands before each node that the command `nearest` finds.
 NOTE = re.compile(r"c (.*): node (\d+), [\d,]+ m away")
@@ -160,6 +160,26 @@ def write_list(target, nodes, notes=None):
         for node, note in zip(nodes, notes or itertools.repeat(None)):
             write_comments(file, () if note is None else (note,))
             file.write(f"s {node}\n")
+
+
+def write_list_column(target, nodes):
+    """Writes the same list as `write_list`, from a column. Nothing is judged.
+
+    Parameters
+    ----------
+    target : path or open file
+        Where it goes to.
+    nodes : array of int64, shape (n,)
+        Nodes from 1 on.
+
+    Raises
+    ------
+    OSError
+        The file can't be written.
+    """
+    with writing(target) as file:
+        file.write(f"p aux sp ss {len(nodes)}\n")
+        write_columns(file, "s %d\n", [nodes])
 
 
 def read_places(source):

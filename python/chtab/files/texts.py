@@ -1,4 +1,4 @@
-"""What the program writes, distances, routes and tables, and the same as CSV and as an array of numpy."""
+"""What the program writes, distances, routes, tables and near rows, and tables as CSV and as an array of numpy."""
 import array
 import csv
 import itertools
@@ -131,6 +131,35 @@ def read_rows(source, width):
             if words[:1] != ["t"] or len(words) != 2 + width:
                 raise FileFault(f"not a row of `chtab table` with {width} targets: {line.strip()[:60]}")
             yield int(words[1]), [number_of(cell) for cell in words[2:]]
+
+
+def read_near(source):
+    """Reads the rows of a text of `chtab near`.
+
+    Parameters
+    ----------
+    source : path, open file or lines
+        What is read.
+
+    Yields
+    ------
+    (int, list of (int, int))
+        The next source, and the targets that are near with their weights.
+
+    Raises
+    ------
+    FileFault
+        A line is no such row, or the text is empty.
+    """
+    count = 0
+    with reading(source) as file:
+        for count, line in enumerate(file, 1):
+            words = line.split()
+            if words[:1] != ["n"] or len(words) < 3 or not all(map(str.isdigit, words[1:])) or len(words) != 3 + 2 * int(words[2]):
+                raise FileFault(f"not a row of `chtab near`: {line.strip()[:60]}")
+            yield int(words[1]), list(zip(map(int, words[3::2]), map(int, words[4::2])))
+    if not count:
+        raise FileFault("the text is empty: there is no row of `chtab near`")
 
 
 def write_csv(target, targets, rows):

@@ -1,0 +1,27 @@
+"""For the test of near rows: what is owed for a question, from all distances."""
+
+
+def rows_owed(least, sources, targets, count=None, within=None):
+    """For each source the pairs (place, weight) of the targets that are near, by a matrix of distances with -1 where there is no walk."""
+    rows = []
+    for source in sources:
+        found = sorted((int(least[source, target]), place) for place, target in enumerate(targets) if least[source, target] >= 0)
+        rows.append([(place, weight) for weight, place in found if within is None or weight <= within][:count])
+    return rows
+
+
+def rows_told(near):
+    """The same of an answer."""
+    return [list(zip(*map(list, (places.tolist(), weights.tolist())))) for places, weights in map(near.__getitem__, range(len(near)))]
+
+
+def sums_owed(least, sources, targets, values, limit, share=lambda weight: 1.0):
+    """For each source the sum of the values of the targets within a limit, each times its share."""
+    rows = rows_owed(least, sources, targets, None, limit)
+    return [sum(values[place] * share(weight) for place, weight in row) for row in rows]
+
+
+def dense_owed(rows, count):
+    """The places and the weights of rows in columns, -1 where there is none."""
+    filled = [row[:count] + [(-1, -1)] * (count - len(row)) for row in rows]
+    return [[[pair[part] for pair in row] for row in filled] for part in range(2)]

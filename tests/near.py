@@ -1,0 +1,487 @@
+#!/usr/bin/python3
+"""Tests near rows of the Python package: the targets near each source, the nearest of them, sums over those within limits, and reach by them.
+
+Rows are compared with those that all distances of scipy's and networkx's own searches make. What needs a package that is missing is told and
+left out. The last line is 'N passed, N failed'.
+"""
+import concurrent.futures
+import contextlib
+import gc
+import multiprocessing
+import os
+import pathlib
+import pickle
+import signal
+import subprocess
+import sys
+import threading
+import time
+
+# First of all, since it puts the package on the path.
+from helpers.maps import COUNTRY
+
+from helpers import running
+from helpers.columns import drawn, forms_of, labels_drawn, least_of
+from helpers.commands import raises, temporary
+from helpers.moods import STANDIN, asked, lives_on, living, mood, nears, noted
+from helpers.nearness import dense_owed, rows_owed, rows_told, sums_owed
+from helpers.packages import PYTHON, run_checks
+from helpers.running import PROGRAM, ROOT
+import chtab
+
+FIRST = ROOT / "examples" / "first.gr"
+PATIENCE = 120
+# Graphs that are drawn at random, and questions of each.
+GRAPHS, QUESTIONS = 24, 6
+NETWORK = None
+# The arcs of most checks: a ring with a way across.
+SOURCES, TARGETS, WEIGHTS = ["a", "b", "c", "a"], ["b", "c", "a", "c"], [4, 5, 1, 10]
+
+
+def ring(**more):
+    return chtab.Network.from_arrays(SOURCES, TARGETS, WEIGHTS, program=PROGRAM, **more)
+
+
+def asked_at_random(draw, least):
+    """A question: sources (None: all) and targets, which repeat, a count, a limit that is often a distance, and a direction."""
+    count = len(least)
+    sources = None if draw.random() < 0.4 else draw.integers(0, count, draw.integers(0, 9))
+    targets = draw.integers(0, count, draw.choice([0, 1, 5, 40]))
+    known = [0, 2**60, *least[least >= 0].tolist(), *(least[least > 0] - 1).tolist()]
+    within = None if draw.random() < 0.4 else int(draw.choice(known))
+    return sources, targets, None if draw.random() < 0.4 else int(draw.choice([1, 2, 5, 100])), within, ("to", "from")[draw.integers(2)]
+
+
+def random_graphs_answer_as_scipy():
+    """By labels of each kind, from columns of each form."""
+    import numpy
+
+    for seed in range(GRAPHS):
+        draw = numpy.random.default_rng(seed)
+        count, tails, heads, weights = drawn(draw)
+        labels, least = labels_drawn(draw, count), least_of(tails, heads, weights, count)
+        with chtab.Network.from_arrays(labels[tails], labels[heads], weights, nodes=labels, program=PROGRAM, load=False) as network:
+            for _ in range(QUESTIONS):
+                answers_as_owed(network, draw, labels, least)
+
+
+def answers_as_owed(network, draw, labels, least):
+    """The answers to one question, in each form."""
+    import numpy
+
+    sources, targets, count, within, direction = question = asked_at_random(draw, least)
+    own = numpy.arange(len(least)) if sources is None else sources
+    turned = least if direction == "to" else least.T
+    given = None if sources is None else forms_of(draw, labels[sources]), forms_of(draw, labels[targets])
+    owed = rows_owed(turned, own, targets, count, within)
+    near = network.near(*given, count, within, direction)
+    assert rows_told(near) == owed, (question, rows_told(near), owed)
+    assert near.offsets.dtype == near.places.dtype == near.weights.dtype == numpy.int64
+    assert near.sources.tolist() == labels[own].tolist() and near.targets.tolist() == labels[targets].tolist()
+    found = network.nearest_of(*given, count or 3, within, direction)
+    assert [part.tolist() for part in found[:2]] == dense_owed(rows_owed(turned, own, targets, count or 3, within), count or 3), question
+    assert found.places.shape == (len(own), count or 3) and numpy.array_equal(found.mask, found.places < 0)
+    values, limits = draw.integers(-5, 9, len(targets)), [within or 7, 3]
+    sums = network.sum_within(values, limits, *given, direction=direction)
+    wanted = [sums_owed(turned, own, targets, values.tolist(), limit) for limit in limits]
+    assert sums.shape == (len(own), 2) and sums.T.tolist() == wanted, (question, sums, wanted)
+
+
+def random_graphs_answer_as_networkx():
+    """Of graphs of networkx, whose edges have weights 0 and equal ones."""
+    import networkx
+    import numpy
+
+    for seed in range(6):
+        draw = numpy.random.default_rng(seed)
+        graph = networkx.gnp_random_graph(25, 0.08, seed=seed, directed=True)
+        for _, _, edge in graph.edges(data=True):
+            edge["weight"] = int(draw.choice([0, 3, 3, 8]))
+        known, least = dict(networkx.all_pairs_dijkstra_path_length(graph)), numpy.full((25, 25), -1)
+        for source, row in known.items():
+            least[source, list(row)] = list(row.values())
+        with chtab.Network.from_networkx(graph, "weight", None, program=PROGRAM, load=False) as network:
+            targets = draw.integers(0, 25, 12)
+            assert rows_told(network.near(None, targets, 4)) == rows_owed(least, range(25), targets, 4), seed
+            assert rows_told(network.near(targets, range(25), None, 8, "from")) == rows_owed(least.T, targets, range(25), None, 8), seed
+
+
+def forms_of_an_answer():
+    """As a table and as a sparse matrix, of labels that are strings; what is asked of it by place."""
+    import numpy
+
+    with ring() as network:
+        near = network.near(["a", "c", "a"], ["c", "b", "c", "a"], within=9)
+        assert repr(near) == "<12 targets near 3 sources>" and len(near) == 3 and near.owners().tolist() == [0] * 4 + [1] * 4 + [2] * 4
+        assert [part.tolist() for part in near[-1]] == [[3, 1, 0, 2], [0, 4, 9, 9]]
+        raises(IndexError, near.__getitem__, 3)
+        frame = near.to_frame()
+        assert frame.columns.tolist() == ["source", "target", "place", "weight"]
+        assert frame.iloc[:3].values.tolist() == [["a", "a", 3, 0], ["a", "b", 1, 4], ["a", "c", 0, 9]]
+        assert frame[frame.source == "c"]["weight"].tolist() == [0, 0, 1, 5]
+        matrix = near.to_sparse()
+        assert matrix.shape == (3, 4) and matrix.nnz == 12 and matrix.toarray().tolist() == [[9, 4, 9, 0], [0, 5, 0, 1], [9, 4, 9, 0]]
+        assert matrix.has_sorted_indices and matrix.dtype == numpy.int64 and near.places.tolist()[:4] == [3, 1, 0, 2]
+        empty = network.near(None, ["c"], within=0)
+        assert empty.to_sparse().toarray().tolist() == [[0], [0], [0]] and empty.to_sparse().nnz == 1 and empty.to_frame()["source"].tolist() == ["c"]
+        assert rows_told(pickle.loads(pickle.dumps(near))) == rows_told(near)
+        for sources, targets in ([], ["a"]), (["a"], []), ([], []), (None, []):
+            near = network.near(sources, targets)
+            assert len(near) == (3 if sources is None else len(sources)) and near.places.size == 0 and near.offsets.tolist() == [0] * (len(near) + 1)
+            assert near.to_frame().empty and near.to_sparse().shape == (len(near), len(targets))
+            assert network.nearest_of(sources, targets, 2).places.tolist() == [[-1, -1]] * len(near)
+            assert network.sum_within([1.0] * len(targets), [5, 9], sources, targets).tolist() == [[0.0, 0.0]] * len(near)
+
+
+def sums_take_values_in_each_form():
+    """A value for each target, for all, for each node, and by label; each decay; limits that are numbers and lists."""
+    import math
+
+    import numpy
+    import pandas
+
+    with ring() as network:
+        jobs, least = {"b": 10.0, "c": 2.5}, {"a": (4, 9), "b": (0, 5), "c": (5, 0)}
+        wanted = {limit: [sum(value for value, weight in zip((10, 2.5), least[label]) if weight <= limit) for label in "abc"] for limit in (0, 4, 5, 9)}
+        for limit, sums in wanted.items():
+            for values, targets in (jobs, None), (pd_series := pandas.Series(jobs), None), ([10, 2.5], ["b", "c"]), (numpy.array([0, 10, 2.5]), None), \
+                    ([2.5, 4, 6], ["c", "b", "b"]):
+                assert network.sum_within(values, limit, targets=targets).tolist() == sums, (limit, values)
+            assert network.sum_within(pd_series, limit, ["c", "a"]).tolist() == [sums[2], sums[0]]
+        found = network.sum_within(jobs, [*wanted], decay=None)
+        assert found.dtype == float and found.T.tolist() == [*wanted.values()] and network.sum_within(jobs, []).shape == (3, 0)
+        assert network.sum_within(1, 5).tolist() == [2, 2, 3] and network.sum_within(0.5, 4, targets=["b", "b"]).tolist() == [1, 1, 0]
+        assert network.sum_within(jobs, 7.5).tolist() == wanted[5]
+        assert network.sum_within(jobs, 7.5, ["b"], decay="linear").tolist() == [10 + 2.5 * (1 - 5 / 7.5)]
+        for decay, share in (
+            ("linear", lambda weight, limit: 1 - weight / limit), ("exponential", lambda weight, limit: math.exp(-weight / limit)),
+            (lambda weights: 1 / (1 + weights), lambda weight, limit: 1 / (1 + weight)), (lambda weights: 0.5, lambda weight, limit: 0.5),
+        ):
+            owed = [[sum(v * share(w, r) for v, w in zip((10, 2.5), least[label]) if w <= r) for r in (5, 9)] for label in "abc"]
+            assert numpy.allclose(network.sum_within(jobs, [5, 9], decay=decay), owed, rtol=1e-12, atol=0), decay
+        for values, more, column, row, told in (
+            ([1, math.nan], {"targets": ["a", "b"]}, "values", 1, "nan is no value"), ([1.0], {"targets": ["a", "b"]}, "values", None, "1 rows, and there are 2 targets"),
+            ([1, 2], {}, "values", None, "2 rows, and there are 3 nodes"), ([1, math.inf, 2], {}, "values", 1, "inf is no value"),
+            ([1, None, 2], {}, "values", 1, "there is none"), (["1", "2", "3"], {}, "values", 0, "neither an integer nor a float"),
+            (numpy.ones((3, 1)), {}, "values", None, "shape (3, 1)"), ({"x": 1.0}, {}, "targets", 0, "no node has the label 'x'"),
+            (numpy.ma.array([1, 2, 3], mask=[0, 0, 1]), {}, "values", 2, "is masked"),
+        ):
+            fault = raises(chtab.DataFault, lambda: network.sum_within(values, 5, **more), told=told)
+            assert (fault.column, fault.row) == (column, row), (fault.column, fault.row, told)
+
+
+def what_is_no_question_is_refused():
+    """Numbers that are out of their range, and other words; nothing is asked then."""
+    nan = float("nan")
+    with mood(), chtab.Network.open(FIRST, program=STANDIN, load=False) as network:
+        for kind, words, told in (
+            (ValueError, {"count": 0}, "count is a whole number from 1 on"), (ValueError, {"count": -1}, "from 1 on"), (TypeError, {"count": 1.5}, "float"),
+            (ValueError, {"count": True}, "True"), (ValueError, {"within": -1}, "from 0 to 2^60"), (ValueError, {"within": 2**60 + 1}, "from 0 to 2^60"),
+            (ValueError, {"within": nan}, "from 0 to 2^60"), (ValueError, {"direction": "back"}, "'back'"), (ValueError, {"workers": 0}, "workers"),
+        ):
+            raises(kind, lambda: network.near([1], [2], **words), told=told)
+        raises(ValueError, network.near, [4], [1], told="node 4 is not from 1 to 3")
+        raises(ValueError, network.near, None, [0], told="node 0")
+        raises(ValueError, lambda: network.nearest_of([1], [2], 0), told="count")
+        raises(TypeError, lambda: network.nearest_of([1], [2], None))
+        for within, decay, told in (
+            (5, "flat", "'flat'"), (0, "linear", "above 0"), ([5, 0], "exponential", "above 0"), ([-1], None, "2^60"), ([[1]], None, "one list"),
+            (9, lambda weights: weights[:1], "gave the shape (1,)"),
+        ):
+            raises(ValueError, lambda: network.sum_within(1, within, decay=decay), told=told)
+        assert len(nears()) == 1 and lives_on(0), noted()
+    raises(chtab.ChtabError, network.near, [1], [2], told="closed")
+
+
+def one_run_answers_what_is_small():
+    """All nodes go by one run, with the options that are asked for; no count where it leaves out nothing."""
+    with mood(), chtab.Network.open(FIRST, program=STANDIN, load=False) as network:
+        assert rows_told(network.near(None, [3, 1], 1, 9, "from")) == [[(1, 0)], [(1, 4)], [(0, 0)]]
+        assert rows_told(network.near([3, 1], [3, 1], 2)) == [[(0, 0)], [(1, 0), (0, 9)]]
+        assert network.sum_within([2.0], [4, 5], targets=[3]).tolist() == [[0, 0], [0, 2], [2, 2]]
+        assert nears() == ["--count 1 --within 9 --from --all", "", "--within 5 --all"] and asked() == [], noted()
+
+
+# Blocks.
+
+
+@contextlib.contextmanager
+def small_blocks(length, pairs):
+    """Blocks of so few sources and targets."""
+    from chtab import near_blocks
+
+    before = near_blocks.LENGTH, near_blocks.PAIRS
+    near_blocks.LENGTH, near_blocks.PAIRS = length, pairs
+    try:
+        yield
+    finally:
+        near_blocks.LENGTH, near_blocks.PAIRS = before
+
+
+def blocks_answer_as_one_run():
+    """Lists that are longer than a run takes, by one run after the other and by several at a time."""
+    import numpy
+
+    draw = numpy.random.default_rng(3)
+    count, arcs = 40, 90
+    tails, heads, weights = *draw.integers(0, count, (2, arcs)), draw.choice([0, 1, 1, 5], arcs)
+    least = least_of(tails, heads, weights, count)
+    with chtab.Network.from_arrays(tails, heads, weights, nodes=range(count), program=PROGRAM, load=False) as network:
+        sources, targets = draw.integers(0, count, 23), draw.integers(0, count, 31)
+        values = draw.integers(0, 9, 31)
+        for length, pairs, workers in (10, 10**6, 1), (10, 10**6, 3), (7, 30, 2), (64, 40, 1), (64, 10**6, 5):
+            with small_blocks(length, pairs):
+                for own, rows in (sources, sources), (None, range(count)):
+                    assert rows_told(network.near(own, targets, 4, 6, workers=workers)) == rows_owed(least, rows, targets, 4, 6), (length, workers)
+                    assert rows_told(network.near(own, targets, workers=workers)) == rows_owed(least, rows, targets), (length, workers)
+                    owed = [sums_owed(least, rows, targets, values.tolist(), limit) for limit in (1, 6)]
+                    assert network.sum_within(values, [1, 6], own, targets, workers=workers).T.tolist() == owed, (length, workers)
+
+
+def blocks_are_within_their_limits():
+    import numpy
+
+    from chtab import near_blocks
+    from chtab.near_runs import NearQuestion
+
+    for sources, targets, count, nodes, workers in (
+        (200_000, 70_000, None, 10**6, 1), (None, 300, None, 10**6, 1), (None, 500, 3, 10**6, 1), (None, 500, 3, 10**6, 4), (5, 10**6, 1, 10**6, 2),
+        (None, 65_536, None, 10**6, 3), (0, 5, None, 5, 1), (None, 0, None, 5, 1), (1, 1, None, 1, 64),
+    ):
+        given = None if sources is None else numpy.ones(sources, numpy.int64)
+        question = NearQuestion(given, numpy.ones(targets, numpy.int64), count)
+        found, covered = list(near_blocks.cut(question, nodes, workers)), 0
+        for block in found:
+            height, width = block.question.height(nodes), len(block.question.targets)
+            assert height * min(width, count or width) <= near_blocks.PAIRS and width <= near_blocks.LENGTH
+            assert block.question.sources is None or 1 <= height <= near_blocks.LENGTH
+            covered += height * width
+        assert covered == (nodes if sources is None else sources) * targets, (covered, sources, targets)
+        assert (len(found) == 1 and found[0].question.sources is None) == (sources is None and workers == 1 and targets == 500), (targets, workers)
+
+
+def a_cluster_answers_too():
+    """The workers of a client of Dask make blocks; a fault of one of them is told, and the client goes on."""
+    import distributed
+    import numpy
+
+    with distributed.LocalCluster(n_workers=2, threads_per_worker=1, dashboard_address=None) as cluster, distributed.Client(cluster) as client:
+        with chtab.Network.open(FIRST, program=PROGRAM, load=False) as network, small_blocks(2, 10):
+            assert rows_told(network.near([1, 2, 3, 1, 1], [3, 1, 2], workers=client)) == rows_told(network.near([1, 2, 3, 1, 1], [3, 1, 2]))
+            sums = network.sum_within([1, 2, 4], [5, 9], targets=[3, 1, 2], decay=lambda weights: numpy.exp(-weights / 3.0), workers=client)
+            assert numpy.allclose(sums, network.sum_within([1, 2, 4], [5, 9], targets=[3, 1, 2], decay=lambda weights: numpy.exp(-weights / 3.0)))
+        pathlib.Path("fails").write_text("#!/bin/sh\n[ \"$2\" = --count ] || exit 0\necho 'chtab: out of memory' >&2\nexit 3\n")
+        os.chmod("fails", 0o755)
+        with chtab.Network.open(FIRST, program="./fails", load=False) as network:
+            assert raises(chtab.ProgramFault, lambda: network.near([1, 2], [3, 1], 1, workers=client), told="chtab: out of memory").status == 3
+        with chtab.Network.open(FIRST, program=PROGRAM, load=False) as network:
+            assert network.near([1], [3], workers=client).weights.tolist() == [9]
+
+
+# Faults.
+
+
+def texts_that_are_no_answer_are_refused():
+    """Each text but one is no answer to the question, and none of it is taken."""
+    import numpy
+
+    from chtab import near_rows
+    from chtab.near_runs import NearQuestion
+
+    class Told:
+        nodes = 5
+
+        def __init__(self, *texts):
+            self.parts = texts
+
+        def texts(self, question):
+            return self.parts
+
+    def taken(question, *texts):
+        return near_rows.joined(near_rows.portions(Told(*texts), question))
+
+    question = NearQuestion(numpy.array([2, 5]), numpy.array([3, 1, 3, 4]), 3, 9)
+    right = b"n 2 3 3 4 3 4 4 7\nn 5 1 1 9\n"
+    rows = taken(question, right)
+    assert (rows.offsets.tolist(), rows.places.tolist(), rows.weights.tolist()) == ([0, 3, 4], [0, 2, 3, 1], [4, 4, 7, 9])
+    first, second = right.splitlines(keepends=True)
+    assert taken(question, first, second).places.tolist() == [0, 2, 3, 1]
+    for old, new in (
+        (b"n 2", b"n 5"), (b"n 5", b"n 2"), (second, b""), (first, b""), (right, b""), (right, right * 2), (b"n 2 3", b"n 2 2"), (b"n 2 3", b"n 2 4"),
+        (b"4 7\n", b"4 10\n"), (b" 4 7", b" 2 7"), (b" 4 7", b" 6 7"), (b" 4 7", b" 0 7"), (b" 4 7", b" 33554433 7"), (b" 4 7", b" 3 7"), (b" 4 7", b" 4 3"),
+        (b"3 4 3 4 4 7", b"4 4 3 4 3 7"), (b"n 5 1 1 9", b"n 5 4 1 6 3 7 3 8 4 9"), (b" 1 9\n", b" 1 9"), (b" 1 9\n", b" 1 9\n\n"), (b" 1 9", b" 1 -"),
+        (b" 1 9", b" 1  9"), (b" 1 9", b" 1 9 "), (b"n 5", b"t 5"), (b"n 5", b"n n"), (b"\nn 5", b"\n5 5"), (b"n 5 1 1 9", b"n 5 1 1 9n"), (b" 1 9", b" 1 9\0"),
+        (b" 1 9", b" 1 9\xff"), (b" 1 9", b" 1 " + b"9" * 20), (b" 1 9", b" 1 9999999999999999999"), (b" 1 9", b" 1 -9"), (b"n 5 1 1 9", b"n 5 1 1 9 1"),
+        (b"n 5 1 1 9", b"n 5 0 1 9"), (b"n 5 1 1 9", b"n 5"), (b"n 5 1 1 9", b"n"), (b"n 5 1 1 9", b"n 5 2 1 9"), (b"n 5 1", b"n5 1"), (b"\n", b" "), (b" ", b"\n"),
+        (b"3 4 4 7", b"3 5 4 7\n"), (b"n 5 1 1 9\n", b"n 5 1 1 9\nn 5 0\n"), (b"n 5 1 1 9", b"n 5 -1"), (b"4 7", b"4 7.0"), (b"n 2", b" n 2"), (b"n 2", b"n\t2"),
+    ):
+        assert old in right
+        raises(chtab.ProgramFault, taken, question, right.replace(old, new), told="not asked")
+    assert taken(question, b"n 2 0\nn 5 2 1 9 4 9\n").counts().tolist() == [0, 2]
+    everyone = NearQuestion(None, numpy.array([1]))
+    raises(chtab.ProgramFault, taken, everyone, b"n 1 0\nn 2 0\nn 4 0\nn 3 0\nn 5 0\n", told="not asked")
+    raises(chtab.ProgramFault, taken, everyone, b"n 1 1 1 %d\nn 2 0\nn 3 0\nn 4 0\nn 5 0\n" % (2**60 + 1), told="not asked")
+    assert taken(everyone, b"n 1 1 1 %d\nn 2 0\n" % 2**60, b"n 3 0\nn 4 0\nn 5 0\n").weights.tolist() == [2**60]
+
+
+def a_run_that_fails_is_told_and_gone():
+    """A run that dies, stops, is late, is cut short or writes what is no answer. Nothing of it is left behind."""
+    with temporary() as left:
+        for words, kind, told in (
+            ("dies=0", chtab.ProgramFault, "ended by signal 11"), ("stops=0", chtab.ProgramFault, "chtab: out of memory"),
+            ("hangs=0", chtab.TimedOut, "longer than 1 seconds"), ("garbles=0", chtab.ProgramFault, "not asked"),
+            ("doubles=0", chtab.ProgramFault, "not asked"), ("cuts=0", chtab.ProgramFault, "not asked"), ("slow=2", chtab.TimedOut, "longer than 1 seconds"),
+        ):
+            seconds = 1 if kind is chtab.TimedOut else PATIENCE
+            with mood(words), chtab.Network.open(FIRST, program=STANDIN, timeout=seconds, load=False) as network:
+                for call in (
+                    lambda: network.near(None, [3, 1]), lambda: network.sum_within([1], 5, [1, 2, 3], [3]), lambda: network.nearest_of([1, 2], [3]),
+                    lambda: network.near([1, 2, 3, 1], [3, 2, 1], workers=2),
+                ):
+                    raises(kind, call, told=told)
+                    assert lives_on(0) and left() == [], (words, left())
+        pathlib.Path("bad.gr").write_text("p sp 2 2\na 1 2 1\n")
+        with chtab.Network.open("bad.gr", program=PROGRAM, load=False) as network:
+            assert raises(chtab.ProgramFault, network.near, None, [1], told="chtab: graph line 3: too few lines").status == 1
+        assert left() == []
+
+
+def a_program_without_the_command():
+    """It is told, and reach goes by tables."""
+    pathlib.Path("older").write_text(f"#!/bin/sh\n[ \"$1\" = near ] && {{ echo no such command >&2; exit 2; }}\nexec {PROGRAM} \"$@\"\n")
+    os.chmod("older", 0o755)
+    places = {"nodes": ["a", "b", "c"], "x": [9.5, 9.6, 9.7], "y": [47.0, 47.1, 47.2]}
+    with chtab.Network.from_arrays(SOURCES, TARGETS, WEIGHTS, program="./older", **places) as network:
+        for call in lambda: network.near(None, ["a"]), lambda: network.nearest_of(["a"], ["a"]), lambda: network.sum_within(1, 5):
+            raises(chtab.ChtabError, call, told="older has no command `near`")
+        assert network.reach(network.snap([9.5], [47.0])).tolist() == [0, 4, 9]
+
+
+def closing_ends_what_is_under_way():
+    """Calls of several threads by one run and by several; no run is left, and none is begun."""
+    with mood("hangs=0"):
+        network, faults = chtab.Network.open(FIRST, program=STANDIN, load=False), []
+        calls = [lambda: network.near(None, [1])] * 2 + [lambda: network.near([1, 2, 3], [1, 2], workers=2)] * 2
+        threads = [threading.Thread(target=lambda call=call: faults.append(raises(chtab.ChtabError, call, told="the network is closed"))) for call in calls]
+        for thread in threads:
+            thread.start()
+        until = time.monotonic() + 20
+        while len(living()) < 6 and time.monotonic() < until:
+            time.sleep(0.02)
+        network.close()
+        for thread in threads:
+            thread.join(20)
+        assert len(faults) == 4 and len(nears()) == 6 and lives_on(0), (faults, noted())
+
+
+def a_signal_leaves_nothing_behind():
+    """Ctrl-C and SIGTERM while runs are under way end a script, and no run and no file is left."""
+    text = "import sys; sys.path.insert(0, sys.argv[1]); import chtab\nimport signal; signal.signal(signal.SIGTERM, signal.default_int_handler)\n"
+    text += "chtab.Network.open(sys.argv[2], program=sys.argv[3], load=False).near([1, 2, 3], [1, 2], workers=int(sys.argv[4]))\n"
+    os.mkdir("temporary")
+    for number in signal.SIGINT, signal.SIGTERM:
+        for workers in "1", "2":
+            with mood("hangs=0"):
+                words = [PYTHON, "-c", text, ROOT / "python", FIRST, STANDIN, workers]
+                child = subprocess.Popen(list(map(str, words)), stderr=subprocess.PIPE, env=os.environ | {"TMPDIR": os.path.abspath("temporary")})
+                before = len(nears())
+                while len(living()) < int(workers) and child.poll() is None:
+                    time.sleep(0.02)
+                child.send_signal(number)
+                told = child.communicate(timeout=20)[1]
+                assert b"KeyboardInterrupt" in told and lives_on(0) and os.listdir("temporary") == [], (before, told, os.listdir("temporary"))
+
+
+def owed_here(_):
+    """What a process that was forked is told by the network of its parent."""
+    return rows_told(NETWORK.near(None, [3, 1])), NETWORK.sum_within(1, 5, workers=2).tolist()
+
+
+def owed_there(network):
+    return rows_told(network.near(None, [3, 1]))
+
+
+def forked_processes_ask_too():
+    """While threads of their parent ask, and by pickle."""
+    global NETWORK
+    with chtab.Network.open(FIRST, program=PROGRAM, load=False) as NETWORK:
+        wanted = owed_here(None)
+        assert wanted == ([[(1, 0), (0, 9)], [(0, 5)], [(0, 0)]], [2, 2, 1])
+        stop, found = threading.Event(), []
+
+        def ask():
+            while not stop.is_set():
+                found.append(owed_here(None))
+
+        threads = [threading.Thread(target=ask) for _ in range(2)]
+        for thread in threads:
+            thread.start()
+        try:
+            with multiprocessing.get_context("fork").Pool(3) as pool:
+                assert pool.map_async(owed_here, range(12)).get(PATIENCE) == [wanted] * 12
+            with concurrent.futures.ProcessPoolExecutor(2, multiprocessing.get_context("spawn")) as pool:
+                assert list(pool.map(owed_there, [NETWORK] * 3, timeout=PATIENCE)) == [wanted[0]] * 3
+        finally:
+            stop.set()
+            for thread in threads:
+                thread.join()
+        assert found and all(each == wanted for each in found)
+
+
+def threads_share_a_network():
+    """Calls of eight threads, while a run of `chtab ask` is kept."""
+    with chtab.Network.open(FIRST, program=PROGRAM) as network:
+        before = len(os.listdir("/proc/self/fd"))
+        with concurrent.futures.ThreadPoolExecutor(8) as threads:
+            found = list(threads.map(lambda node: rows_told(network.near([node], [3, 1, 2])), [1, 2, 3] * 8))
+            assert found == [[[(1, 0), (2, 4), (0, 9)]], [[(2, 0), (0, 5)]], [[(0, 0)]]] * 8
+        assert network.distances([(1, 3)]).tolist() == [9]
+        gc.collect()
+        assert len(os.listdir("/proc/self/fd")) == before
+
+
+# Reach.
+
+
+def reach_goes_by_near_rows():
+    """It is told what tables tell, by a network that keeps no run, and by one that has its hierarchy saved."""
+    import numpy
+
+    with open("saved.ch", "w") as saved:
+        subprocess.run([PROGRAM, "save", "--deep", f"{COUNTRY}.gr"], check=True, stdout=saved)
+    with chtab.Network.open(f"{COUNTRY}.gr", program=PROGRAM) as network:
+        spots = network.snap([9.5209, 9.6079, 9.5020], [47.1410, 47.1020, 47.0660])
+        limits = [None, 600_000, 10_000, 0]
+        wanted = [[network.reach(spots[place:place + 1], within) for within in limits] for place in range(3)]
+        polygons = network.isochrones(spots[:1], [120_000, 300_000])
+        nodes, added = (column[0][spots.out_nodes[0] > 0] for column in (spots.out_nodes, spots.out_weights))
+        table = network.table(nodes, network.labels)
+        assert numpy.array_equal(wanted[0][0], numpy.where(table >= 0, table + added[:, None], 2**62).min(axis=0))
+    with mood():
+        for more in {"load": False}, {"saved": "saved.ch", "load": False}, {"saved": "saved.ch"}:
+            with chtab.Network.open(f"{COUNTRY}.gr", program=STANDIN, **more) as network:
+                before = len(nears())
+                for place in range(3):
+                    for within, owed in zip(limits, wanted[place]):
+                        assert numpy.array_equal(network.reach(spots[place:place + 1], within), owed), (place, within)
+                assert network.isochrones(spots[:1], [120_000, 300_000]) == polygons and len(nears()) > before
+
+
+GROUPS = (
+    (
+        ("python3-numpy",),
+        [
+            what_is_no_question_is_refused, one_run_answers_what_is_small, blocks_are_within_their_limits, texts_that_are_no_answer_are_refused,
+            a_run_that_fails_is_told_and_gone, closing_ends_what_is_under_way, a_signal_leaves_nothing_behind, forked_processes_ask_too, threads_share_a_network,
+        ],
+    ),
+    (("python3-numpy", "python3-scipy"), [blocks_answer_as_one_run, a_program_without_the_command]),
+    (("python3-numpy", "python3-scipy", "python3-pandas"), [random_graphs_answer_as_scipy, forms_of_an_answer, sums_take_values_in_each_form]),
+    (("python3-numpy", "python3-networkx"), [random_graphs_answer_as_networkx]),
+    (("python3-numpy", "python3-distributed"), [a_cluster_answers_too]),
+    (("python3-numpy", "python3-scipy", "python3-shapely"), [reach_goes_by_near_rows]),
+)
+
+if __name__ == "__main__":
+    running.build()
+    run_checks(GROUPS)
