@@ -22,6 +22,7 @@ from helpers.running import PROGRAM, Answer, Count, build, side_by_side, run, wi
 from oracles.checking import first_fault
 from oracles.contracting import contract_in_order, text_of as saved_text_of
 from oracles.dijkstra import arcs_ahead, distances_from
+from oracles.nearest import near_text
 from oracles.reading import FORMS, Fault, read
 
 # The words of each kind of run, and its files in the order in which they are read.
@@ -142,12 +143,15 @@ def draw_case(draw):
     return words, files
 
 
-def text_of(items):
-    """The text for files that have these items."""
+def text_of(words, nodes, items):
+    """The text of a run of these words on files that have these items, on so many nodes."""
     ahead = arcs_ahead(items["graph"][0])
     if "queries" in items:
         return "".join(f"d {start} {end} {distances_from(start, ahead).get(end, '-')}\n" for start, end in items["queries"][0])
     targets = [target for target, in items["targets"][0]]
+    if "near" in words:
+        sources = [source for source, in items["sources"][0]] if "sources" in items else range(1, nodes + 1)
+        return near_text({source: distances_from(source, ahead) for source in sources}, sources, targets)
     rows = [(source, distances_from(source, ahead)) for source, in items["sources"][0]]
     return "".join(" ".join(["t", str(source), *(str(found.get(target, "-")) for target in targets)]) + "\n"
                    for source, found in rows)
@@ -158,7 +162,7 @@ def check_fault(nodes, arcs, order, legs):
     return first_fault(nodes, list(map(tuple, arcs)), [node for node, in order], legs)
 
 
-def owed(files):
+def owed(words, files):
     """The answer that the program owes, and the fault if there is one; None where it would take long."""
     nodes, items = None, {}
     for name, data in files.items():
@@ -171,7 +175,7 @@ def owed(files):
         word = check_fault(nodes, *items["graph"], *items["saved"]) if name == "saved" else None
         if word:
             return Answer(1, b"", f"chtab: saved hierarchy refused: {word}\n".encode()), word
-    return Answer(0, text_of(items).encode(), b""), "accepted"
+    return Answer(0, text_of(words, nodes, items).encode(), b""), "accepted"
 
 
 def compare_drawn(tally, folder, how_many, seed):
@@ -180,7 +184,7 @@ def compare_drawn(tally, folder, how_many, seed):
     cases = []
     while len(cases) < how_many:
         words, files = draw_case(draw)
-        wanted = owed(files)
+        wanted = owed(words, files)
         if wanted:
             cases.append((len(cases), words, files, *wanted))
 
