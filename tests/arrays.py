@@ -24,6 +24,7 @@ from helpers.commands import raises, temporary
 from helpers.moods import STANDIN, lives_on, mood, noted
 from helpers.packages import PYTHON, run_checks
 from helpers.running import PROGRAM, ROOT
+from helpers.ways import both
 import chtab
 from chtab import files
 
@@ -445,13 +446,16 @@ GROUPS = (
     (
         ("python3-numpy", "python3-scipy", "python3-pandas"),
         [
-            random_arcs_answer_as_scipy, labels_come_from_the_ends, rounding_is_told, what_is_refused_names_its_row_and_writes_nothing,
-            faults_of_the_program_leave_nothing, a_folder_is_opened_again, a_folder_that_is_made_anew_is_another_network,
-            what_a_caller_changes_later_changes_nothing, labels_of_another_graph_are_refused, temporary_files_go_with_the_network,
-            it_is_shared_as_any_network, one_run_builds_and_another_reads, half_a_million_arcs, no_line_runs_for_each_arc, frames,
+            *both(
+                random_arcs_answer_as_scipy, labels_come_from_the_ends, rounding_is_told, a_folder_is_opened_again,
+                a_folder_that_is_made_anew_is_another_network, what_a_caller_changes_later_changes_nothing, labels_of_another_graph_are_refused,
+                temporary_files_go_with_the_network, it_is_shared_as_any_network, frames,
+            ),
+            what_is_refused_names_its_row_and_writes_nothing, faults_of_the_program_leave_nothing, one_run_builds_and_another_reads,
+            half_a_million_arcs, no_line_runs_for_each_arc,
         ],
     ),
-    (("python3-numpy", "python3-scipy", "python3-networkx"), [graphs_answer_as_networkx, what_a_graph_lacks_is_named]),
+    (("python3-numpy", "python3-scipy", "python3-networkx"), [*both(graphs_answer_as_networkx), what_a_graph_lacks_is_named]),
     (("python3-numpy", "python3-scipy", "python3-networkx", "python3-osmnx", "python3-sklearn"), [osmnx_takes_the_map]),
 )
 

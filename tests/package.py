@@ -23,6 +23,7 @@ from helpers.commands import raises
 from helpers.moods import STANDIN, asked, lives_on, living, mood, noted
 from helpers.packages import PYTHON, run_checks
 from helpers.running import PROGRAM, ROOT
+from helpers.ways import both
 from helpers.writing import write_graph
 import chtab
 from chtab import answers, blocks, files
@@ -456,14 +457,15 @@ GROUPS = (
     (
         ("python3-numpy",),
         [
-            random_graphs_answer_as_dijkstra, what_is_not_a_question_is_refused, a_program_that_fails_is_told_and_gone, one_run_answers_all,
-            what_is_told_of_the_package, each_call_tells_what_it_takes_and_gives,
-            more_runs_where_they_are_wanted, answers_are_matched_whole,
-            closing_ends_what_is_under_way, what_is_longer_than_a_pipe_holds, threads_share_a_network,
+            *both(
+                random_graphs_answer_as_dijkstra, what_is_not_a_question_is_refused, what_is_longer_than_a_pipe_holds, threads_share_a_network,
+            ),
+            what_is_told_of_the_package, each_call_tells_what_it_takes_and_gives, a_program_that_fails_is_told_and_gone, one_run_answers_all,
+            more_runs_where_they_are_wanted, answers_are_matched_whole, closing_ends_what_is_under_way,
         ],
     ),
-    (("python3-numpy", "python3-scipy"), [roads_answer_as_scipy]),
-    (("python3-numpy", "python3-pandas"), [frames_and_features]),
+    (("python3-numpy", "python3-scipy"), both(roads_answer_as_scipy)),
+    (("python3-numpy", "python3-pandas"), both(frames_and_features)),
     (("python3-numpy", "python3-pip", "python3-setuptools", "python3-wheel", "python3-venv"), [it_installs_without_a_network]),
 )
 

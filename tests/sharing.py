@@ -29,6 +29,7 @@ from helpers.commands import raises
 from helpers.moods import STANDIN, asked, lives_on, living, mood
 from helpers.packages import PYTHON, run_checks
 from helpers.running import PROGRAM, ROOT
+from helpers.ways import both
 import chtab
 from chtab import files
 
@@ -316,10 +317,12 @@ GROUPS = (
     (
         ("python3-numpy", "python3-scipy"),
         [
-            forked_pools_ask_the_network_of_their_parent, pools_of_each_way_unpickle_it, both_executors, processes_are_forked_while_threads_ask,
-            a_fork_holds_no_lock_and_no_pipe, a_forked_process_ends_as_any_other, tasks_of_a_process_share_a_run,
-            what_is_broken_off_leaves_no_answer, another_answer_is_found_out, errors_and_answers_are_pickled, faults_come_back_from_a_pool,
-            what_is_dropped_is_ended, the_end_of_the_interpreter_ends_all,
+            *both(
+                forked_pools_ask_the_network_of_their_parent, pools_of_each_way_unpickle_it, both_executors, processes_are_forked_while_threads_ask,
+                what_is_broken_off_leaves_no_answer, errors_and_answers_are_pickled,
+            ),
+            a_fork_holds_no_lock_and_no_pipe, a_forked_process_ends_as_any_other, tasks_of_a_process_share_a_run, another_answer_is_found_out,
+            faults_come_back_from_a_pool, what_is_dropped_is_ended, the_end_of_the_interpreter_ends_all,
         ],
     ),
 )

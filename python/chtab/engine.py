@@ -177,6 +177,10 @@ class Engine:
         kinds = [self.tabled(within), self.tabled(None), ROUTES] if self.setting.within is None else [self.tabled(None)]
         return self.ask(kinds, lambda run: answers.Table(sources, targets, run.limit()))
 
+    def cells(self, sources, targets, within=None):
+        """The numbers of the same, of nodes in columns: int64 (k, l), -1 where there is no walk or a cell is left out."""
+        return answers.numbers(self.table(sources.tolist(), targets.tolist(), within), 1 + len(targets))[:, 1:]
+
     def tables(self, parts):
         """The cells of several small tables, pairs of lists of nodes, in one column. A run that tells routes is asked first, because routes are
         what callers ask for next."""

@@ -45,13 +45,18 @@ class ProgramFault(ChtabError, RuntimeError):
     Attributes
     ----------
     status : int
-        The exit status of the program, less than 0 the signal that ended it, and 0 where it wrote what is no answer.
+        The exit status of the program, less than 0 the signal that ended it, and 0 where it wrote what is no answer. Where the library for C
+        answers in place of the program, it is the one that the program has for this.
+    line, place : int
+        The line of the file, from 1 on, and the leg, arc or node of the hierarchy, from 0 on, that the library refuses; 0 where there is none.
+    kind : str
+        What the library refuses there, in the program's words; empty where it refuses no file.
     """
 
-    # The default is for pickle, which sets the attributes of its own.
-    def __init__(self, text, status=0):
+    # The defaults are for pickle, which sets the attributes of its own.
+    def __init__(self, text, status=0, line=0, kind="", place=0):
         super().__init__(text)
-        self.status = status
+        self.status, self.line, self.kind, self.place = status, line, kind, place
 
 
 class TimedOut(ChtabError, TimeoutError):

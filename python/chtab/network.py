@@ -9,7 +9,7 @@ arrays of int64, as numpy, pandas and `blocks.py` have them, which a masked arra
 """
 import numpy
 
-from chtab import engine, files, graphs, making, opening
+from chtab import files, graphs, in_process, making, opening
 from chtab.accessibility import Accessibility
 from chtab.between_places import BetweenPlaces
 from chtab.near_runs import NearRuns
@@ -36,7 +36,8 @@ class Network(BetweenPlaces, Accessibility):
         self._opened, self._folder = opened, folder
         self._layers = opened.layers(known)
         self.nodes = files.count_nodes(opened.setting.graph)
-        self._engine = engine.Engine(opened.setting)
+        layers = self._layers
+        self._engine = in_process.engine_of(opened.setting, opened.library, lambda: layers.graph)
         self._near = NearRuns(opened.setting, self.nodes)
         self._queries = NodeQueries(self._engine, self._near)
         self._trips = Trips(self._queries, self._layers)
@@ -71,6 +72,11 @@ class Network(BetweenPlaces, Accessibility):
             The most runs that are kept at once, from 1 on; 1 where it is not given. Each of them holds the network in memory. One run answers
             everything: the first route ends a run that tells no routes, and begins one that does. With more there is one for distances and
             tables, one for routes, and one for tables within limits up to each power of two, whose searches end at the limit.
+        library : "auto", bool or path
+            Whether the library for C answers in this process, and no run of the program: sooner, above all one question at a time. It opens a
+            graph by its saved hierarchy, and needs `timeout` and `workers` as they are where they are not given. "auto", as it is where this is
+            not given: where it fits, and `libchtab.so.1` stands beside the program. True, or the path of the library: it answers, or an error
+            says why it can't. False: a run of the program, in a process apart, which can be ended at any time.
 
         Returns
         -------
@@ -85,7 +91,7 @@ class Network(BetweenPlaces, Accessibility):
         FileFault
             The labels of the folder are not those of its graph.
         ChtabError
-            There is no program.
+            There is no program, or `library` asks for a library that can't answer.
         OSError
             A file can't be opened.
         """
@@ -118,7 +124,7 @@ class Network(BetweenPlaces, Accessibility):
             A folder that is not there yet, or is empty. The files stand there, with the hierarchy: `Network.open(folder)` opens the same
             network quickly. Without it they stand in a temporary folder, until `close` or until the network is no longer used.
         **running
-            `program`, `workers`, `timeout`, `load`, `routes` and `runs`, as `Network.open` takes them.
+            `program`, `workers`, `timeout`, `load`, `routes`, `runs` and `library`, as `Network.open` takes them.
 
         Returns
         -------
@@ -246,7 +252,8 @@ class Network(BetweenPlaces, Accessibility):
         return f"<chtab.Network {setting.graph}{saved}: {self.nodes:,} nodes{', closed' * self._engine.is_closed}>"
 
     def close(self):
-        """Ends the program, and removes a temporary folder of the network. A call that is under way in another thread fails."""
+        """Ends the program, and removes a temporary folder of the network. A call that is under way in another thread fails. Where the library
+        answers, the part of it that is under way ends first."""
         self._near.kill()
         self._engine.close()
         if self._folder is not None:

@@ -3,7 +3,7 @@ import math
 
 import numpy
 
-from chtab import answers, blocks, engine
+from chtab import blocks, engine
 from chtab.near_runs import has_near
 from chtab.routes import NO_WALK
 from chtab.walks import together
@@ -35,9 +35,9 @@ class NodeQueries:
         if within is not None and not 0 <= within <= MOST:
             raise ValueError("a limit is from 0 to 2^60")
         table = numpy.empty((len(sources), len(targets)), numpy.int64)
-        for block in blocks.cut(sources.tolist(), targets.tolist()):
-            rows = answers.numbers(self.runs.table(block.sources, block.targets, shared_limit(within)), 1 + len(block.targets))
-            table[block.row:block.row + len(block.sources), block.column:block.column + len(block.targets)] = rows[:, 1:]
+        for block in blocks.cut(sources, targets):
+            cells = self.runs.cells(block.sources, block.targets, shared_limit(within))
+            table[block.row:block.row + len(block.sources), block.column:block.column + len(block.targets)] = cells
         if within is not None:
             table[table > within] = NO_WALK
         return table

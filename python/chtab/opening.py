@@ -18,10 +18,13 @@ class Running:
     load: bool = True
     routes: bool = False
     runs: int = 1
+    library: object = "auto"
 
     def __post_init__(self):
         if self.runs < 1:
             raise ValueError("there is at least one run")
+        if self.library not in ("auto", True, False):
+            object.__setattr__(self, "library", os.path.abspath(self.library))
 
     def setting(self, graph, saved):
         """The same for an engine, of these files."""
@@ -38,6 +41,8 @@ class Opening:
     labelling: str | None = None
     # The size of the graph and when it was written, in nanoseconds: a network of another one at its place is another network.
     stamp: tuple | None = None
+    # Whether the library for C answers: `Network.open` has the meaning.
+    library: object = "auto"
 
     def layers(self, known=None):
         """The layers, with those that are known already. Labels are read at once, because the graph may be another one later."""
@@ -55,7 +60,7 @@ def opening_of(graph, saved, coordinates, bends, running):
     graph, saved, coordinates, bends = (None if path is None else os.path.abspath(path) for path in (graph, saved, coordinates, bends))
     for path in filter(None, (graph, saved, coordinates, bends)):
         open(path, "rb").close()
-    return Opening(running.setting(graph, saved), coordinates, bends, stamp=stamp_of(graph))
+    return Opening(running.setting(graph, saved), coordinates, bends, stamp=stamp_of(graph), library=running.library)
 
 
 def of_folder(folder, running, saved=None, coordinates=None, bends=None):
@@ -64,7 +69,7 @@ def of_folder(folder, running, saved=None, coordinates=None, bends=None):
     saved, coordinates, bends = (None if path is None else os.path.abspath(path) for path in (saved or own, coordinates, bends))
     for path in filter(None, (graph, saved, labelling, coordinates, bends)):
         open(path, "rb").close()
-    return Opening(running.setting(graph, saved), coordinates, bends, labelling, stamp_of(graph))
+    return Opening(running.setting(graph, saved), coordinates, bends, labelling, stamp_of(graph), running.library)
 
 
 def stamp_of(path):

@@ -1,0 +1,230 @@
+"""What is asked of the library for C, in this process: distances, routes and tables, by a handle for each thread."""
+import os
+import threading
+import weakref
+
+import numpy
+
+from chtab import answers, engine, files, forks, library
+from chtab.errors import ChtabError, ProgramFault
+from chtab.walks import Walks
+
+AUTO = "auto"
+# What one call of the library answers at most: distances, and targets of a table. So no call takes much more than a second, and Ctrl-C is heard.
+TOGETHER, WIDTH = 1 << 13, 1 << 13
+
+
+def engine_of(setting, choice, graph):
+    """The engine of a setting: the library in this process where it is chosen and fits, and else runs of the program.
+
+    Parameters
+    ----------
+    setting : engine.Setting
+        The files, and how the program would run.
+    choice : bool or str
+        True, or the path of the library: the library, and an error where it doesn't fit. False: the program. "auto": whichever fits.
+    graph : call
+        What `files.read_graph` gives of the graph, when it is first needed.
+    """
+    if choice is False:
+        return engine.Engine(setting)
+    path = library.beside(setting.program) if choice in (AUTO, True) else choice
+    lack = lack_of(setting, path)
+    if lack is None:
+        return InProcess(setting, library.loaded(path), graph)
+    if choice == AUTO:
+        return engine.Engine(setting)
+    raise ChtabError(f"the library can't answer: {lack}")
+
+
+def lack_of(setting, path):
+    """Why the library does not fit a setting, None where it does."""
+    if path is None:
+        return f"there is no {library.NAME} beside the program {setting.program}; `packaging/library` makes it"
+    if setting.saved is None:
+        return "it opens a graph by its saved hierarchy; give `saved`, which `chtab save` writes"
+    if setting.timeout is not None:
+        return "its calls can't be broken off after a time; leave `timeout` out"
+    if setting.workers != 1:
+        return "it starts no threads, and a call has one worker; leave `workers` out, and ask from threads of your own"
+    try:
+        library.loaded(path)
+    except ChtabError as fault:
+        return str(fault)
+    return None
+
+
+class InProcess:
+    """Answers as `engine.Engine` gives them, by the library. Calls may come from several threads, and from processes that were forked.
+
+    Each thread that asks has a handle of its own, made by its first question. All handles share one network in memory. The one by which the
+    network was opened is that of the first thread that asks, and of another one when that thread has ended.
+
+    A process that was forked opens the network anew with its first question, and leaves the handles of its parent alone.
+    """
+
+    def __init__(self, setting, calls, graph):
+        for path in setting.graph, setting.saved:
+            open(path, "rb").close()
+        self.setting, self.calls, self.graph = setting, calls, graph
+        self.nodes, self.is_closed, self.arcs = files.count_nodes(setting.graph), False, None
+        self.leave_parent()
+        forks.follow(self)
+
+    def leave_parent(self):
+        """Begins with no handle, and with a lock that nobody holds: in a process that was forked too."""
+        self.lock, self.owner, self.begun = threading.RLock(), os.getpid(), 0
+        self.of_thread, self.handles = threading.local(), weakref.WeakSet()
+        self.first, self.asker = None, None
+
+    # Handles.
+
+    def load(self, with_routes=False):
+        """Opens the network, so that a file that is refused is told now."""
+        if self.owner != os.getpid():
+            self.leave_parent()
+        with self.lock:
+            if self.is_closed:
+                raise ChtabError(library.GONE)
+            if self.first is None:
+                self.first = self.opened()
+                self.handles.add(self.first)
+                self.begun += 1
+
+    def opened(self):
+        """The first handle."""
+        contents = []
+        for path in self.setting.graph, self.setting.saved:
+            with open(path, "rb") as file:
+                contents.append(file.read())
+        handle = library.Handle(self.calls)
+        handle.open(*contents)
+        if handle.nodes() != self.nodes:
+            raise ProgramFault(f"{self.setting.graph} has changed since it was opened", 1)
+        return handle
+
+    def handle(self):
+        """The handle of the thread that asks."""
+        if self.is_closed:
+            raise ChtabError(library.GONE)
+        if self.owner != os.getpid():
+            self.leave_parent()
+        found = getattr(self.of_thread, "handle", None)
+        if found is None:
+            found = self.of_thread.handle = self.handle_of_new_thread()
+        return found
+
+    def handle_of_new_thread(self):
+        with self.lock:
+            self.load()
+            if self.asker is None or not self.asker.is_alive():
+                self.asker = threading.current_thread()
+                return self.first
+            # This waits for the call that the thread of the first handle makes.
+            made = self.first.share()
+            self.handles.add(made)
+            return made
+
+    def living(self):
+        """Whether the network is open in this process: 1, or else 0."""
+        return int(self.first is not None)
+
+    @property
+    def runs(self):
+        """The handles of this process: none before the network was opened."""
+        return list(self.handles)
+
+    def close(self):
+        """Closes all handles, each after the call that is under way with it. A question of another thread that takes several calls fails."""
+        self.is_closed = True
+        if self.owner != os.getpid():
+            self.leave_parent()
+        with self.lock:
+            handles, self.first = list(self.handles), None
+        for handle in handles:
+            handle.close()
+
+    def __enter__(self):
+        return self
+
+    def __exit__(self, *_):
+        self.close()
+
+    # Questions.
+
+    def distances_together(self):
+        """How many distances are best asked for together."""
+        return engine.MANY
+
+    def distances(self, pairs):
+        """The distances of pairs of nodes, an array (n, 2): int64 (n,), -1 where there is no walk."""
+        sources, targets = (library.nodes_of(numpy.asarray(pairs)[:, place], self.nodes) for place in range(2))
+        if len(sources) <= TOGETHER:
+            return self.handle().distances(sources, targets) if len(sources) else numpy.zeros(0, numpy.int64)
+        parts = (slice(start, start + TOGETHER) for start in range(0, len(sources), TOGETHER))
+        return numpy.concatenate([self.handle().distances(sources[part], targets[part]) for part in parts])
+
+    def cells(self, sources, targets, within=None):
+        """The distances from each node of one column to each of another, int64 (k, l), -1 where there is no walk, or none of at most `within`."""
+        sources, targets = (library.nodes_of(nodes, self.nodes) for nodes in (sources, targets))
+        table, limit = numpy.empty((len(sources), len(targets)), numpy.int64), library.NO_LIMIT if within is None else within
+        for start in range(0, len(targets) if len(sources) else 0, WIDTH):
+            table[:, start:start + WIDTH] = self.handle().table(sources, targets[start:start + WIDTH], limit)
+        return table
+
+    def tables(self, parts):
+        """The cells of several small tables, pairs of lists of nodes, in one column."""
+        pairs = [(source, target) for sources, targets in parts for source in sources for target in targets]
+        return self.distances(numpy.array(pairs, numpy.int64).reshape(-1, 2))
+
+    def routes(self, pairs):
+        """The routes of pairs of nodes, as a list of `files.Answer`."""
+        pairs = list(pairs)
+        found = self.walks(numpy.array(pairs, numpy.int64).reshape(-1, 2))
+        weights, firsts = found.weights.tolist(), found.firsts.tolist()
+        heads, arc_weights = found.heads.tolist(), found.arc_weights.tolist()
+        return [
+            files.Answer(source, target, weight, [source, *heads[first:last]], arc_weights[first:last])
+            if weight >= 0 else files.Answer(source, target, None, None, None)
+            for (source, target), weight, first, last in zip(pairs, weights, firsts, firsts[1:])
+        ]
+
+    def walks(self, pairs):
+        """The same, of pairs in an array (n, 2), as `walks.Walks`."""
+        found = [self.handle().route(source, target) for source, target in library.nodes_of(pairs, self.nodes).tolist()]
+        weights = numpy.array([weight for weight, _ in found], numpy.int64)
+        counts = [max(len(nodes) - 1, 0) for _, nodes in found]
+        nothing = numpy.zeros(0, numpy.int64)
+        tails = numpy.concatenate([nothing, *(nodes[:-1] for _, nodes in found)]) + 1
+        heads = numpy.concatenate([nothing, *(nodes[1:] for _, nodes in found)]) + 1
+        walks = Walks(weights, numpy.append(0, numpy.cumsum(counts, dtype=numpy.int64)), tails, heads, self.arc_weights(tails, heads))
+        if (walks.sums(walks.arc_weights)[weights >= 0] != weights[weights >= 0]).any():
+            raise self.changed()
+        return walks
+
+    def arc_weights(self, tails, heads):
+        """The weights of arcs of routes. Of several arcs between two nodes a route takes the one of least weight."""
+        if not len(tails):
+            return numpy.zeros(0, numpy.int64)
+        if self.arcs is None:
+            self.arcs = least_arcs(self.graph(), self.nodes)
+        keys, weights = self.arcs
+        wanted = tails * self.nodes + heads
+        places = numpy.minimum(numpy.searchsorted(keys, wanted), max(len(keys) - 1, 0))
+        if not len(keys) or (keys[places] != wanted).any():
+            raise self.changed()
+        return weights[places]
+
+    def changed(self):
+        """The fault of a graph whose arcs are not those that the library opened."""
+        return ProgramFault(f"{self.setting.graph} has changed since it was opened", 1)
+
+
+def least_arcs(graph, count):
+    """The keys of the pairs of nodes from which an arc of a graph leads, in order, and the weight of the least arc of each."""
+    tails, heads, weights = (numpy.array(column, numpy.int64) for column in (graph.tails, graph.heads, graph.weights))
+    keys = tails * count + heads
+    order = numpy.lexsort([weights, keys])
+    keys, weights = keys[order], weights[order]
+    is_first = numpy.append(True, keys[1:] != keys[:-1])[:len(keys)]
+    return keys[is_first], weights[is_first]
