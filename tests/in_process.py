@@ -1,0 +1,443 @@
+#!/usr/bin/python3
+"""Tests the library for C as the Python package calls it: what it would misread, handles in threads, after a fork and after they were closed,
+what is left of them, and when the library is taken in place of the program.
+
+That its answers are those of the program, tests/package.py, tests/arrays.py and tests/sharing.py say. What needs a package that is missing is told
+and left out. The last line is 'N passed, N failed'.
+"""
+import concurrent.futures
+import contextlib
+import copy
+import ctypes
+import gc
+import os
+import pathlib
+import pickle
+import re
+import resource
+import shutil
+import signal
+import subprocess
+import threading
+import time
+
+# First of all, since it puts the package on the path.
+from helpers.maps import COUNTRY
+
+from helpers import running, ways
+from helpers.commands import raises
+from helpers.in_process import HEADER, declared, statuses
+from helpers.packages import PYTHON, run_checks
+from helpers.running import PROGRAM, ROOT
+import chtab
+from chtab import files
+
+FIRST, FIRST_SAVED = ROOT / "examples" / "first.gr", ROOT / "examples" / "first.ch"
+GRAPH = f"{COUNTRY}.gr"
+PATIENCE = 120
+# Kilobytes by which memory may grow once things were made and dropped for a while.
+MOST_GROWTH = 4_096
+
+
+def of_country(**more):
+    """The network of the country by the library."""
+    return chtab.Network.open(GRAPH, saved=ways.saved_for(GRAPH), program=PROGRAM, library=ways.make(), **more)
+
+
+def of_first(**more):
+    return chtab.Network.open(FIRST, saved=FIRST_SAVED, program=PROGRAM, library=ways.make(), **more)
+
+
+def handle_of(graph=FIRST, saved=FIRST_SAVED):
+    """An open handle."""
+    from chtab import library
+
+    handle = library.Handle(library.loaded(ways.make()))
+    handle.open(pathlib.Path(graph).read_bytes(), pathlib.Path(saved).read_bytes())
+    return handle
+
+
+# What Python says of C.
+
+
+def numbers_are_those_of_the_header():
+    """The version, statuses, kinds of faults and sizes."""
+    from chtab import library
+
+    text = HEADER.read_text()
+    assert f"#define CHTAB_VERSION {library.VERSION}\n" in text
+    assert all(getattr(library, name) == number for name, number in statuses().items()) and len(statuses()) == 11
+    assert len(re.findall(r"CHTAB_FAULT_\w+ = \d+", text)) == len(library.KINDS)
+    assert [ctypes.sizeof(kind) for kind in (library.Block, library.Fault, library.Found)] == [16, 24, 16]
+    for kind, name in (library.Block, "chtab"), (library.Fault, "chtab_fault"), (library.Found, "chtab_found"):
+        body = re.search(rf"typedef struct {name} \{{(.*?)\}}", text, re.DOTALL).group(1)
+        assert re.findall(r"(\w+);", re.sub(r"/\*.*?\*/", "", body)) == [field for field, _ in kind._fields_], name
+
+
+def calls_are_those_of_the_header():
+    """Each call is given as many words as the header says, each of its type."""
+    from chtab import library
+
+    one, column = ctypes.POINTER(ctypes.c_uint32), ctypes.c_void_p
+    types = {
+        "chtab *": {library.HANDLE}, "const uint8_t *": {ctypes.c_char_p}, "size_t ": {ctypes.c_size_t}, "uint64_t ": {ctypes.c_uint64},
+        "uint32_t ": {ctypes.c_uint32}, "const uint32_t *": {column}, "uint64_t *": {column}, "uint32_t *": {column, one},
+        "chtab_fault *": {ctypes.POINTER(library.Fault)}, "chtab_found *": {ctypes.POINTER(library.Found)},
+    }
+    assert {*library.CALLS, "chtab_version"} == declared()
+    for name, given in library.CALLS.items():
+        words = re.search(rf"uint32_t {name}\((.*?)\);", HEADER.read_text(), re.DOTALL).group(1)
+        told = [re.fullmatch(r"(.*?)\w+", " ".join(word.split())).group(1) for word in words.split(",")]
+        assert len(told) == len(given) and all(kind in types[word] for word, kind in zip(told, given)), (name, told)
+    assert library.CALLS["chtab_nodes"][1] is one and column is library.CALLS["chtab_route"][4]
+
+
+# What is refused.
+
+
+def what_c_would_misread_is_refused():
+    """Arrays of other numbers, of other shapes, in pieces, of different lengths, and what is no array: none of them comes to C."""
+    import numpy
+
+    handle = handle_of()
+    right = numpy.array([0, 1], numpy.uint32)
+    assert handle.distances(right, right[::-1].copy()).tolist() == [4, -1] and handle.table(right, right).tolist() == [[0, 4], [-1, 0]]
+    for wrong in (
+        None, [0, 1], (0, 1), "01", b"\0" * 8, right.astype(numpy.int32), right.astype(numpy.int64), right.astype(float), right.astype(">u4"),
+        numpy.arange(4, dtype=numpy.uint32)[::2], right[::-1], right.reshape(1, 2), right.reshape(2, 1), numpy.ma.masked_array(right),
+        numpy.array([0, None]), memoryview(right), (ctypes.c_uint32 * 2)(0, 1),
+    ):
+        for call in handle.distances, handle.table:
+            raises(TypeError, call, wrong, right)
+            raises(TypeError, call, right, wrong)
+    raises(ValueError, handle.distances, right, right[:1], told="lengths")
+    for node in 3, 4, 2**31, 2**32 - 1:
+        outside = numpy.array([0, node], numpy.uint32)
+        for call in handle.distances, handle.table:
+            raises(ValueError, call, outside, right, told="not one of the network")
+            raises(ValueError, call, right, outside, told="not one of the network")
+        raises(ValueError, handle.route, node, 0)
+        raises(ValueError, handle.route, 0, node)
+    for node in -1, 2**32, 2**64, -2**63:
+        raises(ValueError, handle.route, node, 0, told="32 bits")
+        raises(ValueError, handle.route, 0, node, told="32 bits")
+    for limit in -1, 2**64:
+        raises(ValueError, handle.table, right, right, limit, told="64 bits")
+    many = numpy.zeros(65_537, numpy.uint32)
+    raises(ValueError, handle.table, many, right, told="65,536")
+    raises(ValueError, handle.table, right, many, told="65,536")
+    nothing = numpy.zeros(0, numpy.uint32)
+    assert handle.distances(nothing, nothing).tolist() == [] and handle.table(nothing, right).shape == (0, 2) and handle.table(right, nothing).shape == (2, 0)
+    for words in (None, b""), ("p sp 0 0\n", b""), (b"", bytearray()), (b"", None):
+        raises(TypeError, handle_of().open, *words)
+    assert handle.route(0, 2)[0] == 9 and handle.route(0, 2)[1].tolist() == [0, 1, 2] and handle.route(2, 0)[0] == -1
+
+
+def nodes_are_those_of_the_network():
+    """Numbers that C would take for other nodes, which a network's own test of labels doesn't let through either."""
+    import numpy
+
+    from chtab import library
+
+    assert library.nodes_of(numpy.array([[1, 9], [3, 9]])[:, 0], 3).tolist() == [0, 2] and library.nodes_of([1, 2], 3).flags.c_contiguous
+    assert library.nodes_of([], 3).dtype == numpy.uint32 and library.nodes_of(numpy.array([3], numpy.uint8), 3).tolist() == [2]
+    for wrong in 0, 4, -1, 2**32 + 1, 2**32, 2**63 - 1, -2**63:
+        raises(ValueError, library.nodes_of, [1, wrong], 3, told="not from 1 to 3")
+    raises(ValueError, library.nodes_of, numpy.array([2**64 - 1], numpy.uint64), 3)
+    for wrong in [1.0], ["1"], [None], [True]:
+        raises(TypeError, library.nodes_of, wrong, 3)
+    with of_first() as network:
+        for call in network._engine.distances, network._engine.walks:
+            raises(ValueError, call, numpy.array([[1, 2**32 + 1]]), told="not from 1 to 3")
+        raises(ValueError, network._engine.routes, [(0, 1)], told="not from 1 to 3")
+        raises(ValueError, network._engine.cells, [1], [4], told="not from 1 to 3")
+        raises(ValueError, network._engine.tables, [([1], [4])], told="not from 1 to 3")
+
+
+def faults_are_told_as_by_the_program():
+    """Of graphs and hierarchies: one text and one status by both ways, and by the library the line or the place, and the kind."""
+    graph, saved = FIRST.read_text(), FIRST_SAVED.read_text()
+    for texts, line, kind, place in (
+        ((graph + "a 1 2 3\n", saved), 5, "too many lines", 0), ((graph.replace("a 2 3", "a 2 4"), saved), 4, "node out of range", 0),
+        (("p sp 3 2\n", saved), 2, "too few lines", 0), (("", saved), None, None, None),
+        ((graph, ""), 1, "no problem line", 0), ((graph, saved + "x\n"), saved.count("\n") + 1, "unknown line", 0),
+        ((graph.replace("2 3 5", "2 3 6"), saved), 0, "base", None), ((graph.replace("a 2 3 5", "a 3 2 5"), saved), 0, "base", None),
+        ((graph.replace("p sp 3", "p sp 4"), saved), 1, "size too large", 0), ((graph, saved.replace("o 2", "o 1")), 0, "order", 0),
+        ((graph, saved.replace("p ch 3 2", "p ch 3 1").replace("l 2 3 5 1 0\n", "")), 0, "arc", 1),
+    ):
+        for name, text in zip(("bad.gr", "bad.ch"), texts):
+            pathlib.Path(name).write_text(text)
+        told = []
+        for library in False, ways.make():
+            try:
+                chtab.Network.open("bad.gr", saved="bad.ch", program=PROGRAM, library=library)
+            except chtab.ChtabError as fault:
+                told.append(fault)
+        assert len(told) == 2 and [*map(str, told)] == [str(told[0])] * 2 and type(told[0]) is type(told[1]), (texts, told)
+        if line is not None:
+            fault = told[1]
+            assert (told[0].status, fault.status, fault.line, fault.kind) == (1, 1, line, kind), (texts, vars(fault))
+            assert place is None or fault.place == place, vars(fault)
+            assert vars(pickle.loads(pickle.dumps(fault))) == vars(fault)
+
+
+# Handles.
+
+
+def a_closed_handle_answers_nothing():
+    import numpy
+
+    from chtab import library
+
+    one, closed = numpy.array([0], numpy.uint32), library.Handle(library.loaded(ways.make()))
+    handle, other = handle_of(), None
+    other = handle.share()
+    handle.close()
+    handle.close()
+    assert other.distances(one, one).tolist() == [0] and other.route(0, 2)[0] == 9
+    for each in closed, handle:
+        for call, words in (each.distances, (one, one)), (each.table, (one, one)), (each.route, (0, 1)), (each.nodes, ()), (each.share, ()):
+            raises(chtab.ChtabError, call, *words, told="the network is closed")
+    raises(chtab.ProgramFault, other.open, b"", b"", told="answered 3")
+    for make in copy.copy, copy.deepcopy, pickle.dumps:
+        raises(TypeError, make, other, told="neither copied nor pickled")
+    with of_first() as network:
+        assert network.distances([(1, 3)]).tolist() == [9]
+    for call, words in (network.distances, ([(1, 3)],)), (network.table, ([1], [3])), (network.routes, ([(1, 3)],)):
+        raises(chtab.ChtabError, call, *words, told="the network is closed")
+    network.close()
+    raises(chtab.ChtabError, network._engine.load, told="the network is closed")
+
+
+def each_thread_has_a_handle():
+    """As many as there are threads that ask, the first of which takes that by which the network was opened; they go with their threads."""
+    import numpy
+
+    with of_country() as network:
+        engine, draw = network._engine, numpy.random.default_rng(4)
+        pairs = draw.integers(1, network.nodes + 1, (2_000, 2))
+        wanted, met = network.distances(pairs), threading.Barrier(4)
+        assert len(engine.handles) == 1 and engine.handle() is engine.first
+
+        def work():
+            met.wait(PATIENCE)
+            found = numpy.array_equal(network.distances(pairs), wanted) and network.routes(pairs[:20])[7].weight in (wanted[7], None)
+            met.wait(PATIENCE)
+            return found, engine.handle()
+
+        with concurrent.futures.ThreadPoolExecutor(4) as threads:
+            found = [each.result(PATIENCE) for each in [threads.submit(work) for _ in range(4)]]
+            assert all(right for right, _ in found) and len({id(handle) for _, handle in found}) == 4 and len(engine.handles) == 5
+            del found
+        gc.collect()
+        assert len(engine.handles) == 1 and engine.begun == 1, (len(engine.handles), engine.begun)
+        with contextlib.closing(of_country()) as other, concurrent.futures.ThreadPoolExecutor(1) as threads:
+            assert threads.submit(lambda: other._engine.handle() is other._engine.first).result() and len(other._engine.handles) == 1
+
+
+def threads_ask_while_it_is_closed():
+    """Each call has its answer, or is told that the network is closed."""
+    for _ in range(20):
+        network, wrong = of_country(), []
+
+        def work():
+            try:
+                while True:
+                    if network.table(range(1, 40), range(1, 40))[3, 3] or network.distances([(5, 5)])[0] or len(network.routes([(7, 7)])[0].nodes) != 1:
+                        wrong.append("answer")
+            except chtab.ChtabError as fault:
+                if str(fault) != "the network is closed":
+                    wrong.append(fault)
+
+        threads = [threading.Thread(target=work) for _ in range(4)]
+        for thread in threads:
+            thread.start()
+        time.sleep(0.05)
+        network.close()
+        for thread in threads:
+            thread.join(PATIENCE)
+        assert not wrong and not any(thread.is_alive() for thread in threads), wrong
+
+
+def a_forked_process_opens_it_anew():
+    """It has handles of its own, also where a thread of its parent was in a call, and closes none of its parent's."""
+    with of_country() as network:
+        wanted, first = network.table(range(1, 200), range(1, 200)), network._engine.first
+        with concurrent.futures.ThreadPoolExecutor(2) as threads:
+            asking = [threads.submit(lambda: [network.table(range(1, 200), range(1, 200)) for _ in range(30)]) for _ in range(2)]
+            for _ in range(5):
+                child = os.fork()
+                if not child:
+                    is_right = (network.table(range(1, 200), range(1, 200)) == wanted).all() and network._engine.begun == 1
+                    is_own = network._engine.first is not first and network._engine.handle() is network._engine.first
+                    network.close()
+                    gc.collect()
+                    os._exit(0 if is_right and is_own else 1)
+                assert os.waitpid(child, 0)[1] == 0
+            assert all((table == wanted).all() for each in asking for table in each.result())
+        assert network._engine.first is first and (network.table(range(1, 200), range(1, 200)) == wanted).all()
+    text = "import os, sys; sys.path.insert(0, sys.argv[1]); import chtab\n"
+    text += "network = chtab.Network.open(sys.argv[2], saved=sys.argv[3], program=sys.argv[4], library=sys.argv[5])\n"
+    text += "child = os.fork()\nif not child:\n    del network\n    sys.exit(0)\n"
+    text += "assert os.waitpid(child, 0)[1] == 0; print(network.table([1], [3]).tolist())\n"
+    words = [PYTHON, "-c", text, ROOT / "python", FIRST, FIRST_SAVED, PROGRAM, ways.make()]
+    done = subprocess.run(words, capture_output=True, text=True, timeout=PATIENCE)
+    assert (done.returncode, done.stdout, done.stderr) == (0, "[[9]]\n", ""), done
+
+
+def the_end_of_the_interpreter_waits_for_nothing():
+    """Threads that are in a call when the interpreter ends neither crash nor hang it."""
+    text = "import sys, threading, time; sys.path.insert(0, sys.argv[1]); import chtab\n"
+    text += "network = chtab.Network.open(sys.argv[2], saved=sys.argv[3], program=sys.argv[4], library=sys.argv[5])\n"
+    text += "def work():\n    while True: network.table(range(1, 1000), range(1, 1000))\n"
+    text += "for _ in range(3): threading.Thread(target=work, daemon=True).start()\ntime.sleep(0.5); print('ends')\n"
+    words = [PYTHON, "-c", text, ROOT / "python", GRAPH, ways.saved_for(GRAPH), PROGRAM, ways.make()]
+    for _ in range(3):
+        done = subprocess.run(words, capture_output=True, text=True, timeout=PATIENCE)
+        assert (done.returncode, done.stdout, done.stderr) == (0, "ends\n", ""), done
+
+
+def growth(work, times):
+    """The kilobytes by which memory grows in the second half of so many repetitions."""
+    for _ in range(times // 2):
+        work()
+    gc.collect()
+    before = resource.getrusage(resource.RUSAGE_SELF).ru_maxrss
+    for _ in range(times - times // 2):
+        work()
+    return resource.getrusage(resource.RUSAGE_SELF).ru_maxrss - before
+
+
+def what_is_dropped_is_freed():
+    """Networks that are dropped, closed or never closed after a fault, threads that end, and handles in a ring of references."""
+    def dropped():
+        network = of_country()
+        assert network.distances([(1, 2)])[0] > 0
+
+    def closed():
+        with of_country() as network:
+            network.table([1, 2], [3, 4])
+
+    def in_ring():
+        network = of_country(load=False)
+        network.distances([(1, 2)])
+        network.itself = network
+
+    def faulty():
+        raises(chtab.ProgramFault, handle_of, GRAPH, FIRST_SAVED)
+
+    for work in dropped, closed, in_ring, faulty:
+        assert growth(work, 60) < MOST_GROWTH, work.__name__
+    with of_country() as network:
+        def in_thread():
+            thread = threading.Thread(target=network.distances, args=([(1, 2)],))
+            thread.start()
+            thread.join()
+
+        assert growth(in_thread, 300) < MOST_GROWTH and len(network._engine.handles) == 1
+
+
+def a_long_table_hears_ctrl_c():
+    """It is broken off between two of its parts, long before it would end; the next question is answered."""
+    def alarm(number, frame):
+        raise KeyboardInterrupt
+
+    with of_country() as network:
+        nodes, before = list(range(1, network.nodes + 1)) * 8, signal.signal(signal.SIGALRM, alarm)
+        begun = time.monotonic()
+        try:
+            signal.setitimer(signal.ITIMER_REAL, 0.5)
+            raises(KeyboardInterrupt, network.table, nodes, nodes)
+        finally:
+            signal.setitimer(signal.ITIMER_REAL, 0)
+            signal.signal(signal.SIGALRM, before)
+        took = time.monotonic() - begun
+        assert took < 20 and network.distances([(5, 5)]).tolist() == [0], took
+
+
+def routes_of_another_graph_are_found_out():
+    """Arcs are weighed by the graph's file. Where it has changed since it was opened, no route is told by it."""
+    shutil.copy(FIRST, "own.gr")
+    for old, new in ("a 1 2 4", "a 1 2 3"), ("a 2 3 5", "a 3 2 5"), ("p sp 3 2", "p sp 3 0"):
+        shutil.copy(FIRST, "own.gr")
+        with chtab.Network.open("own.gr", saved=FIRST_SAVED, program=PROGRAM, library=ways.make()) as network:
+            text = FIRST.read_text().replace(old, new)
+            pathlib.Path("own.gr").write_text(text if "0" not in new else "p sp 3 0\n")
+            raises(chtab.ProgramFault, network.routes, [(1, 3)], told="has changed")
+            assert network.distances([(1, 3)]).tolist() == [9]
+
+
+# Which way is taken.
+
+
+def is_by_library(network):
+    with network:
+        assert network.distances([(1, 3)]).tolist() == [9]
+        return type(network._engine).__name__ == "InProcess"
+
+
+def it_is_taken_where_it_fits():
+    """Beside the program, of the package's version, with a hierarchy, one worker and no time; where it must be taken, what lacks is told."""
+    from chtab import library
+
+    for place in "beside", "lib/chtab", "checkout":
+        os.makedirs(place)
+        shutil.copy(PROGRAM, f"{place}/chtab")
+    os.makedirs("checkout/out/library/lib")
+    for place in "beside", "lib", "checkout/out/library/lib":
+        shutil.copy(ways.make(), f"{place}/{library.NAME}")
+    os.symlink("lib/chtab/chtab", "linked")
+    for program in "beside/chtab", "lib/chtab/chtab", "checkout/chtab", "linked":
+        assert is_by_library(chtab.Network.open(FIRST, saved=FIRST_SAVED, program=program)), program
+        assert is_by_library(chtab.Network.open(FIRST, saved=FIRST_SAVED, program=program, library=True)), program
+        assert not is_by_library(chtab.Network.open(FIRST, saved=FIRST_SAVED, program=program, library=False)), program
+        assert is_by_library(chtab.Network.from_arrays([1, 2], [2, 3], [4, 5], program=program)), program
+        for more, told in ({}, "saved hierarchy"), ({"saved": FIRST_SAVED, "timeout": 5}, "timeout"), ({"saved": FIRST_SAVED, "workers": 2}, "workers"):
+            assert not is_by_library(chtab.Network.open(FIRST, program=program, **more))
+            raises(chtab.ChtabError, lambda: chtab.Network.open(FIRST, program=program, library=True, **more), told=told)
+    first = {"saved": FIRST_SAVED, "program": PROGRAM}
+    assert not is_by_library(chtab.Network.open(FIRST, **first))
+    raises(chtab.ChtabError, lambda: chtab.Network.open(FIRST, **first, library=True), told="`packaging/library` makes it")
+    assert is_by_library(pickle.loads(pickle.dumps(chtab.Network.open(FIRST, **first, library=os.path.relpath(ways.make())))))
+    for wrong, kind in (3, TypeError), (None, TypeError), ("none.so", chtab.ChtabError), (FIRST, chtab.ChtabError):
+        raises(kind, lambda: chtab.Network.open(FIRST, **first, library=wrong))
+
+
+def another_library_is_not_taken():
+    """A file that is no library, a library of others, and one of another version."""
+    from chtab import library
+
+    other = next(path for path in pathlib.Path("/usr/lib").glob("**/libz.so.1") if path.exists())
+    for place, path in enumerate((FIRST, "/dev/null", other, ways.make())):
+        os.mkdir(str(place))
+        shutil.copy(PROGRAM, f"{place}/chtab")
+        shutil.copy(path, f"{place}/{library.NAME}")
+    for place in range(3):
+        more = {"saved": FIRST_SAVED, "program": f"{place}/chtab"}
+        assert not is_by_library(chtab.Network.open(FIRST, **more)), place
+        raises(chtab.ChtabError, lambda: chtab.Network.open(FIRST, **more, library=True), told="is not chtab's library for C")
+    more["program"] = "3/chtab"
+    library.VERSION += 1_000
+    try:
+        assert not is_by_library(chtab.Network.open(FIRST, **more))
+        raises(chtab.ChtabError, lambda: chtab.Network.open(FIRST, **more, library=True), told="another version")
+    finally:
+        library.VERSION -= 1_000
+    assert is_by_library(chtab.Network.open(FIRST, **more))
+
+
+GROUPS = (
+    (
+        ("python3-numpy",),
+        [
+            numbers_are_those_of_the_header, calls_are_those_of_the_header, what_c_would_misread_is_refused, nodes_are_those_of_the_network,
+            faults_are_told_as_by_the_program, a_closed_handle_answers_nothing, each_thread_has_a_handle, threads_ask_while_it_is_closed,
+            a_forked_process_opens_it_anew, the_end_of_the_interpreter_waits_for_nothing, what_is_dropped_is_freed, a_long_table_hears_ctrl_c,
+            routes_of_another_graph_are_found_out, it_is_taken_where_it_fits, another_library_is_not_taken,
+        ],
+    ),
+)
+
+if __name__ == "__main__":
+    running.build()
+    run_checks(GROUPS)
