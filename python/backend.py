@@ -1,6 +1,7 @@
 """The build of the package: by setuptools, where Debian has it if it isn't elsewhere, so that `pip install ./python` needs no network.
 
-A wheel takes the proved program along, where the checkout has built it (`./chtab --help`), and its command `chtab`.
+A wheel takes the proved program along, where the checkout has built it (`./chtab --help`), and its command `chtab`; and with it the library for C and
+its header, where the checkout has made them (`packaging/library`).
 """
 import contextlib
 import os
@@ -23,6 +24,7 @@ PARTS = (
     (ROOT / "packaging" / "chtab", "chtab"), (ROOT / "packaging" / "telling", "telling"), (ROOT / "VERSION", "VERSION"),
     (ROOT / "crates" / "chtab" / "out" / "chtab", "program"),
 )
+LIBRARY = (ROOT / "out" / "library" / "lib" / "libchtab.so.1", "libchtab.so.1"), (ROOT / "out" / "library" / "include" / "chtab.h", "chtab.h")
 
 
 def get_requires_for_build_wheel(config_settings=None):
@@ -40,7 +42,7 @@ def program_along():
     folder = HERE / "chtab" / "bin"
     folder.mkdir(exist_ok=True)
     try:
-        for part, name in PARTS:
+        for part, name in (*PARTS, *(each for each in LIBRARY if each[0].is_file())):
             shutil.copy(part, folder / name)
         yield ["--plat-name", sysconfig.get_platform()]
     finally:

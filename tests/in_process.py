@@ -26,7 +26,7 @@ from helpers.maps import COUNTRY
 
 from helpers import running, ways
 from helpers.commands import raises
-from helpers.in_process import HEADER, declared, statuses
+from helpers.in_process import HEADER, declared, make, statuses
 from helpers.packages import PYTHON, run_checks
 from helpers.running import PROGRAM, ROOT
 import chtab
@@ -41,18 +41,18 @@ MOST_GROWTH = 4_096
 
 def of_country(**more):
     """The network of the country by the library."""
-    return chtab.Network.open(GRAPH, saved=ways.saved_for(GRAPH), program=PROGRAM, library=ways.make(), **more)
+    return chtab.Network.open(GRAPH, saved=ways.saved_for(GRAPH), program=PROGRAM, library=make(), **more)
 
 
 def of_first(**more):
-    return chtab.Network.open(FIRST, saved=FIRST_SAVED, program=PROGRAM, library=ways.make(), **more)
+    return chtab.Network.open(FIRST, saved=FIRST_SAVED, program=PROGRAM, library=make(), **more)
 
 
 def handle_of(graph=FIRST, saved=FIRST_SAVED):
     """An open handle."""
     from chtab import library
 
-    handle = library.Handle(library.loaded(ways.make()))
+    handle = library.Handle(library.loaded(make()))
     handle.open(pathlib.Path(graph).read_bytes(), pathlib.Path(saved).read_bytes())
     return handle
 
@@ -168,7 +168,7 @@ def faults_are_told_as_by_the_program():
         for name, text in zip(("bad.gr", "bad.ch"), texts):
             pathlib.Path(name).write_text(text)
         told = []
-        for library in False, ways.make():
+        for library in False, make():
             try:
                 chtab.Network.open("bad.gr", saved="bad.ch", program=PROGRAM, library=library)
             except chtab.ChtabError as fault:
@@ -189,7 +189,7 @@ def a_closed_handle_answers_nothing():
 
     from chtab import library
 
-    one, closed = numpy.array([0], numpy.uint32), library.Handle(library.loaded(ways.make()))
+    one, closed = numpy.array([0], numpy.uint32), library.Handle(library.loaded(make()))
     handle, other = handle_of(), None
     other = handle.share()
     handle.close()
@@ -280,7 +280,7 @@ def a_forked_process_opens_it_anew():
     text += "network = chtab.Network.open(sys.argv[2], saved=sys.argv[3], program=sys.argv[4], library=sys.argv[5])\n"
     text += "child = os.fork()\nif not child:\n    del network\n    sys.exit(0)\n"
     text += "assert os.waitpid(child, 0)[1] == 0; print(network.table([1], [3]).tolist())\n"
-    words = [PYTHON, "-c", text, ROOT / "python", FIRST, FIRST_SAVED, PROGRAM, ways.make()]
+    words = [PYTHON, "-c", text, ROOT / "python", FIRST, FIRST_SAVED, PROGRAM, make()]
     done = subprocess.run(words, capture_output=True, text=True, timeout=PATIENCE)
     assert (done.returncode, done.stdout, done.stderr) == (0, "[[9]]\n", ""), done
 
@@ -291,7 +291,7 @@ def the_end_of_the_interpreter_waits_for_nothing():
     text += "network = chtab.Network.open(sys.argv[2], saved=sys.argv[3], program=sys.argv[4], library=sys.argv[5])\n"
     text += "def work():\n    while True: network.table(range(1, 1000), range(1, 1000))\n"
     text += "for _ in range(3): threading.Thread(target=work, daemon=True).start()\ntime.sleep(0.5); print('ends')\n"
-    words = [PYTHON, "-c", text, ROOT / "python", GRAPH, ways.saved_for(GRAPH), PROGRAM, ways.make()]
+    words = [PYTHON, "-c", text, ROOT / "python", GRAPH, ways.saved_for(GRAPH), PROGRAM, make()]
     for _ in range(3):
         done = subprocess.run(words, capture_output=True, text=True, timeout=PATIENCE)
         assert (done.returncode, done.stdout, done.stderr) == (0, "ends\n", ""), done
@@ -360,7 +360,7 @@ def routes_of_another_graph_are_found_out():
     shutil.copy(FIRST, "own.gr")
     for old, new in ("a 1 2 4", "a 1 2 3"), ("a 2 3 5", "a 3 2 5"), ("p sp 3 2", "p sp 3 0"):
         shutil.copy(FIRST, "own.gr")
-        with chtab.Network.open("own.gr", saved=FIRST_SAVED, program=PROGRAM, library=ways.make()) as network:
+        with chtab.Network.open("own.gr", saved=FIRST_SAVED, program=PROGRAM, library=make()) as network:
             text = FIRST.read_text().replace(old, new)
             pathlib.Path("own.gr").write_text(text if "0" not in new else "p sp 3 0\n")
             raises(chtab.ProgramFault, network.routes, [(1, 3)], told="has changed")
@@ -385,7 +385,7 @@ def it_is_taken_where_it_fits():
         shutil.copy(PROGRAM, f"{place}/chtab")
     os.makedirs("checkout/out/library/lib")
     for place in "beside", "lib", "checkout/out/library/lib":
-        shutil.copy(ways.make(), f"{place}/{library.NAME}")
+        shutil.copy(make(), f"{place}/{library.NAME}")
     os.symlink("lib/chtab/chtab", "linked")
     for program in "beside/chtab", "lib/chtab/chtab", "checkout/chtab", "linked":
         assert is_by_library(chtab.Network.open(FIRST, saved=FIRST_SAVED, program=program)), program
@@ -398,7 +398,7 @@ def it_is_taken_where_it_fits():
     first = {"saved": FIRST_SAVED, "program": PROGRAM}
     assert not is_by_library(chtab.Network.open(FIRST, **first))
     raises(chtab.ChtabError, lambda: chtab.Network.open(FIRST, **first, library=True), told="`packaging/library` makes it")
-    assert is_by_library(pickle.loads(pickle.dumps(chtab.Network.open(FIRST, **first, library=os.path.relpath(ways.make())))))
+    assert is_by_library(pickle.loads(pickle.dumps(chtab.Network.open(FIRST, **first, library=os.path.relpath(make())))))
     for wrong, kind in (3, TypeError), (None, TypeError), ("none.so", chtab.ChtabError), (FIRST, chtab.ChtabError):
         raises(kind, lambda: chtab.Network.open(FIRST, **first, library=wrong))
 
@@ -408,7 +408,7 @@ def another_library_is_not_taken():
     from chtab import library
 
     other = next(path for path in pathlib.Path("/usr/lib").glob("**/libz.so.1") if path.exists())
-    for place, path in enumerate((FIRST, "/dev/null", other, ways.make())):
+    for place, path in enumerate((FIRST, "/dev/null", other, make())):
         os.mkdir(str(place))
         shutil.copy(PROGRAM, f"{place}/chtab")
         shutil.copy(path, f"{place}/{library.NAME}")

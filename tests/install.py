@@ -1,6 +1,6 @@
 #!/usr/bin/python3
 """Tests the scripts `chtab` and `install`, Debian's package and the wheel: through links, without the command rt, what is installed below a
-prefix, what the package puts into a root of its own and leaves there, and what pip puts into a new environment.
+prefix, what the package puts into a root of its own and leaves there, and what pip puts into a new environment. All three bring the library for C.
 
 What needs a package that is missing, or a root of its own, is told and left out. The last line is 'N passed, N failed'.
 """
@@ -15,11 +15,15 @@ import tempfile
 import zipfile
 from pathlib import Path
 
+from helpers.in_process import MADE, SHARED, make
 from helpers.packages import PYTHON, missing
 from helpers.rooting import a_root
 from helpers.running import PROGRAM, ROOT, Count, build
 
 FIRST = [ROOT / "examples" / "first.gr", ROOT / "examples" / "first.p2p"]
+SAVED = ROOT / "examples" / "first.ch"
+# What the library for C puts below a prefix.
+OF_LIBRARY = "include/chtab.h", "lib/libchtab.so.1", "lib/libchtab.so", "lib/libchtab.a", "lib/pkgconfig/chtab.pc"
 FIRST_TEXT = "d 1 3 9\nd 3 1 -\n"
 VERSION = (ROOT / "VERSION").read_text()
 # The folders of commands without those that have rt.
@@ -185,11 +189,29 @@ def check_found(tally, prefix, folder):
     tally.expect(found == (3, "", wanted), f"files that are not there: {found}")
 
 
+def by_library(graph, saved):
+    """Lines of Python that ask the library for C beside the program that is found."""
+    return f"import chtab; n = chtab.Network.open('{graph}', saved='{saved}', library=True); print(n.distances([(1, 3)])[0], n.routes([(1, 3)])[0].nodes)"
+
+
+def check_library(tally, prefix, folder):
+    """The library for C, below a prefix: the files that were made, and the package finds it there."""
+    for name in OF_LIBRARY:
+        tally.expect((prefix / name).is_file() and (prefix / name).read_bytes() == (MADE / name).read_bytes(), f"{name} is not the one that was made")
+    if shutil.which("pkg-config"):
+        found = said(["pkg-config", "--variable", "libdir", "chtab"], folder, PKG_CONFIG_PATH=str(prefix / "lib" / "pkgconfig"))
+        tally.expect(found[0] == 0 and Path(found[1].strip().replace("\\", "")).resolve() == prefix / "lib", f"pkg-config: {found}")
+    if not missing("python3-numpy"):
+        found = said([PYTHON, "-c", by_library(FIRST[0], SAVED)], folder, SYSTEM, PYTHONPATH=str(prefix / "lib" / "chtab" / "python"))
+        tally.expect(found == (0, "9 [1, 2, 3]\n", ""), f"the library beside the program: {found}")
+
+
 def check_install(tally, folder):
     prefix = folder / "a prefix"
     status, out, err = said([ROOT / "install", prefix], folder)
     tally.expect((status, out) == (0, "") and "install: chtab" in err, f"install: {status} {out} {err}")
     check_installed(tally, prefix, folder)
+    check_library(tally, prefix, folder)
     said([ROOT / "install", "--remove", prefix], folder)
     tally.expect(not prefix.exists(), f"left after removal: {list(prefix.glob('**/*'))}")
     (prefix / "bin").mkdir(parents=True)
@@ -211,10 +233,10 @@ def check_install(tally, folder):
 # Debian's package.
 
 
-def crates_of_the_program():
-    """The crates that the program is made of: its own and all on which it stands."""
+def crates_of_the_package():
+    """The crates that the program and the library are made of: their own and all on which these stand."""
     below = {name: words.split() for name, words in re.findall(r"^(\w+).*?:(.*)$", (ROOT / "crates.txt").read_text(), re.MULTILINE)}
-    found, waiting = set(), ["chtab"]
+    found, waiting = set(), ["chtab", "ch_c"]
     while waiting:
         name = waiting.pop()
         if name in below and name not in found:
@@ -238,13 +260,14 @@ def check_description(tally, package):
     tally.expect(listed and not strange, f"files of others in the package, or that others may write: {strange}")
     text = subprocess.run(f'dpkg-deb --fsys-tarfile "{package}" | tar -xO ./usr/share/doc/chtab/verdicts', shell=True, capture_output=True, text=True).stdout
     proved = re.findall(r"^(\w+): logic=proved functions=\d+ ", text, re.MULTILINE)
-    tally.expect(sorted(proved) == sorted(crates_of_the_program()), f"the package has verdicts of {proved}")
-    tally.expect(hashlib.sha256(PROGRAM.read_bytes()).hexdigest() in text, "the package names another program than the one that was built")
+    tally.expect(sorted(proved) == sorted(crates_of_the_package()), f"the package has verdicts of {proved}")
+    for file in PROGRAM, SHARED:
+        tally.expect(hashlib.sha256(file.read_bytes()).hexdigest() in text, f"the package names another {file.name} than the one that was made")
 
 
 def check_in_root(tally, root, package):
     """The package is installed into a root of its own, runs there for a user without rights, and goes without a rest."""
-    for file in FIRST:
+    for file in *FIRST, SAVED:
         root.put(file, f"first/{file.name}")
     root.put(package, "first/chtab.deb")
     first = [f"/first/{file.name}" for file in FIRST]
@@ -263,11 +286,13 @@ def check_in_root(tally, root, package):
             status, out, err = root.run([name, "--help"], user)
             named = set(re.findall(r"/usr/share/doc/\S+\.md", out))
             tally.expect((status, err) == (0, "") and named <= set(listed), f"{name} --help of {user}: {status} {err} {named}")
-    for path in "share/bash-completion/completions/chtab", "share/doc/chtab/copyright", "share/doc/chtab/chtab-page.service", "lib/python3/dist-packages/chtab/py.typed":
+    for path in "share/bash-completion/completions/chtab", "share/doc/chtab/copyright", "share/doc/chtab/chtab-page.service", "lib/python3/dist-packages/chtab/py.typed", *OF_LIBRARY:
         tally.expect(f"/usr/{path}" in listed, f"the package has no /usr/{path}")
     text = f"import chtab; n = chtab.Network.open('{first[0]}'); print(n.distances([(1, 3)])[0], chtab.__file__)"
     found = root.run(["/usr/bin/python3", "-c", text], "nobody")
     tally.expect(found == (0, "9 /usr/lib/python3/dist-packages/chtab/__init__.py\n", ""), f"from Python: {found}")
+    found = root.run(["/usr/bin/python3", "-c", by_library(first[0], f"/first/{SAVED.name}")], "nobody")
+    tally.expect(found == (0, "9 [1, 2, 3]\n", ""), f"by the library of the package: {found}")
     text = "from chtab.program import program_of; print(program_of())"
     found = root.run(["env", "PATH=/nowhere", "/usr/bin/python3", "-c", text], "nobody")
     tally.expect(found == (0, "/usr/lib/chtab/chtab\n", ""), f"the program, where its folder is not on the path: {found}")
@@ -315,6 +340,7 @@ def wheel_of(folder, name, has_program):
     if has_program:
         (checkout / "crates" / "chtab" / "out").mkdir(parents=True)
         shutil.copy(PROGRAM, checkout / "crates" / "chtab" / "out")
+        shutil.copytree(MADE, checkout / "out" / "library")
     words = [PYTHON, "-m", "pip", "wheel", "--no-index", "--no-deps", "--no-input", "--disable-pip-version-check", "--wheel-dir", checkout]
     done = said([*words, checkout / "python"], folder)
     return next(checkout.glob("*.whl"), None), done
@@ -335,6 +361,8 @@ def check_wheel(tally, folder):
     tally.expect(wheel and wheel.name == f"chtab-{VERSION.split()[1]}-py3-none-{platform}.whl", f"a wheel with the program: {wheel} {done}")
     if wheel:
         tally.expect(zipfile.ZipFile(wheel).read("chtab/bin/program") == PROGRAM.read_bytes(), "the program of the wheel is not the one that was built")
+        for file, name in (SHARED, "libchtab.so.1"), (MADE / "include" / "chtab.h", "chtab.h"):
+            tally.expect(zipfile.ZipFile(wheel).read(f"chtab/bin/{name}") == file.read_bytes(), f"{name} of the wheel is not the one that was made")
         check_environment(tally, folder, wheel)
 
 
@@ -352,6 +380,8 @@ def check_environment(tally, folder, wheel):
     text = f"import chtab, chtab.program; n = chtab.Network.open('{FIRST[0]}'); print(n.distances([(1, 3)])[0], chtab.program.program_of())"
     found = said([bin / "python", "-c", text], "/", elsewhere)
     tally.expect(found[0] == 0 and found[1].startswith("9 ") and found[1].endswith("chtab/bin/chtab\n"), f"from Python, by the wheel: {found}")
+    found = said([bin / "python", "-c", by_library(FIRST[0], SAVED)], "/", elsewhere)
+    tally.expect(found == (0, "9 [1, 2, 3]\n", ""), f"by the library of the wheel: {found}")
     said([bin / "python", *pip, "uninstall", "--yes", "chtab"], folder)
     left = sorted(set(bin.parent.glob("**/*")) - set(before))
     tally.expect(not left, f"left after pip uninstall: {left}")
@@ -359,6 +389,7 @@ def check_environment(tally, folder, wheel):
 
 def main():
     build()
+    make()
     tally = Count()
     with tempfile.TemporaryDirectory() as kept:
         folder = Path(kept)

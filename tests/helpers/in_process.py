@@ -1,6 +1,8 @@
 """The library for C, called by ctypes: its header's names and numbers, and handles."""
 import ctypes
+import functools
 import re
+import subprocess
 
 from helpers.running import ROOT
 
@@ -9,6 +11,15 @@ HEADER = ROOT / "include" / "chtab.h"
 MADE = ROOT / "out" / "library"
 SHARED = MADE / "lib" / "libchtab.so"
 NO_DISTANCE = 2**64 - 1
+
+
+@functools.cache
+def make():
+    """Makes the library, unless there is one that is newer than all sources of the crates; its path."""
+    sources = [path for path in ROOT.glob("crates/*/*/**/*") if {"src", "specs", "proofs"} & {*path.parts} and path.is_file()]
+    if not SHARED.exists() or SHARED.stat().st_mtime < max(path.stat().st_mtime for path in [HEADER, *sources] if "out" not in path.parts):
+        subprocess.run([ROOT / "packaging" / "library"], check=True, stdout=subprocess.DEVNULL)
+    return str(SHARED.resolve())
 
 
 class Handle(ctypes.Structure):

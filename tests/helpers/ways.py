@@ -14,21 +14,12 @@ from pathlib import Path
 from helpers import maps  # noqa: F401
 
 from chtab import opening
-from helpers.in_process import SHARED
-from helpers.running import PROGRAM, ROOT
+from helpers.in_process import make
+from helpers.running import PROGRAM
 
 # The hierarchies that were saved, in a folder that is there as long as this process.
 FOLDER = tempfile.TemporaryDirectory()
 SAVED = {}
-
-
-@functools.cache
-def make():
-    """Makes the library, unless there is one that is newer than all sources of the crates."""
-    sources = [path for path in ROOT.glob("crates/*/*/**/*") if {"src", "specs", "proofs"} & {*path.parts} and path.is_file()]
-    if not SHARED.exists() or SHARED.stat().st_mtime < max(path.stat().st_mtime for path in sources if "out" not in path.parts):
-        subprocess.run([ROOT / "packaging" / "library"], check=True, stdout=subprocess.DEVNULL)
-    return str(SHARED.resolve())
 
 
 def saved_for(graph):
