@@ -199,8 +199,8 @@ def a_closed_handle_answers_nothing():
         for call, words in (each.distances, (one, one)), (each.table, (one, one)), (each.route, (0, 1)), (each.nodes, ()), (each.share, ()):
             raises(chtab.ChtabError, call, *words, told="the network is closed")
     raises(chtab.ProgramFault, other.open, b"", b"", told="answered 3")
-    for make in copy.copy, copy.deepcopy, pickle.dumps:
-        raises(TypeError, make, other, told="neither copied nor pickled")
+    for way in copy.copy, copy.deepcopy, pickle.dumps:
+        raises(TypeError, way, other, told="neither copied nor pickled")
     with of_first() as network:
         assert network.distances([(1, 3)]).tolist() == [9]
     for call, words in (network.distances, ([(1, 3)],)), (network.table, ([1], [3])), (network.routes, ([(1, 3)],)):

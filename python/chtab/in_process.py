@@ -158,7 +158,7 @@ class InProcess:
 
     def distances(self, pairs):
         """The distances of pairs of nodes, an array (n, 2): int64 (n,), -1 where there is no walk."""
-        sources, targets = (library.nodes_of(numpy.asarray(pairs)[:, place], self.nodes) for place in range(2))
+        sources, targets = library.nodes_of(pairs, self.nodes).T.copy()
         if len(sources) <= TOGETHER:
             return self.handle().distances(sources, targets) if len(sources) else numpy.zeros(0, numpy.int64)
         parts = (slice(start, start + TOGETHER) for start in range(0, len(sources), TOGETHER))
@@ -179,15 +179,19 @@ class InProcess:
 
     def routes(self, pairs):
         """The routes of pairs of nodes, as a list of `files.Answer`."""
-        pairs = list(pairs)
-        found = self.walks(numpy.array(pairs, numpy.int64).reshape(-1, 2))
-        weights, firsts = found.weights.tolist(), found.firsts.tolist()
-        heads, arc_weights = found.heads.tolist(), found.arc_weights.tolist()
-        return [
-            files.Answer(source, target, weight, [source, *heads[first:last]], arc_weights[first:last])
-            if weight >= 0 else files.Answer(source, target, None, None, None)
-            for (source, target), weight, first, last in zip(pairs, weights, firsts, firsts[1:])
-        ]
+        found = []
+        for source, target in pairs:
+            if not (0 < source <= self.nodes and 0 < target <= self.nodes):
+                raise ValueError(f"a node is not from 1 to {self.nodes:,}")
+            weight, nodes = self.handle().route(source - 1, target - 1)
+            if weight < 0:
+                found.append(files.Answer(source, target, None, None, None))
+                continue
+            weights = self.arc_weights(nodes[:-1], nodes[1:])
+            if weights.sum() != weight:
+                raise self.changed()
+            found.append(files.Answer(source, target, weight, (nodes + 1).tolist(), weights.tolist()))
+        return found
 
     def walks(self, pairs):
         """The same, of pairs in an array (n, 2), as `walks.Walks`."""
@@ -195,23 +199,21 @@ class InProcess:
         weights = numpy.array([weight for weight, _ in found], numpy.int64)
         counts = [max(len(nodes) - 1, 0) for _, nodes in found]
         nothing = numpy.zeros(0, numpy.int64)
-        tails = numpy.concatenate([nothing, *(nodes[:-1] for _, nodes in found)]) + 1
-        heads = numpy.concatenate([nothing, *(nodes[1:] for _, nodes in found)]) + 1
-        walks = Walks(weights, numpy.append(0, numpy.cumsum(counts, dtype=numpy.int64)), tails, heads, self.arc_weights(tails, heads))
+        tails, heads = (numpy.concatenate([nothing, *(nodes[part] for _, nodes in found)]) for part in (slice(-1), slice(1, None)))
+        firsts = numpy.append(0, numpy.cumsum(counts, dtype=numpy.int64))
+        walks = Walks(weights, firsts, tails + 1, heads + 1, self.arc_weights(tails, heads))
         if (walks.sums(walks.arc_weights)[weights >= 0] != weights[weights >= 0]).any():
             raise self.changed()
         return walks
 
     def arc_weights(self, tails, heads):
-        """The weights of arcs of routes. Of several arcs between two nodes a route takes the one of least weight."""
-        if not len(tails):
-            return numpy.zeros(0, numpy.int64)
+        """The weights of arcs of routes, between nodes from 0 on. Of several arcs between two nodes a route takes the one of least weight."""
         if self.arcs is None:
             self.arcs = least_arcs(self.graph(), self.nodes)
         keys, weights = self.arcs
-        wanted = tails * self.nodes + heads
-        places = numpy.minimum(numpy.searchsorted(keys, wanted), max(len(keys) - 1, 0))
-        if not len(keys) or (keys[places] != wanted).any():
+        wanted = tails.astype(numpy.int64) * self.nodes + heads
+        places = keys.searchsorted(wanted)
+        if (keys[places] != wanted).any():
             raise self.changed()
         return weights[places]
 
@@ -221,10 +223,11 @@ class InProcess:
 
 
 def least_arcs(graph, count):
-    """The keys of the pairs of nodes from which an arc of a graph leads, in order, and the weight of the least arc of each."""
+    """The keys of the pairs of nodes between which a graph has an arc, in order, and the weight of the least arc of each. Behind them stands a
+    key that no pair has, so that each key that is looked for has a place."""
     tails, heads, weights = (numpy.array(column, numpy.int64) for column in (graph.tails, graph.heads, graph.weights))
-    keys = tails * count + heads
+    keys = (tails - 1) * count + heads - 1
     order = numpy.lexsort([weights, keys])
     keys, weights = keys[order], weights[order]
     is_first = numpy.append(True, keys[1:] != keys[:-1])[:len(keys)]
-    return keys[is_first], weights[is_first]
+    return numpy.append(keys[is_first], numpy.iinfo(numpy.int64).max), numpy.append(weights[is_first], 0)
