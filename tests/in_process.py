@@ -262,20 +262,20 @@ def threads_ask_while_it_is_closed():
 def a_forked_process_opens_it_anew():
     """It has handles of its own, also where a thread of its parent was in a call, and closes none of its parent's."""
     with of_country() as network:
-        wanted, first = network.table(range(1, 200), range(1, 200)), network._engine.first
+        wanted, block = network.table(range(1, 200), range(1, 200)), network._engine.first.block
         with concurrent.futures.ThreadPoolExecutor(2) as threads:
             asking = [threads.submit(lambda: [network.table(range(1, 200), range(1, 200)) for _ in range(30)]) for _ in range(2)]
             for _ in range(5):
                 child = os.fork()
                 if not child:
                     is_right = (network.table(range(1, 200), range(1, 200)) == wanted).all() and network._engine.begun == 1
-                    is_own = network._engine.first is not first and network._engine.handle() is network._engine.first
+                    is_own = network._engine.first.block is not block and network._engine.handle() is network._engine.first
                     network.close()
                     gc.collect()
-                    os._exit(0 if is_right and is_own else 1)
+                    os._exit(0 if is_right and is_own and block.is_open else 1)
                 assert os.waitpid(child, 0)[1] == 0
             assert all((table == wanted).all() for each in asking for table in each.result())
-        assert network._engine.first is first and (network.table(range(1, 200), range(1, 200)) == wanted).all()
+        assert network._engine.first.block is block and (network.table(range(1, 200), range(1, 200)) == wanted).all()
     text = "import os, sys; sys.path.insert(0, sys.argv[1]); import chtab\n"
     text += "network = chtab.Network.open(sys.argv[2], saved=sys.argv[3], program=sys.argv[4], library=sys.argv[5])\n"
     text += "child = os.fork()\nif not child:\n    del network\n    sys.exit(0)\n"
