@@ -57,7 +57,7 @@ class Setting:
         return [self.program, "near", *options, *self.words(), self.graph, *lists]
 
     def words(self):
-        """The words by which each run has its threads and its hierarchy."""
+        """The options of each run: its threads and its hierarchy."""
         saved = () if self.saved is None else ("--saved", self.saved)
         return ["--workers", str(self.workers), *saved]
 

@@ -57,8 +57,8 @@ def lack_of(setting, path):
 class InProcess:
     """Answers as `engine.Engine` gives them, by the library. Calls may come from several threads, and from processes that were forked.
 
-    Each thread that asks has a handle of its own, made by its first question. All handles share one network in memory. The one by which the
-    network was opened is that of the first thread that asks, and of another one when that thread has ended.
+    Each thread that asks has a handle of its own, made by its first question. All handles share one network in memory. The first handle opens
+    the network. The first thread that asks has it, and when that thread has ended, the next new one.
 
     A process that was forked opens the network anew with its first question, and leaves the handles of its parent alone.
     """

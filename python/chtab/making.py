@@ -46,7 +46,7 @@ class Columns:
 class Arcs:
     """The arcs of a graph: arc k leads from node `tails[k]` to node `heads[k]` and weighs `weights[k]`, all int64.
 
-    `rounding` is the most by which a weight differs from that of the caller times `scale`. `places` are the longitudes and latitudes of the
+    `rounding` is the largest difference of a weight from that of the caller times `scale`. `places` are the longitudes and latitudes of the
     nodes in degrees, or None.
     """
 
@@ -101,7 +101,7 @@ def scale_in(scale):
 
 
 def whole_weights(name, weights, scale, most):
-    """The weights of a graph, int64, none above `most`; and the most by which one of them differs from what was given times the scale."""
+    """The weights of a graph, int64, none above `most`; and the largest difference of one of them from what was given times the scale."""
     see_that_weights(name, weights)
     if weights.dtype == numpy.int64 and isinstance(scale, int | None):
         factor = 1 if scale is None else scale
@@ -193,7 +193,7 @@ def write(arcs, folder, program, workers):
 
 
 def digest_of(path):
-    """The SHA-256 of a file, by which labels are known to be those of a graph."""
+    """The SHA-256 of a file. It tells whether labels are those of a graph."""
     with open(path, "rb") as file:
         return hashlib.file_digest(file, "sha256").hexdigest()
 

@@ -282,7 +282,7 @@ class Network(BetweenPlaces, Accessibility):
 
     @property
     def rounding(self):
-        """The most by which the weight of an arc differs from the caller's weight times `scale`, at most 0.5; None of a network of files.
+        """The largest difference of an arc's weight from the caller's weight times `scale`, at most 0.5; None of a network of files.
 
         So the weight of a walk of k arcs differs by at most k times as much.
         """

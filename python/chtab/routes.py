@@ -21,7 +21,7 @@ class Routes(collections.abc.Sequence):
     """
 
     def __init__(self, answers, layers):
-        # The answers by the numbers of nodes, by which the files of the network have them.
+        # The answers by the numbers of nodes, as the files of the network have them.
         self.numbered, self.layers = answers, layers
 
     def __getitem__(self, place):

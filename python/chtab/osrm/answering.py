@@ -50,7 +50,7 @@ def profile_of(comments):
 
 
 class Answers:
-    """Answers by a network. `profile` is the name by which requests call it; without one it is that which the graph was made for."""
+    """Answers by a network. Requests call it by the name `profile`. Without one that is the way of travelling that the graph was made for."""
 
     def __init__(self, network, profile="", limits=Limits()):
         made_for = profile_of(network.coordinates.comments)
