@@ -1,4 +1,5 @@
--- Labels, what is known of each node: one that an arc lowers keeps all that was known, and the total falls.
+-- Labels are the weights known of each node. When an arc lowers a label, all that was known still holds, and the
+-- total falls.
 use Rattle.std.proofs.Common.{◌≡◌, ℕ, ◌+◌, ◌*◌, ◌<◌, ◌≤◌, cond, List, [], ◌∷◌, ◌++◌, length, Contains, Option, Some, None, refl, sym, ◌∙◌, ap, subst, arith, get_or-set_same, get_or-set_other, set, length-set, inl, inr}
 use Rattle.std.proofs.lemmas.Bool.{cases_eq, cases_lt}
 use Rattle.std.proofs.lemmas.Option.{same_Some, none-some}
@@ -14,19 +15,19 @@ use Rattle.ch_graph.specs.Walk.{IsWalk, weight_of}
 use Rattle.ch_graph.specs.Relaxing.{IsPartial, IsLowered, weight_at, total}
 use Rattle.ch_graph.proofs.WalkLemmas.{walk_push, weight_push}
 
--- a first label is one more
+-- the first label of a node raises the number of labels by one
 count-first : (best : List (Option ℕ)) (v x : ℕ) → weight_at best v ≡ None → v < length best → count_by is_some (set best v (Some x)) ≡ count_by is_some best + 1
 count-first best v x e within =
     let count = sum_by-set (λ (o : Option ℕ). cond (is_some o) 1 0) best v (Some x) None within in
     omega (arith, rw e at count)
 
--- a label that takes another's place is no more
+-- a label that replaces another keeps the number of labels
 count-next : (best : List (Option ℕ)) (v x now : ℕ) → weight_at best v ≡ Some now → v < length best → count_by is_some (set best v (Some x)) ≡ count_by is_some best
 count-next best v x now e within =
     let count = sum_by-set (λ (o : Option ℕ). cond (is_some o) 1 0) best v (Some x) None within in
     omega (arith, rw e at count)
 
--- a label is below MOST_WEIGHT, since no more nodes have one than there are
+-- a label is below MOST_WEIGHT, because at most all nodes have one
 pub known_small : (g : Network) (s : ℕ) (best : List (Option ℕ)) (v d : ℕ) → IsPartial g s best → weight_at best v ≡ Some d → d < MOST_WEIGHT
 known_small g s best v d p e =
     let bound = p.small v d e in
@@ -37,7 +38,7 @@ known_small g s best v d p e =
       | inr great ↦ let products : g.nodes * MOST_WEIGHT ≤ g.nodes * d = mul-le-mul_left g.nodes great in absurd (omega arith)
     ]
 
--- an arc within the limits weighs at most MOST_WEIGHT, since there is a node
+-- an arc within the limits weighs at most MOST_WEIGHT, because there is at least one node
 pub weight_small : (nodes : ℕ) (a : InArc) → IsArcWithin nodes a → a.weight ≤ MOST_WEIGHT
 weight_small nodes a h =
     let from = h.ends.0 in
@@ -46,16 +47,16 @@ weight_small nodes a h =
     let products : a.weight * 1 ≤ a.weight * nodes = mul-le-mul_left a.weight some in
     omega arith
 
--- an arc between nodes, from one that is known, has room for its sum
+-- the label of the arc's start and the weight of the arc add up to less than MOST_SUM
 pub sum_fits : (g : Network) (s : ℕ) (best : List (Option ℕ)) (a : InArc) (before : ℕ) → IsPartial g s best → IsArcWithin g.nodes a → weight_at best a.from ≡ Some before → before + a.weight < MOST_SUM
 sum_fits g s best a before p fits e =
     let label = known_small g s best a.from before p e in
     let weight = weight_small g.nodes a fits in
     omega arith
 
--- at first the start alone is known, at no weight
+-- at first only the start has a label, and its weight is 0
 module _ (g : Network) (s : ℕ) (start : s < g.nodes) where
-  -- no node is known
+  -- the labels where no node is known
   blank : List (Option ℕ)
   blank = replicate g.nodes None
 
@@ -90,7 +91,7 @@ module _ (g : Network) (s : ℕ) (start : s < g.nodes) where
     small = λ v d e. let one = count-first blank s 0 (none s) (omega (arith, size)) in let zero = (only v d e).1 in rw (sym zero) (omega arith);
   }
 
--- an arc of the graph lowers the label of its end
+-- an arc of the graph that lowers the label of its end
 module _ (g : Network) (s : ℕ) (best : List (Option ℕ)) (new : List (Option ℕ)) (a : InArc) (p : IsPartial g s best) (has : Contains g.arcs a) (fits : IsArcWithin g.nodes a) (h : IsLowered best new a) where
   -- the new label
   sum : ℕ
@@ -104,7 +105,7 @@ module _ (g : Network) (s : ℕ) (best : List (Option ℕ)) (new : List (Option 
   later : List (Option ℕ)
   later = set best a.to (Some sum)
 
-  -- the total, whether or not the end had a label
+  -- the total falls, whether or not the end had a label
   total_by : (o : Option ℕ) → weight_at best a.to ≡ o → total later < total best
   unfolding sum later
   total_by None e =
@@ -121,17 +122,17 @@ module _ (g : Network) (s : ℕ) (best : List (Option ℕ)) (new : List (Option 
   unfolding sum later
   total_falls = rw h.later (total_by (weight_at best a.to) refl)
 
-  -- the end has the new label
+  -- the arc's end has the new label
   here : weight_at later a.to ≡ Some sum
   unfolding later
   here = get_or-set_same best a.to (Some sum) None within
 
-  -- every other node keeps its own
+  -- every other node keeps its label
   other : (v : ℕ) → (v ≡ a.to → ⊥) → weight_at later v ≡ weight_at best v
   unfolding later
   other v away = get_or-set_other best a.to v (Some sum) None away
 
-  -- what holds of the new label and held of every label holds of every one
+  -- a property of all old labels holds of all new labels if it holds of the label that changed
   each : (P : ℕ → ℕ → Type 0) → P a.to sum → ((v d : ℕ) → weight_at best v ≡ Some d → P v d) → (v d : ℕ) → weight_at later v ≡ Some d → P v d
   each P first old v d e = elim (cases_eq v a.to) [
     | inl same ↦
@@ -149,13 +150,13 @@ module _ (g : Network) (s : ℕ) (best : List (Option ℕ)) (new : List (Option 
       (w.0 ++ a ∷ [], walk_push g s a w.0 w.1 has, weight_push a w.0 ∙ ap (λ n. n + a.weight) w.2)
       p.walks
 
-  -- no fewer nodes have a label
+  -- at least as many nodes have a label
   more : (o : Option ℕ) → weight_at best a.to ≡ o → count_by is_some best ≤ count_by is_some later
   unfolding later
   more None e = omega (arith, count-first best a.to sum e within)
   more (Some now) e = omega (arith, count-next best a.to sum now e within)
 
-  -- the new label is small, whether or not the end had one
+  -- the new label is small, whether or not the arc's end had one
   small_here : (o : Option ℕ) → weight_at best a.to ≡ o → g.nodes * sum + MOST_WEIGHT ≤ count_by is_some later * MOST_WEIGHT
   unfolding sum later
   small_here None e =
@@ -176,14 +177,14 @@ module _ (g : Network) (s : ℕ) (best : List (Option ℕ)) (new : List (Option 
       let count = more _ refl in
       each (λ v d. g.nodes * d + MOST_WEIGHT ≤ count_by is_some later * MOST_WEIGHT) (small_here _ refl) (λ v d e. let bound = p.small v d e in omega arith)
 
-  -- the start keeps its label, since none is less
+  -- the start keeps its label, because no weight is below 0
   start : weight_at later s ≡ Some 0
   start = elim (cases_eq s a.to) [
     | inl same ↦ let none = h.lighter 0 (ap (weight_at best) (sym same) ∙ p.start) in absurd (omega arith)
     | inr away ↦ other s away ∙ p.start
   ]
 
-  -- all that was known of the labels is known of the new ones
+  -- the new labels are those of walks, and small, as the old ones were
   pub partial_lowered : IsPartial g s new
   unfolding sum later
   partial_lowered = rw h.later (record { nodes = length-set best a.to _ ∙ p.nodes; start = start; walks = walks; small = small })

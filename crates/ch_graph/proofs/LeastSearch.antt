@@ -1,4 +1,4 @@
--- A least cost of a walk, or none at all: found by a search over the list of arcs, one arc at a time.
+-- A least cost of a walk, or no walk: found by a search over the list of arcs, one arc at a time.
 use Rattle.std.proofs.Common.{◌≡◌, ℕ, zero, suc, ◌≤◌, List, [], ◌∷◌, Contains, refl, sym, ◌∙◌, ap, subst, arith, inl, inr}
 use Rattle.std.specs.Prelude.{◌⊎◌}
 use Rattle.std.proofs.lemmas.Bool.{cases_eq}
@@ -17,11 +17,11 @@ pub record IsLeastWith (P : Cost → Type 0) (c : Cost) : Type 0 where
   pub has : P c
   pub least : (d : Cost) → P d → IsAtMost c d
 
--- a least cost with the property, or no cost with it
+-- there is a least cost with the property, or no cost has it
 abbrev pub LeastOrNone : (Cost → Type 0) → Type 0
 LeastOrNone P = ((c : Cost) × IsLeastWith P c) ⊎ ((c : Cost) → P c → ⊥)
 
--- the lesser of the least of two properties
+-- if P and Q each have a least cost or none, so does their union
 pub least_either : (P Q : Cost → Type 0) → LeastOrNone P → LeastOrNone Q → LeastOrNone (λ c. P c ⊎ Q c)
 least_either P Q (inl p) (inl q) = elim (IsAtMost_or_IsBelow p.0 q.0) [
   | inl first ↦ inl (p.0, record { has = inl p.1.has; least = λ d h. elim h [ inl x ↦ p.1.least d x | inr y ↦ IsAtMost_trans _ _ _ first (q.1.least d y) ] })
@@ -35,7 +35,7 @@ least_either P Q (inr none) (inr never) = inr (λ d h. elim h [ inl x ↦ none d
 abbrev pub IsSumOf : (P Q : Cost → Type 0) → Cost → Type 0
 IsSumOf P Q c = (a b : Cost) × P a × Q b × (cost_sum a b ≡ c)
 
--- the least sum is that of the least of both
+-- the least sum is the sum of the two least costs
 pub least_sum : (P Q : Cost → Type 0) → LeastOrNone P → LeastOrNone Q → LeastOrNone (IsSumOf P Q)
 least_sum P Q (inl p) (inl q) = inl (
   cost_sum p.0 q.0,
@@ -47,12 +47,12 @@ least_sum P Q (inl p) (inl q) = inl (
 least_sum P Q (inl p) (inr none) = inr (λ d h. none h.1 h.3)
 least_sum P Q (inr none) q = inr (λ d h. none h.0 h.2)
 
--- where P holds of some costs with R alone, and of one that is no greater than each of them
+-- if P has a least cost or none, so has R: each cost with P has R, and each cost with R has one with P that is no greater
 pub least_among : (P R : Cost → Type 0) → ((c : Cost) → P c → R c) → ((c : Cost) → R c → (d : Cost) × P d × IsAtMost d c) → LeastOrNone P → LeastOrNone R
 least_among P R to from (inl p) = inl (p.0, record { has = to p.0 p.1.has; least = λ d r. let q = from d r in IsAtMost_trans _ _ _ (p.1.least q.0 q.1) q.2 })
 least_among P R to from (inr none) = inr (λ c r. let q = from c r in none q.0 q.1)
 
--- the head of a list and its tail are all of it
+-- an arc of the list is its head or in its tail
 Contains-head_or_tail : (a : InArc) (list : List InArc) (x : InArc) → Contains (a ∷ list) x → (a ≡ x) ⊎ Contains list x
 Contains-head_or_tail a list x (zero, lt, e) = inl e
 Contains-head_or_tail a list x (suc k, lt, e) = inr (k, omega arith, e)
@@ -66,30 +66,30 @@ Contains-none : (x : InArc) → Contains [] x → ⊥
 Contains-none x h = omega (arith, h.1)
 
 module _ (n : ℕ) where
-  -- the graph of these arcs alone
+  -- the graph with these arcs alone
   over : List InArc → Network
   over list = record { nodes = n; arcs = list }
 
-  -- a walk stays one where an arc is added
+  -- a walk stays a walk when an arc is added to the graph
   more_arcs : (a : InArc) (list : List InArc) (s t : ℕ) (xs : List InArc) → IsWalk (over list) s t xs → IsWalk (over (a ∷ list)) s t xs
   unfolding over
   more_arcs a list s t [] w = w
   more_arcs a list s t (x ∷ xs) w = (Contains-later a list x w.0, w.1, more_arcs a list x.to t xs w.2)
 
   module _ (a : InArc) (list : List InArc) where
-    -- c is the cost of a walk that takes a once, and else arcs of the list
+    -- c is the cost of a walk that takes a once, and otherwise arcs of the list
     Once : (s t : ℕ) → Cost → Type 0
     Once s t = IsSumOf (IsWalkCost (over list) s a.from) (IsSumOf (λ d. d ≡ arc_cost a) (IsWalkCost (over list) a.to t))
 
-    -- c is the cost of a walk that takes a once or never, and else arcs of the list
+    -- c is the cost of a walk that takes a at most once, and otherwise arcs of the list
     AtMostOnce : (s t : ℕ) → Cost → Type 0
     AtMostOnce s t c = IsWalkCost (over list) s t c ⊎ Once s t c
 
-    -- its walks stay walks where an arc is added
+    -- a walk's cost stays one when an arc is added to the graph
     with_more : (s t : ℕ) (c : Cost) → IsWalkCost (over list) s t c → IsWalkCost (over (a ∷ list)) s t c
     with_more s t c w = (w.0, more_arcs a list s t w.0 w.1, w.2)
 
-    -- these are walks over all the arcs
+    -- these walks are walks over all the arcs
     walks_over : (s t : ℕ) (c : Cost) → AtMostOnce s t c → IsWalkCost (over (a ∷ list)) s t c
     unfolding over Once AtMostOnce
     walks_over s t c (inl w) = with_more s t c w
@@ -100,11 +100,11 @@ module _ (n : ℕ) where
         subst (IsWalkCost (over (a ∷ list)) s t) h.4
         (IsWalkCost-cost_sum (over (a ∷ list)) s a.from t h.0 h.1 (with_more s a.from h.0 h.2) (subst (IsWalkCost (over (a ∷ list)) a.from t) cost rest))
 
-    -- such a walk that costs at most c
+    -- there is such a walk that costs at most c
     Reduced : (s t : ℕ) → Cost → Type 0
     Reduced s t c = (d : Cost) × AtMostOnce s t d × IsAtMost d c
 
-    -- where a is taken first, the rest from its end is enough
+    -- if a is taken first, a walk from its end that costs at most the rest is enough
     taken_first : (s t : ℕ) (x : InArc) (xs : List InArc) → a ≡ x → x.from ≡ s → (e : Cost) → IsWalkCost (over list) a.to t e → IsAtMost e (cost_of xs) →
         Reduced s t (cost_of (x ∷ xs))
     unfolding over Once AtMostOnce Reduced
@@ -115,7 +115,7 @@ module _ (n : ℕ) where
           (IsAtMost-cost_sum _ _ _ _ (subst (λ y. IsAtMost (arc_cost a) (arc_cost y)) same (IsAtMost_refl (arc_cost a))) le),
     )
 
-    -- where another arc is taken first, it stands before the rest
+    -- if another arc is taken first, it goes in front of the rest
     taken_before : (s t : ℕ) (x : InArc) (xs : List InArc) → Contains list x → x.from ≡ s → Reduced x.to t (cost_of xs) → Reduced s t (cost_of (x ∷ xs))
     unfolding over Once AtMostOnce Reduced
     taken_before s t x xs has here (d, once, le) = (
@@ -134,7 +134,7 @@ module _ (n : ℕ) where
           cost_sum_assoc (arc_cost x) h.0 h.1 ∙ ap (cost_sum (arc_cost x)) h.4,
         )
 
-    -- what follows the last time that a is taken costs no more than all
+    -- the part after the last use of a costs no more than the whole walk
     after_last : (s t : ℕ) (c d : Cost) → Once s t d → IsAtMost d c → (e : Cost) × IsWalkCost (over list) a.to t e × IsAtMost e c
     unfolding Once
     after_last s t c d h le =
@@ -143,7 +143,7 @@ module _ (n : ℕ) where
         let all = subst (IsAtMost back.1) h.4 (IsAtMost-cost_sum_more back.1 h.0 h.1 end) in
         (back.1, back.3, IsAtMost_trans _ _ _ all le)
 
-    -- each walk has one that takes a at most once, of no greater cost
+    -- for each walk there is one of no greater cost that takes a at most once
     reduced : (s t : ℕ) (xs : List InArc) → IsWalk (over (a ∷ list)) s t xs → Reduced s t (cost_of xs)
     unfolding over AtMostOnce Reduced
     reduced s t [] w = (no_cost, inl ([], w, refl), IsAtMost_refl no_cost)
@@ -156,7 +156,7 @@ module _ (n : ℕ) where
         first same (d, inl v, le) = taken_first s t x xs same w.1 d (subst (λ y. IsWalkCost (over list) y.to t d) (sym same) v) le
         first same (d, inr h, le) = let e = after_last x.to t (cost_of xs) d h le in taken_first s t x xs same w.1 e.0 e.1 e.2
 
-  -- over no arcs the empty walk is the only one
+  -- without arcs the empty walk is the only walk
   over_none : (s t : ℕ) → LeastOrNone (IsWalkCost (over []) s t)
   unfolding over
   over_none s t = elim (cases_eq s t) [
@@ -168,7 +168,7 @@ module _ (n : ℕ) where
       none apart [] w = apart w
       none apart (x ∷ xs) w = Contains-none x w.0
 
-  -- the least cost of a walk over the list of arcs: without its first arc, or with it once
+  -- the least cost of a walk over the list: it leaves the first arc out, or takes it once
   least_over : (list : List InArc) (s t : ℕ) → LeastOrNone (IsWalkCost (over list) s t)
   unfolding Once AtMostOnce Reduced
   least_over [] s t = over_none s t
@@ -190,7 +190,7 @@ IsLeast-decided g s t = elim (least_over g.nodes g.arcs s t) [
   | inr none ↦ inr (λ arcs w. none (cost_of arcs) (arcs, w, refl))
 ]
 
--- where there is a walk there is a least cost, which is no greater
+-- if there is a walk, there is a least cost, and it is no greater
 pub IsLeast-of_walk : (g : Network) (s t : ℕ) (d : Cost) → IsWalkCost g s t d → (c : Cost) × IsLeast g s t c × IsAtMost c d
 IsLeast-of_walk g s t d w = elim (IsLeast-decided g s t) [
   | inl found ↦ (found.0, found.1, IsLeast-IsAtMost g s t found.0 d found.1 w)

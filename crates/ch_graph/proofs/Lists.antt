@@ -1,19 +1,19 @@
--- Members of lists, what maps and filters leave of them, and lists whose elements are related in order.
+-- Members of lists, of maps and of filters, and lists whose elements are related in order.
 use Rattle.std.proofs.Common.{◌≡◌, ℕ, zero, suc, Bool, true, false, cond, ◌<◌, List, [], ◌∷◌, ◌++◌, length, map, Contains, get_or, refl, sym, ◌∙◌, ap, subst, arith, inl, inr}
 use Rattle.std.specs.Prelude.{◌⊎◌, AllPairs}
 use Rattle.std.specs.List.{AllZip, filter}
 use Rattle.std.proofs.lemmas.Bool.{false≢true}
 use Rattle.std.proofs.lemmas.List.Elements.{Contains-append_cases, Contains-get_or}
 
--- the first is in the list
+-- the head is in the list
 pub contains_head : {X : Type 0} (x : X) (xs : List X) → Contains (x ∷ xs) x
 contains_head x xs = (zero, omega arith, refl)
 
--- what is in the rest is in the list
+-- a member of the tail is in the list
 pub contains_tail : {X : Type 0} (x y : X) (xs : List X) → Contains xs x → Contains (y ∷ xs) x
 contains_tail x y xs h = let lt = h.1 in (suc h.0, omega arith, h.2)
 
--- what is in the list is the first or in the rest
+-- a member of the list is the head or in the tail
 pub contains_cons : {X : Type 0} (x z : X) (xs : List X) → Contains (x ∷ xs) z → (x ≡ z) ⊎ Contains xs z
 contains_cons x z xs h = at h.0 h.1 h.2
   where
@@ -26,15 +26,15 @@ pub contains_none : {X : Type 0} (z : X) → Contains [] z → ⊥
 contains_none z h = let lt = h.1 in omega arith
 
 module _ {X : Type 0} (R : X → X → Type 0) where
-  -- what holds of each two holds of each two of the rest
+  -- if each two elements are related, so are each two of the tail
   pub pairs_tail : (x : X) (xs : List X) → AllPairs R (x ∷ xs) → AllPairs R xs
   pairs_tail x xs h i j d lt within = h (suc i) (suc j) d (omega arith) (omega arith)
 
-  -- and of the first and each of the rest
+  -- if each two elements are related, the head is related to each element of the tail
   pub pairs_head : (x y : X) (xs : List X) → AllPairs R (x ∷ xs) → Contains xs y → R x y
   pairs_head x y xs h c = let lt = c.1 in subst (R x) c.2 (h zero (suc c.0) y (omega arith) (omega arith))
 
--- one more in front, which is related to each
+-- a new head that is related to each element keeps the list related in order
 pub pairs_cons : {X : Type 0} (R : X → X → Type 0) (x : X) (xs : List X) → ((y : X) → Contains xs y → R x y) → AllPairs R xs → AllPairs R (x ∷ xs)
 pairs_cons R x xs head tail zero zero d lt within = absurd (omega arith)
 pairs_cons R x xs head tail zero (suc j) d lt within = head (get_or xs j d) (Contains-get_or xs j d (omega arith))
@@ -42,7 +42,7 @@ pairs_cons R x xs head tail (suc i) zero d lt within = absurd (omega arith)
 pairs_cons R x xs head tail (suc i) (suc j) d lt within = tail i j d (omega arith) (omega arith)
 
 module _ {X Y : Type 0} (f : X → Y) where
-  -- the image of what is in a list is in the list of images
+  -- the image of a member is in the list of images
   pub contains_map : (xs : List X) (x : X) → Contains xs x → Contains (map f xs) (f x)
   contains_map [] x h = absurd (contains_none x h)
   contains_map (y ∷ xs) x h = elim (contains_cons y x xs h) [
@@ -50,7 +50,7 @@ module _ {X Y : Type 0} (f : X → Y) where
     | inr later ↦ contains_tail (f x) (f y) (map f xs) (contains_map xs x later)
   ]
 
-  -- and the other way round
+  -- each element of the list of images is the image of a member
   pub contains_map_of : (xs : List X) (y : Y) → Contains (map f xs) y → (x : X) × Contains xs x × (f x ≡ y)
   contains_map_of [] y h = absurd (contains_none y h)
   contains_map_of (x ∷ xs) y h = elim (contains_cons (f x) y (map f xs) h) [
@@ -58,7 +58,7 @@ module _ {X Y : Type 0} (f : X → Y) where
     | inr later ↦ let r = contains_map_of xs y later in (r.0, contains_tail r.0 x xs r.1, r.2)
   ]
 
-  -- where the images are related in order, so is the list of images
+  -- if the images are related in order, so is the list of images
   pub pairs_map : (R : Y → Y → Type 0) (xs : List X) → AllPairs (λ a b. R (f a) (f b)) xs → AllPairs R (map f xs)
   pairs_map R [] h = λ i j d lt within. absurd (omega arith)
   pairs_map R (x ∷ xs) h = pairs_cons R (f x) (map f xs)
@@ -66,7 +66,7 @@ module _ {X Y : Type 0} (f : X → Y) where
       (pairs_map R xs (pairs_tail (λ a b. R (f a) (f b)) x xs h))
 
 module _ {X : Type 0} (p : X → Bool) where
-  -- what passes the test stays
+  -- a member that passes the test stays in the filtered list
   pub contains_filter : (xs : List X) (x : X) → Contains xs x → p x ≡ true → Contains (filter p xs) x
   contains_filter [] x h t = absurd (contains_none x h)
   contains_filter (y ∷ xs) x h t = at (p y) refl (contains_cons y x xs h) (λ later. contains_filter xs x later t)
@@ -77,7 +77,7 @@ module _ {X : Type 0} (p : X → Bool) where
       at false e (inl is) more = absurd (false≢true (sym e ∙ ap p is ∙ t))
       at false e (inr later) more = more later
 
-  -- what stays was there, and passes
+  -- a member of the filtered list was in the list, and passes the test
   pub contains_filter_of : (xs : List X) (x : X) → Contains (filter p xs) x → Contains xs x × (p x ≡ true)
   contains_filter_of [] x h = absurd (contains_none x h)
   contains_filter_of (y ∷ xs) x h = at (p y) refl h (contains_filter_of xs x)
@@ -90,7 +90,8 @@ module _ {X : Type 0} (p : X → Bool) where
       ]
       at false e c more = let r = more c in (contains_tail x y xs r.0, r.1)
 
--- two lists after each other, where each of the first is related to each of the second
+-- two lists that are related in order, one after the other, if each element of the first is related to each of the
+-- second
 pub pairs_append : {X : Type 0} (R : X → X → Type 0) (xs ys : List X) → AllPairs R xs → AllPairs R ys →
     ((x y : X) → Contains xs x → Contains ys y → R x y) → AllPairs R (xs ++ ys)
 pairs_append R [] ys h k across = k
@@ -102,7 +103,7 @@ pairs_append R (x ∷ xs) ys h k across = pairs_cons R x (xs ++ ys)
     (pairs_append R xs ys (pairs_tail R x xs h) k (λ z y c d. across z y (contains_tail z x xs c) d))
 
 module _ {X Y : Type 0} (R : X → Y → Type 0) where
-  -- one pair more at the end
+  -- one more pair at the end
   pub zipped_push : (xs : List X) (ys : List Y) (x : X) (y : Y) → AllZip R xs ys → R x y → AllZip R (xs ++ x ∷ []) (ys ++ y ∷ [])
   zipped_push [] [] x y h r = (r, tt)
   zipped_push [] (z ∷ ys) x y h r = absurd h
@@ -116,7 +117,7 @@ module _ {X Y : Type 0} (R : X → Y → Type 0) where
   zipped_length (x ∷ xs) [] h = absurd h
   zipped_length (x ∷ xs) (y ∷ ys) h = let more = zipped_length xs ys h.1 in omega arith
 
-  -- a relation to images is one to what they are images of
+  -- a relation to images is a relation to the list of images
   pub zipped_map : {Z : Type 0} (f : Z → Y) (xs : List X) (zs : List Z) → AllZip (λ x z. R x (f z)) xs zs → AllZip R xs (map f zs)
   zipped_map f [] [] h = tt
   zipped_map f [] (z ∷ zs) h = absurd h

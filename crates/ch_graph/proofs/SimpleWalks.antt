@@ -1,4 +1,4 @@
--- Walks that pass no node twice: each walk has one of no greater cost, and they are short and light.
+-- Walks that visit no node twice: there is one of no greater cost for each walk, and they are short and light.
 use Rattle.std.proofs.Common.{◌≡◌, ℕ, ◌*◌, ◌<◌, ◌≤◌, Bool, true, false, eqb, ◌||◌, List, [], ◌∷◌, length, map, All, refl, sym, ◌∙◌, ap, subst, arith, inl, inr}
 use Rattle.std.specs.Prelude.{◌⊎◌}
 use Rattle.std.specs.List.{IsDistinct, AllByRecursion, list_any}
@@ -26,7 +26,7 @@ pub record LeavesAgain (g : Network) (s t : ℕ) (arcs : List InArc) : Type 0 wh
   pub cheap : IsAtMost (cost_of rest) (cost_of arcs)
   pub simple : IsSimple t arcs → IsSimple t rest
 
--- a walk leaves s at some place or at none
+-- a walk leaves s at some place, or never
 pub leaves_again : (g : Network) (m s t : ℕ) (ys : List InArc) → IsWalk g m t ys → AllByRecursion (λ b. b.from ≡ s → ⊥) ys ⊎ LeavesAgain g s t ys
 leaves_again g m s t [] w = inl tt
 leaves_again g m s t (y ∷ ys) w = elim (cases_eq y.from s) [
@@ -42,14 +42,14 @@ leaves_again g m s t (y ∷ ys) w = elim (cases_eq y.from s) [
   ]
 ]
 
--- a walk that passes no node twice and costs at most c
+-- there is a walk that visits no node twice and costs at most c
 pub record HasSimple (g : Network) (s t : ℕ) (c : Cost) : Type 0 where
   pub walk : List InArc
   pub is_walk : IsWalk g s t walk
   pub simple : IsSimple t walk
   pub cheap : IsAtMost (cost_of walk) c
 
--- each walk has one that passes no node twice, of no greater cost
+-- for each walk there is one of no greater cost that visits no node twice
 pub simple_walk : (g : Network) (s t : ℕ) (xs : List InArc) → IsWalk g s t xs → HasSimple g s t (cost_of xs)
 simple_walk g s t [] w = record { walk = []; is_walk = w; simple = tt; cheap = IsAtMost_refl no_cost }
 simple_walk g s t (x ∷ xs) w =
@@ -72,7 +72,7 @@ simple_walk g s t (x ∷ xs) w =
       ]
     ]
 
--- a walk that no other undercuts passes no node twice
+-- if no walk costs less, the walk visits no node twice
 pub least_walk_simple : (g : Network) (s t : ℕ) (xs : List InArc) → IsWalk g s t xs → ((ys : List InArc) → IsWalk g s t ys → IsAtMost (cost_of xs) (cost_of ys)) → IsSimple t xs
 least_walk_simple g s t [] w least = tt
 least_walk_simple g s t (x ∷ xs) w least =
@@ -85,15 +85,15 @@ least_walk_simple g s t (x ∷ xs) w least =
       after,
     )
 
--- a walk of least cost passes no node twice
+-- a walk of least cost visits no node twice
 pub IsLeast-IsSimple : (g : Network) (s t : ℕ) (xs : List InArc) → IsLeast g s t (cost_of xs) → IsWalk g s t xs → IsSimple t xs
 IsLeast-IsSimple g s t xs l w = least_walk_simple g s t xs w l.least
 
--- the nodes at which the arcs begin
+-- the nodes where the arcs begin
 pub starts : List InArc → List ℕ
 starts xs = map (λ a. a.from) xs
 
--- one for each arc
+-- there is one start for each arc
 length-starts : (xs : List InArc) → length (starts xs) ≡ length xs
 unfolding starts
 length-starts xs = length-map xs (λ (a : InArc). a.from)
@@ -110,14 +110,14 @@ unfolding starts
 apart_end t [] h = tt
 apart_end t (x ∷ xs) h = (not_eqb t x.from (λ e. h.0 (sym e)), apart_end t xs h.2)
 
--- no two arcs begin at one node
+-- no two arcs begin at the same node
 distinct : (t : ℕ) (xs : List InArc) → IsSimple t xs → IsDistinct eqb (starts xs)
 unfolding starts IsDistinct
 distinct t [] h = tt
 distinct t (x ∷ xs) h = (apart x.from xs h.1, distinct t xs h.2)
 
 module _ (g : Network) (each : All (IsArcWithin g.nodes) g.arcs) where
-  -- each arc of a walk begins below n
+  -- each arc of a walk begins at a node of the graph
   below : (s t : ℕ) (xs : List InArc) → IsWalk g s t xs → (q : ℕ) → list_any (eqb q) (starts xs) ≡ true → q < g.nodes
   unfolding starts
   below s t [] w q h = cc
@@ -127,7 +127,7 @@ module _ (g : Network) (each : All (IsArcWithin g.nodes) g.arcs) where
       at true e h' more = let same = eqb-true q x.from e in let lt = (All-contains (IsArcWithin g.nodes) g.arcs x each w.0).ends.0 in omega arith
       at false e h' more = more h'
 
-  -- each arc of a walk begins below n, and so does its end
+  -- each arc of a walk begins at a node of the graph, and its end is a node too
   below_end : (s t : ℕ) (xs : List InArc) → t < g.nodes → IsWalk g s t xs → (q : ℕ) → list_any (eqb q) (t ∷ starts xs) ≡ true → q < g.nodes
   below_end s t xs lt w q h = at (eqb q t) refl h
     where
@@ -135,13 +135,13 @@ module _ (g : Network) (each : All (IsArcWithin g.nodes) g.arcs) where
       at true e h' = let same = eqb-true q t e in omega arith
       at false e h' = below s t xs w q h'
 
-  -- a walk that passes no node twice has no more arcs than there are nodes
+  -- a walk that visits no node twice has at most as many arcs as there are nodes
   simple_arcs : (s t : ℕ) (xs : List InArc) → IsWalk g s t xs → IsSimple t xs → length xs ≤ g.nodes
   simple_arcs s t xs w simple =
       let most = length-le_from_distinct_below (starts xs) g.nodes (distinct t xs simple) (below s t xs w) in
       omega (arith, length-starts xs)
 
-  -- it has fewer where its end is a node
+  -- it has fewer arcs than nodes if its end is a node
   simple_fewer : (s t : ℕ) (xs : List InArc) → t < g.nodes → IsWalk g s t xs → IsSimple t xs → length xs < g.nodes
   unfolding IsDistinct
   simple_fewer s t xs lt w simple =
@@ -157,7 +157,7 @@ module _ (g : Network) (each : All (IsArcWithin g.nodes) g.arcs) where
       let sum = ap (λ q. g.nodes * q) (sum_by-cons (λ (a : InArc). a.weight) x xs) ∙ mul-add g.nodes x.weight (weight_of xs) in
       omega arith
 
-  -- a walk that passes no node twice weighs at most MOST_WEIGHT
+  -- a walk that visits no node twice weighs at most MOST_WEIGHT
   simple_weight : (s t : ℕ) (xs : List InArc) → IsWalk g s t xs → IsSimple t xs → weight_of xs ≤ MOST_WEIGHT
   simple_weight s t [] w simple = omega arith
   simple_weight s t (x ∷ xs) w simple =

@@ -1,10 +1,10 @@
--- Costs: a weight and a number of arcs, compared by weight first, added by parts.
+-- Costs: a weight and a number of arcs. They are compared by weight first, and added part by part.
 use Rattle.std.specs.Prelude.{ℕ, ◌+◌, ◌<◌, ◌≤◌, List, slice_index_or, Option, None}
 use Rattle.std.specs.Ordering.{ordering_then, nat_cmp}
 use Rattle.std.specs.declared.cmp.Ordering.{Ordering}
 use Rattle.ch_graph.specs.declared.cost.Cost.{Cost}
 
--- a costs at most b: it weighs no more, and at equal weight has no more arcs
+-- a costs at most b: it weighs no more, and at equal weight it has no more arcs
 abbrev pub IsAtMost : Cost → Cost → Type 0
 IsAtMost a b = (a.weight ≤ b.weight) × (b.weight ≤ a.weight → a.arcs ≤ b.arcs)
 
@@ -16,11 +16,11 @@ IsBelow a b = (a.weight ≤ b.weight) × (b.weight ≤ a.weight → a.arcs < b.a
 abbrev pub cost_cmp : Cost → Cost → Ordering
 cost_cmp a b = ordering_then (nat_cmp a.weight b.weight) (nat_cmp a.arcs b.arcs)
 
--- what a walk and a walk after it cost together
+-- the cost of a walk and a walk that follows it
 abbrev pub cost_sum : Cost → Cost → Cost
 cost_sum a b = record { weight = a.weight + b.weight; arcs = a.arcs + b.arcs }
 
--- what the empty walk costs
+-- the cost of the empty walk
 abbrev pub no_cost : Cost
 no_cost = record { weight = 0; arcs = 0 }
 

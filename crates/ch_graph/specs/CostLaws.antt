@@ -1,10 +1,10 @@
--- Laws of costs: they are in one order, sums keep it, and it is what comparing them tells.
+-- Laws of costs: they have a total order, sums keep it, and comparing two costs gives it.
 use Rattle.std.specs.Prelude.{◌≡◌, ◌⊎◌, ◌↔◌, IsTrue}
 use Rattle.std.specs.Ordering.{is_eq, is_le, is_lt, ord_min}
 use Rattle.ch_graph.specs.declared.cost.Cost.{Cost}
 use Rattle.ch_graph.specs.Cost.{IsAtMost, IsBelow, cost_cmp, cost_sum, no_cost}
 
--- costs are in a total order, of which `IsBelow` is the strict part
+-- costs have a total order, and `IsBelow` is its strict part
 pub record CostsAreOrdered : Type 0 where
   pub reflexive : (a : Cost) → IsAtMost a a
   pub transitive : (a b c : Cost) → IsAtMost a b → IsAtMost b c → IsAtMost a c
@@ -22,7 +22,7 @@ pub record CostsAdd : Type 0 where
   pub strict : (a b c d : Cost) → IsBelow a b → IsAtMost c d → IsBelow (cost_sum a c) (cost_sum b d)
   pub cancelling : (a b c : Cost) → IsAtMost (cost_sum a c) (cost_sum b c) → IsAtMost a b
 
--- what comparing two costs tells is their order
+-- comparing two costs gives their order
 pub record ComparingTellsOrder : Type 0 where
   pub at_most : (a b : Cost) → IsTrue (is_le (cost_cmp a b)) ↔ IsAtMost a b
   pub below : (a b : Cost) → IsTrue (is_lt (cost_cmp a b)) ↔ IsBelow a b

@@ -18,16 +18,16 @@ pub record IsArcWithin (nodes : ℕ) (a : InArc) : Type 0 where
   pub ends : HasEnds nodes a
   pub weight : nodes * a.weight ≤ MOST_WEIGHT
 
--- there are not too many nodes and arcs
+-- the numbers of nodes and of arcs are within the limits
 abbrev pub HasSize : Network → Type 0
 HasSize g = (g.nodes ≤ MOST_NODES) × (length g.arcs ≤ MOST_ARCS)
 
--- a graph of this crate
+-- a graph within the limits of this crate
 pub record IsWithinLimits (g : Network) : Type 0 where
   pub size : HasSize g
   pub each : All (IsArcWithin g.nodes) g.arcs
 
--- what is wrong with the arc at this place: its ends are judged before its weight
+-- the fault of the arc at this place: its ends are judged before its weight
 abbrev pub IsArcFault : ℕ → ℕ → InArc → GraphFault → Type 0
 IsArcFault nodes place a Size = ⊥
 IsArcFault nodes place a (NodeRange i) = (i ≡ place) × (HasEnds nodes a → ⊥)
@@ -46,7 +46,7 @@ abbrev pub IsFirstFault : Network → GraphFault → Type 0
 IsFirstFault g Size = HasSize g → ⊥
 IsFirstFault g fault = HasSize g × IsFirstArcFault g.nodes g.arcs fault
 
--- what is said of a fault
+-- the text of a fault
 abbrev pub graph_fault_text : GraphFault → List ℕ
 graph_fault_text Size = codes "size too large"
 graph_fault_text (NodeRange place) = codes "arc " ++ decimal place ++ codes ": node out of range"

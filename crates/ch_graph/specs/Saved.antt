@@ -2,7 +2,7 @@
 use Rattle.std.specs.Prelude.{ℕ, List}
 use Rattle.ch_graph.specs.declared.saved.SavedLeg.{SavedLeg}
 
--- what contracts see of a saved hierarchy: its nodes in order of level, and its legs
+-- a saved hierarchy as contracts see it: its nodes in order of level, and its legs
 pub record OrderAndLegs : Type 0 where
   pub order : List ℕ
   pub legs : List SavedLeg

@@ -1,4 +1,4 @@
--- A walk is a list of arcs, each beginning where the one before ended.
+-- A walk is a list of arcs. Each arc begins where the one before it ends.
 use Rattle.std.specs.Prelude.{◌≡◌, ℕ, ◌≤◌, List, [], ◌∷◌, length, Contains, Option, MatchOption}
 use Rattle.std.specs.List.{sum_by}
 use Rattle.ch_graph.specs.declared.arc.InArc.{InArc}
@@ -33,6 +33,6 @@ pub record IsLeast (g : Network) (s t : ℕ) (c : Cost) : Type 0 where
 abbrev pub IsUnreachable : Network → ℕ → ℕ → Type 0
 IsUnreachable g s t = (arcs : List InArc) → IsWalk g s t arcs → ⊥
 
--- the distance from s to t, and none exactly where there is no walk
+-- the distance from s to t, or none if no walk leads there
 abbrev pub IsAnswer : Network → ℕ → ℕ → Option ℕ → Type 0
 IsAnswer g s t answer = MatchOption answer (IsUnreachable g s t) (λ x. IsDistance g s t x)

@@ -5,6 +5,6 @@
 pub struct InArc {
     pub from: u32,
     pub to: u32,
-    /// What it takes to travel the arc, in the unit of the input, such as metres or milliseconds.
+    /// The cost of travelling the arc, in the unit of the input, such as metres or milliseconds.
     pub weight: u64,
 }

@@ -3,8 +3,10 @@ ghost use Rattle.std.specs.Prelude.{◌≡◌, ◌+◌, ◌^◌, ◌<◌, ◌≤
 ghost use Rattle.ch_graph.specs.declared.limits.TheConstants.{MOST_SUM};
 ghost use Rattle.ch_graph.specs.Cost.{cost_sum};
 
-/// What a walk costs. Costs are compared by weight and then by number of arcs, so that every arc costs
-/// more than nothing, also at weight 0.
+/// The cost of a walk.
+///
+/// Costs are compared by weight first, and at equal weight by number of arcs. So every arc costs more than
+/// nothing, even at weight 0.
 #[derive(Clone, Copy, Debug, PartialEq, Eq, PartialOrd, Ord)]
 pub struct Cost {
     /// The sum of the weights.
@@ -14,7 +16,7 @@ pub struct Cost {
 }
 
 impl Cost {
-    /// The cost of a walk and a walk after it.
+    /// Adds the cost of a walk and the cost of a walk that follows it.
     pub fn plus(self, other: Cost) -> Cost
         requires weights { self.weight + other.weight ≤ MOST_SUM }
         requires arcs { self.arcs + other.arcs < 2 ^ 64 }

@@ -8,7 +8,7 @@ use std::error::Error;
 use std::fmt;
 use std::marker::Model;
 
-/// Why a number of nodes and a list of arcs are no graph. Places are counted from 0.
+/// Why a number of nodes and a list of arcs are not a graph. Places are counted from 0.
 #[derive(Clone, Copy, Debug, PartialEq, Eq)]
 pub enum GraphFault {
     /// There are more than [`MOST_NODES`] nodes or [`MOST_ARCS`] arcs.
@@ -36,8 +36,8 @@ impl Error for GraphFault {}
 /// A directed graph: a number of nodes, and a list of arcs between them. Parallel arcs, loops and
 /// weight 0 are allowed.
 ///
-/// It has at most [`MOST_NODES`] nodes and [`MOST_ARCS`] arcs, and the number of nodes times any weight is at most
-/// [`MOST_WEIGHT`].
+/// It has at most [`MOST_NODES`] nodes and at most [`MOST_ARCS`] arcs. The number of nodes times the weight
+/// of any arc is at most [`MOST_WEIGHT`].
 #[derive(Debug, Drop)]
 pub struct Graph {
     nodes: u32,
@@ -55,8 +55,10 @@ impl Model for Graph {
 }
 
 impl Graph {
-    /// The graph of these nodes and arcs, or the first fault: the sizes are judged first, and then the
-    /// arcs in order, of each its ends before its weight. It keeps the vector and takes no memory.
+    /// Returns the graph of these nodes and arcs, or the first fault.
+    ///
+    /// The sizes are judged first, and then the arcs in order. The ends of an arc are judged before its
+    /// weight. The graph keeps the vector, and the call takes no memory.
     pub fn new(nodes: u32, arcs: Vec<InArc>) -> Result<Graph, GraphFault>
         ensures accepted { IsOk result ↔ IsWithinLimits (record { nodes = nodes; arcs = arcs.items }) }
         ensures value { IfOk result (λ g. g ≡ record { nodes = nodes; arcs = arcs.items }) }
@@ -71,8 +73,8 @@ impl Graph {
         }
     }
 
-    /// The graph of these nodes and arcs, which were judged before: they are within the limits. It keeps the vector
-    /// and takes no memory.
+    /// Returns the graph of these nodes and arcs, which the caller has already found to be within the
+    /// limits. The graph keeps the vector, and the call takes no memory.
     pub fn from_judged(nodes: u32, arcs: Vec<InArc>) -> Graph
         requires { IsWithinLimits (record { nodes = nodes; arcs = arcs.items }) }
         ensures { result ≡ record { nodes = nodes; arcs = arcs.items } }
@@ -87,7 +89,7 @@ impl Graph {
         self.nodes
     }
 
-    /// The arcs, in the order that they were given in.
+    /// The arcs, in the given order.
     pub fn arcs(&self) -> &[InArc]
         ensures arcs { result.now ≡ self.now.arcs }
         ensures limits { IsWithinLimits self.now }
@@ -96,7 +98,7 @@ impl Graph {
     }
 }
 
-/// The fault of the first arc that has one.
+/// Returns the fault of the first arc that has one.
 fn first_arc_fault(nodes: u32, arcs: &[InArc]) -> Option<GraphFault>
     ensures { MatchOption result (All (IsArcWithin nodes) arcs.now) (IsFirstArcFault nodes arcs.now) }
 {
@@ -108,7 +110,7 @@ fn first_arc_fault(nodes: u32, arcs: &[InArc]) -> Option<GraphFault>
     None
 }
 
-/// What is wrong with the arc at this place.
+/// Returns the fault of the arc at this place, if it has one.
 fn arc_fault(nodes: u32, place: usize, arc: InArc) -> Option<GraphFault>
     ensures { MatchOption result (IsArcWithin nodes arc) (IsArcFault nodes place arc) }
 {

@@ -1,5 +1,7 @@
-//! Laws of costs. Each function does nothing, and its contract is the law; the lemmas that prove it stand in
-//! `proofs/CostOrder.antt` and `proofs/CostSums.antt`, for the proofs of crates above.
+//! Laws of costs. Each function does nothing, and its contract is the law.
+//!
+//! The lemmas that prove them are in `proofs/CostOrder.antt` and `proofs/CostSums.antt`. The proofs of the
+//! crates above use these lemmas.
 ghost use Rattle.std.specs.Prelude.{◌≡◌, Some};
 ghost use Rattle.ch_graph.specs.declared.cost.Cost.{Cost};
 ghost use Rattle.ch_graph.specs.Cost.{cost_cmp};
@@ -17,7 +19,7 @@ pub fn costs_add()
     ensures { CostsAdd }
 {}
 
-/// `cmp`, `partial_cmp` and all that stands on them, as `<` and `min`, tell this order.
+/// `cmp` and `partial_cmp` compare costs by this order. So does all that uses them, such as `<` and `min`.
 pub fn comparing_tells_order()
     ensures order { ComparingTellsOrder }
     ensures cmp { (a b : Cost) → ⟦<Cost as Ord>⟧.cmp a b ≡ cost_cmp a b }

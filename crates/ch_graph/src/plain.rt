@@ -8,12 +8,14 @@ use crate::arc::InArc;
 use crate::graph::Graph;
 use std::alloc::{AllocError, Global};
 
-/// The least weight of a walk from `start` to `end`, or `None` where there is no walk. Both are nodes of
-/// the graph. The work is the number of arcs for each round, and there are at most as many rounds as a
-/// least walk has arcs, and one.
+/// Returns the least weight of a walk from `start` to `end`, or `None` if there is no walk. Both are nodes
+/// of the graph.
+///
+/// Each round takes time proportional to the number of arcs. There is at most one round more than
+/// a walk of least weight from `start` has arcs.
 ///
 /// # Errors
-/// `AllocError` where there is no memory for one label a node.
+/// `AllocError` if there is no memory for one label for each node.
 pub fn plain_distance(
     alloc: Global,
     graph: &Graph,
@@ -29,7 +31,8 @@ pub fn plain_distance(
     Ok(best[end as usize])
 }
 
-/// What is known before any arc: `start` is reached at no weight.
+/// Returns the labels before any arc is relaxed: `start` is reached at weight 0, and no other node is
+/// reached.
 fn first_labels(alloc: Global, nodes: u32, start: u32) -> Result<Vec<Option<u64>>, AllocError>
     requires { start < nodes }
     ensures { IfOk result (λ best. best.items ≡ slice_set (replicate nodes None) start (Some 0)) }
@@ -48,7 +51,7 @@ fn relax_to_rest(best: &mut [Option<u64>], graph: &Graph)
     while relax_all(best, graph) {}
 }
 
-/// Relaxes each arc once, and says whether anything changed.
+/// Relaxes each arc once, and returns whether a label changed.
 fn relax_all(best: &mut [Option<u64>], graph: &Graph) -> bool
     requires { (s : ℕ) × IsPartial graph.now s best.old }
     ensures known { (s : ℕ) → IsPartial graph.now s best.old → IsPartial graph.now s best.new }
@@ -61,7 +64,7 @@ fn relax_all(best: &mut [Option<u64>], graph: &Graph) -> bool
     changed
 }
 
-/// Lowers what is known of the arc's end where the arc shows a lighter walk, and says whether it did.
+/// Lowers the label of the arc's end if the arc shows a lighter walk. Returns whether it did.
 fn relax(best: &mut [Option<u64>], arc: InArc) -> bool
     requires from { arc.from < length best.old }
     requires to { arc.to < length best.old }

@@ -3,11 +3,11 @@
 use crate::cost::Cost;
 use std::marker::Model;
 
-/// A contraction hierarchy as it was saved, of any origin. Nothing is promised of it. Contracts see its
-/// order and its legs as lists.
+/// A contraction hierarchy as it was saved, of any origin. Nothing is known of its contents. Contracts see
+/// its order and its legs as lists.
 #[derive(Debug, Drop)]
 pub struct Saved {
-    /// The nodes, in order of level from 1 on. Nodes are numbered from 0.
+    /// The nodes in order of level, from level 1 on. Nodes are numbered from 0.
     pub order: Vec<u32>,
     /// The legs between a node and a node of a higher level, in both directions.
     pub legs: Vec<SavedLeg>,
@@ -24,12 +24,12 @@ impl Model for Saved {
 /// A leg of a saved hierarchy.
 #[derive(Clone, Copy, Debug, PartialEq, Eq)]
 pub struct SavedLeg {
-    /// The node from which it leads.
+    /// The node where it begins.
     pub from: u32,
-    /// The node to which it leads.
+    /// The node where it ends.
     pub to: u32,
-    /// What the walk of input arcs costs for which the leg stands.
+    /// The cost of the walk of input arcs that the leg stands for.
     pub cost: Cost,
-    /// The node through which the leg was made, and `None` where it is an input arc.
+    /// The node that the leg was made through, or `None` if the leg is an input arc.
     pub middle: Option<u32>,
 }

@@ -5,7 +5,7 @@ use Rattle.ch_graph.specs.declared.arc.InArc.{InArc}
 use Rattle.ch_graph.specs.Graph.{IsArcWithin}
 use Rattle.ch_graph.proofs.graph.first_arc_fault.Goals as goal
 
--- arcs that are all within the limits up to their number are so throughout
+-- if the first n arcs are within the limits and there are no more, all arcs are
 all_within : (nodes n : ℕ) (arcs : List InArc) → length arcs ≤ n → All (IsArcWithin nodes) (take n arcs) → All (IsArcWithin nodes) arcs
 all_within nodes n arcs past within = subst (All (IsArcWithin nodes)) (take_all n arcs past) within
 

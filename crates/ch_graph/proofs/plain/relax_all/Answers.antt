@@ -7,7 +7,7 @@ use Rattle.ch_graph.proofs.Labels.{partial_lowered, total_falls, sum_fits}
 use Rattle.ch_graph.proofs.plain.relax_all.Goals as goal
 
 module _ (g : Network) (lent : List InArc) (i : ℕ) (d : InArc) (whole : lent ≡ g.arcs) (within : i < length lent) where
-  -- the arc at place i is one of the graph's
+  -- the arc at place i is an arc of the graph
   stands : Contains g.arcs (get_or lent i d)
   stands = subst (λ xs. Contains xs (get_or lent i d)) whole (Contains-get_or lent i d within)
 
@@ -15,7 +15,7 @@ module _ (g : Network) (lent : List InArc) (i : ℕ) (d : InArc) (whole : lent �
   fits limits = subst (λ xs. IsArcWithin g.nodes (get_or xs i d)) (sym whole) (limits.each i d (rw whole at within))
 
   module _ (limits : IsWithinLimits g) (old mid new : List (Option ℕ)) where
-    -- relaxing it keeps what is known
+    -- relaxing the arc keeps all that is known
     known : (one : Bool) (s : ℕ) → IsPartial g s mid → (one ≡ true → IsLowered mid new (get_or lent i d)) → (one ≡ false → (new ≡ mid) × IsRelaxed mid (get_or lent i d)) → IsPartial g s new
     known true s p lowered same = partial_lowered g s mid new _ p stands (fits limits) (lowered refl)
     known false s p lowered same = subst (IsPartial g s) (sym (same refl).0) p
@@ -26,7 +26,7 @@ module _ (g : Network) (lent : List InArc) (i : ℕ) (d : InArc) (whole : lent �
         let relaxed : IsRelaxed old (get_or g.arcs i d) = rw (sym same.0, sym whole) next.1 in
         (next.0 ∙ same.0, All-more (IsRelaxed old) g.arcs i d (rw whole at within) same.1 relaxed)
 
-    -- the round that it ends is over one arc more
+    -- after this arc, the round covers one arc more
     round : (changed one : Bool) (s : ℕ) → IsPartial g s mid → IsRound changed old mid (take i g.arcs) → (one ≡ true → IsLowered mid new (get_or lent i d)) → (one ≡ false → (new ≡ mid) × IsRelaxed mid (get_or lent i d)) → IsRound (changed || one) old new (take (i + 1) g.arcs)
     round true true s p before lowered same = record { less = λ _. omega (arith, before.less refl, total_falls g s mid new _ p stands (fits limits) (lowered refl)); same = λ e. cc }
     round true false s p before lowered same = record { less = λ _. omega (arith, before.less refl, ap total (same refl).0); same = λ e. cc }
@@ -45,7 +45,7 @@ loop-arc-preserved c = record {
   round = round _ _ _ _ c.arcs-arc-items.ensures.arcs c.loop-arc-test.true c.arcs-arc-items.ensures.limits _ _ _ _ _ _ (c.loop-arc.invariant.known c.requires.0 c.requires.1) c.loop-arc.invariant.round c.relax-changed.ensures.lowered c.relax-changed.ensures.same;
 }
 
--- past the last arc, the round is over all of them
+-- past the last arc, the round covers all arcs
 past : (changed : Bool) (old new : List (Option ℕ)) (lent arcs : List InArc) (i : ℕ) → lent ≡ arcs → length lent ≤ i → IsRound changed old new (take i arcs) → IsRound changed old new arcs
 past changed old new lent arcs i whole end round = subst (IsRound changed old new) (take_all i arcs (rw whole at end)) round
 
