@@ -17,19 +17,19 @@ use Rattle.ch_work.specs.Steps.{nothing_known, with_claim}
 use Rattle.ch_work.proofs.Items.{all_at, map_push, next_split, next_done}
 use Rattle.ch_work.proofs.Totals.{total_push, one_same, one_other}
 
--- how often a number stands in two lists of pieces
+-- how often a number occurs in two lists of pieces together
 times-append : {X : Type 0} (x : ℕ) (xs ys : List (Done X)) → times x (numbers (xs ++ ys)) ≡ times x (numbers xs) + times x (numbers ys)
 times-append x [] ys = omega arith
 times-append x (d ∷ xs) ys = let h = times-append x xs ys in omega arith
 
--- where there is a pass that has ended, one has
+-- if all of at least one pass have ended, the total of ended passes is positive
 pub some_ended : (passes : List Pass) → All HasEnded passes → 0 < length passes → 0 < total (λ (view : Known). view.ended) (map view_of passes)
 some_ended [] all some_pass = absurd (omega arith)
 some_ended (pass ∷ passes) all some_pass =
     let same : pass.seat.me.0.ended ≡ bit pass.ended = pass.same_end in
     let one : bit pass.ended ≡ 1 = ap bit (all 0 pass (omega arith)) in omega arith
 
--- a place that isn't empty has a value
+-- a place that is not empty has a value
 full : {X : Type 0} (Q : X → Type 0) (o : Option X) (t : ℕ) → 0 < t → MatchOption o (t ≡ 0) Q → IsSomeAnd o Q
 full Q None t positive h = absurd (omega arith)
 full Q (Some x) t positive h = h
@@ -45,7 +45,7 @@ module _ {X : Type 0} (m : ℕ → ℕ → X → Type 0) (n p : ℕ) where
     each = λ k d lt. absurd (omega arith);
   }
 
-  -- a claim more, and its piece done
+  -- after one more claim, and with its piece done
   pub goes_on : (v w : Known) (next k : ℕ) (ds : List (Done X)) (x : X) → Working m n p v next ds → k < pieces_of n p → w ≡ with_claim v k → m (k * p) (min (k * p + p) n) x →
       Working m n p w (k + 1) (ds ++ record { number = k; value = x } ∷ [])
   goes_on v w next k ds x h lt e means =
@@ -60,16 +60,16 @@ module _ {X : Type 0} (m : ℕ → ℕ → X → Type 0) (n p : ℕ) where
         each = All-push (IsDone m n p) ds d h.each (lt, means);
       }
 
-  -- each claim is greater than those before it
+  -- each claim is greater than those before it, so fewer numbers are left
   pub nearer : (v : Known) (next k : ℕ) (ds : List (Done X)) → Working m n p v next ds → k < pieces_of n p → ((y : ℕ) → 0 < times y v.claims → y < k) → pieces_of n p - (k + 1) < pieces_of n p - next
   nearer v next k ds h lt above = dite (dec_lt 0 next) (λ q. let b = above (next - 1) (h.last q) in omega arith) (λ z. omega arith)
 
   module _ (board : Board) where
-    -- before the first pass
+    -- with no pass yet, nothing is gathered
     pub gathers_none : AreGathered m n p board [] []
     gathers_none = record { board_of = λ k d lt. absurd (omega arith); ended = λ k d lt. absurd (omega arith); claims = λ x. refl; each = λ k d lt. absurd (omega arith) }
 
-    -- one pass more, and what it did
+    -- one more pass and the pieces that it did
     pub gathers_one : (passes : List Pass) (done : List (Done X)) (pass : Pass) (more : List (Done X)) → AreGathered m n p board passes done → IsPassOf board pass → HasEnded pass →
         (view_of pass).claims ≡ numbers more → All (IsDone m n p) more → AreGathered m n p board (passes ++ pass ∷ []) (done ++ more)
     gathers_one passes done pass more h mine ended claims each = record {
@@ -86,7 +86,7 @@ module _ {X : Type 0} (m : ℕ → ℕ → X → Type 0) (n p : ℕ) where
       each = All-append (IsDone m n p) done more h.each each;
     }
 
-    -- at the end every piece was done
+    -- at the end every piece is done
     pub every_done : (k : Size) (passes : List Pass) (done : List (Done X)) (cells : List (Option ℕ)) → AreGathered m n p board passes done → 0 < length passes →
         Settled k (map view_of passes) cells → (x : ℕ) → x < k.pieces → 0 < times x (numbers done)
     every_done k passes done cells h some_pass settled x within =
@@ -94,17 +94,17 @@ module _ {X : Type 0} (m : ℕ → ℕ → X → Type 0) (n p : ℕ) where
         let same = h.claims x in
         omega arith
 
-  -- each piece that was done has its value at its place, and the other places are empty
+  -- each piece that is done has its value at its place, and the other places are empty
   abbrev pub ArePlaced : List (Option X) → List (Done X) → Type 0
   ArePlaced places done = (k : ℕ) (d : Option X) → k < pieces_of n p → MatchOption (slice_index_or places k d) (times k (numbers done) ≡ 0) (λ x. m (k * p) (min (k * p + p) n) x)
 
-  -- no piece was done yet
+  -- before any piece is placed, all places are empty
   pub places_none : (places : List (Option X)) → length places ≡ pieces_of n p → All (λ o. o ≡ None) places → ArePlaced places []
   places_none places len none k d lt =
       let Q : Option X → Type 0 = λ o. MatchOption o (times k (numbers {X = X} []) ≡ 0) (λ x. m (k * p) (min (k * p + p) n) x) in
       subst Q (sym (none k d (omega arith))) refl
 
-  -- one piece more
+  -- one more piece at its place
   pub places_one : (places : List (Option X)) (done : List (Done X)) (number : ℕ) (value : X) → length places ≡ pieces_of n p → IsDone m n p record { number = number; value = value } →
       ArePlaced places done → ArePlaced (set places number (Some value)) (done ++ record { number = number; value = value } ∷ [])
   places_one places done number value len is h k d lt =
@@ -121,7 +121,7 @@ module _ {X : Type 0} (m : ℕ → ℕ → X → Type 0) (n p : ℕ) where
       subst (λ (o : Option X). Q k o) (sym there)
       (subst (λ (t : ℕ). MatchOption (slice_index_or places k d) (t ≡ 0) (λ x. m (k * p) (min (k * p + p) n) x)) (sym times_same) (h k d lt)))
 
-  -- the next piece of those that were done is put at its place
+  -- the next piece of those that are done goes to its place
   pub places_next : (done before left rest : List (Done X)) (one : Done X) (places : List (Option X)) → done ≡ before ++ left → left ≡ one ∷ rest → All (IsDone m n p) done → length places ≡ pieces_of n p → ArePlaced places before →
       (length (set places one.number (Some one.value)) ≡ pieces_of n p) × ArePlaced (set places one.number (Some one.value)) (before ++ one ∷ []) × (done ≡ (before ++ one ∷ []) ++ rest)
   places_next done before left rest one places old next each len h =
@@ -131,7 +131,7 @@ module _ {X : Type 0} (m : ℕ → ℕ → X → Type 0) (n p : ℕ) where
         next_done done before rest one now,
       )
 
-  -- where every piece was done, every place has its value
+  -- if every piece is done, every place has its value
   pub places_full : (places : List (Option X)) (done : List (Done X)) → ArePlaced places done → ((x : ℕ) → x < pieces_of n p → 0 < times x (numbers done)) →
       (k : ℕ) (d : Option X) → k < pieces_of n p → IsSomeAnd (slice_index_or places k d) (λ x. m (k * p) (min (k * p + p) n) x)
   places_full places done h every k d lt = full (λ x. m (k * p) (min (k * p + p) n) x) (slice_index_or places k d) (times k (numbers done)) (every k lt) (h k d lt)

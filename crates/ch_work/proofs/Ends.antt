@@ -1,4 +1,4 @@
--- Looks, how views are cut and taken in, and what who has all parts knows.
+-- Looks, views that are split off and joined, and what a view of all passes knows.
 use Rattle.std.proofs.Common.{◌^◌, ◌≡◌, ◌≢◌, ℕ, zero, suc, ◌+◌, ◌-◌, ◌<◌, ◌==◌, ◌&&◌, nat_lt, min, List, [], ◌∷◌, ◌++◌, set, refl, sym, ap, ◌∙◌, subst, inl, inr, ⊎_elim, arith, add-one, replicate}
 use Rattle.std.specs.Prelude.{slice_index}
 use Rattle.std.proofs.lemmas.List.{set-get_or, length-replicate, get_or-replicate}
@@ -53,7 +53,7 @@ LooksAt k slots id v c word homes views words =
     × Kept k (stepped record { words = words; homes = homes; views = views } word (slice_index words word) id c w a)
     × Looks (step slots word 0 0 none) (v, c) (slice_index words word) (w, carried_after c a)
 
--- a look of a pass
+-- a look of a pass is a step that the rule allows
 pub looks : (k : Size) (slots id : ℕ) (v : Known) (c : List (ℕ × Unit {0})) (cell : ℕ) → 0 < v.parts → cell < k.cells
     → Allows (Kept k) slots id (v, c) (cell + 1) (λ n. n) (Looks (step slots (cell + 1) 0 0 none) (v, c))
 unfolding LooksAt
@@ -83,7 +83,7 @@ looks k slots id v c cell part inside s kept homes at fits =
     )) in
     subst (λ (l : ℕ × List ℕ). LooksAt k slots id v c l.0 s.homes s.views l.1) (λ i. (sym (add-one cell) i, sym kept.words i)) here
 
--- the rule stays where the views have the same totals and each fits
+-- the rule holds of other views with the same totals, if each fits
 same_totals : (k : Size) (c : ℕ) (ws : List ℕ) (old now : List Known) → Holds k c ws old →
     total (λ (u : Known). u.ended) now ≡ total (λ (u : Known). u.ended) old →
     ((x : ℕ) → total (λ (u : Known). times x u.claims) now ≡ total (λ (u : Known). times x u.claims) old) →
@@ -99,7 +99,7 @@ same_totals k c ws old now h ended claims parts offers shown fits = record {
   fits = fits;
 }
 
--- a pass that has done nothing is cut off
+-- splitting off a pass that has done nothing keeps the rule
 pub splits : (k : Size) (id p n : ℕ) → 0 < n → Splits (Kept k) id (nothing_known p n) (less_one (nothing_known p n)) (one_part (nothing_known p n))
 splits k id p n some_part s kept at =
     let h = kept.holds in
@@ -123,7 +123,7 @@ splits k id p n some_part s kept at =
           (at_snoc (set s.views id l) r u j e));
     }
 
--- a pass is joined to others
+-- joining a pass to others keeps the rule
 pub joins : (k : Size) (id : ℕ) (v : Known) (other : ℕ) (w : Known) → 0 < w.parts → Joins (Kept k) id v other w (both v w) (nothing_known 0 0)
 joins k id v other w some_w s kept at apart there =
     let h = kept.holds in
@@ -145,7 +145,7 @@ joins k id v other w some_w s kept at apart there =
           (fits_set k s.views id b (let a = mine.ended in let a' = theirs.ended in record { pieces = λ q. theirs.pieces some_w; ended = omega arith; idle = λ e. absurd (omega arith) }) h.fits));
     }
 
--- a new pass with no part
+-- making a view that stands for no pass keeps the rule
 pub enters : (k : Size) (slots : ℕ) → Enters (Kept k) slots 0 (λ n w. w ≡ nothing_known 0 0)
 enters k slots s kept homes fits =
     let h = kept.holds in
@@ -168,7 +168,7 @@ enters k slots s kept homes fits =
       refl,
     )
 
--- a board at its start
+-- a new board keeps the rule
 pub opens : (pieces cells passes : ℕ) → pieces + passes + 1 < 2 ^ 64 → Kept record { pieces = pieces; cells = cells; passes = passes } (opening (0 ∷ replicate cells none_yet) [] (nothing_known pieces passes))
 opens pieces cells passes room =
     let k : Size = record { pieces = pieces; cells = cells; passes = passes } in
@@ -194,7 +194,7 @@ opens pieces cells passes room =
     one zero u e = let k : Size = record { pieces = pieces; cells = cells; passes = passes } in subst (λ (y : Known). Fits k y) (some-injective _ _ e) record { pieces = λ q. refl; ended = omega arith; idle = λ z. (refl, refl, refl) }
     one (suc j) u e = absurd (some-ne-none u (sym e))
 
--- the view that has all parts knows all that was done
+-- a view that stands for all passes knows all that was done
 pub settles : (k : Size) (c : ℕ) (ws : List ℕ) (views : List Known) → Holds k c ws views → (id : ℕ) (v : Known) → get_elem? views id ≡ some v → v.parts ≡ k.passes → IsWhole k v ws
 settles k c ws views h id v at all =
     let whole : total (λ (u : Known). u.parts) views ≡ v.parts = h.numbers.parts ∙ sym all in

@@ -1,4 +1,4 @@
--- Views that are taken in one after the other.
+-- Views that are joined one after the other.
 use Rattle.std.proofs.Common.{◌^◌, ◌≡◌, ℕ, zero, suc, ◌+◌, ◌<◌, ◌==◌, ◌&&◌, List, [], ◌∷◌, ◌++◌, map, length, refl, sym, ◌∙◌, subst, arith, slice_index_or, Bool, true, false, cond, ◌≢◌, add-one, Option, Some, None, Result, Ok, Err, IfOk}
 use Rattle.std.specs.Prelude.{slice_index}
 use Rattle.std.proofs.lemmas.Bool.Decides.{nat_tests}
@@ -16,11 +16,11 @@ use Rattle.ch_work.specs.Rule.{none_yet, Kept, Sums, Settled, IsWhole, IsLeast, 
 use Rattle.ch_work.specs.Steps.{nothing_known, both}
 use Rattle.ch_work.proofs.Totals.{total_append, total_push}
 
--- nothing is what no view has
+-- the empty view is the sum of no views
 pub sums_none : Sums (nothing_known 0 0) []
 sums_none = record { parts = refl; ended = refl; claims = λ x. refl; offers = λ i x. refl; shown = λ i x. refl }
 
--- a view more is taken in
+-- one more view is joined
 pub sums_push : (v : Known) (vs : List Known) (w : Known) → Sums v vs → Sums (both v w) (vs ++ w ∷ [])
 sums_push v vs w s = record {
   parts = let t = total_push (λ (u : Known). u.parts) vs w in let e = s.parts in omega arith;
@@ -30,12 +30,12 @@ sums_push v vs w s = record {
   shown = λ i x. let t = total_push (λ (u : Known). times_at i x u.shown) vs w in let e = s.shown i x in let a = total_append (λ (p : ℕ × ℕ). bit ((p.0 == i) && (p.1 == x))) v.shown w.shown in omega arith;
 }
 
--- each pass has one part
+-- each pass counts as one
 pub parts_count : (ps : List Pass) → total (λ (u : Known). u.parts) (map view_of ps) ≡ length ps
 parts_count [] = refl
 parts_count (p ∷ ps) = let h = parts_count ps in let one : p.seat.me.0.parts ≡ 1 = p.one_part in omega arith
 
--- the word of a cell is the least weight that was offered there
+-- the word of a cell gives the least weight that was offered to it
 is_least : (k : Size) (v : Known) (views : List Known) (ws : List ℕ) → Sums v views → IsWhole k v ws → (i : ℕ) → i < k.cells → slice_index ws i < 2 ^ 64 → IsLeast views i (read_cell (slice_index ws i))
 is_least k v views ws s h i lt fits = go (slice_index ws i == none_yet) refl
   where
@@ -50,7 +50,7 @@ is_least k v views ws s h i lt fits = go (slice_index ws i == none_yet) refl
         let a = h.hit i lt (omega arith) in let t = s.offers i (slice_index ws i) in
         (omega arith, λ y p. let t' = s.offers i y in h.low i y (omega arith))
 
--- what is known of the view of all passes is known of the passes
+-- what is known of the view of all passes is known of the passes together
 pub settled : (k : Size) (v : Known) (views : List Known) (ws : List ℕ) (cells : List (Option ℕ)) → Sums v views → IsWhole k v ws → length cells ≡ k.cells
     → ((i : ℕ) (d : Option ℕ) → i < k.cells → IsRead (slice_index ws i) (slice_index_or cells i d)) → Settled k views cells
 settled k v views ws cells s h len each = record {
@@ -62,7 +62,7 @@ settled k v views ws cells s h len each = record {
   shown = λ i x p. let t = s.shown i x in let t' = s.offers i x in let a = h.shown i x (omega arith) in omega arith;
 }
 
--- what a closed table says of the view of all passes
+-- what a closed table gives for the view of all passes
 pub whole : (k : Size) (id : ℕ) (v : Known) (words : List ℕ) (slots : List (Unit {0})) (ps : List Pass) → Final (Seen (Kept k) id v) words slots → Sums v (map view_of ps) → length ps ≡ k.passes
     → (c : ℕ) × (ws : List ℕ) × (words ≡ c ∷ ws) × IsWhole k v ws
 whole k id v words slots ps f s len =
@@ -71,7 +71,7 @@ whole k id v words slots ps f s len =
     let p = s.parts in
     (kept.counter, kept.values, sym f.2 ∙ kept.words, settles k kept.counter kept.values f.0.views kept.holds id v f.1.1 (omega arith))
 
--- what is known of a closed board
+-- what is known of a closed board, from its words
 pub settled_words : (k : Size) (id : ℕ) (v : Known) (words : List ℕ) (slots : List (Unit {0})) (ps : List Pass) (cells : List (Option ℕ))
     → Final (Seen (Kept k) id v) words slots → Sums v (map view_of ps) → length ps ≡ k.passes → length cells ≡ k.cells
     → ((i : ℕ) (d : Option ℕ) → i < k.cells → IsRead (slice_index words (i + 1)) (slice_index_or cells i d)) → Settled k (map view_of ps) cells
@@ -80,26 +80,26 @@ settled_words k id v words slots ps cells f s len count each =
     settled k v (map view_of ps) w.1 cells s w.3 count
     (λ i d lt. let P : ℕ × List ℕ → Type 0 = λ z. IsRead (slice_index z.1 z.0) (slice_index_or cells i d) in subst P (λ j. (add-one i j, w.2 j)) (each i d lt))
 
--- what stands at a place of a list
+-- the word at a place of a list
 pub index_is : (l : List ℕ) (i x : ℕ) → get_elem? l i ≡ some x → slice_index l i ≡ x
 index_is [] i x e = absurd (some-ne-none x (sym e))
 index_is (y ∷ ys) zero x e = some-injective y x e
 index_is (y ∷ ys) (suc i) x e = index_is ys i x e
 
--- a word that says that nothing was offered
+-- the word of a cell without an offer is read as none
 pub read_none : (n : ℕ) → n ≡ none_yet → IsRead n None
 read_none n e = (rw e refl, omega arith)
 
--- a word that is a weight
+-- a word that is a weight is not the word of a cell without an offer
 some_of : (n : ℕ) (b : Bool) → (n == none_yet) ≡ b → n ≢ none_yet → Some n ≡ cond b None (Some n)
 some_of n true e ne = absurd (ne (grind (arith, nat_tests)))
 some_of n false e ne = refl
 
--- a word that is a weight, read
+-- a word that is a weight is read as that weight
 pub read_some : (n : ℕ) → n ≢ none_yet → n < 2 ^ 64 → IsRead n (Some n)
 read_some n ne fits = (some_of n (n == none_yet) refl ne, fits)
 
--- two facts of a value that was made
+-- two facts about the value of a result imply a third
 pub both_ok : {T E : Type 0} (r : Result T E) (P Q R : T → Type 0) → IfOk r P → IfOk r Q → ((v : T) → P v → Q v → R v) → IfOk r R
 both_ok (Ok v) P Q R p q f = f v p q
 both_ok (Err e) P Q R p q f = tt

@@ -15,11 +15,11 @@ use Rattle.ch_work.specs.Rule.{none_yet, Fits, Numbers, Cells, AllFit, Holds, Ke
 use Rattle.ch_work.specs.Steps.{with_claim, with_end, with_offer, Knows, Claims, Offers}
 use Rattle.ch_work.proofs.Totals.{total_grow, total_push, total_at, total_le, below_next, below_is, pair_same, pair_cases}
 
--- all views fit after one is put for another that fits
+-- all views fit after one of them is replaced by a view that fits
 pub fits_set : (k : Size) (views : List Known) (i : ℕ) (w : Known) → Fits k w → AllFit k views → AllFit k (set views i w)
 fits_set k views i w mine others j u e = ⊎_elim (λ (t : (j ≡ i) × (w ≡ u)). subst (λ (y : Known). Fits k y) t.1 mine) (λ (t : (j ≢ i) × (get_elem? views j ≡ some u)). others j u t.1) (at_set views i j w u e)
 
--- the numbers stand where views change and their totals of claims, ends and parts do not
+-- the facts about the counter hold of changed views if the totals of claims, ends and parts are the same
 pub numbers_same : (k : Size) (c : ℕ) (views now : List Known) → Numbers k c views
     → total (λ v. v.ended) now ≡ total (λ v. v.ended) views
     → ((x : ℕ) → total (λ v. times x v.claims) now ≡ total (λ v. times x v.claims) views)
@@ -27,7 +27,7 @@ pub numbers_same : (k : Size) (c : ℕ) (views now : List Known) → Numbers k c
     → Numbers k c now
 numbers_same k c views now h e cl p = record { counted = h.counted ∙ ap (λ n. min c k.pieces + n) (sym e); claimed = λ x. cl x ∙ h.claimed x; parts = p ∙ h.parts }
 
--- the cells stand where views change and their totals of offers and of what was shown do not
+-- the facts about the cells hold of changed views if the totals of offers and of shown weights are the same
 pub cells_same : (k : Size) (ws : List ℕ) (views now : List Known) → Cells k ws views
     → ((i x : ℕ) → total (λ v. times_at i x v.offers) now ≡ total (λ v. times_at i x v.offers) views)
     → ((i x : ℕ) → total (λ v. times_at i x v.shown) now ≡ total (λ v. times_at i x v.shown) views)
@@ -40,11 +40,11 @@ cells_same k ws views now h o s = record {
 }
 
 module _ (k : Size) (c : ℕ) (ws : List ℕ) (views : List Known) (h : Holds k c ws views) (id : ℕ) (v : Known) (at : get_elem? views id ≡ some v) where
-  -- no claim of a pass reaches the counter
+  -- each number that a pass claimed is below the counter
   pub claims_below : (x : ℕ) → 0 < times x v.claims → x < min c k.pieces
   claims_below x p = let t = total_at (λ (u : Known). times x u.claims) views id v at in let e = h.numbers.claimed x in below_is x (min c k.pieces) (omega arith)
 
-  -- a claim of a number below the pieces keeps the rule
+  -- claiming a number below the pieces keeps the rule
   pub claims_holds : c < k.pieces → 0 < v.parts → Holds k (c + 1) ws (set views id (with_claim v c))
   claims_holds lt part =
       let w = with_claim v c in
@@ -64,7 +64,7 @@ module _ (k : Size) (c : ℕ) (ws : List ℕ) (views : List Known) (h : Holds k 
         fits = fits_set k views id w (let f = h.fits id v at in record { pieces = f.pieces; ended = f.ended; idle = λ z. absurd (omega arith) }) h.fits;
       }
 
-  -- a claim of a number past the pieces, which ends the pass, keeps the rule
+  -- claiming a number past the pieces ends the pass, and keeps the rule
   pub ends_holds : k.pieces ≤ c → v.ended < v.parts → Holds k (c + 1) ws (set views id (with_end v))
   ends_holds le part =
       let w = with_end v in record {
@@ -81,7 +81,7 @@ module _ (k : Size) (c : ℕ) (ws : List ℕ) (views : List Known) (h : Holds k 
         fits = fits_set k views id w (let f = h.fits id v at in record { pieces = f.pieces; ended = omega arith; idle = λ z. absurd (omega arith) }) h.fits;
       }
 
-  -- no more passes have ended than there are
+  -- at most all passes have ended
   total_ended_le : total (λ (u : Known). u.ended) views ≤ k.passes
   total_ended_le = let t = total_le (λ (u : Known). u.ended) (λ (u : Known). u.parts) views (λ j u e. (h.fits j u e).ended) in let p = h.numbers.parts in omega arith
 
@@ -89,7 +89,7 @@ module _ (k : Size) (c : ℕ) (ws : List ℕ) (views : List Known) (h : Holds k 
   pub fits_next : c + 1 < 2 ^ 64
   fits_next = let t = total_ended_le in let n = h.numbers.counted in let r = h.room in omega arith
 
-  -- what a pass knows of a cell is at least the word that stands there
+  -- each weight that a pass knows of a cell is at least the word in the cell
   pub knows_below : (i x : ℕ) → Knows v i x → (slice_index ws i ≤ x) × (x ≤ MOST_OFFER)
   knows_below i x p =
       let o = total_at (λ (u : Known). times_at i x u.offers) views id v at in
@@ -108,7 +108,7 @@ ClaimsAt k slots id v c homes views words =
     × Kept k (stepped record { words = words; homes = homes; views = views } 0 ((slice_index words 0 + 1) % 2 ^ 64) id c w a)
     × Claims (step slots 0 1 0 none) (v, c) (slice_index words 0) (w, carried_after c a)
 
--- a claim of a pass that has not ended
+-- a claim of a pass that has not ended is a step that the rule allows
 pub claims : (k : Size) (slots id : ℕ) (v : Known) (c : List (ℕ × Unit {0})) → 0 < v.parts → v.ended < v.parts
     → Allows (Kept k) slots id (v, c) 0 (λ n. (n + 1) % 2 ^ 64) (Claims (step slots 0 1 0 none) (v, c))
 unfolding ClaimsAt
@@ -139,18 +139,18 @@ claims k slots id v c part opn s kept homes at fits =
     subst (λ (l : List ℕ). ClaimsAt k slots id v c s.homes s.views l) (sym kept.words) here
 
 module _ (ws : List ℕ) (cell : ℕ) (y : ℕ) (inside : cell < length ws) where
-  -- the value that was put into a cell stands there
+  -- the value that was put into a cell is in it
   put_here : slice_index (set ws cell y) cell ≡ y
   put_here = get_or-set_same ws cell y 0 inside
 
-  -- no cell rises where a lesser value is put
+  -- no cell rises when a lesser value is put into one
   put_less : y ≤ slice_index ws cell → (i : ℕ) → slice_index (set ws cell y) i ≤ slice_index ws i
   put_less le i = dite (ℕ_discrete i cell)
       (λ e. let P : ℕ → Type 0 = λ j. slice_index (set ws cell y) j ≤ slice_index ws j in subst P (sym e) (rw put_here le))
       (λ n. let e : slice_index (set ws cell y) i ≡ slice_index ws i = get_or-set_other ws cell i y 0 n in omega arith)
 
 module _ (k : Size) (c : ℕ) (ws : List ℕ) (views : List Known) (h : Holds k c ws views) (id : ℕ) (v : Known) (at : get_elem? views id ≡ some v) (cell weight : ℕ) (inside : cell < k.cells) where
-  -- the offers of all passes after one more
+  -- the offers of all passes after one more offer
   more_offers : (i x : ℕ) → total (λ (u : Known). times_at i x u.offers) (set views id (with_offer v cell weight)) ≡ total (λ (u : Known). times_at i x u.offers) views + bit ((cell == i) && (weight == x))
   more_offers i x = total_grow (λ (u : Known). times_at i x u.offers) views id v (with_offer v cell weight) (bit ((cell == i) && (weight == x))) at (total_push (λ (p : ℕ × ℕ). bit ((p.0 == i) && (p.1 == x))) v.offers (cell, weight))
 
@@ -159,7 +159,7 @@ module _ (k : Size) (c : ℕ) (ws : List ℕ) (views : List Known) (h : Holds k 
   same_shown i x = let e = total_grow (λ (u : Known). times_at i x u.shown) views id v (with_offer v cell weight) 0 at (omega arith) in omega arith
 
   module _ (new : ℕ) (is_new : new ≡ min (slice_index ws cell) weight) (bound : weight ≤ MOST_OFFER) where
-    -- after an offer each cell has a word that was offered there
+    -- after an offer, the word of each cell was offered to it
     hit_after : (i : ℕ) → i < k.cells → slice_index (set ws cell new) i < none_yet → 0 < total (λ (u : Known). times_at i (slice_index (set ws cell new) i) u.offers) (set views id (with_offer v cell weight))
     hit_after i lt less = dite (ℕ_discrete i cell)
         (λ e. let P : ℕ → Type 0 = λ j. 0 < total (λ (u : Known). times_at j (slice_index (set ws cell new) j) u.offers) (set views id (with_offer v cell weight)) in
@@ -178,7 +178,7 @@ module _ (k : Size) (c : ℕ) (ws : List ℕ) (views : List Known) (h : Holds k 
             let Q : ℕ → Type 0 = λ z. 0 < total (λ (u : Known). times_at cell z u.offers) (set views id (with_offer v cell weight)) in
             subst Q (sym e) (let m = more_offers cell weight in let o = pair_same cell weight in omega arith))
 
-    -- after an offer no lesser word was offered than stands there
+    -- after an offer, no lesser weight than a cell's word was offered to it
     low_after : (i x : ℕ) → 0 < total (λ (u : Known). times_at i x u.offers) (set views id (with_offer v cell weight)) → (slice_index (set ws cell new) i ≤ x) × (i < k.cells) × (x ≤ MOST_OFFER)
     low_after i x some_now =
         let in_ws : cell < length ws = rw h.cells inside in
@@ -216,7 +216,7 @@ OffersAt k slots id v c word weight homes views words =
     × Kept k (stepped record { words = words; homes = homes; views = views } word (min (slice_index words word) weight) id c w a)
     × Offers (step slots word weight 0 none) (v, c) (slice_index words word) (w, carried_after c a)
 
--- an offer of a pass
+-- an offer of a pass is a step that the rule allows
 pub offers : (k : Size) (slots id : ℕ) (v : Known) (c : List (ℕ × Unit {0})) (cell weight : ℕ) → 0 < v.parts → cell < k.cells → weight ≤ MOST_OFFER
     → Allows (Kept k) slots id (v, c) (cell + 1) (λ n. min n weight) (Offers (step slots (cell + 1) weight 0 none) (v, c))
 unfolding OffersAt

@@ -1,4 +1,4 @@
--- One weight that is paid, and payments after one another.
+-- One weight that is paid, and payments one after another.
 use Rattle.std.proofs.Common.{◌≡◌, ◌⊎◌, ℕ, ◌+◌, ◌≤◌, ◌==◌, ◌&&◌, List, [], ◌∷◌, ◌++◌, refl, sym, ap, ◌∙◌, subst, arith, ⊎_elim, inl, inr, Option, Some, None, IfSome, IfNone}
 use Rattle.ch_work.specs.declared.limits.TheConstants.{MOST_OFFER}
 use Rattle.ch_work.specs.declared.board.known.Known.{Known}
@@ -7,21 +7,21 @@ use Rattle.ch_work.specs.Owed.{HasOffered, Covers, HasPaid}
 use Rattle.ch_work.specs.Steps.{with_offer, with_look, Knows}
 use Rattle.ch_work.proofs.Totals.{total_push, pair_same, pair_cases}
 
--- a pair more in a list
+-- how often a pair occurs after one more is appended
 more : (ps : List (ℕ × ℕ)) (c x i y : ℕ) → times_at i y (ps ++ (c, x) ∷ []) ≡ times_at i y ps + bit ((c == i) && (x == y))
 more ps c x i y = total_push (λ (p : ℕ × ℕ). bit ((p.0 == i) && (p.1 == y))) ps (c, x)
 
--- one weight at one cell
+-- one weight is owed to one cell
 abbrev pub One : ℕ → ℕ → ℕ → ℕ → Type 0
 One cell weight i x = (i ≡ cell) × (x ≡ weight)
 
--- a lesser weight that is known covers it
+-- a known weight that is no greater covers it
 covers_one : (w : Known) (cell weight y : ℕ) → Knows w cell y → y ≤ weight → Covers (One cell weight) w
 covers_one w cell weight y k le i x owed =
     let P : ℕ × ℕ → Type 0 = λ z. (a : ℕ) × Knows w z.0 a × (a ≤ z.1) in
     subst P (λ j. (sym owed.0 j, sym owed.1 j)) (y, k, le)
 
--- it is paid where a look shows no more
+-- the weight is paid if a look shows one that is no greater
 pub seen_less : (v : Known) (cell weight x : ℕ) → x ≤ weight → HasPaid (One cell weight) v (with_look v cell x)
 seen_less v cell weight x le = (
   record {
@@ -34,16 +34,16 @@ seen_less v cell weight x le = (
   covers_one (with_look v cell x) cell weight x (let m = more v.shown cell x cell x in let o = pair_same cell x in omega arith) le,
 )
 
--- nothing but what a look shows is new after it
+-- from v to u only a look may have happened
 abbrev Shows : Known → Known → Type 0
 Shows v u = (u.pieces ≡ v.pieces) × (u.ended ≡ v.ended) × (u.claims ≡ v.claims) × (u.offers ≡ v.offers) × ((i x : ℕ) → Knows v i x → Knows u i x)
 
--- whatever a look shows
+-- this holds after a look, for each result of the look
 pub after_look : (v u : Known) (cell : ℕ) (P : ℕ → Type 0) (Q : Type 0) (o : Option ℕ) → IfSome o (λ x. (x ≤ MOST_OFFER) × (u ≡ with_look v cell x) × P x) → IfNone o ((u ≡ v) × Q) → Shows v u
 after_look v u cell P Q None some none = subst (Shows v) (sym none.0) (refl, refl, refl, refl, λ i x k. k)
 after_look v u cell P Q (Some x) some none = subst (Shows v) (sym some.1) (refl, refl, refl, refl, λ i y k. let m = more v.shown cell x i y in omega arith)
 
--- it is paid where it is offered
+-- the weight is paid by an offer
 pub offers_it : (v u : Known) (cell weight : ℕ) → Shows v u → HasPaid (One cell weight) v (with_offer u cell weight)
 offers_it v u cell weight shows = (
   record {
@@ -62,14 +62,14 @@ offers_it v u cell weight shows = (
   covers_one (with_offer u cell weight) cell weight weight (let m = more u.offers cell weight cell weight in let o = pair_same cell weight in omega arith) (omega arith),
 )
 
--- where nothing is owed, nothing has to be done
+-- if nothing is owed, nothing has to be paid
 pub paid_none : (owed : ℕ → ℕ → Type 0) (v : Known) → ((i x : ℕ) → owed i x → ⊥) → HasPaid owed v v
 paid_none owed v none = (
   record { pieces = refl; ended = refl; claims = refl; knows = λ i x k. k; offers = λ i x p. inl p },
   λ i x o. absurd (none i x o),
 )
 
--- two payments after one another pay what either owes
+-- two payments one after another pay what either owes
 pub paid_then : (P Q R : ℕ → ℕ → Type 0) (u v w : Known) → ((i x : ℕ) → R i x → P i x ⊎ Q i x) → ((i x : ℕ) → P i x → R i x) → ((i x : ℕ) → Q i x → R i x) →
     HasPaid P u v → HasPaid Q v w → HasPaid R u w
 paid_then P Q R u v w split first second h k = (

@@ -1,4 +1,4 @@
--- Workers that pay what their pieces owe, and the cells that they leave.
+-- Workers that pay what their pieces owe, and the cells at the end.
 use Rattle.std.proofs.Common.{◌≡◌, ℕ, suc, ◌+◌, ◌-◌, ◌<◌, ◌≤◌, ◌==◌, List, [], ◌∷◌, length, refl, sym, ap, ◌∙◌, subst, arith, ⊎_elim, All, map, slice_index_or, Option, Some, None}
 use Rattle.std.proofs.lemmas.Bool.Decides.{nat_tests}
 use mathlib.Core.Logic.{dite}
@@ -16,7 +16,7 @@ use Rattle.ch_work.specs.Steps.{nothing_known, with_claim}
 use Rattle.ch_work.proofs.Claims.{some_ended}
 use Rattle.ch_work.proofs.Totals.{total_push, one_same}
 
--- a number that counts as another is it
+-- numbers that count as equal are equal
 same_of_bit : (a b : ℕ) → 0 < bit (a == b) → a ≡ b
 same_of_bit a b h = grind (arith, nat_tests)
 
@@ -30,7 +30,7 @@ module _ (owes : ℕ → ℕ → ℕ → ℕ → Type 0) (n p : ℕ) where
     pays = record { owed = λ i x q. absurd (omega arith); covers = λ k q. absurd (omega arith) };
   }
 
-  -- a claim more, and what its piece owes paid
+  -- one more claim, after its piece has paid what it owes
   pub pays_on : (v u w : Known) (next k : ℕ) → Paying owes n p v next → k < pieces_of n p → u ≡ with_claim v k → OffersOwed (owed_by owes n p k) u w → Covers (owed_by owes n p k) w → Paying owes n p w (k + 1)
   pays_on v u w next k h lt e offers covers =
       let o : OffersOwed (owed_by owes n p k) (with_claim v k) w = subst (λ (z : Known). OffersOwed (owed_by owes n p k) z w) e offers in
@@ -49,7 +49,7 @@ module _ (owes : ℕ → ℕ → ℕ → ℕ → Type 0) (n p : ℕ) where
         };
       }
 
-  -- a claim that finds nothing leaves all paid
+  -- a claim that finds no piece leaves all paid
   pub pays_still : (v w : Known) → w.claims ≡ v.claims → w.offers ≡ v.offers → w.shown ≡ v.shown → Pays owes n p v → Pays owes n p w
   pays_still v w claims offers shown h = record {
     owed = λ i x q.
@@ -65,7 +65,7 @@ module _ (owes : ℕ → ℕ → ℕ → ℕ → Type 0) (n p : ℕ) where
         (a.0, (let d = a.1 in omega arith), a.2);
   }
 
--- a pass that f counts in
+-- if f is positive in total, f is positive at one of the passes
 some_pass : (P : Pass → Type 0) (f : Known → ℕ) (passes : List Pass) → All P passes → 0 < total f (map view_of passes) →
     (pass : Pass) × P pass × (0 < f (view_of pass)) × ((g : Known → ℕ) → g (view_of pass) ≤ total g (map view_of passes))
 some_pass P f [] all some_one = absurd (omega arith)
@@ -75,7 +75,7 @@ some_pass P f (q ∷ qs) all some_one = dite (dec_lt 0 (f (view_of q)))
 
 module _ (owes : ℕ → ℕ → ℕ → ℕ → Type 0) (n p : ℕ) (board : Board) (k : Size) (passes : List Pass) (cells : List (Option ℕ)) (s : Settled k (map view_of passes) cells) (count : k.pieces ≡ pieces_of n p)
     (all : All (HasPaidOff owes n p board) passes) (some_one : 0 < length passes) where
-  -- all that a piece owes was offered, or less was
+  -- for each weight that a piece owes, a weight that is no greater was offered
   covered : (j i x : ℕ) → j < pieces_of n p → owed_by owes n p j i x → (y : ℕ) × (0 < total (λ (v : Known). times_at i y v.offers) (map view_of passes)) × (y ≤ x)
   covered j i x lt owed =
       let ended = some_ended passes (λ m d within. (all m d within).1) some_one in
@@ -87,7 +87,7 @@ module _ (owes : ℕ → ℕ → ℕ → ℕ → Type 0) (n p : ℕ) (board : Bo
       let knows = c.1 in
       (c.0, dite (dec_lt 0 (times_at i c.0 (view_of r.0).offers)) (λ a. omega arith) (λ a. s.shown i c.0 (omega arith)), c.2)
 
-  -- the least offer is the least that is owed
+  -- the least offer is the least weight that is owed
   least_owed : (i : ℕ) (o : Option ℕ) → IsLeast (map view_of passes) i o → IsLeastOwed owes n p i o
   least_owed i None h = λ j x lt owed. let c = covered j i x lt owed in let z = h c.0 in let a = c.1 in omega arith
   least_owed i (Some x) h = (
@@ -99,6 +99,6 @@ module _ (owes : ℕ → ℕ → ℕ → ℕ → Type 0) (n p : ℕ) (board : Bo
     (λ j y lt owed. let c = covered j i y lt owed in let m = h.1 c.0 c.1 in let a = c.2 in omega arith),
   )
 
-  -- so the closed cells have the least weights that are owed
+  -- the closed cells have the least weights that are owed to them
   pub paid : (i : ℕ) (d : Option ℕ) → i < k.cells → IsLeastOwed owes n p i (slice_index_or cells i d)
   paid i d lt = least_owed i (slice_index_or cells i d) (s.least i d lt)

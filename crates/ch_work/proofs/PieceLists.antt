@@ -1,4 +1,4 @@
--- Lists of consecutive pieces, put after one another, are a list for all items.
+-- The lists of consecutive pieces, one after another, are a list for all items.
 use Rattle.std.proofs.Common.{◌≡◌, ℕ, zero, suc, ◌+◌, ◌-◌, ◌*◌, ◌/◌, ◌%◌, ◌<◌, ◌≤◌, min, List, [], ◌∷◌, ◌++◌, length, drop, subst, sym, arith, inl, inr}
 use Rattle.std.specs.Prelude.{Vec}
 use Rattle.std.specs.List.{AllZip, flat_map, slice_range}
@@ -9,7 +9,7 @@ use Rattle.std.proofs.lemmas.Nat.{div-add-mod', mul-le}
 use Rattle.std.proofs.Math.Nat.{mod-lt}
 use Rattle.ch_work.specs.Pieces.{pieces_of, MeanEach, AreValues}
 
--- lists that are related place by place, after each other
+-- lists that are related place by place, one after the other
 zipped_append : {A B : Type 0} (P : A → B → Type 0) (xs : List A) (ys : List B) (us : List A) (vs : List B) →
     AllZip P xs ys → AllZip P us vs → AllZip P (xs ++ us) (ys ++ vs)
 zipped_append P [] [] us vs h k = k
@@ -17,7 +17,7 @@ zipped_append P [] (y ∷ ys) us vs h k = absurd h
 zipped_append P (x ∷ xs) [] us vs h k = absurd h
 zipped_append P (x ∷ xs) (y ∷ ys) us vs h k = (h.0, zipped_append P xs ys us vs h.1 k)
 
--- one piece more covers what is left over
+-- one more piece covers the items that are left over
 covered : (q r p : ℕ) → r < p → q * p + r ≤ (q + min 1 r) * p
 covered q zero p lt = omega arith
 covered q (suc r) p lt =
@@ -28,7 +28,7 @@ covered q (suc r) p lt =
 pub covers : (n p : ℕ) → 0 < p → n ≤ pieces_of n p * p
 covers n p positive = omega (arith, div-add-mod' n p, covered (n / p) (n % p) p (mod-lt n positive))
 
--- the items from place a on are those of one piece, and the rest
+-- the items from place a on are those of one piece and the rest
 piece_split : {A : Type 0} (items : List A) (a p : ℕ) → slice_range items a (min (a + p) (length items)) ++ drop (a + p) items ≡ drop a items
 piece_split items a p =
     let count : min (a + p) (length items) - a ≡ min p (length (drop a items)) = omega (arith, length-drop a items) in
@@ -39,11 +39,11 @@ module _ {A B : Type 0} (P : A → B → Type 0) (items : List A) (p : ℕ) wher
   abbrev Zipped : ℕ → ℕ → Vec B Global → Type 0
   Zipped from to list = AllZip P (slice_range items from to) list.items
 
-  -- the lists after one another
+  -- the items of all lists, one after another
   abbrev all_items : List (Vec B Global) → List B
   all_items lists = flat_map (λ (list : Vec B Global). list.items) lists
 
-  -- from piece k on
+  -- the lists from piece k on are related to the items from there on
   zipped_from : (k : ℕ) (lists : List (Vec B Global)) → length items ≤ (k + length lists) * p →
       MeanEach Zipped (length items) p k lists → AllZip P (drop (k * p) items) (all_items lists)
   zipped_from k [] le h = rw (drop_all (k * p) items (omega (arith, le))) tt
@@ -53,7 +53,7 @@ module _ {A B : Type 0} (P : A → B → Type 0) (items : List A) (p : ℕ) wher
       let rest : AllZip P (drop (k * p + p) items) (all_items lists) = subst (λ i. AllZip P (drop i items) (all_items lists)) next after in
       subst (λ xs. AllZip P xs (all_items (list ∷ lists))) (piece_split items (k * p) p) (zipped_append P _ list.items _ _ h.0 rest)
 
--- where the list of each piece is related place by place to the items of the piece, all lists after one another are to all items
+-- if each list is related place by place to its piece, all lists together are related to all items
 pub all_zipped : {A B : Type 0} (P : A → B → Type 0) (items : List A) (n p : ℕ) (lists : List (Vec B Global)) → n ≡ length items → 0 < p →
     AreValues (λ from to (list : Vec B Global). AllZip P (slice_range items from to) list.items) n p 0 (pieces_of n p) lists →
     AllZip P items (flat_map (λ (list : Vec B Global). list.items) lists)
@@ -63,7 +63,7 @@ all_zipped {B = B} P items n p lists count positive h =
     let each : MeanEach (Zipped P items p) (length items) p 0 lists = subst (λ i. MeanEach (Zipped P items p) i p 0 lists) count h.1 in
     subst (λ i. AllZip P (drop i items) (flat_map (λ (list : Vec B Global). list.items) lists)) start (zipped_from P items p 0 lists all each)
 
--- each item is one of a piece
+-- each item is in a piece
 pub piece_of : (n p v : ℕ) → 0 < p → v < n → (k : ℕ) × (k < pieces_of n p) × (k * p ≤ v) × (v < min (k * p + p) n)
 piece_of n p v positive lt =
     let k = v / p in

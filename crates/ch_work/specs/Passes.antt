@@ -17,6 +17,6 @@ size_of board = board.table.shared.key
 abbrev pub IsPassOf : Board → Pass → Type 0
 IsPassOf board pass = pass.seat.table_id ≡ board.table.shared.table_id
 
--- the pass was told that no number is left
+-- the pass has learned that no number is left
 abbrev pub HasEnded : Pass → Type 0
 HasEnded pass = pass.ended ≡ true

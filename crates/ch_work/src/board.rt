@@ -1,5 +1,7 @@
-//! A board that passes share, each in a thread of its own: a counter from which they claim the numbers of
-//! pieces, and cells to which they offer weights, of which the least stays.
+//! A board that workers share, each with a pass of its own.
+//!
+//! A board has a counter and cells. Passes claim the numbers of pieces from the counter, and offer weights
+//! to the cells. A cell keeps the least weight that was offered to it.
 
 mod known;
 mod make;
@@ -14,8 +16,10 @@ pub use known::{Known, Size};
 use rule::Rule;
 use std::alloc::Global;
 
-/// A claim counter and cells of least weights, which passes share. A call on it is one atomic operation at
-/// most, on a word of its own: it waits for no other, and takes no memory.
+/// A claim counter and cells of least weights, shared by passes.
+///
+/// Each claim, offer or look is at most one atomic operation on one word of the board. It waits for no
+/// other pass, and takes no memory.
 #[derive(Drop)]
 pub struct Board {
     table: Table<(), Known, Size, Rule, Global>,
@@ -28,7 +32,7 @@ pub struct Board {
     ghost size_passes: { table.shared.key.passes ≡ passes },
 }
 
-/// One worker's part of a board.
+/// One worker's right to use a board.
 #[derive(Drop)]
 pub struct Pass {
     seat: Seat<(), Known>,

@@ -1,4 +1,4 @@
-//! Jobs that lower the cells of a board.
+//! Jobs that lower the weights in the cells of a board.
 ghost use Rattle.std.specs.Prelude.{ℕ, ◌≡◌, ◌<◌, ◌≤◌, IfOk, OnOk, length, vec_len, slice_index_or, All};
 ghost use Rattle.ch_work.specs.declared.limits.TheConstants.{MOST_CELLS};
 ghost use Rattle.ch_work.specs.Owed.{OffersOwed, Covers, IsLeastOwed, HasPaidOff, HandsBack};
@@ -22,15 +22,17 @@ pub trait CellJob: Sync {
     /// The number of cells.
     ghost cells: { Self → ℕ };
 
-    /// What the range from one number up to another owes: weights to cells.
+    /// What a range owes: a relation between its first number, the number after its last, a cell, and a
+    /// weight.
     ghost owes: { Self → ℕ → ℕ → ℕ → ℕ → Type 0 };
 
-    /// Pays what the items from number `from` up to number `to`, which is not among them, owe. It claims
-    /// nothing, offers owed weights alone and, after `Ok`, its pass knows at each cell a weight that is at most
-    /// each that is owed there. [`pay`](crate::pay) does so for one weight.
+    /// Pays what the items `from..to` owe.
+    ///
+    /// It claims nothing, and offers only weights that are owed. After `Ok`, the pass knows at each cell a
+    /// weight that is at most each weight owed there. [`pay`](crate::pay) does this for one weight.
     ///
     /// # Errors
-    /// `AllocError` where there is no memory.
+    /// `AllocError` if there is no memory.
     fn piece(
         &self,
         alloc: Global,
@@ -48,12 +50,14 @@ pub trait CellJob: Sync {
         ensures covers { OnOk result (Covers (owes self.now from to) (view_of pass.new)) };
 }
 
-/// The least weight that the pieces of a job owe to each of so many cells, at most 2^22, and `None` where they
-/// owe nothing. The pieces are claimed and pass the gate as [`run_pieces`](crate::run_pieces) says; a single
-/// worker is the caller itself.
+/// Returns for each cell the least weight that the pieces of a job owe to it, or `None` if they owe it
+/// nothing. There are at most 2^22 cells.
+///
+/// Workers claim the pieces and pass the gate as in [`run_pieces`](crate::run_pieces). A single worker is
+/// the caller itself.
 ///
 /// # Errors
-/// `AllocError` where the call or any piece was refused memory, once all workers are joined.
+/// `AllocError` if the call or any piece is refused memory. All workers are joined before it returns.
 pub fn run_cells<R: Threads + Sync, G: Gate, J: CellJob>(
     crew: &Crew<'_, R, G>,
     items: u32,
@@ -81,7 +85,7 @@ pub fn run_cells<R: Threads + Sync, G: Gate, J: CellJob>(
     board.close(passes)
 }
 
-/// What each worker did, in the order of the passes.
+/// Returns what each worker did, in the order of the passes.
 fn paid_by_all<R: Threads + Sync, G: Gate, J: CellJob>(
     rt: &R,
     payments: &Payments<'_, G, J>,
@@ -100,7 +104,7 @@ fn paid_by_all<R: Threads + Sync, G: Gate, J: CellJob>(
     thread::map_vec(rt, passes, &by_pass)
 }
 
-/// All passes, where no worker was refused memory.
+/// Returns all passes, or an error if a worker was refused memory.
 fn all_paid<G: Gate, J: CellJob>(
     alloc: Global,
     payments: &Payments<'_, G, J>,

@@ -1,10 +1,10 @@
-//! Who does the work, and how it is cut.
+//! Who does the work, and how the work is cut.
 
 use crate::plan::Plan;
 use std::alloc::Global;
 
-/// What work by several workers takes: the handle that starts threads, the memory, the plan that divides the work
-/// among the workers, and the gate that they pass. It changes no answer.
+/// What shared work needs: the handle that starts threads, the memory, the plan that divides the work, and
+/// the gate that workers pass. None of them changes an answer.
 #[derive(Drop)]
 pub struct Crew<'a, R, G> {
     pub rt: &'a R,

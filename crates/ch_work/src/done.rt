@@ -1,6 +1,6 @@
-//! Pieces that were done.
+//! Pieces that are done.
 
-/// A piece that was done.
+/// The number of a piece that is done, and its value.
 #[derive(Drop)]
 pub(crate) struct Done<X> {
     pub(crate) number: u32,

@@ -1,30 +1,34 @@
 //! Gates that workers pass.
 
-/// What takes long in a run.
+/// The stages of a run that take long.
 #[derive(Clone, Copy, Debug, PartialEq, Eq)]
 pub enum Stage {
     /// A file is read.
     Reading,
-    /// The first priority of each node is computed, in pieces.
+    /// The first priority of each node is computed, piece by piece.
     Ranking,
     /// Nodes are contracted.
     Building,
-    /// What leads through each node of a saved hierarchy is checked, in pieces.
+    /// A saved hierarchy is checked, piece by piece: the pairs of legs through each of its nodes.
     Checking,
-    /// The nodes of one list of a table are searched from, in pieces.
+    /// The search from each node of a list is done, piece by piece. The list is one of a table, or that of
+    /// the targets of near rows.
     Searching,
-    /// Answers are made, or the cells of a table, in pieces.
+    /// Answers, the cells of a table, or near rows are made. Plain answers and a sweep for near rows have
+    /// no pieces; all others are made piece by piece.
     Answering,
 }
 
-/// What a worker calls before it does a piece, and what is told how far a run is: a test that counts pieces or
-/// holds a worker up, or a sign of life. No answer depends on it.
+/// A gate that each worker passes before it does a piece, and that hears how far a run is. A test may count
+/// pieces in it or hold a worker up; a program may show progress. No answer depends on it.
 pub trait Gate: Sync {
-    /// Called with the number of the piece.
+    /// The worker calls it with the number of the piece that it is about to do.
     fn pass(&self, piece: u32);
 
-    /// Called where a stage begins, with 0 done, and with what is done of all as it goes on. In a stage of pieces
-    /// the numbers with which they pass tell the rest.
+    /// Reports how far a stage is: `done` of `all`. It is called with 0 done when a stage begins, and again
+    /// as the stage goes on.
+    ///
+    /// In a stage of pieces, the later progress comes only from the numbers given to `pass`.
     fn watch(&self, _stage: Stage, _done: u32, _all: u32) {}
 }
 

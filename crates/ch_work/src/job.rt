@@ -3,57 +3,61 @@ ghost use Rattle.std.specs.Prelude.{ℕ, ◌≤◌, IfOk, OnOk};
 
 use std::alloc::{AllocError, Global};
 
-/// Work on ranges of items, each range by itself, so that several workers can share it.
+/// Work on ranges of items. Each range is done by itself, and that is why several workers can share it.
 pub trait Job: Sync {
-    /// What is made of a range.
+    /// The value that is made of a range.
     type Out: Send + Drop;
 
     /// The number of items.
     ghost size: { Self → ℕ };
 
-    /// What the value of the range from one number up to another is.
+    /// The meaning of a range's value: a relation between the range's first number, the number after its
+    /// last, and the value.
     ghost meaning: { Self → ℕ → ℕ → Self.Out → Type 0 };
 
-    /// The value of the items from number `from` up to number `to`, which is not among them.
+    /// Returns the value of the items `from..to`.
     ///
     /// # Errors
-    /// `AllocError` where there is no memory.
+    /// `AllocError` if there is no memory.
     fn piece(&self, alloc: Global, from: u32, to: u32) -> Result<Self::Out, AllocError>
         requires order { from ≤ to }
         requires inside { to ≤ size self.now }
         ensures { IfOk result (λ x. meaning self.now from to x) };
 }
 
-/// Work on ranges of items that is done in a room, as a scratch that takes long to make. A worker makes its
-/// room once, before its first piece, and lends it to each of its pieces, which leave it clean.
+/// Work on ranges of items that is done in a room, such as a search scratch that takes long to make.
+///
+/// Each worker has one room, and lends it to each of its pieces in turn. A piece leaves the room clean.
 pub trait RoomJob: Sync {
-    /// What a worker makes for itself. It stays in the worker's thread.
+    /// What a worker needs for its pieces. It goes to the worker's thread, and comes back when the worker
+    /// has ended.
     type Room: Send + Drop;
 
-    /// What is made of a range.
+    /// The value that is made of a range.
     type Out: Send + Drop;
 
     /// The number of items.
     ghost size: { Self → ℕ };
 
-    /// What the value of the range from one number up to another is.
+    /// The meaning of a range's value: a relation between the range's first number, the number after its
+    /// last, and the value.
     ghost meaning: { Self → ℕ → ℕ → Self.Out → Type 0 };
 
-    /// When a room serves a piece of this job.
+    /// The condition on a room before a piece of this job.
     ghost clean: { Self → Self.Room → Type 0 };
 
-    /// A room for one worker.
+    /// Makes a room for one worker.
     ///
     /// # Errors
-    /// `AllocError` where there is no memory.
+    /// `AllocError` if there is no memory.
     fn room(&self, alloc: Global) -> Result<Self::Room, AllocError>
         ensures { IfOk result (λ room. clean self.now room) };
 
-    /// The value of the items from number `from` up to number `to`, which is not among them. The room is clean
-    /// again after `Ok`, and is used no more after an error.
+    /// Returns the value of the items `from..to`. After `Ok` the room is clean again. After an error it is
+    /// not used again.
     ///
     /// # Errors
-    /// `AllocError` where there is no memory.
+    /// `AllocError` if there is no memory.
     fn piece(
         &self,
         alloc: Global,

@@ -1,19 +1,30 @@
 //! How work is cut among workers.
 //!
-//! It stands on atomic_table. A [`Plan`] says how many workers there are and how large the
-//! pieces are. A [`Job`] makes a value of each piece, a [`RoomJob`] does so in a room that each worker makes
-//! once, and a [`ListJob`] makes a value of each item of a list. [`run_pieces`], [`run_pieces_with_rooms`] and
-//! [`run_list`] have workers do them: each claims the next piece from a [`Board`], and calls a [`Gate`] before
-//! it does it. The crates above tell the gate of each [`Stage`] of a run, so that it may show how far that is.
-//! The pieces of a [`CellJob`] owe weights to the cells of such a board, and [`run_cells`] gives the least weight
-//! that is owed to each.
+//! It stands on atomic_table. A [`Plan`] says how many workers there are and how large the pieces are. There are
+//! four kinds of jobs:
 //!
-//! Proved of it: a plan gives back what it was made of, and keeps the [`limits`]; the values of a job stand in the
-//! order of its pieces or items, whichever the plan is and whoever made them; a room is lent clean to each piece;
-//! and [`joined`] puts lists that pieces made after one another. Of a board it is proved, over all
-//! interleavings of its passes' steps, that no number is claimed twice, that all were claimed where a pass has
-//! ended, that a closed cell has the least weight that was offered there, and that only such weights were shown;
-//! so the cells of a job have the least weights that its pieces owe.
+//! - A [`Job`] makes a value of each piece ([`run_pieces`]).
+//! - A [`RoomJob`] does so in a room that each worker has ([`run_pieces_with_rooms`]).
+//! - A [`ListJob`] makes a value of each item of a list ([`run_list`]).
+//! - A [`CellJob`] owes weights to the cells of a board, and [`run_cells`] gives the least weight owed to
+//!   each cell.
+//!
+//! Each worker claims the next piece from a [`Board`], and calls a [`Gate`] before it does the piece. The
+//! crates above report each [`Stage`] of a run to the gate, which may show the progress.
+//!
+//! Proved of jobs:
+//!
+//! - A plan gives back the numbers that it was made of, and they are within the [`limits`].
+//! - The values of a job are in the order of its pieces or items, for every plan and every division of the
+//!   work.
+//! - A room is clean when it is lent to a piece.
+//! - [`joined`] puts lists that pieces made one after another.
+//!
+//! Proved of a board, for every interleaving of the steps of its passes:
+//!
+//! - No number is claimed twice. If a pass has ended, every number was claimed.
+//! - A closed cell has the least weight that was offered to it, and only offered weights were shown.
+//! - So each cell of a job has the least weight that the pieces owe to it.
 #![tactic(auto)]
 
 mod board;

@@ -11,37 +11,40 @@ use std::alloc::{AllocError, Global};
 use std::marker::Model;
 use std::thread::Threads;
 
-/// Work that makes a value of each item of a list, in a room that is lent to one item after the other.
+/// Work that makes a value of each item of a list. Each worker has a room, and lends it to one item after
+/// the other.
 pub trait ListJob: Sync {
-    /// What the list consists of.
+    /// An item of the list.
     type Item: Sync;
 
-    /// What a worker makes for itself, before its first item.
+    /// What a worker needs for its items. It goes to the worker's thread, and comes back when the worker
+    /// has ended.
     type Room: Send + Drop;
 
-    /// What is made of an item.
+    /// The value that is made of an item.
     type Out: Send + Drop;
 
     /// The items that the job takes.
     ghost takes: { Self → Self.Item → Type 0 };
 
-    /// What the value of an item is.
+    /// The meaning of an item's value.
     ghost meaning: { Self → Self.Item → Self.Out → Type 0 };
 
-    /// When a room serves an item of this job.
+    /// The condition on a room before an item of this job.
     ghost clean: { Self → Self.Room → Type 0 };
 
-    /// A room for one worker.
+    /// Makes a room for one worker.
     ///
     /// # Errors
-    /// `AllocError` where there is no memory.
+    /// `AllocError` if there is no memory.
     fn room(&self, alloc: Global) -> Result<Self::Room, AllocError>
         ensures { IfOk result (λ room. clean self.now room) };
 
-    /// The value of an item. The room is clean again after `Ok`, and is used no more after an error.
+    /// Returns the value of an item. After `Ok` the room is clean again. After an error it is not used
+    /// again.
     ///
     /// # Errors
-    /// `AllocError` where there is no memory.
+    /// `AllocError` if there is no memory.
     fn value(
         &self,
         alloc: Global,
@@ -54,11 +57,12 @@ pub trait ListJob: Sync {
         ensures clean { OnOk result (clean self.now room.new) };
 }
 
-/// The values of the items, in their order. Workers share the items as [`run_pieces_with_rooms`](crate::run_pieces_with_rooms)
-/// says of pieces, each with a room of its own.
+/// Returns the values of the items, in their order. Workers share the items as
+/// [`run_pieces_with_rooms`](crate::run_pieces_with_rooms) says for pieces, each with a room of its own.
 ///
 /// # Errors
-/// `AllocError` where the call, a room or any value was refused memory, once all workers are joined.
+/// `AllocError` if the call, a room or any value is refused memory. All workers are joined before it
+/// returns.
 pub fn run_list<R: Threads + Sync, G: Gate, J: ListJob>(
     crew: &Crew<'_, R, G>,
     items: &[J::Item],
@@ -72,11 +76,12 @@ pub fn run_list<R: Threads + Sync, G: Gate, J: ListJob>(
     run_list_in(crew, items, &mut rooms, job)
 }
 
-/// As [`run_list`], in rooms that stay, as [`run_pieces_in`] says of them: for a caller who has many lists.
+/// Like [`run_list`], but the rooms stay for further calls, as in [`run_pieces_in`]. It is for callers that
+/// have many lists.
 ///
 /// # Errors
-/// `AllocError` where the call, a room or any value was refused memory, once all workers are joined. Rooms may be
-/// gone then; those that are left are clean.
+/// `AllocError` if the call, a room or any value is refused memory. All workers are joined before it
+/// returns. Some rooms may be gone then; those that are left are clean.
 pub fn run_list_in<R: Threads + Sync, G: Gate, J: ListJob>(
     crew: &Crew<'_, R, G>,
     items: &[J::Item],
@@ -90,13 +95,13 @@ pub fn run_list_in<R: Threads + Sync, G: Gate, J: ListJob>(
     ensures clean { All (J.clean job.now) rooms.new.items }
 {
     let pieces = ListPieces { job, items };
-    // The proof learns from this call that a piece has an item.
+    // This call tells the proof that a piece has at least one item.
     let _ = crew.plan.piece();
     let lists = run_pieces_in(crew, items.len() as u32, rooms, &pieces)?;
     joined(crew.alloc, lists)
 }
 
-/// The items of a list, a range of them at a time.
+/// The items of a list, as a job of ranges.
 #[derive(Drop)]
 struct ListPieces<'a, J: ListJob> {
     job: &'a J,

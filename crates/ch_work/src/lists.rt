@@ -1,10 +1,10 @@
-//! What pieces made, in one list.
+//! The lists that pieces made, joined into one list.
 ghost use Rattle.std.specs.Prelude.{◌≡◌, ◌^◌, ◌-◌, min, vec_len, IfOk};
 ghost use Rattle.std.specs.List.{flat_map, sum_by};
 
 use std::alloc::{AllocError, Global};
 
-/// How many items the lists have, or the greatest number where they have more.
+/// Returns the number of items in all lists, or `usize::MAX` if there are more.
 pub fn length_of<T: Drop>(lists: &[Vec<T>]) -> usize
     ensures { result ≡ min (sum_by vec_len lists.now) (2 ^ 64 - 1) }
 {
@@ -15,11 +15,11 @@ pub fn length_of<T: Drop>(lists: &[Vec<T>]) -> usize
     length
 }
 
-/// The items of the lists after one another, in their order. The lists are those that pieces of a job
-/// made, as [`run_pieces`](crate::run_pieces) gives them; the room is reserved once.
+/// Returns the items of the lists one after another, in order. The lists are those that the pieces of a job
+/// made, as [`run_pieces`](crate::run_pieces) returns them. It reserves the room once.
 ///
 /// # Errors
-/// `AllocError` where there is no memory.
+/// `AllocError` if there is no memory.
 pub fn joined<T: Drop>(alloc: Global, lists: Vec<Vec<T>>) -> Result<Vec<T>, AllocError>
     ensures { IfOk result (λ all. all.items ≡ flat_map (λ list. list.items) lists.items) }
 {

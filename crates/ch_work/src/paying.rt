@@ -1,4 +1,4 @@
-//! How what is owed to the cells of a board is paid.
+//! Paying the weights that are owed to the cells of a board.
 ghost use Rattle.std.specs.Prelude.{◌≡◌, ◌*◌, ◌<◌, ◌≤◌, OnOk};
 ghost use Rattle.ch_work.specs.declared.limits.TheConstants.{MOST_OFFER};
 ghost use Rattle.ch_work.specs.Owed.{OffersOwed, Covers, HasPaid, owed_by, HandsBack};
@@ -11,8 +11,8 @@ use crate::cells::CellJob;
 use crate::gate::Gate;
 use std::alloc::{AllocError, Global};
 
-/// Pays one weight of at most 2^61 that is owed to a cell: it is offered, unless a weight that is no greater
-/// stands there.
+/// Pays one weight of at most 2^61 that is owed to a cell. It offers the weight, unless the cell already
+/// holds a weight that is no greater.
 pub fn pay(board: &Board, pass: &mut Pass, cell: u32, weight: u64)
     requires board { IsPassOf board.now pass.old }
     requires cell { cell < (size_of board.now).cells }
@@ -42,7 +42,7 @@ pub(crate) struct Payments<'a, G, J: CellJob> {
 }
 
 impl<'a, G: Gate, J: CellJob> Payments<'a, G, J> {
-    /// What a worker does with its pass, and the pass.
+    /// Pays what the pieces of one worker owe. Returns the worker's pass and the outcome.
     pub(crate) fn paid_off(&self, alloc: Global, pass: Pass) -> (Pass, Result<(), AllocError>)
         requires board { IsPassOf self.now.board.now pass }
         requires fresh { view_of pass ≡ nothing_known (pieces_of self.now.items self.now.piece) 1 }
@@ -53,13 +53,13 @@ impl<'a, G: Gate, J: CellJob> Payments<'a, G, J> {
         (pass, outcome)
     }
 
-    /// Pays what the pieces owe that a pass claims, until none is left.
+    /// Claims pieces until none is left, and pays what they owe.
     fn pay_off(&self, alloc: Global, pass: &mut Pass) -> Result<(), AllocError>
         requires board { IsPassOf self.now.board.now pass.old }
         requires fresh { view_of pass.old ≡ nothing_known (pieces_of self.now.items self.now.piece) 1 }
         ensures { HandsBack (J.owes self.now.job.now) self.now.items self.now.piece self.now.board.now pass.new result }
     {
-        // The number after the last claim: it rises, so that the claims end.
+        // One more than the last claimed number, or 0. It rises, and that is why the loop ends.
         let mut next = 0;
         while let Some(number) = self.board.claim(pass) {
             self.pay_piece(alloc, pass, number)?;
@@ -68,7 +68,7 @@ impl<'a, G: Gate, J: CellJob> Payments<'a, G, J> {
         Ok(())
     }
 
-    /// Pays what the piece of this number owes, once it has passed the gate.
+    /// Passes the gate, and then pays what the piece of this number owes.
     fn pay_piece(&self, alloc: Global, pass: &mut Pass, number: u32) -> Result<(), AllocError>
         requires inside { number * self.now.piece < self.now.items }
         requires board { IsPassOf self.now.board.now pass.old }

@@ -10,16 +10,18 @@ use crate::work::Work;
 use std::alloc::AllocError;
 use std::thread::Threads;
 
-/// The values of all pieces of a job of so many items, in the order of the pieces, whoever did them.
+/// Returns the values of all pieces of a job of `items` items, in the order of the pieces. The order does
+/// not depend on who did them.
 ///
-/// Piece k is the range from item `k * plan.piece()` on, of `plan.piece()` items or what is left of them.
-/// The lesser of `plan.workers()` and the number of pieces is how many workers there are. Each claims the
-/// next piece that no other has claimed, until none is left. A single worker is the caller itself: then no
-/// thread is started. A worker passes the gate with a piece's number before it does that piece.
+/// Piece k begins at item `k * plan.piece()`. It has `plan.piece()` items, or the rest if fewer are left.
+///
+/// There are `plan.workers()` workers, or one for each piece if there are fewer pieces. Each worker claims
+/// the next piece that no other has claimed, until none is left. A single worker is the caller itself, and
+/// no thread is started. A worker passes the gate with a piece's number before it does that piece.
 ///
 /// # Errors
-/// `AllocError` where the call or any piece was refused memory, once all workers are joined. A piece that is
-/// refused memory ends its worker, and the others go on.
+/// `AllocError` if the call or any piece is refused memory. A piece that is refused memory ends its worker,
+/// and the others go on. All workers are joined before the call returns.
 pub fn run_pieces<R: Threads + Sync, G: Gate, J: Job>(
     crew: &Crew<'_, R, G>,
     items: u32,
@@ -31,11 +33,12 @@ pub fn run_pieces<R: Threads + Sync, G: Gate, J: Job>(
     run_pieces_with_rooms(crew, items, &WithoutRoom { job })
 }
 
-/// As [`run_pieces`], for a job whose pieces are done in a room: each worker makes one before its first
-/// piece, and drops it after its last.
+/// Like [`run_pieces`], for a job whose pieces are done in a room. Each worker makes its room before its
+/// first piece. The rooms are dropped when the call ends.
 ///
 /// # Errors
-/// `AllocError` where the call, a room or any piece was refused memory, once all workers are joined.
+/// `AllocError` if the call, a room or any piece is refused memory. All workers are joined before it
+/// returns.
 pub fn run_pieces_with_rooms<R: Threads + Sync, G: Gate, J: RoomJob>(
     crew: &Crew<'_, R, G>,
     items: u32,
@@ -48,12 +51,14 @@ pub fn run_pieces_with_rooms<R: Threads + Sync, G: Gate, J: RoomJob>(
     run_pieces_in(crew, items, &mut rooms, job)
 }
 
-/// As [`run_pieces_with_rooms`], in rooms that stay: each worker takes one of them, and makes one only where there is none
-/// left. All come back clean, those that were made too, so that a further call makes none.
+/// Like [`run_pieces_with_rooms`], but the rooms stay in `rooms` for further calls.
+///
+/// Each worker takes one of the rooms, and makes a new one only if none is left. After `Ok` all rooms are
+/// in `rooms` and clean, the new ones too. A further call with as many workers makes none.
 ///
 /// # Errors
-/// `AllocError` where the call, a room or any piece was refused memory, once all workers are joined. Rooms may be
-/// gone then; those that are left are clean.
+/// `AllocError` if the call, a room or any piece is refused memory. All workers are joined before it
+/// returns. Some rooms may be gone then; those that are left are clean.
 pub fn run_pieces_in<R: Threads + Sync, G: Gate, J: RoomJob>(
     crew: &Crew<'_, R, G>,
     items: u32,

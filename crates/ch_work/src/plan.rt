@@ -5,7 +5,7 @@ ghost use Rattle.ch_work.specs.Plan.{IsWithinLimits};
 
 use std::marker::Model;
 
-/// How work is cut into pieces, and among how many workers. It changes no answer.
+/// The number of workers, and the size of the pieces that work is cut into. It changes no answer.
 #[derive(Clone, Copy, Debug, PartialEq, Eq)]
 pub struct Plan {
     workers: u32,
@@ -26,8 +26,11 @@ impl Model for Plan {
 }
 
 impl Plan {
-    /// A plan for at least one worker and pieces of at least one item, within the [`limits`](crate::limits). The
-    /// neighbours of a contracted node are cut into pieces too where there are at least `wide` of them.
+    /// Makes a plan for at least one worker and pieces of at least one item, within the
+    /// [`limits`](crate::limits).
+    ///
+    /// When a node is contracted, its neighbours are cut into pieces too if there are at least `wide` of
+    /// them.
     pub fn new(workers: u32, piece: u32, wide: u32) -> Plan
         requires { IsWithinLimits (record { workers = workers; piece = piece; wide = wide }) }
         ensures { result ≡ record { workers = workers; piece = piece; wide = wide } }
@@ -39,7 +42,7 @@ impl Plan {
         }
     }
 
-    /// The number of workers, from 1 on.
+    /// The number of workers, at least 1.
     pub fn workers(&self) -> u32
         ensures workers { result ≡ self.now.workers }
         ensures limits { IsWithinLimits self.now }
@@ -47,7 +50,7 @@ impl Plan {
         self.workers
     }
 
-    /// The number of items in a piece, from 1 on. The last piece may have fewer.
+    /// The number of items in a piece, at least 1. The last piece may have fewer.
     pub fn piece(&self) -> u32
         ensures piece { result ≡ self.now.piece }
         ensures limits { IsWithinLimits self.now }
@@ -55,7 +58,7 @@ impl Plan {
         self.piece
     }
 
-    /// How many pieces so many items are cut into.
+    /// Returns the number of pieces that `items` items are cut into.
     pub fn pieces(&self, items: u32) -> u32
         ensures { result ≡ pieces_of items self.now.piece }
     {
@@ -63,7 +66,7 @@ impl Plan {
         items.div_ceil(piece)
     }
 
-    /// From how many neighbours on those of a contracted node are cut into pieces.
+    /// The least number of neighbours of a contracted node that are cut into pieces.
     pub fn wide(&self) -> u32
         ensures { result ≡ self.now.wide }
     {

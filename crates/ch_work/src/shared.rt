@@ -16,8 +16,11 @@ use std::alloc::{AllocError, Global};
 use std::thread;
 use std::thread::Threads;
 
-/// The values of all pieces in their order, by so many workers, each in one of the rooms, or in a new one that is among
-/// them afterwards. The room of a worker that is refused memory is not.
+/// Returns the values of all pieces in order, made by `workers` workers. Each worker takes one of the
+/// rooms, or makes a new one if none is left.
+///
+/// The rooms are in `rooms` afterwards. If a worker was refused memory, its room and the rooms of the
+/// workers after it are dropped.
 pub(crate) fn values_by_workers<R: Threads + Sync, G: Gate, J: RoomJob>(
     rt: &R,
     alloc: Global,
@@ -38,7 +41,7 @@ pub(crate) fn values_by_workers<R: Threads + Sync, G: Gate, J: RoomJob>(
     in_order(alloc, work, done)
 }
 
-/// Each pass with a room, as long as there is one.
+/// Pairs each pass with a room while there are rooms, and the other passes with none.
 fn hands_of<G: Gate, J: RoomJob>(
     alloc: Global,
     work: &Work<'_, G, J>,
@@ -59,7 +62,7 @@ fn hands_of<G: Gate, J: RoomJob>(
     Ok(hands)
 }
 
-/// What each worker did, and its pass, in the order of the passes.
+/// Returns the pass of each worker and what it did, in the order of the passes.
 fn worked_off_by_all<R: Threads + Sync, G: Gate, J: RoomJob>(
     rt: &R,
     alloc: Global,
@@ -82,7 +85,8 @@ fn worked_off_by_all<R: Threads + Sync, G: Gate, J: RoomJob>(
     thread::map_vec(rt, hands, &by_hand)
 }
 
-/// All passes, and the pieces that they did. The rooms come back, up to that of the first worker that was refused memory.
+/// Returns all passes, and the pieces that they did. The rooms go back to `rooms`, up to the first worker
+/// that was refused memory.
 fn gathered<G: Gate, J: RoomJob>(
     alloc: Global,
     work: &Work<'_, G, J>,
@@ -108,7 +112,7 @@ fn gathered<G: Gate, J: RoomJob>(
     Ok((passes, all))
 }
 
-/// The values of the pieces, in the order of their numbers.
+/// Returns the values of the pieces, in the order of their numbers.
 fn in_order<G: Gate, J: RoomJob>(
     alloc: Global,
     work: &Work<'_, G, J>,
@@ -127,7 +131,7 @@ fn in_order<G: Gate, J: RoomJob>(
     Ok(values)
 }
 
-/// Each value at the place of its number.
+/// Puts each value at the place of its number.
 fn places_of<G: Gate, J: RoomJob>(
     alloc: Global,
     work: &Work<'_, G, J>,
@@ -146,7 +150,7 @@ fn places_of<G: Gate, J: RoomJob>(
     Ok(places)
 }
 
-/// So many empty places.
+/// Returns `count` empty places.
 fn no_values<X: Drop>(alloc: Global, count: u32) -> Result<Vec<Option<X>>, AllocError>
     ensures len { IfOk result (λ places. length places.items ≡ count) }
     ensures none { IfOk result (λ places. All (λ place. place ≡ None) places.items) }

@@ -1,11 +1,11 @@
-//! Gates for tests, of this crate and of those above it. They block no worker for ever, so they need no
-//! handle, and nothing is proved of what they tell.
+//! Gates for tests, of this crate and of the crates above. They never block a worker for ever, so they need
+//! no handle. Nothing is proved of what they report.
 
 use crate::gate::Gate;
 use std::alloc::{AllocError, Global};
 use std::sync::atomic::{AtomicBool, AtomicU64, Ordering};
 
-/// How often a worker looks at most whether the other has come, where a test says nothing else.
+/// How many times at most a worker looks for the other one, if a test names no other number.
 const TURNS: u32 = 1_000_000_000;
 
 /// Counts how often each of the first pieces passes.
@@ -15,10 +15,10 @@ pub struct CountingGate {
 }
 
 impl CountingGate {
-    /// A gate that counts the pieces of the numbers below `pieces`, and lets others pass uncounted.
+    /// Makes a gate that counts the pieces whose numbers are below `pieces`. Other pieces pass uncounted.
     ///
     /// # Errors
-    /// `AllocError` where there is no memory.
+    /// `AllocError` if there is no memory.
     pub fn new(alloc: Global, pieces: u32) -> Result<CountingGate, AllocError> {
         let mut passes = Vec::with_capacity(alloc, pieces as usize)?;
         for _ in 0..pieces {
@@ -27,7 +27,7 @@ impl CountingGate {
         Ok(CountingGate { passes })
     }
 
-    /// How often the piece of this number has passed, and `None` for one that isn't counted.
+    /// Returns how often the piece of this number has passed, or `None` for a piece that is not counted.
     pub fn passes(&self, piece: u32) -> Option<u64> {
         let passes = self.passes.get(piece as usize)?;
         Some(passes.load(Ordering::SeqCst))
@@ -42,8 +42,8 @@ impl Gate for CountingGate {
     }
 }
 
-/// Tells whether pieces 0 and 1 were under way at once: each of the two waits in the gate until the other
-/// has come, but not for ever. All other pieces pass.
+/// Finds out whether pieces 0 and 1 are under way at the same time. Each of the two waits in the gate for
+/// the other, for a limited number of turns. All other pieces pass at once.
 #[derive(Drop)]
 pub struct MeetingGate {
     turns: u32,
@@ -52,12 +52,12 @@ pub struct MeetingGate {
 }
 
 impl MeetingGate {
-    /// A gate that no piece has passed, where one waits for at most 1,000,000,000 turns.
+    /// Makes a gate that no piece has passed. A piece waits in it for at most 1,000,000,000 turns.
     pub fn new() -> MeetingGate {
         MeetingGate::waiting(TURNS)
     }
 
-    /// A gate that no piece has passed, where one waits for at most so many turns.
+    /// Makes a gate that no piece has passed. A piece waits in it for at most `turns` turns.
     pub fn waiting(turns: u32) -> MeetingGate {
         MeetingGate {
             turns,

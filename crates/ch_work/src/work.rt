@@ -1,4 +1,4 @@
-//! What one worker does.
+//! The work of one worker.
 ghost use Rattle.std.specs.Prelude.{◌≡◌, ◌+◌, ◌*◌, ◌<◌, min, All, IfOk, IfSome, OnOk};
 ghost use Rattle.ch_work.specs.Claims.{HasWorked};
 ghost use Rattle.ch_work.specs.Passes.{view_of, IsPassOf};
@@ -23,15 +23,15 @@ pub(crate) struct Work<'a, G, J: RoomJob> {
 }
 
 impl<'a, G: Gate, J: RoomJob> Work<'a, G, J> {
-    /// How many pieces cover the items.
+    /// The number of pieces that cover the items.
     pub(crate) fn count(&self) -> u32
         ensures { result ≡ pieces_of self.now.items self.now.piece }
     {
         self.items.div_ceil(self.piece)
     }
 
-    /// The values of all pieces, by one worker, in one of the rooms or, where there is none, in a new one that is
-    /// among them afterwards.
+    /// Returns the values of all pieces, made by one worker. It takes one of the rooms, or makes a new one
+    /// if there is none. The room is in `rooms` afterwards.
     pub(crate) fn values(
         &self,
         alloc: Global,
@@ -47,7 +47,7 @@ impl<'a, G: Gate, J: RoomJob> Work<'a, G, J> {
         Ok(values)
     }
 
-    /// The room that a worker was given, or a new one.
+    /// Returns the room that the worker was given, or makes a new one.
     fn room(&self, alloc: Global, given: Option<J::Room>) -> Result<J::Room, AllocError>
         requires { IfSome given (J.clean self.now.job.now) }
         ensures { IfOk result (J.clean self.now.job.now) }
@@ -58,7 +58,7 @@ impl<'a, G: Gate, J: RoomJob> Work<'a, G, J> {
         }
     }
 
-    /// The values of all pieces, by one worker in this room.
+    /// Returns the values of all pieces, made by one worker in this room.
     fn values_in(&self, alloc: Global, room: &mut J::Room) -> Result<Vec<J::Out>, AllocError>
         requires { J.clean self.now.job.now room.old }
         ensures values { IfOk result (λ v. AreValues (J.meaning self.now.job.now) self.now.items self.now.piece 0 (pieces_of self.now.items self.now.piece) v.items) }
@@ -72,8 +72,9 @@ impl<'a, G: Gate, J: RoomJob> Work<'a, G, J> {
         Ok(values)
     }
 
-    /// What a worker does with its pass, and the pass. It works in the room that it is given, or else in a new one, and
-    /// hands it back with what was done.
+    /// Does the pieces that a pass claims. Returns the pass, and the room with the pieces that were done.
+    ///
+    /// The worker uses the given room, or makes a new one.
     pub(crate) fn worked_off(
         &self,
         alloc: Global,
@@ -91,7 +92,7 @@ impl<'a, G: Gate, J: RoomJob> Work<'a, G, J> {
         (pass, done)
     }
 
-    /// The room, and the pieces that a pass claims, which are done there.
+    /// Claims pieces until none is left, and does them in a room. Returns the room and the pieces.
     fn claimed(
         &self,
         alloc: Global,
@@ -106,7 +107,7 @@ impl<'a, G: Gate, J: RoomJob> Work<'a, G, J> {
     {
         let mut room = self.room(alloc, given)?;
         let mut done = Vec::new(alloc);
-        // The number after the last claim: it rises, so that the claims end.
+        // One more than the last claimed number, or 0. It rises, and that is why the loop ends.
         let mut next = 0;
         while let Some(number) = board.claim(pass) {
             let value = self.value(alloc, &mut room, number)?;
@@ -116,7 +117,7 @@ impl<'a, G: Gate, J: RoomJob> Work<'a, G, J> {
         Ok((room, done))
     }
 
-    /// The value of the piece of this number, once it has passed the gate.
+    /// Passes the gate, and then returns the value of the piece of this number.
     fn value(&self, alloc: Global, room: &mut J::Room, number: u32) -> Result<J::Out, AllocError>
         requires inside { number * self.now.piece < self.now.items }
         requires clean { J.clean self.now.job.now room.old }

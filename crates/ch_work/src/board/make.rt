@@ -13,11 +13,11 @@ use atomic_table::{Closed, Seat, Table};
 use std::alloc::{AllocError, Global};
 
 impl Board {
-    /// A board of so many pieces and cells, and so many passes. The cells and the passes are within the
-    /// [`limits`](crate::limits), and there is a pass.
+    /// Makes a board of `pieces` pieces and `cells` cells, and `passes` passes to use it. There is at least
+    /// one pass, and the cells and passes are within the [`limits`](crate::limits).
     ///
     /// # Errors
-    /// `AllocError` where there is no memory.
+    /// `AllocError` if there is no memory.
     pub fn new(
         alloc: Global,
         pieces: u32,
@@ -47,11 +47,13 @@ impl Board {
         Ok((board, all))
     }
 
-    /// The weights of the cells at the end, and `None` where none was offered. All passes of the board come
-    /// back, so that no number was claimed twice, and all were where a pass has ended.
+    /// Closes the board and returns the final weight of each cell, or `None` for a cell without an offer.
+    ///
+    /// All passes of the board come back here. So no number was claimed twice. If a pass has ended, every
+    /// number was claimed.
     ///
     /// # Errors
-    /// `AllocError` where there is no memory.
+    /// `AllocError` if there is no memory.
     pub fn close(self, passes: Vec<Pass>) -> Result<Vec<Option<u64>>, AllocError>
         requires count { vec_len passes ≡ (size_of self).passes }
         requires board { All (IsPassOf self) passes.items }
@@ -70,7 +72,7 @@ impl Board {
         values
     }
 
-    /// What all passes have done and seen.
+    /// Joins the views of all passes into one.
     fn gathered(&self, passes: Vec<Pass>) -> Seat<(), Known>
         requires board { All (IsPassOf self.now) passes.items }
         ensures board { result.table_id ≡ self.now.table.shared.table_id }
@@ -83,7 +85,7 @@ impl Board {
         all
     }
 
-    /// One pass more.
+    /// Adds one more pass.
     fn take_in(&self, all: &mut Seat<(), Known>, pass: Pass)
         requires board { (all.old.table_id ≡ self.now.table.shared.table_id) × IsPassOf self.now pass }
         ensures board { all.new.table_id ≡ all.old.table_id }
@@ -94,7 +96,7 @@ impl Board {
     }
 }
 
-/// The words of a new board: the counter, and the cells.
+/// Returns the words of a new board: the counter, and then the cells.
 fn words_of(alloc: Global, cells: u32) -> Result<Vec<u64>, AllocError>
     ensures { IfOk result (λ words. words.items ≡ 0 ∷ replicate cells none_yet) }
 {
@@ -106,7 +108,7 @@ fn words_of(alloc: Global, cells: u32) -> Result<Vec<u64>, AllocError>
     Ok(words)
 }
 
-/// So many passes.
+/// Splits `passes` passes off.
 fn passes_of(
     alloc: Global,
     table: &Table<(), Known, Size, Rule, Global>,
@@ -127,7 +129,7 @@ fn passes_of(
     Ok(all)
 }
 
-/// One pass of those that are left.
+/// Splits one pass off from the `left` passes that remain.
 fn split_off(
     table: &Table<(), Known, Size, Rule, Global>,
     root: &mut Seat<(), Known>,
@@ -148,7 +150,7 @@ fn split_off(
     }
 }
 
-/// The weights of all cells.
+/// Returns the weights of all cells.
 fn read_cells(
     alloc: Global,
     closed: &Closed<(), Global>,
@@ -165,7 +167,7 @@ fn read_cells(
     Ok(values)
 }
 
-/// The weight of a cell, and `None` where none was offered.
+/// Returns the weight of a cell, or `None` if none was offered.
 fn cell_value(closed: &Closed<(), Global>, cell: u32) -> Option<u64>
     requires { (cell + 1 < slots_len closed.now.words) × IsFull closed.now.words }
     ensures { IsRead (slice_index (slots_items closed.now.words) (cell + 1)) result }

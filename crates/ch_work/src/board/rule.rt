@@ -1,11 +1,11 @@
-//! The rule of a board, and its steps. None of these types has a value.
+//! The rule of a board, and its steps. Nothing makes values of these types.
 ghost use Rattle.ch_work.specs.Rule.{Kept};
 ghost use Rattle.ch_work.specs.Steps.{nothing_known, Claims, Offers, Looks, less_one, one_part, both, Enters};
 
 use crate::board::known::{Known, Size};
 use atomic_table::{Join, Play, Split, TableRule};
 
-/// What holds of a board between any two steps.
+/// The rule that a board keeps between any two steps.
 pub struct Rule;
 
 impl TableRule<(), Known, Size> for Rule {
@@ -28,14 +28,14 @@ impl Play<(), Known> for Offer {
     ghost then = { Offers };
 }
 
-/// A pass is shown what stands in a cell.
+/// A pass is shown the weight in a cell.
 pub struct Look;
 
 impl Play<(), Known> for Look {
     ghost then = { Looks };
 }
 
-/// A pass is split off from what stands for several.
+/// One pass is split off from a view that stands for several.
 pub struct SplitOff;
 
 impl Split<Known> for SplitOff {
@@ -44,7 +44,7 @@ impl Split<Known> for SplitOff {
     ghost right = { one_part };
 }
 
-/// A pass is joined to others.
+/// A pass is joined to other passes.
 pub struct TakeIn;
 
 impl Join<Known> for TakeIn {
@@ -53,7 +53,7 @@ impl Join<Known> for TakeIn {
     ghost spent = { nothing_known 0 0 };
 }
 
-/// A pass that stands for none is made.
+/// A new view is made that stands for no pass.
 pub struct Enter;
 
 impl Play<(), Known> for Enter {

@@ -9,8 +9,8 @@ use crate::board::rule::{Claim, Look, Offer};
 use crate::board::{Board, Pass};
 
 impl Board {
-    /// The next number of a piece that no pass has claimed, and `None` where there is none left. Then the
-    /// pass has ended, and is answered `None` from then on without a step.
+    /// Claims the next piece and returns its number, or `None` if all pieces are claimed. After `None` the
+    /// pass has ended; each later call returns `None` without a step on the board.
     pub fn claim(&self, pass: &mut Pass) -> Option<u32>
         requires { IsPassOf self.now pass.old }
         ensures board { IsPassOf self.now pass.new }
@@ -35,7 +35,8 @@ impl Board {
         }
     }
 
-    /// Offers a weight within the [`limits`](crate::limits) to a cell, whose weight becomes the lesser of the two.
+    /// Offers a weight within the [`limits`](crate::limits) to a cell. The cell keeps the lesser of this
+    /// weight and its own.
     pub fn offer(&self, pass: &mut Pass, cell: u32, weight: u64)
         requires board { IsPassOf self.now pass.old }
         requires cell { cell < (size_of self.now).cells }
@@ -49,7 +50,7 @@ impl Board {
             .fetch_min::<Offer>(&mut pass.seat, cell as usize + 1, weight);
     }
 
-    /// The weight of a cell, and `None` where none was offered there yet.
+    /// Returns the weight of a cell, or `None` if nothing has been offered to it yet.
     pub fn look(&self, pass: &mut Pass, cell: u32) -> Option<u64>
         requires board { IsPassOf self.now pass.old }
         requires cell { cell < (size_of self.now).cells }

@@ -7,7 +7,7 @@ use Rattle.ch_work.proofs.lists.length_of.Goals as goal
 pub loop-list-init : goal.loop-list-init
 loop-list-init g c = refl
 
--- one list more
+-- the loop adds one more list
 pub loop-list-preserved : goal.loop-list-preserved
 loop-list-preserved g c =
     let before = c.loop-list.invariant in
