@@ -1,4 +1,4 @@
--- What inserts and removals make of the list at a place.
+-- The list at a place after an insert or a removal.
 use Rattle.std.proofs.Common.{◌≡◌, ℕ, ◌+◌, ◌-◌, ◌^◌, ◌<◌, ◌≤◌, inl, List, length, get_or, refl, ap, arith, sym, ◌∙◌}
 use Rattle.std.specs.List.{insert, remove}
 use Rattle.std.proofs.lemmas.Bool.{cases_lt}
@@ -10,11 +10,11 @@ use Rattle.ch_lists.specs.Places.{values_at, HasInserted, HasRemoved, HasRoom, H
 use Rattle.ch_lists.proofs.Found.{cases, length-values_at, get_or-values_at}
 
 module _ {X : Type 0} where
-  -- one place further on, however it is written
+  -- the place after this one, written in two ways
   next : (values : List X) (start k : ℕ) (d : X) → get_or values (start + k + 1) d ≡ get_or values (start + (k + 1)) d
   next values start k d = ap (λ i. get_or values i d) (omega arith)
 
-  -- the values that are left once one is removed
+  -- the values that remain after a removal
   left : (old new : List X) (was now : Place) (index : ℕ) → index < was.len → now.start ≡ was.start → now.len + 1 ≡ was.len → was.start + was.len ≤ length old
       → HasRemoved old new (was.start + index) (was.start + was.len) → values_at new now ≡ remove (values_at old was) index
   left old new was now index low start len within edit =
@@ -53,7 +53,7 @@ module _ {X : Type 0} where
     above = λ k d behind inside. edit.above k d (omega arith);
   }
 
-  -- the values of the list with one inserted
+  -- the values of the list after an insert
   joined : (old middle new : List X) (was room now : Place) (index : ℕ) (value : X) → index ≤ was.len → was.start + was.len ≤ length old → HasRoom old middle was room
       → now.start ≡ room.start → now.len ≡ was.len + 1 → HasInserted middle new (room.start + index) (room.start + room.len) value → values_at new now ≡ insert (values_at old was) index value
   joined old middle new was room now index value low within has start len edit =
@@ -81,7 +81,7 @@ module _ {X : Type 0} where
       (λ differ. moved k d behind (omega arith) inside (omega arith)))
       (cases_lt k index))
     where
-      -- a value behind the new one
+      -- each value after the new one has moved by one
       moved : (k : ℕ) (d : X) → index ≤ k → index < k → index ≤ length (values_at old was) → k < was.len + 1 → get_or new (room.start + k) d ≡ get_or (insert (values_at old was) index value) k d
       moved k d behind above inside below =
           let back : k ≡ (k - 1) + 1 = omega arith in
@@ -92,7 +92,7 @@ module _ {X : Type 0} where
           ∙ sym (get_or-insert_above (values_at old was) index value d (k - 1) (omega arith) inside)
           ∙ ap (λ i. get_or (insert (values_at old was) index value) i d) (sym back)
 
-  -- an insert is an edit in the room that was made
+  -- an insert is an edit in the room with space for it
   pub inserted : (old middle new : List X) (was room : Place) (index : ℕ) (value : X) → index ≤ was.len → was.len ≤ was.room → was.start + was.room ≤ length old → HasRoom old middle was room
       → HasInserted middle new (room.start + index) (room.start + room.len) value → HasEdited old new was (record { start = room.start; len = room.len + 1; room = room.room }) (insert (values_at old was) index value)
   inserted old middle new was room index value low fits within has edit = record {

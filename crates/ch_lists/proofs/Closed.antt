@@ -1,4 +1,4 @@
--- Empty lists that are taken out of the array.
+-- Empty lists that are given the place without room.
 use Rattle.std.proofs.Common.{◌≡◌, ◌⊎◌, ℕ, option_map, ◌+◌, ◌<◌, ◌≤◌, inl, inr, ⊎_elim, List, [], ◌∷◌, map, get_or, Some, refl, ap, ap₂, arith, sym, ◌∙◌, subst}
 use Rattle.std.specs.List.{slice_get}
 use Rattle.std.specs.Prelude.{Contains}
@@ -11,14 +11,14 @@ use Rattle.ch_lists.specs.Packing.{nowhere, closed, AreInOrder, IsReady, ArePack
 use Rattle.ch_lists.proofs.Found.{cases}
 use Rattle.ch_lists.proofs.Placed.{apart_back, apart_nowhere}
 
--- a place without the room of an empty list
+-- a place of a list that is not empty stays, and that of an empty list becomes the place without room
 closed_is : (p : Place) → ((0 < p.len) × (closed p ≡ p)) ⊎ ((p.len ≡ 0) × (closed p ≡ nowhere))
 closed_is p = cases p.len 0
     (λ none. inr (none, rw none refl))
     (λ some. inl (omega arith, rw (ne_eqb p.len 0 some) refl))
 
 module _ (places : List Place) where
-  -- what holds nowhere and of the places of lists that are not empty holds then
+  -- a property of the place without room and of the places of lists that are not empty holds of each of these places
   closed_from : (P : Place → Type 0) (i : ℕ) (q : Place) → slice_get (map closed places) i ≡ Some q → P nowhere → ((p : Place) → slice_get places i ≡ Some p → 0 < p.len → P p) → P q
   closed_from P i q is none some =
       let low = slice_get_within (map closed places) i q is in
@@ -32,12 +32,12 @@ module _ (places : List Place) where
       (λ w. subst P (sym w.1 ∙ same) none)
       (closed_is p)
 
-  -- the place of a list that is not empty is found then as before
+  -- the place of a list that is not empty stays the same
   closed_found : (i : ℕ) (p : Place) → slice_get places i ≡ Some p → 0 < p.len → slice_get (map closed places) i ≡ Some p
   closed_found i p at full =
       slice_get-map closed places i ∙ ap (option_map closed) at ∙ ap Some (⊎_elim (λ w. w.1) (λ w. absurd (omega (arith, w.0))) (closed_is p))
 
-  -- the places stay places
+  -- these places are places of lists in the same array
   closed_places : (size : ℕ) → ArePlaces places size → ArePlaces (map closed places) size
   closed_places size are = record {
     few = omega (arith, length-map places closed, are.few);
@@ -48,7 +48,7 @@ module _ (places : List Place) where
         (λ r at_r _. closed_from (λ s. AreApart r s) j q at_j (apart_back nowhere r (apart_nowhere r)) (λ s at_s _. are.apart i j r s at_r at_s differ));
   }
 
-  -- the lists can then be moved together
+  -- with these places the lists can be moved together
   pub closed_ready : (size : ℕ) (entries : List (ℕ × ℕ)) → ArePlaces places size → AreInOrder places entries → IsReady (map closed places) size entries
   closed_ready size entries are order = record {
     placed = closed_places size are;
@@ -74,7 +74,7 @@ closed_lists values (p ∷ ps) = ap₂ (λ xs ls. xs ∷ ls) (same p) (closed_li
     same : (q : Place) → values_at values (closed q) ≡ values_at values q
     same q = ⊎_elim (λ w. ap (values_at values) w.1) (λ w. ap (values_at values) w.1 ∙ no_values q w.0) (closed_is q)
 
--- lists that are moved together once the empty ones are taken out are moved together
+-- lists that were moved together from these places were moved together from the places before
 pub packed_from : {X : Type 0} (old new : List X) (places was now : List Place) → was ≡ map closed places → ArePacked old new was now → ArePacked old new places now
 packed_from old new places was now same are = record {
   placed = are.placed;

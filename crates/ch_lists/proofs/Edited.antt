@@ -1,4 +1,4 @@
--- An edit of one list leaves the others.
+-- An edit of one list leaves the others as they are.
 use Rattle.std.proofs.Common.{◌≡◌, ◌≢◌, ℕ, ◌<◌, inl, inr, List, length, set, get_or, Some, ap, arith, sym, ◌∙◌}
 use Rattle.std.specs.List.{slice_get}
 use Rattle.std.proofs.lemmas.List.{length-set, length-map, get_or-map, get_or-set_same, get_or-set_other, map-set, same_lists}
@@ -10,7 +10,7 @@ use Rattle.ch_lists.proofs.Found.{cases, same_values}
 use Rattle.ch_lists.proofs.Placed.{set_places}
 
 module _ {X : Type 0} (old new : List X) (places : List Place) (i : ℕ) (was now : Place) (values : List X) (at : slice_get places i ≡ Some was) (are : ArePlaces places (length old)) (edit : HasEdited old new was now values) where
-  -- the list at another place is as it was
+  -- the list at another place stays the same
   same_other : (k : ℕ) (p : Place) → slice_get places k ≡ Some p → k ≢ i → values_at new p ≡ values_at old p
   same_other k p is differ =
       let fits = are.fits k p is in
@@ -20,7 +20,7 @@ module _ {X : Type 0} (old new : List X) (places : List Place) (i : ℕ) (was no
       (λ w. edit.above j d (omega arith) (omega arith))
       (are.apart k i p was is at differ))
 
-  -- the new place is apart from those of the other lists
+  -- the room of the new place does not overlap that of another list
   free : (k : ℕ) (p : Place) → slice_get places k ≡ Some p → k ≢ i → AreApart now p
   free k p is differ =
       let within = are.within k p is in
@@ -29,11 +29,11 @@ module _ {X : Type 0} (old new : List X) (places : List Place) (i : ℕ) (was no
       (λ w. inr (omega arith))
       edit.room
 
-  -- the places after the edit are places
+  -- the places after the edit are places of lists in the new array
   pub places_after : ArePlaces (set places i now) (length new)
   places_after = set_places places i (length old) (length new) now are edit.size edit.small edit.fits edit.within free
 
-  -- only the one list has changed
+  -- only this list has changed
   pub lists_after : lists_at new (set places i now) ≡ set (lists_at old places) i values
   lists_after =
       let found = slice_get_within places i was at in

@@ -25,7 +25,7 @@ listed_empty places n entries p are at empty = record {
   once = are.once;
 }
 
--- the entry of one list more
+-- one more list that is not empty has an entry
 pub listed_more : (places : List Place) (n : ℕ) (entries : List (ℕ × ℕ)) (p : Place) → AreListed places n entries → slice_get places n ≡ Some p → 0 < p.len
     → AreListed places (n + 1) (entries ++ (p.start, n) ∷ [])
 listed_more places n entries p are at full = record {
@@ -44,7 +44,7 @@ listed_more places n entries p are at full = record {
       absurd (omega (arith, same)));
 }
 
--- an entry that isn't less than another starts no earlier
+-- an entry that is not less than another starts no earlier
 start_rises : (a b : ℕ × ℕ) → is_lt (ordering_then (nat_cmp b.0 a.0) (nat_cmp b.1 a.1)) ≡ false → a.0 ≤ b.0
 start_rises a b not_less = at (nat_lt b.0 a.0) refl
   where
@@ -52,11 +52,11 @@ start_rises a b not_less = at (nat_lt b.0 a.0) refl
     at true is = absurd (true≢false (sym (rw is refl) ∙ not_less))
     at false is = ltb-false b.0 a.0 is
 
--- two numbers are compared in either order
+-- the test of equality gives the same in either order
 eqb_flips : (a b : ℕ) → eqb a b ≡ eqb b a
 eqb_flips a b = grind (arith, nat_tests)
 
--- the lists of entries that change places stay apart
+-- entries of different lists stay so after a permutation
 once_more : (entries sorted : List (ℕ × ℕ)) → AllPairs (λ a b. a.1 ≢ b.1) entries → IsPermutation entries sorted → AllPairs (λ a b. a.1 ≢ b.1) sorted
 once_more entries sorted once turn i j d before within =
     let numbers = λ (e : ℕ × ℕ). e.1 in
@@ -71,7 +71,7 @@ once_more entries sorted once turn i j d before within =
     let b = get_or-map numbers sorted j d 0 (omega arith) in
     λ same. eqb-false _ _ (apart_from_distinct eqb (map numbers sorted) i j 0 turned before (omega arith)) (a ∙ same ∙ sym b)
 
--- the entries in the order of where the lists start
+-- the entries, sorted by the starts of their lists
 pub sorted_entries : (places : List Place) (entries sorted : List (ℕ × ℕ)) → AreListed places (length places) entries → IsPermutation entries sorted
     → IsSorted (λ a b. ordering_then (nat_cmp a.0 b.0) (nat_cmp a.1 b.1)) sorted → AreInOrder places sorted
 sorted_entries places entries sorted are turn rises = record {

@@ -1,4 +1,4 @@
--- Lists that are moved to the front of their array, one after the other.
+-- Lists moved to the front of their array, one after the other.
 use Rattle.std.proofs.Common.{◌≡◌, ◌≢◌, ◌⊎◌, ℕ, ◌+◌, ◌-◌, ◌<◌, ◌≤◌, inl, inr, ⊎_elim, List, length, take, set, get_or, Some, refl, ap, arith, sym, ◌∙◌, subst}
 use Rattle.std.specs.Prelude.{AllPairs}
 use Rattle.std.specs.List.{slice_get, SameBelow, SameFrom, CopiedTo}
@@ -12,15 +12,15 @@ use Rattle.ch_lists.specs.Packing.{nowhere, IsReady, IsMovedUpTo, ArePacked}
 use Rattle.ch_lists.proofs.Found.{cases, one, found, get-set_same, get-set_other, same_values, length-values_at, get_or-values_at}
 use Rattle.ch_lists.proofs.Placed.{set_places}
 
--- where the list of an entry starts, as it is read
+-- the start of an entry's list, as the code reads it
 read_start : (entries : List (ℕ × ℕ)) (j : ℕ) (e d : ℕ × ℕ) → slice_get entries j ≡ Some e → (get_or entries j d).0 ≡ e.0
 read_start entries j e d is = ap (λ (f : ℕ × ℕ). f.0) (get_or_from_slice_get entries j e d is)
 
--- the number of an entry's list, as it is read
+-- the number of an entry's list, as the code reads it
 read_list : (entries : List (ℕ × ℕ)) (j : ℕ) (e d : ℕ × ℕ) → slice_get entries j ≡ Some e → (get_or entries j d).1 ≡ e.1
 read_list entries j e d is = ap (λ (f : ℕ × ℕ). f.1) (get_or_from_slice_get entries j e d is)
 
--- before the first of the order
+-- before the first move, no list has moved
 pub none_moved : (places : List Place) (size : ℕ) (entries : List (ℕ × ℕ)) → IsReady places size entries → IsMovedUpTo places entries 0 0
 none_moved places size entries ready = record {
   ahead = λ j e _ at.
@@ -40,11 +40,11 @@ module _ (places : List Place) (entries : List (ℕ × ℕ)) (k end : ℕ) (move
   abbrev pub next : ℕ × ℕ
   next = get_or entries k (0, 0)
 
-  -- its entry is found
+  -- its entry is found in the order
   pub next_here : slice_get entries k ≡ Some next
   next_here = slice_get-get_or entries k (0, 0) low
 
-  -- it has a place
+  -- its number is below the number of places
   pub next_within : next.1 < length places
   next_within = let w = moved.ahead k next (omega arith) next_here in slice_get_within places next.1 w.0.0 w.0.1
 
@@ -56,7 +56,7 @@ module _ (places : List Place) (entries : List (ℕ × ℕ)) (k end : ℕ) (move
   pub next_at : slice_get places next.1 ≡ Some next_place
   next_at = slice_get-get_or places next.1 nowhere next_within
 
-  -- it stands at `end` or behind it, within the array
+  -- its start is at least `end`, and it is within the array
   pub next_stands : (size : ℕ) → ArePlaces places size → (end ≤ next_place.start) × (next_place.start + next_place.len ≤ size)
   next_stands size are =
       let w = moved.ahead k next (omega arith) next_here in
@@ -67,7 +67,7 @@ module _ (places : List Place) (entries : List (ℕ × ℕ)) (k end : ℕ) (move
       let within = are.within next.1 next_place next_at in
       (omega arith, omega arith)
 
--- lists that are the same one by one
+-- the lists are the same if each list is
 lists_same : {X : Type 0} (old new : List X) (was now : List Place) → length now ≡ length was
     → ((i : ℕ) (p q : Place) → slice_get was i ≡ Some p → slice_get now i ≡ Some q → values_at new q ≡ values_at old p) → lists_at new now ≡ lists_at old was
 lists_same old new was now long same =
@@ -87,7 +87,7 @@ module _ {X : Type 0} (old new : List X) (places : List Place) (entries : List (
   abbrev pub moved_to : Place
   moved_to = record { start = end; len = p.len; room = p.len }
 
-  -- the list that moves next stands at `end` or behind it
+  -- the list that moves next starts at `end` or after it
   stands : (p.start ≡ e.0) × (0 < p.len) × (end ≤ p.start)
   stands =
       let w = moved.ahead k e (omega arith) here in
@@ -99,7 +99,7 @@ module _ {X : Type 0} (old new : List X) (places : List Place) (entries : List (
       let c = w.1 in
       (omega arith, omega arith, omega arith)
 
-  -- each other list has moved, or stands behind it
+  -- each other list has moved already, or is behind this list
   others : (i : ℕ) (q : Place) → slice_get places i ≡ Some q → i ≢ e.1 → (q.start + q.room ≤ end) ⊎ (p.start + p.room ≤ q.start)
   others i q is differ = ⊎_elim inl (λ w.
       let f = moved.ahead w.0 w.1 w.2 w.3 in
@@ -117,7 +117,7 @@ module _ {X : Type 0} (old new : List X) (places : List Place) (entries : List (
       ⊎_elim (λ v. absurd (omega arith)) inr (are.apart i e.1 q p is at differ))
       (moved.each i q is)
 
-  -- the new place is apart from those of the other lists
+  -- the new room does not overlap that of another list
   free : (i : ℕ) (q : Place) → slice_get places i ≡ Some q → i ≢ e.1 → AreApart moved_to q
   free i q is differ =
       let fits = are.fits e.1 p at in
@@ -125,7 +125,7 @@ module _ {X : Type 0} (old new : List X) (places : List Place) (entries : List (
       ⊎_elim inr (λ w. inl (omega arith)) (others i q is differ)
 
   module _ (long : length new ≡ length old) (copied : CopiedTo old new p.start end p.len) (below : SameBelow old new end) (above : SameFrom old new (end + p.len)) where
-    -- the new place lies within the array
+    -- the new place is within the array
     pub within_after : end + p.len ≤ length new
     within_after =
         let fits = are.fits e.1 p at in
@@ -133,7 +133,7 @@ module _ {X : Type 0} (old new : List X) (places : List Place) (entries : List (
         let s = stands.2 in
         omega arith
 
-    -- the places after the list has moved
+    -- the places after the list has moved are places of lists
     pub places_after : ArePlaces (set places e.1 moved_to) (length new)
     places_after = set_places places e.1 (length old) (length new) moved_to are (omega arith) (omega (arith, are.small)) (omega arith) within_after free
 
@@ -151,7 +151,7 @@ module _ {X : Type 0} (old new : List X) (places : List Place) (entries : List (
         ∙ ap (λ i. get_or old i d) (let e : p.start + (end + j - end) ≡ p.start + j = omega arith in e)
         ∙ sym (get_or-values_at old p j d here))
 
-    -- each other list has the same values where it stands
+    -- each other list has the same values at its place
     same_other : (i : ℕ) (q : Place) → slice_get places i ≡ Some q → i ≢ e.1 → values_at new q ≡ values_at old q
     same_other i q is differ =
         let fits = are.fits i q is in
@@ -170,7 +170,7 @@ module _ {X : Type 0} (old new : List X) (places : List Place) (entries : List (
         (λ w. ap (values_at new) (one places i i r q refl w.1 is) ∙ same_other i q is w.0)
         (found places e.1 i moved_to r now))
 
-    -- one list more has moved
+    -- one more list has moved
     pub moved_after : IsMovedUpTo (set places e.1 moved_to) entries (k + 1) (end + p.len)
     moved_after = record {
       ahead = λ j f from is.
@@ -220,7 +220,7 @@ module _ {X : Type 0} (old new : List X) (places : List Place) (entries : List (
           (cases_lt x end);
     }
 
--- after the last of the order the front of the array has them all
+-- after the last move, all lists are at the front of the array
 pub all_moved : {X : Type 0} (old new : List X) (was now : List Place) (entries : List (ℕ × ℕ)) (end : ℕ) → ArePlaces now (length new) → lists_at new now ≡ lists_at old was
     → IsMovedUpTo now entries (length entries) end → end ≤ length new → ArePacked old (take end new) was now
 all_moved old new was now entries end are same moved within =

@@ -1,4 +1,4 @@
--- Places that stay apart.
+-- Places whose rooms do not overlap.
 use Rattle.std.proofs.Common.{◌≡◌, ◌≢◌, ℕ, ◌+◌, ◌^◌, ◌<◌, ◌≤◌, inl, inr, List, [], ◌∷◌, ◌++◌, length, set, get_or, Some, refl, ap, arith, sym, ◌∙◌, subst, replicate}
 use Rattle.std.specs.List.{slice_get}
 use Rattle.std.proofs.lemmas.List.{length-set, length-map, length-replicate, get_or-map, get_or-replicate, same_lists, length_push}
@@ -9,19 +9,19 @@ use Rattle.ch_lists.specs.Places.{values_at, lists_at, AreApart, ArePlaces, AreE
 use Rattle.ch_lists.specs.Packing.{nowhere}
 use Rattle.ch_lists.proofs.Found.{found, found_push}
 
--- apart is apart the other way round
+-- not overlapping is symmetric
 pub apart_back : (p q : Place) → AreApart p q → AreApart q p
 apart_back p q are = ⊎_elim inr inl are
 
--- equal places are apart from the same places
+-- an equal place overlaps no room either
 pub apart_from : (p q r : Place) → p ≡ q → AreApart q r → AreApart p r
 apart_from p q r same are = subst (λ (s : Place). AreApart s r) (sym same) are
 
--- the place of an empty list without room is apart from all others
+-- the place without room overlaps no other
 pub apart_nowhere : (p : Place) → AreApart nowhere p
 apart_nowhere p = inl (omega arith)
 
--- another place for a list, apart from those of the others
+-- one place is replaced by another that does not overlap the others
 pub set_places : (places : List Place) (i size larger : ℕ) (now : Place) → ArePlaces places size → size ≤ larger → larger < 2 ^ 32 → now.len ≤ now.room → now.start + now.room ≤ larger
     → ((k : ℕ) (p : Place) → slice_get places k ≡ Some p → k ≢ i → AreApart now p) → ArePlaces (set places i now) larger
 set_places places i size larger now are more small fits within free = record {
@@ -47,7 +47,7 @@ set_places places i size larger now are more small fits within free = record {
       (found places i j now p at_j);
 }
 
--- one more empty place, behind the others
+-- one more empty place behind the others
 pub push_places : (places : List Place) (count size : ℕ) (p : Place) → AreEmptyPlaces count size places → p.start ≡ size → p.len ≡ 0 → size + p.room < 2 ^ 32 → count + 1 < 2 ^ 32
     → AreEmptyPlaces (count + 1) (size + p.room) (places ++ p ∷ [])
 push_places places count size p are start empty small few = record {
@@ -77,7 +77,7 @@ push_places places count size p are start empty small few = record {
   };
 }
 
--- at empty places stand empty lists
+-- the lists at empty places are empty
 pub empty_lists : {X : Type 0} (values : List X) (places : List Place) (count size : ℕ) → AreEmptyPlaces count size places → lists_at values places ≡ replicate count []
 empty_lists {X} values places count size are =
     let l = length-map places (values_at values) in

@@ -1,4 +1,4 @@
--- A list that is read at its place, and what an edit of it leaves of all.
+-- A list that is read at its place, and all lists after an edit of it.
 use Rattle.std.proofs.Common.{◌≡◌, ℕ, ◌<◌, List, [], length, set, get_or, Some, refl, ap, arith, sym, ◌∙◌}
 use Rattle.std.specs.List.{slice_get}
 use Rattle.std.proofs.lemmas.List.{length-map, get_or-map}
@@ -12,16 +12,16 @@ module _ {X : Type 0} (values : List X) (places : List Place) (lists : List (Lis
   within : i < length places
   within = omega (arith, ap length are, length-map places (values_at values))
 
-  -- the place that was read is found
+  -- the place that was read is found in the places
   pub place_read : slice_get places i ≡ Some p
   place_read = slice_get_read places (length places) i p refl within is
 
-  -- the list is the values at its place
+  -- the list consists of the values at its place
   pub list_read : get_or lists i [] ≡ values_at values p
   list_read = ap (λ (ls : List (List X)). get_or ls i []) (sym are) ∙ get_or-map (values_at values) places i p [] within ∙ ap (values_at values) (sym is)
 
   module _ (placed : ArePlaces places (length values)) (new : List X) (now : Place) (change : List X → List X) (edit : HasEdited values new p now (change (values_at values p))) where
-    -- the places after an edit of the list
+    -- the places after an edit of the list are places of lists
     pub edited_places : ArePlaces (set places i now) (length new)
     edited_places = places_after values new places i p now (change (values_at values p)) place_read placed edit
 

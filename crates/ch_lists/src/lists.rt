@@ -7,16 +7,20 @@ use crate::place::{self, Place};
 use std::alloc::{AllocError, Global};
 use std::marker::Model;
 
-/// Lists of values that grow and shrink, numbered from 0. All values stand in one array, each list in a room
-/// of its own, so a list is lent as a slice, and has no memory of its own.
+/// Lists of values that grow and shrink, numbered from 0.
 ///
-/// A list that has filled its room moves behind all others, to a room for half as many values more and two,
-/// and its old room stays unused until [`Lists::pack`]. An insert or a removal moves the values behind it in the
-/// list by one; the other methods, but `with_rooms`, `skip` and `pack`, take O(1) steps.
+/// All values are in one array, and each list has a room there. So a list is lent as a slice, and has no
+/// memory of its own.
+///
+/// A list of n values that has filled its room moves behind all other lists, to a room for n + n / 2 + 2
+/// values. Its old room stays unused until [`Lists::pack`].
+///
+/// An insert or a removal moves the later values of the list by one. `with_rooms`, `skip` and `pack` take
+/// more steps; the other methods take O(1).
 #[derive(Drop)]
 pub struct Lists<T: Copy> {
     values: Vec<T>,
-    /// Where each list stands in `values`.
+    /// Where each list is in `values`.
     places: Vec<Place>,
 }
 
@@ -32,12 +36,12 @@ impl<T: Copy> Model for Lists<T> {
 }
 
 impl<T: Copy> Lists<T> {
-    /// An empty list for each of these rooms. A list takes as many values as its room says before it has to move.
-    /// The rooms are filled with `blank`, which is never seen.
+    /// Makes an empty list for each of these rooms. A room is the number of values that its list can take
+    /// before it has to move. The rooms are filled with `blank`, which no caller sees.
     ///
     /// # Errors
-    /// `AllocError` where there is no memory for the values or the places, which are the two arrays that it makes, or
-    /// where the rooms are of 2^32 values or more together.
+    /// `AllocError` if there is no memory for one of the two arrays that it makes: the values and the
+    /// places. Also if the rooms have 2^32 values or more together.
     pub fn with_rooms(alloc: Global, rooms: &[u32], blank: T) -> Result<Lists<T>, AllocError>
         requires { length rooms.now < 2 ^ 32 }
         ensures { IfOk result (λ lists. lists ≡ replicate (length rooms.now) []) }
@@ -55,7 +59,7 @@ impl<T: Copy> Lists<T> {
         self.places.len() as u32
     }
 
-    /// How many values the array has room for: those of all lists, and those of unused room. What is unused stays
+    /// The number of values in the array: those of all lists, and those of unused room. Unused room stays
     /// until `pack`.
     pub fn room(&self) -> usize
         ensures holds { sum_by length self.now ≤ result }
@@ -64,7 +68,7 @@ impl<T: Copy> Lists<T> {
         self.values.len()
     }
 
-    /// The values of a list, whose number is below that of the lists.
+    /// The values of a list. `list` is below the number of lists.
     #[inline]
     pub fn at(&self, list: u32) -> &[T]
         requires { list < length self.now }
@@ -75,11 +79,12 @@ impl<T: Copy> Lists<T> {
         &self.values[start..start + place.len as usize]
     }
 
-    /// Inserts `value` into a list, before the value at `place` or at the end.
+    /// Inserts `value` into a list, before the value at `place`, or at the end if `place` is the length of
+    /// the list.
     ///
     /// # Errors
-    /// `AllocError` where the list has to move and there is no memory for it, or the array would be of 2^32 values
-    /// or more. The lists are then as they were.
+    /// `AllocError` if the list has to move and there is no memory, or the array would have 2^32 values or
+    /// more. The lists then stay as they were.
     pub fn insert(&mut self, list: u32, place: usize, value: T) -> Result<(), AllocError>
         requires list { list < length self.old }
         requires place { place ≤ length (slice_index_or self.old list []) }
@@ -92,7 +97,7 @@ impl<T: Copy> Lists<T> {
         Ok(())
     }
 
-    /// Takes the value at `place` out of a list.
+    /// Removes the value at `place` from a list.
     pub fn remove(&mut self, list: u32, place: usize)
         requires list { list < length self.old }
         requires place { place < length (slice_index_or self.old list []) }
@@ -103,21 +108,22 @@ impl<T: Copy> Lists<T> {
         self.places[list as usize] = new;
     }
 
-    /// Moves the values of all lists together, in the order in which they stand, and gives back what is left of the
-    /// array. No list has room for one more value then, so the next insert into it moves it.
+    /// Moves the values of all lists together, in the order of their places in the array, and frees the
+    /// rest of the array. Afterwards no list has room for one more value, so the next insert into a list
+    /// moves it.
     ///
     /// It takes O(n log n + v) steps for n lists of v values together, and 8 bytes for each list while it runs.
     ///
     /// # Errors
-    /// `AllocError` where there is no memory for the order in which the lists stand.
+    /// `AllocError` if there is no memory for the order of the lists.
     pub fn pack(&mut self) -> Result<(), AllocError>
         ensures { self.new ≡ self.old }
     {
         packing::pack(&mut self.values, &mut self.places)
     }
 
-    /// Hands the values of the list `from` over to the list `to`, which loses those that it had, and leaves `from`
-    /// empty. No value is copied.
+    /// Hands the values of the list `from` over to the list `to`, and leaves `from` empty. The list `to`
+    /// loses the values that it had. No value is copied.
     pub fn hand_over(&mut self, from: u32, to: u32)
         requires from { from < length self.old }
         requires to { to < length self.old }
@@ -129,8 +135,8 @@ impl<T: Copy> Lists<T> {
         self.places[to as usize] = place;
     }
 
-    /// The lists but for the first `count`, numbered from 0 anew. No value is copied, and the room of the lists that are
-    /// left out stays unused. It takes a step for each list.
+    /// Leaves the first `count` lists out, and numbers the others from 0 again. No value is copied, and the
+    /// room of the lists that are left out stays unused. It takes a step for each list.
     pub fn skip(self, count: u32) -> Lists<T>
         requires { count ≤ length self }
         ensures { result ≡ drop count self }

@@ -1,5 +1,6 @@
-//! Lists that are moved together in their array, by sliding compaction as collectors of garbage do it: in the order
-//! in which they stand each moves to the end of the one before it.
+//! Lists moved together in their array by sliding compaction, as garbage collectors do it.
+//!
+//! The lists move in the order of their places. Each moves to the end of the list before it.
 ghost use Rattle.std.specs.Prelude.{◌≡◌, ◌^◌, ◌<◌, ◌≤◌, length, map, take, IfOk, OnOk, OnErr};
 ghost use Rattle.ch_lists.specs.Places.{ArePlaces};
 ghost use Rattle.ch_lists.specs.Packing.{closed, AreListed, AreInOrder, IsReady, ArePacked};
@@ -7,7 +8,7 @@ ghost use Rattle.ch_lists.specs.Packing.{closed, AreListed, AreInOrder, IsReady,
 use crate::place::{self, Place};
 use std::alloc::{AllocError, Global};
 
-/// The lists that are not empty: where each starts, and its number.
+/// Returns the lists that are not empty: where each starts, and its number.
 fn listed(alloc: Global, places: &[Place]) -> Result<Vec<(u32, u32)>, AllocError>
     requires { length places.now < 2 ^ 32 }
     ensures { IfOk result (λ entries. AreListed places.now (length places.now) entries.items) }
@@ -22,7 +23,7 @@ fn listed(alloc: Global, places: &[Place]) -> Result<Vec<(u32, u32)>, AllocError
     Ok(entries)
 }
 
-/// The lists that are not empty, in the order in which they stand.
+/// Returns the lists that are not empty, in the order of their places.
 fn in_order(alloc: Global, places: &[Place]) -> Result<Vec<(u32, u32)>, AllocError>
     requires { length places.now < 2 ^ 32 }
     ensures { IfOk result (λ entries. AreInOrder places.now entries.items) }
@@ -32,7 +33,7 @@ fn in_order(alloc: Global, places: &[Place]) -> Result<Vec<(u32, u32)>, AllocErr
     Ok(entries)
 }
 
-/// Takes the empty lists out of the array.
+/// Gives each empty list the place without room.
 fn close_empty(places: &mut [Place])
     ensures { places.new ≡ map closed places.old }
 {
@@ -43,8 +44,10 @@ fn close_empty(places: &mut [Place])
     }
 }
 
-/// Moves the lists to the front of the array, each to the end of the one before it, and gives how many values they
-/// have together. No list moves away from the front, so none is written over before it has moved.
+/// Moves the lists to the front of the array, each to the end of the list before it. Returns how many
+/// values they have together.
+///
+/// A list only moves towards the front, so no list is overwritten before it has moved.
 fn move_together<T: Copy>(values: &mut Vec<T>, places: &mut [Place], order: &[(u32, u32)]) -> usize
     requires ready { IsReady places.old (length values.old.items) order.now }
     ensures within { result ≤ length values.new.items }
@@ -67,7 +70,8 @@ fn move_together<T: Copy>(values: &mut Vec<T>, places: &mut [Place], order: &[(u
     end
 }
 
-/// Moves the lists together, and gives back what is left of the array: each value of it is of a list then.
+/// Moves the lists together and frees the rest of the array. Afterwards each value of the array belongs to
+/// a list.
 pub(crate) fn pack<T: Copy>(values: &mut Vec<T>, places: &mut [Place]) -> Result<(), AllocError>
     requires { ArePlaces places.old (length values.old.items) }
     ensures ok { OnOk result (ArePacked values.old.items values.new.items places.old places.new) }

@@ -1,11 +1,11 @@
-//! Where the lists stand in the array that holds the values of all of them.
+//! Where the lists are in the array that holds the values of all lists.
 ghost use Rattle.std.specs.Prelude.{◌≡◌, ◌+◌, ◌^◌, ◌<◌, ◌≤◌, length, vec_len, IfOk, MatchOption, OnErr, sum};
 ghost use Rattle.std.specs.List.{insert, remove};
 ghost use Rattle.ch_lists.specs.Places.{values_at, AreEmptyPlaces, HasInserted, HasRemoved, HasRoom, HasEdited};
 
 use std::alloc::{AllocError, Global};
 
-/// Where a list stands: from `start` on it has `len` values, and `room` for so many.
+/// Where a list is in the array: it has `len` values from `start` on, and room for `room` values.
 #[derive(Clone, Copy)]
 pub(crate) struct Place {
     pub(crate) start: u32,
@@ -20,7 +20,7 @@ pub(crate) const NOWHERE: Place = Place {
     room: 0,
 };
 
-/// The sum of the rooms. `None` if it is not below 2^32.
+/// Returns the sum of the rooms, or `None` if it is not below 2^32.
 pub(crate) fn total_room(rooms: &[u32]) -> Option<u32>
     ensures { MatchOption result (2 ^ 32 ≤ sum rooms.now) (λ total. total ≡ sum rooms.now) }
 {
@@ -31,7 +31,7 @@ pub(crate) fn total_room(rooms: &[u32]) -> Option<u32>
     Some(total)
 }
 
-/// A place for an empty list for each of these rooms, one behind the other.
+/// Returns a place for an empty list for each of these rooms, one after the other.
 pub(crate) fn empty_places(alloc: Global, rooms: &[u32]) -> Result<Vec<Place>, AllocError>
     requires count { length rooms.now < 2 ^ 32 }
     requires size { sum rooms.now < 2 ^ 32 }
@@ -50,7 +50,7 @@ pub(crate) fn empty_places(alloc: Global, rooms: &[u32]) -> Result<Vec<Place>, A
     Ok(places)
 }
 
-/// Writes `value` at `at`, after the values from there up to `end` have moved on by one, over that at `end`.
+/// Moves the values from `at` up to `end` on by one, over the value at `end`, and writes `value` at `at`.
 fn insert_value<T: Copy>(values: &mut [T], at: usize, end: usize, value: T)
     requires at { at ≤ end }
     requires end { end < length values.old }
@@ -60,7 +60,7 @@ fn insert_value<T: Copy>(values: &mut [T], at: usize, end: usize, value: T)
     values[at] = value;
 }
 
-/// Moves the values behind `at` and below `end` back by one, over that at `at`.
+/// Moves the values after `at` and below `end` back by one, over the value at `at`.
 fn remove_value<T: Copy>(values: &mut [T], at: usize, end: usize)
     requires at { at < end }
     requires end { end ≤ length values.old }
@@ -69,8 +69,10 @@ fn remove_value<T: Copy>(values: &mut [T], at: usize, end: usize)
     values.copy_within(at + 1..end, at);
 }
 
-/// A place with room for one value more for the list at `place`: the same where it has room, and else one
-/// behind all values, to which its values are copied. The new room is filled with `blank`.
+/// Returns a place with room for one more value for the list at `place`. This is `place` itself if it has
+/// room.
+///
+/// Otherwise the list is copied behind all values, to a new room that is filled with `blank`.
 fn place_with_room<T: Copy>(
     values: &mut Vec<T>,
     place: Place,
@@ -88,7 +90,7 @@ fn place_with_room<T: Copy>(
     move_behind(values, place, blank)
 }
 
-/// Copies the list at `place` behind all values, to a place with room for some values more.
+/// Copies the list at `place` behind all values, to a place with room for more values.
 fn move_behind<T: Copy>(values: &mut Vec<T>, place: Place, blank: T) -> Result<Place, AllocError>
     requires within { place.start + place.len ≤ vec_len values.old }
     requires small { vec_len values.old < 2 ^ 32 }
@@ -111,7 +113,7 @@ fn move_behind<T: Copy>(values: &mut Vec<T>, place: Place, blank: T) -> Result<P
     })
 }
 
-/// Inserts `value` at `index` into the list at `place`, and gives the place where that stands then.
+/// Inserts `value` at `index` into the list at `place`. Returns the new place of the list.
 pub(crate) fn insert_at<T: Copy>(
     values: &mut Vec<T>,
     place: Place,
@@ -135,7 +137,7 @@ pub(crate) fn insert_at<T: Copy>(
     })
 }
 
-/// Takes the value at `index` out of the list at `place`, and gives the place of what is left.
+/// Removes the value at `index` from the list at `place`. Returns the new place of the list.
 pub(crate) fn remove_at<T: Copy>(values: &mut [T], place: Place, index: usize) -> Place
     requires index { index < place.len }
     requires fits { place.len ≤ place.room }

@@ -5,7 +5,7 @@ use Rattle.ch_lists.proofs.lists.Lists.skip.Given.{Over}
 use Rattle.ch_lists.proofs.lists.Lists.skip.Goals.{After-shrink_to_fit}
 use Rattle.ch_lists.proofs.lists.Lists.skip.Goals as goal
 
--- the places that are left
+-- the places that remain
 left : (g : Over) (c : After-shrink_to_fit g) → c.shrink_to_fit.new.self.items ≡ drop c.args.count c.self.inside.places.items
 left g c =
     let places = c.self.inside.places in
