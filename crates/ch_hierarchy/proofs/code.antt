@@ -1,4 +1,4 @@
--- What the calls of the code do.
+-- The lemmas for the code.
 pub mod SortedPlaces
 pub mod Doubled
 pub mod OrderLevels

@@ -1,4 +1,4 @@
--- What kept hierarchies give, and what saved ones name.
+-- The lemmas on kept and saved hierarchies.
 pub mod Ordered
 pub mod NoLeg
 pub mod Turned

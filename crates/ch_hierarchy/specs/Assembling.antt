@@ -7,18 +7,18 @@ use Rattle.ch_hierarchy.specs.Placing.{from_of, to_of, ArePlaced}
 use Rattle.ch_hierarchy.specs.Sorting.{AreInOrder}
 use Rattle.ch_hierarchy.specs.Doubles.{IsTwin}
 
--- P fails of the element at place i, and holds of all before it
+-- P fails for the element at place i, and holds for all elements before it
 pub record IsFirstFailing {X : Type 0} (P : X → Type 0) (xs : List X) (i : ℕ) : Type 0 where
   pub within : i < length xs
   pub fails : (d : X) → P (slice_index_or xs i d) → ⊥
   pub before : (j : ℕ) (d : X) → j < i → P (slice_index_or xs j d)
 
--- the pair of the leg at place i is faulty, and that of none before it
+-- the pair of the leg at place i is faulty, and no earlier leg has a faulty pair
 pub record IsFirstPairFault (n : ℕ) (legs : List SavedLeg) (i : ℕ) : Type 0 where
   pub has : HasPairFault n legs i
   pub first : (j : ℕ) → j < i → HasPairFault n legs j → ⊥
 
--- the entries of the legs that go up by low and high, in order, each pair of nodes once
+-- the entries of the legs that go up from `low` to `high`, in order, where each pair of nodes occurs once
 pub record IsSide (low high : SavedLeg → ℕ) (levels : List ℕ) (legs : List SavedLeg) (entries : List Placed) : Type 0 where
   pub placed : ArePlaced low high levels legs entries
   pub order : AreInOrder entries

@@ -1,11 +1,11 @@
--- What is said of a fault of a saved hierarchy.
+-- The texts of the faults of a saved hierarchy.
 use Rattle.std.specs.Prelude.{ℕ, List, codes}
 use Rattle.ch_hierarchy.specs.declared.fault.CheckFault.{CheckFault}
 use Rattle.ch_hierarchy.specs.declared.fault.CheckFault.TheVariants.{Order, Pair, Bound, Base, Middle, Arc, Lower}
 use Rattle.ch_hierarchy.specs.declared.fault.CheckError.{CheckError}
 use Rattle.ch_hierarchy.specs.declared.fault.CheckError.TheVariants.{Fault, NoMemory}
 
--- a word for its kind
+-- one word for each kind
 abbrev pub fault_text : CheckFault → List ℕ
 fault_text Order = codes "order"
 fault_text (Pair i) = codes "pair"

@@ -1,4 +1,4 @@
--- Paths of rising level, and where those of both ends meet.
+-- Paths of rising level, and the nodes where paths from both ends meet.
 use Rattle.std.specs.Prelude.{◌≡◌, ℕ, ◌≤◌, List, [], ◌∷◌, Contains}
 use Rattle.std.specs.List.{sum_by}
 use Rattle.ch_graph.specs.declared.limits.TheConstants.{MOST_WEIGHT}
@@ -8,7 +8,7 @@ use Rattle.ch_hierarchy.specs.declared.leg.Leg.{Leg}
 use Rattle.ch_hierarchy.specs.Rows.{row}
 use Rattle.ch_hierarchy.specs.Hierarchy.{LevelsAndLegs}
 
--- the legs lead upward from a to b: along the up rows from a to b, along the down rows backwards from b to a
+-- the legs lead upward from a to b; along the up rows they lead from a to b, along the down rows back from b to a
 abbrev pub IsUpwardPath : List (List Leg) → ℕ → ℕ → List Leg → Type 0
 IsUpwardPath rows a b [] = a ≡ b
 IsUpwardPath rows a b (l ∷ legs) = Contains (row rows a) l × IsUpwardPath rows l.node b legs
@@ -30,11 +30,11 @@ IsUp H s m c = IsLeastUpwardPath H.up s m c
 abbrev pub IsDown : LevelsAndLegs → ℕ → ℕ → Cost → Type 0
 IsDown H m t c = IsLeastUpwardPath H.down t m c
 
--- going up from s to m and down from there to t costs c
+-- going up from s to m, and down from m to t, costs c
 abbrev pub IsMeeting : LevelsAndLegs → ℕ → ℕ → ℕ → Cost → Type 0
 IsMeeting H s t m c = (a b : Cost) × IsUp H s m a × IsDown H m t b × (cost_sum a b ≡ c)
 
--- the least numbered node over which going up and down costs least
+-- the least numbered node with the least cost of going up to it and down from it
 pub record IsMeet (H : LevelsAndLegs) (s t m : ℕ) (c : Cost) : Type 0 where
   pub meets : IsMeeting H s t m c
   pub least : (k : ℕ) (d : Cost) → IsMeeting H s t k d → IsAtMost c d × (d ≡ c → m ≤ k)

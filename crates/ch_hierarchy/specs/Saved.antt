@@ -1,4 +1,4 @@
--- What a saved hierarchy names, and its faults.
+-- The hierarchy that a saved one names, and the faults of a saved one.
 use Rattle.std.specs.Prelude.{◌≡◌, ◌≢◌, ℕ, ◌+◌, ◌<◌, ◌≤◌, ◌↔◌, ◌⊎◌, List, length, slice_index, slice_get, AllPairs, Contains, Option, Some, None, Result, Err}
 use Rattle.ch_graph.specs.declared.limits.TheConstants.{MOST_WEIGHT}
 use Rattle.ch_graph.specs.declared.arc.InArc.{InArc}
@@ -13,7 +13,7 @@ use Rattle.ch_hierarchy.specs.declared.fault.CheckError.TheVariants.{NoMemory}
 use Rattle.ch_hierarchy.specs.Hierarchy.{LevelsAndLegs, nodes_of, IsLevelled}
 use Rattle.ch_hierarchy.specs.Kept.{IsLeg, IsFounded, HasLegWithin, IsCovered, IsKept}
 
--- each node below n once
+-- the order has each node below n once
 pub record IsOrderOf (n : ℕ) (order : List ℕ) : Type 0 where
   pub count : length order ≡ n
   pub within : (i : ℕ) → i < length order → slice_index order i < n
@@ -27,14 +27,14 @@ pub record AreLevelsOf (order levels : List ℕ) : Type 0 where
 abbrev pub IsSamePair : SavedLeg → SavedLeg → Type 0
 IsSamePair k l = (k.from ≡ l.from) × (k.to ≡ l.to)
 
--- H has the levels that the order gives, and exactly these legs, one for a pair of nodes
+-- H has the levels of the order and exactly these legs, and each pair of nodes has at most one
 pub record NamesHierarchy (s : OrderAndLegs) (H : LevelsAndLegs) : Type 0 where
   pub levelled : IsLevelled H
   pub levels : AreLevelsOf s.order H.level
   pub legs : (u w : ℕ) (c : Cost) (m : Option ℕ) → IsLeg H u w c m ↔ Contains s.legs (record { from = u; to = w; cost = c; middle = m })
   pub once : AllPairs (λ k l. IsSamePair k l → ⊥) s.legs
 
--- the ends are two nodes below n
+-- the ends are two different nodes below n
 abbrev pub JoinsNodes : ℕ → SavedLeg → Type 0
 JoinsNodes n l = (l.from < n) × (l.to < n) × (l.from ≢ l.to)
 
@@ -46,15 +46,15 @@ IsWithinBounds n l = (l.cost.weight ≤ MOST_WEIGHT) × (l.cost.arcs < n)
 abbrev pub StoodBefore : List SavedLeg → ℕ → SavedLeg → Type 0
 StoodBefore legs i l = (j : ℕ) × (k : SavedLeg) × (j < i) × (slice_get legs j ≡ Some k) × IsSamePair k l
 
--- its ends are equal or no nodes, or a leg before it leads between the same nodes
+-- its ends are not two different nodes, or an earlier leg leads between the same nodes
 abbrev pub HasPairFault : ℕ → List SavedLeg → ℕ → Type 0
 HasPairFault n legs i = (l : SavedLeg) × (slice_get legs i ≡ Some l) × ((JoinsNodes n l → ⊥) ⊎ StoodBefore legs i l)
 
--- in the hierarchy that is named, the leg at place i isn't what it stands for
+-- in the hierarchy that is named, the leg at place i is neither an arc nor the sum of two legs, as its middle says
 abbrev pub IsUnfounded : Network → OrderAndLegs → ℕ → SavedLeg → Type 0
 IsUnfounded g s i l = (slice_get s.legs i ≡ Some l) × ((H : LevelsAndLegs) × NamesHierarchy s H × (IsFounded g H l.from l.to l.cost l.middle → ⊥))
 
--- the fault is there
+-- the saved hierarchy has this fault
 abbrev pub HasFault : Network → OrderAndLegs → CheckFault → Type 0
 HasFault g s Order = IsOrderOf g.nodes s.order → ⊥
 HasFault g s (Pair i) = HasPairFault g.nodes s.legs i
@@ -64,11 +64,11 @@ HasFault g s (Middle i) = (l : SavedLeg) × (v : ℕ) × (l.middle ≡ Some v) �
 HasFault g s (Arc i) = (a : InArc) × (slice_get g.arcs i ≡ Some a) × (a.from ≢ a.to) × ((H : LevelsAndLegs) × NamesHierarchy s H × (HasLegWithin H a → ⊥))
 HasFault g s (Lower v) = (v < g.nodes) × ((H : LevelsAndLegs) × NamesHierarchy s H × (IsCovered H v → ⊥))
 
--- none of the seven faults is there
+-- the saved hierarchy has none of the seven faults
 abbrev pub IsFaultless : Network → OrderAndLegs → Type 0
 IsFaultless g s = (f : CheckFault) → HasFault g s f → ⊥
 
--- the kinds, in the order in which they are judged
+-- the number of a kind; the kinds are judged in this order
 abbrev pub kind : CheckFault → ℕ
 kind Order = 0
 kind (Pair i) = 1
@@ -87,16 +87,16 @@ place (Middle i) = i
 place (Arc i) = i
 place (Lower v) = v
 
--- by kind, and of one kind by place
+-- by kind, and within one kind by place
 abbrev pub ComesBefore : CheckFault → CheckFault → Type 0
 ComesBefore e f = (kind e < kind f) ⊎ ((kind e ≡ kind f) × (place e < place f))
 
--- the fault is there, and none that comes before it
+-- it has this fault, and no fault that comes before it
 pub record IsFirstFault (g : Network) (s : OrderAndLegs) (f : CheckFault) : Type 0 where
   pub has : HasFault g s f
   pub first : (e : CheckFault) → ComesBefore e f → HasFault g s e → ⊥
 
--- a fault of the order, or of a leg by itself or beside those before it
+-- a fault of the order, of one leg alone, or of a leg and an earlier one
 abbrev pub IsEarly : CheckFault → Type 0
 IsEarly f = kind f < 3
 
@@ -104,10 +104,10 @@ IsEarly f = kind f < 3
 abbrev pub NamesFor : Network → OrderAndLegs → LevelsAndLegs → Type 0
 NamesFor g s H = NamesHierarchy s H × (nodes_of H ≡ g.nodes)
 
--- they name this hierarchy, which is right for the graph
+-- the order and the legs name this hierarchy, and it is right for the graph
 abbrev pub NamesKept : Network → OrderAndLegs → LevelsAndLegs → Type 0
 NamesKept g s H = NamesHierarchy s H × IsKept g H
 
--- the result is this answer exactly where P holds, memory aside
+-- the result is this answer exactly when P holds, unless memory ran out
 abbrev pub AnswersWhere : {A : Type 0} → Result A CheckError → Result A CheckError → Type 0 → Type 0
 AnswersWhere result answer P = (result ≡ answer → P) × (P → (result ≡ answer) ⊎ (result ≡ Err NoMemory))

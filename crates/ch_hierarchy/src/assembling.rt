@@ -1,4 +1,4 @@
-//! The levels and rows of a saved hierarchy, or its first fault.
+//! The levels and rows of legs of a saved hierarchy, or its first early fault.
 ghost use Rattle.std.specs.Prelude.{◌≡◌, ℕ, List, Contains, IfOk, MatchOption};
 ghost use Rattle.ch_graph.specs.declared.saved.SavedLeg.{SavedLeg as LegOfFile};
 ghost use Rattle.ch_hierarchy.specs.declared.fault.CheckFault.{CheckFault as AnyFault};
@@ -17,20 +17,21 @@ use ch_graph::limits::MOST_WEIGHT;
 use ch_graph::{Graph, Saved, SavedLeg};
 use std::alloc::{AllocError, Global};
 
-/// The hierarchy that a saved one names, among the nodes of the graph. Its order, the pairs of its legs and
-/// their bounds are judged; whether its legs are right for the graph is not. The work is linear in the
-/// number of nodes and legs.
+/// Returns the hierarchy that a saved one names, among the nodes of the graph.
+///
+/// It judges the order, the pairs of the legs and their bounds. It does not judge whether the legs are
+/// right for the graph. The work is linear in the number of nodes and legs.
 ///
 /// # Errors
-/// The first fault of the kinds `Order`, `Pair` and `Bound`, or `NoMemory`, where there was no memory before a
-/// fault was met. The graph and the saved hierarchy are as they were.
+/// The first fault of the kinds `Order`, `Pair` and `Bound`, or `NoMemory` if memory ran out before a fault
+/// was found. The graph and the saved hierarchy stay as they were.
 pub fn assemble(alloc: Global, graph: &Graph, saved: &Saved) -> Result<Hierarchy, CheckError>
     ensures value { (H : LevelsAndLegs) → AnswersWhere result (Ok H) (NamesFor graph.now saved.now H) }
     ensures fault { (f : AnyFault) →
         AnswersWhere result (Err (CheckError.Fault f))
         (IsEarly f × IsFirstFault graph.now saved.now f) }
 {
-    // The proof learns from this call that the graph keeps the limits.
+    // This call tells the proof that the graph keeps the limits.
     let _ = graph.arcs();
     let nodes = graph.nodes();
     let Some(levels) = levels_of(alloc, nodes, saved.order.as_slice())? else {
@@ -48,7 +49,7 @@ pub fn assemble(alloc: Global, graph: &Graph, saved: &Saved) -> Result<Hierarchy
     Ok(Hierarchy::from_rows(alloc, levels, ups, downs)?)
 }
 
-/// The level of each node, where the order has each node below `n` once.
+/// Returns the level of each node, or `None` if the order does not have each node below `n` exactly once.
 fn levels_of(alloc: Global, n: u32, order: &[u32]) -> Result<Option<Vec<u32>>, AllocError>
     ensures { IfOk result (λ found. MatchOption found (IsOrderOf n order.now → ⊥) (λ levels. IsOrderOf n order.now × AreLevelsOf order.now levels.items)) }
 {
@@ -67,9 +68,10 @@ fn levels_of(alloc: Global, n: u32, order: &[u32]) -> Result<Option<Vec<u32>>, A
     Ok(Some(levels))
 }
 
-/// The legs of both directions in order, or the first leg whose pair of nodes is faulty. The legs before
-/// the first one that joins no two nodes are sorted; of these the ones whose pair stood before are
-/// neighbours.
+/// Returns the legs of both directions in order, or the first leg whose pair of nodes is faulty.
+///
+/// It sorts the legs before the first one that does not join two nodes. It then looks among them for a leg
+/// with the same two nodes as an earlier leg.
 fn pairs_of(
     alloc: Global,
     n: u32,
@@ -92,7 +94,7 @@ fn pairs_of(
     }
 }
 
-/// The place of the first leg whose ends are not two nodes below `n`.
+/// Returns the place of the first leg whose ends are not two different nodes below `n`.
 fn first_not_joining(n: u32, legs: &[SavedLeg]) -> Option<usize>
     ensures { MatchOption result ((l : LegOfFile) → Contains legs.now l → JoinsNodes n l) (IsFirstFailing (JoinsNodes n) legs.now) }
 {
@@ -100,7 +102,7 @@ fn first_not_joining(n: u32, legs: &[SavedLeg]) -> Option<usize>
         .position(|leg| leg.from >= n || leg.to >= n || leg.from == leg.to)
 }
 
-/// The place of the first leg that is past a limit.
+/// Returns the place of the first leg that exceeds a limit.
 fn first_past_bounds(n: u32, legs: &[SavedLeg]) -> Option<usize>
     ensures { MatchOption result ((l : LegOfFile) → Contains legs.now l → IsWithinBounds n l) (IsFirstFailing (IsWithinBounds n) legs.now) }
 {

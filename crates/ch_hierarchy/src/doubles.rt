@@ -1,4 +1,4 @@
-//! Pairs of nodes that have a leg twice.
+//! Legs with the same two nodes as an earlier leg.
 ghost use Rattle.std.specs.Prelude.{◌≡◌, Contains, IfOk};
 ghost use Rattle.ch_hierarchy.specs.declared.placing.Placed.{Placed as AnyPlaced};
 ghost use Rattle.ch_hierarchy.specs.Doubles.{IsLessened, IsTwin};
@@ -7,9 +7,11 @@ ghost use Rattle.ch_hierarchy.specs.Sorting.{AreInOrder, IsPlacedBelow};
 use crate::placing::Placed;
 use std::alloc::{AllocError, Global};
 
-/// The least of what is known and the places of the entries that have the two nodes of an earlier one. The
-/// entries are in order of higher node and then of place, so that of those of one lower node the ones of one
-/// higher node follow each other.
+/// Returns the least of `known` and the places of the entries that have the same two nodes as an earlier
+/// entry.
+///
+/// The entries are in order of higher node, and at equal higher nodes in order of place. So among the
+/// entries of one lower node, those of one higher node follow each other.
 pub(crate) fn first_twin(
     alloc: Global,
     n: u32,
@@ -20,7 +22,8 @@ pub(crate) fn first_twin(
     requires order { AreInOrder entries.now }
     ensures { IfOk result (IsLessened (IsTwin entries.now) known) }
 {
-    // The higher node of the last entry of each lower node: n, which is no node, where none was met yet.
+    // The higher node of the last entry of each lower node. It is n, which is no node, before the first
+    // such entry.
     let mut last = vec![in alloc; n; n as usize]?;
     let mut least = known;
     for entry in entries {
@@ -33,7 +36,7 @@ pub(crate) fn first_twin(
     Ok(least)
 }
 
-/// The lesser of what is known and a place.
+/// Returns the lesser of a known place, if there is one, and this place.
 fn lesser(known: Option<usize>, place: usize) -> Option<usize>
     ensures { IsLessened (λ q. q ≡ place) known result }
 {

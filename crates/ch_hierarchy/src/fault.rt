@@ -1,4 +1,4 @@
-//! What is wrong with a saved hierarchy.
+//! The faults of a saved hierarchy.
 ghost use Rattle.std.specs.Prelude.{◌≡◌, Some};
 ghost use Rattle.ch_hierarchy.specs.declared.fault.CheckError.TheVariants as CheckError;
 ghost use Rattle.ch_hierarchy.specs.FaultText.{fault_text, error_text};
@@ -7,36 +7,38 @@ use std::alloc::AllocError;
 use std::error::Error;
 use std::fmt;
 
-/// What makes a saved hierarchy wrong for a graph, in the order in which it is judged. All places are
-/// judged for one kind before the next kind, and within a kind the least place or node is named. Places
-/// and nodes are counted from 0.
+/// Why a saved hierarchy is wrong for a graph. The kinds are judged in this order.
+///
+/// All places are judged for one kind before the next kind. Within a kind, the fault names the least place
+/// or node. Places and nodes are counted from 0.
 #[derive(Clone, Copy, Debug, PartialEq, Eq)]
 pub enum CheckFault {
-    /// The order isn't each node of the graph once.
+    /// The order does not have each node of the graph exactly once.
     Order,
-    /// The ends of the leg at this place are equal or no nodes of the graph, or a leg before it leads
+    /// The ends of the leg at this place are not two different nodes of the graph, or an earlier leg leads
     /// between the same nodes.
     Pair(usize),
-    /// The leg at this place weighs more than [`MOST_WEIGHT`](ch_graph::limits::MOST_WEIGHT), or stands for as many
-    /// arcs as there are nodes.
+    /// The leg at this place weighs more than [`MOST_WEIGHT`](ch_graph::limits::MOST_WEIGHT), or stands for
+    /// at least as many arcs as there are nodes.
     Bound(usize),
-    /// The leg at this place has no middle, and is no arc of the graph.
+    /// The leg at this place has no middle, and it is not an arc of the graph or does not stand for exactly
+    /// one arc.
     Base(usize),
-    /// The leg at this place has a middle, and isn't the two legs to and from it.
+    /// The leg at this place has a middle, and it is not the sum of the two legs to and from that middle.
     Middle(usize),
-    /// The arc of the graph at this place, no loop, has no leg that costs at most as much.
+    /// The arc of the graph at this place is no loop, and it has no leg that costs at most as much.
     Arc(usize),
-    /// Through this node two legs lead between nodes that differ, for less than it costs to go up and
-    /// down between these.
+    /// Two legs through this node lead between two different nodes, and every way up and then down between
+    /// these costs more.
     Lower(u32),
 }
 
 /// Why a saved hierarchy is refused.
 #[derive(Clone, Copy, Debug, PartialEq, Eq)]
 pub enum CheckError {
-    /// It has this fault, which is the first.
+    /// It has this fault, and no fault comes before it.
     Fault(CheckFault),
-    /// There was no memory for it before a fault was met.
+    /// Memory ran out before a fault was found.
     NoMemory,
 }
 

@@ -1,4 +1,4 @@
-//! Levels, and the legs to higher nodes and from them.
+//! Levels, and the legs of each node to and from higher nodes.
 ghost use Rattle.std.specs.Prelude.{◌≡◌, ◌+◌, ◌*◌, ◌<◌, ℕ, IfOk, map, slice_index};
 ghost use Rattle.ch_hierarchy.specs.Rows.{row};
 ghost use Rattle.ch_hierarchy.specs.Hierarchy.{nodes_of, IsLevelled};
@@ -11,8 +11,10 @@ use ch_lists::Lists;
 use std::alloc::{AllocError, Global};
 use std::marker::Model;
 
-/// A contraction hierarchy: each node has a level, from 1 to the number of nodes, and legs to and from
-/// nodes of higher levels. Searches find the legs by rank, which is how many nodes are higher.
+/// A contraction hierarchy. Each node has a level, from 1 to the number of nodes, and legs to and from
+/// nodes of higher levels.
+///
+/// Searches find the legs by rank. The rank of a node is the number of higher nodes.
 #[derive(Drop)]
 pub struct Hierarchy {
     levels: Vec<u32>,
@@ -21,7 +23,7 @@ pub struct Hierarchy {
     downs: Lists<Leg>,
     /// The node of each rank.
     nodes: Vec<u32>,
-    /// The legs up of each rank's node, and then its legs down.
+    /// For each rank, the legs up of its node and then its legs down.
     ranked: Rows<RankedLeg>,
 }
 
@@ -38,10 +40,11 @@ impl Model for Hierarchy {
 }
 
 impl Hierarchy {
-    /// The hierarchy of these levels and rows. It takes the steps and the memory to write each leg by rank once.
+    /// Makes the hierarchy of these levels and rows. Steps and memory are those of writing each leg once by
+    /// rank.
     ///
     /// # Errors
-    /// `AllocError` where there is no memory for the nodes by rank or the ranked legs.
+    /// `AllocError` if there is no memory for the nodes by rank or the legs by rank.
     pub fn from_rows(
         alloc: Global,
         levels: Vec<u32>,
@@ -70,7 +73,7 @@ impl Hierarchy {
         self.levels.len() as u32
     }
 
-    /// The level of `v`: the place of its contraction in the order, from 1 on.
+    /// The level of `v`. It is the place of `v` in the order of contraction, counted from 1.
     pub fn level(&self, v: u32) -> u32
         requires { v < nodes_of self.now }
         ensures level { result ≡ slice_index self.now.level v }
@@ -97,7 +100,7 @@ impl Hierarchy {
         self.downs.at(v)
     }
 
-    /// How many nodes are higher than `v`.
+    /// The number of nodes that are higher than `v`.
     pub fn rank(&self, v: u32) -> u32
         requires { v < nodes_of self.now }
         ensures rank { result ≡ rank_of self.now v }
@@ -117,8 +120,10 @@ impl Hierarchy {
         self.nodes[rank as usize]
     }
 
-    /// The legs by rank of a node and a direction, as one number: for `2 r` those from the node of rank r to higher nodes, in the order of
-    /// `up`, and for `2 r + 1` those from higher nodes to it, in the order of `down`.
+    /// The legs by rank of one node in one direction, chosen by a number.
+    ///
+    /// `2 r` gives the legs from the node of rank r to higher nodes, in the order of `up`. `2 r + 1` gives
+    /// the legs from higher nodes to it, in the order of `down`.
     #[inline]
     pub fn ranked_legs(&self, state: u32) -> &[RankedLeg]
         requires { state < 2 * nodes_of self.now }

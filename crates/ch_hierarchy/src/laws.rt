@@ -1,4 +1,4 @@
-//! Laws, each the contract of a function that does nothing.
+//! Laws. Each is the contract of a function that does nothing.
 
 pub mod kept;
 pub mod saved;

@@ -1,10 +1,13 @@
-//! Contraction hierarchies (Geisberger, Sanders, Schultes and Delling 2008), whoever made them: levels, legs, what
-//! makes them right for a graph, and saved ones.
+//! Contraction hierarchies of any origin (Geisberger, Sanders, Schultes and Delling 2008): levels, legs,
+//! saved hierarchies, and when a hierarchy is right for a graph.
 //!
-//! It stands on ch_graph and ch_lists. Proved of it: in a hierarchy that is kept for a graph, of any origin, going up and then
-//! down costs least what a walk costs least ([`laws::kept`]); [`assemble`] makes the one hierarchy that a saved
-//! order and legs name, or tells their first fault ([`laws::saved`]). A [`Hierarchy`] also holds its legs by rank, in
-//! the form that searches read.
+//! It stands on ch_graph and ch_lists. A [`Hierarchy`] also holds its legs by rank, in the form that searches
+//! read. These statements are proved:
+//!
+//! - A hierarchy of any origin may be kept for a graph. In such a hierarchy, the least cost of going up and
+//!   then down is the least cost of a walk ([`laws::kept`]).
+//! - [`assemble`] makes the one hierarchy that a saved order and legs name, or returns their first fault
+//!   ([`laws::saved`]).
 #![tactic(auto)]
 
 mod assembling;

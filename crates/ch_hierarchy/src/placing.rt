@@ -22,7 +22,7 @@ pub(crate) struct PlacedLegs {
     pub(crate) downs: Vec<Placed>,
 }
 
-/// The places of these legs, in the order of the list. Levels are by node.
+/// Returns the places of these legs, in the order of the list. `levels` is by node.
 pub(crate) fn place_legs(
     alloc: Global,
     levels: &[u32],
@@ -41,7 +41,7 @@ pub(crate) fn place_legs(
     Ok(PlacedLegs { ups, downs })
 }
 
-/// Appends the leg at this place where the second node is the higher one.
+/// Appends the leg at this place if the second node is the higher one.
 fn push_where_up(
     entries: &mut Vec<Placed>,
     levels: &[u32],

@@ -1,4 +1,5 @@
-//! Legs by rank, as searches read them: both directions of a node side by side, in an array of their own.
+//! Legs by rank, as searches read them. Both directions of a node are side by side, in an array of their
+//! own.
 ghost use Rattle.std.specs.Prelude.{◌≡◌, ◌≤◌, Contains, IfOk, OnOk, length, map};
 ghost use Rattle.ch_graph.specs.declared.limits.TheConstants.{MOST_NODES};
 ghost use Rattle.ch_hierarchy.specs.declared.leg.Leg.{Leg as AnyLeg};
@@ -10,19 +11,19 @@ use ch_graph::{Cost, Rows};
 use ch_lists::Lists;
 use std::alloc::{AllocError, Global};
 
-/// A leg as searches read it: its other node by rank. 16 bytes.
+/// A leg as searches read it, with its other node by rank. It takes 16 bytes.
 #[derive(Clone, Copy, Debug, PartialEq, Eq)]
 pub struct RankedLeg {
-    /// How many nodes are higher than the other node.
+    /// The rank of the other node, which is the number of nodes higher than it.
     pub rank: u32,
-    /// The number of input arcs for which the leg stands.
+    /// The number of input arcs that the leg stands for.
     pub arcs: u32,
-    /// What these weigh together.
+    /// The sum of the weights of these arcs.
     pub weight: u64,
 }
 
 impl RankedLeg {
-    /// What the walk of input arcs costs for which the leg stands.
+    /// The cost of the walk of input arcs that the leg stands for.
     #[inline]
     pub fn cost(self) -> Cost
         ensures { result ≡ record { weight = self.weight; arcs = self.arcs } }
@@ -34,7 +35,7 @@ impl RankedLeg {
     }
 }
 
-/// The node of each rank.
+/// Returns the node of each rank.
 pub(crate) fn nodes_by_rank(alloc: Global, levels: &[u32]) -> Result<Vec<u32>, AllocError>
     requires count { length levels.now ≤ MOST_NODES }
     requires levels { AreLevels levels.now }
@@ -47,7 +48,7 @@ pub(crate) fn nodes_by_rank(alloc: Global, levels: &[u32]) -> Result<Vec<u32>, A
     Ok(nodes)
 }
 
-/// The ranked legs of these nodes, in two rows for each node: its legs up and then its legs down.
+/// Returns the legs by rank of these nodes, in two rows for each node: its legs up, and then its legs down.
 pub(crate) fn ranked_rows(
     alloc: Global,
     levels: &[u32],
@@ -70,7 +71,7 @@ pub(crate) fn ranked_rows(
     Ok(rows)
 }
 
-/// Makes the row that of these legs, by rank.
+/// Replaces the row by these legs, by rank.
 fn rank_legs(levels: &[u32], legs: &[Leg], row: &mut Vec<RankedLeg>) -> Result<(), AllocError>
     requires count { length levels.now ≤ MOST_NODES }
     requires legs { (l : AnyLeg) → Contains legs.now l → IsRankable levels.now l }
@@ -83,7 +84,7 @@ fn rank_legs(levels: &[u32], legs: &[Leg], row: &mut Vec<RankedLeg>) -> Result<(
     Ok(())
 }
 
-/// A leg by rank.
+/// Returns a leg by rank.
 fn rank_leg(levels: &[u32], leg: Leg) -> RankedLeg
     requires count { length levels.now ≤ MOST_NODES }
     requires leg { IsRankable levels.now leg }

@@ -1,4 +1,4 @@
--- The least place of a double.
+-- The least place of an entry with the same two nodes as an earlier one.
 use Rattle.std.proofs.Common.{◌≡◌, ℕ, ◌+◌, ◌<◌, ◌≤◌, ◌⊎◌, inl, inr, List, [], length, set, get_or, replicate, Option, refl, sym, ◌∙◌, ap, subst, arith}
 use Rattle.std.specs.Prelude.{AllPairs, Contains, slice_index}
 use Rattle.std.proofs.lemmas.Bool.{cases_eq, cases_lt}
@@ -8,7 +8,7 @@ use Rattle.ch_hierarchy.specs.declared.placing.Placed.{Placed}
 use Rattle.ch_hierarchy.specs.Sorting.{AreInOrder, AreSorted, IsPlacedBelow}
 use Rattle.ch_hierarchy.specs.Doubles.{IsLessened, IsTwin}
 
--- nothing new
+-- if no number has D, the least stays
 pub lessened_none : (D : ℕ → Type 0) (known : Option ℕ) → ((q : ℕ) → D q → ⊥) → IsLessened D known known
 lessened_none D known none = record {
   is = λ p e. inl e;
@@ -16,7 +16,7 @@ lessened_none D known none = record {
   covers_new = λ q d. absurd (none q d);
 }
 
--- one lessening after another
+-- two steps towards the least, one after the other
 pub lessened_twice : (D E F : ℕ → Type 0) (a b c : Option ℕ) → IsLessened D a b → IsLessened E b c → ((q : ℕ) → F q → D q ⊎ E q) → ((q : ℕ) → D q → F q) → ((q : ℕ) → E q → F q) → IsLessened F a c
 lessened_twice D E F a b c x y split left right = record {
   is = λ p e. elim (y.is p e) [ inl was ↦ elim (x.is p was) [ inl known ↦ inl known | inr d ↦ inr (left p d) ] | inr d ↦ inr (right p d) ];
@@ -27,11 +27,11 @@ lessened_twice D E F a b c x y split left right = record {
   ];
 }
 
--- two neighbours of the row have one higher node, and the later has place p
+-- two neighbours in the row have the same higher node, and the later one has place p
 abbrev pub IsDouble : List Placed → ℕ → Type 0
 IsDouble row p = (i : ℕ) × (d : Placed) × (i + 1 < length row) × ((get_or row i d).higher ≡ (get_or row (i + 1) d).higher) × ((get_or row (i + 1) d).place ≡ p)
 
--- a row by higher node and then by place
+-- a row by higher node, and at equal higher nodes by place
 module _ (row : List Placed) (sorted : AreInOrder row) where
   -- higher nodes never fall
   no_fall : (i j : ℕ) (d : Placed) → i ≤ j → j < length row → (get_or row i d).higher ≤ (get_or row j d).higher
@@ -40,7 +40,7 @@ module _ (row : List Placed) (sorted : AreInOrder row) where
     | inr ge ↦ (let same : i ≡ j = omega arith in let e = ap (λ k. (get_or row k d).higher) same in omega arith)
   ]
 
-  -- where no two neighbours have one higher node they rise
+  -- if no two neighbours have the same higher node, the higher nodes rise
   pub strict : ((p : ℕ) → IsDouble row p → ⊥) → AllPairs (λ a b. a.higher < b.higher) row
   strict none i j d less lt =
       let rest = no_fall (i + 1) j d (omega arith) lt in
@@ -49,7 +49,7 @@ module _ (row : List Placed) (sorted : AreInOrder row) where
         | inr same ↦ absurd (none (get_or row (i + 1) d).place (i, d, omega arith, same.0, refl))
       ]
 
-  -- a double has an earlier entry of the same higher node
+  -- for each double there is an earlier entry with the same higher node
   pub double_before : (p : ℕ) → IsDouble row p → (a b : Placed) × Contains row a × Contains row b × (a.higher ≡ b.higher) × (a.place < b.place) × (b.place ≡ p)
   double_before p h = (
     get_or row h.0 h.1,
@@ -61,9 +61,9 @@ module _ (row : List Placed) (sorted : AreInOrder row) where
     h.4,
   )
 
--- the rows by lower node of entries in order
+-- the rows by lower node, made of entries in order
 module _ (n : ℕ) (entries : List Placed) (rows : List (List Placed)) (sorted : AreSorted n entries rows) where
-  -- a double is a twin
+  -- a double in a row is a twin among the entries
   pub twin_of_double : (v p : ℕ) → v < n → IsDouble (get_or rows v []) p → IsTwin entries p
   twin_of_double v p lt h =
       let t = double_before (get_or rows v []) (sorted.order v lt) p h in
@@ -71,24 +71,24 @@ module _ (n : ℕ) (entries : List Placed) (rows : List (List Placed)) (sorted :
       let b = (sorted.each v t.1 lt).0 t.3 in
       (t.0, t.1, a.0, b.0, a.1 ∙ sym b.1, t.4, t.5, t.6)
 
--- the entry at place p has the two nodes of an entry before it, among the first i
+-- among the first i entries, the one of place p has the same two nodes as an earlier one
 abbrev pub IsTwinBelow : List Placed → ℕ → ℕ → Type 0
 IsTwinBelow entries i p =
     (j k : ℕ) × (d : Placed) × (j < k) × (k < i) × (k < length entries) × ((get_or entries j d).lower ≡ (get_or entries k d).lower) × ((get_or entries j d).higher ≡ (get_or entries k d).higher) × ((get_or entries k d).place ≡ p)
 
--- of the first i entries one has these two nodes
+-- one of the first i entries has these two nodes
 abbrev pub IsMet : List Placed → ℕ → ℕ → ℕ → Type 0
 IsMet entries i lower higher = (j : ℕ) × (d : Placed) × (j < i) × (j < length entries) × ((get_or entries j d).lower ≡ lower) × ((get_or entries j d).higher ≡ higher)
 
--- the higher node of the last of the first i entries of each lower node, and n where there is none
+-- for each lower node, the higher node of its last entry among the first i, or n if there is none
 pub record AreLast (n : ℕ) (entries : List Placed) (i : ℕ) (last : List ℕ) : Type 0 where
   pub size : length last ≡ n
   pub met : (v : ℕ) → v < n → slice_index last v < n → IsMet entries i v (slice_index last v)
   pub most : (v h : ℕ) → v < n → IsMet entries i v h → (slice_index last v < n) × (h ≤ slice_index last v)
 
--- entries by higher node and then by place
+-- entries by higher node, and at equal higher nodes by place
 module _ (n : ℕ) (entries : List Placed) (order : AreInOrder entries) (below : (e : Placed) → Contains entries e → IsPlacedBelow n e) where
-  -- none before the first
+  -- before the first entry, no lower node has been met
   pub none_met : (last : List ℕ) → last ≡ replicate n n → AreLast n entries 0 last
   none_met last is = record {
     size = ap length is ∙ length-replicate n n;
@@ -100,11 +100,11 @@ module _ (n : ℕ) (entries : List Placed) (order : AreInOrder entries) (below :
     nodes : IsPlacedBelow n (get_or entries i e)
     nodes = below (get_or entries i e) (Contains-get_or entries i e within)
 
-    -- the higher node that is at the lower one is that of an earlier entry
+    -- if the last higher node is that of this entry, an earlier entry has the same two nodes
     pub met_before : slice_index last (get_or entries i e).lower ≡ (get_or entries i e).higher → IsMet entries i (get_or entries i e).lower (get_or entries i e).higher
     met_before same = (let b = nodes in subst (IsMet entries i (get_or entries i e).lower) same (are.met (get_or entries i e).lower b.0 (let h = b.1 in omega arith)))
 
-    -- where it is another, no earlier entry has both nodes
+    -- if the last higher node is another, no earlier entry has both nodes
     pub none_before : (slice_index last (get_or entries i e).lower ≡ (get_or entries i e).higher → ⊥) → IsMet entries i (get_or entries i e).lower (get_or entries i e).higher → ⊥
     none_before other m =
         let b = nodes in
@@ -116,7 +116,7 @@ module _ (n : ℕ) (entries : List Placed) (order : AreInOrder entries) (below :
         let low = top.1 in
         other (omega arith)
 
-    -- one entry more
+    -- the last higher nodes after one more entry
     pub next_last : AreLast n entries (i + 1) (set last (get_or entries i e).lower (get_or entries i e).higher)
     next_last = record {
       size = length-set last (get_or entries i e).lower (get_or entries i e).higher ∙ are.size;
@@ -153,7 +153,7 @@ module _ (n : ℕ) (entries : List Placed) (order : AreInOrder entries) (below :
               | inr ge ↦ absurd (let low = q.2 in let same : q.0 ≡ i = omega arith in ne (sym q.4 ∙ ap (λ k. (get_or entries k q.1).lower) same ∙ ap (λ (z : Placed). z.lower) (get_or_default entries i q.1 e within)))
             ]
 
-    -- a twin more
+    -- the least place after an entry that has a twin
     pub twin_met : (a b c : Option ℕ) → IsMet entries i (get_or entries i e).lower (get_or entries i e).higher → IsLessened (IsTwinBelow entries i) a b → IsLessened (λ q. q ≡ (get_or entries i e).place) b c → IsLessened (IsTwinBelow entries (i + 1)) a c
     twin_met a b c m p q = lessened_twice (IsTwinBelow entries i) (λ r. r ≡ (get_or entries i e).place) (IsTwinBelow entries (i + 1)) a b c p q
         (λ r t. elim (cases_lt t.1 i) [
@@ -163,7 +163,7 @@ module _ (n : ℕ) (entries : List Placed) (order : AreInOrder entries) (below :
         (λ r t. (t.0, t.1, t.2, t.3, (let low = t.4 in omega arith), t.5, t.6, t.7, t.8))
         (λ r is. (m.0, i, e, m.2, omega arith, within, ap (λ (z : Placed). z.lower) (get_or_default entries m.0 e m.1 m.3) ∙ m.4, ap (λ (z : Placed). z.higher) (get_or_default entries m.0 e m.1 m.3) ∙ m.5, sym is))
 
-    -- no twin more
+    -- the least place after an entry that has no twin
     pub none_more : (a b : Option ℕ) → (IsMet entries i (get_or entries i e).lower (get_or entries i e).higher → ⊥) → IsLessened (IsTwinBelow entries i) a b → IsLessened (IsTwinBelow entries (i + 1)) a b
     none_more a b none p = record {
       is = λ r k. elim (p.is r k) [ inl was ↦ inl was | inr t ↦ inr (t.0, t.1, t.2, t.3, (let low = t.4 in omega arith), t.5, t.6, t.7, t.8) ];
@@ -179,7 +179,7 @@ module _ (n : ℕ) (entries : List Placed) (order : AreInOrder entries) (below :
       ];
     }
 
-  -- all entries
+  -- the least place after all entries
   pub twins_all : (i : ℕ) (a b : Option ℕ) → length entries ≤ i → IsLessened (IsTwinBelow entries i) a b → IsLessened (IsTwin entries) a b
   twins_all i a b le p = record {
     is = λ r k. elim (p.is r k) [ inl was ↦ inl was | inr t ↦ inr (twin r t) ];

@@ -1,16 +1,16 @@
--- The order of a saved hierarchy gives levels.
+-- The levels that the order of a saved hierarchy gives.
 use Rattle.std.proofs.Common.{◌≡◌, ℕ, ◌+◌, ◌<◌, ◌≤◌, List, length, sym, ◌∙◌, ap, subst, arith, get_or, set, length-set, get_or-set_same, get_or-set_other, inl, inr}
 use Rattle.std.proofs.lemmas.Bool.{cases_eq, cases_lt}
 use Rattle.ch_hierarchy.specs.Saved.{IsOrderOf, AreLevelsOf}
 
--- the first i nodes have their levels, and no others
+-- the first i nodes of the order have their levels, and no other node has one
 pub record HasLevels (n : ℕ) (order levels : List ℕ) (i : ℕ) : Type 0 where
   pub size : length levels ≡ n
   pub within : (j : ℕ) → j < i → get_or order j 0 < n
   pub each : (j : ℕ) → j < i → get_or levels (get_or order j 0) 0 ≡ j + 1
   pub marked : (v : ℕ) → 0 < get_or levels v 0 → (j : ℕ) × (j < i) × (get_or order j 0 ≡ v)
 
--- one node more
+-- one more node gets its level
 pub one_level : (n : ℕ) (order levels : List ℕ) (i : ℕ) → HasLevels n order levels i → get_or order i 0 < n → get_or levels (get_or order i 0) 0 ≡ 0 →
     HasLevels n order (set levels (get_or order i 0) (i + 1)) (i + 1)
 one_level n order levels i h lt free =
@@ -34,7 +34,7 @@ one_level n order levels i h lt free =
       ];
     }
 
--- a node that has a level came before
+-- if the next node already has a level, it came before in the order, so the order has it twice
 pub came_before : (n : ℕ) (order levels : List ℕ) (i : ℕ) → HasLevels n order levels i → i < length order → (get_or levels (get_or order i 0) 0 ≡ 0 → ⊥) → IsOrderOf n order → ⊥
 came_before n order levels i h lt taken is =
     let m = h.marked (get_or order i 0) (omega (arith, pos (get_or levels (get_or order i 0) 0) taken)) in
@@ -43,7 +43,7 @@ came_before n order levels i h lt taken is =
     pos : (k : ℕ) → (k ≡ 0 → ⊥) → 0 < k
     pos k ne = elim (cases_eq k 0) [ inl z ↦ absurd (ne z) | inr _ ↦ elim (cases_lt 0 k) [ inl p ↦ p | inr q ↦ absurd (ne (omega arith)) ] ]
 
--- all nodes have levels
+-- at the end all nodes have levels
 pub all_levels : (n : ℕ) (order levels : List ℕ) (i : ℕ) → HasLevels n order levels i → length order ≡ n → length order ≤ i → IsOrderOf n order × AreLevelsOf order levels
 all_levels n order levels i h count end = (
   record {

@@ -22,7 +22,7 @@ pub record ArePlacedBefore (low high : SavedLeg → ℕ) (levels : List ℕ) (le
   pub order : AllPairs IsEarlier entries
 
 module _ (low high : SavedLeg → ℕ) (levels : List ℕ) (legs : List SavedLeg) where
-  -- none before the first
+  -- before the first leg there are no entries
   pub placed_none : ArePlacedBefore low high levels legs 0 []
   placed_none = record {
     sound = λ e h. absurd (contains_none e h);
@@ -30,7 +30,7 @@ module _ (low high : SavedLeg → ℕ) (levels : List ℕ) (legs : List SavedLeg
     order = λ i j d lt within. absurd (omega arith);
   }
 
-  -- an entry by its place
+  -- an entry is determined by its place
   same_entry : (e : Placed) (i : ℕ) → IsPlacedBy low high levels legs e → e.place ≡ i → record { lower = low (get_or legs i no_saved_leg); higher = high (get_or legs i no_saved_leg); place = i } ≡ e
   same_entry e i is same = λ k. record {
     lower = (ap (λ j. low (get_or legs j no_saved_leg)) (sym same) ∙ sym is.1) k;
@@ -38,7 +38,7 @@ module _ (low high : SavedLeg → ℕ) (levels : List ℕ) (legs : List SavedLeg
     place = (sym same) k;
   }
 
-  -- one leg more
+  -- the entries of one more leg
   pub placed_more : (i : ℕ) (old new : List Placed) → ArePlacedBefore low high levels legs i old → i < length legs →
       IsPushedWhereUp levels (record { lower = low (get_or legs i no_saved_leg); higher = high (get_or legs i no_saved_leg); place = i }) old new → ArePlacedBefore low high levels legs (i + 1) new
   placed_more i old new p lt (inl up) =
@@ -69,15 +69,15 @@ module _ (low high : SavedLeg → ℕ) (levels : List ℕ) (legs : List SavedLeg
     order = subst (AllPairs IsEarlier) (sym level.1) p.order;
   }
 
-  -- all legs
+  -- the entries of all legs
   pub placed_all : (i : ℕ) (entries : List Placed) → length legs ≤ i → ArePlacedBefore low high levels legs i entries → ArePlaced low high levels legs entries × AllPairs IsEarlier entries
   placed_all i entries le p = (λ e. (λ h. (p.sound e h).0, λ is. p.whole e is (let lt = is.0 in omega arith)), p.order)
 
-  -- sorted entries are those of the same legs
+  -- the sorted entries are entries of the same legs
   pub placed_sorted : (entries sorted : List Placed) → ArePlaced low high levels legs entries → IsSortOf entries sorted → ArePlaced low high levels legs sorted
   placed_sorted entries sorted placed s e = (λ h. (placed e).0 ((s.each e).0 h), λ is. (s.each e).1 ((placed e).1 is))
 
-  -- entries of legs between nodes below n have nodes below n
+  -- if the legs are between nodes below n, so are the entries
   pub placed_below : (n : ℕ) (entries : List Placed) → ArePlaced low high levels legs entries → ((l : SavedLeg) → Contains legs l → (low l < n) × (high l < n)) → (e : Placed) → Contains entries e → IsPlacedBelow n e
   placed_below n entries placed below e h =
       let is = (placed e).0 h in
@@ -99,7 +99,7 @@ module _ (low high : SavedLeg → ℕ) (levels : List ℕ) (legs : List SavedLeg
         subst (λ q. high (get_or legs t.0.place no_saved_leg) ≡ high (get_or legs q no_saved_leg)) t.7 higher,
       )
 
-  -- two legs with the same two nodes that go up are a twin
+  -- two legs that go up between the same two nodes are a twin
   pub legs_twin : (entries : List Placed) → ArePlaced low high levels legs entries → (i j : ℕ) → i < j → j < length legs →
       low (get_or legs i no_saved_leg) ≡ low (get_or legs j no_saved_leg) → high (get_or legs i no_saved_leg) ≡ high (get_or legs j no_saved_leg) →
       slice_index levels (low (get_or legs j no_saved_leg)) < slice_index levels (high (get_or legs j no_saved_leg)) → IsTwin entries j
@@ -110,7 +110,7 @@ module _ (low high : SavedLeg → ℕ) (levels : List ℕ) (legs : List SavedLeg
 
 module _ (n : ℕ) (order levels : List ℕ) (is : IsOrderOf n order) (are : AreLevelsOf order levels) (legs : List SavedLeg) (ups downs : List Placed)
     (joins : (l : SavedLeg) → Contains legs l → JoinsNodes n l) (up : ArePlaced from_of to_of levels legs ups) (down : ArePlaced to_of from_of levels legs downs) where
-  -- a leg whose pair stood before is a twin
+  -- a leg whose pair occurred before is a twin
   pub stood_twin : (i j : ℕ) → i < j → j < length legs → IsSamePair (get_or legs i no_saved_leg) (get_or legs j no_saved_leg) → IsTwin ups j ⊎ IsTwin downs j
   stood_twin i j lt within same =
       let l = get_or legs j no_saved_leg in
@@ -120,7 +120,7 @@ module _ (n : ℕ) (order levels : List ℕ) (is : IsOrderOf n order) (are : Are
         | inr fall ↦ inr (legs_twin to_of from_of levels legs downs down i j lt within same.1 same.0 fall)
       ]
 
-  -- where there is no twin each pair is there once
+  -- if there is no twin, each pair occurs once
   pub pairs_once : ((p : ℕ) → IsTwin ups p ⊎ IsTwin downs p → ⊥) → AllPairs (λ k l. IsSamePair k l → ⊥) legs
   pairs_once none i j d lt within same =
       let first = get_or_default legs i d no_saved_leg (omega arith) in
@@ -132,15 +132,15 @@ module _ (legs : List SavedLeg) (end : ℕ) (within : end ≤ length legs) where
   pub fair_length : length (take end legs) ≡ end
   fair_length = length-take-le end legs within
 
-  -- a leg of them stands in the list
+  -- a leg of them is in the whole list
   fair_at : (i : ℕ) → i < end → slice_get legs i ≡ Some (get_or (take end legs) i no_saved_leg)
   fair_at i lt = slice_get-get_or legs i no_saved_leg (omega arith) ∙ ap Some (sym (get_or-take end legs i no_saved_leg lt))
 
-  -- a leg of the list that stands among them
+  -- a leg of the whole list, before the end, is one of them
   at_fair : (i : ℕ) (l : SavedLeg) → i < end → slice_get legs i ≡ Some l → get_or (take end legs) i no_saved_leg ≡ l
   at_fair i l lt at = get_or-take end legs i no_saved_leg lt ∙ get_or_from_slice_get legs i l no_saved_leg at
 
-  -- a twin among them is a faulty pair
+  -- a twin among them has a faulty pair
   twin_fault : (n : ℕ) (p : ℕ) → (i : ℕ) × (i < p) × (p < length (take end legs)) × IsSamePair (get_or (take end legs) i no_saved_leg) (get_or (take end legs) p no_saved_leg) → HasPairFault n legs p
   twin_fault n p t =
       let size = fair_length in
@@ -148,7 +148,7 @@ module _ (legs : List SavedLeg) (end : ℕ) (within : end ≤ length legs) where
       let inside = t.2 in
       (get_or (take end legs) p no_saved_leg, fair_at p (omega arith), inr (t.0, get_or (take end legs) t.0 no_saved_leg, less, fair_at t.0 (omega arith), t.3))
 
--- where the first legs join nodes, and the next one, if any, does not
+-- the first legs join nodes, and the next one, if there is one, does not
 abbrev pub EndsAt : ℕ → List SavedLeg → Option ℕ → Type 0
 EndsAt n legs faulty = MatchOption faulty ((l : SavedLeg) → Contains legs l → JoinsNodes n l) (IsFirstFailing (JoinsNodes n) legs)
 
@@ -167,11 +167,11 @@ module _ (n : ℕ) (legs : List SavedLeg) where
   pub fair_joins : (faulty : Option ℕ) (end : ℕ) → EndsAt n legs faulty → end ≡ unwrap_or faulty (length legs) → (l : SavedLeg) → Contains (take end legs) l → JoinsNodes n l
   fair_joins faulty end ends is l h = fair_join faulty ends l (subst (λ e. Contains (take e legs) l) is h)
 
-  -- the leg at the end joins no nodes
+  -- the leg at the end does not join nodes
   end_fault : (k : ℕ) → IsFirstFailing (JoinsNodes n) legs k → HasPairFault n legs k
   end_fault k first = (get_or legs k no_saved_leg, slice_get-get_or legs k no_saved_leg first.within, inl (first.fails no_saved_leg))
 
-  -- what joins no nodes is not before the end
+  -- a leg that does not join nodes is not before the end
   end_covers : (faulty : Option ℕ) → EndsAt n legs faulty → (j : ℕ) (l : SavedLeg) → slice_get legs j ≡ Some l → (JoinsNodes n l → ⊥) → (k : ℕ) × (faulty ≡ Some k) × (k ≤ j)
   end_covers None all j l at bad = absurd (bad (all l (j, slice_get_within legs j l at, get_or_from_slice_get legs j l l at)))
   end_covers (Some k) first j l at bad = elim (cases_lt j k) [
@@ -179,17 +179,17 @@ module _ (n : ℕ) (legs : List SavedLeg) where
     | inr ge ↦ (k, refl, ge)
   ]
 
-  -- nor is a leg past the end without one that joins none
+  -- a leg at the end or after it exists only if some leg does not join nodes
   past_end : (faulty : Option ℕ) → (j : ℕ) → j < length legs → unwrap_or faulty (length legs) ≤ j → (k : ℕ) × (faulty ≡ Some k) × (k ≤ j)
   past_end None j lt le = absurd (omega arith)
   past_end (Some k) j lt le = (k, refl, le)
 
-  -- where each leg joins nodes the first legs are all
+  -- if each leg joins nodes, the first legs are all legs
   all_fair : (faulty : Option ℕ) → EndsAt n legs faulty → faulty ≡ None → ((l : SavedLeg) → Contains legs l → JoinsNodes n l) × (take (unwrap_or faulty (length legs)) legs ≡ legs)
   all_fair None all e = (all, take_all (length legs) legs (omega arith))
   all_fair (Some k) first e = absurd (none-some k (sym e))
 
--- the least of the legs that join no nodes and of the twins on both sides
+-- the least place of a leg that does not join nodes, or of a twin in either direction
 module _ (n : ℕ) (order levels : List ℕ) (is : IsOrderOf n order) (are : AreLevelsOf order levels) (legs : List SavedLeg) (faulty first least : Option ℕ) (ends : EndsAt n legs faulty)
     (fair : List SavedLeg) (fair_is : fair ≡ take (unwrap_or faulty (length legs)) legs) (ups downs : List Placed)
     (up : ArePlaced from_of to_of levels fair ups) (down : ArePlaced to_of from_of levels fair downs)
@@ -206,7 +206,7 @@ module _ (n : ℕ) (order levels : List ℕ) (is : IsOrderOf n order) (are : Are
   down_there : ArePlaced to_of from_of levels (take (unwrap_or faulty (length legs)) legs) downs
   down_there = subst (λ q. ArePlaced to_of from_of levels q downs) fair_is down
 
-  -- what is known was one of them
+  -- this place has a faulty pair
   is_fault : (p : ℕ) → least ≡ Some p → HasPairFault n legs p
   is_fault p e = elim (b.is p e) [
     | inl before ↦ elim (a.is p before) [
@@ -220,7 +220,7 @@ module _ (n : ℕ) (order levels : List ℕ) (is : IsOrderOf n order) (are : Are
         twin_fault legs (unwrap_or faulty (length legs)) within n p (t.0, t.1, t.2, (t.4, t.3))
   ]
 
-  -- and it covers all of them
+  -- this place is at most each of those places
   covers_end : (k : ℕ) → faulty ≡ Some k → (p : ℕ) × (least ≡ Some p) × (p ≤ k)
   covers_end k e =
       let x = a.covers_known k e in
@@ -261,14 +261,14 @@ module _ (n : ℕ) (order levels : List ℕ) (is : IsOrderOf n order) (are : Are
         (c.0, c.1, omega arith)
   ]
 
-  -- so it is the first
+  -- it is the place of the first faulty pair
   pub first_pair_fault : (p : ℕ) → least ≡ Some p → IsFirstPairFault n legs p
   first_pair_fault p e = record {
     has = is_fault p e;
     first = λ j lt h. (let c = covers j h in let same : c.0 ≡ p = same_Some c.0 p (sym c.1 ∙ e) in let le = c.2 in omega arith);
   }
 
-  -- and where there is none the pairs are right
+  -- if there is no such place, the pairs are right
   pub all_pairs : least ≡ None → AreInOrder ups → AreInOrder downs → ArePairs n levels legs ups downs
   all_pairs none x y =
       let no_end : faulty ≡ None = at faulty refl in
@@ -286,14 +286,14 @@ module _ (n : ℕ) (order levels : List ℕ) (is : IsOrderOf n order) (are : Are
       at None e = e
       at (Some k) e = absurd (never k (covers_end k e))
 
--- legs that make pairs have no faulty one
+-- if the legs make pairs, none has a faulty pair
 pub no_pair_fault : (n : ℕ) (order levels : List ℕ) → IsOrderOf n order → AreLevelsOf order levels → (legs : List SavedLeg) (ups downs : List Placed) → ArePairs n levels legs ups downs → (i : ℕ) → HasPairFault n legs i → ⊥
 no_pair_fault n order levels is are legs ups downs pairs i (l, at, inl bad) = bad (pairs.joins l (i, slice_get_within legs i l at, get_or_from_slice_get legs i l l at))
 no_pair_fault n order levels is are legs ups downs pairs i (l, at, inr (j, k, less, there, same)) =
     pairs_once n order levels is are legs ups downs pairs.joins pairs.up.placed pairs.down.placed (λ p t. elim t [ inl up ↦ pairs.up.single p up | inr down ↦ pairs.down.single p down ]) j i l less (slice_get_within legs i l at)
     (subst (λ (q : SavedLeg). IsSamePair q (get_or legs i l)) (sym (get_or_from_slice_get legs j k l there)) (subst (IsSamePair k) (sym (get_or_from_slice_get legs i l l at)) same))
 
--- the entries of pairs lie within
+-- the entries of pairs are within the nodes and the list
 pub side_below : (n : ℕ) (low high : SavedLeg → ℕ) (levels : List ℕ) (legs : List SavedLeg) (entries : List Placed) → IsSide low high levels legs entries → ((l : SavedLeg) → Contains legs l → (low l < n) × (high l < n)) →
     (e : Placed) → Contains entries e → (e.lower < n) × (e.place < length legs)
 side_below n low high levels legs entries side ends e h = ((placed_below low high levels legs n entries side.placed ends e h).0, ((side.placed e).0 h).0)

@@ -1,4 +1,4 @@
--- Levels by an order, and rows by sorted entries, make a levelled hierarchy.
+-- Levels from an order, and rows from sorted entries, make a levelled hierarchy.
 use Rattle.std.proofs.Common.{◌≡◌, ℕ, ◌<◌, ◌≤◌, Bool, true, false, cond, List, [], ◌∷◌, length, map, get_or, Contains, refl, sym, ◌∙◌, ap, subst, arith, inl, inr}
 use Rattle.std.specs.Prelude.{◌==◌, All, slice_index, filter, Option}
 use Rattle.std.specs.List.{range_with_len}
@@ -38,7 +38,7 @@ module _ (n : ℕ) (low high : SavedLeg → ℕ) (levels : List ℕ) (legs : Lis
   row_is : (v : ℕ) → v < n → row made v ≡ map (leg_of legs) (get_or rows v [])
   row_is v lt = get_or-map (λ es. map (leg_of legs) es) rows v [] [] (let c = sorted.count in omega arith)
 
-  -- nodes rise along a row
+  -- the nodes rise along a row
   rises : (v : ℕ) → v < n → IsRow (map (leg_of legs) (get_or rows v []))
   rises v lt i j d less within =
       let m : length (map (leg_of legs) (get_or rows v [])) ≡ length (get_or rows v []) = length-map (get_or rows v []) (leg_of legs) in
@@ -48,7 +48,7 @@ module _ (n : ℕ) (low high : SavedLeg → ℕ) (levels : List ℕ) (legs : Lis
       let s = strict (get_or rows v []) (sorted.order v lt) (λ p h. single v p lt h) i j e less (omega arith) in
       omega arith
 
-  -- each leg is one of the list
+  -- each leg of a row is a leg of the list
   leg_up : (v : ℕ) → v < n → (e : Placed) → Contains (get_or rows v []) e → IsLegUp H v (leg_of legs e)
   leg_up v lt e h =
       let at = (sorted.each v e lt).0 h in
@@ -82,10 +82,10 @@ module _ (n : ℕ) (low high : SavedLeg → ℕ) (levels : List ℕ) (legs : Lis
           let e : Placed = record { lower = 0; higher = 0; place = 0 } in
           subst (IsLegUp H v) (sym (get_or-map (leg_of legs) (get_or rows v []) i e d (omega arith))) (leg_up v lt (get_or (get_or rows v []) i e) (Contains-get_or (get_or rows v []) i e (omega arith)))
 
--- the legs of one direction are those of the list that go up
+-- the legs of one direction are the legs of the list that go up
 module _ (n : ℕ) (low high : SavedLeg → ℕ) (levels : List ℕ) (legs : List SavedLeg) (entries : List Placed) (rows : List (List Placed))
     (placed : ArePlaced low high levels legs entries) (sorted : AreSorted n entries rows) (ends : (l : SavedLeg) → Contains legs l → (low l < n) × (high l < n)) where
-  -- a leg of a row, by its place in the list
+  -- a leg of a row has a place in the list
   pub row_leg_saved : (v : ℕ) (l : Leg) → v < n → Contains (row (map (λ es. map (leg_of legs) es) rows) v) l →
       (i : ℕ) × (i < length legs) × (low (get_or legs i no_saved_leg) ≡ v) × (high (get_or legs i no_saved_leg) ≡ l.node) × ((get_or legs i no_saved_leg).cost ≡ l.cost) × ((get_or legs i no_saved_leg).middle ≡ l.middle)
   row_leg_saved v l lt h =
@@ -100,7 +100,7 @@ module _ (n : ℕ) (low high : SavedLeg → ℕ) (levels : List ℕ) (legs : Lis
       let is = (placed e).0 at.0 in
       (e.place, is.0, sym is.1 ∙ at.1, sym is.2 ∙ ap (λ (q : Leg). q.node) same, ap (λ (q : Leg). q.cost) same, ap (λ (q : Leg). q.middle) same)
 
-  -- a leg of the list that goes up has its row
+  -- a leg of the list that goes up is in the row of its lower node
   pub saved_row_leg : (i : ℕ) → i < length legs → slice_index levels (low (get_or legs i no_saved_leg)) < slice_index levels (high (get_or legs i no_saved_leg)) →
       Contains (row (map (λ es. map (leg_of legs) es) rows) (low (get_or legs i no_saved_leg)))
       (record { node = high (get_or legs i no_saved_leg); cost = (get_or legs i no_saved_leg).cost; middle = (get_or legs i no_saved_leg).middle })
@@ -113,11 +113,11 @@ module _ (n : ℕ) (low high : SavedLeg → ℕ) (levels : List ℕ) (legs : Lis
       let has = (sorted.each (low l) e below.0).1 ((placed e).1 (lt, refl, refl, up), refl) in
       subst (λ q. Contains q (leg_of legs e)) (sym here) (contains_map (leg_of legs) (get_or rows (low l) []) e has)
 
--- a leg by its parts
+-- a leg is determined by its parts
 same_saved : (l : SavedLeg) (u w : ℕ) (c : Cost) (m : Option ℕ) → l.from ≡ u → l.to ≡ w → l.cost ≡ c → l.middle ≡ m → l ≡ record { from = u; to = w; cost = c; middle = m }
 same_saved l u w c m a b d e = λ i. record { from = a i; to = b i; cost = d i; middle = e i }
 
--- the legs with a key are those of the entries with it
+-- the legs with a key are those of the entries with that key
 leg_values : (legs : List SavedLeg) (v : ℕ) (entries : List Placed) → values_of v (map (keyed_leg legs) entries) ≡ map (leg_of legs) (values_of v (map (with_key lower_of) entries))
 leg_values legs v [] = refl
 leg_values legs v (e ∷ entries) = at (e.lower == v) (filter (λ (p : ℕ × Leg). p.0 == v) (map (keyed_leg legs) entries)) (filter (λ (p : ℕ × Placed). p.0 == v) (map (with_key lower_of) entries)) (leg_values legs v entries)
@@ -127,7 +127,7 @@ leg_values legs v (e ∷ entries) = at (e.lower == v) (filter (λ (p : ℕ × Le
     at true ps qs more = ap (λ (z : List Leg). leg_of legs e ∷ z) more
     at false ps qs more = more
 
--- the entries by lower node
+-- the entries in rows by lower node
 abbrev entry_rows : ℕ → List Placed → List (List Placed)
 entry_rows n entries = map (λ v. values_of v (map (with_key lower_of) entries)) (range_with_len 0 n)
 
@@ -137,7 +137,7 @@ entry_rows_are n entries = record {
   each = λ i lt. get_or-map-range_with_len (λ v. values_of v (map (with_key lower_of) entries)) 0 n i i [] (omega arith) (omega arith);
 }
 
--- rows of legs are the legs of these rows
+-- the rows of legs are the legs of these rows of entries
 legs_of_rows : (n : ℕ) (legs : List SavedLeg) (entries : List Placed) (rows : List (List Leg)) → AreRowsOf n (map (keyed_leg legs) entries) rows →
     rows ≡ map (λ es. map (leg_of legs) es) (entry_rows n entries)
 legs_of_rows n legs entries rows a =
@@ -149,7 +149,7 @@ legs_of_rows n legs entries rows a =
     a.each v (omega arith) ∙ leg_values legs v entries ∙ sym (ap (map (leg_of legs)) (e.each v (omega arith)))
     ∙ sym (get_or-map (λ es. map (leg_of legs) es) (entry_rows n entries) v [] [] (omega arith)))
 
--- a leg of these rows is one of the list
+-- a leg of these rows is a leg of the list
 of_rows : (n : ℕ) (low high : SavedLeg → ℕ) (levels : List ℕ) (legs : List SavedLeg) (entries : List Placed) (rows : List (List Leg)) → IsSide low high levels legs entries → AreRowsOf n (map (keyed_leg legs) entries) rows →
     ((l : SavedLeg) → Contains legs l → (low l < n) × (high l < n)) → (v : ℕ) (l : Leg) → Contains (row rows v) l →
     (x : SavedLeg) × Contains legs x × (low x ≡ v) × (high x ≡ l.node) × (x.cost ≡ l.cost) × (x.middle ≡ l.middle)
@@ -159,7 +159,7 @@ of_rows n low high levels legs entries rows side are ends v l h =
     (subst (λ rs. Contains (row rs v) l) (legs_of_rows n legs entries rows are) h) in
     (get_or legs k.0 no_saved_leg, Contains-get_or legs k.0 no_saved_leg k.1, k.2, k.3, k.4, k.5)
 
--- and one of the list that goes up stands in them
+-- a leg of the list that goes up is in these rows
 in_rows : (n : ℕ) (low high : SavedLeg → ℕ) (levels : List ℕ) (legs : List SavedLeg) (entries : List Placed) (rows : List (List Leg)) → IsSide low high levels legs entries → AreRowsOf n (map (keyed_leg legs) entries) rows →
     ((l : SavedLeg) → Contains legs l → (low l < n) × (high l < n)) → (x : SavedLeg) → Contains legs x → slice_index levels (low x) < slice_index levels (high x) →
     Contains (row rows (low x)) (record { node = high x; cost = x.cost; middle = x.middle })
@@ -171,7 +171,7 @@ in_rows n low high levels legs entries rows side are ends x h up =
     subst (λ rs. Contains (row rs (low x)) (record { node = high x; cost = x.cost; middle = x.middle })) (sym (legs_of_rows n legs entries rows are))
     (subst (λ (q : SavedLeg). Contains (row (map (λ es. map (leg_of legs) es) (entry_rows n entries)) (low q)) (record { node = high q; cost = q.cost; middle = q.middle })) at stands)
 
--- where no entry has the nodes of another, no row has a double
+-- if no two entries have the same two nodes, no row has a double
 single_rows : (n : ℕ) (low high : SavedLeg → ℕ) (levels : List ℕ) (legs : List SavedLeg) (entries : List Placed) → IsSide low high levels legs entries →
     (v p : ℕ) → v < n → IsDouble (get_or (entry_rows n entries) v []) p → ⊥
 single_rows n low high levels legs entries side v p lt h =
@@ -223,7 +223,7 @@ module _ (n : ℕ) (s : OrderAndLegs) (ups downs : List Placed) (H : LevelsAndLe
         | inr down ↦ (record { node = u; cost = c; middle = m }, refl, refl, inr (in_rows n to_of from_of H.level s.legs downs H.down pairs.down b fall x h down, refl))
       ]
 
-  -- make the hierarchy that is named
+  -- the rows of both directions make the hierarchy that is named
   pub named_by_rows : NamesHierarchy s H × (nodes_of H ≡ n)
   named_by_rows = (
     record {
@@ -235,7 +235,7 @@ module _ (n : ℕ) (s : OrderAndLegs) (ups downs : List Placed) (H : LevelsAndLe
     size,
   )
 
--- the same of the lists that are at hand, and of slices of them
+-- the same for the lists as the code has them, and as it lends slices of them
 pub rows_name : (g : Network) (s : OrderAndLegs) (n : ℕ) (order levels levels' : List ℕ) (legs : List SavedLeg) (ups ups' downs downs' : List Placed) (up down : List (List Leg)) →
     g.nodes ≤ MOST_NODES → n ≡ g.nodes → order ≡ s.order → legs ≡ s.legs → levels' ≡ levels → ups' ≡ ups → downs' ≡ downs →
     IsOrderOf n order → AreLevelsOf order levels → ArePairs n levels' legs ups downs → ((l : SavedLeg) → Contains legs l → IsWithinBounds n l) →

@@ -1,4 +1,4 @@
--- Nodes by rank, and ranked legs.
+-- Nodes by rank, and legs by rank.
 use Rattle.std.proofs.Common.{◌≡◌, ℕ, ◌+◌, ◌-◌, ◌*◌, ◌<◌, ◌≤◌, List, [], ◌∷◌, ◌++◌, length, map, set, get_or, Contains, sym, ◌∙◌, ap, subst, arith, inl, inr}
 use Rattle.std.specs.Prelude.{slice_index}
 use Rattle.std.proofs.lemmas.Bool.{cases_lt}
@@ -11,24 +11,24 @@ use Rattle.ch_hierarchy.specs.Hierarchy.{LevelsAndLegs, nodes_of, AreLevels, IsL
 use Rattle.ch_hierarchy.specs.Ranked.{rank_in, ranked_in, rank_of, IsRankable, AreByRank, AreRankedRows}
 use Rattle.ch_hierarchy.proofs.theory.LevelOrder.{node_of_level}
 
--- the first k nodes stand at their ranks
+-- the first k nodes are at their ranks
 pub record HasByRank (levels nodes : List ℕ) (k : ℕ) : Type 0 where
   pub count : length nodes ≡ length levels
   pub each : (v : ℕ) → v < k → slice_index nodes (rank_in levels v) ≡ v
 
 module _ (levels : List ℕ) (are : AreLevels levels) where
-  -- ranks are below the number of nodes
+  -- a rank is below the number of nodes
   pub rank_in_below : (v : ℕ) → v < length levels → rank_in levels v < length levels
   rank_in_below v lt = let l = are.0 v 0 lt in omega (arith, l.0)
 
-  -- the ranks of two nodes differ
+  -- two different nodes have different ranks
   ranks_apart : (v w : ℕ) → v < w → w < length levels → rank_in levels v ≡ rank_in levels w → ⊥
   ranks_apart v w less within same =
       let a = are.0 v 0 (omega arith) in
       let b = are.0 w 0 within in
       are.1 v w 0 less within (omega (arith, a.1, b.1))
 
-  -- nodes of one rank are one node
+  -- two nodes of the same rank are equal
   pub rank_in_one : (v w : ℕ) → v < length levels → w < length levels → rank_in levels v ≡ rank_in levels w → v ≡ w
   rank_in_one v w low high same = elim (cases_lt v w) [
     | inl less ↦ absurd (ranks_apart v w less high same)
@@ -38,11 +38,11 @@ module _ (levels : List ℕ) (are : AreLevels levels) where
     ]
   ]
 
-  -- each rank is a node's
+  -- each rank below the number of nodes is that of a node
   pub node_of_rank_in : (r : ℕ) → r < length levels → (v : ℕ) × (v < length levels) × (rank_in levels v ≡ r)
   node_of_rank_in r lt = let v = node_of_level levels are (length levels - (r + 1)) (omega arith) in (v.0, v.1, omega (arith, v.2))
 
-  -- one node more
+  -- one more node is at its rank
   pub one_by_rank : (nodes : List ℕ) (k : ℕ) → HasByRank levels nodes k → k < length levels → HasByRank levels (set nodes (rank_in levels k) k) (k + 1)
   one_by_rank nodes k has lt = record {
     count = length-set nodes (rank_in levels k) k ∙ has.count;
@@ -55,7 +55,7 @@ module _ (levels : List ℕ) (are : AreLevels levels) where
     ];
   }
 
-  -- all of them
+  -- all nodes are at their ranks
   pub all_by_rank : (nodes : List ℕ) (k : ℕ) → HasByRank levels nodes k → length levels ≤ k → AreByRank levels nodes
   all_by_rank nodes k has end = record {
     count = has.count;
@@ -68,25 +68,25 @@ module _ (levels : List ℕ) (are : AreLevels levels) where
   }
 
 module _ (H : LevelsAndLegs) (is : IsLevelled H) where
-  -- ranks are below the number of nodes
+  -- a rank is below the number of nodes
   pub rank_below : (v : ℕ) → v < nodes_of H → rank_of H v < nodes_of H
   rank_below = rank_in_below H.level is.levels
 
-  -- nodes of one rank are one node
+  -- two nodes of the same rank are equal
   pub rank_one : (v w : ℕ) → v < nodes_of H → w < nodes_of H → rank_of H v ≡ rank_of H w → v ≡ w
   rank_one = rank_in_one H.level is.levels
 
-  -- each rank is a node's
+  -- each rank below the number of nodes is that of a node
   pub node_of_rank : (r : ℕ) → r < nodes_of H → (v : ℕ) × (v < nodes_of H) × (rank_of H v ≡ r)
   node_of_rank = node_of_rank_in H.level is.levels
 
-  -- the legs of a node can be ranked
+  -- the legs of a node have a form by rank
   pub legs_rankable : (rows : List (List Leg)) → AreLegsUp H rows → (v : ℕ) (l : Leg) → Contains (row rows v) l → IsRankable H.level l
   legs_rankable rows are v l has =
       let up = All-contains (IsLegUp H v) (row rows v) l (are.1 v).1 has in
       (up.node, (is.levels.0 l.node 0 up.node).1, up.arcs)
 
--- no node has no rows
+-- without nodes there are no rows
 pub no_ranked_rows : (levels : List ℕ) (ups downs : List (List Leg)) → AreRankedRows levels [] ups downs []
 no_ranked_rows levels ups downs = record {
   count = omega arith;
@@ -101,7 +101,7 @@ module _ (levels nodes : List ℕ) (ups downs : List (List Leg)) (rows : List (L
   old : (i : ℕ) → i < length rows → get_or both i [] ≡ get_or rows i []
   old i lt = get_or_append_left (rows ++ a ∷ []) (b ∷ []) [] i (let long = length_push rows a in omega arith) ∙ get_or_append_left rows (a ∷ []) [] i lt
 
-  -- one node more has two rows more
+  -- one more node adds two rows
   pub more_ranked_rows : a ≡ map (ranked_in levels) (row ups v) → b ≡ map (ranked_in levels) (row downs v) → AreRankedRows levels (nodes ++ v ∷ []) ups downs both
   more_ranked_rows up down =
       let some = are.count in

@@ -1,4 +1,4 @@
--- What is so or is not, by a search in a list or below a number.
+-- Statements that are decided by a search in a list or below a number.
 use Rattle.std.proofs.Common.{◌≡◌, ℕ, zero, suc, ◌<◌, List, [], ◌∷◌, Contains, refl, sym, ap, subst, arith, inl, inr}
 use Rattle.std.specs.Prelude.{◌⊎◌}
 use Rattle.std.proofs.lemmas.Bool.{cases_eq, cases_lt}
@@ -8,28 +8,28 @@ use Rattle.ch_graph.specs.Cost.{IsAtMost}
 use Rattle.ch_graph.proofs.CostOrder.{same_costs, IsAtMost_or_IsBelow, IsBelow_not}
 use Rattle.ch_graph.proofs.Lists.{contains_head, contains_tail, contains_cons, contains_none}
 
--- P is so, or is not
+-- P holds, or P does not hold
 abbrev pub Decided : Type 0 → Type 0
 Decided P = P ⊎ (P → ⊥)
 
--- what can't fail is so
+-- a decided statement holds if it cannot fail
 pub so_if_decided : (P : Type 0) → Decided P → ((P → ⊥) → ⊥) → P
 so_if_decided P (inl so) can = so
 so_if_decided P (inr never) can = absurd (can never)
 
 module _ (P Q : Type 0) where
-  -- what is the same as something decided
+  -- a statement is decided if an equivalent one is
   pub decided_same : (P → Q) → (Q → P) → Decided P → Decided Q
   decided_same to from (inl so) = inl (to so)
   decided_same to from (inr never) = inr (λ q. never (from q))
 
-  -- both of two, where the second is looked at only where the first is so
+  -- the conjunction of two decided statements, where the second is used only if the first holds
   pub decided_both : Decided P → Decided Q → Decided (P × Q)
   decided_both (inl p) (inl q) = inl (p, q)
   decided_both (inl p) (inr never) = inr (λ h. never h.1)
   decided_both (inr never) q = inr (λ h. never h.0)
 
-  -- one of two
+  -- the disjunction of two decided statements
   pub decided_either : Decided P → Decided Q → Decided (P ⊎ Q)
   decided_either (inl p) q = inl (inl p)
   decided_either (inr first) (inl q) = inl (inr q)
@@ -39,7 +39,7 @@ module _ (P Q : Type 0) where
 abbrev pub HasOne : {X : Type 0} → (X → Type 0) → List X → Type 0
 HasOne {X} P xs = (x : X) × Contains xs x × P x
 
--- some element has it, or none
+-- whether some element has P is decided
 pub one_decided : {X : Type 0} (P : X → Type 0) → ((x : X) → Decided (P x)) → (xs : List X) → Decided (HasOne P xs)
 one_decided P each [] = inr (λ h. contains_none h.0 h.1)
 one_decided P each (x ∷ xs) = elim (each x) [
@@ -54,7 +54,7 @@ one_decided P each (x ∷ xs) = elim (each x) [
 abbrev pub HasBelow : (ℕ → Type 0) → ℕ → Type 0
 HasBelow P n = (k : ℕ) × (k < n) × P k
 
--- some number has it, or none
+-- whether some number below n has P is decided
 pub below_decided : (P : ℕ → Type 0) → ((k : ℕ) → Decided (P k)) → (n : ℕ) → Decided (HasBelow P n)
 below_decided P each zero = inr (λ h. let lt = h.1 in omega arith)
 below_decided P each (suc n) = elim (each n) [
@@ -68,7 +68,7 @@ below_decided P each (suc n) = elim (each n) [
   ]
 ]
 
--- two arcs are equal or not
+-- whether two arcs are equal is decided
 pub same_arc_decided : (a b : InArc) → Decided (a ≡ b)
 same_arc_decided a b = elim (cases_eq a.from b.from) [
   | inl from ↦ elim (cases_eq a.to b.to) [
@@ -81,11 +81,11 @@ same_arc_decided a b = elim (cases_eq a.from b.from) [
   | inr ne ↦ inr (λ e. ne (ap (λ (x : InArc). x.from) e))
 ]
 
--- an arc is one of the list or not
+-- whether an arc is in the list is decided
 pub contains_arc_decided : (arcs : List InArc) (a : InArc) → Decided (Contains arcs a)
 contains_arc_decided arcs a = decided_same (HasOne (λ x. x ≡ a) arcs) (Contains arcs a) (λ h. subst (Contains arcs) h.2 h.1) (λ h. (a, h, refl)) (one_decided (λ x. x ≡ a) (λ x. same_arc_decided x a) arcs)
 
--- two costs are equal or not
+-- whether two costs are equal is decided
 pub same_cost_decided : (a b : Cost) → Decided (a ≡ b)
 same_cost_decided a b = elim (cases_eq a.weight b.weight) [
   | inl weight ↦ elim (cases_eq a.arcs b.arcs) [
@@ -95,6 +95,6 @@ same_cost_decided a b = elim (cases_eq a.weight b.weight) [
   | inr ne ↦ inr (λ e. ne (ap (λ (x : Cost). x.weight) e))
 ]
 
--- one costs at most the other or not
+-- whether a cost is at most another is decided
 pub at_most_decided : (a b : Cost) → Decided (IsAtMost a b)
 at_most_decided a b = elim (IsAtMost_or_IsBelow a b) [ inl le ↦ inl le | inr below ↦ inr (IsBelow_not b a below) ]

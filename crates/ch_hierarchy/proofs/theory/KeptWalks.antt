@@ -1,4 +1,4 @@
--- What a kept hierarchy has: walks, the least meetings, and tight nodes.
+-- Facts about a kept hierarchy: its walks, the least meetings, and tight paths.
 use Rattle.std.proofs.Common.{ℕ, List, [], ◌∷◌, refl, sym, ◌∙◌, subst, arith, inl, inr}
 use Rattle.std.specs.Prelude.{◌↔◌}
 use Rattle.std.proofs.lemmas.Bool.{cases_eq}
@@ -25,7 +25,7 @@ use Rattle.ch_hierarchy.proofs.theory.LegWalks.{rises, falls}
 use Rattle.ch_hierarchy.proofs.theory.Turned.{turned_least, least_turned, turned_limits, turned_kept}
 
 module _ (g : Network) (H : LevelsAndLegs) (limits : IsWithinLimits g) (kept : IsKept g H) where
-  -- each walk has a path of legs of no greater cost: a leg for each arc that is no loop
+  -- for each walk there is a path of legs of no greater cost, with one leg for each arc that is no loop
   walk_path : (s t : ℕ) (arcs : List InArc) → IsWalk g s t arcs → HasHighPath H 0 s t (cost_of arcs)
   walk_path s t [] w = record { legs = []; is_path = (w, omega arith); cheap = IsAtMost_refl no_cost }
   walk_path s t (a ∷ arcs) w =
@@ -61,7 +61,7 @@ module _ (g : Network) (H : LevelsAndLegs) (limits : IsWithinLimits g) (kept : I
     decided = IsLeast-decided g;
   }
 
-  -- an upward path of the least cost of a walk is a least one
+  -- an upward path whose cost is the least cost of a walk is a least upward path
   least_up : (a b : ℕ) (legs : List Leg) → IsUpwardPath H.up a b legs → IsLeast g a b (path_cost legs) → IsUp H a b (path_cost legs)
   least_up a b legs p l = record {
     path = (legs, p, refl);
@@ -80,11 +80,11 @@ module _ (g : Network) (H : LevelsAndLegs) (limits : IsWithinLimits g) (kept : I
       (least_up s x legs h.rise.0 least, least)
 
 module _ (g : Network) (H : LevelsAndLegs) (limits : IsWithinLimits g) (kept : IsKept g H) where
-  -- and so is one along the down rows
+  -- the same along the down rows
   least_down : (a b : ℕ) (legs : List Leg) → IsUpwardPath H.down a b legs → IsLeast g b a (path_cost legs) → IsDown H b a (path_cost legs)
   least_down a b legs p l = least_up (turned_graph g) (turned_hierarchy H) (turned_limits g limits) (turned_kept g H kept) a b legs p (turned_least g b a (path_cost legs) l)
 
-  -- tight legs down from x are least, since they are tight legs up turned round
+  -- tight legs down from x are least, because in the other direction they are tight legs up
   tight_down : (s t x : ℕ) (legs : List Leg) → IsTightDown g H s t x legs → IsDown H x t (path_cost legs) × IsLeast g x t (path_cost legs)
   tight_down s t x legs h =
       let up = tight_up (turned_graph g) (turned_hierarchy H) (turned_limits g limits) (turned_kept g H kept) t s x legs (record {
@@ -103,7 +103,7 @@ module _ (g : Network) (H : LevelsAndLegs) (limits : IsWithinLimits g) (kept : I
   pub tight_paths_are_least : TightPathsAreLeast g H
   tight_paths_are_least = record { up = tight_up g H limits kept; down = tight_down }
 
-  -- a meeting is a walk
+  -- a meeting gives a walk of its cost
   meeting_walk : (s t m : ℕ) (c : Cost) → IsMeeting H s t m c → IsWalkCost g s t c
   meeting_walk s t m c h =
       let up = h.2.path in
@@ -111,7 +111,7 @@ module _ (g : Network) (H : LevelsAndLegs) (limits : IsWithinLimits g) (kept : I
       subst (IsWalkCost g s t) h.4 (IsWalkCost-cost_sum g s m t h.0 h.1
       (subst (IsWalkCost g s m) up.2 (rises g H kept s m up.0 up.1)) (subst (IsWalkCost g m t) down.2 (falls g H kept t m down.0 down.1)))
 
-  -- a least walk has a meeting of its cost
+  -- the cost of a least walk is that of a meeting
   least_meets : (s t : ℕ) (c : Cost) → IsLeast g s t c → (m : ℕ) × IsMeeting H s t m c
   least_meets s t c l =
       let p = walk_matched g H limits kept s t c l.walk in
@@ -129,7 +129,7 @@ module _ (g : Network) (H : LevelsAndLegs) (limits : IsWithinLimits g) (kept : I
         ),
       )
 
-  -- a walk that costs no more than any meeting costs least
+  -- a walk that costs at most each meeting costs the least
   no_dearer : (s t : ℕ) (c : Cost) → IsWalkCost g s t c → ((m : ℕ) (d : Cost) → IsMeeting H s t m d → IsAtMost c d) → IsLeast g s t c
   no_dearer s t c w least = elim (IsLeast-decided g s t) [
     | inl found ↦
@@ -138,15 +138,15 @@ module _ (g : Network) (H : LevelsAndLegs) (limits : IsWithinLimits g) (kept : I
     | inr none ↦ absurd (none w.0 w.1)
   ]
 
-  -- a least meeting costs what a walk costs least
+  -- the cost of a least meeting is the least cost of a walk
   of_least_meeting : (s t : ℕ) (c : Cost) → IsLeastMeeting H s t c → IsLeast g s t c
   of_least_meeting s t c h = no_dearer s t c (meeting_walk s t h.meets.0 c h.meets.1) h.least
 
-  -- a least walk costs what a least meeting costs
+  -- the cost of a least walk is that of a least meeting
   to_least_meeting : (s t : ℕ) (c : Cost) → IsLeast g s t c → IsLeastMeeting H s t c
   to_least_meeting s t c l = record { meets = least_meets s t c l; least = λ m d h. IsLeast-IsAtMost g s t c d l (meeting_walk s t m d h) }
 
-  -- there is no meeting exactly where there is no walk
+  -- there is no meeting exactly when there is no walk
   never_meets : (s t : ℕ) → IsUnreachable g s t ↔ NeverMeets H s t
   never_meets s t = (
     (λ none m d h. let w = meeting_walk s t m d h in none w.0 w.1),
@@ -156,7 +156,7 @@ module _ (g : Network) (H : LevelsAndLegs) (limits : IsWithinLimits g) (kept : I
     ]),
   )
 
-  -- the least meetings of a kept hierarchy are the distances
+  -- the costs of the least meetings of a kept hierarchy are the least costs of walks
   pub meetings_are_distances : MeetingsAreDistances g H
   meetings_are_distances = record {
     least = λ s t c. (to_least_meeting s t c, of_least_meeting s t c);

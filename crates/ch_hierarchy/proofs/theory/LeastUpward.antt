@@ -1,4 +1,5 @@
--- A least upward path between two nodes, or none, found by going up; and so whether paths from both ends meet within a bound.
+-- A least upward path between two nodes, or none, found by going up. So it is decided whether paths from both ends
+-- meet within a bound.
 use Rattle.std.proofs.Common.{◌≡◌, ℕ, zero, suc, ◌+◌, ◌<◌, ◌≤◌, List, [], ◌∷◌, Contains, refl, sym, ◌∙◌, subst, arith, inl, inr}
 use Rattle.std.specs.Prelude.{◌⊎◌, slice_index}
 use Rattle.std.proofs.lemmas.Bool.{cases_eq, cases_lt}
@@ -17,7 +18,7 @@ use Rattle.ch_hierarchy.specs.Kept.{MeetsWithin}
 use Rattle.ch_hierarchy.proofs.theory.LegPaths.{path_cost-cons, level_most, leg_of_rows}
 use Rattle.ch_hierarchy.proofs.theory.Decided.{Decided, decided_same, HasBelow, below_decided, at_most_decided}
 
--- this cost alone
+-- the least cost that is equal to c is c
 only : (c : Cost) → LeastOrNone (λ d. d ≡ c)
 only c = inl (c, record { has = refl; least = λ d e. subst (IsAtMost c) (sym e) (IsAtMost_refl c) })
 
@@ -26,15 +27,15 @@ module _ (rows : List (List Leg)) where
   abbrev pub IsPathCost : ℕ → ℕ → Cost → Type 0
   IsPathCost a b c = (legs : List Leg) × IsUpwardPath rows a b legs × (path_cost legs ≡ c)
 
-  -- one that begins with the leg costs c
+  -- an upward path that begins with the leg costs c
   abbrev Begins : ℕ → Leg → Cost → Type 0
   Begins b l = IsSumOf (λ d. d ≡ l.cost) (IsPathCost l.node b)
 
-  -- one that begins with one of the legs costs c
+  -- an upward path that begins with one of the legs costs c
   abbrev BeginsWithOne : ℕ → List Leg → Cost → Type 0
   BeginsWithOne b legs c = (l : Leg) × Contains legs l × Begins b l c
 
-  -- the least of these, where the least from the end of each leg is known
+  -- the least of these costs, from the least costs of the paths after each leg
   least_of_legs : (b : ℕ) (legs : List Leg) → ((l : Leg) → Contains legs l → LeastOrNone (IsPathCost l.node b)) → LeastOrNone (BeginsWithOne b legs)
   least_of_legs b [] on = inr (λ c h. contains_none h.0 h.1)
   least_of_legs b (l ∷ legs) on =
@@ -74,7 +75,7 @@ module _ (rows : List (List Leg)) where
   begins a b (l ∷ legs) p = inr (l, p.0, (l.cost, path_cost legs, refl, (legs, p.1, refl), sym (path_cost-cons l legs)))
 
   module _ (level : ℕ → ℕ) (n : ℕ) (most : (v : ℕ) → level v ≤ n) (rises : (v : ℕ) (l : Leg) → Contains (row rows v) l → level v < level l.node) where
-    -- from the top level downwards
+    -- the least cost of a path, by recursion from the top level downwards
     least_from : (d a b : ℕ) → n < d + level a → LeastOrNone (IsPathCost a b)
     least_from zero a b low = absurd (let le = most a in omega arith)
     least_from (suc d) a b low =
@@ -83,7 +84,7 @@ module _ (rows : List (List Leg)) where
         (least_either (StaysFor a b) (BeginsWithOne b (row rows a)) (least_stay a b)
         (least_of_legs b (row rows a) (λ l has. least_from d l.node b (let up = rises a l has in omega arith))))
 
-    -- a least upward path within the greatest weight, or none
+    -- there is a least upward path within the greatest weight, or there is none
     least_path : (a b : ℕ) → ((c : Cost) × IsLeastUpwardPath rows a b c) ⊎ ((c : Cost) → IsLeastUpwardPath rows a b c → ⊥)
     least_path a b = elim (least_from (n + 1) a b (omega arith)) [
       | inl found ↦ elim (cases_lt MOST_WEIGHT found.0.weight) [
@@ -93,22 +94,22 @@ module _ (rows : List (List Leg)) where
       | inr none ↦ inr (λ c h. none c h.path)
     ]
 
-  -- a path among the nodes ends there
+  -- a path that begins at a node ends at a node
   ends_below : (n : ℕ) → ((v : ℕ) (l : Leg) → Contains (row rows v) l → l.node < n) → (a b : ℕ) (legs : List Leg) → IsUpwardPath rows a b legs → a < n → b < n
   ends_below n within a b [] p lt = subst (λ q. q < n) p lt
   ends_below n within a b (l ∷ legs) p lt = ends_below n within l.node b legs p.1 (within a l p.0)
 
 module _ (H : LevelsAndLegs) (is : IsLevelled H) where
-  -- a least path in such rows, or none
+  -- there is a least path in such rows, or there is none
   least_in : (rows : List (List Leg)) → AreLegsUp H rows → (a b : ℕ) → ((c : Cost) × IsLeastUpwardPath rows a b c) ⊎ ((c : Cost) → IsLeastUpwardPath rows a b c → ⊥)
   least_in rows are = least_path rows (slice_index H.level) (nodes_of H) (level_most H is) (λ v l has. (leg_of_rows H rows are v l has).higher)
 
   module _ (s t : ℕ) (most : Cost) where
-    -- going up to m and down from there costs no more
+    -- going up to m and down from there costs at most `most`
     abbrev MeetsAt : ℕ → Type 0
     MeetsAt m = (c : Cost) × IsMeeting H s t m c × IsAtMost c most
 
-    -- it is so or not
+    -- whether this holds for m is decided
     meets_at : (m : ℕ) → Decided (MeetsAt m)
     meets_at m = elim (least_in H.up is.up s m) [
       | inl up ↦ elim (least_in H.down is.down t m) [
@@ -125,7 +126,7 @@ module _ (H : LevelsAndLegs) (is : IsLevelled H) where
         no_dearer : (rows : List (List Leg)) (x y : ℕ) (c d : Cost) → IsLeastUpwardPath rows x y c → IsLeastUpwardPath rows x y d → IsAtMost c d
         no_dearer rows x y c d h k = subst (IsAtMost c) k.path.2 (h.least k.path.0 k.path.1 (subst (λ (q : Cost). q.weight ≤ MOST_WEIGHT) (sym k.path.2) k.weight))
 
-    -- so it is of all nodes
+    -- whether this holds for some node is decided
     pub meets_decided : s < nodes_of H → Decided (MeetsWithin H s t most)
     meets_decided lt = decided_same (HasBelow MeetsAt (nodes_of H)) (MeetsWithin H s t most)
         (λ (m, less, (c, meets, le)). (m, c, meets, le))

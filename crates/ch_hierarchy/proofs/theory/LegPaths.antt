@@ -1,4 +1,4 @@
--- Paths over the legs of a hierarchy, up and down in any order.
+-- Paths over the legs of a hierarchy, with legs up and legs down in any order.
 use Rattle.std.proofs.Common.{◌≡◌, ℕ, ◌<◌, ◌≤◌, List, [], ◌∷◌, ◌++◌, length, Contains, Option, refl, sym, ◌∙◌, ap, subst, arith, inl, inr}
 use Rattle.std.specs.Prelude.{◌⊎◌, slice_index}
 use Rattle.std.proofs.lemmas.Bool.{cases_lt}
@@ -28,7 +28,7 @@ path_cost-cons l legs = same_costs _ _ (sum_by-cons (λ (k : Leg). k.cost.weight
 pub path_cost-append : (xs ys : List Leg) → path_cost (xs ++ ys) ≡ cost_sum (path_cost xs) (path_cost ys)
 path_cost-append xs ys = same_costs _ _ (sum_by-append (λ (k : Leg). k.cost.weight) xs ys) (sum_by-append (λ (k : Leg). k.cost.arcs) xs ys)
 
--- where each leg from a node is a walk, so is each path along the rows
+-- if each leg of a row is a walk from the row's node, each path along the rows is a walk
 pub rises_along : (g : Network) (rows : List (List Leg)) → ((v : ℕ) (l : Leg) → Contains (row rows v) l → IsWalkCost g v l.node l.cost) →
     (a b : ℕ) (legs : List Leg) → IsUpwardPath rows a b legs → IsWalkCost g a b (path_cost legs)
 rises_along g rows walk a b [] p = subst (λ q. IsWalkCost g a q no_cost) p (IsWalkCost-no_cost g a)
@@ -36,45 +36,45 @@ rises_along g rows walk a b (l ∷ legs) p =
     let on = IsWalkCost-cost_sum g a l.node b l.cost (path_cost legs) (walk a l p.0) (rises_along g rows walk l.node b legs p.1) in
     subst (IsWalkCost g a b) (sym (path_cost-cons l legs)) on
 
--- where each leg to a node is a walk, each path along the rows is one back
+-- if each leg of a row is a walk to the row's node, each path along the rows is a walk back
 pub falls_along : (g : Network) (rows : List (List Leg)) → ((v : ℕ) (l : Leg) → Contains (row rows v) l → IsWalkCost g l.node v l.cost) →
     (a b : ℕ) (legs : List Leg) → IsUpwardPath rows a b legs → IsWalkCost g b a (path_cost legs)
 falls_along g rows walk a b legs p = walk_turned g b a _ (rises_along (turned_graph g) rows (λ v l has. turned_walk g l.node v l.cost (walk v l has)) a b legs p)
 
 module _ (H : LevelsAndLegs) where
-  -- the legs lead from s to t, over nodes of level k and above
+  -- the legs lead from s to t, over nodes of level at least k
   abbrev pub IsHighPath : ℕ → ℕ → ℕ → List Leg → Type 0
   IsHighPath k s t [] = (s ≡ t) × (k ≤ slice_index H.level t)
   IsHighPath k s t (l ∷ legs) = IsLeg H s l.node l.cost l.middle × (k ≤ slice_index H.level s) × IsHighPath k l.node t legs
 
-  -- such a path that costs at most c
+  -- there is such a path that costs at most c
   pub record HasHighPath (k s t : ℕ) (c : Cost) : Type 0 where
     pub legs : List Leg
     pub is_path : IsHighPath k s t legs
     pub cheap : IsAtMost (path_cost legs) c
 
-  -- a path from m to t, over nodes of level k and above, that costs c
+  -- there is a path from m to t over nodes of level at least k that costs c
   pub record HasPathOfCost (k m t : ℕ) (c : Cost) : Type 0 where
     pub legs : List Leg
     pub is_path : IsHighPath k m t legs
     pub cost : path_cost legs ≡ c
 
-  -- the start is among the nodes
+  -- the start has level at least k
   pub high_start : (k s t : ℕ) (legs : List Leg) → IsHighPath k s t legs → k ≤ slice_index H.level s
   high_start k s t [] h = let e = ap (slice_index H.level) h.0 in omega (arith, h.1)
   high_start k s t (l ∷ legs) h = h.1
 
-  -- and so is the end
+  -- the end has level at least k
   pub high_end : (k s t : ℕ) (legs : List Leg) → IsHighPath k s t legs → k ≤ slice_index H.level t
   high_end k s t [] h = h.1
   high_end k s t (l ∷ legs) h = high_end k l.node t legs h.2
 
-  -- a path and a path from its end
+  -- a path and a path from its end together are a path
   pub high_append : (k s m t : ℕ) (xs ys : List Leg) → IsHighPath k s m xs → IsHighPath k m t ys → IsHighPath k s t (xs ++ ys)
   high_append k s m t [] ys h g = subst (λ q. IsHighPath k q t ys) (sym h.0) g
   high_append k s m t (x ∷ xs) ys h g = (h.0, h.1, high_append k x.node m t xs ys h.2 g)
 
-  -- a path that costs c, taken apart before its last leg
+  -- a path that costs c, cut before its last leg
   pub record HasLastLeg (k s t : ℕ) (c : Cost) : Type 0 where
     pub node : ℕ
     pub front : List Leg
@@ -83,7 +83,7 @@ module _ (H : LevelsAndLegs) where
     pub is_leg : IsLeg H node t last.cost last.middle
     pub cost : c ≡ cost_sum (path_cost front) last.cost
 
-  -- it is found by going along
+  -- each path that is not empty can be cut before its last leg
   pub last_leg : (k s t : ℕ) (x : Leg) (xs : List Leg) → IsHighPath k s t (x ∷ xs) → HasLastLeg k s t (path_cost (x ∷ xs))
   last_leg k s t x [] h = record {
     node = s;
@@ -105,23 +105,23 @@ module _ (H : LevelsAndLegs) where
             ∙ ap (λ c. cost_sum c rest.last.cost) (sym (path_cost-cons x rest.front));
       }
 
-  -- a leg from u to w that leads up, at its lower end u
+  -- a leg up from u to w, which is in a row of u
   abbrev pub Rises : ℕ → ℕ → Cost → Type 0
   Rises u w c = (l : Leg) × Contains (row H.up u) l × (l.node ≡ w) × (l.cost ≡ c) × (slice_index H.level u < slice_index H.level w)
 
-  -- a leg from u to w that leads down, at its lower end w
+  -- a leg down from u to w, which is in a row of w
   abbrev pub Falls : ℕ → ℕ → Cost → Type 0
   Falls u w c = (l : Leg) × Contains (row H.down w) l × (l.node ≡ u) × (l.cost ≡ c) × (slice_index H.level w < slice_index H.level u)
 
 module _ (H : LevelsAndLegs) where
-  -- no level is past the number of nodes
+  -- a level is at most the number of nodes
   pub level_most : IsLevelled H → (v : ℕ) → slice_index H.level v ≤ nodes_of H
   level_most is v = elim (cases_lt v (length H.level)) [
     | inl node ↦ (is.levels.0 v 0 node).1
     | inr past ↦ (let none = get_or_past H.level v 0 past in omega arith)
   ]
 
-  -- a leg of rows whose legs lead up
+  -- a leg of rows whose legs lead to higher nodes
   pub leg_of_rows : (rows : List (List Leg)) → AreLegsUp H rows → (v : ℕ) (l : Leg) → Contains (row rows v) l → IsLegUp H v l
   leg_of_rows rows are v l has = All-contains (IsLegUp H v) (row rows v) l (are.1 v).1 has
 
@@ -134,12 +134,12 @@ module _ (g : Network) (H : LevelsAndLegs) (kept : IsKept g H) where
   pub down_leg : (v : ℕ) (l : Leg) → Contains (row H.down v) l → IsLegUp H v l
   down_leg = leg_of_rows H H.down kept.levelled.down
 
-  -- an upward path stays above its start
+  -- the nodes of an upward path have at least the level of its start
   pub up_high : (k a b : ℕ) (legs : List Leg) → IsUpwardPath H.up a b legs → k ≤ slice_index H.level a → IsHighPath H k a b legs
   up_high k a b [] p low = (p, subst (λ q. k ≤ slice_index H.level q) p low)
   up_high k a b (l ∷ legs) p low = let higher = (up_leg a l p.0).higher in ((l, refl, refl, inl (p.0, refl)), low, up_high k l.node b legs p.1 (omega arith))
 
-  -- an upward path along the down rows is a path back, which stays above its end
+  -- an upward path along the down rows is a path back, whose nodes have at least the level of its end
   pub down_high : (k t m : ℕ) (legs : List Leg) → IsUpwardPath H.down t m legs → k ≤ slice_index H.level t → HasPathOfCost H k m t (path_cost legs)
   down_high k t m [] p low = record { legs = []; is_path = (sym p, low); cost = refl }
   down_high k t m (l ∷ legs) p low =
@@ -154,7 +154,7 @@ module _ (g : Network) (H : LevelsAndLegs) (kept : IsKept g H) where
             ∙ cost_sum_comm (path_cost rest.legs) l.cost ∙ ap (cost_sum l.cost) rest.cost ∙ sym (path_cost-cons l legs);
       }
 
-  -- going up and then down is a path that stays above its lower end
+  -- going up and then down gives a path whose nodes have at least the level of the lower end
   pub meeting_high : (k s t m : ℕ) (c : Cost) → IsMeeting H s t m c → k ≤ slice_index H.level s → k ≤ slice_index H.level t → HasHighPath H k s t c
   meeting_high k s t m c h ls lt =
       let up = h.2.path in

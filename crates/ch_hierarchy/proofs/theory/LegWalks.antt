@@ -1,4 +1,4 @@
--- In a kept hierarchy each leg stands for a walk of its cost, and so does each path of legs.
+-- Each leg of a kept hierarchy stands for a walk of its cost, and so does each path of legs.
 use Rattle.std.proofs.Common.{ℕ, zero, suc, ◌+◌, ◌<◌, List, Contains, Option, Some, None, refl, sym, ap, subst, arith, inl, inr}
 use Rattle.std.specs.Prelude.{◌⊎◌, slice_index}
 use Rattle.ch_graph.specs.declared.cost.Cost.{Cost}
@@ -15,7 +15,7 @@ use Rattle.ch_hierarchy.specs.Kept.{IsKept, IsLeg, IsFounded}
 use Rattle.ch_hierarchy.proofs.theory.LegPaths.{up_leg, down_leg, rises_along, falls_along}
 
 module _ (g : Network) (H : LevelsAndLegs) (kept : IsKept g H) where
-  -- the legs of the nodes below level n are walks
+  -- the legs of the nodes whose level is below n are walks
   AreWalks : ℕ → Type 0
   AreWalks n = ((v : ℕ) (l : Leg) → slice_index H.level v < n → Contains (row H.up v) l → IsWalkCost g v l.node l.cost)
       × ((v : ℕ) (l : Leg) → slice_index H.level v < n → Contains (row H.down v) l → IsWalkCost g l.node v l.cost)
@@ -38,7 +38,7 @@ module _ (g : Network) (H : LevelsAndLegs) (kept : IsKept g H) where
       subst (IsWalkCost g u w) (sym f.6) (IsWalkCost-cost_sum g u v w a.cost b.cost
       (subst (λ q. IsWalkCost g q v a.cost) f.3 (walks.1 v a under f.2)) (subst (λ q. IsWalkCost g v q b.cost) f.5 (walks.0 v b under f.4)))
 
-  -- by recursion on the level of the lower end
+  -- each leg is a walk, by recursion on the level of its lower end
   are_walks : (n : ℕ) → AreWalks n
   unfolding AreWalks
   are_walks zero = (λ v l low has. absurd (omega arith), λ v l low has. absurd (omega arith))

@@ -11,7 +11,7 @@ use Rattle.ch_hierarchy.specs.Written.{IsByLevel}
 use Rattle.ch_hierarchy.proofs.theory.Ordered.{every_number}
 use Rattle.ch_hierarchy.proofs.theory.SavedLevels.{level_of, order_of}
 
--- each level is a node's, by the levels
+-- each level is that of a node, for a list of levels
 pub node_of_level : (levels : List ℕ) → AreLevels levels → (i : ℕ) → i < length levels → (v : ℕ) × (v < length levels) × (slice_index levels v ≡ i + 1)
 node_of_level levels are i lt =
     let n : ℕ = length levels in
@@ -23,7 +23,7 @@ node_of_level levels are i lt =
     ]
 
 module _ (H : LevelsAndLegs) where
-  -- each level is a node's
+  -- each level is that of a node
   pub node_at : IsLevelled H → (i : ℕ) → i < nodes_of H → (v : ℕ) × (v < nodes_of H) × (slice_index H.level v ≡ i + 1)
   node_at is = node_of_level H.level is.levels
 
@@ -32,7 +32,7 @@ module _ (H : LevelsAndLegs) where
     size : length nodes ≡ k
     each : (i : ℕ) → i < k → slice_index H.level (get_or nodes i 0) ≡ i + 1
 
-  -- there are such nodes
+  -- the nodes of the first k levels exist in order
   first_nodes : IsLevelled H → (k : ℕ) → k ≤ nodes_of H → (nodes : List ℕ) × AreFirst k nodes
   first_nodes is zero le = ([], record { size = omega arith; each = λ i lt. absurd (omega arith) })
   first_nodes is (suc k) le =
@@ -52,7 +52,7 @@ module _ (H : LevelsAndLegs) where
         },
       )
 
-  -- those of all levels are in order of level
+  -- the nodes of all levels are in order of level
   pub level_order : IsLevelled H → (order : List ℕ) × IsByLevel H order
   level_order is =
       let all = first_nodes is (nodes_of H) (omega arith) in
@@ -60,7 +60,7 @@ module _ (H : LevelsAndLegs) where
       let levels : AreLevelsOf all.0 H.level = record { count = sym size; each = λ i lt. all.1.each i (omega arith) } in
       (all.0, record { nodes = order_of all.0 H.level levels; levels = levels })
 
-  -- nodes stand in one order of level
+  -- there is only one order of level
   pub one_level_order : (order other : List ℕ) → IsByLevel H order → IsByLevel H other → order ≡ other
   one_level_order order other a b = ext_get_or 0 order other (a.nodes.count ∙ sym b.nodes.count) (λ i lt.
       let same = b.nodes.count in

@@ -1,4 +1,5 @@
--- A path of legs in a kept hierarchy is matched by one that goes up and then down: its lowest nodes are avoided in turn.
+-- A path of legs in a kept hierarchy is matched by one that goes up and then down. The proof avoids its lowest nodes
+-- in turn.
 use Rattle.std.proofs.Common.{◌≡◌, ℕ, zero, suc, ◌+◌, ◌<◌, List, [], ◌∷◌, ◌++◌, Contains, refl, sym, ◌∙◌, ap, subst, arith, inl, inr}
 use Rattle.std.specs.Prelude.{◌⊎◌, slice_index}
 use Rattle.std.proofs.lemmas.Bool.{cases_lt, cases_eq}
@@ -16,7 +17,7 @@ use Rattle.ch_hierarchy.specs.Kept.{IsKept}
 use Rattle.ch_hierarchy.specs.Turned.{turned_hierarchy}
 use Rattle.ch_hierarchy.proofs.theory.LegPaths.{IsHighPath, HasHighPath, high_start, high_end, high_append, last_leg, meeting_high, Rises, Falls, rises_or_falls, path_cost-cons, path_cost-append, level_most}
 
--- an upward path from s and one from t that meet, and cost at most c together
+-- an upward path from s and one from t meet, and cost at most c together
 pub record HasMeetingPaths (H : LevelsAndLegs) (s t : ℕ) (c : Cost) : Type 0 where
   pub node : ℕ
   pub ups : List Leg
@@ -25,7 +26,7 @@ pub record HasMeetingPaths (H : LevelsAndLegs) (s t : ℕ) (c : Cost) : Type 0 w
   pub fall : IsUpwardPath H.down t node downs
   pub cheap : IsAtMost (cost_sum (path_cost ups) (path_cost downs)) c
 
--- what is within one bound is within a greater one
+-- a bound may be replaced by a greater one
 pub meeting_paths_within : (H : LevelsAndLegs) (s t : ℕ) (c d : Cost) → IsAtMost c d → HasMeetingPaths H s t c → HasMeetingPaths H s t d
 meeting_paths_within H s t c d le p = record {
   node = p.node;
@@ -36,11 +37,11 @@ meeting_paths_within H s t c d le p = record {
   cheap = IsAtMost_trans _ _ _ p.cheap le;
 }
 
--- the empty paths meet where they begin
+-- the empty paths of one node meet
 pub paths_of_none : (H : LevelsAndLegs) (s : ℕ) (c : Cost) → HasMeetingPaths H s s c
 paths_of_none H s c = record { node = s; ups = []; downs = []; rise = refl; fall = refl; cheap = IsAtMost-no_cost c }
 
--- paths that meet do so turned round
+-- paths that meet also meet in the other direction
 turned_paths : (H : LevelsAndLegs) (s t : ℕ) (c : Cost) → HasMeetingPaths H s t c → HasMeetingPaths (turned_hierarchy H) t s c
 turned_paths H s t c p = record {
   node = p.node;
@@ -51,7 +52,7 @@ turned_paths H s t c p = record {
   cheap = subst (λ q. IsAtMost q c) (cost_sum_comm (path_cost p.ups) (path_cost p.downs)) p.cheap;
 }
 
--- an up leg in front
+-- an up leg in front of paths that meet
 pub up_first : (H : LevelsAndLegs) (s t : ℕ) (l : Leg) (c : Cost) → Contains (row H.up s) l → HasMeetingPaths H l.node t c → HasMeetingPaths H s t (cost_sum l.cost c)
 up_first H s t l c has r = record {
   node = r.node;
@@ -63,7 +64,7 @@ up_first H s t l c has r = record {
       (IsAtMost-cost_sum l.cost l.cost _ c (IsAtMost_refl l.cost) r.cheap);
 }
 
--- a down leg at the end
+-- a down leg after paths that meet
 pub down_last : (H : LevelsAndLegs) (s t : ℕ) (l : Leg) (c : Cost) → Contains (row H.down t) l → HasMeetingPaths H s l.node c → HasMeetingPaths H s t (cost_sum c l.cost)
 down_last H s t l c has r =
     subst (HasMeetingPaths H s t) (cost_sum_comm l.cost c)
@@ -95,7 +96,7 @@ module _ (g : Network) (H : LevelsAndLegs) (kept : IsKept g H) where
             })
       ]
 
-  -- so such legs in front of a path over higher nodes can be avoided
+  -- such legs in front of a path over higher nodes can be avoided
   around_lower : (k s t : ℕ) (x y : Leg) (ys : List Leg) → (s ≡ y.node) ⊎ HasHighPath H (k + 1) s y.node (cost_sum x.cost y.cost) →
       HasHighPath H (k + 1) y.node t (path_cost ys) → HasHighPath H (k + 1) s t (path_cost (x ∷ y ∷ ys))
   around_lower k s t x y ys over rest =
@@ -114,7 +115,7 @@ module _ (g : Network) (H : LevelsAndLegs) (kept : IsKept g H) where
         }
       ]
 
-  -- a path that nowhere falls below level k, with ends above it, has one of no greater cost that stays above it
+  -- for a path over nodes of level at least k, with ends above k, there is one above k that costs no more
   above_level : (k s t : ℕ) (legs : List Leg) → IsHighPath H k s t legs → IsAbove H k s → IsAbove H k t → HasHighPath H (k + 1) s t (path_cost legs)
   above_level k s t [] h above_s above_t = record { legs = []; is_path = (h.0, omega arith); cheap = IsAtMost_refl no_cost }
   above_level k s t (x ∷ []) h above_s above_t = record {
@@ -143,17 +144,17 @@ module _ (g : Network) (H : LevelsAndLegs) (kept : IsKept g H) where
         ]
   ]
 
-  -- each path over nodes of level k and above is matched by two paths that meet, of no greater cost
+  -- each path over nodes of level at least k is matched by two paths that meet and cost no more
   abbrev pub AreMatched : ℕ → Type 0
   AreMatched k = (s t : ℕ) (legs : List Leg) → IsHighPath H k s t legs → HasMeetingPaths H s t (path_cost legs)
 
-  -- where both ends are above level k
+  -- the case where both ends are above level k
   between_higher : (k s t : ℕ) → AreMatched (k + 1) → (legs : List Leg) → IsHighPath H k s t legs → IsAbove H k s → IsAbove H k t → HasMeetingPaths H s t (path_cost legs)
   between_higher k s t higher legs h above_s above_t =
       let path = above_level k s t legs h above_s above_t in
       meeting_paths_within H s t _ _ path.cheap (higher s t path.legs path.is_path)
 
-  -- where the start is above level k: the last leg may lead down to it
+  -- the case where the start is above level k, and the last leg may lead down to level k
   from_higher : (k s t : ℕ) → AreMatched (k + 1) → (legs : List Leg) → IsHighPath H k s t legs → IsAbove H k s → HasMeetingPaths H s t (path_cost legs)
   from_higher k s t higher [] h above_s = between_higher k s t higher [] h above_s (subst (IsAbove H k) h.0 above_s)
   from_higher k s t higher (x ∷ xs) h above_s = elim (cases_lt k (slice_index H.level t)) [
@@ -169,7 +170,7 @@ module _ (g : Network) (H : LevelsAndLegs) (kept : IsKept g H) where
         ]
   ]
 
-  -- from paths above level k to those of level k too: the first leg may lead up from it
+  -- from paths above level k to paths of level at least k, where the first leg may lead up from level k
   one_lower : (k : ℕ) → AreMatched (k + 1) → AreMatched k
   one_lower k higher s t [] h = subst (λ q. HasMeetingPaths H s q no_cost) h.0 (paths_of_none H s no_cost)
   one_lower k higher s t (x ∷ xs) h = elim (cases_lt k (slice_index H.level s)) [
@@ -184,11 +185,11 @@ module _ (g : Network) (H : LevelsAndLegs) (kept : IsKept g H) where
         ]
   ]
 
-  -- from the top level downwards
+  -- by recursion from the top level downwards
   matched_from : (d k : ℕ) → nodes_of H < d + k → AreMatched k
   matched_from zero k top = λ s t legs h. absurd (omega (arith, level_most H kept.levelled s, high_start H k s t legs h))
   matched_from (suc d) k top = one_lower k (matched_from d (k + 1) (omega arith))
 
-  -- so each path of legs is matched
+  -- each path of legs is matched
   pub matched : AreMatched 0
   matched = matched_from (nodes_of H + 1) 0 (omega arith)

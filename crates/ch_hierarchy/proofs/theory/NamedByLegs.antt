@@ -1,4 +1,4 @@
--- An order of the nodes, and legs that are right by themselves and beside each other, name a hierarchy.
+-- An order of the nodes, and legs that are right alone and together, name a hierarchy.
 use Rattle.std.proofs.Common.{◌≡◌, ℕ, zero, suc, ◌+◌, ◌<◌, ◌≤◌, List, [], ◌∷◌, ◌++◌, length, map, get_or, set, Contains, refl, subst, arith, inl, inr}
 use Rattle.std.specs.Prelude.{AllPairs, slice_index, replicate}
 use Rattle.std.specs.List.{range_with_len}
@@ -42,7 +42,7 @@ no_level_is n v = elim (cases_lt v n) [
 ]
 
 module _ (n : ℕ) (order : List ℕ) (is : IsOrderOf n order) where
-  -- the first none of the nodes have their levels
+  -- at first no node has its level
   none_levelled : HasLevels n order (no_level n) 0
   none_levelled = record {
     size = length-replicate n 0;
@@ -51,7 +51,7 @@ module _ (n : ℕ) (order : List ℕ) (is : IsOrderOf n order) where
     marked = λ v some. (let none = no_level_is n v in absurd (omega (arith, none, some)));
   }
 
-  -- one node after another gets its level
+  -- the nodes get their levels one after another
   levels_before : (i : ℕ) → i ≤ n → (levels : List ℕ) × HasLevels n order levels i
   levels_before zero le = (no_level n, none_levelled)
   levels_before (suc i) le =
@@ -64,7 +64,7 @@ module _ (n : ℕ) (order : List ℕ) (is : IsOrderOf n order) where
       ] in
       (set rest.0 (get_or order i 0) (i + 1), subst (HasLevels n order (set rest.0 (get_or order i 0) (i + 1))) next (one_level n order rest.0 i rest.1 (is.within i inside) free))
 
-  -- so all have one
+  -- in the end all nodes have their levels
   levels_there : (levels : List ℕ) × AreLevelsOf order levels
   levels_there = let all = levels_before n (omega arith) in (all.0, (all_levels n order all.0 n all.1 is.count (let c = is.count in omega arith)).1)
 
@@ -92,7 +92,7 @@ module _ (n : ℕ) (low high : SavedLeg → ℕ) (levels : List ℕ) (legs : Lis
       let placed = placed_all low high levels legs (length legs) all.0 (omega arith) all.1 in
       (all.0, placed.0, placed.1)
 
-  -- and these in order, where no two legs have the same ends
+  -- the entries of all legs in order, if no two legs have the same ends
   side_there : ((l : SavedLeg) → Contains legs l → (low l < n) × (high l < n)) →
       ((i j : ℕ) → i < j → j < length legs → low (get_or legs i no_saved_leg) ≡ low (get_or legs j no_saved_leg) → high (get_or legs i no_saved_leg) ≡ high (get_or legs j no_saved_leg) → ⊥) →
       (entries : List Placed) × IsSide low high levels legs entries
@@ -109,7 +109,7 @@ module _ (n : ℕ) (low high : SavedLeg → ℕ) (levels : List ℕ) (legs : Lis
         },
       )
 
--- the hierarchy has the levels of the order, and at each node the legs whose lower end it is
+-- the hierarchy has the levels of the order, and each node has the legs whose lower end it is
 pub named_there : (n : ℕ) (s : OrderAndLegs) → n ≤ MOST_NODES → IsOrderOf n s.order → ((l : SavedLeg) → Contains s.legs l → JoinsNodes n l) →
     ((i j : ℕ) → i < j → j < length s.legs → IsSamePair (get_or s.legs i no_saved_leg) (get_or s.legs j no_saved_leg) → ⊥) →
     ((l : SavedLeg) → Contains s.legs l → IsWithinBounds n l) → (H : LevelsAndLegs) × NamesHierarchy s H × (nodes_of H ≡ n)

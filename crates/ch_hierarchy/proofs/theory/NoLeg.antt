@@ -1,4 +1,4 @@
--- What a read past the end of a row gives.
+-- The default leg of a read past the end of a row.
 use Rattle.std.proofs.Common.{None}
 use Rattle.ch_hierarchy.specs.declared.leg.Leg.{Leg}
 

@@ -1,4 +1,4 @@
--- An order and a list of legs have one levelled hierarchy.
+-- An order and a list of legs name at most one levelled hierarchy.
 use Rattle.std.proofs.Common.{◌≡◌, ℕ, ◌<◌, List, [], length, Contains, Option, refl, sym, ◌∙◌, ap, subst, arith, inl, inr}
 use Rattle.std.specs.Prelude.{slice_index}
 use Rattle.std.proofs.lemmas.List.{ext_get_or}
@@ -15,11 +15,11 @@ use Rattle.ch_hierarchy.specs.Turned.{turned_hierarchy}
 use Rattle.ch_hierarchy.proofs.theory.SavedLevels.{levels_same}
 use Rattle.ch_hierarchy.proofs.theory.Turned.{turned_levelled, turned_leg}
 
--- a leg by its parts
+-- a leg is determined by its parts
 same_leg : (l k : Leg) → l.node ≡ k.node → l.cost ≡ k.cost → l.middle ≡ k.middle → l ≡ k
 same_leg l k a b c = λ i. record { node = a i; cost = b i; middle = c i }
 
--- where each leg of one hierarchy is a leg of another of the same levels, it is one in the same row up
+-- if each leg of one hierarchy is a leg of another with the same levels, it is in the same up row
 up_moves : (H K : LevelsAndLegs) → IsLevelled H → IsLevelled K → H.level ≡ K.level → ((u w : ℕ) (c : Cost) (m : Option ℕ) → IsLeg H u w c m → IsLeg K u w c m) →
     (v : ℕ) (l : Leg) → Contains (row H.up v) l → Contains (row K.up v) l
 up_moves H K h k same moves v l c = at (moves v l.node l.cost l.middle (l, refl, refl, inl (c, refl))) (All-contains (IsLegUp H v) (row H.up v) l (h.up.1 v).1 c).higher
@@ -32,19 +32,19 @@ up_moves H K h k same moves v l c = at (moves v l.node l.cost l.middle (l, refl,
         let here : slice_index H.level l.node < slice_index H.level v = subst (λ ls. slice_index ls l.node < slice_index ls v) (sym same) back in
         absurd (omega arith)
 
--- and so it is of the rows down
+-- the same for the down rows
 down_moves : (H K : LevelsAndLegs) → IsLevelled H → IsLevelled K → H.level ≡ K.level → ((u w : ℕ) (c : Cost) (m : Option ℕ) → IsLeg H u w c m → IsLeg K u w c m) →
     (v : ℕ) (l : Leg) → Contains (row H.down v) l → Contains (row K.down v) l
 down_moves H K h k same moves =
     up_moves (turned_hierarchy H) (turned_hierarchy K) (turned_levelled H h) (turned_levelled K k) same
     (λ u w c m leg. turned_leg K w u c m (moves w u c m (turned_leg (turned_hierarchy H) u w c m leg)))
 
--- rows with the same members are the same
+-- rows with the same members are equal
 rows_same : (n : ℕ) (xs ys : List (List Leg)) → length xs ≡ n → length ys ≡ n → ((v : ℕ) → IsRow (row xs v)) → ((v : ℕ) → IsRow (row ys v)) →
     ((v : ℕ) (l : Leg) → Contains (row xs v) l → Contains (row ys v) l) → ((v : ℕ) (l : Leg) → Contains (row ys v) l → Contains (row xs v) l) → xs ≡ ys
 rows_same n xs ys p q a b f g = ext_get_or [] xs ys (p ∙ sym q) (λ v lt. ordered_same (λ (x y : Leg). x.node < y.node) (λ x y less more. omega arith) (row xs v) (row ys v) (a v) (b v) (f v) (g v))
 
--- so there is one
+-- two hierarchies with the same name are equal
 pub one_saved : (s : OrderAndLegs) (H K : LevelsAndLegs) → NamesHierarchy s H → NamesHierarchy s K → H ≡ K
 one_saved s H K a b =
     let same = levels_same s.order H.level K.level a.levels b.levels in

@@ -51,13 +51,13 @@ contains_or_not (x ∷ xs) z = elim (cases_eq x z) [
   ]
 ]
 
--- different numbers, in the words of std's lemmas
+-- different numbers, in the form of std's lemmas
 distinct_by_test : (xs : List ℕ) → AllPairs ◌≢◌ xs → IsDistinct eqb xs
 unfolding IsDistinct
 distinct_by_test [] h = tt
 distinct_by_test (x ∷ xs) h = (recursion_from_All (λ y. eqb x y ≡ false) xs (λ k d lt. let ne : x ≢ get_or xs k d = pairs_head ◌≢◌ x (get_or xs k d) xs h (Contains-get_or xs k d lt) in grind (arith, nat_tests)), distinct_by_test xs (pairs_tail ◌≢◌ x xs h))
 
--- the test for a number tells that it is in the list
+-- if the test for a number holds, the number is in the list
 any_contains : (xs : List ℕ) (q : ℕ) → list_any (eqb q) xs ≡ true → Contains xs q
 any_contains [] q e = cc
 any_contains (x ∷ xs) q e = at (eqb q x) refl e (any_contains xs q)
@@ -66,7 +66,7 @@ any_contains (x ∷ xs) q e = at (eqb q x) refl e (any_contains xs q)
     at true t _ more = (zero, omega arith, sym (eqb-true q x t))
     at false t rest more = contains_tail q x xs (more rest)
 
--- and it finds what is in the list
+-- if a number is in the list, the test holds
 contains_any : (xs : List ℕ) (q : ℕ) → Contains xs q → list_any (eqb q) xs ≡ true
 contains_any [] q c = absurd (contains_none q c)
 contains_any (x ∷ xs) q c = elim (contains_cons x q xs c) [
@@ -91,7 +91,7 @@ every_number xs n x size below distinct lt = elim (contains_or_not xs x) [
       absurd (omega arith)
 ]
 
--- one more number that is none of the list
+-- appending a number that is not in the list keeps the numbers different
 pub pairs_push : (xs : List ℕ) (y : ℕ) → AllPairs ◌≢◌ xs → (Contains xs y → ⊥) → AllPairs ◌≢◌ (xs ++ y ∷ [])
 pairs_push xs y distinct away i j d lt within =
     let size = length_push xs y in
@@ -103,6 +103,6 @@ pairs_push xs y distinct away i j d lt within =
           distinct i j d lt second (sym (get_or_append_left xs (y ∷ []) d i first) ∙ e ∙ get_or_append_left xs (y ∷ []) d j second)
     ]
 
--- what the test of two pairs says
+-- if the test of two pairs holds, the pairs are equal
 pub same_ends : (u w a b : ℕ) → (a == u && b == w) ≡ true → (a ≡ u) × (b ≡ w)
 same_ends u w a b e = (grind (arith, nat_tests), grind (arith, nat_tests))

@@ -1,4 +1,4 @@
--- The faults of a saved hierarchy: at most one comes first, and what names a right hierarchy has none.
+-- The faults of a saved hierarchy. At most one comes first, and a saved hierarchy that names a right one has none.
 use Rattle.std.proofs.Common.{◌≡◌, ℕ, zero, suc, ◌+◌, ◌<◌, ◌≤◌, inl, inr, List, get_or, Option, Some, None, refl, sym, ◌∙◌, ap, subst, arith}
 use Rattle.std.specs.Prelude.{◌≢◌, slice_get, slice_index, Result, Ok, Err, IsErrAnd}
 use Rattle.std.proofs.lemmas.Bool.{cases_eq, cases_lt}
@@ -41,14 +41,14 @@ fault_is (Arc i) = refl
 fault_is (Lower v) = refl
 
 module _ (g : Network) (s : OrderAndLegs) where
-  -- no fault of a kind before this one is there
+  -- there is no fault of an earlier kind
   abbrev pub HasNoneBelow : ℕ → Type 0
   HasNoneBelow k = (e : CheckFault) → kind e < k → HasFault g s e → ⊥
 
   pub none_below : HasNoneBelow 0
   none_below e lt h = absurd (omega arith)
 
-  -- nor one of this kind
+  -- there is no fault of this kind either
   pub none_more : (k : ℕ) → HasNoneBelow k → ((p : ℕ) → HasFault g s (fault_of k p) → ⊥) → HasNoneBelow (k + 1)
   none_more k below here e lt h = elim (cases_lt (kind e) k) [
     | inl less ↦ below e less h
@@ -57,7 +57,7 @@ module _ (g : Network) (s : OrderAndLegs) where
         here (place e) (subst (λ q. HasFault g s (fault_of q (place e))) same (subst (HasFault g s) (sym (fault_is e)) h))
   ]
 
-  -- the least place of the first kind that is there
+  -- the least place of the first kind that occurs is the first fault
   pub first_at : (f : CheckFault) → HasNoneBelow (kind f) → HasFault g s f → ((p : ℕ) → p < place f → HasFault g s (fault_of (kind f) p) → ⊥) → IsFirstFault g s f
   first_at f below has least = record {
     has = has;
@@ -98,7 +98,7 @@ leg_joins s H names u w c m (l, cost, middle, inr (has, is)) =
       λ same. let rise = up.higher in let e = ap (slice_index H.level) (sym same ∙ sym is) in omega arith,
     )
 
--- its cost is within the limits
+-- the cost of a leg is within the limits
 leg_bounded : (s : OrderAndLegs) (H : LevelsAndLegs) → NamesHierarchy s H → (u w : ℕ) (c : Cost) (m : Option ℕ) → IsLeg H u w c m → (c.weight ≤ MOST_WEIGHT) × (c.arcs < nodes_of H)
 leg_bounded s H names u w c m (l, cost, middle, inl (has, is)) =
     let up = All-contains (IsLegUp H u) (row H.up u) l (names.levelled.up.1 u).1 has in
@@ -144,7 +144,7 @@ module _ (g : Network) (s : OrderAndLegs) (H : LevelsAndLegs) (named : NamesKept
       bad (subst (λ q. HasLegWithin q a) (one_saved s H K named.0 names) (named.1.arcs a (i, slice_get_within g.arcs i a at, get_or_from_slice_get g.arcs i a a at) apart))
   no_fault (Lower v) (lt, (K, names, bad)) = bad (subst (λ q. IsCovered q v) (one_saved s H K named.0 names) (named.1.covered v))
 
--- an answer, and a refusal
+-- an answer and a refusal
 abbrev answer_of : (A : Type 0) → A → Result A CheckError
 answer_of A x = Ok x
 
@@ -167,7 +167,7 @@ memory_or_fault A f is = cc
 abbrev pub AnswersBoth : {A : Type 0} → (A → Type 0) → (CheckFault → Type 0) → Result A CheckError → Type 0
 AnswersBoth {A} P Q r = ((x : A) → AnswersWhere r (Ok x) (P x)) × ((f : CheckFault) → AnswersWhere r (Err (Fault f)) (Q f))
 
--- one value, or one fault, and not both
+-- there is at most one value and at most one fault, and not both
 module _ {A : Type 0} (P : A → Type 0) (Q : CheckFault → Type 0) (one : (x y : A) → P x → P y → x ≡ y) (single : (e f : CheckFault) → Q e → Q f → e ≡ f) (apart : (x : A) (f : CheckFault) → P x → Q f → ⊥) where
   pub answers_value : (x : A) → P x → AnswersBoth P Q (Ok x)
   answers_value x p = (
@@ -187,7 +187,7 @@ module _ {A : Type 0} (P : A → Type 0) (Q : CheckFault → Type 0) (one : (x y
     λ f. (λ e. absurd (memory_or_fault A f e), λ q. inr refl),
   )
 
--- what `assemble` answers
+-- the answer of `assemble`
 module _ (g : Network) (s : OrderAndLegs) where
   abbrev pub IsEarlyFirst : CheckFault → Type 0
   IsEarlyFirst f = IsEarly f × IsFirstFault g s f
@@ -213,13 +213,13 @@ module _ (g : Network) (s : OrderAndLegs) where
   pub assembles_no_memory : Assembles (Err NoMemory)
   assembles_no_memory = answers_no_memory (NamesFor g s) IsEarlyFirst one_named one_early not_early
 
-  -- an error that was handed on
+  -- an error that `assemble` passes on
   pub assembles_refused : (r : Result LevelsAndLegs CheckError) (e : CheckError) → IsErrAnd r (λ x. x ≡ e) → ((f : CheckFault) → e ≡ Fault f → IsEarlyFirst f) → Assembles r
   assembles_refused (Ok x) e is h = absurd is
   assembles_refused (Err x) (Fault f) is h = subst (λ (q : CheckError). Assembles (Err q)) (sym is) (assembles_fault f (h f refl))
   assembles_refused (Err x) NoMemory is h = subst (λ (q : CheckError). Assembles (Err q)) (sym is) assembles_no_memory
 
-  -- what `check` answers
+  -- the answer of `check`
   abbrev pub Checks : Result LevelsAndLegs CheckError → Type 0
   Checks r = AnswersBoth (NamesKept g s) (IsFirstFault g s) r
 
@@ -238,7 +238,7 @@ module _ (g : Network) (s : OrderAndLegs) where
   pub checks_no_memory : Checks (Err NoMemory)
   checks_no_memory = answers_no_memory (NamesKept g s) (IsFirstFault g s) one_kept (one_first g s) not_first
 
-  -- an error that was handed on
+  -- an error that `check` passes on
   pub checks_refused : (r : Result LevelsAndLegs CheckError) (e : CheckError) → IsErrAnd r (λ x. x ≡ e) → ((f : CheckFault) → e ≡ Fault f → IsFirstFault g s f) → Checks r
   checks_refused (Ok x) e is h = absurd is
   checks_refused (Err x) (Fault f) is h = subst (λ (q : CheckError). Checks (Err q)) (sym is) (checks_fault f (h f refl))

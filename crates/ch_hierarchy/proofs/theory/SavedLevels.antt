@@ -1,4 +1,4 @@
--- Levels by an order.
+-- The levels that an order gives.
 use Rattle.std.proofs.Common.{◌≡◌, ℕ, ◌+◌, ◌<◌, ◌≤◌, ◌⊎◌, List, [], length, get_or, Contains, sym, ◌∙◌, ap, subst, arith, inl, inr}
 use Rattle.std.specs.Prelude.{◌≢◌, All, AllPairs, slice_index}
 use Rattle.std.proofs.lemmas.List.{ext_get_or, get_or_default, get_or_past}
@@ -16,7 +16,7 @@ module _ (n : ℕ) (order levels : List ℕ) (is : IsOrderOf n order) (are : Are
       (λ i j d less within e. is.distinct i j less within (sym (get_or_default order i d 0 (omega arith)) ∙ e ∙ get_or_default order j d 0 within)) lt in
       (has.0, (let a = has.1 in let b = is.count in omega arith), sym (get_or_default order has.0 v 0 has.1) ∙ has.2)
 
-  -- the level of a node, and of no other
+  -- the level of a node is one more than its place in the order
   pub level_of : (v : ℕ) → v < n → (i : ℕ) × (i < n) × (slice_index order i ≡ v) × (slice_index levels v ≡ i + 1)
   level_of v lt = let p = place v lt in (p.0, p.1, p.2, ap (slice_index levels) (sym p.2) ∙ are.each p.0 (let a = p.1 in let b = is.count in omega arith))
 
@@ -42,7 +42,7 @@ module _ (n : ℕ) (order levels : List ℕ) (is : IsOrderOf n order) (are : Are
         omega arith,
   )
 
-  -- of two nodes that differ one is higher
+  -- of two different nodes one is higher
   pub one_is_higher : (u w : ℕ) → u < n → w < n → (u ≡ w → ⊥) → (slice_index levels u < slice_index levels w) ⊎ (slice_index levels w < slice_index levels u)
   one_is_higher u w low high ne =
       let a = level_of u low in
@@ -57,7 +57,7 @@ module _ (n : ℕ) (order levels : List ℕ) (is : IsOrderOf n order) (are : Are
         ]
       ]
 
--- levels tell that the order has each node once
+-- if the levels are those of the order, the order has each node once
 pub order_of : (order levels : List ℕ) → AreLevelsOf order levels → IsOrderOf (length levels) order
 order_of order levels are = record {
   count = sym are.count;
@@ -74,7 +74,7 @@ levels_same order xs ys a b = ext_get_or 0 xs ys (a.count ∙ sym b.count) (λ v
     let l = level_of (length xs) order xs (order_of order xs a) a v lt in
     l.3 ∙ sym (b.each l.0 (let x = l.1 in let c = a.count in omega arith)) ∙ ap (slice_index ys) l.2)
 
--- nothing is in a row past the last
+-- a row past the last is empty
 pub in_row_below : (rows : List (List Leg)) (n v : ℕ) (l : Leg) → length rows ≡ n → Contains (row rows v) l → v < n
 in_row_below rows n v l size h = elim (cases_lt v n) [
   | inl lt ↦ lt

@@ -17,7 +17,7 @@ use Rattle.ch_hierarchy.specs.Written.{leg_up, leg_down, legs_at, IsByLevel, wri
 use Rattle.ch_hierarchy.proofs.theory.SavedLevels.{level_of, in_row_below}
 
 module _ {X Y : Type 0} (f : X → List Y) where
-  -- what one of the pieces has, all of them have
+  -- an element of a piece is in all pieces together
   contains_flat_map : (xs : List X) (x : X) (y : Y) → Contains xs x → Contains (f x) y → Contains (flat_map f xs) y
   contains_flat_map [] x y h has = absurd (contains_none x h)
   contains_flat_map (z ∷ xs) x y h has = elim (contains_cons z x xs h) [
@@ -25,7 +25,7 @@ module _ {X Y : Type 0} (f : X → List Y) where
     | inr later ↦ Contains-append_right (f z) (flat_map f xs) y (contains_flat_map xs x y later has)
   ]
 
-  -- and the other way round
+  -- an element of all pieces together is in one of them
   contains_flat_map_of : (xs : List X) (y : Y) → Contains (flat_map f xs) y → (x : X) × Contains xs x × Contains (f x) y
   contains_flat_map_of [] y h = absurd (contains_none y h)
   contains_flat_map_of (z ∷ xs) y h = elim (Contains-append_cases (f z) (flat_map f xs) y h) [
@@ -33,7 +33,7 @@ module _ {X Y : Type 0} (f : X → List Y) where
     | inr there ↦ let r = contains_flat_map_of xs y there in (r.0, contains_tail r.0 z xs r.1, r.2)
   ]
 
-  -- what holds of each two of a piece, and of each two of pieces one after the other, holds of each two
+  -- if each two of a piece are related, and each two of different pieces in their order, each two are
   pairs_flat_map : (R : Y → Y → Type 0) (xs : List X) → ((x : X) → Contains xs x → AllPairs R (f x)) →
       AllPairs (λ x z. (a b : Y) → Contains (f x) a → Contains (f z) b → R a b) xs → AllPairs R (flat_map f xs)
   pairs_flat_map R [] each across = λ i j d less within. absurd (omega arith)
@@ -43,7 +43,7 @@ module _ {X Y : Type 0} (f : X → List Y) where
       (pairs_flat_map R xs (λ z c. each z (contains_tail z x xs c)) (pairs_tail Across x xs across))
       (λ a b ha hb. let r = contains_flat_map_of xs b hb in pairs_head Across x r.0 xs across r.1 a b ha r.2)
 
--- no pair of nodes twice
+-- the legs do not have the same ends
 abbrev IsOtherPair : SavedLeg → SavedLeg → Type 0
 IsOtherPair k l = IsSamePair k l → ⊥
 
@@ -52,21 +52,21 @@ module _ (H : LevelsAndLegs) (is : IsLevelled H) where
   abbrev IsAtLower : ℕ → SavedLeg → Type 0
   IsAtLower v l = ((l.from ≡ v) × (slice_index H.level v < slice_index H.level l.to)) ⊎ ((l.to ≡ v) × (slice_index H.level v < slice_index H.level l.from))
 
-  -- a leg of the row up of v, and one of its row down
+  -- a leg of the up row of v leads to a higher node, and one of the down row comes from a higher node
   up_higher : (v : ℕ) (l : Leg) → Contains (row H.up v) l → slice_index H.level v < slice_index H.level l.node
   up_higher v l has = (All-contains (IsLegUp H v) (row H.up v) l (is.up.1 v).1 has).higher
 
   down_higher : (v : ℕ) (l : Leg) → Contains (row H.down v) l → slice_index H.level v < slice_index H.level l.node
   down_higher v l has = (All-contains (IsLegUp H v) (row H.down v) l (is.down.1 v).1 has).higher
 
-  -- the legs of v have it as their lower end
+  -- the lower end of each leg of v is v
   at_lower : (v : ℕ) (l : SavedLeg) → Contains (legs_at H v) l → IsAtLower v l
   at_lower v l h = elim (Contains-append_cases (map (leg_up v) (row H.up v)) (map (leg_down v) (row H.down v)) l h) [
     | inl up ↦ let r = contains_map_of (leg_up v) (row H.up v) l up in subst (IsAtLower v) r.2 (inl (refl, up_higher v r.0 r.1))
     | inr down ↦ let r = contains_map_of (leg_down v) (row H.down v) l down in subst (IsAtLower v) r.2 (inr (refl, down_higher v r.0 r.1))
   ]
 
-  -- legs with lower ends that differ lead between other nodes
+  -- legs with different lower ends have different ends
   lower_apart : (v w : ℕ) → v ≢ w → (k l : SavedLeg) → IsAtLower v k → IsAtLower w l → IsOtherPair k l
   lower_apart v w ne k l (inl a) (inl b) same = ne (sym a.0 ∙ same.0 ∙ b.0)
   lower_apart v w ne k l (inr a) (inr b) same = ne (sym a.0 ∙ same.1 ∙ b.0)
@@ -83,7 +83,7 @@ module _ (H : LevelsAndLegs) (is : IsLevelled H) where
       let down : slice_index H.level l.to ≡ slice_index H.level v = ap (slice_index H.level) (sym same.1 ∙ a.0) in
       omega arith
 
-  -- of the legs of v no two lead between the same nodes
+  -- no two legs of v have the same ends
   once_at : (v : ℕ) → AllPairs IsOtherPair (legs_at H v)
   once_at v =
       pairs_append IsOtherPair (map (leg_up v) (row H.up v)) (map (leg_down v) (row H.down v))
@@ -98,14 +98,14 @@ module _ (H : LevelsAndLegs) (is : IsLevelled H) where
       omega arith)
 
   module _ (order : List ℕ) (by : IsByLevel H order) where
-    -- a node stands in the order
+    -- each node is in the order
     stands : (v : ℕ) → v < nodes_of H → Contains order v
     stands v lt =
         let at = level_of (nodes_of H) order H.level by.nodes by.levels v lt in
         let inside : at.0 < length order = (let a = at.1 in let b = by.nodes.count in omega arith) in
         subst (Contains order) at.2 (Contains-get_or order at.0 0 inside)
 
-    -- no two legs lead between the same nodes
+    -- no two written legs have the same ends
     once : AllPairs IsOtherPair (flat_map (legs_at H) order)
     once = pairs_flat_map (legs_at H) IsOtherPair order (λ v c. once_at v)
         (λ i j d less within k l hk hl.
@@ -127,7 +127,7 @@ module _ (H : LevelsAndLegs) (is : IsLevelled H) where
         let same : leg_down w l ≡ record { from = u; to = w; cost = c; middle = m } = (λ i. record { from = node i; to = w; cost = cost i; middle = middle i }) in
         subst (Contains (flat_map (legs_at H) order)) same (contains_flat_map (legs_at H) order w (leg_down w l) v piece)
 
-    -- and what is written is a leg
+    -- each written leg is a leg
     written_leg : (l : SavedLeg) → Contains (flat_map (legs_at H) order) l → IsLeg H l.from l.to l.cost l.middle
     written_leg l h =
         let Is : SavedLeg → Type 0 = λ q. IsLeg H q.from q.to q.cost q.middle in
@@ -137,7 +137,7 @@ module _ (H : LevelsAndLegs) (is : IsLevelled H) where
           | inr down ↦ let r = contains_map_of (leg_down v.0) (row H.down v.0) l down in subst Is r.2 (r.0, refl, refl, inr (r.1, refl))
         ]
 
--- so the order and the legs name the hierarchy
+-- the order and the written legs name the hierarchy
 pub written_names : (H : LevelsAndLegs) (order : List ℕ) → IsLevelled H → IsByLevel H order → NamesHierarchy (written H order) H
 written_names H order is by = record {
   levelled = is;
@@ -146,6 +146,6 @@ written_names H order is by = record {
   once = once H is order by;
 }
 
--- and where it is right for a graph they name a right one
+-- if the hierarchy is right for a graph, they name one that is right for it
 pub written_kept : (g : Network) (H : LevelsAndLegs) (order : List ℕ) → IsKept g H → IsByLevel H order → NamesKept g (written H order) H
 written_kept g H order kept by = (written_names H order kept.levelled by, kept)

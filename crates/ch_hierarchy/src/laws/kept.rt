@@ -1,8 +1,9 @@
-//! Laws of kept hierarchies, each the contract of a function that does nothing.
+//! Laws of kept hierarchies. Each is the contract of a function that does nothing.
 ghost use Rattle.ch_hierarchy.specs.KeptLaws.{KeptHierarchiesHaveWalks, LegsAreWalks, KeptHierarchiesGiveDistances, KeptHierarchiesAreTight};
 
-/// In a kept hierarchy of a graph within the limits each upward path is a walk, forwards or backwards, and
-/// each least walk is matched by an upward path from its start and one from its end that meet.
+/// In a kept hierarchy of a graph within the limits, each upward path is a walk, forwards or backwards.
+/// Each least walk is matched by an upward path from its start and one from its end, and these two paths
+/// meet.
 pub fn kept_hierarchies_have_walks()
     ensures { KeptHierarchiesHaveWalks }
 {}
@@ -12,14 +13,14 @@ pub fn legs_are_walks()
     ensures { LegsAreWalks }
 {}
 
-/// In a kept hierarchy of a graph within the limits going up and then down costs least what a walk costs
-/// least, and is impossible exactly where there is no walk.
+/// Take a kept hierarchy of a graph within the limits. The least cost of going up and then down in it is
+/// the least cost of a walk. Going up and then down is impossible exactly when there is no walk.
 pub fn kept_hierarchies_give_distances()
     ensures { KeptHierarchiesGiveDistances }
 {}
 
-/// Where two upward paths that meet cost what a walk costs least, each node on them is reached at the least
-/// cost of a walk.
+/// Take two upward paths that meet and together cost as little as a least walk. They reach each of their
+/// nodes at the least cost of a walk.
 pub fn kept_hierarchies_are_tight()
     ensures { KeptHierarchiesAreTight }
 {}

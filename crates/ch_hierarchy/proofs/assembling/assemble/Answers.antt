@@ -49,7 +49,7 @@ leg_lists-requires-2 c =
       places = λ e h. (side e (subst (λ q. Contains q e) c.as_slice-4.ensures.value h)).1;
     }
 
--- the levels and the rows that are made are those that the saved hierarchy names
+-- the levels and the rows that were made are those that the saved hierarchy names
 named : (c : In_ok-downs) → NamesFor c.args.graph.now c.args.saved.now (record { level = c.in-Some.levels.items; up = c.in_ok-ups.ups; down = c.in_ok-downs.downs })
 named c =
     let found = rw c.in-Some.is at c.in_ok-levels.ensures in

@@ -7,7 +7,7 @@ use Rattle.ch_hierarchy.proofs.code.Doubled.{IsTwinBelow, none_met, met_before, 
 use Rattle.ch_hierarchy.proofs.doubles.first_twin.Goals.{then-index-entry, else-index-entry}
 use Rattle.ch_hierarchy.proofs.doubles.first_twin.Goals as goal
 
--- what a read past the end of the entries would give
+-- the default entry of a read past the end of the entries
 blank : Placed
 blank = record { lower = 0; higher = 0; place = 0 }
 

@@ -5,7 +5,7 @@ use Rattle.ch_hierarchy.specs.Placing.{from_of, to_of}
 use Rattle.ch_hierarchy.proofs.code.PairFaults.{placed_more, placed_all}
 use Rattle.ch_hierarchy.proofs.placing.place_legs.Goals as goal
 
--- what a read past the end of the legs would give
+-- the default leg of a read past the end of the legs
 blank : SavedLeg
 blank = record { from = 0; to = 0; cost = record { weight = 0; arcs = 0 }; middle = None }
 
