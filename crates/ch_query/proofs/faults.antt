@@ -1,4 +1,4 @@
--- What faults a saved hierarchy has.
+-- The lemmas on the faults of a saved hierarchy.
 pub mod FirstFailing
 pub mod LegCosts
 pub mod ArcRows

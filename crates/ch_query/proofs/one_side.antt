@@ -1,4 +1,4 @@
--- What one side of a query knows, step by step and at its end.
+-- The lemmas on one side of a query, step by step and at its end.
 pub mod PathLaws
 pub mod LeastPaths
 pub mod Steps

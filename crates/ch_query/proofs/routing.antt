@@ -1,4 +1,4 @@
--- The way back, and the arcs for which legs stand.
+-- The lemmas on the way back, and on the arcs that legs stand for.
 pub mod Rows
 pub mod RowSearch
 pub mod PendingLegs

@@ -1,4 +1,4 @@
--- What two sides of a query show together.
+-- The lemmas on two sides of a query together.
 pub mod MeetingSteps
 pub mod LeastMeeting
 pub mod Distances

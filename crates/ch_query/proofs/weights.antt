@@ -1,4 +1,4 @@
--- A search by weights alone, for both directions at once.
+-- The lemmas on a search by weights alone, with both directions at once.
 pub mod States
 pub mod Known
 pub mod Queues

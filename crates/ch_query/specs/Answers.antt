@@ -1,4 +1,4 @@
--- What is answered to queries.
+-- The answers to queries.
 use Rattle.std.specs.Prelude.{◌≡◌, ℕ, ◌<◌, Bool, true, false, List, All, Option, Some, None}
 use Rattle.ch_graph.specs.declared.arc.InArc.{InArc}
 use Rattle.ch_hierarchy.specs.Hierarchy.{LevelsAndLegs}
@@ -10,14 +10,14 @@ use Rattle.ch_query.specs.Routes.{IsRoute}
 abbrev pub AreQueries : ℕ → List (ℕ × ℕ) → Type 0
 AreQueries nodes queries = All (λ query. (query.0 < nodes) × (query.1 < nodes)) queries
 
--- the arcs of the route stand exactly where routes are wanted and there is a walk
+-- the arcs are those of the route if routes are wanted and there is a walk, and otherwise there are none
 abbrev pub HasArcs : LevelsAndLegs → Bool → ℕ → ℕ → Option ℕ → Option (List InArc) → Type 0
 HasArcs H false s t weight arcs = arcs ≡ None
 HasArcs H true s t None arcs = arcs ≡ None
 HasArcs H true s t (Some x) None = ⊥
 HasArcs H true s t (Some x) (Some arcs) = IsRoute H s t (record { weight = x; arcs = arcs })
 
--- the query's own nodes, their distance, and where routes are wanted the route
+-- the nodes of the query, their distance, and the route if routes are wanted
 pub record IsReply (H : LevelsAndLegs) (routes : Bool) (query : ℕ × ℕ) (a : Answer) : Type 0 where
   pub from : a.from ≡ query.0
   pub to : a.to ≡ query.1

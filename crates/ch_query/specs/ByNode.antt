@@ -1,11 +1,11 @@
--- What a search keeps by rank, as lists by node.
+-- The lists by rank of a search, as lists by node.
 use Rattle.std.specs.Prelude.{◌≡◌, ℕ, ◌-◌, ◌<◌, List, Option, None, map, slice_index_or}
 use Rattle.ch_graph.specs.declared.cost.Cost.{Cost}
 use Rattle.ch_hierarchy.specs.Hierarchy.{LevelsAndLegs, nodes_of}
 use Rattle.ch_hierarchy.specs.Ranked.{rank_of}
 use Rattle.ch_query.specs.declared.search.Search.{Search}
 
--- the list by node of one by rank: a node of level l has rank n - l
+-- a list by rank as a list by node; a node of level l has rank n - l
 abbrev pub by_node : {A : Type 0} → LevelsAndLegs → List A → A → List A
 by_node H list default = map (λ level. slice_index_or list (nodes_of H - level) default) H.level
 

@@ -1,4 +1,4 @@
--- A saved hierarchy beside a graph.
+-- A saved hierarchy and a graph.
 use Rattle.std.specs.Prelude.{◌≡◌, ◌≢◌, ℕ, ◌≤◌, ◌<◌, ◌⊎◌, ◌↔◌, List, [], length, slice_index_or, All, AllPairs, Contains, Option, Some, None, MatchOption, Result, Err, IsOk}
 use Rattle.ch_graph.specs.declared.arc.InArc.{InArc}
 use Rattle.ch_graph.specs.declared.cost.Cost.{Cost}
@@ -15,7 +15,7 @@ use Rattle.ch_hierarchy.specs.Hierarchy.{LevelsAndLegs}
 use Rattle.ch_hierarchy.specs.Kept.{IsLeg, HasLegWithin}
 use Rattle.ch_hierarchy.specs.Saved.{NamesFor}
 
--- the result is Ok exactly where P holds, memory aside
+-- the result is Ok exactly when P holds, unless memory ran out
 abbrev pub IsOkWhere : {A : Type 0} → Result A CheckError → Type 0 → Type 0
 IsOkWhere result P = (IsOk result → P) × (P → IsOk result ⊎ (result ≡ Err NoMemory))
 
@@ -25,33 +25,33 @@ start_of a = a.from
 abbrev pub end_of : InArc → ℕ
 end_of a = a.to
 
--- the row of each node has the arcs that lead from it, in order of the node to which they lead
+-- the row of each node has the arcs that begin there, in order of the nodes where they end
 pub record AreArcRows (g : Network) (rows : List (List InArc)) : Type 0 where
   pub count : length rows ≡ g.nodes
   pub each : (v : ℕ) (a : InArc) → v < g.nodes → Contains (slice_index_or rows v []) a ↔ (Contains g.arcs a × (a.from ≡ v))
   pub order : (v : ℕ) → v < g.nodes → AllPairs (λ a b. a.to ≤ b.to) (slice_index_or rows v [])
 
--- some of these arcs leads to this node, at this weight
+-- one of these arcs leads to this node at this weight
 abbrev pub HasArc : List InArc → ℕ → ℕ → Type 0
 HasArc arcs end weight = (a : InArc) × Contains arcs a × (a.to ≡ end) × (a.weight ≡ weight)
 
--- where it has no middle, the leg is an arc of the graph
+-- if the leg has no middle, it is an arc of the graph
 abbrev pub IsArcIfBase : Network → SavedLeg → Type 0
 IsArcIfBase g l = l.middle ≡ None → (l.cost.arcs ≡ 1) × Contains g.arcs (record { from = l.from; to = l.to; weight = l.cost.weight })
 
--- the leg is the two legs that this node has
+-- the leg is the sum of the two legs that node v has
 abbrev pub IsSumOver : LevelsAndLegs → SavedLeg → ℕ → Type 0
 IsSumOver H l v = (a b : Leg) × Contains (row H.down v) a × (a.node ≡ l.from) × Contains (row H.up v) b × (b.node ≡ l.to) × (l.cost ≡ cost_sum a.cost b.cost)
 
--- where it has a middle, the leg is the two legs of this
+-- if the leg has a middle, it is the sum of the two legs of that middle
 abbrev pub IsSumIfShortcut : LevelsAndLegs → SavedLeg → Type 0
 IsSumIfShortcut H l = (v : ℕ) → l.middle ≡ Some v → IsSumOver H l v
 
--- what the leg of a row at this node costs, if it has one
+-- the cost of the leg of a row at this node, or none if there is no such leg
 abbrev pub IsRowCost : List Leg → ℕ → Option Cost → Type 0
 IsRowCost legs x answer = MatchOption answer ((l : Leg) → Contains legs l → l.node ≢ x) (λ c. (l : Leg) × Contains legs l × (l.node ≡ x) × (l.cost ≡ c))
 
--- what the one leg from u to w costs, if there is one
+-- the cost of the only leg from u to w, or none if there is no such leg
 abbrev pub IsLegCost : LevelsAndLegs → ℕ → ℕ → Option Cost → Type 0
 IsLegCost H u w answer =
     MatchOption answer ((c : Cost) (m : Option ℕ) → IsLeg H u w c m → ⊥) (λ c. ((m : Option ℕ) × IsLeg H u w c m) × ((d : Cost) (m : Option ℕ) → IsLeg H u w d m → d ≡ c))
@@ -60,17 +60,17 @@ IsLegCost H u w answer =
 abbrev pub HasLeg : LevelsAndLegs → ℕ → ℕ → Cost → Type 0
 HasLeg H u w most = (c : Cost) × (m : Option ℕ) × IsLeg H u w c m × IsAtMost c most
 
--- where it is no loop, the arc has a leg that costs no more
+-- if the arc is no loop, it has a leg that costs no more
 abbrev pub IsServed : LevelsAndLegs → InArc → Type 0
 IsServed H a = a.from ≢ a.to → HasLegWithin H a
 
--- the saved one names this hierarchy, where each leg is an arc or two legs, and each arc has a leg
+-- the saved one names this hierarchy, each leg is an arc or the sum of two legs, and each arc has a leg
 pub record NamesFounded (g : Network) (s : OrderAndLegs) (H : LevelsAndLegs) : Type 0 where
   pub names : NamesFor g s H
   pub bases : All (IsArcIfBase g) s.legs
   pub sums : All (IsSumIfShortcut H) s.legs
   pub served : All (IsServed H) g.arcs
 
--- a fault that is told is such a one
+-- if the error is a fault, P holds of the fault
 abbrev pub IsIfFault : (CheckFault → Type 0) → CheckError → Type 0
 IsIfFault P e = (f : CheckFault) → e ≡ Fault f → P f

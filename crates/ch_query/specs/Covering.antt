@@ -25,41 +25,42 @@ is_settled Connected = false
 is_settled Settled = true
 is_settled Past = false
 
--- where the leg a and one up from v lead between nodes that differ, going up and down costs no more
+-- for each leg b up from v to another node than that of a, going up and down between these costs no more than a and b
 abbrev pub IsCoveredFrom : LevelsAndLegs → ℕ → Leg → Type 0
 IsCoveredFrom H v a = (b : Leg) → Contains (row H.up v) b → a.node ≢ b.node → MeetsWithin H a.node b.node (cost_sum a.cost b.cost)
 
--- the first node through which some pair of legs is not covered
+-- the first node with a pair of legs through it that is not covered
 pub record IsFirstUncovered (H : LevelsAndLegs) (v : ℕ) : Type 0 where
   pub within : v < nodes_of H
   pub fails : IsCovered H v → ⊥
   pub first : (u : ℕ) → u < v → IsCovered H u
 
--- the nodes from one number up to another are covered
+-- the nodes of the range are covered
 abbrev pub AreCovered : LevelsAndLegs → ℕ → ℕ → Type 0
 AreCovered H from to = (v : ℕ) → from ≤ v → v < to → IsCovered H v
 
--- the first of these nodes that is not, if there is one
+-- the first node of the range that is not covered, or none
 abbrev pub IsFirstUncoveredOf : LevelsAndLegs → ℕ → ℕ → Option ℕ → Type 0
 IsFirstUncoveredOf H from to first =
     MatchOption first (AreCovered H from to) (λ v. (from ≤ v) × (v < to) × (IsCovered H v → ⊥) × AreCovered H from v)
 
--- the first number of these, if there is one
+-- the first number in the list, or none
 abbrev pub first_some : List (Option ℕ) → Option ℕ
 first_some [] = None
 first_some (None ∷ xs) = first_some xs
 first_some (Some v ∷ xs) = Some v
 
--- each key is more than this
+-- each key is more than this cost
 abbrev pub IsPastCost : List (Option Cost) → Cost → Type 0
 IsPastCost queue most = (v : ℕ) (d : Cost) → cost_at queue v ≡ Some d → IsBelow most d
 
--- two searches reach some node, at no more than this together
+-- both searches reach some node, and the two costs add up to at most this
 abbrev pub AreConnected : LevelsAndLegs → Search → Search → Cost → Type 0
 AreConnected H x y most =
     (v : ℕ) × (a b : Cost) × IsUpwardCost (rows_of H x.side) x.source v a × IsUpwardCost (rows_of H y.side) y.source v b × IsAtMost (cost_sum a b) most
 
--- two searches underway for paths that weigh no more than this, which stall nowhere, and each node that both settled costs more than this together
+-- two searches for paths of at most this weight that stall nowhere; each node that both have settled costs more than
+-- this together
 pub record AreApart (H : LevelsAndLegs) (x y : Search) (most : Cost) : Type 0 where
   pub here : IsUnderway H x
   pub there : IsUnderway H y

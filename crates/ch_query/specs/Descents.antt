@@ -1,4 +1,4 @@
--- The way back from the meet to the source of one side, as the program takes it.
+-- The way back from the meet to the source of one side, as the program goes it.
 use Rattle.std.specs.Prelude.{◌≡◌, ℕ, ◌+◌, ◌≤◌, List, ◌++◌, map, Some, Vec, vec_len, vec_capacity}
 use Rattle.std.specs.declared.alloc.Global.{Global}
 use Rattle.ch_graph.specs.declared.cost.Cost.{Cost}
@@ -15,7 +15,8 @@ use Rattle.ch_query.specs.ByNode.{costs_of, keys_of}
 use Rattle.ch_query.specs.Side.{rows_of}
 use Rattle.ch_query.specs.Routes.{DescentStep, IsDescent}
 
--- the search reached m at the least cost c, stalled on no path to it of that cost, and has taken all nodes up to that cost out of its queue
+-- the search reached m at the least cost c, stalled on no path to m of that cost, and has settled all nodes of at
+-- most that cost
 pub record HasReached (H : LevelsAndLegs) (x : Search) (m : ℕ) (c : Cost) : Type 0 where
   pub underway : IsUnderway H x
   pub known : cost_at (costs_of H x) m ≡ Some c
@@ -23,11 +24,11 @@ pub record HasReached (H : LevelsAndLegs) (x : Search) (m : ℕ) (c : Cost) : Ty
   pub past : (v : ℕ) (d : Cost) → cost_at (keys_of H x) v ≡ Some d → IsBelow c d
   pub avoids : AvoidsIdle (rows_of H x.side) (idle_of H x) m c
 
--- and there is room for as many pending legs as c has arcs
+-- the search has reached m, and there is room for one pending leg for each arc of its cost
 abbrev pub HasReachedWithRoom : LevelsAndLegs → Search → ℕ → Vec PendingLeg Global → Type 0
 HasReachedWithRoom H x m pending = (c : Cost) × HasReached H x m c × (vec_len pending + c.arcs ≤ vec_capacity pending)
 
--- the leg of a step of this side, from the node where it begins to the one where it ends
+-- the leg of a step of this side, from the node where it begins to the node where it ends
 abbrev pub pending_of : Side → DescentStep → PendingLeg
 pending_of Up step = record { from = step.low; to = step.leg.node; cost = step.leg.cost; middle = step.leg.middle }
 pending_of Down step = record { from = step.leg.node; to = step.low; cost = step.leg.cost; middle = step.leg.middle }

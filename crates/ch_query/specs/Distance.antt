@@ -12,10 +12,10 @@ use Rattle.ch_hierarchy.specs.KeptLaws.{IsLeastMeeting}
 abbrev pub IsKeptForSome : LevelsAndLegs → Type 0
 IsKeptForSome H = (g : Network) × IsWithinLimits g × IsKept g H
 
--- the distance from s to t in each graph for which the hierarchy is right, and none exactly where there is no walk
+-- the distance from s to t in each graph that the hierarchy is right for, or none if there is no walk
 abbrev pub IsDistanceBy : LevelsAndLegs → ℕ → ℕ → Option ℕ → Type 0
 IsDistanceBy H s t answer = (g : Network) → IsWithinLimits g → IsKept g H → IsAnswer g s t answer
 
--- the weight of the least cost of going up from s and down to t, and none exactly where no node is reached from both
+-- the weight of the least cost of going up from s and down to t, or none if no node is reached from both
 abbrev pub IsLeastWeight : LevelsAndLegs → ℕ → ℕ → Option ℕ → Type 0
 IsLeastWeight H s t answer = MatchOption answer (NeverMeets H s t) (λ x. (c : Cost) × IsLeastMeeting H s t c × (c.weight ≡ x))

@@ -1,4 +1,4 @@
--- Answers within a limit: a greatest weight that is asked for, or none.
+-- Answers within a limit. A limit is a greatest weight, or none.
 use Rattle.std.specs.Prelude.{◌≡◌, ℕ, ◌≤◌, Option, Some, None, ⊤}
 use Rattle.ch_graph.specs.declared.limits.TheConstants.{MOST_WEIGHT}
 use Rattle.ch_hierarchy.specs.Hierarchy.{LevelsAndLegs}
@@ -9,18 +9,18 @@ abbrev pub IsWithin : Option ℕ → ℕ → Type 0
 IsWithin None x = ⊤
 IsWithin (Some most) x = x ≤ most
 
--- the most that the weight of a path within the limit may be
+-- the most that a path within the limit may weigh
 pub record IsMost (limit : Option ℕ) (most : ℕ) : Type 0 where
   pub limits : most ≤ MOST_WEIGHT
   pub sound : (x : ℕ) → x ≤ most → IsWithin limit x
   pub whole : (x : ℕ) → x ≤ MOST_WEIGHT → IsWithin limit x → x ≤ most
 
--- the weight where there is one within the limit, and else none
+-- the weight, if there is one and it is within the limit, and otherwise none
 abbrev pub IsCut : Option ℕ → Option ℕ → Option ℕ → Type 0
 IsCut limit None answer = answer ≡ None
 IsCut limit (Some x) answer = (IsWithin limit x → answer ≡ Some x) × ((IsWithin limit x → ⊥) → answer ≡ None)
 
--- the distance from s to t by the hierarchy where it is within the limit, and else none
+-- the distance from s to t by the hierarchy, if it is within the limit, and otherwise none
 pub record IsDistanceWithin (H : LevelsAndLegs) (limit : Option ℕ) (s t : ℕ) (answer : Option ℕ) : Type 0 where
   pub whole : Option ℕ
   pub least : IsLeastWeight H s t whole

@@ -1,4 +1,4 @@
--- Two searches of the program that are to meet.
+-- Two searches of the program that look for a node where they meet.
 use Rattle.std.specs.Prelude.{◌≡◌, ℕ, ◌⊎◌, true, Option, Some, None}
 use Rattle.ch_graph.specs.declared.limits.TheConstants.{MOST_WEIGHT}
 use Rattle.ch_graph.specs.declared.cost.Cost.{Cost}
@@ -11,23 +11,24 @@ use Rattle.ch_query.specs.Underway.{IsUnderway}
 use Rattle.ch_query.specs.ByNode.{costs_of, keys_of}
 use Rattle.ch_query.specs.Side.{rows_of}
 
--- the first of the two
+-- the first of the two, by cost and then by node
 pub record IsFirst (least : Option (Cost × ℕ)) (new : Cost × ℕ) (result : Option (Cost × ℕ)) : Type 0 where
   pub chosen : (result ≡ Some new) ⊎ (result ≡ least)
   pub covers_new : (e : Cost × ℕ) × (result ≡ Some e) × MeetsFirst e new
   pub covers_old : (d : Cost × ℕ) → least ≡ Some d → (e : Cost × ℕ) × (result ≡ Some e) × MeetsFirst e d
 
--- what becomes of the least sum at v, reached at c here, and there perhaps
+-- the least sum after v was reached at c on this side, and perhaps on the other side before
 abbrev pub IsLeastAfter : Option Cost → ℕ → Cost → Option (Cost × ℕ) → Option (Cost × ℕ) → Type 0
 IsLeastAfter None v c least result = result ≡ least
 IsLeastAfter (Some d) v c least result = IsFirst least (cost_sum c d, v) result
 
--- what is known is the sum of two paths
+-- the least sum is the sum of the costs of two paths
 abbrev pub IsFoundBy : LevelsAndLegs → Search → Search → Option (Cost × ℕ) → Type 0
 IsFoundBy H x y least =
     (e : Cost × ℕ) → least ≡ Some e → (a b : Cost) × IsUpwardCost (rows_of H x.side) x.source e.1 a × IsUpwardCost (rows_of H y.side) y.source e.1 b × (cost_sum a b ≡ e.0)
 
--- two searches underway that stall, for paths of any weight within the limits, and the least sum that they know: it covers all nodes that both settled
+-- two searches that stall, for paths of any weight within the limits; the least sum covers all nodes that both have
+-- settled
 pub record AreMeeting (H : LevelsAndLegs) (x y : Search) (least : Option (Cost × ℕ)) : Type 0 where
   pub here : IsUnderway H x
   pub there : IsUnderway H y

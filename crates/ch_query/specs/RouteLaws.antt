@@ -11,7 +11,7 @@ use Rattle.ch_query.specs.Routes.{IsRoute, IsLeastWalk}
 abbrev pub OneRoute : Type 0
 OneRoute = (H : LevelsAndLegs) (s t : ℕ) (a b : Route) → IsLevelled H → IsRoute H s t a → IsRoute H s t b → a ≡ b
 
--- in each graph for which the hierarchy is right a route is a walk of the least cost, of the weight that it says
+-- in each graph that the hierarchy is right for, a route is a walk of least cost, and it has the stated weight
 abbrev pub RoutesAreLeastWalks : Type 0
 RoutesAreLeastWalks = (g : Network) (H : LevelsAndLegs) (s t : ℕ) (route : Route) → IsWithinLimits g → IsKept g H → IsRoute H s t route →
     IsLeastWalk g s t route.arcs × (route.weight ≡ weight_of route.arcs)

@@ -1,4 +1,4 @@
--- One side of a query, as data: for each node the cost of a path to it, and the queue of the nodes that are not settled.
+-- One side of a query, as data: the cost of a path to each node, and the queue of the nodes that are not settled.
 use Rattle.std.specs.Prelude.{◌≡◌, ℕ, ◌+◌, ◌<◌, ◌≤◌, ◌⊎◌, Bool, true, false, List, length, slice_index, slice_set, Contains, Option, Some, None, is_some}
 use Rattle.std.specs.List.{count_by}
 use Rattle.ch_graph.specs.declared.limits.TheConstants.{MOST_WEIGHT}
@@ -12,7 +12,7 @@ use Rattle.ch_hierarchy.specs.Paths.{IsUpwardPath, path_cost}
 abbrev pub IsSettled : List (Option Cost) → List (Option Cost) → ℕ → Cost → Type 0
 IsSettled best queue v c = (cost_at best v ≡ Some c) × (cost_at queue v ≡ None)
 
--- taken from a node of cost c, the leg shows nothing cheaper than what is known, where the sum weighs no more than `most`
+-- a leg taken from a node of cost c shows no lower cost than the known one, if the sum weighs at most `most`
 abbrev pub IsRelaxedFrom : ℕ → List (Option Cost) → Cost → Leg → Type 0
 IsRelaxedFrom most best c l = c.weight + l.cost.weight ≤ most → (e : Cost) × (cost_at best l.node ≡ Some e) × IsAtMost e (cost_sum c l.cost)
 
@@ -21,7 +21,7 @@ pub record IsUpwardCost (rows : List (List Leg)) (s v : ℕ) (c : Cost) : Type 0
   pub path : (legs : List Leg) × IsUpwardPath rows s v legs × (path_cost legs ≡ c)
   pub weight : c.weight ≤ MOST_WEIGHT
 
--- a search from s for paths that weigh no more than `most`, where the nodes that are idle at their cost need not have their legs taken
+-- a search from s for paths of weight at most `most`; the legs of a node that is idle at its cost need not be taken
 pub record IsSearch (most : ℕ) (rows : List (List Leg)) (s : ℕ) (Idle : ℕ → Cost → Type 0) (best queue : List (Option Cost)) : Type 0 where
   pub limits : most ≤ MOST_WEIGHT
   pub sizes : (length best ≡ length rows) × (length queue ≡ length rows)
@@ -31,10 +31,10 @@ pub record IsSearch (most : ℕ) (rows : List (List Leg)) (s : ℕ) (Idle : ℕ 
   pub queued : (v : ℕ) (c : Cost) → cost_at queue v ≡ Some c → cost_at best v ≡ Some c
   -- no settled node costs more than a queued one
   pub order : (v w : ℕ) (c d : Cost) → IsSettled best queue v c → cost_at queue w ≡ Some d → IsAtMost c d
-  -- the legs of a settled node were taken, or it is idle
+  -- the legs of a settled node were taken, or the node is idle
   pub frontier : (v : ℕ) (c : Cost) → IsSettled best queue v c → Idle v c ⊎ ((l : Leg) → Contains (row rows v) l → IsRelaxedFrom most best c l)
 
--- v is a node in the queue with the least key, c
+-- v is a node in the queue with the least key, which is c
 pub record IsLeastKey (queue : List (Option Cost)) (v : ℕ) (c : Cost) : Type 0 where
   pub has : cost_at queue v ≡ Some c
   pub least : (x : ℕ) (d : Cost) → cost_at queue x ≡ Some d → IsAtMost c d
@@ -49,7 +49,7 @@ pub record IsExpanding (most : ℕ) (rows : List (List Leg)) (s : ℕ) (Idle : �
 abbrev pub OrNode : (ℕ → Cost → Type 0) → ℕ → ℕ → Cost → Type 0
 OrNode Idle v x e = Idle x e ⊎ (x ≡ v)
 
--- a leg from a node that s reaches, back down to v, is a way to v that costs less than c
+-- a leg back from a node that s reaches to v gives a way to v that costs less than c
 pub record IsStalled (rows back : List (List Leg)) (s v : ℕ) (c : Cost) : Type 0 where
   pub leg : Leg
   pub has : Contains (row back v) leg
@@ -57,7 +57,7 @@ pub record IsStalled (rows back : List (List Leg)) (s v : ℕ) (c : Cost) : Type
   pub reached : IsUpwardCost rows s leg.node cost
   pub below : IsBelow (cost_sum cost leg.cost) c
 
--- no idle node lies on an upward path to m that costs at most c
+-- no idle node is on an upward path to m that costs at most c
 abbrev pub AvoidsIdle : List (List Leg) → (ℕ → Cost → Type 0) → ℕ → Cost → Type 0
 AvoidsIdle rows Idle m c = (x : ℕ) (e : Cost) (legs : List Leg) → Idle x e → IsUpwardPath rows x m legs → IsAtMost (cost_sum e (path_cost legs)) c → ⊥
 
@@ -69,7 +69,7 @@ is_none (Some c) = false
 abbrev pub IsEmpty : List (Option Cost) → Type 0
 IsEmpty queue = (v : ℕ) (c : Cost) → cost_at queue v ≡ Some c → ⊥
 
--- how many nodes are not reached or in the queue
+-- the number of nodes that are not reached or are in the queue
 abbrev pub count_unsettled : List (Option Cost) → List (Option Cost) → ℕ
 count_unsettled best queue = count_by is_none best + count_by is_some queue
 
@@ -78,8 +78,8 @@ pub record WouldLower (best : List (Option Cost)) (w : ℕ) (d : Cost) : Type 0 
   pub within : w < length best
   pub lower : (e : Cost) → cost_at best w ≡ Some e → IsBelow d e
 
--- what taking a leg of v, settled at cost c, changes of costs, queue and parents: it shows nothing cheaper, and the lesser of two parents stays;
--- or its node gets the sum as cost and key, and v as parent
+-- the change when a leg of v, settled at cost c, is taken. Either no cost falls, and the lesser parent stays. Or the
+-- leg's node gets the sum as cost and key, and v as parent
 abbrev pub Relaxes : ℕ → List (Option Cost) → List (Option Cost) → List ℕ → ℕ → Cost → Leg → List (Option Cost) → List (Option Cost) → List ℕ → Type 0
 Relaxes most best queue parents v c l best' queue' parents' =
     ((best' ≡ best) × (queue' ≡ queue) × IsRelaxedFrom most best c l

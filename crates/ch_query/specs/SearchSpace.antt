@@ -1,4 +1,4 @@
--- What a search to higher nodes answers that stalls: weights of paths, and among them those of all least walks.
+-- The result of a search to higher nodes that stalls: weights of paths, and among them those of all least walks.
 use Rattle.std.specs.Prelude.{◌≡◌, ◌≢◌, ℕ, ◌<◌, List, AllPairs, Contains, Option}
 use Rattle.ch_graph.specs.declared.cost.Cost.{Cost}
 use Rattle.ch_hierarchy.specs.declared.leg.Leg.{Leg}
@@ -16,13 +16,13 @@ use Rattle.ch_query.specs.Side.{rows_of}
 abbrev pub IsPathWeight : List (List Leg) → ℕ → ℕ → ℕ → Type 0
 IsPathWeight rows s v x = (c : Cost) × IsUpwardCost rows s v c × (c.weight ≡ x)
 
--- going up from s to v costs least c, and no walk from s to v costs less; or the same of going down from v to s
+-- the least cost of going up from s to v is c, and no walk costs less; or the same for going down from v to s
 abbrev pub IsTight : LevelsAndLegs → Side → ℕ → ℕ → Cost → Type 0
 IsTight H Up s v c = IsUp H s v c × IsLeastMeeting H s v c
 IsTight H Down s v c = IsDown H v s c × IsLeastMeeting H v s c
 
--- nodes and weights within the limit, in order of node: each weight is that of an upward path from s, and each tight node whose least
--- weight is within the limit is there with it
+-- nodes and weights within the limit, in order of node. Each weight is that of an upward path from s. Each tight node
+-- whose least weight is within the limit has an entry with it
 pub record IsSearchSpace (H : LevelsAndLegs) (side : Side) (limit : Option ℕ) (s : ℕ) (list : List (ℕ × ℕ)) : Type 0 where
   pub order : AllPairs (λ a b. a.0 < b.0) list
   pub sound : (v x : ℕ) → Contains list (v, x) → IsPathWeight (rows_of H side) s v x × IsWithin limit x

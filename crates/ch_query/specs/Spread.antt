@@ -1,4 +1,4 @@
--- What a search without a target answers.
+-- The result of a search without a target.
 use Rattle.std.specs.Prelude.{◌≡◌, ℕ, ◌<◌, true, is_some, List, Contains, AllPairs, Option, unwrap_or}
 use Rattle.ch_graph.specs.declared.cost.Cost.{Cost}
 use Rattle.ch_graph.specs.Cost.{no_cost, cost_at}
@@ -12,7 +12,7 @@ pub record IsSpread (rows : List (List Leg)) (limit : Option ℕ) (s : ℕ) (lis
   pub sound : (v : ℕ) (c : Cost) → Contains list (v, c) → IsLeastUpwardPath rows s v c × IsWithin limit c.weight
   pub whole : (v : ℕ) (c : Cost) → IsLeastUpwardPath rows s v c → IsWithin limit c.weight → Contains list (v, c)
 
--- the nodes with a cost, in order
+-- the nodes that have a cost, in order
 pub record AreReached (costs : List (Option Cost)) (nodes : List ℕ) : Type 0 where
   pub order : AllPairs (λ a b. a < b) nodes
   pub sound : (v : ℕ) → Contains nodes v → is_some (cost_at costs v) ≡ true

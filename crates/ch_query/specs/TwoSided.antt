@@ -1,27 +1,27 @@
--- What two searches know of where they meet, as data.
+-- The least sum that two searches know, as data.
 use Rattle.std.specs.Prelude.{◌≡◌, ℕ, ◌≤◌, List, Option, Some}
 use Rattle.ch_graph.specs.declared.cost.Cost.{Cost}
 use Rattle.ch_graph.specs.Cost.{IsAtMost, IsBelow, cost_sum, cost_at}
 use Rattle.ch_hierarchy.specs.Hierarchy.{LevelsAndLegs}
 use Rattle.ch_query.specs.Search.{IsSettled, IsUpwardCost}
 
--- of two costs at nodes the first is no more, and at equal cost its node is no later
+-- a comes first: its cost is at most that of b, and at equal costs its node is at most that of b
 abbrev pub MeetsFirst : Cost × ℕ → Cost × ℕ → Type 0
 MeetsFirst a b = IsAtMost a.0 b.0 × (a.0 ≡ b.0 → a.1 ≤ b.1)
 
--- the least sum of the nodes that both sides settled is known
+-- the least sum is at most that of each node that both sides have settled
 abbrev pub IsSeen : (best_up queue_up best_down queue_down : List (Option Cost)) → Option (Cost × ℕ) → Type 0
 IsSeen best_up queue_up best_down queue_down least =
     (v : ℕ) (a b : Cost) → IsSettled best_up queue_up v a → IsSettled best_down queue_down v b → (e : Cost × ℕ) × (least ≡ Some e) × MeetsFirst e (cost_sum a b, v)
 
--- what is known is the sum of two paths
+-- the least sum is the sum of the costs of two paths
 abbrev pub IsFound : LevelsAndLegs → ℕ → ℕ → Option (Cost × ℕ) → Type 0
 IsFound H s t least = (e : Cost × ℕ) → least ≡ Some e → (a b : Cost) × IsUpwardCost H.up s e.1 a × IsUpwardCost H.down t e.1 b × (cost_sum a b ≡ e.0)
 
--- for each key of the second queue the first has one that is no more
+-- for each key of the second queue, the first queue has a key that is at most that
 abbrev pub LeadsKeys : List (Option Cost) → List (Option Cost) → Type 0
 LeadsKeys first second = (v : ℕ) (d : Cost) → cost_at second v ≡ Some d → (u : ℕ) × (c : Cost) × (cost_at first u ≡ Some c) × IsAtMost c d
 
--- each key that is left is more than what is known
+-- each remaining key is more than the least sum
 abbrev pub IsPast : List (Option Cost) → Option (Cost × ℕ) → Type 0
 IsPast queue least = (v : ℕ) (d : Cost) → cost_at queue v ≡ Some d → (e : Cost × ℕ) × (least ≡ Some e) × IsBelow e.0 d

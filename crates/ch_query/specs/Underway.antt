@@ -15,12 +15,12 @@ use Rattle.ch_query.specs.Parents.{AreParents, IsNoEarlier}
 use Rattle.ch_graph.specs.Cost.{cost_at}
 use Rattle.ch_query.specs.Search.{IsSettled, IsSearch, IsExpanding, OrNode, IsStalled, IsEmpty, IsRelaxedFrom, Relaxes, count_unsettled}
 
--- the legs by which a search that stalls sees a cheaper way: those from higher nodes back to a node
+-- the legs that show a cheaper way to a search that stalls: those from higher nodes back to a node
 abbrev pub back_of : LevelsAndLegs → Side → Bool → List (List Leg)
 back_of H side false = []
 back_of H side true = rows_of H (other side)
 
--- the nodes with a cost, each once, with room for all nodes
+-- the nodes that have a cost, each once, with room for all nodes
 pub record IsTouched (best : List (Option Cost)) (touched : Vec ℕ Global) : Type 0 where
   pub room : length best ≤ vec_capacity touched
   pub count : vec_len touched ≡ count_by is_some best
@@ -28,26 +28,27 @@ pub record IsTouched (best : List (Option Cost)) (touched : Vec ℕ Global) : Ty
   pub listed : (v : ℕ) → is_some (cost_at best v) ≡ true → Contains touched.items v
   pub distinct : AllPairs ◌≢◌ touched.items
 
--- the lists are for the same nodes, the touched ones are known, and paths may weigh no more than the limits let them
+-- the lists have the same number of nodes, the touched nodes are those with a cost, and the most weight is within the
+-- limits
 pub record IsRoom (x : Search) : Type 0 where
   pub queue : length x.queue ≡ length x.labels.costs
   pub parents : length x.labels.parents ≡ length x.labels.costs
   pub touched : IsTouched x.labels.costs x.touched
   pub most : x.most ≤ MOST_WEIGHT
 
--- where the node of this rank is not reached, it has no key
+-- if the node of this rank is not reached, it has no key
 abbrev pub UnreachedIsUnkeyed : Search → ℕ → Type 0
 UnreachedIsUnkeyed x rank = cost_at x.labels.costs rank ≡ None → cost_at x.queue rank ≡ None
 
--- the lists of the search are for so many nodes
+-- the lists of the search are for n nodes
 abbrev pub IsSized : ℕ → Search → Type 0
 IsSized n x = (length x.labels.costs ≡ n) × (length x.queue ≡ n) × (length x.labels.parents ≡ n)
 
--- how many nodes are not settled
+-- the number of nodes that are not settled
 abbrev pub count_unsettled_in : LevelsAndLegs → Search → ℕ
 count_unsettled_in H x = count_unsettled (costs_of H x) (keys_of H x)
 
--- of the same direction and source and for paths of as much weight, and both stall or neither does
+-- both searches have the same direction, source and limit, and both stall or neither does
 pub record IsSameSearch (x y : Search) : Type 0 where
   pub side : y.side ≡ x.side
   pub source : y.source ≡ x.source
@@ -58,7 +59,7 @@ pub record IsSameSearch (x y : Search) : Type 0 where
 abbrev pub idle_of : LevelsAndLegs → Search → ℕ → Cost → Type 0
 idle_of H x v c = IsStalled (rows_of H x.side) (back_of H x.side x.stalls) x.source v c
 
--- a search between two nodes
+-- a search in the state between one settled node and the next
 pub record IsUnderway (H : LevelsAndLegs) (x : Search) : Type 0 where
   pub levelled : IsLevelled H
   pub sizes : IsSized (nodes_of H) x
@@ -66,7 +67,7 @@ pub record IsUnderway (H : LevelsAndLegs) (x : Search) : Type 0 where
   pub parents : AreParents x.most (rows_of H x.side) x.source (idle_of H x) (costs_of H x) (keys_of H x) (parents_of H x)
   pub touched : IsTouched x.labels.costs x.touched
 
--- a search that takes the legs of v, which was settled last, at cost c
+-- a search that is taking the legs of v, which was settled last, at cost c
 pub record IsExpandingAt (H : LevelsAndLegs) (x : Search) (v : ℕ) (c : Cost) : Type 0 where
   pub levelled : IsLevelled H
   pub sizes : IsSized (nodes_of H) x
@@ -75,23 +76,23 @@ pub record IsExpandingAt (H : LevelsAndLegs) (x : Search) (v : ℕ) (c : Cost) :
   pub parents : AreParents x.most (rows_of H x.side) x.source (OrNode (idle_of H x) v) (costs_of H x) (keys_of H x) (parents_of H x)
   pub touched : IsTouched x.labels.costs x.touched
 
--- the leg to a node of this number, which is its rank here
+-- the leg as the lists by rank see it: its node is the rank
 abbrev pub leg_of_ranked : RankedLeg → Leg
 leg_of_ranked r = record { node = r.rank; cost = record { weight = r.weight; arcs = r.arcs }; middle = None }
 
--- what taking a leg of v, settled at cost c, changes of the lists by rank
+-- the change of the lists by rank when a leg of v, settled at cost c, is taken
 abbrev pub RelaxesByRank : Search → ℕ → Cost → RankedLeg → Search → Type 0
 RelaxesByRank x v c r y = Relaxes x.most x.labels.costs x.queue x.labels.parents v c (leg_of_ranked r) y.labels.costs y.queue y.labels.parents
 
--- what taking a leg of v, settled at cost c, changes
+-- the change of the lists by node when a leg of v, settled at cost c, is taken
 abbrev pub RelaxesIn : LevelsAndLegs → Search → ℕ → Cost → Leg → Search → Type 0
 RelaxesIn H x v c l y = Relaxes x.most (costs_of H x) (keys_of H x) (parents_of H x) v c l (costs_of H y) (keys_of H y) (parents_of H y)
 
--- what is settled in y was settled in x, at the same cost
+-- each node that is settled in y was settled in x, at the same cost
 abbrev pub KeepsSettled : LevelsAndLegs → Search → Search → Type 0
 KeepsSettled H x y = (v : ℕ) (c : Cost) → IsSettled (costs_of H y) (keys_of H y) v c → IsSettled (costs_of H x) (keys_of H x) v c
 
--- y is what x became when these legs of v were taken
+-- y is the search x after these legs of v were taken
 pub record IsPartlyExpanded (H : LevelsAndLegs) (x y : Search) (v : ℕ) (c : Cost) (legs : List Leg) : Type 0 where
   pub same : IsSameSearch x y
   pub expanding : IsExpandingAt H y v c
@@ -99,7 +100,7 @@ pub record IsPartlyExpanded (H : LevelsAndLegs) (x y : Search) (v : ℕ) (c : Co
   pub settled : KeepsSettled H x y
   pub measure : count_unsettled_in H y ≡ count_unsettled_in H x
 
--- a search for n nodes in which nothing is left of an earlier one
+-- a search for n nodes with nothing left from an earlier search
 pub record IsClean (n : ℕ) (x : Search) : Type 0 where
   pub nodes : length x.labels.costs ≡ n
   pub room : IsRoom x

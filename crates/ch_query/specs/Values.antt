@@ -1,4 +1,4 @@
--- As what contracts see routes and answers: their arcs are a list.
+-- Routes and answers as contracts see them: their arcs are a list.
 use Rattle.std.specs.Prelude.{ℕ, List, Option}
 use Rattle.ch_graph.specs.declared.arc.InArc.{InArc}
 
@@ -7,7 +7,7 @@ pub record Way : Type 0 where
   pub weight : ℕ
   pub arcs : List InArc
 
--- the nodes of a query, their distance, and the arcs of the route where it is wanted
+-- the nodes of a query, their distance, and the arcs of the route if it is wanted
 pub record Reply : Type 0 where
   pub from : ℕ
   pub to : ℕ

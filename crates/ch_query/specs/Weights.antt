@@ -1,4 +1,4 @@
--- A search for distances as the program keeps it: by weights alone, for both directions at once.
+-- A search for distances as the program keeps it: by weights alone, and with both directions at once.
 use Rattle.std.specs.Prelude.{◌≡◌, ◌≢◌, ℕ, ◌+◌, ◌-◌, ◌*◌, ◌<◌, ◌≤◌, ◌⊎◌, if◌then◌else◌, nat_eq, List, length, map, slice_index, slice_index_or, slice_set, AllPairs, Contains, Option, Some, None, vec_len}
 use Rattle.std.specs.Option.{option_map}
 use Rattle.ch_graph.specs.declared.limits.TheConstants.{MOST_WEIGHT}
@@ -19,11 +19,11 @@ use Rattle.ch_query.specs.Weighed.{weighed, IsWeightSearchTo}
 abbrev pub weight_cost : ℕ → Cost
 weight_cost w = record { weight = w; arcs = 0 }
 
--- the cost for which a state's weight stands
+-- the cost that the weight of a state stands for
 abbrev pub known_cost : ℕ → Option Cost
 known_cost w = if nat_eq w UNREACHED then None else Some (weight_cost w)
 
--- what stands at the states of one side, by node: a node of level l has rank n - l
+-- the values of the states of one side, as a list by node; a node of level l has rank n - l
 abbrev pub by_state : {A B : Type 0} → (A → B) → LevelsAndLegs → Side → List A → A → List B
 by_state f H side list default = map (λ level. f (slice_index_or list (state_of side (nodes_of H - level)) default)) H.level
 
@@ -35,7 +35,7 @@ side_costs H side x = by_state known_cost H side x.known.items UNREACHED
 abbrev pub side_keys : LevelsAndLegs → Side → WeightSearch → List (Option Cost)
 side_keys H side x = by_state (option_map weight_cost) H side x.queue None
 
--- where a side begins
+-- the node where a side begins
 abbrev pub source_of : WeightSearch → Side → ℕ
 source_of x Up = x.start
 source_of x Down = x.end
@@ -44,54 +44,55 @@ source_of x Down = x.end
 abbrev pub is_idle_on : LevelsAndLegs → Side → ℕ → ℕ → Cost → Type 0
 is_idle_on H side s = IsStalled (rows_of (weighed H) side) (rows_of (weighed H) (other side)) s
 
--- the lists have two states for each of n nodes, and room to list all that are reached
+-- the lists have two states for each of n nodes, and there is room to list all reached states
 pub record IsSizedFor (n : ℕ) (x : WeightSearch) : Type 0 where
   pub known : length x.known.items ≡ 2 * n
   pub queue : length x.queue ≡ 2 * n
   pub touched : IsTouched (map known_cost x.known.items) x.touched
 
--- a search that has begun on this side, between two states
+-- a search that has begun on this side, in the state between one settled state and the next
 pub record IsWeighingOn (H : LevelsAndLegs) (side : Side) (x : WeightSearch) : Type 0 where
   pub levelled : IsLevelled H
   pub sizes : IsSizedFor (nodes_of H) x
   pub search : IsWeightSearchTo x.most H side (source_of x side) (side_costs H side x) (side_keys H side x)
 
--- one that has begun on both sides, of all paths
+-- a search that has begun on both sides, for all paths
 pub record IsWeighing (H : LevelsAndLegs) (x : WeightSearch) : Type 0 where
   pub most : x.most ≡ MOST_WEIGHT
   pub sides : (side : Side) → IsWeighingOn H side x
 
--- a search that takes the legs of v on one side, where it was settled last, at this weight
+-- a search that is taking the legs of v on one side, where v was settled last, at this weight
 pub record IsWeighingAt (H : LevelsAndLegs) (side : Side) (x : WeightSearch) (v weight : ℕ) : Type 0 where
   pub levelled : IsLevelled H
   pub sizes : IsSizedFor (nodes_of H) x
   pub within : v < nodes_of H
   pub here : IsExpanding x.most (rows_of (weighed H) side) (source_of x side) (OrNode (is_idle_on H side (source_of x side)) v) (side_costs H side x) (side_keys H side x) v (weight_cost weight)
 
--- of the same source and target, for paths of as much weight
+-- both searches have the same source, target and limit
 pub record IsSameWeighing (x y : WeightSearch) : Type 0 where
   pub start : y.start ≡ x.start
   pub end : y.end ≡ x.end
   pub most : y.most ≡ x.most
 
--- this side knows what it knew, and has the keys that it had
+-- this side has the same costs and keys as before
 pub record IsSameSide (H : LevelsAndLegs) (side : Side) (x y : WeightSearch) : Type 0 where
   pub costs : side_costs H side y ≡ side_costs H side x
   pub keys : side_keys H side y ≡ side_keys H side x
 
--- what is settled on this side in y was settled in x, at the same cost
+-- each node that is settled on this side in y was settled in x, at the same cost
 abbrev pub KeepsSide : LevelsAndLegs → Side → WeightSearch → WeightSearch → Type 0
 KeepsSide H side x y = (v : ℕ) (c : Cost) → IsSettled (side_costs H side y) (side_keys H side y) v c → IsSettled (side_costs H side x) (side_keys H side x) v c
 
--- how many states of this side are not settled
+-- the number of states of this side that are not settled
 abbrev pub count_unsettled_on : LevelsAndLegs → Side → WeightSearch → ℕ
 count_unsettled_on H side x = count_unsettled (side_costs H side x) (side_keys H side x)
 
--- how many states are not settled
+-- the number of states that are not settled
 abbrev pub count_unsettled_states : LevelsAndLegs → WeightSearch → ℕ
 count_unsettled_states H x = count_unsettled_on H Up x + count_unsettled_on H Down x
 
--- y is what x became when this side went on from the state that it settled last: the other side stays, and so does what is settled
+-- y is x after this side has gone on from the state that it settled last: the other side and all settled states stay
+-- the same
 pub record HasGoneOn (H : LevelsAndLegs) (side : Side) (x y : WeightSearch) : Type 0 where
   pub weighing : IsWeighingOn H side y
   pub same : IsSameWeighing x y
@@ -104,13 +105,14 @@ pub record HasGoneOn (H : LevelsAndLegs) (side : Side) (x y : WeightSearch) : Ty
 abbrev pub UnreachedStateIsUnkeyed : WeightSearch → ℕ → Type 0
 UnreachedStateIsUnkeyed x state = slice_index x.known.items state ≡ UNREACHED → slice_index_or x.queue state None ≡ None
 
--- what showing a state this weight changes: nothing, where no less is known or it is above the limit, or the state gets it as weight and key
+-- the change when a state is offered this weight: nothing, if no less is known or it is above the limit; otherwise
+-- the state gets it as weight and key
 abbrev pub ShowsWeight : WeightSearch → ℕ → ℕ → WeightSearch → Type 0
 ShowsWeight x state weight y =
     ((y.known.items ≡ x.known.items) × (y.queue ≡ x.queue) × (weight ≤ x.most → slice_index x.known.items state ≤ weight))
     ⊎ ((weight ≤ x.most) × (weight < slice_index x.known.items state) × (y.known.items ≡ slice_set x.known.items state weight) × (y.queue ≡ slice_set x.queue state (Some weight)))
 
--- y is what x became when these legs of v were taken
+-- y is the search x after these legs of v were taken
 pub record IsPartlyWeighed (H : LevelsAndLegs) (side : Side) (x y : WeightSearch) (v weight : ℕ) (legs : List Leg) : Type 0 where
   pub same : IsSameWeighing x y
   pub weighing : IsWeighingAt H side y v weight
@@ -120,20 +122,21 @@ pub record IsPartlyWeighed (H : LevelsAndLegs) (side : Side) (x y : WeightSearch
   pub stays : KeepsSide H side y x
   pub measure : count_unsettled_on H side y ≡ count_unsettled_on H side x
 
--- a search for n nodes in which nothing is left of an earlier one
+-- a search for n nodes with nothing left from an earlier search
 pub record IsCleanFor (n : ℕ) (x : WeightSearch) : Type 0 where
   pub sizes : IsSizedFor n x
   pub queue : (state weight : ℕ) → slice_index_or x.queue state None ≡ Some weight → ⊥
   pub nothing : vec_len x.touched ≡ 0
 
--- the least sum covers the nodes that both sides settled, and where there is one it is that of two paths
+-- the least sum is at most that of each node that both sides have settled, and if there is one, it is the sum of two
+-- paths
 pub record IsLeastSoFar (H : LevelsAndLegs) (x : WeightSearch) (least : ℕ) : Type 0 where
   pub weighing : IsWeighing H x
   pub small : least ≤ UNREACHED
   pub seen : (v : ℕ) (a b : Cost) → IsSettled (side_costs H Up x) (side_keys H Up x) v a → IsSettled (side_costs H Down x) (side_keys H Down x) v b → least ≤ a.weight + b.weight
   pub found : least < UNREACHED → (v : ℕ) × (a b : Cost) × IsUpwardCost (rows_of (weighed H) Up) x.start v a × IsUpwardCost (rows_of (weighed H) Down) x.end v b × (a.weight + b.weight ≡ least)
 
--- each key that is left is at least this
+-- each remaining key is at least this
 abbrev pub AreKeysFrom : List (Option ℕ) → ℕ → Type 0
 AreKeysFrom queue least = (state weight : ℕ) → slice_index_or queue state None ≡ Some weight → least ≤ weight
 
@@ -142,7 +145,7 @@ pub record IsLeastState (queue : List (Option ℕ)) (e : ℕ × ℕ) : Type 0 wh
   pub has : slice_index_or queue e.1 None ≡ Some e.0
   pub least : AreKeysFrom queue e.0
 
--- of the node of this rank
+-- P holds of the node of this rank
 abbrev pub AtRank : LevelsAndLegs → ℕ → (ℕ → Type 0) → Type 0
 AtRank H rank P = (v : ℕ) → v < nodes_of H → rank_of H v ≡ rank → P v
 
@@ -150,7 +153,7 @@ AtRank H rank P = (v : ℕ) → v < nodes_of H → rank_of H v ≡ rank → P v
 abbrev pub without_state : WeightSearch → ℕ → WeightSearch
 without_state x state = record x { queue = slice_set x.queue state None }
 
--- ranks and weights of states of one side that are settled, each rank once, and among them all that need to be expanded
+-- ranks and weights of settled states of one side, each rank once, and among them all states that need to be expanded
 pub record AreUnstalledOn (H : LevelsAndLegs) (side : Side) (x : WeightSearch) (list : List (ℕ × ℕ)) : Type 0 where
   pub distinct : AllPairs (λ a b. a.0 ≢ b.0) list
   pub settled : (rank weight : ℕ) → Contains list (rank, weight) → (v : ℕ) × (v < nodes_of H) × (rank_of H v ≡ rank) × IsSettled (side_costs H side x) (side_keys H side x) v (weight_cost weight)

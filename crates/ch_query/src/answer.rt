@@ -15,16 +15,16 @@ use std::alloc::{AllocError, Global};
 use std::marker::Model;
 use std::thread::Threads;
 
-/// What is answered to a query. Contracts see the arcs as a list.
+/// The answer to a query. Contracts see the arcs as a list.
 #[derive(Debug, Drop)]
 pub struct Answer {
     /// The query's first node.
     pub from: u32,
     /// The query's second node.
     pub to: u32,
-    /// The least weight of a walk from the one to the other, and `None` where there is none.
+    /// The least weight of a walk from the first node to the second, or `None` if there is no walk.
     pub weight: Option<u64>,
-    /// The arcs of the route, where routes are wanted and there is a walk.
+    /// The arcs of the route, if routes are wanted and there is a walk.
     pub arcs: Option<Vec<InArc>>,
 }
 
@@ -37,11 +37,14 @@ impl Model for Answer {
     ghost view = { λ a. record { from = a.from; to = a.to; weight = a.weight; arcs = option_map (λ arcs. arcs.items) a.arcs } };
 }
 
-/// The answers to the queries, in their order, with the arcs of the routes where `routes` says so. Workers
-/// share the queries as the plan says: each makes its room once, and answers one query after the other.
+/// Returns the answers to the queries, in their order. If `routes` is set, they have the arcs of the
+/// routes.
+///
+/// Workers share the queries as the plan says. Each worker makes its room once, and answers one query after
+/// the other.
 ///
 /// # Errors
-/// `AllocError` where there is no memory.
+/// `AllocError` if there is no memory.
 pub fn answer_all<R: Threads + Sync, G: Gate>(
     crew: &Crew<'_, R, G>,
     hierarchy: &Hierarchy,
@@ -61,12 +64,14 @@ pub fn answer_all<R: Threads + Sync, G: Gate>(
     run_list(crew, queries, &job)
 }
 
-/// As [`answer_all`], in scratches that stay, one a worker: for those who ask again and again, since to make
-/// one takes a number of steps that grows with the nodes. Where there are too few, workers make more, which are among them
-/// afterwards.
+/// Like [`answer_all`], but in scratches that stay, one for each worker. It is for callers that ask again
+/// and again, because making a scratch takes a step for each node.
+///
+/// If there are too few scratches, workers make more. These are in `scratches` afterwards.
 ///
 /// # Errors
-/// `AllocError` where there is no memory. Scratches may be gone then; those that are left serve further queries.
+/// `AllocError` if there is no memory. Some scratches may be gone then; those that are left serve further
+/// queries.
 pub fn answer_all_in<R: Threads + Sync, G: Gate>(
     crew: &Crew<'_, R, G>,
     hierarchy: &Hierarchy,
@@ -86,7 +91,7 @@ pub fn answer_all_in<R: Threads + Sync, G: Gate>(
     run_list_in(crew, queries, scratches, &job)
 }
 
-/// What is to be answered to each query.
+/// The job that answers queries, with routes or without.
 #[derive(Drop)]
 struct QueryJob<'a> {
     hierarchy: &'a Hierarchy,
@@ -131,7 +136,8 @@ impl ListJob for QueryJob<'_> {
     }
 }
 
-/// The answers with routes, by workers who answer nothing else, so that they have no room for distances.
+/// The job that answers queries with routes. Its workers answer nothing else, so they have no room for
+/// distances.
 #[derive(Drop)]
 struct RouteJob<'a> {
     hierarchy: &'a Hierarchy,
@@ -175,7 +181,7 @@ impl ListJob for RouteJob<'_> {
     }
 }
 
-/// The answer to one query.
+/// Returns the answer to one query.
 fn reply(
     alloc: Global,
     hierarchy: &Hierarchy,
@@ -205,7 +211,7 @@ fn reply(
     })
 }
 
-/// The answer to one query, with the route.
+/// Returns the answer to one query, with the route.
 fn reply_with_route(
     alloc: Global,
     hierarchy: &Hierarchy,

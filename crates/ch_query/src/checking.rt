@@ -1,4 +1,4 @@
-//! Whether a saved hierarchy, of any origin, is right for a graph.
+//! The check whether a saved hierarchy of any origin is right for a graph.
 ghost use Rattle.std.specs.Prelude.{◌≡◌, ◌<◌, ℕ, All, IfErr, IfOk, MatchOption};
 ghost use Rattle.ch_hierarchy.specs.declared.fault.CheckFault.{CheckFault as AnyFault};
 ghost use Rattle.ch_hierarchy.specs.declared.fault.CheckFault.TheVariants as CheckFault;
@@ -18,17 +18,21 @@ use ch_work::{Crew, Gate, Stage};
 use std::alloc::Global;
 use std::thread::Threads;
 
-/// The hierarchy that a saved one names, where it is right for the graph: its distances and routes are
-/// then those of the graph, whoever made it. Its levels and legs are those of the argument.
+/// Returns the hierarchy that a saved one names, if it is right for the graph.
 ///
-/// Before [`assemble`] it looks for the arc of each leg that has no middle, while there is no hierarchy beside the rows of
-/// arcs; after it for the two legs of each other leg, and for each arc's leg. Then it searches from
-/// both ends of each two legs through a lower node, unless a leg costs no more than they do. It takes a
-/// number of steps that is linear in the number of nodes, arcs and legs, but for a logarithm, and what these
-/// searches take.
+/// Its distances and routes are then those of the graph, whatever its origin. It has exactly the levels and
+/// legs of the saved hierarchy.
+///
+/// Before [`assemble`] it looks for the arc of each leg without a middle, so the rows of arcs are freed
+/// before there is a hierarchy. After it, it looks for the two legs of each other leg, and for the leg of
+/// each arc.
+///
+/// Then it takes each pair of legs through a lower node. If no leg between their other ends costs at most
+/// as much, it searches from both ends. It takes O(k log k) steps for k nodes, arcs, legs and such pairs
+/// together, and the steps of these searches.
 ///
 /// # Errors
-/// The first fault of all seven kinds, or `NoMemory`; what was lent is as before.
+/// The first fault of all seven kinds, or `NoMemory`. The graph and the saved hierarchy stay as they were.
 pub fn check<R: Threads + Sync, G: Gate>(
     crew: &Crew<'_, R, G>,
     graph: &Graph,
@@ -42,8 +46,9 @@ pub fn check<R: Threads + Sync, G: Gate>(
     covered(crew, hierarchy)
 }
 
-/// As [`check`], and the gate is told how far it is. The gate changes nothing of the answer. The saved hierarchy
-/// is given back before the searches, so that their room doesn't stand beside it.
+/// Like [`check`], and it reports to the gate when the check begins. The gate changes no answer.
+///
+/// The saved hierarchy is freed before the searches. So the memory for them is not needed beside it.
 ///
 /// # Errors
 /// The first fault of all seven kinds, or `NoMemory`.
@@ -63,11 +68,11 @@ pub fn check_watched<R: Threads + Sync, G: Gate>(
     covered(crew, hierarchy)
 }
 
-/// As [`check`], by the caller alone: no thread is started and no gate is passed. It is for programs that have no handle
-/// to start threads with.
+/// Like [`check`], by the caller alone: it starts no thread and passes no gate. It is for programs that
+/// have no handle to start threads with.
 ///
 /// # Errors
-/// The first fault of all seven kinds, or `NoMemory`; what was lent is as before.
+/// The first fault of all seven kinds, or `NoMemory`. The graph and the saved hierarchy stay as they were.
 pub fn check_alone(alloc: Global, graph: &Graph, saved: &Saved) -> Result<Hierarchy, CheckError>
     ensures accepted { IsOkWhere result (IsFaultless graph.now saved.now) }
     ensures hierarchy { IfOk result (NamesKept graph.now saved.now) }
@@ -77,8 +82,8 @@ pub fn check_alone(alloc: Global, graph: &Graph, saved: &Saved) -> Result<Hierar
     covered_alone(alloc, hierarchy)
 }
 
-/// The hierarchy that a saved one names, where each leg is what it stands for and each arc has its leg: all of
-/// the check but the pairs of legs through lower nodes.
+/// Returns the hierarchy that a saved one names, if each leg is what its middle says and each arc has its
+/// leg. This is all of the check except the pairs of legs through lower nodes.
 fn founded(alloc: Global, graph: &Graph, saved: &Saved) -> Result<Hierarchy, CheckError>
     ensures value { IfOk result (NamesFounded graph.now saved.now) }
     ensures fault { IfErr result (IsIfFault (IsFirstFault graph.now saved.now)) }
@@ -91,8 +96,8 @@ fn founded(alloc: Global, graph: &Graph, saved: &Saved) -> Result<Hierarchy, Che
     }
 }
 
-/// The first fault of a leg or an arc beside the hierarchy that is named. The place of the first leg without a middle
-/// that is no arc of the graph is known.
+/// Returns the first fault of a leg or an arc with respect to the named hierarchy. `baseless` is the place
+/// of the first leg without a middle that is not an arc of the graph.
 fn first_unfounded(
     graph: &Graph,
     saved: &Saved,
@@ -116,7 +121,7 @@ fn first_unfounded(
     None
 }
 
-/// The hierarchy, where all pairs of legs through lower nodes are covered.
+/// Returns the hierarchy if all pairs of legs through lower nodes are covered.
 fn covered<R: Threads + Sync, G: Gate>(
     crew: &Crew<'_, R, G>,
     hierarchy: Hierarchy,
@@ -130,7 +135,7 @@ fn covered<R: Threads + Sync, G: Gate>(
     }
 }
 
-/// As [`covered`], by the caller alone.
+/// Like [`covered`], by the caller alone.
 fn covered_alone(alloc: Global, hierarchy: Hierarchy) -> Result<Hierarchy, CheckError>
     ensures value { IfOk result (λ H. (H ≡ hierarchy) × ((v : ℕ) → v < nodes_of H → IsCovered H v)) }
     ensures fault { IfErr result (IsIfFault (λ f. (v : ℕ) × (f ≡ CheckFault.Lower v) × IsFirstUncovered hierarchy v)) }

@@ -1,4 +1,4 @@
-//! Whether going up from one node and down to another costs no more than a bound.
+//! The search that decides whether going up from one node and down to another costs at most a bound.
 ghost use Rattle.std.specs.Prelude.{◌≡◌, ◌+◌, ◌<◌, ◌≤◌, ◌↔◌, true, false, IsTrue, Some};
 ghost use Rattle.ch_graph.specs.declared.limits.TheConstants.{MOST_WEIGHT, MOST_PATH_ARCS};
 ghost use Rattle.ch_graph.specs.declared.cost.Cost.{Cost as CostOf};
@@ -16,14 +16,14 @@ use ch_graph::Cost;
 use ch_hierarchy::Hierarchy;
 use ch_queue::KeyQueue;
 
-/// What a step of two searches shows.
+/// The result of one step of two searches.
 #[derive(Clone, Copy)]
 enum Shown {
-    /// Both reach some node within the bound.
+    /// Both searches reach some node within the bound.
     Connected,
     /// One more node is settled.
     Settled,
-    /// No node is left within the bound.
+    /// No unsettled node is within the bound.
     Past,
 }
 
@@ -57,7 +57,8 @@ fn is_past(queue: &KeyQueue<Cost>, most: Cost) -> bool
     }
 }
 
-/// Whether `cost` at the node of this rank here and what is known there are within the bound.
+/// Whether `cost` at the node of this rank and the cost that `there` knows of it add up to at most the
+/// bound.
 fn connects(hierarchy: &Hierarchy, there: &Search, rank: u32, cost: Cost, most: Cost) -> bool
     requires there { IsUnderway hierarchy.now there.now }
     requires rank { IsSomeRank hierarchy.now rank }
@@ -71,7 +72,8 @@ fn connects(hierarchy: &Hierarchy, there: &Search, rank: u32, cost: Cost, most: 
     }
 }
 
-/// Whether a leg of the node of this rank, whose legs were taken, leads to a node that both reach within the bound.
+/// Whether a leg of the node of this rank leads to a node that both searches reach within the bound. The
+/// legs of this node were taken already.
 fn connects_by_leg(
     hierarchy: &Hierarchy,
     here: &Search,
@@ -94,7 +96,7 @@ fn connects_by_leg(
     false
 }
 
-/// Settles one node of `here`, unless all that is left is above the bound.
+/// Settles one node of `here`, unless all unsettled nodes are above the bound.
 fn advance(hierarchy: &Hierarchy, here: &mut Search, there: &Search, most: Cost) -> Shown
     requires apart { AreApart hierarchy.now here.old there.now most }
     ensures same { IsSameSearch here.old here.new }
@@ -120,7 +122,7 @@ fn advance(hierarchy: &Hierarchy, here: &mut Search, there: &Search, most: Cost)
     Shown::Settled
 }
 
-/// Lets the side with the least key settle one node.
+/// Settles one node on the side with the least key.
 fn step(hierarchy: &Hierarchy, up: &mut Search, down: &mut Search, most: Cost) -> Shown
     requires apart { AreApart hierarchy.now up.old down.old most }
     ensures up { IsSameSearch up.old up.new × IsUnderway hierarchy.now up.new }
@@ -136,8 +138,10 @@ fn step(hierarchy: &Hierarchy, up: &mut Search, down: &mut Search, most: Cost) -
     }
 }
 
-/// Whether going up from `start` to some node and down from there to `end` costs at most `most`. It takes
-/// no leg to what weighs more, settles no node that costs more, and none once a way is found.
+/// Whether going up from `start` to some node and down from there to `end` costs at most `most`.
+///
+/// It takes no leg that makes a path heavier than `most`, and settles no node that costs more. It stops
+/// once it has found a way.
 pub(crate) fn meets_within(
     hierarchy: &Hierarchy,
     up: &mut Search,

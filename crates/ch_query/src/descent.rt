@@ -1,4 +1,4 @@
-//! The way back from where two searches meet to the source of one.
+//! The way back from the node where two searches meet to the source of one of them.
 ghost use Rattle.std.specs.Prelude.{◌≡◌, vec_capacity};
 ghost use Rattle.ch_query.specs.Distance.{IsKeptForSome};
 ghost use Rattle.ch_query.specs.Descents.{HasReachedWithRoom, pending_of, IsTraced};
@@ -9,7 +9,7 @@ use crate::side::Side;
 use crate::unpacking::PendingLeg;
 use ch_hierarchy::{Hierarchy, Leg};
 
-/// The leg of a step up from `low` on this side, as a walk takes it.
+/// Returns the leg of a step up from `low` on this side, in the direction of the walk.
 fn directed(side: Side, low: u32, leg: Leg) -> PendingLeg
     ensures { result ≡ pending_of side (record { low = low; leg = leg }) }
 {
@@ -19,8 +19,8 @@ fn directed(side: Side, low: u32, leg: Leg) -> PendingLeg
     }
 }
 
-/// Appends the legs of the steps from `meet` back to the source, each by the least numbered node before it on
-/// a least path.
+/// Appends the legs of the steps from `meet` back to the source. Each step goes to the least numbered node
+/// that comes before on a least path.
 pub(crate) fn descend(
     hierarchy: &Hierarchy,
     search: &Search,

@@ -12,7 +12,7 @@ use ch_graph::{Cost, Graph, InArc, Rows, SavedLeg};
 use ch_hierarchy::Hierarchy;
 use std::alloc::{AllocError, Global};
 
-/// The place of the first leg without a middle that is no arc of the graph.
+/// Returns the place of the first leg without a middle that is not an arc of the graph.
 pub(crate) fn first_without_arc(
     alloc: Global,
     graph: &Graph,
@@ -20,7 +20,7 @@ pub(crate) fn first_without_arc(
 ) -> Result<Option<usize>, AllocError>
     ensures { IfOk result (λ found. MatchOption found (All (IsArcIfBase graph.now) legs.now) (IsFirstFailing (IsArcIfBase graph.now) legs.now)) }
 {
-    // The proof learns from this call that the graph keeps the limits.
+    // This call tells the proof that the graph keeps the limits.
     let _ = graph.arcs();
     let rows = arc_rows(alloc, graph)?;
     for (place, leg) in legs.iter().enumerate() {
@@ -31,7 +31,7 @@ pub(crate) fn first_without_arc(
     Ok(None)
 }
 
-/// Whether the leg has a middle, or is an arc of the graph that has these rows.
+/// Whether the leg has a middle, or is an arc of the graph with these rows.
 fn is_arc_if_base(rows: &Rows<InArc>, leg: SavedLeg) -> bool
     requires { (g : Network) × AreArcRows g rows.now }
     ensures { (g : Network) → IsWithinLimits g → AreArcRows g rows.now → (IsTrue result ↔ IsArcIfBase g leg) }
@@ -39,7 +39,7 @@ fn is_arc_if_base(rows: &Rows<InArc>, leg: SavedLeg) -> bool
     leg.middle.is_some() || leg.cost.arcs == 1 && is_arc(rows, leg)
 }
 
-/// Whether an arc of the graph that has these rows leads between the nodes of the leg, at its weight.
+/// Whether an arc of the graph with these rows has the ends and the weight of the leg.
 fn is_arc(rows: &Rows<InArc>, leg: SavedLeg) -> bool
     requires { (g : Network) × AreArcRows g rows.now }
     ensures { (g : Network) → IsWithinLimits g → AreArcRows g rows.now → (IsTrue result ↔ Contains g.arcs (record { from = leg.from; to = leg.to; weight = leg.cost.weight })) }
@@ -47,7 +47,7 @@ fn is_arc(rows: &Rows<InArc>, leg: SavedLeg) -> bool
     leg.from < rows.row_count() && has_arc(rows.row(leg.from), leg.to, leg.cost.weight)
 }
 
-/// The place of the first leg with a middle that isn't the two legs of this.
+/// Returns the place of the first leg with a middle that is not the sum of the two legs of that middle.
 pub(crate) fn first_false_shortcut(hierarchy: &Hierarchy, legs: &[SavedLeg]) -> Option<usize>
     ensures { MatchOption result (All (IsSumIfShortcut hierarchy.now) legs.now) (IsFirstFailing (IsSumIfShortcut hierarchy.now) legs.now) }
 {
@@ -59,7 +59,7 @@ pub(crate) fn first_false_shortcut(hierarchy: &Hierarchy, legs: &[SavedLeg]) -> 
     None
 }
 
-/// Whether the leg has no middle, or is the two legs of this.
+/// Whether the leg has no middle, or is the sum of the two legs of its middle.
 fn is_sum_if_shortcut(hierarchy: &Hierarchy, leg: SavedLeg) -> bool
     ensures { IsTrue result ↔ IsSumIfShortcut hierarchy.now leg }
 {
@@ -69,8 +69,8 @@ fn is_sum_if_shortcut(hierarchy: &Hierarchy, leg: SavedLeg) -> bool
     }
 }
 
-/// Whether the leg is the leg to `middle` and the one from there. These stand in the rows of `middle`, which
-/// is therefore lower than both ends.
+/// Whether the leg is the sum of the leg to `middle` and the leg from there. Both are in the rows of
+/// `middle`, so `middle` is lower than both ends.
 fn is_sum_over(hierarchy: &Hierarchy, leg: SavedLeg, middle: u32) -> bool
     ensures { IsTrue result ↔ IsSumOver hierarchy.now leg middle }
 {
@@ -86,7 +86,7 @@ fn is_sum_over(hierarchy: &Hierarchy, leg: SavedLeg, middle: u32) -> bool
     into.plus(out) == leg.cost
 }
 
-/// The place of the first arc, no loop, without a leg that costs at most as much.
+/// Returns the place of the first arc that is no loop and has no leg that costs at most as much.
 pub(crate) fn first_unserved(hierarchy: &Hierarchy, arcs: &[InArc]) -> Option<usize>
     requires { (a : AnyArc) → Contains arcs.now a → (a.from < nodes_of hierarchy.now) × (a.to < nodes_of hierarchy.now) }
     ensures { MatchOption result (All (IsServed hierarchy.now) arcs.now) (IsFirstFailing (IsServed hierarchy.now) arcs.now) }

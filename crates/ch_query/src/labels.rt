@@ -1,4 +1,4 @@
-//! What a search knows of each node: a cost, if it is reached, and a parent.
+//! The label of each node in a search: a cost, if the node is reached, and a parent.
 ghost use Rattle.std.specs.Prelude.{◌≡◌, ◌^◌, ◌<◌, ◌≤◌, length, replicate, slice_index, slice_set, Some, None, IfOk};
 ghost use Rattle.ch_graph.specs.declared.limits.TheConstants.{MOST_WEIGHT};
 ghost use Rattle.ch_graph.specs.Cost.{cost_at};
@@ -7,19 +7,20 @@ use ch_graph::Cost;
 use std::alloc::{AllocError, Global};
 use std::marker::Model;
 
-/// The weight of a label that stands for no cost. No path weighs as much.
+/// The weight of a label without a cost. It is greater than the weight of any path.
 pub(crate) const NO_WEIGHT: u64 = u64::MAX;
 
-/// The arcs from which on their multiples stand apart. Paths of so many arcs are rare, but within the limits.
+/// The least number of arcs that needs a multiple beside the label. Such paths are rare, but within the
+/// limits.
 pub(crate) const MANY: u64 = 1 << 31;
 
-/// What is known of a node, in 16 bytes.
+/// The label of a node, in 16 bytes.
 #[derive(Clone, Copy)]
 pub(crate) struct Label {
-    /// The weight of the node's cost, or [`NO_WEIGHT`] where it is not reached.
+    /// The weight of the node's cost, or [`NO_WEIGHT`] if the node is not reached.
     weight: u64,
-    /// The arcs of the node's cost below [`MANY`]. Of more arcs it has what is left beyond the multiples that stand apart, which is
-    /// at least [`MANY`] and less than twice that.
+    /// The number of arcs of the node's cost, if it is below [`MANY`]. Otherwise the number less a multiple
+    /// of [`MANY`], which is kept apart. It is then at least [`MANY`] and below twice [`MANY`].
     arcs: u32,
     parent: u32,
 }
@@ -31,12 +32,12 @@ const UNREACHED: Label = Label {
     parent: 0,
 };
 
-/// For each of so many nodes a cost or none, and a parent, which contracts see as two lists. The parent of a node that is not reached
-/// is whatever it was last.
+/// A cost or none, and a parent, for each node. Contracts see two lists. The parent of a node that is not
+/// reached is the last one that was written.
 #[derive(Drop)]
 pub(crate) struct Labels {
     labels: Vec<Label>,
-    /// By node whose label has [`MANY`] arcs or more: how many times [`MANY`] is to be added to them.
+    /// For each node whose label has at least [`MANY`] arcs: how many times [`MANY`] is added to them.
     multiples: Vec<u32>,
 }
 
@@ -54,7 +55,7 @@ impl Model for Labels {
 }
 
 impl Labels {
-    /// Labels of so many nodes, none of which is reached.
+    /// Makes labels for `nodes` nodes, none of them reached.
     pub(crate) fn new(alloc: Global, nodes: u32) -> Result<Labels, AllocError>
         ensures { IfOk result (λ labels. labels ≡ record { costs = replicate nodes None; parents = replicate nodes 0 }) }
     {
@@ -63,7 +64,7 @@ impl Labels {
         Ok(Labels { labels, multiples })
     }
 
-    /// The cost of `node`, if it is reached.
+    /// The cost of `node`, if the node is reached.
     #[inline]
     pub(crate) fn get(&self, node: u32) -> Option<Cost>
         requires { node < length self.now.costs }
@@ -125,7 +126,7 @@ impl Labels {
         self.labels[node as usize].parent = parent;
     }
 
-    /// Takes the cost of `node` away.
+    /// Removes the cost of `node`.
     #[inline]
     pub(crate) fn clear(&mut self, node: u32)
         requires { node < length self.old.costs }

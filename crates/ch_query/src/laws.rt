@@ -1,30 +1,34 @@
-//! Laws of routes and of search spaces, each the contract of a function that does nothing.
+//! Laws of routes and of search spaces. Each is the contract of a function that does nothing.
 ghost use Rattle.ch_query.specs.RouteLaws.{OneRoute, RoutesAreLeastWalks};
 ghost use Rattle.ch_query.specs.SearchSpaceLaws.{SearchSpacesGiveDistances};
 ghost use Rattle.ch_query.specs.Weighed.{WeightsAreEnough};
 
-/// Between two nodes of a levelled hierarchy there is at most one route: the meet, each choice and the arcs
-/// of each leg are one.
+/// Between two nodes of a levelled hierarchy there is at most one route. The meet, each choice, and the
+/// arcs of each leg are determined.
 pub fn one_route()
     ensures { OneRoute }
 {}
 
-/// In each graph within the limits for which a hierarchy is right, a route is a walk of input arcs of the
-/// least weight, and of these of the fewest arcs; its weight is the sum of theirs.
+/// If a hierarchy is right for a graph within the limits, a route is a walk of input arcs. It has the least
+/// weight, and of the walks of that weight the fewest arcs. Its weight is the sum of the arcs' weights.
 pub fn routes_are_least_walks()
     ensures { RoutesAreLeastWalks }
 {}
 
-/// In each hierarchy that is right for a graph the least sum of the weights that a search space up from one
-/// node and one down to another have for one node is the distance, where all of these are within a limit, and
-/// there is none exactly where there is no walk of a weight within it.
+/// Take a hierarchy that is right for a graph, and two search spaces within the same limit: one up from a
+/// node, and one down to another.
+///
+/// The distance is the least sum within the limit of the two weights for one node. If there is no such sum,
+/// there is no walk of a weight within the limit.
 pub fn search_spaces_give_distances()
     ensures { SearchSpacesGiveDistances }
 {}
 
-/// In each hierarchy that is right for a graph two searches by weights alone, up from one node and down to
-/// another, which stall, know the least weight, once each key that is left weighs no less than what they know
-/// of their sums; and they know none exactly where no node is reached from both.
+/// Take a hierarchy that is right for a graph, and two searches by weights alone that stall: one up from a
+/// node, and one down to another.
+///
+/// Once no remaining key is below the least sum that they know, that sum is the least weight. They know no
+/// sum exactly when no node is reached from both.
 pub fn weights_are_enough()
     ensures { WeightsAreEnough }
 {}

@@ -1,4 +1,4 @@
-//! Legs of a row.
+//! The legs of a row.
 ghost use Rattle.std.specs.Prelude.{◌≡◌, ◌<◌, ◌↔◌, Contains, IsTrue};
 ghost use Rattle.ch_hierarchy.specs.Hierarchy.{nodes_of};
 ghost use Rattle.ch_hierarchy.specs.Rows.{IsRow};
@@ -9,7 +9,8 @@ use crate::search::is_below;
 use ch_graph::Cost;
 use ch_hierarchy::{Hierarchy, Leg};
 
-/// The leg of the row at `node`, which it has. Most rows are short, so it is looked for from the first leg on.
+/// Returns the leg of the row at `node`, which the row has. Most rows are short, so it looks from the first
+/// leg on.
 pub(crate) fn leg_at(row: &[Leg], node: u32) -> Leg
     requires { (l : RowLeg) × Contains row.now l × (l.node ≡ node) }
     ensures { Contains row.now result × (result.node ≡ node) }
@@ -20,7 +21,7 @@ pub(crate) fn leg_at(row: &[Leg], node: u32) -> Leg
     }
 }
 
-/// What the leg of the row at `node` costs, if it has one, by binary search.
+/// Returns the cost of the leg of the row at `node`, if there is one, by binary search.
 pub(crate) fn cost_in_row(row: &[Leg], node: u32) -> Option<Cost>
     requires { IsRow row.now }
     ensures { IsRowCost row.now node result }
@@ -31,7 +32,8 @@ pub(crate) fn cost_in_row(row: &[Leg], node: u32) -> Option<Cost>
     }
 }
 
-/// What the leg from `start` to `end` costs, if there is one. It stands in a row of the lower of the two.
+/// Returns the cost of the leg from `start` to `end`, if there is one. It is in a row of the lower of the
+/// two nodes.
 fn leg_cost(hierarchy: &Hierarchy, start: u32, end: u32) -> Option<Cost>
     requires start { start < nodes_of hierarchy.now }
     requires end { end < nodes_of hierarchy.now }

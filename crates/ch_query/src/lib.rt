@@ -1,16 +1,22 @@
-//! Exact distances and routes by a contraction hierarchy: Dijkstra's algorithm from both ends at once, along
-//! legs to higher nodes alone (Geisberger, Sanders, Schultes and Delling 2008).
+//! Exact distances and routes by a contraction hierarchy. The search is Dijkstra's algorithm from both ends
+//! at once, only along legs to higher nodes (Geisberger, Sanders, Schultes and Delling 2008).
 //!
-//! It stands on ch_graph, ch_hierarchy, ch_queue and ch_work. Proved of it: on every hierarchy that is right
-//! for a graph, [`distance`] is the least weight of a walk, or says that there is no walk, and [`route`] is
-//! the walk of least weight and then of fewest arcs that the rules of choice name, which is one ([`laws`]).
-//! A distance takes no memory: its room is a [`Scratch`], which one query leaves clean for the next.
-//! [`spread`] lists all that a node reaches by legs to higher nodes, with the exact least costs, on every
-//! hierarchy with levels; [`search_space`] lists those of them over which distances lead, on
-//! every hierarchy that is right for a graph, and [`ranked_space`] the same for tables. [`answer_all`] gives the answers to many queries in their order,
-//! however a plan cuts them among workers. [`check`] accepts a saved hierarchy, whoever made it, exactly where
-//! it is right for the graph, and else tells its first fault; [`check_watched`] is the same for a gate that is told how far
-//! it is.
+//! It stands on ch_graph, ch_hierarchy, ch_queue and ch_work. Proved on every hierarchy that is right for a
+//! graph:
+//!
+//! - [`distance`] is the least weight of a walk, or says that there is no walk. It takes no memory: its
+//!   room is a [`Scratch`], and one query leaves it clean for the next.
+//! - [`route`] is the one walk that the rules of choice name. It has the least weight, and of the walks of
+//!   that weight the fewest arcs ([`laws`]).
+//! - [`search_space`] lists the nodes that distances lead over, and [`ranked_space`] does the same for
+//!   tables.
+//! - [`answer_all`] returns the answers to many queries in their order, for every plan.
+//!
+//! Proved on every hierarchy with levels: [`spread`] lists all that a node reaches by legs to higher nodes,
+//! with the exact least costs.
+//!
+//! [`check`] accepts a saved hierarchy of any origin exactly if it is right for the graph, and otherwise
+//! returns its first fault. [`check_watched`] does the same, and reports to a gate.
 #![tactic(auto)]
 
 mod answer;

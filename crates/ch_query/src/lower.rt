@@ -15,7 +15,8 @@ use std::alloc::{AllocError, Global};
 use std::marker::Model;
 use std::thread::Threads;
 
-/// Whether going from `start` up and down to `end` costs at most `most`. Mostly a leg shows it.
+/// Whether going up from `start` and down to `end` costs at most `most`. In most cases one leg is enough to
+/// show it.
 fn is_pair_covered(
     hierarchy: &Hierarchy,
     sides: &mut Sides,
@@ -29,7 +30,7 @@ fn is_pair_covered(
     ensures covered { IsTrue result ↔ MeetsWithin hierarchy.now start end most }
     ensures sides { sides.new ≡ sides.old }
 {
-    // The proof learns from this call that the hierarchy has levels.
+    // This call tells the proof that the hierarchy has levels.
     let _ = hierarchy.nodes();
     if is_leg_within(hierarchy, start, end, most) {
         return true;
@@ -37,7 +38,7 @@ fn is_pair_covered(
     meets_within(hierarchy, &mut sides.up, &mut sides.down, start, end, most)
 }
 
-/// Whether the leg `into` and each leg up from `node` are covered.
+/// Whether the pairs of the leg `into` and each leg up from `node` are covered.
 fn are_covered_from(hierarchy: &Hierarchy, sides: &mut Sides, node: u32, into: Leg) -> bool
     requires sides { sides.old ≡ nodes_of hierarchy.now }
     requires node { node < nodes_of hierarchy.now }
@@ -72,9 +73,10 @@ fn is_covered(hierarchy: &Hierarchy, sides: &mut Sides, node: u32) -> bool
     true
 }
 
-/// The least numbered node, from number `from` up to number `to`, which is not among them, through which some pair
-/// of legs, between nodes that differ, costs less than every way up and down between these nodes; `None` where there is no
-/// such node.
+/// Returns the least numbered node of `from..to` that is not covered, or `None` if all of them are.
+///
+/// A node is not covered if some pair of legs through it, between different nodes, has no way around it.
+/// Every way up and down between these nodes then costs more than the pair.
 fn first_uncovered_of(hierarchy: &Hierarchy, sides: &mut Sides, from: u32, to: u32) -> Option<u32>
     requires sides { sides.old ≡ nodes_of hierarchy.now }
     requires inside { to ≤ nodes_of hierarchy.now }
@@ -89,7 +91,7 @@ fn first_uncovered_of(hierarchy: &Hierarchy, sides: &mut Sides, from: u32, to: u
     None
 }
 
-/// The search for the first such node in each range of nodes.
+/// The job that looks for the first such node in each range of nodes.
 #[derive(Drop)]
 struct CoverJob<'a> {
     hierarchy: &'a Hierarchy,
@@ -129,7 +131,7 @@ impl RoomJob for CoverJob<'_> {
     }
 }
 
-/// The first number of those that the ranges gave.
+/// Returns the first number among the results of the ranges.
 fn first_of(firsts: &[Option<u32>]) -> Option<u32>
     ensures { result ≡ first_some firsts.now }
 {
@@ -141,7 +143,8 @@ fn first_of(firsts: &[Option<u32>]) -> Option<u32>
     None
 }
 
-/// The least numbered of all such nodes. The workers share the nodes as the plan says, each in a room of its own.
+/// Returns the least numbered node that is not covered. The workers share the nodes as the plan says, each
+/// in a room of its own.
 pub(crate) fn first_uncovered<R: Threads + Sync, G: Gate>(
     crew: &Crew<'_, R, G>,
     hierarchy: &Hierarchy,
@@ -150,13 +153,13 @@ pub(crate) fn first_uncovered<R: Threads + Sync, G: Gate>(
 {
     let nodes = hierarchy.nodes();
     crew.gate.watch(Stage::Checking, 0, crew.plan.pieces(nodes));
-    // The proof learns from this call that a piece has an item.
+    // This call tells the proof that a piece has at least one item.
     let _ = crew.plan.piece();
     let firsts = run_pieces_with_rooms(crew, nodes, &CoverJob { hierarchy })?;
     Ok(first_of(firsts.as_slice()))
 }
 
-/// As [`first_uncovered`], by the caller alone.
+/// Like [`first_uncovered`], by the caller alone.
 pub(crate) fn first_uncovered_alone(
     alloc: Global,
     hierarchy: &Hierarchy,

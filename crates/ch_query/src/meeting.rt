@@ -17,7 +17,7 @@ use ch_graph::Cost;
 use ch_hierarchy::Hierarchy;
 use ch_queue::KeyQueue;
 
-/// The first of the two, by cost and then by node.
+/// Returns the first of the two, by cost and then by node.
 fn first(least: Option<(Cost, u32)>, cost: Cost, node: u32) -> Option<(Cost, u32)>
     ensures { IsFirst least (cost, node) result }
 {
@@ -29,7 +29,7 @@ fn first(least: Option<(Cost, u32)>, cost: Cost, node: u32) -> Option<(Cost, u32
     Some((cost, node))
 }
 
-/// The least sum, now that one side settles `node`, of this rank, at `cost`.
+/// Returns the least sum after one side has settled `node`, of this rank, at `cost`.
 fn met(
     hierarchy: &Hierarchy,
     there: &Search,
@@ -61,7 +61,7 @@ fn is_past(queue: &KeyQueue<Cost>, least: Option<(Cost, u32)>) -> bool
     }
 }
 
-/// Settles one node, unless the side is past the least sum, and says whether it did.
+/// Settles one node, unless each key of this side is above the least sum. Returns whether it settled one.
 fn advance(
     hierarchy: &Hierarchy,
     here: &mut Search,
@@ -86,8 +86,8 @@ fn advance(
     true
 }
 
-/// Lets the side with the least key settle one node, and says whether it did. Where that key is past the least sum,
-/// so are all of both sides.
+/// Settles one node on the side with the least key, and returns whether it did. If that key is above the
+/// least sum, so are all keys of both sides.
 fn step(
     hierarchy: &Hierarchy,
     up: &mut Search,
@@ -108,8 +108,8 @@ fn step(
     }
 }
 
-/// The least sum of a path up from `start` and one down to `end`, with the least numbered node of those
-/// where two such paths meet. Afterwards both searches are as they stopped.
+/// Returns the least sum of a path up from `start` and a path down to `end`. With it comes the least
+/// numbered node where two paths of that sum meet. Afterwards both searches are as they stopped.
 pub(crate) fn meet(
     hierarchy: &Hierarchy,
     up: &mut Search,

@@ -20,13 +20,15 @@ use ch_graph::Cost;
 use ch_hierarchy::Hierarchy;
 use std::alloc::{AllocError, Global};
 
-/// The least weight of a walk from `start` to `end`, or `None` where there is no walk. The hierarchy is
-/// right for some graph, and the scratch is for as many nodes.
+/// Returns the least weight of a walk from `start` to `end`, or `None` if there is no walk. The hierarchy
+/// is right for some graph, and the scratch has room for its number of nodes.
 ///
-/// It searches from both ends by weights alone, and settles nodes by least weight until none that is left can lower the
-/// best sum. A reached node to which a higher node shows a lighter way is not expanded ("stall on demand",
-/// Geisberger, Sanders, Schultes and Delling 2008). It takes no memory, and a number of steps that grows
-/// with the part of the graph that it reaches, not with the number of nodes.
+/// It searches from both ends by weights alone. It settles nodes in order of weight until no unsettled node
+/// can lower the best sum. It does not expand a node if a higher node shows a lighter way to it ("stall on
+/// demand", Geisberger, Sanders, Schultes and Delling 2008).
+///
+/// It takes no memory. The number of steps grows with the part of the graph that it reaches, not with the
+/// number of nodes.
 pub fn distance(hierarchy: &Hierarchy, scratch: &mut Scratch, start: u32, end: u32) -> Option<u64>
     requires kept { IsKeptForSome hierarchy.now }
     requires scratch { scratch.old ≡ nodes_of hierarchy.now }
@@ -39,17 +41,20 @@ pub fn distance(hierarchy: &Hierarchy, scratch: &mut Scratch, start: u32, end: u
     scratch.weights.least_weight(hierarchy, start, end)
 }
 
-/// The route from `start` to `end`, or `None` where there is no walk. The hierarchy is right for some graph,
-/// and the scratch is for as many nodes.
+/// Returns the route from `start` to `end`, or `None` if there is no walk. The hierarchy is right for some
+/// graph, and the scratch has room for its number of nodes.
 ///
-/// It is a walk of least weight, and of these of the fewest arcs. It leads over the node where two
-/// searches meet that go by weight and then by arcs, at each choice by the least numbered node, and each shortcut is unpacked
-/// into the two legs of its middle (Geisberger, Sanders, Schultes and Delling 2008). After the search it
-/// takes memory and a number of steps that grow with the number of its arcs, not with the number of nodes.
+/// It is a walk of least weight, and of these of the fewest arcs. Two searches go by weight and then by
+/// arcs, and the route leads over the node where they meet. At each choice it takes the least numbered
+/// node.
+///
+/// Each shortcut is unpacked into the two legs of its middle (Geisberger, Sanders, Schultes and Delling
+/// 2008). After the search, memory and steps grow with the number of its arcs, not with the number of
+/// nodes.
 ///
 /// # Errors
-/// `AllocError` where there is no memory for the arcs, or for the two sides of a scratch that had none yet; the scratch then
-/// serves on.
+/// `AllocError` if there is no memory for the arcs, or for the two sides of a scratch that has none yet.
+/// The scratch can still be used.
 pub fn route(
     alloc: Global,
     hierarchy: &Hierarchy,
@@ -72,7 +77,7 @@ pub fn route(
     answer
 }
 
-/// The route, as [`route`] gives it, by these two sides.
+/// Returns the route, as [`route`] does, with these two sides.
 pub(crate) fn route_in(
     alloc: Global,
     hierarchy: &Hierarchy,
@@ -98,7 +103,7 @@ pub(crate) fn route_in(
     answer
 }
 
-/// Leaves both sides as the next query wants them.
+/// Leaves both sides clean for the next query.
 fn clean(up: &mut Search, down: &mut Search)
     requires rooms { IsRoom up.old × IsRoom down.old }
     ensures up { IsClean (length up.old.labels.costs) up.new × (up.new.side ≡ up.old.side) }
@@ -108,7 +113,7 @@ fn clean(up: &mut Search, down: &mut Search)
     down.clean();
 }
 
-/// The route over the node where the searches meet.
+/// Returns the route over the node where the searches meet.
 fn route_over(
     alloc: Global,
     hierarchy: &Hierarchy,

@@ -1,4 +1,4 @@
-//! The room that queries take.
+//! The room that queries use.
 ghost use Rattle.std.specs.Prelude.{◌≡◌, IfOk};
 
 use crate::search::Search;
@@ -7,7 +7,8 @@ use crate::weight_search::WeightSearch;
 use std::alloc::{AllocError, Global};
 use std::marker::Model;
 
-/// Two searches for costs, one a side, as they are between queries. Contracts see the number of nodes for which they have room.
+/// Two searches for costs, one for each side, as they are between queries. Contracts see the number of
+/// nodes that they have room for.
 #[derive(Drop)]
 pub(crate) struct Sides {
     pub(crate) up: Search,
@@ -26,7 +27,7 @@ impl Model for Sides {
 }
 
 impl Sides {
-    /// Two clean searches with room for `nodes` nodes.
+    /// Makes two clean searches with room for `nodes` nodes.
     pub(crate) fn new(alloc: Global, nodes: u32) -> Result<Sides, AllocError>
         ensures { IfOk result (λ s. s ≡ nodes) }
     {
@@ -36,16 +37,17 @@ impl Sides {
     }
 }
 
-/// Room for queries in a hierarchy of a fixed number of nodes, which contracts see as that number. One
-/// serves any number of queries after one another: each leaves it clean, in as many steps as it touched
-/// nodes.
+/// Room for queries in a hierarchy with a fixed number of nodes. Contracts see that number.
+///
+/// A scratch serves any number of queries, one after another. Each query leaves it clean, in a step for
+/// each node that it touched.
 #[derive(Drop)]
 pub struct Scratch {
-    /// For distances and search spaces.
+    /// The room for distances and search spaces.
     pub(crate) weights: WeightSearch,
     /// Where search spaces are gathered.
     pub(crate) found: Vec<(u32, u64)>,
-    /// For routes and spreads: made for the first of them.
+    /// The room for routes and spreads. It is made for the first of them.
     sides: Option<Sides>,
     nodes: u32,
 }
@@ -62,12 +64,14 @@ impl Model for Scratch {
 }
 
 impl Scratch {
-    /// Room for queries among `nodes` nodes. It takes a number of steps and an amount of memory that
-    /// grow with them; distances take no more, search spaces what their entries take, and the first route or spread
-    /// as much twice again.
+    /// Makes room for queries among `nodes` nodes, in a number of steps that grows with `nodes`.
+    ///
+    /// It requests 64 bytes for each node, and writes 24 of them. Distances take no more, and search spaces
+    /// take the memory of their entries. The first route or spread requests 104 bytes more for each node,
+    /// and writes 48 of them before it searches.
     ///
     /// # Errors
-    /// `AllocError` where there is no memory.
+    /// `AllocError` if there is no memory, or `nodes` is more than 2^31 - 1.
     pub fn new(alloc: Global, nodes: u32) -> Result<Scratch, AllocError>
         ensures { IfOk result (λ s. s ≡ nodes) }
     {
@@ -80,7 +84,7 @@ impl Scratch {
         })
     }
 
-    /// Takes the two sides out, and makes them where there are none yet.
+    /// Takes the two sides out, or makes them if there are none yet.
     pub(crate) fn take_sides(&mut self, alloc: Global) -> Result<Sides, AllocError>
         ensures sides { IfOk result (λ sides. sides ≡ self.old) }
         ensures same { self.new ≡ self.old }

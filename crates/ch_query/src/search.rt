@@ -17,19 +17,21 @@ use ch_hierarchy::{Hierarchy, RankedLeg};
 use ch_queue::KeyQueue;
 use std::alloc::{AllocError, Global};
 
-/// What one side of a query knows, and the room for it.
+/// The state of one side of a query, and the room for it.
 #[derive(Drop)]
 pub(crate) struct Search {
     pub(crate) side: Side,
     pub(crate) source: u32,
-    /// Whether a node to which a higher node shows a cheaper way is left unexpanded. A spread, which has to
-    /// find all least paths, does not stall.
+    /// Whether the search leaves a node unexpanded if a higher node shows a cheaper way to it. A spread has
+    /// to find all least paths, so it does not stall.
     pub(crate) stalls: bool,
-    /// The most that a path may weigh. A leg that would make it weigh more is not taken, so no node that is
+    /// The most that a path may weigh. A leg that makes a path heavier is not taken, so no node that is
     /// farther away gets a key.
     pub(crate) most: u64,
-    /// By rank of a node: the least cost known of a path from the source to it, and the least numbered node before it on a path of
-    /// that cost. High nodes, which most searches reach, so stand together.
+    /// By rank of a node: its label. This has the least known cost of a path from the source, and the least
+    /// numbered node before it on a path of that cost.
+    ///
+    /// Most searches reach the high nodes. Their labels are together, because they are by rank.
     pub(crate) labels: Labels,
     /// The ranks of the nodes that are reached and not settled, by cost.
     pub(crate) queue: KeyQueue<Cost>,
@@ -38,7 +40,7 @@ pub(crate) struct Search {
 }
 
 impl Search {
-    /// A clean search, with room for `nodes` nodes.
+    /// Makes a clean search, with room for `nodes` nodes.
     pub(crate) fn new(alloc: Global, side: Side, nodes: u32) -> Result<Search, AllocError>
         ensures clean { IfOk result (λ x. IsClean nodes x) }
         ensures side { IfOk result (λ x. x.side ≡ side) }
@@ -71,7 +73,7 @@ impl Search {
         self.begin_up_to(hierarchy, source, stalls, MOST_WEIGHT);
     }
 
-    /// Puts the source into a clean search for paths that weigh no more than `most`.
+    /// Puts the source into a clean search for paths that weigh at most `most`.
     pub(crate) fn begin_up_to(
         &mut self,
         hierarchy: &Hierarchy,
@@ -96,7 +98,7 @@ impl Search {
         self.reach(hierarchy.rank(source), nothing, source);
     }
 
-    /// Writes what is known of the node of this rank, which is not settled.
+    /// Writes the cost and the parent of the node of this rank, which is not settled.
     fn reach(&mut self, rank: u32, cost: Cost, parent: u32)
         requires rank { rank < length self.old.labels.costs }
         requires weight { cost.weight ≤ MOST_WEIGHT }
@@ -118,7 +120,8 @@ impl Search {
         self.labels.set(rank, cost, parent);
     }
 
-    /// Takes a leg of `node`, which was settled at `cost`.
+    /// Takes a leg of `node`, which was settled at `cost`: lowers the cost at its other end, or the parent
+    /// at equal cost.
     fn relax(&mut self, node: u32, cost: Cost, leg: RankedLeg)
         requires rank { leg.rank < length self.old.labels.costs }
         requires room { IsRoom self.old }
@@ -193,8 +196,8 @@ impl Search {
         self.expand(hierarchy, node, rank, cost);
     }
 
-    /// Whether this side is to settle next: it has the least key of both, or neither has one. Of equal keys this
-    /// side's leads.
+    /// Whether this side settles the next node: it has the least key of both sides, or neither has a key.
+    /// At equal keys this side comes first.
     pub(crate) fn leads(&self, other: &Search) -> bool
         ensures here { result ≡ true → LeadsKeys self.now.queue other.now.queue }
         ensures there { result ≡ false → LeadsKeys other.now.queue self.now.queue }
@@ -206,7 +209,7 @@ impl Search {
         }
     }
 
-    /// Takes all that is known away, in as many steps as nodes were touched.
+    /// Removes all that the search knows, in a step for each touched node.
     pub(crate) fn clean(&mut self)
         requires room { IsRoom self.old }
         ensures clean { IsClean (length self.old.labels.costs) self.new }
@@ -219,7 +222,7 @@ impl Search {
     }
 }
 
-/// The most that the weight of a path within the limit may be.
+/// Returns the most that a path within the limit may weigh.
 pub(crate) fn most_within(within: Option<u64>) -> u64
     ensures { IsMost within result }
 {

@@ -39,7 +39,8 @@ impl Side {
         }
     }
 
-    /// The number of a node of this rank in this direction: twice the rank, and one more where it is down.
+    /// The number of a node of this rank in this direction: twice the rank, plus one for the direction
+    /// down.
     #[inline]
     pub(crate) fn state(self, rank: u32) -> u32
         requires { rank < 2 ^ 31 }
@@ -51,7 +52,7 @@ impl Side {
         }
     }
 
-    /// The direction of such a number, half of which is the rank.
+    /// The direction of such a number. Half of the number, rounded down, is the rank.
     #[inline]
     pub(crate) fn of_state(state: u32) -> Side
         ensures { state ≡ state_of result (state / 2) }
@@ -59,14 +60,14 @@ impl Side {
         if state % 2 == 0 { Side::Up } else { Side::Down }
     }
 
-    /// The legs of the node of this rank in this direction, by the ranks of their nodes.
+    /// The legs of the node of this rank in this direction. Each leg has the rank of its other node.
     #[inline]
     pub(crate) fn ranked_legs(self, hierarchy: &Hierarchy, rank: u32) -> &[RankedLeg]
         requires { rank < nodes_of hierarchy.now }
         ensures row { (v : ℕ) → v < nodes_of hierarchy.now → rank_of hierarchy.now v ≡ rank → result.now ≡ map (ranked_leg hierarchy.now) (row (rows_of hierarchy.now self) v) }
         ensures levelled { IsLevelled hierarchy.now }
     {
-        // The proof learns from this call that the hierarchy has levels.
+        // This call tells the proof that the hierarchy has levels.
         let _ = hierarchy.nodes();
         hierarchy.ranked_legs(self.state(rank))
     }

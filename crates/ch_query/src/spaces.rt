@@ -1,4 +1,4 @@
-//! Search spaces: searches by weights to their end that stall.
+//! Search spaces: searches by weights that stall, and run until no node is left.
 ghost use Rattle.std.specs.Prelude.{◌≡◌, ◌<◌, ◌≤◌, length, All, IfOk, OnOk};
 ghost use Rattle.std.specs.List.{AllZip};
 ghost use Rattle.ch_graph.specs.declared.limits.TheConstants.{MOST_WEIGHT};
@@ -17,7 +17,7 @@ use ch_hierarchy::Hierarchy;
 use std::alloc::{AllocError, Global};
 
 impl WeightSearch {
-    /// Puts a node into a clean search, for paths on this side that weigh no more than `most`.
+    /// Puts a node into a clean search on this side, for paths that weigh at most `most`.
     fn begin_on(&mut self, hierarchy: &Hierarchy, side: Side, source: u32, most: u64)
         requires clean { IsCleanFor (nodes_of hierarchy.now) self.old }
         requires source { source < nodes_of hierarchy.now }
@@ -32,8 +32,9 @@ impl WeightSearch {
         self.reach(side.state(hierarchy.rank(source)), 0);
     }
 
-    /// Settles all nodes that can be reached on this side, but what is reached through stalled nodes alone. `found` then
-    /// has the ranks and weights of those at which the search did not stall.
+    /// Settles all nodes that can be reached on this side, except those that are reached only through
+    /// stalled nodes. Afterwards `found` has the ranks and weights of the nodes where the search did not
+    /// stall.
     fn explore(
         &mut self,
         hierarchy: &Hierarchy,
@@ -56,8 +57,10 @@ impl WeightSearch {
         Ok(())
     }
 
-    /// The search space of a node on this side within the limit, by ranks. It is gathered in `found`, whose room stays, and handed
-    /// out as a list of its length. The search is clean afterwards, also where there is no memory.
+    /// Returns the search space of a node on this side within the limit, by ranks.
+    ///
+    /// It is gathered in `found`, whose room stays, and copied into a list of its length. The search is
+    /// clean afterwards, even if memory ran out.
     fn space(
         &mut self,
         alloc: Global,
@@ -81,11 +84,11 @@ impl WeightSearch {
     }
 }
 
-/// The entries of a [`search_space`] in any order, with the ranks of nodes in place of the nodes: how many nodes are
-/// higher.
+/// Returns the entries of a [`search_space`] in any order, with ranks in place of nodes. The rank of a node
+/// is the number of higher nodes.
 ///
 /// # Errors
-/// `AllocError` where there is no memory for the list.
+/// `AllocError` if there is no memory for the list.
 pub fn ranked_space(
     alloc: Global,
     hierarchy: &Hierarchy,
@@ -104,17 +107,20 @@ pub fn ranked_space(
     weights.space(alloc, hierarchy, found, source, side, within)
 }
 
-/// The nodes that `source` reaches by legs to higher nodes in this direction, with the weights of paths,
-/// ordered by node. The hierarchy is right for some graph, and the scratch is for as many nodes.
+/// Returns nodes that `source` reaches by legs to higher nodes in this direction, with the weights of
+/// paths, in order of node. The hierarchy is right for some graph, and the scratch has room for its number
+/// of nodes.
 ///
-/// It searches as [`distance`](crate::distance) does, but to its end: a reached node to which a higher node
-/// shows a lighter way is not expanded, and has no entry ("stall on demand", Geisberger, Sanders, Schultes
-/// and Delling 2008). Each node whose least path is a least walk of the graph has an entry, with its weight,
-/// and those are the nodes over which distances lead. With a limit `within`, entries weigh at most that, and
-/// each such node has one whose weight does. A [`spread`](crate::spread) has the least paths to all.
+/// It searches as [`distance`](crate::distance) does, but until no node is left. If a higher node shows a
+/// lighter way to a node, that node is not expanded and has no entry. This is "stall on demand"
+/// (Geisberger, Sanders, Schultes and Delling 2008).
+///
+/// Each node whose least path is a least walk of the graph has an entry with that weight. Distances lead
+/// over these nodes. With a limit `within`, entries weigh at most that, and each such node whose weight is
+/// at most that has an entry. A [`spread`](crate::spread) has the least paths to all nodes.
 ///
 /// # Errors
-/// `AllocError` where there is no memory for the list.
+/// `AllocError` if there is no memory for the list.
 pub fn search_space(
     alloc: Global,
     hierarchy: &Hierarchy,
@@ -135,7 +141,7 @@ pub fn search_space(
     Ok(list)
 }
 
-/// The list with nodes in place of their ranks.
+/// Returns the list with nodes in place of their ranks.
 fn named(
     alloc: Global,
     hierarchy: &Hierarchy,

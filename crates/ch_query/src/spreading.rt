@@ -1,4 +1,4 @@
-//! Searches without an end.
+//! Searches without a target.
 ghost use Rattle.std.specs.Prelude.{◌≡◌, ◌<◌, ℕ, List, IfOk, map};
 ghost use Rattle.ch_hierarchy.specs.Hierarchy.{nodes_of};
 ghost use Rattle.ch_query.specs.Search.{IsEmpty};
@@ -15,7 +15,7 @@ use ch_hierarchy::Hierarchy;
 use std::alloc::{AllocError, Global};
 
 impl Search {
-    /// Settles all nodes that can be reached, but what is reached through stalled nodes alone.
+    /// Settles all nodes that can be reached, except those that are reached only through stalled nodes.
     pub(crate) fn explore(&mut self, hierarchy: &Hierarchy)
         requires underway { IsUnderway hierarchy.now self.old }
         ensures underway { IsUnderway hierarchy.now self.new }
@@ -27,7 +27,7 @@ impl Search {
         }
     }
 
-    /// The touched nodes, in order.
+    /// Returns the touched nodes, in order.
     fn touched_nodes(&self, alloc: Global, hierarchy: &Hierarchy) -> Result<Vec<u32>, AllocError>
         requires underway { IsUnderway hierarchy.now self.now }
         ensures { IfOk result (λ nodes. AreReached (costs_of hierarchy.now self.now) nodes.items) }
@@ -40,7 +40,7 @@ impl Search {
         Ok(nodes)
     }
 
-    /// The touched nodes with their costs, in order of node.
+    /// Returns the touched nodes with their costs, in order of node.
     fn listed(&self, alloc: Global, hierarchy: &Hierarchy) -> Result<Vec<(u32, Cost)>, AllocError>
         requires underway { IsUnderway hierarchy.now self.now }
         ensures { IfOk result (λ list. (nodes : List ℕ) × AreReached (costs_of hierarchy.now self.now) nodes × (list.items ≡ map (entry (costs_of hierarchy.now self.now)) nodes)) }
@@ -55,8 +55,8 @@ impl Search {
         Ok(list)
     }
 
-    /// All least costs from the source within the limit. The search is clean afterwards, also where there is
-    /// no memory.
+    /// Returns all least costs from the source within the limit. The search is clean afterwards, even if
+    /// memory ran out.
     fn spread(
         &mut self,
         alloc: Global,
@@ -78,12 +78,14 @@ impl Search {
     }
 }
 
-/// The nodes that `source` reaches by legs to higher nodes in this direction, with the least costs of the
-/// paths, ordered by node: all of them, or those whose least path weighs at most `within`. With such a limit the
-/// search ends where the least weight that is left is more.
+/// Returns the nodes that `source` reaches by legs to higher nodes in this direction, with the least costs
+/// of the paths, in order of node.
+///
+/// With a limit `within`, these are the nodes whose least path weighs at most that. The search then takes
+/// no leg that makes a path heavier.
 ///
 /// # Errors
-/// `AllocError` where there is no memory for the list, or for the two sides of a scratch that had none yet.
+/// `AllocError` if there is no memory for the list, or for the two sides of a scratch that has none yet.
 pub fn spread(
     alloc: Global,
     hierarchy: &Hierarchy,

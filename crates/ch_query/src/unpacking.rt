@@ -1,4 +1,4 @@
-//! Legs replaced by the arcs for which they stand.
+//! Legs replaced by the arcs that they stand for.
 ghost use Rattle.std.specs.Prelude.{◌≡◌, ◌+◌, ◌≤◌, vec_len, vec_capacity, Some};
 ghost use Rattle.ch_query.specs.Distance.{IsKeptForSome};
 ghost use Rattle.ch_query.specs.Unpacking.{IsPending, ArePending, HasRoomToUnpack, ArePendingArcs, IsSplit};
@@ -7,7 +7,7 @@ use crate::legs::leg_at;
 use ch_graph::{Cost, InArc};
 use ch_hierarchy::{Hierarchy, Leg};
 
-/// A leg that is to be unpacked, with both of its nodes.
+/// A leg that still has to be unpacked, with both of its nodes.
 #[derive(Clone, Copy)]
 pub(crate) struct PendingLeg {
     pub(crate) from: u32,
@@ -17,7 +17,7 @@ pub(crate) struct PendingLeg {
 }
 
 impl PendingLeg {
-    /// The leg between these nodes, of which its row names one.
+    /// Makes a pending leg of a leg of a row and its two nodes.
     pub(crate) fn new(from: u32, to: u32, leg: Leg) -> PendingLeg
         ensures { result ≡ record { from = from; to = to; cost = leg.cost; middle = leg.middle } }
     {
@@ -30,7 +30,7 @@ impl PendingLeg {
     }
 }
 
-/// Appends the arcs for which the legs stand, from the last leg on. No leg is left.
+/// Appends the arcs that the legs stand for, from the last leg on. Afterwards no leg is left.
 pub(crate) fn unpack(hierarchy: &Hierarchy, pending: &mut Vec<PendingLeg>, arcs: &mut Vec<InArc>)
     requires kept { IsKeptForSome hierarchy.now }
     requires legs { ArePending hierarchy.now pending.old.items }
@@ -49,7 +49,7 @@ pub(crate) fn unpack(hierarchy: &Hierarchy, pending: &mut Vec<PendingLeg>, arcs:
     }
 }
 
-/// Puts the two legs of which a shortcut was made in its place, the first one on top.
+/// Puts the two legs of a shortcut in place of the shortcut, with the first leg on top.
 fn split(hierarchy: &Hierarchy, leg: PendingLeg, middle: u32, pending: &mut Vec<PendingLeg>)
     requires kept { IsKeptForSome hierarchy.now }
     requires leg { IsPending hierarchy.now leg }

@@ -1,8 +1,11 @@
-//! Distances by weights alone: one search from a source along legs to higher nodes, and back from a target along legs from them.
+//! Distances by weights alone: one search from a source along legs to higher nodes, and back from a target
+//! along legs from higher nodes.
 //!
-//! Of all walks of least weight the distance is the weight, so neither arcs are counted nor parents kept. A node has a state on each side,
-//! which stand beside each other, and one queue has the states of both sides: so no two queues are compared, and what the other side
-//! knows of a node is at hand.
+//! The distance is the weight of every walk of least weight. So the search counts no arcs and keeps no
+//! parents.
+//!
+//! A node has a state on each side, and the two states are next to each other. One queue has the states of
+//! both sides. So no two queues are compared, and the weight on the other side is quick to read.
 ghost use Rattle.std.specs.Prelude.{◌≡◌, ℕ, ◌<◌, ◌≤◌, length, slice_set, map, Some, true, false, IfOk, MatchOption};
 ghost use Rattle.ch_graph.specs.declared.limits.TheConstants.{MOST_WEIGHT};
 ghost use Rattle.ch_hierarchy.specs.Hierarchy.{nodes_of, IsLevelled};
@@ -17,17 +20,19 @@ use ch_hierarchy::Hierarchy;
 use ch_queue::KeyQueue;
 use std::alloc::{AllocError, Global};
 
-/// The weight of a state that is not reached: more than two paths weigh together, with room to add another.
+/// The weight of a state that is not reached. It is more than two paths weigh together, and adding another
+/// weight does not overflow.
 pub(crate) const UNREACHED: u64 = 1 << 62;
 
-/// What a search for a distance knows, and the room for it.
+/// The state of a search for a distance, and the room for it.
 #[derive(Drop)]
 pub(crate) struct WeightSearch {
     pub(crate) start: u32,
     pub(crate) end: u32,
-    /// The most that a path may weigh. A leg that would make it weigh more is not taken, so no state that is farther away gets a key.
+    /// The most that a path may weigh. A leg that makes a path heavier is not taken, so no state that is
+    /// farther away gets a key.
     pub(crate) most: u64,
-    /// By state: the least weight known of a path from the start to its node, or from there to the end.
+    /// By state: the least known weight of a path from the start to its node, or from its node to the end.
     pub(crate) known: Vec<u64>,
     /// The states that are reached and not settled, by weight.
     pub(crate) queue: KeyQueue<u64>,
@@ -36,7 +41,7 @@ pub(crate) struct WeightSearch {
 }
 
 impl WeightSearch {
-    /// A clean search, with room for `nodes` nodes.
+    /// Makes a clean search, with room for `nodes` nodes.
     pub(crate) fn new(alloc: Global, nodes: u32) -> Result<WeightSearch, AllocError>
         ensures { IfOk result (λ x. IsCleanFor nodes x) }
     {
@@ -57,7 +62,7 @@ impl WeightSearch {
         })
     }
 
-    /// Gives a state this weight.
+    /// Gives a state this weight, and puts it into the queue.
     #[inline]
     pub(crate) fn reach(&mut self, state: u32, weight: u64)
         requires state { state < length self.old.known.items }
@@ -79,7 +84,7 @@ impl WeightSearch {
         self.known[state as usize] = weight;
     }
 
-    /// Gives a state the weight of a path to it, where that is less than what is known.
+    /// Gives a state the weight of a path to it, if that is less than the known weight.
     #[inline]
     fn relax(&mut self, state: u32, weight: u64)
         requires state { state < length self.old.known.items }
@@ -108,7 +113,8 @@ impl WeightSearch {
         }
     }
 
-    /// Whether a leg from a higher node shows a way to the node of this rank that weighs less than `weight`.
+    /// Whether a leg from a higher node shows a way to the node of this rank that weighs less than
+    /// `weight`.
     #[inline]
     fn is_stalled(&self, hierarchy: &Hierarchy, side: Side, rank: u32, weight: u64) -> bool
         requires rank { rank < nodes_of hierarchy.now }
@@ -124,8 +130,8 @@ impl WeightSearch {
         false
     }
 
-    /// Takes the legs of the state that was settled last, unless the search stalls at it ("stall on demand", Geisberger,
-    /// Sanders, Schultes and Delling 2008), and says whether it did.
+    /// Takes the legs of the state that was settled last, unless the search stalls at it ("stall on
+    /// demand", Geisberger, Sanders, Schultes and Delling 2008). Returns whether it took them.
     #[inline]
     pub(crate) fn settle(
         &mut self,
@@ -146,7 +152,7 @@ impl WeightSearch {
         true
     }
 
-    /// Takes out the state of least weight, where that is less than `limit`.
+    /// Takes out the state of least weight, if that weight is less than `limit`.
     #[inline]
     fn pop_below(&mut self, limit: u64) -> Option<(u64, u32)>
         ensures { MatchOption result (AreKeysFrom self.old.queue limit × (self.new ≡ self.old)) (λ e. IsLeastState self.old.queue e × (e.0 < limit) × (self.new ≡ without_state self.old e.1)) }
@@ -158,7 +164,8 @@ impl WeightSearch {
         self.queue.pop()
     }
 
-    /// Settles the state of least weight, where that is less than the least sum, and says whether it did.
+    /// Settles the state of least weight, if that weight is less than the least sum. Returns whether it
+    /// did.
     fn advance(&mut self, hierarchy: &Hierarchy, least: &mut u64) -> bool
         requires { IsLeastSoFar hierarchy.now self.old least.old }
         ensures least { IsLeastSoFar hierarchy.now self.new least.new }
@@ -177,7 +184,7 @@ impl WeightSearch {
         true
     }
 
-    /// Puts the ends into a clean search.
+    /// Puts both ends into a clean search.
     fn begin(&mut self, hierarchy: &Hierarchy, start: u32, end: u32)
         requires clean { IsCleanFor (nodes_of hierarchy.now) self.old }
         requires start { start < nodes_of hierarchy.now }
@@ -193,7 +200,7 @@ impl WeightSearch {
         self.reach(Side::Down.state(hierarchy.rank(end)), 0);
     }
 
-    /// Takes all that is known away, in as many steps as states were reached.
+    /// Removes all that the search knows, in a step for each state that was reached.
     pub(crate) fn clean(&mut self)
         requires { (n : ℕ) × IsSizedFor n self.old }
         ensures { (n : ℕ) → IsSizedFor n self.old → IsCleanFor n self.new }
@@ -204,7 +211,8 @@ impl WeightSearch {
         }
     }
 
-    /// The least weight of going up from `start` and down to `end`, or `None` where no node is reached from both.
+    /// Returns the least weight of going up from `start` and down to `end`, or `None` if no node is reached
+    /// from both.
     pub(crate) fn least_weight(
         &mut self,
         hierarchy: &Hierarchy,

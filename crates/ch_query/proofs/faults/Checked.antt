@@ -1,4 +1,4 @@
--- What `check` answers.
+-- The answers of `check`.
 use Rattle.std.proofs.Common.{get_or, ◌≡◌, ℕ, ◌<◌, All, Contains, Option, Some, None, refl, sym, subst, inl, inr}
 use Rattle.std.specs.Prelude.{slice_get, Result, Ok, Err, IfOk, IfErr}
 use Rattle.std.proofs.lemmas.Bool.{false≢true}
@@ -27,7 +27,7 @@ use Rattle.ch_query.proofs.routing.Rows.{has_row}
 some_or_none : (v : ℕ) (m : Option ℕ) → m ≡ Some v → m ≡ None → ⊥
 some_or_none v m e f = cc
 
--- what is read past the end
+-- the default leg of a read past the end
 no_leg : SavedLeg
 no_leg = record { from = 0; to = 0; cost = record { weight = 0; arcs = 0 }; middle = None }
 
@@ -35,7 +35,7 @@ no_arc : InArc
 no_arc = record { from = 0; to = 0; weight = 0 }
 
 module _ (g : Network) (s : OrderAndLegs) (H : LevelsAndLegs) (named : NamesFor g s H) where
-  -- where the leg at a place is right it has no fault
+  -- if the leg at a place is right, it has no fault
   base_gone : (p : ℕ) → ((l : SavedLeg) → slice_get s.legs p ≡ Some l → IsArcIfBase g l) → HasFault g s (Base p) → ⊥
   base_gone p right (l, none, (at, (K, names, bad))) = bad (subst (IsFounded g K l.from l.to l.cost) (sym none) (right l at none))
 
@@ -49,7 +49,7 @@ module _ (g : Network) (s : OrderAndLegs) (H : LevelsAndLegs) (named : NamesFor 
   lower_gone : (v : ℕ) → IsCovered H v → HasFault g s (Lower v) → ⊥
   lower_gone v right (lt, (K, names, bad)) = bad (subst (λ q. IsCovered q v) (one_saved s H K named.0 names) right)
 
-  -- where it is wrong the fault is there
+  -- if the leg at a place is wrong, it has the fault
   base_there : (i : ℕ) → IsFirstFailing (IsArcIfBase g) s.legs i → HasFault g s (Base i)
   base_there i f = at l.middle refl
     where
@@ -80,7 +80,7 @@ module _ (g : Network) (s : OrderAndLegs) (H : LevelsAndLegs) (named : NamesFor 
     (H, named.0, λ served. f.fails no_arc (λ apart. served)),
   )
 
-  -- the first of each kind, where the kinds before are not there
+  -- the first such fault is the first of all, if no earlier kind has a fault
   pub base_first : (i : ℕ) → IsFirstFailing (IsArcIfBase g) s.legs i → IsFirstFault g s (Base i)
   base_first i f = first_at g s (Base i) (none_early g s H named) (base_there i f) (λ p lt h. base_gone p (λ l at. held_at (IsArcIfBase g) s.legs p l (λ d. f.before p d lt) at) h)
 
@@ -110,7 +110,7 @@ module _ (g : Network) (s : OrderAndLegs) (H : LevelsAndLegs) (named : NamesFor 
         founded u w c None has = All-contains (IsArcIfBase g) s.legs (record { from = u; to = w; cost = c; middle = None }) bases has refl
         founded u w c (Some v) has = All-contains (IsSumIfShortcut H) s.legs (record { from = u; to = w; cost = c; middle = Some v }) sums has v refl
 
-        -- the hierarchy is right where none is there
+        -- if there is no such fault, the hierarchy is right for the graph
         pub all_kept : ((v : ℕ) → v < nodes_of H → IsCovered H v) → IsKept g H
         all_kept covered = record {
           nodes = named.1;
@@ -126,18 +126,18 @@ arc_ends_within g H limits same a has =
     let ends = (All-contains (IsArcWithin g.nodes) g.arcs a limits.each has).ends in
     (subst (λ n. a.from < n) (sym same) ends.0, subst (λ n. a.to < n) (sym same) ends.1)
 
--- what answers as `check` does is Ok exactly where there is no fault
+-- a result with the answers of `check` is Ok exactly if there is no fault
 pub accepted_by : (g : Network) (s : OrderAndLegs) (r : Result LevelsAndLegs CheckError) → Checks g s r → IsOkWhere r (IsFaultless g s)
 accepted_by g s (Ok H) checks = (λ _. no_fault g s H ((checks.0 H).0 refl), λ _. inl refl)
 accepted_by g s (Err (Fault f)) checks = (λ ok. absurd (false≢true ok), λ none. absurd (none f ((checks.1 f).0 refl).has))
 accepted_by g s (Err NoMemory) checks = (λ ok. absurd (false≢true ok), λ _. inr refl)
 
--- what it gives is named and right
+-- its value is the named hierarchy, and is right for the graph
 pub kept_by : (g : Network) (s : OrderAndLegs) (r : Result LevelsAndLegs CheckError) → Checks g s r → IfOk r (NamesKept g s)
 kept_by g s (Ok H) checks = (checks.0 H).0 refl
 kept_by g s (Err e) checks = tt
 
--- what answers from a founded hierarchy as the search for pairs does answers as `check` does
+-- from a hierarchy whose legs and arcs are right, the answer of the search for pairs gives the answer of `check`
 pub checks_founded : (g : Network) (s : OrderAndLegs) (H : LevelsAndLegs) (r : Result LevelsAndLegs CheckError) → NamesFounded g s H →
     IfOk r (λ K. (K ≡ H) × ((v : ℕ) → v < nodes_of K → IsCovered K v)) → IfErr r (IsIfFault (λ f. (v : ℕ) × (f ≡ Lower v) × IsFirstUncovered H v)) → Checks g s r
 checks_founded g s H (Ok K) founded value fault =

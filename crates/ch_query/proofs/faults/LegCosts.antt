@@ -1,4 +1,4 @@
--- What the legs of rows cost.
+-- The costs of the legs of rows.
 use Rattle.std.proofs.Common.{eqb, ◌≡◌, ℕ, ◌<◌, ◌≤◌, List, Contains, Option, Some, None, refl, sym, ◌∙◌, ap, subst, arith, inl, inr}
 use Rattle.std.specs.Prelude.{slice_index, ◌↔◌, Bool, true, false, not, IsTrue, ◌&&◌}
 use Rattle.std.proofs.lemmas.Bool.{false≢true, eqb-true}
@@ -21,19 +21,19 @@ use Rattle.ch_query.specs.Checking.{IsRowCost, IsLegCost, HasLeg, IsSumOver}
 use Rattle.ch_query.proofs.one_side.Expanding.{leg_up}
 use Rattle.ch_query.proofs.routing.Rows.{row_one, rows_ordered}
 
--- where both hold, each holds
+-- if a conjunction of tests holds, each test holds
 both_true : (a b : Bool) → (a && b) ≡ true → (a ≡ true) × (b ≡ true)
 both_true true b e = (refl, e)
 both_true false b e = absurd (false≢true e)
 
--- a comparison of two costs tells whether they are equal
+-- the test of equality of two costs is correct
 pub equal_costs : (a b : Cost) (r : Bool) → r ≡ (eqb a.weight b.weight && eqb a.arcs b.arcs) → IsTrue r ↔ (a ≡ b)
 equal_costs a b r is = (
   λ yes. let both = both_true _ _ (sym is ∙ yes) in same_costs a b (eqb-true _ _ both.0) (eqb-true _ _ both.1),
   λ same. is ∙ subst (λ (q : Cost). (eqb a.weight q.weight && eqb a.arcs q.arcs) ≡ true) same (λ i. eqb-refl a.weight i && eqb-refl a.arcs i),
 )
 
--- the one leg decides
+-- the only leg decides whether there is one within the bound
 pub within_some : (H : LevelsAndLegs) (u w : ℕ) (most c : Cost) (r : Bool) → IsLegCost H u w (Some c) → (IsTrue r ↔ IsBelow most c) → IsTrue (not r) ↔ HasLeg H u w most
 within_some H u w most c true ((m, leg), one) tells =
     (λ no. absurd (false≢true no), λ h. absurd (IsBelow_not most c (tells.0 refl) (subst (λ q. IsAtMost q most) (one h.0 h.1 h.2) h.3)))
@@ -45,12 +45,12 @@ within_some H u w most c false ((m, leg), one) tells = (λ _. (c, m, leg, within
       | inr below ↦ absurd (false≢true (tells.1 below))
     ]
 
--- where there is no leg, there is none within a bound
+-- if there is no leg, there is none within the bound
 pub within_none : (H : LevelsAndLegs) (u w : ℕ) (most : Cost) → IsLegCost H u w None → HasLeg H u w most → ⊥
 within_none H u w most none (c, m, leg, le) = none c m leg
 
 module _ (H : LevelsAndLegs) (k : IsLevelled H) where
-  -- the leg to a node that is no lower stands in the up row
+  -- the leg to a node that is no lower is in the up row
   pub cost_up : (u w : ℕ) → slice_index H.level u ≤ slice_index H.level w → (legs : List Leg) → legs ≡ row H.up u → (answer : Option Cost) → IsRowCost legs w answer → IsLegCost H u w answer
   cost_up u w le legs is None none = λ c m leg. at leg
     where
@@ -67,18 +67,18 @@ module _ (H : LevelsAndLegs) (k : IsLevelled H) where
           sym xcost ∙ ap (λ (q : Leg). q.cost) (row_one (row H.up u) (rows_ordered H k Up u) x l xhas here (xnode ∙ sym node)) ∙ cost
       at (x, xcost, middle, inr (xhas, xnode)) = absurd (let rise = (leg_up H k Down w x xhas).higher in let e = ap (slice_index H.level) xnode in omega arith)
 
--- what a leg costs, it costs the other way
+-- the cost of a leg is its cost in the other direction
 leg_cost_turned : (H : LevelsAndLegs) (u w : ℕ) (answer : Option Cost) → IsLegCost (turned_hierarchy H) w u answer → IsLegCost H u w answer
 leg_cost_turned H u w None none = λ c m leg. none c m (turned_leg H u w c m leg)
 leg_cost_turned H u w (Some c) (one, same) = ((one.0, turned_leg (turned_hierarchy H) w u c one.0 one.1), λ d m leg. same d m (turned_leg H u w d m leg))
 
--- the leg from a node that is no lower stands in the down row
+-- the leg from a node that is no lower is in the down row
 pub cost_down : (H : LevelsAndLegs) (k : IsLevelled H) (u w : ℕ) → slice_index H.level w ≤ slice_index H.level u → (legs : List Leg) → legs ≡ row H.down w →
     (answer : Option Cost) → IsRowCost legs u answer → IsLegCost H u w answer
 cost_down H k u w le legs is answer cost = leg_cost_turned H u w answer (cost_up (turned_hierarchy H) (turned_levelled H k) w u le legs is answer cost)
 
 module _ (H : LevelsAndLegs) (k : IsLevelled H) where
-  -- where the middle has both legs
+  -- if the middle has both legs, the leg is their sum exactly if the costs add up
   pub sums_over : (leg : SavedLeg) (v : ℕ) (down up : List Leg) → down ≡ row H.down v → up ≡ row H.up v → (into out : Cost) → IsRowCost down leg.from (Some into) → IsRowCost up leg.to (Some out) →
       (cost_sum into out ≡ leg.cost → IsSumOver H leg v) × (IsSumOver H leg v → cost_sum into out ≡ leg.cost)
   sums_over leg v down up isd isu into out (a, hasa, ata, costa) (b, hasb, atb, costb) = (
@@ -98,7 +98,7 @@ module _ (H : LevelsAndLegs) (k : IsLevelled H) where
           let q : y.cost ≡ out = ap (λ (q : Leg). q.cost) (row_one (row H.up v) (rows_ordered H k Up v) y b hasy hereb (aty ∙ sym atb)) ∙ costb in
           sym (e ∙ (λ i. cost_sum (p i) (q i)))
 
-  -- what a row's leg costs is within the limits
+  -- the cost of a leg of a row is within the limits
   pub cost_bounds : (side : Side) (v x : ℕ) (legs : List Leg) → legs ≡ row (rows_of H side) v → (c : Cost) → IsRowCost legs x (Some c) → (c.weight ≤ MOST_WEIGHT) × (c.arcs < nodes_of H)
   cost_bounds side v x legs is c (l, has, node, cost) =
       let up = leg_up H k side v l (subst (λ xs. Contains xs l) is has) in

@@ -1,4 +1,4 @@
--- A search that begins: its source is reached, and nothing else.
+-- A search at its beginning: its source is reached, and no other node is.
 use Rattle.std.proofs.Common.{◌≡◌, ℕ, ◌<◌, ◌≤◌, length, Some, None, sym, ◌∙◌, ap, subst, arith, set, length-set}
 use Rattle.std.specs.Prelude.{is_some}
 use Rattle.ch_graph.specs.declared.limits.TheConstants.{MOST_WEIGHT}
@@ -19,7 +19,7 @@ use Rattle.ch_query.proofs.one_side.Begun.{never_some, begun_known, begun_fresh 
 module _ (H : LevelsAndLegs) (k : IsLevelled H) (x y : Search) (s : ℕ) (clean : IsClean (nodes_of H) x) (within : s < nodes_of H) (source : y.source ≡ s) (most : y.most ≤ MOST_WEIGHT)
     (costs : y.labels.costs ≡ set x.labels.costs (rank_of H s) (Some no_cost)) (queue : y.queue ≡ set x.queue (rank_of H s) (Some no_cost))
     (parents : y.labels.parents ≡ set x.labels.parents (rank_of H s) s) (touched : IsTouched y.labels.costs y.touched) where
-  -- nothing is known at first
+  -- at first no node has a cost
   unknown : (w : ℕ) → cost_at (costs_of H x) w ≡ None
   unknown w = never_some _ (λ c is.
       let there = (by_node-some H x.labels.costs w c is).1 in
@@ -28,18 +28,18 @@ module _ (H : LevelsAndLegs) (k : IsLevelled H) (x y : Search) (s : ℕ) (clean 
       let none = clean.nothing in
       omega arith)
 
-  -- and no key is given
+  -- at first no node has a key
   keyless : (w : ℕ) → cost_at (keys_of H x) w ≡ None
   keyless w = never_some _ (λ c is. clean.queue (rank_of H w) c (by_node-some H x.queue w c is).1)
 
-  -- the lists by node then
+  -- the costs by node after the source was reached
   costs_then : costs_of H y ≡ set (costs_of H x) s (Some no_cost)
   costs_then = ap (λ q. by_node H q None) costs ∙ by_node-set H k x.labels.costs None (Some no_cost) s clean.nodes within
 
   keys_then : keys_of H y ≡ set (keys_of H x) s (Some no_cost)
   keys_then = ap (λ q. by_node H q None) queue ∙ by_node-set H k x.queue None (Some no_cost) s (clean.room.queue ∙ clean.nodes) within
 
-  -- there are as many as rows
+  -- there are as many costs as rows
   costs_size : length (costs_of H x) ≡ length (rows_of H y.side)
   costs_size = by_node-size H x.labels.costs None ∙ sym (rows_size H k y.side)
 

@@ -1,4 +1,4 @@
--- A search that begins, as data: its source is reached, and nothing else.
+-- A search at its beginning, as data: its source is reached, and no other node is.
 use Rattle.std.proofs.Common.{◌≡◌, ℕ, ◌<◌, ◌≤◌, List, [], length, Option, Some, None, refl, sym, ◌∙◌, ap, subst, arith, set, length-set, get_or-set_same, get_or-set_other, inl, inr}
 use Rattle.std.proofs.lemmas.Bool.{cases_eq}
 use Rattle.std.proofs.lemmas.Option.{same_Some, none-some}
@@ -8,12 +8,12 @@ use Rattle.ch_graph.specs.Cost.{no_cost, cost_at}
 use Rattle.ch_hierarchy.specs.declared.leg.Leg.{Leg}
 use Rattle.ch_query.specs.Search.{IsSettled, IsUpwardCost, IsSearch}
 
--- what has no value is none
+-- a value that is never some is none
 pub never_some : (o : Option Cost) → ((c : Cost) → o ≡ Some c → ⊥) → o ≡ None
 never_some None never = refl
 never_some (Some c) never = absurd (never c refl)
 
--- of a list that has nothing, the place that is written to has something alone
+-- in a list without values, only the place of a write has a value
 only_written : (list : List (Option Cost)) (s v : ℕ) (d c : Cost) → ((w : ℕ) → cost_at list w ≡ None) → s < length list → cost_at (set list s (Some d)) v ≡ Some c → (v ≡ s) × (d ≡ c)
 only_written list s v d c empty lt e = elim (cases_eq v s) [
   | inl is ↦ (is, same_Some _ _ (sym (ap (cost_at (set list s (Some d))) is ∙ get_or-set_same list s (Some d) None lt) ∙ e))
@@ -23,24 +23,24 @@ only_written list s v d c empty lt e = elim (cases_eq v s) [
 -- no node has a cost or a key, and then the source gets both
 module _ (most : ℕ) (rows : List (List Leg)) (s : ℕ) (Idle : ℕ → Cost → Type 0) (best queue : List (Option Cost)) (limits : most ≤ MOST_WEIGHT) (size : length best ≡ length rows)
     (size' : length queue ≡ length rows) (within : s < length rows) (unknown : (v : ℕ) → cost_at best v ≡ None) (keyless : (v : ℕ) → cost_at queue v ≡ None) where
-  -- the costs then
+  -- the costs after the source was reached
   best' : List (Option Cost)
   best' = set best s (Some no_cost)
 
-  -- and the keys
+  -- the keys after the source was reached
   queue' : List (Option Cost)
   queue' = set queue s (Some no_cost)
 
-  -- the source alone has a cost
+  -- only the source has a cost
   pub begun_known : (v : ℕ) (c : Cost) → cost_at (set best s (Some no_cost)) v ≡ Some c → (v ≡ s) × (no_cost ≡ c)
   begun_known v c e = only_written best s v no_cost c unknown (omega arith) e
 
-  -- and a key
+  -- only the source has a key
   begun_keyed : (v : ℕ) (c : Cost) → cost_at queue' v ≡ Some c → (v ≡ s) × (no_cost ≡ c)
   unfolding queue'
   begun_keyed v c e = only_written queue s v no_cost c keyless (omega arith) e
 
-  -- these are the source's
+  -- the cost of the source is no cost
   source_known : cost_at best' s ≡ Some no_cost
   unfolding best'
   source_known = get_or-set_same best s (Some no_cost) None (omega arith)
@@ -54,7 +54,7 @@ module _ (most : ℕ) (rows : List (List Leg)) (s : ℕ) (Idle : ℕ → Cost �
   unfolding queue'
   begun_fresh v c settled = none-some no_cost (sym settled.1 ∙ ap (cost_at queue') (begun_known v c settled.0).0 ∙ source_keyed)
 
-  -- so the search is under way
+  -- the search is under way
   pub begun_search : IsSearch most rows s Idle (set best s (Some no_cost)) (set queue s (Some no_cost))
   unfolding best' queue'
   begun_search = record {

@@ -1,4 +1,4 @@
--- What a search keeps by rank, read by node.
+-- The lists by rank of a search, read by node.
 use Rattle.std.proofs.Common.{◌≡◌, ℕ, ◌-◌, ◌<◌, List, length, Option, Some, None, sym, ◌∙◌, ap, arith, get_or, set, length-set, get_or-set_same, get_or-set_other, inl, inr}
 use Rattle.std.proofs.lemmas.Bool.{cases_lt, cases_eq}
 use Rattle.std.proofs.lemmas.Option.{none-some}
@@ -10,15 +10,15 @@ use Rattle.ch_hierarchy.specs.Ranked.{rank_of}
 use Rattle.ch_hierarchy.proofs.code.Ranked.{rank_below, rank_one}
 use Rattle.ch_query.specs.ByNode.{by_node}
 
--- a list by node is for all nodes
+-- a list by node has an element for each node
 pub by_node-size : {A : Type 0} → (H : LevelsAndLegs) (list : List A) (default : A) → length (by_node H list default) ≡ nodes_of H
 by_node-size H list default = length-map H.level (λ level. get_or list (nodes_of H - level) default)
 
--- a node has what stands at its rank
+-- the element of a node is the one at its rank
 pub by_node-at : {A : Type 0} → (H : LevelsAndLegs) (list : List A) (default d : A) (v : ℕ) → v < nodes_of H → get_or (by_node H list default) v d ≡ get_or list (rank_of H v) default
 by_node-at H list default d v lt = get_or-map (λ level. get_or list (nodes_of H - level) default) H.level v 0 d lt
 
--- what is written at a node's rank is written at the node
+-- a write at the rank of a node is a write at the node
 pub by_node-set : {A : Type 0} → (H : LevelsAndLegs) → IsLevelled H → (list : List A) (default x : A) (v : ℕ) → length list ≡ nodes_of H → v < nodes_of H →
     by_node H (set list (rank_of H v) x) default ≡ set (by_node H list default) v x
 by_node-set H k list default x v size lt =
@@ -37,7 +37,7 @@ by_node-set H k list default x v size lt =
           ∙ sym (get_or-set_other (by_node H list default) v w x default away ∙ by_node-at H list default default w lt')
     ])
 
--- a cost that a node has stands at its rank
+-- a cost of a node is the one at its rank
 pub by_node-some : (H : LevelsAndLegs) (list : List (Option Cost)) (v : ℕ) (c : Cost) → cost_at (by_node H list None) v ≡ Some c → (v < nodes_of H) × (cost_at list (rank_of H v) ≡ Some c)
 by_node-some H list v c e = elim (cases_lt v (nodes_of H)) [
   | inl lt ↦ (lt, sym (by_node-at H list None None v lt) ∙ e)

@@ -16,17 +16,17 @@ use Rattle.ch_hierarchy.proofs.theory.LegPaths.{path_cost-cons}
 pub least_reached : (rows : List (List Leg)) (s m : ℕ) (a : Cost) → IsLeastUpwardPath rows s m a → IsUpwardCost rows s m a
 least_reached rows s m a l = record { path = l.path; weight = l.weight }
 
--- at no less than the least cost
+-- no path to the end costs less than a least path
 pub reached_no_less : (rows : List (List Leg)) (s m : ℕ) (a b : Cost) → IsLeastUpwardPath rows s m a → IsUpwardCost rows s m b → IsAtMost a b
 reached_no_less rows s m a b l r = subst (IsAtMost a) r.path.2 (l.least r.path.0 r.path.1 (subst (λ (q : Cost). q.weight ≤ MOST_WEIGHT) (sym r.path.2) r.weight))
 
--- a cost that is reached and at most the least one is the least one
+-- a reached cost that is at most the least cost is the least cost
 reached_least : (rows : List (List Leg)) (s m : ℕ) (a b : Cost) → IsLeastUpwardPath rows s m a → IsUpwardCost rows s m b → IsAtMost b a → b ≡ a
 reached_least rows s m a b l r le = IsAtMost_antisymm b a le (reached_no_less rows s m a b l r)
 
 module _ {most : ℕ} (rows : List (List Leg)) (s : ℕ) (Idle : ℕ → Cost → Type 0) (best queue : List (Option Cost)) (p : IsSearch most rows s Idle best queue)
     (m : ℕ) (c : Cost) (light : c.weight ≤ most) (past : (x : ℕ) (d : Cost) → cost_at queue x ≡ Some d → IsBelow c d) (avoids : AvoidsIdle rows Idle m c) where
-  -- a node known at no more than c is settled
+  -- a node with a known cost of at most c is settled
   pub settled : (x : ℕ) (e : Cost) → cost_at best x ≡ Some e → IsAtMost e c → IsSettled best queue x e
   settled x e k le = (k, at (cost_at queue x) refl)
     where
@@ -34,7 +34,7 @@ module _ {most : ℕ} (rows : List (List Leg)) (s : ℕ) (Idle : ℕ → Cost �
       at None q = q
       at (Some d) q = absurd (IsBelow_not c d (past x d q) (subst (λ r. IsAtMost r c) (same_Some _ _ (sym k ∙ p.queued x d q)) le))
 
-  -- along an upward path within c each node is settled, at no more than the path costs
+  -- along an upward path of cost at most c, each node is settled at a cost of at most that of the path
   pub along : (x : ℕ) (e : Cost) (legs : List Leg) → cost_at best x ≡ Some e → IsUpwardPath rows x m legs → IsAtMost (cost_sum e (path_cost legs)) c →
       (a : Cost) × IsSettled best queue m a × IsAtMost a (cost_sum e (path_cost legs))
   along x e [] k path le =
@@ -53,26 +53,26 @@ module _ {most : ℕ} (rows : List (List Leg)) (s : ℕ) (Idle : ℕ → Cost �
             (end.0, end.1, subst (IsAtMost end.0) (sym split) (IsAtMost_trans end.0 (cost_sum r.0 (path_cost legs)) _ end.2 sum))
       ]
 
-  -- at the end each upward path to m of cost at most c is matched by m's own cost, and m is settled
+  -- at the end, m is settled at a cost of at most that of each upward path to m of cost at most c
   pub matched : (legs : List Leg) → IsUpwardPath rows s m legs → IsAtMost (path_cost legs) c → (a : Cost) × IsSettled best queue m a × IsAtMost a (path_cost legs)
   matched legs path le = subst (λ q. (a : Cost) × IsSettled best queue m a × IsAtMost a q) (no_cost-cost_sum (path_cost legs))
       (along s no_cost legs p.start path (subst (λ q. IsAtMost q c) (sym (no_cost-cost_sum (path_cost legs))) le))
 
-  -- so where c is the least cost to m, m is settled at it
+  -- if c is the least cost to m, m is settled at c
   pub settled_least : IsLeastUpwardPath rows s m c → IsSettled best queue m c
   settled_least l =
       let r = matched l.path.0 l.path.1 (subst (λ q. IsAtMost q c) (sym l.path.2) (IsAtMost_refl c)) in
       subst (IsSettled best queue m) (reached_least rows s m c r.0 l (p.sound m r.0 r.1.0) (subst (IsAtMost r.0) l.path.2 r.2)) r.1
 
--- at the end of a search without idle nodes each cost is the least
+-- at the end of a search without idle nodes, each cost is the least
 module _ {most : ℕ} (rows : List (List Leg)) (s : ℕ) (Idle : ℕ → Cost → Type 0) (best queue : List (Option Cost)) (p : IsSearch most rows s Idle best queue)
     (never : (v : ℕ) (c : Cost) → Idle v c → ⊥) (done : IsEmpty queue) where
-  -- each upward path that is no heavier is matched
+  -- for each upward path of weight at most `most`, its end is settled at no greater cost
   pub covered : (m : ℕ) (legs : List Leg) → IsUpwardPath rows s m legs → (path_cost legs).weight ≤ most → (a : Cost) × IsSettled best queue m a × IsAtMost a (path_cost legs)
   covered m legs path light = matched rows s Idle best queue p m (path_cost legs) light (λ x d e. absurd (done x d e)) (λ x e k idle q le. never x e idle)
       legs path (IsAtMost_refl (path_cost legs))
 
-  -- what is known is the least
+  -- each known cost is the least
   pub known_least : (m : ℕ) (c : Cost) → cost_at best m ≡ Some c → IsLeastUpwardPath rows s m c
   known_least m c e = record {
     path = (p.sound m c e).path;
@@ -83,6 +83,6 @@ module _ {most : ℕ} (rows : List (List Leg)) (s : ℕ) (Idle : ℕ → Cost �
     ];
   }
 
-  -- and the least is known, where it is no heavier
+  -- each least cost of weight at most `most` is known
   pub least_known : (m : ℕ) (c : Cost) → IsLeastUpwardPath rows s m c → c.weight ≤ most → cost_at best m ≡ Some c
   least_known m c h low = (settled_least rows s Idle best queue p m c low (λ x d e. absurd (done x d e)) (λ x e k idle q le. never x e idle) h).0

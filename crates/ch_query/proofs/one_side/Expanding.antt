@@ -1,4 +1,4 @@
--- One leg after the other.
+-- Legs that are taken one after the other.
 use Rattle.std.proofs.Common.{◌≡◌, ℕ, ◌+◌, ◌*◌, ◌^◌, ◌<◌, ◌≤◌, Bool, List, [], ◌∷◌, ◌++◌, length, Contains, Option, Some, refl, sym, ◌∙◌, ap, subst, arith, set, inl, inr}
 use Rattle.std.specs.Prelude.{slice_index}
 use Rattle.std.proofs.lemmas.Bool.{cases_lt}
@@ -31,7 +31,7 @@ pub leg_up : (H : LevelsAndLegs) → IsLevelled H → (side : Side) (v : ℕ) (l
 leg_up H k Up v l has = All-contains (IsLegUp H v) (row H.up v) l (k.up.1 v).1 has
 leg_up H k Down v l has = All-contains (IsLegUp H v) (row H.down v) l (k.down.1 v).1 has
 
--- so it is a path
+-- a leg of a row is a path of one leg
 pub reached_by_leg : (H : LevelsAndLegs) → IsLevelled H → (side : Side) (v : ℕ) (l : Leg) → Contains (row (rows_of H side) v) l → IsUpwardCost (rows_of H side) v l.node l.cost
 reached_by_leg H k side v l h = record { path = (l ∷ [], (h, refl), path_cost-cons l [] ∙ cost_sum-no_cost l.cost); weight = (leg_up H k side v l h).weight }
 
@@ -40,14 +40,15 @@ pub rows_size : (H : LevelsAndLegs) → IsLevelled H → (side : Side) → lengt
 rows_size H k Up = k.up.0
 rows_size H k Down = k.down.0
 
--- no level is above the number of nodes
+-- a level is at most the number of nodes
 pub level_small : (H : LevelsAndLegs) → IsLevelled H → (v : ℕ) → slice_index H.level v ≤ nodes_of H
 level_small H k v = elim (cases_lt v (length H.level)) [
   | inl lt ↦ (All-get_or (λ l. (1 ≤ l) × (l ≤ nodes_of H)) H.level v 0 lt k.levels.0).1
   | inr ge ↦ let e = get_or_past H.level v 0 ge in omega arith
 ]
 
--- a path has few arcs: fewer for each leg than there are nodes, and no more legs than levels
+-- a path has few arcs, because it has at most one leg for each level, and each leg has fewer arcs than there are
+-- nodes
 pub reached_arcs : (H : LevelsAndLegs) → IsLevelled H → (side : Side) (s v : ℕ) (c : Cost) → IsUpwardCost (rows_of H side) s v c → c.arcs ≤ MOST_PATH_ARCS
 reached_arcs H k side s v c r =
     let n = nodes_of H in
@@ -60,11 +61,11 @@ reached_arcs H k side s v c r =
     let second : n * n ≤ n * MOST_NODES = mul-le-mul_left n count in
     omega arith
 
--- what a search of the program asks for, part by part
+-- the conditions of an expanding search, by its parts
 ExpandingOf : LevelsAndLegs → ℕ → Side → ℕ → Bool → List (Option Cost) → List (Option Cost) → ℕ → Cost → Type 0
 ExpandingOf H most side s stalls best queue v c = IsExpanding most (rows_of H side) s (OrNode (IsStalled (rows_of H side) (back_of H side stalls) s) v) best queue v c
 
--- it is asked of equal parts too
+-- the conditions hold of equal parts too
 moved : (H : LevelsAndLegs) (y z : Search) (best queue : List (Option Cost)) (v : ℕ) (c : Cost) → IsSameSearch y z →
     ExpandingOf H y.most y.side y.source y.stalls best queue v c → ExpandingOf H z.most z.side z.source z.stalls best queue v c
 moved H y z best queue v c same x =
@@ -73,11 +74,11 @@ moved H y z best queue v c same x =
     (subst (λ q. ExpandingOf H y.most z.side q y.stalls best queue v c) (sym same.source)
     (subst (λ q. ExpandingOf H y.most q y.source y.stalls best queue v c) (sym same.side) x)))
 
--- the same of parents
+-- the conditions on the parents, by their parts
 ParentsOf : LevelsAndLegs → ℕ → Side → ℕ → Bool → List (Option Cost) → List (Option Cost) → List ℕ → ℕ → Type 0
 ParentsOf H most side s stalls best queue parents v = AreParents most (rows_of H side) s (OrNode (IsStalled (rows_of H side) (back_of H side stalls) s) v) best queue parents
 
--- it is asked of equal parts too
+-- the conditions hold of equal parts too
 moved_parents : (H : LevelsAndLegs) (y z : Search) (best queue : List (Option Cost)) (parents : List ℕ) (v : ℕ) → IsSameSearch y z → (costs_of H z) ≡ best →
     (keys_of H z) ≡ queue → (parents_of H z) ≡ parents → ParentsOf H y.most y.side y.source y.stalls best queue parents v →
     ParentsOf H z.most z.side z.source z.stalls (costs_of H z) (keys_of H z) (parents_of H z) v
@@ -90,23 +91,23 @@ moved_parents H y z best queue parents v same e f g x =
     (subst (λ q. ParentsOf H y.most y.side y.source y.stalls best q (parents_of H z) v) (sym f)
     (subst (λ q. ParentsOf H y.most y.side y.source y.stalls best queue q v) (sym g) x))))))
 
--- what stays the same twice stays the same
+-- being the same search is transitive
 pub same_then : (x y z : Search) → IsSameSearch x y → IsSameSearch y z → IsSameSearch x z
 same_then x y z a b = record { side = b.side ∙ a.side; source = b.source ∙ a.source; stalls = b.stalls ∙ a.stalls; most = b.most ∙ a.most }
 
--- a leg that is taken by one of two equal searches is taken by the other
+-- a leg that was taken in one of two equal searches was taken in the other
 still_relaxed : (H : LevelsAndLegs) (y z : Search) (c : Cost) (v : ℕ) (k : Leg) (best : List (Option Cost)) → IsSameSearch y z → (costs_of H z) ≡ best →
     IsRelaxedFrom y.most best c k × IsNoEarlier y.most best (parents_of H z) v c k → IsRelaxedFrom z.most (costs_of H z) c k × IsNoEarlier z.most (costs_of H z) (parents_of H z) v c k
 still_relaxed H y z c v k best same e r =
     subst (λ most. IsRelaxedFrom most (costs_of H z) c k × IsNoEarlier most (costs_of H z) (parents_of H z) v c k) (sym same.most)
     (subst (λ q. IsRelaxedFrom y.most q c k × IsNoEarlier y.most q (parents_of H z) v c k) (sym e) r)
 
--- the leg shows nothing cheaper
+-- the leg shows no lower cost
 module _ (H : LevelsAndLegs) (x y z : Search) (v : ℕ) (c : Cost) (legs : List Leg) (l : Leg) (p : IsPartlyExpanded H x y v c legs) (e : (costs_of H z) ≡ (costs_of H y))
     (f : (keys_of H z) ≡ (keys_of H y)) (sized : IsSized (nodes_of H) z) (t : IsTouched z.labels.costs z.touched) (same : IsSameSearch y z)
     (parents : AreParents y.most (rows_of H y.side) y.source (OrNode (idle_of H y) v) (costs_of H y) (keys_of H y) (parents_of H z))
     (relaxed : (k : Leg) → Contains (legs ++ l ∷ []) k → IsRelaxedFrom y.most (costs_of H y) c k × IsNoEarlier y.most (costs_of H y) (parents_of H z) v c k) where
-  -- then one leg more is taken
+  -- one more leg is taken in that case
   partly_same : IsPartlyExpanded H x z v c (legs ++ l ∷ [])
   unfolding ExpandingOf ParentsOf
   partly_same = record {
@@ -126,7 +127,7 @@ module _ (H : LevelsAndLegs) (x y z : Search) (v : ℕ) (c : Cost) (legs : List 
     measure = ap (λ q. count_unsettled q (keys_of H z)) e ∙ ap (count_unsettled (costs_of H y)) f ∙ p.measure;
   }
 
--- one leg more is taken
+-- one more leg is taken
 pub partly_more : (H : LevelsAndLegs) (x y z : Search) (v : ℕ) (c : Cost) (legs : List Leg) (l : Leg) → IsPartlyExpanded H x y v c legs →
     Contains (row (rows_of H y.side) v) l → l.node < length (costs_of H y) → RelaxesIn H y v c l z → IsSized (nodes_of H) z → IsTouched z.labels.costs z.touched →
     IsSameSearch y z → IsPartlyExpanded H x z v c (legs ++ l ∷ [])
@@ -214,7 +215,7 @@ partly_whole H x y v c legs p e =
       touched = p.expanding.touched;
     }
 
--- its node is there, and its sum does not overflow
+-- the leg's node exists, and its sum does not overflow
 pub leg_bounds : (H : LevelsAndLegs) (x y : Search) (v : ℕ) (c : Cost) (legs : List Leg) (l : Leg) → IsPartlyExpanded H x y v c legs →
     Contains (row (rows_of H y.side) v) l →
     (l.node < length (costs_of H y)) × (c.weight ≤ MOST_WEIGHT) × (l.cost.weight ≤ MOST_WEIGHT) × (c.arcs + l.cost.arcs < 2 ^ 63)

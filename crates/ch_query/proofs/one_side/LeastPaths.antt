@@ -1,4 +1,4 @@
--- Where a node is reached by an upward path it is reached by one of least cost.
+-- If an upward path reaches a node, one of least cost reaches it.
 use Rattle.std.proofs.Common.{◌≡◌, ℕ, zero, suc, ◌≤◌, ◌⊎◌, inl, inr, List, [], ◌∷◌, length, Contains, refl, sym, subst, arith}
 use Rattle.std.proofs.lemmas.Bool.{cases_eq}
 use Rattle.ch_graph.specs.Cost.{IsAtMost, cost_sum}
@@ -10,43 +10,43 @@ use Rattle.ch_hierarchy.specs.Paths.{IsUpwardPath, path_cost}
 use Rattle.ch_hierarchy.proofs.theory.LegPaths.{path_cost-cons}
 use Rattle.ch_graph.proofs.Lists.{contains_head, contains_tail, contains_cons, contains_none}
 
--- the same leg before two paths keeps their order
+-- the same leg in front of two paths keeps their order
 leg_before : (l : Leg) (xs ys : List Leg) → IsAtMost (path_cost xs) (path_cost ys) → IsAtMost (path_cost (l ∷ xs)) (path_cost (l ∷ ys))
 leg_before l xs ys le =
     subst (λ q. IsAtMost q (path_cost (l ∷ ys))) (sym (path_cost-cons l xs)) (subst (λ q. IsAtMost (cost_sum l.cost (path_cost xs)) q) (sym (path_cost-cons l ys))
     (IsAtMost-cost_sum l.cost l.cost (path_cost xs) (path_cost ys) (IsAtMost_refl l.cost) le))
 
--- no path costs less than the empty one
+-- no path costs less than the empty path
 none_before : (ks : List Leg) → IsAtMost (path_cost []) (path_cost ks)
 none_before ks = IsAtMost-no_cost (path_cost ks)
 
 module _ (rows : List (List Leg)) (m : ℕ) where
-  -- a path from a to m, and no other costs less
+  -- there is a path from a to m, and no other costs less
   abbrev pub HasLeast : ℕ → Type 0
   HasLeast a = (legs : List Leg) × IsUpwardPath rows a m legs × ((ks : List Leg) → IsUpwardPath rows a m ks → IsAtMost (path_cost legs) (path_cost ks))
 
-  -- there is one, or there is no path
+  -- there is such a path, or there is no path
   abbrev pub IsDecided : ℕ → Type 0
   IsDecided a = HasLeast a ⊎ ((ks : List Leg) → IsUpwardPath rows a m ks → ⊥)
 
-  -- the same of the paths that begin with one of these legs
+  -- a path begins with one of these legs
   abbrev Begins : List Leg → Leg → List Leg → Type 0
   Begins some l ks = Contains some l × IsUpwardPath rows l.node m ks
 
-  -- one of them that costs no more than any other
+  -- there is such a path that costs no more than any other
   abbrev HasLeastOf : List Leg → Type 0
   HasLeastOf some = (l : Leg) × (legs : List Leg) × Begins some l legs × ((k : Leg) (ks : List Leg) → Begins some k ks → IsAtMost (path_cost (l ∷ legs)) (path_cost (k ∷ ks)))
 
-  -- there is one, or there is none of them
+  -- there is such a least path, or there is no such path
   abbrev IsDecidedOf : List Leg → Type 0
   IsDecidedOf some = HasLeastOf some ⊎ ((k : Leg) (ks : List Leg) → Begins some k ks → ⊥)
 
-  -- a least path after l costs no more than any path that begins with l
+  -- a least path after l, with l in front, costs no more than any path that begins with l
   with_first : (l k : Leg) (here : HasLeast l.node) (ks : List Leg) → l ≡ k → IsUpwardPath rows k.node m ks → IsAtMost (path_cost (l ∷ here.0)) (path_cost (k ∷ ks))
   with_first l k here ks same path = subst (λ q. IsAtMost (path_cost (l ∷ here.0)) (path_cost (q ∷ ks))) same
       (leg_before l here.0 ks (here.2 ks (subst (λ (q : Leg). IsUpwardPath rows q.node m ks) (sym same) path)))
 
-  -- one leg more
+  -- the case of one more leg
   one_more : (l : Leg) (some : List Leg) → IsDecided l.node → IsDecidedOf some → IsDecidedOf (l ∷ some)
   one_more l some (inl here) (inl there) = elim (IsAtMost_or_IsBelow (path_cost (l ∷ here.0)) (path_cost (there.0 ∷ there.1))) [
     | inl le ↦ inl (
@@ -91,7 +91,7 @@ module _ (rows : List (List Leg)) (m : ℕ) where
     | inr more ↦ none k ks (more, b.1)
   ])
 
-  -- so it is where it is decided at the end of each leg
+  -- it is decided for these legs if it is decided at the end of each
   each : (some : List Leg) → ((l : Leg) → Contains some l → IsDecided l.node) → IsDecidedOf some
   each [] decided = inr (λ k ks b. contains_none k b.0)
   each (l ∷ some) decided = one_more l some (decided l (contains_head l some)) (each some (λ k h. decided k (contains_tail k l some h)))
@@ -100,7 +100,7 @@ module _ (rows : List (List Leg)) (m : ℕ) where
   abbrev pub IsShort : ℕ → ℕ → Type 0
   IsShort k a = (b : ℕ) (legs : List Leg) → IsUpwardPath rows a b legs → length legs ≤ k
 
-  -- from the legs of a to all paths from a
+  -- from the paths that begin with a leg of a to all paths from a
   from_legs : (a : ℕ) → (a ≡ m → ⊥) → IsDecidedOf (row rows a) → IsDecided a
   from_legs a ne (inl least) = inl (least.0 ∷ least.1, least.2, λ ks p. at ks p)
     where
@@ -113,14 +113,14 @@ module _ (rows : List (List Leg)) (m : ℕ) where
       at [] p = ne p
       at (k ∷ ks) p = none k ks p
 
-  -- the empty path, or a least one over the legs of a
+  -- the empty path is least, or a least path begins with a leg of a
   by_legs : (a : ℕ) → ((l : Leg) → Contains (row rows a) l → IsDecided l.node) → IsDecided a
   by_legs a next = elim (cases_eq a m) [
     | inl here ↦ inl ([], here, λ ks p. none_before ks)
     | inr ne ↦ from_legs a ne (each (row rows a) next)
   ]
 
-  -- there is a least path from a, or none at all
+  -- there is a least path from a, or there is no path
   pub decided : (k a : ℕ) → IsShort k a → IsDecided a
   decided zero a short = by_legs a (λ l h. absurd (let e = short l.node (l ∷ []) (h, refl) in omega arith))
   decided (suc k) a short = by_legs a (λ l h. decided k l.node (λ b legs p. let e = short b (l ∷ legs) (h, p) in omega arith))

@@ -17,11 +17,11 @@ use Rattle.ch_query.proofs.one_side.PathLaws.{then_below, cost_push, path_push}
 use Rattle.ch_query.proofs.one_side.Steps.{popped_settled, popped_stays, lowered_settled, lowered_stays}
 use Rattle.ch_query.proofs.one_side.End.{least_reached, reached_no_less, settled_least}
 
--- taking the least out of the queue
+-- the least key leaves the queue
 module _ {most : ℕ} (rows : List (List Leg)) (s : ℕ) (Idle : ℕ → Cost → Type 0) (best queue : List (Option Cost)) (parents : List ℕ) (p : IsSearch most rows s Idle best queue)
     (a : AreParents most rows s Idle best queue parents)
     (v : ℕ) (c : Cost) (key : cost_at queue v ≡ Some c) (least : (x : ℕ) (d : Cost) → cost_at queue x ≡ Some d → IsAtMost c d) (within : v < length queue) where
-  -- the parents of the others stay
+  -- the parents stay right
   pub popped_parents : AreParents most rows s (OrNode Idle v) best (set queue v None) parents
   popped_parents = record {
     size = a.size;
@@ -36,7 +36,7 @@ module _ {most : ℕ} (rows : List (List Leg)) (s : ℕ) (Idle : ℕ → Cost �
 module _ {most : ℕ} (rows : List (List Leg)) (s : ℕ) (Idle : ℕ → Cost → Type 0) (best queue : List (Option Cost)) (parents : List ℕ) (v : ℕ) (c : Cost)
     (x : IsExpanding most rows s Idle best queue v c) (a : AreParents most rows s Idle best queue parents)
     (l : Leg) (has : Contains (row rows v) l) (light : c.weight + l.cost.weight ≤ most) (h : WouldLower best l.node (cost_sum c l.cost)) where
-  -- the costs and the queue, once the leg is taken
+  -- the costs after the leg was taken
   best' : List (Option Cost)
   best' = set best l.node (Some (cost_sum c l.cost))
 
@@ -51,12 +51,12 @@ module _ {most : ℕ} (rows : List (List Leg)) (s : ℕ) (Idle : ℕ → Cost �
   away_at : (y : ℕ) → (y ≡ l.node → ⊥) → slice_index (set parents l.node v) y ≡ slice_index parents y
   away_at y ne = get_or-set_other parents l.node y v 0 ne
 
-  -- its cost is the sum
+  -- the cost of the leg's node is the sum
   cost_here : cost_at best' l.node ≡ Some (cost_sum c l.cost)
   unfolding best'
   cost_here = get_or-set_same best l.node _ None h.within
 
-  -- the other costs stay
+  -- the other costs stay the same
   cost_away : (y : ℕ) → (y ≡ l.node → ⊥) → cost_at best' y ≡ cost_at best y
   unfolding best'
   cost_away y ne = get_or-set_other best l.node y _ None ne
@@ -66,7 +66,7 @@ module _ {most : ℕ} (rows : List (List Leg)) (s : ℕ) (Idle : ℕ → Cost �
   unfolding best' queue'
   keeps = lowered_stays rows s Idle best queue v c x l has light h
 
-  -- each node has a leg from its parent
+  -- each node has a leg from its parent that gives it its cost
   led : (y : ℕ) (e : Cost) → y ≢ s → cost_at best' y ≡ Some e → IsParent rows best' queue' y e (slice_index (set parents l.node v) y)
   led y e ne k = elim (cases_eq y l.node) [
     | inl is ↦ subst (IsParent rows best' queue' y e) (sym (ap (slice_index (set parents l.node v)) is ∙ here))
@@ -77,7 +77,7 @@ module _ {most : ℕ} (rows : List (List Leg)) (s : ℕ) (Idle : ℕ → Cost �
         (record { cost = q.cost; settled = keeps _ _ q.settled; leg = q.leg; has = q.has; node = q.node; sum = q.sum })
   ]
 
-  -- a leg relaxed before costs more
+  -- a leg to the same node that was taken before gives a greater cost
   dearer : (d : Cost) (k : Leg) → k.node ≡ l.node → IsRelaxedFrom most best d k → cost_at best' k.node ≡ Some (cost_sum d k.cost) → ⊥
   dearer d k is r e =
       let same : cost_sum c l.cost ≡ cost_sum d k.cost = same_Some _ _ (sym cost_here ∙ ap (cost_at best') (sym is) ∙ e) in
@@ -99,7 +99,7 @@ module _ {most : ℕ} (rows : List (List Leg)) (s : ℕ) (Idle : ℕ → Cost �
     ]
   ]
 
-  -- so the parents are right again
+  -- the parents are right after the leg
   pub lowered_parents : AreParents most rows s Idle (set best l.node (Some (cost_sum c l.cost))) (set queue l.node (Some (cost_sum c l.cost))) (set parents l.node v)
   unfolding best' queue'
   lowered_parents = record {
@@ -108,7 +108,7 @@ module _ {most : ℕ} (rows : List (List Leg)) (s : ℕ) (Idle : ℕ → Cost �
     first = λ u d k. first u d (lowered_settled rows s Idle best queue v c x l has light h u d k);
   }
 
-  -- the earlier legs of v, and this one
+  -- the earlier legs of v still have no later parent at their ends
   pub lowered_no_earlier : (k : Leg) → IsNoEarlier most best parents v c k → IsNoEarlier most (set best l.node (Some (cost_sum c l.cost))) (set parents l.node v) v c k
   unfolding best'
   lowered_no_earlier k n low e = elim (cases_eq k.node l.node) [
@@ -116,11 +116,11 @@ module _ {most : ℕ} (rows : List (List Leg)) (s : ℕ) (Idle : ℕ → Cost �
     | inr ne ↦ subst (λ q. q ≤ v) (sym (away_at k.node ne)) (n low (sym (cost_away k.node ne) ∙ e))
   ]
 
-  -- and this one
+  -- the parent at the end of this leg is not later than v either
   pub lowered_itself : IsNoEarlier most (set best l.node (Some (cost_sum c l.cost))) (set parents l.node v) v c l
   lowered_itself _ _ = let at = here in omega arith
 
--- a leg of v that shows an equal cost: the lesser parent stays
+-- a leg of v that shows an equal cost, where the lesser parent stays
 module _ {most : ℕ} (rows : List (List Leg)) (s : ℕ) (Idle : ℕ → Cost → Type 0) (best queue : List (Option Cost)) (parents : List ℕ) (v : ℕ) (c : Cost)
     (settled : IsSettled best queue v c) (a : AreParents most rows s Idle best queue parents)
     (l : Leg) (has : Contains (row rows v) l) (within : l.node < length best) (same : cost_at best l.node ≡ Some (cost_sum c l.cost))
@@ -140,7 +140,7 @@ module _ {most : ℕ} (rows : List (List Leg)) (s : ℕ) (Idle : ℕ → Cost �
     | inr ne ↦ let at = else_at y ne in omega arith
   ]
 
-  -- so the parents are right again
+  -- the parents are right after the leg
   pub equal_parents : AreParents most rows s Idle best queue (set parents l.node v)
   equal_parents = record {
     size = length-set parents l.node v ∙ a.size;
@@ -152,10 +152,10 @@ module _ {most : ℕ} (rows : List (List Leg)) (s : ℕ) (Idle : ℕ → Cost �
     first = λ u d k. elim (a.first u d k) [ inl idle ↦ inl idle | inr legs ↦ inr (λ m of low e. let n = legs m of low e in let f = equal_falls m.node in omega arith) ];
   }
 
--- a node whose legs are all taken, or that may be left idle
+-- a node whose legs are all taken, or that may stay idle
 module _ {most : ℕ} (rows : List (List Leg)) (s : ℕ) (Idle : ℕ → Cost → Type 0) (best queue : List (Option Cost)) (parents : List ℕ) (v : ℕ) (c : Cost)
     (here : IsSettled best queue v c) (a : AreParents most rows s (OrNode Idle v) best queue parents) where
-  -- the parents are right again
+  -- the parents are right for the search without the exception of v
   pub finish_parents : Idle v c ⊎ ((l : Leg) → Contains (row rows v) l → IsNoEarlier most best parents v c l) → AreParents most rows s Idle best queue parents
   finish_parents done = record {
     size = a.size;
@@ -170,12 +170,12 @@ module _ {most : ℕ} (rows : List (List Leg)) (s : ℕ) (Idle : ℕ → Cost �
     ];
   }
 
--- at the end
+-- a path and a path from its end together are a path
 path_append : (rows : List (List Leg)) (a b d : ℕ) (xs ys : List Leg) → IsUpwardPath rows a b xs → IsUpwardPath rows b d ys → IsUpwardPath rows a d (xs ++ ys)
 path_append rows a b d [] ys p q = subst (λ r. IsUpwardPath rows r d ys) (sym p) q
 path_append rows a b d (x ∷ xs) ys p q = (p.0, path_append rows x.node b d xs ys p.1 q)
 
--- a path that avoids idle nodes has parts that do
+-- a part of a path that avoids idle nodes avoids them
 avoids_inner : (rows : List (List Leg)) (Idle : ℕ → Cost → Type 0) (w m : ℕ) (b c : Cost) (tail : List Leg) → IsUpwardPath rows w m tail →
     IsAtMost (cost_sum b (path_cost tail)) c → AvoidsIdle rows Idle m c → AvoidsIdle rows Idle w b
 avoids_inner rows Idle w m b c tail path le avoids y e legs idle p low =
@@ -197,7 +197,7 @@ module _ {most : ℕ} (rows : List (List Leg)) (s : ℕ) (Idle : ℕ → Cost �
   pub parent : IsParent rows best queue x e (slice_index parents x)
   parent = a.led x e ne known
 
-  -- the parent's cost is the least
+  -- the parent's cost is the least cost
   pub parent_least : IsLeastUpwardPath rows s (slice_index parents x) parent.cost
   parent_least =
       let q = parent in

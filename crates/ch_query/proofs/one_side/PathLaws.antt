@@ -9,31 +9,31 @@ use Rattle.ch_hierarchy.specs.Rows.{row}
 use Rattle.ch_graph.proofs.CostOrder.{same_costs}
 use Rattle.ch_hierarchy.specs.Paths.{IsUpwardPath, path_cost}
 
--- a cost settled before c can't be undercut by a leg that is taken at c
+-- a leg that is taken at c does not lower a cost that was settled before c
 pub not_lower : (c l e : Cost) → IsAtMost e c → IsBelow (cost_sum c l) e → ⊥
 not_lower c l e h k = let le : c.weight ≤ e.weight = omega arith in let p = h.1 le in let ge : e.weight ≤ c.weight + l.weight = omega arith in let q = k.1 ge in omega arith
 
--- nothing costs less than nothing
+-- no cost is below the empty cost
 pub not_below_nothing : (a : Cost) → IsBelow a no_cost → ⊥
 not_below_nothing a h = let q = h.1 (omega arith) in omega arith
 
--- less than what is at most c
+-- a cost below b is below each cost that b is at most
 pub below_then : (a b c : Cost) → IsBelow a b → IsAtMost b c → IsBelow a c
 below_then a b c h k = (omega arith, λ e. omega arith)
 
--- at most what is less than c
+-- a cost that is at most b is below each cost that b is below
 pub then_below : (a b c : Cost) → IsAtMost a b → IsBelow b c → IsBelow a c
 then_below a b c h k = (omega arith, λ e. omega arith)
 
--- the same on top of both keeps the order
+-- adding the same cost to both keeps the strict order
 pub below_sum : (a b c : Cost) → IsBelow a b → IsBelow (cost_sum a c) (cost_sum b c)
 below_sum a b c h = (omega arith, λ e. omega arith)
 
--- one leg more at the end adds its cost
+-- one more leg at the end adds its cost
 pub cost_push : (legs : List Leg) (l : Leg) → path_cost (legs ++ l ∷ []) ≡ cost_sum (path_cost legs) l.cost
 cost_push legs l = same_costs _ _ (sum_by_push (λ (k : Leg). k.cost.weight) legs l) (sum_by_push (λ (k : Leg). k.cost.arcs) legs l)
 
--- one leg more at the end of a path
+-- one more leg at the end of a path gives a path
 pub path_push : (rows : List (List Leg)) (a b : ℕ) (legs : List Leg) (l : Leg) → IsUpwardPath rows a b legs → Contains (row rows b) l →
     IsUpwardPath rows a l.node (legs ++ l ∷ [])
 path_push rows a b [] l p has = (subst (λ q. Contains (row rows q) l) (sym p) has, refl)
@@ -43,7 +43,7 @@ path_push rows a b (k ∷ legs) l p has = (p.0, path_push rows k.node b legs l p
 abbrev pub AreRising : ℕ → (ℕ → ℕ) → List (List Leg) → Type 0
 AreRising n level rows = (v : ℕ) (l : Leg) → Contains (row rows v) l → (level v < level l.node) × (l.cost.arcs < n)
 
--- each leg of a path has fewer than n arcs, and rises a level
+-- each leg of a path has fewer than n arcs and rises by at least one level
 pub path_arcs : (n : ℕ) (level : ℕ → ℕ) (rows : List (List Leg)) → AreRising n level rows → (a b : ℕ) (legs : List Leg) → IsUpwardPath rows a b legs →
     (path_cost legs).arcs + n * level a ≤ n * level b
 path_arcs n level rows rising a b [] p = let e : n * level a ≡ n * level b = ap (λ q. n * level q) p in omega arith

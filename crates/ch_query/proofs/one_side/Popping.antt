@@ -1,4 +1,4 @@
--- The least node leaves the queue.
+-- The node with the least key leaves the queue.
 use Rattle.std.proofs.Common.{◌≡◌, ◌↔◌, IsTrue, ℕ, ◌+◌, ◌<◌, Bool, true, false, not, List, length, Option, Some, None, refl, sym, ◌∙◌, ap, subst, arith, set, length-set, inl, inr}
 use Rattle.std.specs.Ordering.{is_gt, MatchOrdering}
 use Rattle.std.specs.declared.cmp.Ordering.{Ordering}
@@ -23,7 +23,7 @@ use Rattle.ch_query.proofs.one_side.ByNode.{by_node-size, by_node-at, by_node-se
 use Rattle.ch_query.proofs.one_side.Steps.{popped, popped_falls}
 use Rattle.ch_query.proofs.one_side.Parents.{popped_parents}
 
--- what comparing two costs tells, where the first is not greater
+-- what the comparison of two costs means if it is not greater
 at_most_by : (a b : Cost) (o : Ordering) → MatchOrdering o (IsBelow a b) (a ≡ b) (IsBelow b a) → is_gt o ≡ false → IsAtMost a b
 at_most_by a b Less h e = IsBelow-IsAtMost a b h
 at_most_by a b Equal h e = subst (IsAtMost a) h (IsAtMost_refl a)
@@ -33,15 +33,15 @@ at_most_by a b Greater h e = absurd (false≢true (sym e))
 pub least_key : (queue : List (Option Cost)) (e : Cost × ℕ) → IsLeastEntry cost_cmp queue e → IsLeastKey queue e.1 e.0
 least_key queue e l = record { has = l.has; least = λ x d k. at_most_by e.0 d (cost_cmp e.0 d) (cost_cmp_tells e.0 d) (l.least x d k).0 }
 
--- a node with a key is one of the nodes
+-- a node with a key is a node
 pub key_within : (queue : List (Option Cost)) (v : ℕ) (c : Cost) → cost_at queue v ≡ Some c → v < length queue
 key_within queue v c e = elim (cases_lt v (length queue)) [ inl lt ↦ lt | inr ge ↦ absurd (none-some _ (sym (get_or_past queue v None ge) ∙ e)) ]
 
--- a queue whose least key is no more than another's leads it
+-- a queue whose least key is at most that of another leads it
 leads_by : (first second : List (Option Cost)) (a b : Cost × ℕ) → IsLeastEntry cost_cmp first a → IsLeastEntry cost_cmp second b → IsAtMost a.0 b.0 → LeadsKeys first second
 leads_by first second a b l k le v d h = (a.1, a.0, l.has, IsAtMost_trans a.0 b.0 d le ((least_key second b k).least v d h))
 
--- of two queues with keys the one that the test of their least keys names leads
+-- the test of the least keys of two queues says which of them leads
 pub leads_as_told : (first second : List (Option Cost)) (a b : Cost × ℕ) → IsLeastEntry cost_cmp first a → IsLeastEntry cost_cmp second b → (told : Bool) → IsTrue told ↔ IsBelow b.0 a.0 →
     (not told ≡ true → LeadsKeys first second) × (not told ≡ false → LeadsKeys second first)
 leads_as_told first second a b l k true i = (λ e. absurd (false≢true e), λ _. leads_by second first b a k l (IsBelow-IsAtMost b.0 a.0 (i.0 refl)))
@@ -50,15 +50,15 @@ leads_as_told first second a b l k false i = (
   λ e. absurd (false≢true (sym e)),
 )
 
--- the search with another queue
+-- the search with this queue in place of its own
 abbrev pub with_queue : Search → List (Option Cost) → Search
 with_queue x q = record x { queue = q }
 
--- a rank with a key is one of the ranks
+-- a rank with a key is a rank
 pub key_rank : (H : LevelsAndLegs) (x : Search) (rank : ℕ) (c : Cost) → IsUnderway H x → IsLeastEntry cost_cmp x.queue (c, rank) → rank < nodes_of H
 key_rank H x rank c u l = let lt = key_within x.queue rank c l.has in let size = u.sizes.1 in omega arith
 
--- v is a node of least key, and q is the queue without it
+-- v is a node of least key, and q is the queue without v
 pub record IsPopped (H : LevelsAndLegs) (x : Search) (q : List (Option Cost)) (v : ℕ) (c : Cost) : Type 0 where
   pub key : IsLeastKey (keys_of H x) v c
   pub size : length q ≡ length x.queue
@@ -76,13 +76,13 @@ popped_at H x q v rank c u within at l e = record {
   rest = ap (λ r. by_node H r None) (e ∙ ap (λ r. set x.queue r None) (sym at)) ∙ by_node-set H u.levelled x.queue None None v u.sizes.1 within;
 }
 
--- a search underway whose least node leaves the queue
+-- a search under way whose node of least key leaves the queue
 module _ (H : LevelsAndLegs) (x : Search) (q : List (Option Cost)) (v : ℕ) (c : Cost) (u : IsUnderway H x) (p : IsPopped H x q v c) where
-  -- the node is there
+  -- the node has a key
   within : v < length (keys_of H x)
   within = key_within (keys_of H x) v c p.key.has
 
-  -- the legs of the node are to be taken next
+  -- the legs of the node are taken next
   pub pop_expands : IsExpandingAt H (with_queue x q) v c
   pop_expands = record {
     levelled = u.levelled;
@@ -95,6 +95,6 @@ module _ (H : LevelsAndLegs) (x : Search) (q : List (Option Cost)) (v : ℕ) (c 
     touched = u.touched;
   }
 
-  -- one node fewer is not settled
+  -- one node fewer is unsettled
   pub pop_falls : count_unsettled_in H (with_queue x q) + 1 ≡ count_unsettled_in H x
   pop_falls = ap (λ r. count_unsettled (costs_of H x) r + 1) p.rest ∙ popped_falls _ _ _ _ _ u.search v c p.key.has p.key.least within

@@ -1,4 +1,4 @@
--- Legs by rank, one after the other.
+-- Legs by rank, taken one after the other.
 use Rattle.std.proofs.Common.{◌≡◌, ℕ, ◌+◌, ◌^◌, ◌<◌, ◌≤◌, List, length, length-set, Contains, take, map, Some, None, sym, take_all, ◌∙◌, ap, subst, arith, get_or, set, inl, inr}
 use Rattle.std.specs.Prelude.{slice_index}
 use Rattle.std.proofs.lemmas.List.{take_more, get_or-map, length-map}
@@ -22,21 +22,21 @@ use Rattle.ch_query.proofs.one_side.ByNode.{by_node-size, by_node-at, by_node-se
 use Rattle.ch_query.proofs.one_side.Touched.{none_unless}
 use Rattle.ch_query.proofs.one_side.Expanding.{leg_up, leg_bounds, partly_more}
 
--- what a leg taken by rank changes, by node
+-- the change of a leg taken by rank, seen by node
 module _ (H : LevelsAndLegs) (k : IsLevelled H) (y z : Search) (v : ℕ) (c : Cost) (l : Leg) (sizes : IsSized (nodes_of H) y) (within : l.node < nodes_of H) where
-  -- the cost of the leg's node stands at its rank
+  -- the cost of the leg's node is the one at its rank
   cost_there : cost_at (costs_of H y) l.node ≡ cost_at y.labels.costs (rank_of H l.node)
   cost_there = by_node-at H y.labels.costs None None l.node within
 
-  -- and so does its parent
+  -- the parent of the leg's node is the one at its rank
   parent_there : slice_index (parents_of H y) l.node ≡ slice_index y.labels.parents (rank_of H l.node)
   parent_there = by_node-at H y.labels.parents 0 0 l.node within
 
-  -- the parents after v was written
+  -- the parents by node after v was written
   parents_then : z.labels.parents ≡ set y.labels.parents (rank_of H l.node) v → parents_of H z ≡ set (parents_of H y) l.node v
   parents_then e = ap (λ q. by_node H q 0) e ∙ by_node-set H k y.labels.parents 0 v l.node sizes.2 within
 
-  -- by node the same is changed
+  -- the change by rank is the same change by node
   pub relaxes_by_node : RelaxesByRank y v c (ranked_leg H l) z → RelaxesIn H y v c l z
   relaxes_by_node (inl (e, f, is, inl (early, g))) = inl (
     ap (λ q. by_node H q None) e,
@@ -58,7 +58,7 @@ module _ (H : LevelsAndLegs) (k : IsLevelled H) (y z : Search) (v : ℕ) (c : Co
     parents_then g,
   )
 
--- a leg that is taken leaves the lists as long as they were
+-- taking a leg keeps the lengths of the lists
 pub relaxes_sizes : (n : ℕ) (y z : Search) (v : ℕ) (c : Cost) (r : RankedLeg) → IsSized n y → RelaxesByRank y v c r z → IsSized n z
 relaxes_sizes n y z v c r s (inl (e, f, is, inl (early, g))) = (ap length e ∙ s.0, ap length f ∙ s.1, ap length g ∙ s.2)
 relaxes_sizes n y z v c r s (inl (e, f, is, inr (equal, lt, g))) = (ap length e ∙ s.0, ap length f ∙ s.1, ap length g ∙ length-set y.labels.parents r.rank v ∙ s.2)
@@ -68,10 +68,10 @@ relaxes_sizes n y z v c r s (inr (light, lower, e, f, g)) = (
   ap length g ∙ length-set y.labels.parents r.rank v ∙ s.2,
 )
 
--- the program reads the leg at place i of those of v
+-- the program reads the leg at place i of the legs of v
 module _ (H : LevelsAndLegs) (x y : Search) (v : ℕ) (c : Cost) (items : List RankedLeg) (i : ℕ) (d : RankedLeg) (p : IsPartlyExpanded H x y v c (take i (row (rows_of H x.side) v)))
     (e : items ≡ map (ranked_leg H) (row (rows_of H x.side) v)) (lt : i < length items) where
-  -- it is one of the row
+  -- it is a leg of the row
   low : i < length (row (rows_of H x.side) v)
   low = (let size = ap length e ∙ length-map (row (rows_of H x.side) v) (ranked_leg H) in omega arith)
 
@@ -82,12 +82,12 @@ module _ (H : LevelsAndLegs) (x y : Search) (v : ℕ) (c : Cost) (items : List R
   unfolding here
   has = subst (λ q. Contains (row (rows_of H q) v) here) (sym p.same.side) (Contains-get_or (row (rows_of H x.side) v) i no_leg low)
 
-  -- by rank
+  -- the leg that is read is that leg by rank
   is : get_or items i d ≡ ranked_leg H here
   unfolding here
   is = ap (λ q. get_or q i d) e ∙ get_or-map (ranked_leg H) (row (rows_of H x.side) v) i no_leg d low
 
-  -- its node is there, and its sum does not overflow
+  -- its node exists, and its sum does not overflow
   bounds : (here.node < length (costs_of H y)) × (c.weight ≤ MOST_WEIGHT) × (here.cost.weight ≤ MOST_WEIGHT) × (c.arcs + here.cost.arcs < 2 ^ 63)
   bounds = leg_bounds H x y v c _ here p has
 
@@ -97,7 +97,7 @@ module _ (H : LevelsAndLegs) (x y : Search) (v : ℕ) (c : Cost) (items : List R
   pub read_rank : (get_or items i d).rank < length y.labels.costs
   read_rank = subst (λ (q : RankedLeg). q.rank < length y.labels.costs) (sym is) (let r = rank_below H p.expanding.levelled here.node within in let s = p.expanding.sizes.0 in omega arith)
 
-  -- where it is not reached, it has no key
+  -- if its node is not reached, the node has no key
   unkeyed : UnreachedIsUnkeyed y (rank_of H here.node)
   unkeyed unreached = none_unless (cost_at y.queue (rank_of H here.node)) (λ d key.
       let queued = p.expanding.search.search.queued here.node d (by_node-at H y.queue None None here.node within ∙ key) in
@@ -112,7 +112,7 @@ module _ (H : LevelsAndLegs) (x y : Search) (v : ℕ) (c : Cost) (items : List R
   pub read_arcs : c.arcs + (get_or items i d).arcs < 2 ^ 63
   read_arcs = subst (λ (q : RankedLeg). c.arcs + q.arcs < 2 ^ 63) (sym is) bounds.3
 
-  -- it is taken
+  -- the leg is taken
   pub ranked_step : (z : Search) → RelaxesByRank y v c (get_or items i d) z → IsTouched z.labels.costs z.touched → IsSameSearch y z →
       IsPartlyExpanded H x z v c (take (i + 1) (row (rows_of H x.side) v))
   unfolding here
@@ -122,6 +122,6 @@ module _ (H : LevelsAndLegs) (x y : Search) (v : ℕ) (c : Cost) (items : List R
       (partly_more H x y z v c (take i (row (rows_of H x.side) v)) here p has bounds.0
       (relaxes_by_node H p.expanding.levelled y z v c here p.expanding.sizes within by_rank) (relaxes_sizes (nodes_of H) y z v c _ p.expanding.sizes by_rank) t same)
 
--- past their end all legs are taken
+-- past the last leg, all legs are taken
 pub read_all : (H : LevelsAndLegs) (legs : List Leg) (items : List RankedLeg) (i : ℕ) → items ≡ map (ranked_leg H) legs → length items ≤ i → take i legs ≡ legs
 read_all H legs items i e past = take_all i legs (let size = ap length e ∙ length-map legs (ranked_leg H) in omega arith)

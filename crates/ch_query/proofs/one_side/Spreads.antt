@@ -1,4 +1,4 @@
--- A search without a target, and the list of what it reached.
+-- A search without a target, and the list of the nodes that it reached.
 use Rattle.std.proofs.Common.{◌≡◌, ℕ, ◌+◌, ◌<◌, true, false, List, [], ◌∷◌, ◌++◌}
 use Rattle.std.proofs.Common.{length, Contains, take, map, Option, Some, None, refl, sym, ◌∙◌, ap, subst, arith, get_or, inl, inr}
 use Rattle.std.specs.Prelude.{◌≢◌, AllPairs, is_some, unwrap_or, eqb}
@@ -32,30 +32,30 @@ use Rattle.ch_query.proofs.one_side.ByNode.{by_node-at, by_node-some}
 use Rattle.ch_query.proofs.one_side.Touched.{some_within}
 use Rattle.ch_query.proofs.one_side.End.{known_least, least_known}
 
--- numbers that differ rise once they are sorted
+-- different numbers rise strictly after they are sorted
 sorted_rises : (xs ys : List ℕ) → AllPairs ◌≢◌ xs → IsPermutation xs ys → IsSorted nat_cmp ys → AllPairs (λ a b. a < b) ys
 sorted_rises xs ys distinct p sorted =
     let d : IsDistinct eqb xs = IsDistinct-from_apart eqb xs (λ i j e lt within. not_eqb _ _ (distinct i j e lt within)) in
     AllPairs-from_increasing ys (IsStrictlyIncreasing-from_distinct ys (IsNonDecreasingBy-from_sort (λ x. x) ys sorted) (IsDistinct-IsPermutation eqb eqb_flips xs ys p d))
 
--- a search underway has room
+-- a search under way has room for all nodes
 pub underway_room : (H : LevelsAndLegs) (x : Search) → IsUnderway H x → IsRoom x
 underway_room H x u = record { queue = u.sizes.1 ∙ sym u.sizes.0; parents = u.sizes.2 ∙ sym u.sizes.0; touched = u.touched; most = u.search.limits }
 
--- a known cost is the one that is listed
+-- a cost that is known is the one in the list
 some_known : (o : Option Cost) → is_some o ≡ true → o ≡ Some (unwrap_or o no_cost)
 some_known None e = absurd (false≢true e)
 some_known (Some c) e = refl
 
--- nothing stands in a row of no rows
+-- a row of no rows is empty
 none_in_row : (v : ℕ) (l : Leg) → Contains (row [] v) l → ⊥
 none_in_row v l h = let lt = h.1 in omega arith
 
--- a search that does not stall leaves no node idle
+-- a search that does not stall has no idle node
 pub never_idle : (H : LevelsAndLegs) (x : Search) → x.stalls ≡ false → (v : ℕ) (c : Cost) → idle_of H x v c → ⊥
 never_idle H x off v c idle = none_in_row v idle.leg (subst (λ b. Contains (row (back_of H x.side b) v) idle.leg) off idle.has)
 
--- a search that ended without stalling, and its touched nodes in order
+-- a search that has ended without stalling, and its touched nodes in order
 module _ (H : LevelsAndLegs) (x : Search) (u : IsUnderway H x) (off : x.stalls ≡ false) (done : IsEmpty (keys_of H x)) (limit : Option ℕ) (most : IsMost limit x.most)
     (nodes : List ℕ) (rises : AllPairs (λ a b. a < b) nodes)
     (reached : (v : ℕ) → Contains nodes v → is_some (cost_at (costs_of H x) v) ≡ true) (all : (v : ℕ) → is_some (cost_at (costs_of H x) v) ≡ true → Contains nodes v) where
@@ -63,11 +63,11 @@ module _ (H : LevelsAndLegs) (x : Search) (u : IsUnderway H x) (off : x.stalls �
   at : (i : ℕ) (d : ℕ × Cost) → i < length nodes → get_or (map (entry (costs_of H x)) nodes) i d ≡ entry (costs_of H x) (get_or nodes i 0)
   at i d lt = get_or-map (entry (costs_of H x)) nodes i 0 d lt
 
-  -- as many entries as nodes
+  -- there are as many entries as nodes
   size : length (map (entry (costs_of H x)) nodes) ≡ length nodes
   size = length-map nodes (entry (costs_of H x))
 
-  -- the nodes with their costs are all that is reached
+  -- the nodes with their costs are the spread
   pub spread_is : IsSpread (rows_of H x.side) limit x.source (map (entry (costs_of H x)) nodes)
   spread_is = record {
     order = λ i j d lt within.
@@ -96,11 +96,11 @@ module _ (H : LevelsAndLegs) (x : Search) (u : IsUnderway H x) (off : x.stalls �
         (has.0, low, at has.0 (v, c) has.1 ∙ ap (entry (costs_of H x)) node ∙ (λ i. (v, ap (λ q. unwrap_or q no_cost) known i)));
   }
 
--- a queue that is empty by rank is so by node
+-- a queue that is empty by rank is empty by node
 empty_by_node : (H : LevelsAndLegs) (x : Search) → IsEmpty x.queue → IsEmpty (keys_of H x)
 empty_by_node H x done v c e = done (rank_of H v) c (by_node-some H x.queue v c e).1
 
--- what a search that ended without stalling has reached
+-- the spread of a search that has ended without stalling
 pub spread_of : (H : LevelsAndLegs) (x : Search) (nodes : List ℕ) (s : ℕ) (side : Side) (limit : Option ℕ) → IsMost limit x.most → IsUnderway H x → x.stalls ≡ false → x.source ≡ s → x.side ≡ side →
     IsEmpty x.queue → AreReached (costs_of H x) nodes → IsSpread (rows_of H side) limit s (map (entry (costs_of H x)) nodes)
 spread_of H x nodes s side limit most u off source is done a =
@@ -108,10 +108,10 @@ spread_of H x nodes s side limit most u off source is done a =
     let from_source = subst (λ q. IsSpread (rows_of H x.side) limit q (map (entry (costs_of H x)) nodes)) source spread in
     subst (λ q. IsSpread (rows_of H q) limit s (map (entry (costs_of H x)) nodes)) is from_source
 
--- the touched nodes are those that are reached, once they are sorted
+-- the touched nodes, once sorted, are the reached nodes
 module _ (H : LevelsAndLegs) (k : IsLevelled H) (x : Search) (t : IsTouched x.labels.costs x.touched) (nodes sorted : List ℕ) (ranks : map (rank_of H) nodes ≡ x.touched.items)
     (within : (v : ℕ) → Contains nodes v → v < nodes_of H) (p : IsPermutation nodes sorted) (order : IsSorted nat_cmp sorted) where
-  -- each has a rank of its own
+  -- the nodes are different
   apart : AllPairs ◌≢◌ nodes
   apart i j d lt low same =
       let size = length-map nodes (rank_of H) in
@@ -135,7 +135,7 @@ module _ (H : LevelsAndLegs) (k : IsLevelled H) (x : Search) (t : IsTouched x.la
         Contains-permutation nodes sorted v p (subst (Contains nodes) (rank_one H k of.0 v (within of.0 of.1) there.0 of.2) of.1);
   }
 
--- a rank that is touched is one of the ranks
+-- a touched rank is a rank
 pub item_rank : (H : LevelsAndLegs) (x : Search) (items : List ℕ) (i : ℕ) → IsSized (nodes_of H) x → IsTouched x.labels.costs x.touched → items ≡ x.touched.items → i < length items →
     get_or items i 0 < nodes_of H
 item_rank H x items i s t e lt =
@@ -144,14 +144,14 @@ item_rank H x items i s t e lt =
     let size = s.0 in
     omega arith
 
--- one node more has its rank
+-- one more node has its rank
 pub ranks_more : (H : LevelsAndLegs) (touched items nodes new : List ℕ) (i v : ℕ) → items ≡ touched → i < length items → map (rank_of H) nodes ≡ take i touched →
     rank_of H v ≡ get_or items i 0 → new ≡ nodes ++ v ∷ [] → map (rank_of H) new ≡ take (i + 1) touched
 ranks_more H touched items nodes new i v e lt was at is =
     ap (map (rank_of H)) is ∙ map_push (rank_of H) nodes v ∙ ap (λ q. q ++ rank_of H v ∷ []) was ∙ ap (λ q. take i touched ++ q ∷ []) (at ∙ ap (λ q. get_or q i 0) e)
     ∙ sym (take_more touched i 0 (subst (λ q. i < length q) e lt))
 
--- and is one of the nodes
+-- the one more node is a node
 pub within_more : (H : LevelsAndLegs) (nodes new : List ℕ) (v : ℕ) → ((w : ℕ) → Contains nodes w → w < nodes_of H) → v < nodes_of H → new ≡ nodes ++ v ∷ [] →
     (w : ℕ) → Contains new w → w < nodes_of H
 within_more H nodes new v was lt is w h = elim (Contains-push_cases nodes v w (subst (λ q. Contains q w) is h)) [
@@ -159,24 +159,24 @@ within_more H nodes new v was lt is w h = elim (Contains-push_cases nodes v w (s
   | inr same ↦ subst (λ q. q < nodes_of H) same lt
 ]
 
--- a node that is read of those that are reached is reached
+-- a node that is read from the reached nodes is reached
 pub node_known : (best : List (Option Cost)) (nodes items : List ℕ) (i : ℕ) → AreReached best nodes → items ≡ nodes → i < length items → is_some (cost_at best (get_or items i 0)) ≡ true
 node_known best nodes items i a e lt = a.sound (get_or items i 0) (subst (λ q. Contains q (get_or items i 0)) e (Contains-get_or items i 0 lt))
 
--- a reached node is one of the nodes
+-- a reached node is a node
 pub reached_within : (H : LevelsAndLegs) (x : Search) (v : ℕ) → is_some (cost_at (costs_of H x) v) ≡ true → v < nodes_of H
 reached_within H x v e = (by_node-some H x.labels.costs v _ (some_known _ e)).0
 
--- the cost that is read at its rank is its own
+-- the cost at a node's rank is the node's cost
 pub read_cost : (H : LevelsAndLegs) (x : Search) (v rank : ℕ) (r : Option Cost) → is_some (cost_at (costs_of H x) v) ≡ true → rank ≡ rank_of H v → r ≡ cost_at x.labels.costs rank → r ≡ cost_at (costs_of H x) v
 read_cost H x v rank r known at read = read ∙ ap (cost_at x.labels.costs) at ∙ sym (by_node-at H x.labels.costs None None v (reached_within H x v known))
 
--- so its cost is not missing
+-- the cost of a reached node is known
 pub unknown : (o r : Option Cost) → r ≡ o → is_some o ≡ true → ((c : Cost) → r ≡ Some c → ⊥) → ⊥
 unknown None r e known never = false≢true known
 unknown (Some c) r e known never = never c e
 
--- one node more is listed
+-- one more node is in the list
 listed_more : (best : List (Option Cost)) (nodes : List ℕ) (i v : ℕ) (c : Cost) (before after : List (ℕ × Cost)) → i < length nodes →
     get_or nodes i 0 ≡ v → cost_at best v ≡ Some c → before ≡ map (entry best) (take i nodes) → after ≡ before ++ (v, c) ∷ [] → after ≡ map (entry best) (take (i + 1) nodes)
 listed_more best nodes i v c before after lt node known was is =
@@ -184,7 +184,7 @@ listed_more best nodes i v c before after lt node known was is =
     let more = ap (map (entry best)) (take_more nodes i 0 lt) ∙ map_push (entry best) (take i nodes) (get_or nodes i 0) ∙ ap (λ q. map (entry best) (take i nodes) ++ q ∷ []) one in
     is ∙ ap (λ q. q ++ (v, c) ∷ []) was ∙ sym more
 
--- the same, as the program reads nodes and costs
+-- the same as the program reads nodes and costs
 pub listed_step : (best : List (Option Cost)) (nodes items : List ℕ) (i : ℕ) (c : Cost) (r : Option Cost) (before after : List (ℕ × Cost)) → items ≡ nodes →
     i < length items → r ≡ cost_at best (get_or items i 0) → r ≡ Some c → before ≡ map (entry best) (take i nodes) →
     after ≡ before ++ (get_or items i 0, c) ∷ [] → after ≡ map (entry best) (take (i + 1) nodes)

@@ -1,4 +1,4 @@
--- A node to which a higher node shows a cheaper way is left unexpanded.
+-- A node stays unexpanded if a higher node shows a cheaper way to it.
 use Rattle.std.proofs.Common.{◌≡◌, ℕ, ◌+◌, ◌^◌, ◌<◌, ◌≤◌, true, List, length, map, Contains, Some, None, refl, sym, ◌∙◌, ap, subst, arith, get_or, inl}
 use Rattle.std.proofs.lemmas.List.{get_or-map, length-map}
 use Rattle.ch_graph.specs.declared.limits.TheConstants.{MOST_SUM}
@@ -22,7 +22,7 @@ use Rattle.ch_query.proofs.one_side.Parents.{finish_parents}
 use Rattle.std.proofs.lemmas.List.Elements.{Contains-get_or}
 use Rattle.ch_query.proofs.one_side.Expanding.{leg_up, rows_size, reached_arcs}
 
--- a leg that the stall test reads leads to a node
+-- a leg that the test for stalling reads leads to a node
 pub record IsBackLeg (H : LevelsAndLegs) (x : Search) (v : ℕ) (l : Leg) : Type 0 where
   pub has : Contains (row (rows_of H (other x.side)) v) l
   pub within : l.node < length (costs_of H x)
@@ -37,7 +37,7 @@ module _ (H : LevelsAndLegs) (x : Search) (v : ℕ) (c : Cost) (u : IsExpandingA
       let rows = rows_size H u.levelled x.side in
       record { has = has; within = omega arith }
 
-  -- their sums do not overflow
+  -- the sums of the test do not overflow
   pub back_sum : (l : Leg) (e : Cost) → IsBackLeg H x v l → cost_at (costs_of H x) l.node ≡ Some e → (e.weight + l.cost.weight ≤ MOST_SUM) × (e.arcs + l.cost.arcs < 2 ^ 64)
   back_sum l e b known =
       let up = leg_up H u.levelled (other x.side) v l b.has in
@@ -49,7 +49,7 @@ module _ (H : LevelsAndLegs) (x : Search) (v : ℕ) (c : Cost) (u : IsExpandingA
       let count = u.levelled.count in
       (omega arith, omega arith)
 
-  -- a sum that is less than c lets v be idle
+  -- if a sum is less than c, v may stay idle
   pub stalls_idle : (l : Leg) (e : Cost) → x.stalls ≡ true → IsBackLeg H x v l → cost_at (costs_of H x) l.node ≡ Some e → IsBelow (cost_sum e l.cost) c → idle_of H x v c
   stalls_idle l e on b known below = record {
     leg = l;
@@ -59,7 +59,7 @@ module _ (H : LevelsAndLegs) (x : Search) (v : ℕ) (c : Cost) (u : IsExpandingA
     below = below;
   }
 
-  -- an idle node's legs need not be taken
+  -- the legs of an idle node need not be taken
   pub stalled_underway : idle_of H x v c → IsUnderway H x
   stalled_underway idle = record {
     levelled = u.levelled;
@@ -74,7 +74,7 @@ module _ (H : LevelsAndLegs) (x : Search) (v : ℕ) (c : Cost) (u : IsExpandingA
     low : i < length (row (rows_of H side) v)
     low = (let size = ap length e ∙ length-map (row (rows_of H side) v) (ranked_leg H) in omega arith)
 
-    -- which is one of these
+    -- the leg that is read
     here : Leg
     here = get_or (row (rows_of H side) v) i no_leg
 
@@ -92,17 +92,17 @@ module _ (H : LevelsAndLegs) (x : Search) (v : ℕ) (c : Cost) (u : IsExpandingA
     pub stall_rank : (get_or items i d).rank < length x.labels.costs
     stall_rank = subst (λ (q : RankedLeg). q.rank < length x.labels.costs) (sym is) (let r = rank_below H u.levelled here.node within in let s = u.sizes.0 in omega arith)
 
-    -- a cost that stands at its rank is known of its node
+    -- a cost at its rank is the cost of its node
     known_there : (a : Cost) → cost_at x.labels.costs (get_or items i d).rank ≡ Some a → cost_at (costs_of H x) here.node ≡ Some a
     known_there a known = by_node-at H x.labels.costs None None here.node within ∙ ap (λ (q : RankedLeg). cost_at x.labels.costs q.rank) (sym is) ∙ known
 
-    -- their sum does not overflow
+    -- the sum of the two does not overflow
     pub stall_sum : (a cost : Cost) → cost_at x.labels.costs (get_or items i d).rank ≡ Some a → cost ≡ record { weight = (get_or items i d).weight; arcs = (get_or items i d).arcs } →
         (a.weight + cost.weight ≤ MOST_SUM) × (a.arcs + cost.arcs < 2 ^ 64)
     stall_sum a cost known same = subst (λ (q : Cost). (a.weight + q.weight ≤ MOST_SUM) × (a.arcs + q.arcs < 2 ^ 64))
         (sym (same ∙ ap (λ (q : RankedLeg). record { weight = q.weight; arcs = q.arcs }) is)) (back_sum here a back (known_there a known))
 
-    -- a sum that is less than c lets v be idle
+    -- if the sum is less than c, v may stay idle
     pub stall_idle : (a cost : Cost) → x.stalls ≡ true → cost_at x.labels.costs (get_or items i d).rank ≡ Some a →
         cost ≡ record { weight = (get_or items i d).weight; arcs = (get_or items i d).arcs } → IsBelow (cost_sum a cost) c → idle_of H x v c
     stall_idle a cost on known same below = stalls_idle here a on back (known_there a known)

@@ -14,12 +14,12 @@ use Rattle.ch_query.specs.Search.{IsSettled, IsRelaxedFrom, IsUpwardCost, IsSear
 use Rattle.ch_graph.proofs.CostSums.{IsAtMost-cost_sum_self}
 use Rattle.ch_query.proofs.one_side.PathLaws.{not_lower, not_below_nothing, cost_push, path_push}
 
--- how a count changes with one element
+-- the change of a count by a write
 count_by_set : {X : Type 0} (p : X → Bool) (xs : List X) (i : ℕ) (y d : X) → i < length xs →
     count_by p (set xs i y) + cond (p (get_or xs i d)) 1 0 ≡ count_by p xs + cond (p y) 1 0
 count_by_set p xs i y d h = sum_by-set (λ x. cond (p x) 1 0) xs i y d h
 
--- taking the least out of the queue
+-- the least key leaves the queue
 module _ {most : ℕ} (rows : List (List Leg)) (s : ℕ) (Idle : ℕ → Cost → Type 0) (best queue : List (Option Cost)) (p : IsSearch most rows s Idle best queue)
     (v : ℕ) (c : Cost) (key : cost_at queue v ≡ Some c) (least : (x : ℕ) (d : Cost) → cost_at queue x ≡ Some d → IsAtMost c d) (within : v < length queue) where
   -- the queue without v
@@ -31,37 +31,37 @@ module _ {most : ℕ} (rows : List (List Leg)) (s : ℕ) (Idle : ℕ → Cost �
   unfolding left
   gone = get_or-set_same queue v None None within
 
-  -- the others keep theirs
+  -- the other nodes keep their keys
   other : (x : ℕ) → (x ≡ v → ⊥) → cost_at left x ≡ cost_at queue x
   unfolding left
   other x ne = get_or-set_other queue v x None None ne
 
-  -- v is known at c
+  -- the known cost of v is c
   known : cost_at best v ≡ Some c
   known = p.queued v c key
 
-  -- what is settled now was so before, or is v
+  -- a node that is settled now was settled before, or is v
   settled_was : (x : ℕ) (a : Cost) → IsSettled best left x a → IsSettled best queue x a ⊎ ((x ≡ v) × (a ≡ c))
   settled_was x a h = elim (cases_eq x v) [
     | inl here ↦ inr (here, same_Some _ _ (sym h.0 ∙ ap (cost_at best) here ∙ known))
     | inr away ↦ inl (h.0, sym (other x away) ∙ h.1)
   ]
 
-  -- what has a key had it before
+  -- a node that has a key now had it before
   still : (x : ℕ) (d : Cost) → cost_at left x ≡ Some d → cost_at queue x ≡ Some d
   still x d e = elim (cases_eq x v) [
     | inl here ↦ absurd (none-some _ (sym gone ∙ ap (cost_at left) (sym here) ∙ e))
     | inr away ↦ sym (other x away) ∙ e
   ]
 
-  -- v is settled last
+  -- v was settled last
   latest : (x : ℕ) (a : Cost) → IsSettled best left x a → IsAtMost a c
   latest x a h = elim (settled_was x a h) [
     | inl was ↦ p.order x v a c was key
     | inr is ↦ subst (λ q. IsAtMost q c) (sym is.1) (IsAtMost_refl c)
   ]
 
-  -- the legs of v are to be taken next
+  -- the legs of v are taken next
   pub popped : IsExpanding most rows s (OrNode Idle v) best (set queue v None) v c
   unfolding left
   popped = record {
@@ -85,12 +85,12 @@ module _ {most : ℕ} (rows : List (List Leg)) (s : ℕ) (Idle : ℕ → Cost �
     latest = latest;
   }
 
-  -- what is settled now was so before, or is v
+  -- a node that is settled now was settled before, or is v
   pub popped_settled : (x : ℕ) (a : Cost) → IsSettled best (set queue v None) x a → IsSettled best queue x a ⊎ ((x ≡ v) × (a ≡ c))
   unfolding left
   popped_settled = settled_was
 
-  -- what was settled is so now
+  -- a node that was settled is settled now
   pub popped_stays : (x : ℕ) (a : Cost) → IsSettled best queue x a → IsSettled best (set queue v None) x a
   unfolding left
   popped_stays x a h = (
@@ -106,7 +106,7 @@ module _ {most : ℕ} (rows : List (List Leg)) (s : ℕ) (Idle : ℕ → Cost �
   unfolding left
   popped_here = (known, gone)
 
-  -- one node fewer is not settled
+  -- one node fewer is unsettled
   pub popped_falls : count_unsettled best (set queue v None) + 1 ≡ count_unsettled best queue
   popped_falls = let n = count_by_set is_some queue v None None within in omega (arith, rw key at n)
 
@@ -114,61 +114,61 @@ module _ {most : ℕ} (rows : List (List Leg)) (s : ℕ) (Idle : ℕ → Cost �
 module _ {most : ℕ} (rows : List (List Leg)) (s : ℕ) (Idle : ℕ → Cost → Type 0) (best queue : List (Option Cost)) (v : ℕ) (c : Cost)
     (x : IsExpanding most rows s Idle best queue v c)
     (l : Leg) (has : Contains (row rows v) l) (light : c.weight + l.cost.weight ≤ most) (h : WouldLower best l.node (cost_sum c l.cost)) where
-  -- the sum
+  -- the cost of the path over the leg
   d : Cost
   d = cost_sum c l.cost
 
-  -- the costs with it
+  -- the costs after the leg was taken
   best' : List (Option Cost)
   best' = set best l.node (Some d)
 
-  -- the queue with it
+  -- the queue after the leg was taken
   queue' : List (Option Cost)
   queue' = set queue l.node (Some d)
 
-  -- the leg's node is there
+  -- the leg's node is a node of the queue
   in_queue : l.node < length queue
   in_queue = let a = x.search.sizes.0 in let b = x.search.sizes.1 in let lt = h.within in omega arith
 
-  -- its cost is the sum
+  -- the cost of the leg's node is the sum
   best_here : cost_at best' l.node ≡ Some d
   unfolding best'
   best_here = get_or-set_same best l.node (Some d) None h.within
 
-  -- so is its key
+  -- the key of the leg's node is the sum
   queue_here : cost_at queue' l.node ≡ Some d
   unfolding queue'
   queue_here = get_or-set_same queue l.node (Some d) None in_queue
 
-  -- the other costs stay
+  -- the other costs stay the same
   best_other : (y : ℕ) → (y ≡ l.node → ⊥) → cost_at best' y ≡ cost_at best y
   unfolding best'
   best_other y ne = get_or-set_other best l.node y (Some d) None ne
 
-  -- the other keys stay
+  -- the other keys stay the same
   queue_other : (y : ℕ) → (y ≡ l.node → ⊥) → cost_at queue' y ≡ cost_at queue y
   unfolding queue'
   queue_other y ne = get_or-set_other queue l.node y (Some d) None ne
 
-  -- a settled node is never improved
+  -- the leg's node is not settled, because a settled cost never falls
   open_node : (a : Cost) → IsSettled best queue l.node a → ⊥
   open_node a k = not_lower c l.cost a (x.latest l.node a k) (h.lower a k.0)
 
-  -- what is settled now was so before
+  -- a node that is settled now was settled before
   settled_earlier : (y : ℕ) (a : Cost) → IsSettled best' queue' y a → IsSettled best queue y a
   settled_earlier y a k = elim (cases_eq y l.node) [
     | inl here ↦ absurd (none-some _ (sym k.1 ∙ ap (cost_at queue') here ∙ queue_here))
     | inr away ↦ (sym (best_other y away) ∙ k.0, sym (queue_other y away) ∙ k.1)
   ]
 
-  -- what was settled is so now
+  -- a node that was settled is settled now
   settled_stays : (y : ℕ) (a : Cost) → IsSettled best queue y a → IsSettled best' queue' y a
   settled_stays y a k = elim (cases_eq y l.node) [
     | inl here ↦ absurd (open_node a (sym (ap (cost_at best) here) ∙ k.0, sym (ap (cost_at queue) here) ∙ k.1))
     | inr away ↦ (best_other y away ∙ k.0, queue_other y away ∙ k.1)
   ]
 
-  -- what was relaxed is so now
+  -- a leg that was relaxed is relaxed now
   relaxed_stays : (a : Cost) (k : Leg) → IsRelaxedFrom most best a k → IsRelaxedFrom most best' a k
   unfolding d
   relaxed_stays a k r w =
@@ -197,7 +197,7 @@ module _ {most : ℕ} (rows : List (List Leg)) (s : ℕ) (Idle : ℕ → Cost �
     | inr away ↦ x.search.sound y a (sym (best_other y away) ∙ e)
   ]
 
-  -- and no heavier than it may be
+  -- no cost is heavier than `most`
   not_heavy : (y : ℕ) (a : Cost) → cost_at best' y ≡ Some a → a.weight ≤ most
   unfolding d
   not_heavy y a e = elim (cases_eq y l.node) [
@@ -205,7 +205,7 @@ module _ {most : ℕ} (rows : List (List Leg)) (s : ℕ) (Idle : ℕ → Cost �
     | inr away ↦ x.search.light y a (sym (best_other y away) ∙ e)
   ]
 
-  -- each key is a cost
+  -- each key is the node's cost
   queued : (y : ℕ) (a : Cost) → cost_at queue' y ≡ Some a → cost_at best' y ≡ Some a
   queued y a e = elim (cases_eq y l.node) [
     | inl here ↦ ap (cost_at best') here ∙ best_here ∙ sym queue_here ∙ ap (cost_at queue') (sym here) ∙ e
@@ -222,7 +222,7 @@ module _ {most : ℕ} (rows : List (List Leg)) (s : ℕ) (Idle : ℕ → Cost �
     | inr away ↦ x.search.order y w a b (settled_earlier y a k) (sym (queue_other w away) ∙ e)
   ]
 
-  -- the source costs nothing
+  -- the cost of the source is no cost
   start : cost_at best' s ≡ Some no_cost
   unfolding d
   start = elim (cases_eq s l.node) [
@@ -230,7 +230,7 @@ module _ {most : ℕ} (rows : List (List Leg)) (s : ℕ) (Idle : ℕ → Cost �
     | inr away ↦ best_other s away ∙ x.search.start
   ]
 
-  -- so the search goes on
+  -- the search goes on
   pub lowered : IsExpanding most rows s Idle (set best l.node (Some (cost_sum c l.cost))) (set queue l.node (Some (cost_sum c l.cost))) v c
   unfolding d best' queue'
   lowered = record {
@@ -248,19 +248,19 @@ module _ {most : ℕ} (rows : List (List Leg)) (s : ℕ) (Idle : ℕ → Cost �
     latest = λ y a k. x.latest y a (settled_earlier y a k);
   }
 
-  -- what is settled now was so before
+  -- a node that is settled now was settled before
   pub lowered_settled : (y : ℕ) (a : Cost) → IsSettled (set best l.node (Some (cost_sum c l.cost))) (set queue l.node (Some (cost_sum c l.cost))) y a →
       IsSettled best queue y a
   unfolding d best' queue'
   lowered_settled = settled_earlier
 
-  -- what was settled is so now
+  -- a node that was settled is settled now
   pub lowered_stays : (y : ℕ) (a : Cost) → IsSettled best queue y a →
       IsSettled (set best l.node (Some (cost_sum c l.cost))) (set queue l.node (Some (cost_sum c l.cost))) y a
   unfolding d best' queue'
   lowered_stays = settled_stays
 
-  -- what was relaxed is so now
+  -- a leg that was relaxed is relaxed now
   pub lowered_keeps : (a : Cost) (k : Leg) → IsRelaxedFrom most best a k → IsRelaxedFrom most (set best l.node (Some (cost_sum c l.cost))) a k
   unfolding d best' queue'
   lowered_keeps = relaxed_stays
@@ -270,7 +270,7 @@ module _ {most : ℕ} (rows : List (List Leg)) (s : ℕ) (Idle : ℕ → Cost �
   unfolding d best' queue'
   lowered_relaxes _ = (d, best_here, IsAtMost_refl d)
 
-  -- its node was not settled, and is not now
+  -- the leg's node was not settled before, and is not settled now
   counts : (o q : Option Cost) → cost_at best l.node ≡ o → cost_at queue l.node ≡ q →
       count_by is_none best' + count_by is_some queue' ≡ count_by is_none best + count_by is_some queue
   unfolding best' queue'
@@ -285,15 +285,15 @@ module _ {most : ℕ} (rows : List (List Leg)) (s : ℕ) (Idle : ℕ → Cost �
       let n = count_by_set is_some queue l.node (Some d) None in_queue in
       omega (arith, rw e at m, rw f at n)
 
-  -- as many nodes are not settled
+  -- the number of unsettled nodes stays the same
   pub lowered_counts : count_unsettled (set best l.node (Some (cost_sum c l.cost))) (set queue l.node (Some (cost_sum c l.cost))) ≡ count_unsettled best queue
   unfolding d best' queue'
   lowered_counts = counts _ _ refl refl
 
--- a node whose legs are all relaxed, or that may be left idle
+-- a node whose legs are all relaxed, or that may stay idle
 module _ {most : ℕ} (rows : List (List Leg)) (s : ℕ) (Idle : ℕ → Cost → Type 0) (best queue : List (Option Cost)) (v : ℕ) (c : Cost)
     (x : IsExpanding most rows s (OrNode Idle v) best queue v c) where
-  -- then the search is between two nodes
+  -- the search is no longer expanding
   finish : Idle v c ⊎ ((l : Leg) → Contains (row rows v) l → IsRelaxedFrom most best c l) → IsSearch most rows s Idle best queue
   finish done = record {
     limits = x.search.limits;
@@ -313,10 +313,10 @@ module _ {most : ℕ} (rows : List (List Leg)) (s : ℕ) (Idle : ℕ → Cost �
     ];
   }
 
-  -- where all its legs are relaxed
+  -- the case where all its legs are relaxed
   pub expanded : ((l : Leg) → Contains (row rows v) l → IsRelaxedFrom most best c l) → IsSearch most rows s Idle best queue
   expanded legs = finish (inr legs)
 
-  -- where it is idle
+  -- the case where it is idle
   pub stalled : Idle v c → IsSearch most rows s Idle best queue
   stalled idle = finish (inl idle)

@@ -1,4 +1,4 @@
--- Tight nodes, which lie on least ways: a search that stalls reaches each of them at its least cost.
+-- Tight nodes, which are on least ways. A search that stalls reaches each of them at its least cost.
 use Rattle.std.proofs.Common.{◌≡◌, ℕ, ◌≤◌, true, sym, ◌∙◌, subst, arith}
 use Rattle.ch_graph.specs.declared.limits.TheConstants.{MOST_WEIGHT}
 use Rattle.ch_graph.specs.declared.cost.Cost.{Cost}
@@ -29,30 +29,30 @@ use Rattle.ch_query.proofs.one_side.End.{settled_least}
 use Rattle.ch_query.proofs.one_side.Expanding.{reached_by_leg}
 use Rattle.ch_query.proofs.one_side.PathLaws.{below_then, below_sum}
 
--- what is right for some graph is right, turned round, for the graph turned round
+-- a hierarchy that is right for some graph is right for the reversed graph when it is reversed
 abbrev pub kept_turned : (H : LevelsAndLegs) → IsKeptForSome H → IsKeptForSome (turned_hierarchy H)
 kept_turned H k = (turned_graph k.0, turned_limits k.0 k.1, turned_kept k.0 H k.2)
 
--- a least meeting is one the other way
+-- a least meeting is a least meeting in the other direction
 pub least_meeting_turned : (H : LevelsAndLegs) (s t : ℕ) (c : Cost) → IsLeastMeeting H s t c → IsLeastMeeting (turned_hierarchy H) t s c
 least_meeting_turned H s t c h = record {
   meets = (h.meets.0, turned_meeting H s t h.meets.0 c h.meets.1);
   least = λ m d there. h.least m d (turned_meeting (turned_hierarchy H) t s m d there);
 }
 
--- what s reaches upwards it reaches by a walk
+-- if s reaches a node upwards, a walk leads there
 walk_up : (H : LevelsAndLegs) (k : IsKeptForSome H) (s m : ℕ) (a : Cost) → IsUpwardCost H.up s m a → IsWalkCost k.0 s m a
 walk_up H k s m a r = subst (IsWalkCost k.0 s m) r.path.2 ((kept_has_walks k.0 H k.1 k.2).rises s m r.path.0 r.path.1)
 
--- from what t reaches downwards a walk leads to t
+-- if t reaches a node along the down rows, a walk leads from there to t
 walk_down : (H : LevelsAndLegs) (k : IsKeptForSome H) (t m : ℕ) (b : Cost) → IsUpwardCost H.down t m b → IsWalkCost k.0 m t b
 walk_down H k t m b r = walk_turned k.0 m t b (walk_up (turned_hierarchy H) (kept_turned H k) t m b r)
 
--- together they are a walk
+-- the two walks together are a walk
 pub sum_walk : (H : LevelsAndLegs) (k : IsKeptForSome H) (s t m : ℕ) (a b : Cost) → IsUpwardCost H.up s m a → IsUpwardCost H.down t m b → IsWalkCost k.0 s t (cost_sum a b)
 sum_walk H k s t m a b up down = IsWalkCost-cost_sum k.0 s m t a b (walk_up H k s m a up) (walk_down H k t m b down)
 
--- where both together cost what the least meeting costs, the node is tight from s
+-- if the two walks together cost as little as the least meeting, the node is tight from s
 pub tight_up : (H : LevelsAndLegs) (k : IsKeptForSome H) (s t m : ℕ) (a b c : Cost) → IsLeastMeeting H s t c → IsUpwardCost H.up s m a → IsUpwardCost H.down t m b →
     cost_sum a b ≡ c → IsTight H Up s m a
 tight_up H k s t m a b c h up down sum =
@@ -62,14 +62,15 @@ tight_up H k s t m a b c h up down sum =
     let rises = (kept_has_walks k.0 H k.1 k.2).rises s m in
     (record { path = up.path; weight = up.weight; least = λ legs path _. IsLeast-IsAtMost k.0 s m a (path_cost legs) front (rises legs path) }, (law.least s m a).0 front)
 
--- and from t
+-- the same from t
 pub tight_down : (H : LevelsAndLegs) (k : IsKeptForSome H) (s t m : ℕ) (a b c : Cost) → IsLeastMeeting H s t c → IsUpwardCost H.up s m a → IsUpwardCost H.down t m b →
     cost_sum a b ≡ c → IsTight H Down t m b
 tight_down H k s t m a b c h up down sum =
     let back = tight_up (turned_hierarchy H) (kept_turned H k) t s m b a c (least_meeting_turned H s t c h) down up (cost_sum_comm b a ∙ sum) in
     (back.0, least_meeting_turned (turned_hierarchy H) t m b back.1)
 
--- where a search from s stalls, a walk from s costs less; so it stalls at no node on a path to a tight node of its least cost
+-- if a search from s stalls at a node, a walk from s to it costs less. So it stalls at no node on a least path to a
+-- tight node
 up_avoids : (H : LevelsAndLegs) (k : IsKeptForSome H) (s m : ℕ) (c : Cost) → IsTight H Up s m c → AvoidsIdle H.up (IsStalled H.up H.down s) m c
 up_avoids H k s m c tight x e legs i path le =
     let cheaper = cost_sum i.cost i.leg.cost in
@@ -78,7 +79,7 @@ up_avoids H k s m c tight x e legs i path le =
     let least = ((meetings_are_distances k.0 H k.1 k.2).least s m c).1 tight.1 in
     IsBelow_not (cost_sum cheaper (path_cost legs)) c (below_then _ _ c (below_sum cheaper e (path_cost legs) i.below) le) (IsLeast-IsAtMost k.0 s m c _ least walk)
 
--- in both directions
+-- the same in both directions
 tight_avoids : (H : LevelsAndLegs) → IsKeptForSome H → (side : Side) (s m : ℕ) (c : Cost) → IsTight H side s m c →
     AvoidsIdle (rows_of H side) (IsStalled (rows_of H side) (rows_of H (other side)) s) m c
 tight_avoids H k Up s m c tight = up_avoids H k s m c tight
@@ -91,15 +92,15 @@ tight_least H Down s m c tight = tight.0
 
 -- a search that stalls, and a node that is tight for it
 module _ (H : LevelsAndLegs) (k : IsKeptForSome H) (x : Search) (u : IsUnderway H x) (on : x.stalls ≡ true) (m : ℕ) (a : Cost) (tight : IsTight H x.side x.source m a) where
-  -- it stalls at no node on a path to it of its least cost
+  -- it stalls at no node on a path to the tight node of least cost
   avoids : AvoidsIdle (rows_of H x.side) (idle_of H x) m a
   avoids = subst (λ b. AvoidsIdle (rows_of H x.side) (IsStalled (rows_of H x.side) (back_of H x.side b) x.source) m a) (sym on) (tight_avoids H k x.side x.source m a tight)
 
-  -- once each key that is left is more, the node is settled at that cost
+  -- once each remaining key is more, the tight node is settled at that cost
   tight_settled : a.weight ≤ x.most → IsPastCost (keys_of H x) a → IsSettled (costs_of H x) (keys_of H x) m a
   tight_settled low past = settled_least _ _ _ _ _ u.search m a low past avoids (tight_least H x.side x.source m a tight)
 
-  -- so the search has reached it
+  -- the search has reached the tight node
   pub tight_reached : x.most ≡ MOST_WEIGHT → IsPastCost (keys_of H x) a → HasReached H x m a
   tight_reached most past =
       let least = tight_least H x.side x.source m a tight in

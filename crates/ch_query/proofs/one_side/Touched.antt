@@ -13,13 +13,13 @@ use Rattle.ch_graph.specs.declared.cost.Cost.{Cost}
 use Rattle.ch_graph.specs.Cost.{cost_at}
 use Rattle.ch_query.specs.Underway.{IsTouched}
 
--- what is never some is none
+-- a value that is never some is none
 pub none_unless : {A : Type 0} (o : Option A) → ((a : A) → o ≡ Some a → ⊥) → o ≡ None
 none_unless None never = refl
 none_unless (Some a) never = absurd (never a refl)
 
 module _ (best : List (Option Cost)) (touched : Vec ℕ Global) (t : IsTouched best touched) (w : ℕ) (within : w < length best) (d : Cost) where
-  -- how many nodes have a cost then
+  -- the number of nodes with a cost after the write
   counted : (b : Bool) → is_some (cost_at best w) ≡ b → count_by is_some (set best w (Some d)) + cond b 1 0 ≡ count_by is_some best + 1
   counted b e = subst (λ q. count_by is_some (set best w (Some d)) + cond q 1 0 ≡ count_by is_some best + 1) e (sum_by-set (λ x. cond (is_some x) 1 0) best w (Some d) None within)
 
@@ -27,11 +27,11 @@ module _ (best : List (Option Cost)) (touched : Vec ℕ Global) (t : IsTouched b
   here : is_some (cost_at (set best w (Some d)) w) ≡ true
   here = ap is_some (get_or-set_same best w (Some d) None within)
 
-  -- of the others it is as before
+  -- the other nodes have a cost if they had one
   other : (v : ℕ) → (v ≡ w → ⊥) → is_some (cost_at (set best w (Some d)) v) ≡ is_some (cost_at best v)
   other v ne = ap is_some (get_or-set_other best w v (Some d) None ne)
 
-  -- what had a cost has one
+  -- a node that had a cost has one
   keeps : (v : ℕ) → is_some (cost_at best v) ≡ true → is_some (cost_at (set best w (Some d)) v) ≡ true
   keeps v e = elim (cases_eq v w) [ inl is ↦ ap (λ q. is_some (cost_at (set best w (Some d)) q)) is ∙ here | inr away ↦ other v away ∙ e ]
 
@@ -45,7 +45,7 @@ module _ (best : List (Option Cost)) (touched : Vec ℕ Global) (t : IsTouched b
       let count = t.count in
       omega arith
 
-  -- w is listed, which was not
+  -- w had no cost, and is in the list now
   pub touched_more : (touched' : Vec ℕ Global) → is_some (cost_at best w) ≡ false → touched'.items ≡ touched.items ++ w ∷ [] →
       vec_len touched' ≡ vec_len touched + 1 → vec_capacity touched' ≡ vec_capacity touched → IsTouched (set best w (Some d)) touched'
   touched_more touched' e items len capacity = record {
@@ -63,7 +63,7 @@ module _ (best : List (Option Cost)) (touched : Vec ℕ Global) (t : IsTouched b
         (λ k x lt same. false≢true (sym e ∙ ap (λ q. is_some (cost_at best q)) (sym same) ∙ t.reached _ (Contains-get_or touched.items k x lt))));
   }
 
-  -- w was listed already
+  -- w had a cost, and was in the list before
   pub touched_same : is_some (cost_at best w) ≡ true → IsTouched (set best w (Some d)) touched
   touched_same e = record {
     room = (let size = length-set best w (Some d) in let room = t.room in omega arith);
@@ -76,29 +76,29 @@ module _ (best : List (Option Cost)) (touched : Vec ℕ Global) (t : IsTouched b
     distinct = t.distinct;
   }
 
--- a node with a cost is there
+-- a node with a cost is a node
 pub some_within : (best : List (Option Cost)) (w : ℕ) → is_some (cost_at best w) ≡ true → w < length best
 some_within best w e = elim (cases_lt w (length best)) [ inl lt ↦ lt | inr ge ↦ absurd (false≢true (sym (ap is_some (get_or_past best w None ge)) ∙ e)) ]
 
--- a list without costs has none at any node
+-- a list without costs has no cost at any node
 pub none_known : (n v : ℕ) → cost_at (replicate n None) v ≡ None
 none_known n v = elim (cases_lt v n) [
   | inl lt ↦ get_or-replicate {A = Option Cost} n v None None lt
   | inr ge ↦ get_or_past (replicate n None) v None (let size = length-replicate {A = Option Cost} n None in omega arith)
 ]
 
--- the last touched node is cleaned
+-- the cost of the last touched node is removed
 module _ (best : List (Option Cost)) (touched touched' : Vec ℕ Global) (t : IsTouched best touched) (w : ℕ) (items : touched.items ≡ touched'.items ++ w ∷ [])
     (len : vec_len touched' + 1 ≡ vec_len touched) (capacity : vec_capacity touched' ≡ vec_capacity touched) where
   -- the last node has a cost
   was : is_some (cost_at best w) ≡ true
   was = t.reached w (subst (λ xs. Contains xs w) (sym items) (Contains-push touched'.items w))
 
-  -- it is there
+  -- the last node is a node
   pub last_within : w < length best
   last_within = some_within best w was
 
-  -- it is listed once
+  -- the last node is in the list once
   away : (v : ℕ) → Contains touched'.items v → v ≡ w → ⊥
   away v h same =
       let k = h.0 in
@@ -107,7 +107,7 @@ module _ (best : List (Option Cost)) (touched touched' : Vec ℕ Global) (t : Is
       let pair = subst (AllPairs ◌≢◌) items t.distinct k (length touched'.items) v lt (omega arith) in
       pair (get_or_append_left touched'.items (w ∷ []) v k lt ∙ h.2 ∙ same ∙ sym (get_or_push touched'.items w v (length touched'.items) refl))
 
-  -- without its cost and without it the list is right
+  -- the list is right without the last node, whose cost is removed
   pub touched_less : IsTouched (set best w None) touched'
   touched_less = record {
     room = (let size = length-set best w None in let room = t.room in omega arith);
@@ -130,7 +130,7 @@ module _ (best : List (Option Cost)) (touched touched' : Vec ℕ Global) (t : Is
         λ same. pair (get_or_append_left touched'.items (w ∷ []) d i (omega arith) ∙ same ∙ sym (get_or_append_left touched'.items (w ∷ []) d j within));
   }
 
--- with no costs no node is touched
+-- without costs no node is touched
 pub untouched : (n : ℕ) (best : List (Option Cost)) (touched : Vec ℕ Global) → best ≡ replicate n None → touched.items ≡ [] → vec_len touched ≡ 0 →
     n ≤ vec_capacity touched → IsTouched best touched
 untouched n best touched none items len capacity = record {

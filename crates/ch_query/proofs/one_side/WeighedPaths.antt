@@ -1,4 +1,4 @@
--- Paths by weights alone: the legs of a hierarchy lead as they did and weigh as much.
+-- Paths by weights alone: the legs of a hierarchy lead to the same nodes and weigh the same.
 use Rattle.std.proofs.Common.{◌≡◌, ℕ, ◌<◌, List, [], ◌∷◌, map, All, Contains, refl, sym, ◌∙◌, ap, subst, arith}
 use Rattle.std.proofs.Math.ListN.{get_or-map}
 use Rattle.std.proofs.lemmas.List.{length-map}
@@ -24,16 +24,16 @@ use Rattle.ch_query.specs.Weighed.{weighed_cost, weighed_leg, weighed}
 use Rattle.ch_query.proofs.one_side.Expanding.{reached_by_leg}
 use Rattle.ch_query.proofs.one_side.TightNodes.{kept_turned, least_meeting_turned, sum_walk}
 
--- the row of a node has the legs that it had
+-- the row of a node has the same legs by weight
 row_weighed : (rows : List (List Leg)) (v : ℕ) → row (map (map weighed_leg) rows) v ≡ map weighed_leg (row rows v)
 row_weighed rows v = get_or-map (map weighed_leg) rows v []
 
--- the rows of a side are its rows, each leg by its weight alone
+-- the rows of a side are its rows, each leg by weight alone
 pub weighed_rows : (H : LevelsAndLegs) (side : Side) → rows_of (weighed H) side ≡ map (map weighed_leg) (rows_of H side)
 weighed_rows H Up = refl
 weighed_rows H Down = refl
 
--- and so is each row
+-- each row is the same row, each leg by weight alone
 pub weighed_row : (H : LevelsAndLegs) (side : Side) (v : ℕ) → row (rows_of (weighed H) side) v ≡ map weighed_leg (row (rows_of H side) v)
 weighed_row H side v = ap (λ rows. row rows v) (weighed_rows H side) ∙ row_weighed (rows_of H side) v
 
@@ -49,22 +49,22 @@ legs_up_weighed H rows are = (
   ),
 )
 
--- so the hierarchy is levelled by weights alone
+-- the hierarchy by weights alone is levelled
 pub weighed_levelled : (H : LevelsAndLegs) → IsLevelled H → IsLevelled (weighed H)
 weighed_levelled H is = record { count = is.count; levels = is.levels; up = legs_up_weighed H H.up is.up; down = legs_up_weighed H H.down is.down }
 
--- a leg by its weight alone is that of a leg
+-- each leg by weight alone is made of a leg
 leg_of_weighed : (rows : List (List Leg)) (v : ℕ) (l : Leg) → Contains (row (map (map weighed_leg) rows) v) l →
     (k : Leg) × Contains (row rows v) k × (weighed_leg k ≡ l)
 leg_of_weighed rows v l has = contains_map_of weighed_leg (row rows v) l (subst (λ legs. Contains legs l) (row_weighed rows v) has)
 
--- a path costs its weight alone
+-- the cost of a path by weights alone is its weight
 pub path_cost-weighed : (legs : List Leg) → path_cost (map weighed_leg legs) ≡ weighed_cost (path_cost legs)
 path_cost-weighed [] = refl
 path_cost-weighed (l ∷ legs) = path_cost-cons (weighed_leg l) (map weighed_leg legs) ∙ ap (cost_sum (weighed_cost l.cost)) (path_cost-weighed legs)
     ∙ ap weighed_cost (sym (path_cost-cons l legs))
 
--- a path leads where it did
+-- a path is a path by weights alone
 pub path_weighed : (rows : List (List Leg)) (a b : ℕ) (legs : List Leg) → IsUpwardPath rows a b legs →
     IsUpwardPath (map (map weighed_leg) rows) a b (map weighed_leg legs)
 path_weighed rows a b [] path = path
@@ -73,7 +73,7 @@ path_weighed rows a b (l ∷ legs) path = (
   path_weighed rows l.node b legs path.1,
 )
 
--- and each path by weights alone is that of a path
+-- each path by weights alone is made of a path
 pub path_of_weighed : (rows : List (List Leg)) (a b : ℕ) (legs : List Leg) → IsUpwardPath (map (map weighed_leg) rows) a b legs →
     (before : List Leg) × IsUpwardPath rows a b before × (map weighed_leg before ≡ legs)
 path_of_weighed rows a b [] path = ([], path, refl)
@@ -82,14 +82,14 @@ path_of_weighed rows a b (l ∷ legs) path =
     let rest = path_of_weighed rows first.0.node b legs (subst (λ (k : Leg). IsUpwardPath (map (map weighed_leg) rows) k.node b legs) (sym first.2) path.1) in
     (first.0 ∷ rest.0, (first.1, rest.1), ap (λ k. k ∷ map weighed_leg rest.0) first.2 ∙ ap (λ ks. l ∷ ks) rest.2)
 
--- what is reached is reached by weights alone
+-- a reached node is reached by weights alone
 pub weighed_reached : (rows : List (List Leg)) (s v : ℕ) (c : Cost) → IsUpwardCost rows s v c → IsUpwardCost (map (map weighed_leg) rows) s v (weighed_cost c)
 weighed_reached rows s v c r = record {
   path = (map weighed_leg r.path.0, path_weighed rows s v r.path.0 r.path.1, path_cost-weighed r.path.0 ∙ ap weighed_cost r.path.2);
   weight = r.weight;
 }
 
--- and what is reached by weights alone is reached at that weight
+-- a node that is reached by weights alone is reached at that weight
 reached_of_weighed : (rows : List (List Leg)) (s v : ℕ) (c : Cost) → IsUpwardCost (map (map weighed_leg) rows) s v c →
     (d : Cost) × IsUpwardCost rows s v d × (d.weight ≡ c.weight)
 reached_of_weighed rows s v c r =
@@ -99,12 +99,13 @@ reached_of_weighed rows s v c r =
     let light = r.weight in
     (path_cost before.0, record { path = (before.0, before.1, refl); weight = omega arith }, same)
 
--- on both sides
+-- the same on both sides
 pub reached_weight : (H : LevelsAndLegs) (side : Side) (s v : ℕ) (c : Cost) → IsUpwardCost (rows_of (weighed H) side) s v c →
     (d : Cost) × IsUpwardCost (rows_of H side) s v d × (d.weight ≡ c.weight)
 reached_weight H side s v c r = reached_of_weighed (rows_of H side) s v c (subst (λ rows. IsUpwardCost rows s v c) (weighed_rows H side) r)
 
--- where a search by weights alone stalls, a walk from s weighs less; so it stalls at no node on a path to a tight node of its least weight
+-- if a search by weights alone stalls at a node, a walk from s to it weighs less. So it stalls at no node on a
+-- lightest path to a tight node
 up_avoids : (H : LevelsAndLegs) → IsKeptForSome H → (s m : ℕ) (a : Cost) → IsTight H Up s m a →
     AvoidsIdle (rows_of (weighed H) Up) (IsStalled (rows_of (weighed H) Up) (rows_of (weighed H) Down) s) m (weighed_cost a)
 up_avoids H k s m a tight x e legs i path le =
@@ -127,7 +128,7 @@ up_avoids H k s m a tight x e legs i path le =
     let no_fewer = le.1 (omega arith) in
     omega arith
 
--- in both directions
+-- the same in both directions
 pub weighed_avoids : (H : LevelsAndLegs) → IsKeptForSome H → (side : Side) (s m : ℕ) (a : Cost) → IsTight H side s m a →
     AvoidsIdle (rows_of (weighed H) side) (IsStalled (rows_of (weighed H) side) (rows_of (weighed H) (other side)) s) m (weighed_cost a)
 weighed_avoids H k Up s m a tight = up_avoids H k s m a tight

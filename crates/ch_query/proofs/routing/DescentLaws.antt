@@ -1,4 +1,4 @@
--- The steps from a node back down to the source cost what the node costs, and are one.
+-- The steps from a node back down to the source cost the least cost of the node, and are determined.
 use Rattle.std.proofs.Common.{◌≡◌, ℕ, List, [], ◌∷◌, map, Contains, refl, sym, ◌∙◌, ap, subst, arith}
 use Rattle.ch_graph.specs.declared.cost.Cost.{Cost}
 use Rattle.ch_graph.specs.Cost.{IsAtMost, cost_sum, no_cost}
@@ -12,16 +12,16 @@ use Rattle.ch_query.specs.Routes.{DescentStep, IsDescent}
 use Rattle.ch_query.proofs.one_side.Parents.{least_same}
 use Rattle.ch_query.proofs.routing.Rows.{row_one}
 
--- what the legs of the steps cost together
+-- the sum of the costs of the legs of the steps
 abbrev pub steps_cost : List DescentStep → Cost
 steps_cost steps = path_cost (map (λ step. step.leg) steps)
 
--- one step more adds the cost of its leg
+-- one more step adds the cost of its leg
 pub steps_cost-cons : (step : DescentStep) (steps : List DescentStep) → steps_cost (step ∷ steps) ≡ cost_sum (steps_cost steps) step.leg.cost
 steps_cost-cons step steps = path_cost-cons step.leg (map (λ (s : DescentStep). s.leg) steps) ∙ cost_sum_comm step.leg.cost (steps_cost steps)
 
 module _ (rows : List (List Leg)) (a : ℕ) where
-  -- the steps back from x cost what x costs
+  -- the cost of the steps back from x is the least cost of x
   pub descent_cost : (x : ℕ) (steps : List DescentStep) (c : Cost) → IsDescent rows a x steps → IsLeastUpwardPath rows a x c → steps_cost steps ≡ c
   descent_cost x [] c d l =
       let low : IsAtMost c no_cost = l.least [] (sym d) (omega arith) in
@@ -32,7 +32,7 @@ module _ (rows : List (List Leg)) (a : ℕ) where
       let last = d.1.last in
       steps_cost-cons step steps ∙ ap (λ q. cost_sum q step.leg.cost) (descent_cost step.low steps last.2 d.2 last.3) ∙ least_same rows a x _ c last.4 l
 
-  -- two ways back from x are the same
+  -- two ways back from x are equal
   pub descent_one : ((v : ℕ) → IsRow (row rows v)) → (x : ℕ) (ks ls : List DescentStep) → IsDescent rows a x ks → IsDescent rows a x ls → ks ≡ ls
   descent_one order x [] [] d e = refl
   descent_one order x [] (l ∷ ls) d e = absurd (e.0 d)

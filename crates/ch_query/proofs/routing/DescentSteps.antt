@@ -30,7 +30,7 @@ use Rattle.ch_query.proofs.routing.PendingLegs.{pending_has_arc}
 use Rattle.ch_query.proofs.routing.Rows.{row_one, rows_ordered, has_row}
 use Rattle.ch_query.proofs.one_side.ByNode.{by_node-at, by_node-some}
 
--- the chosen steps from m back to x were appended, and x lies on a least path to m
+-- the chosen steps from m back to x were appended, and x is on a least path to m
 pub record IsPartlyTraced (H : LevelsAndLegs) (y : Search) (m x : ℕ) (c : Cost) (old : List PendingLeg) (new : Vec PendingLeg Global) : Type 0 where
   pub cost : Cost
   pub known : cost_at (costs_of H y) x ≡ Some cost
@@ -43,17 +43,17 @@ pub record IsPartlyTraced (H : LevelsAndLegs) (y : Search) (m x : ℕ) (c : Cost
   pub pushed : new.items ≡ old ++ map (pending_of y.side) done
   pub room : vec_len new + cost.arcs ≤ vec_capacity new
 
--- a leg of a row is one of the hierarchy
+-- a leg of a row is a leg of the hierarchy
 pub step_pending : (H : LevelsAndLegs) (side : Side) (step : DescentStep) → Contains (row (rows_of H side) step.low) step.leg → IsPending H (pending_of side step)
 step_pending H Up step has = (step.leg, refl, refl, inl (has, refl))
 step_pending H Down step has = (step.leg, refl, refl, inr (has, refl))
 
--- it stands for as many arcs as the row says
+-- the pending leg has the arcs of the row's leg
 pub step_arcs : (side : Side) (step : DescentStep) → (pending_of side step).cost.arcs ≡ step.leg.cost.arcs
 step_arcs Up step = refl
 step_arcs Down step = refl
 
--- at the meet
+-- at the meet nothing is appended yet
 pub tracing_starts : (H : LevelsAndLegs) (y : Search) (m : ℕ) (pending : Vec PendingLeg Global) (r : HasReachedWithRoom H y m pending) →
     IsPartlyTraced H y m m r.0 pending.items pending
 tracing_starts H y m pending r = record {
@@ -71,15 +71,15 @@ tracing_starts H y m pending r = record {
 
 module _ (H : LevelsAndLegs) (k : IsKeptForSome H) (y : Search) (m x : ℕ) (c : Cost) (r : HasReached H y m c) (old : List PendingLeg) (pending : Vec PendingLeg Global)
     (t : IsPartlyTraced H y m x c old pending) where
-  -- at the source
+  -- at the source the way back is complete
   pub tracing_ends : x ≡ y.source → IsTraced H y m old pending.items
   tracing_ends is = record { steps = t.done; descent = subst (IsDescent (rows_of H y.side) y.source m) (append-nil t.done) (t.descent [] is); pushed = t.pushed }
 
-  -- the node is there
+  -- the node is a node of the hierarchy
   pub node_at_within : x < nodes_of H
   node_at_within = (by_node-some H y.labels.costs x t.cost t.known).0
 
-  -- what is read at its rank is its parent
+  -- the parent that is read at the node's rank is the node's parent
   pub read_parent : (rank p : ℕ) → rank ≡ rank_of H x → p ≡ slice_index y.labels.parents rank → p ≡ slice_index (parents_of H y) x
   read_parent rank p at read = read ∙ ap (slice_index y.labels.parents) at ∙ sym (by_node-at H y.labels.parents 0 0 x node_at_within)
 
@@ -91,11 +91,11 @@ module _ (H : LevelsAndLegs) (k : IsKeptForSome H) (y : Search) (m x : ℕ) (c :
     of = parent _ _ _ _ _ _ r.underway.search r.underway.parents m c light r.past r.avoids x ne t.cost t.known t.least t.tail t.path t.cheap
 
     module _ (p : ℕ) (read : p ≡ slice_index (parents_of H y) x) where
-      -- the number that was read
+      -- the number that was read is the parent
       is : slice_index (parents_of H y) x ≡ p
       is = sym read
 
-      -- it has the leg
+      -- the row of the parent has the leg
       has : Contains (row (rows_of H y.side) p) of.leg
       has = subst (λ q. Contains (row (rows_of H y.side) q) of.leg) is of.has
 
@@ -108,23 +108,23 @@ module _ (H : LevelsAndLegs) (k : IsKeptForSome H) (y : Search) (m x : ℕ) (c :
       parent_has legs e = (of.leg, subst (λ q. Contains q of.leg) (sym e) has, of.node)
 
       module _ (l : Leg) (legs : List Leg) (e : legs ≡ row (rows_of H y.side) p) (found : Contains legs l × (l.node ≡ x)) where
-        -- the leg that is found is in the row
+        -- the leg that is found is in the row of the parent
         l_has : Contains (row (rows_of H y.side) p) l
         l_has = subst (λ q. Contains q l) e found.0
 
-        -- it is that of the parent
+        -- it is the leg of the parent
         same : of.leg ≡ l
         same = row_one (row (rows_of H y.side) p) (rows_ordered H r.underway.levelled y.side p) of.leg l has l_has (of.node ∙ sym found.1)
 
-        -- the costs add up
+        -- the parent's cost and the leg's cost add up to the node's cost
         sum : cost_sum of.cost l.cost ≡ t.cost
         sum = ap (λ (q : Leg). cost_sum of.cost q.cost) (sym same) ∙ of.sum
 
-        -- the way back goes down
+        -- the parent is lower than the node
         pub parent_lower : slice_index H.level p < slice_index H.level x
         parent_lower = let up = leg_up H r.underway.levelled y.side p l l_has in let higher = up.higher in let at = ap (slice_index H.level) found.1 in omega arith
 
-        -- the leg has an arc
+        -- the leg stands for at least one arc
         some : 0 < l.cost.arcs
         some =
             let step : DescentStep = record { low = p; leg = l } in
@@ -132,27 +132,27 @@ module _ (H : LevelsAndLegs) (k : IsKeptForSome H) (y : Search) (m x : ℕ) (c :
             let arcs = step_arcs y.side step in
             omega arith
 
-        -- there is room for it
+        -- there is room for one more pending leg
         pub room_for_leg : vec_len pending < vec_capacity pending
         room_for_leg = let one = some in let cost = ap (λ (q : Cost). q.arcs) sum in let room = t.room in omega arith
 
-        -- the parent's cost is least
+        -- the parent's cost is the least cost
         least : IsLeastUpwardPath (rows_of H y.side) y.source p of.cost
         unfolding of
         least = subst (λ q. IsLeastUpwardPath (rows_of H y.side) y.source q of.cost) is
             (parent_least _ _ _ _ _ _ r.underway.search r.underway.parents m c light r.past r.avoids x ne t.cost t.known t.least t.tail t.path t.cheap)
 
-        -- the step is chosen
+        -- the step is the chosen one
         choice : IsChosen (rows_of H y.side) y.source x p l
         unfolding of
         choice = subst (IsChosen (rows_of H y.side) y.source x p) same (subst (λ q. IsChosen (rows_of H y.side) y.source x q of.leg) is
             (chosen _ _ _ _ _ _ r.underway.search r.underway.parents m c light r.past r.avoids x ne t.cost t.known t.least t.tail t.path t.cheap))
 
-        -- the path from the parent on
+        -- the leg and the path from the node on have the cost of the path from the parent on
         total : cost_sum of.cost (path_cost (l ∷ t.tail)) ≡ cost_sum t.cost (path_cost t.tail)
         total = ap (cost_sum of.cost) (path_cost-cons l t.tail) ∙ sym (cost_sum_assoc of.cost l.cost (path_cost t.tail)) ∙ ap (λ q. cost_sum q (path_cost t.tail)) sum
 
-        -- one step more
+        -- one more step is appended
         pub tracing_step : (new : Vec PendingLeg Global) → new.items ≡ pending.items ++ pending_of y.side (record { low = p; leg = l }) ∷ [] → vec_len new ≡ vec_len pending + 1 →
             vec_capacity new ≡ vec_capacity pending → IsPartlyTraced H y m p c old new
         tracing_step new pushed len capacity =

@@ -1,4 +1,4 @@
--- What the call for a route answers.
+-- The answers of the call for a route.
 use Rattle.std.proofs.Common.{◌≡◌, ℕ, ◌<◌, length, [], Option, Some, None, Result, sym, ap, subst, arith}
 use Rattle.std.specs.Prelude.{IfOk, MatchOption, ⊤, ◌+◌, Vec, vec_len, vec_capacity}
 use Rattle.std.specs.declared.alloc.Global.{Global}
@@ -27,20 +27,20 @@ use Rattle.ch_query.proofs.routing.PendingLegs.{pending_few}
 use Rattle.ch_query.proofs.routing.RouteArcs.{traced_pending, traced_arcs, turned_pending, turned_arcs}
 use Rattle.ch_query.proofs.routing.RouteWalks.{route_least_walk}
 
--- the route over the meet, where one is found
+-- the answer is the route over the meet, or none if there is no meet
 abbrev pub FindsRoute : LevelsAndLegs → ℕ → ℕ → Option Route → Type 0
 FindsRoute H s t answer = (route : Route) × (answer ≡ Some route) × IsRoute H s t route
 
 module _ (H : LevelsAndLegs) (s t : ℕ) where
-  -- no meeting, no walk
+  -- if there is no meeting, there is no walk
   pub never_walks : NeverMeets H s t → IsRouteBy H s t None
   never_walks never g limits kept = ((meetings_are_distances g H limits kept).never s t).1 never
 
-  -- a route is a least walk in each graph for which the hierarchy is right
+  -- a route is a least walk in each graph that the hierarchy is right for
   finds_walks : (answer : Option Route) → FindsRoute H s t answer → IsRouteBy H s t answer
   finds_walks answer f = subst (IsRouteBy H s t) (sym f.1) (λ g limits kept. route_least_walk g H kept limits s t f.0 f.2)
 
-  -- it has fewer arcs than there are nodes
+  -- a route has fewer arcs than there are nodes
   route_few : IsKeptForSome H → t < nodes_of H → (route : Route) → IsRoute H s t route → length route.arcs < nodes_of H
   route_few k within route r =
       let w = route_least_walk k.0 H k.2 k.1 s t route r in
@@ -52,11 +52,11 @@ module _ (H : LevelsAndLegs) (s t : ℕ) where
   Few answer = MatchOption answer ⊤ (λ route. length route.arcs < nodes_of H)
 
   module _ (s' t' : ℕ) (from : s' ≡ s) (to : t' ≡ t) (r : Result (Option Route) AllocError) (found : IfOk r (FindsRoute H s' t')) where
-    -- it is so by the nodes where the searches began
+    -- the same for the nodes where the searches began
     finds : IfOk r (FindsRoute H s t)
     finds = subst (λ q. IfOk r (FindsRoute H q t)) from (subst (λ q. IfOk r (FindsRoute H s' q)) to found)
 
-    -- so it is with what is found
+    -- the answer is a least walk
     pub found_walks : IfOk r (IsRouteBy H s t)
     found_walks = IfOk-weaker r (FindsRoute H s t) (IsRouteBy H s t) finds_walks finds
 
@@ -64,19 +64,19 @@ module _ (H : LevelsAndLegs) (s t : ℕ) where
     unfolding Few
     found_few k within = IfOk-weaker r (FindsRoute H s t) Few (λ answer f. subst Few (sym f.1) (route_few k within f.0 f.2)) finds
 
--- what each call asks for, from the meet on
+-- the conditions of each call after the meet was found
 module _ (H : LevelsAndLegs) (k : IsKeptForSome H) (x y : Search) (m : ℕ) (c : Cost) (meeting : AreMeeting H x y (Some (c, m)))
     (past : IsPast x.queue (Some (c, m)) × IsPast y.queue (Some (c, m))) (sides : (x.side ≡ Up) × (y.side ≡ Down)) (meet : IsMeet H x.source y.source m c)
     (start : Vec PendingLeg Global) (none : start.items ≡ []) (len : vec_len start ≡ 0) (exact : vec_capacity start ≡ c.arcs) where
-  -- what the way up to the meet costs
+  -- the cost of the way up to the meet
   up : Cost
   up = meet.meets.0
 
-  -- what the way down from it costs
+  -- the cost of the way down from the meet
   down : Cost
   down = meet.meets.1
 
-  -- both have as many arcs as the route
+  -- both together have as many arcs as the route
   both : up.arcs + down.arcs ≡ c.arcs
   unfolding up down
   both = ap (λ (q : Cost). q.arcs) meet.meets.4
@@ -97,11 +97,11 @@ module _ (H : LevelsAndLegs) (k : IsKeptForSome H) (x y : Search) (m : ℕ) (c :
     fallen_pending : ArePending H fallen.items
     fallen_pending = traced_pending H y m down reached_both.1 start.items fallen.items fall (λ p has. absurd (let e = ap length none in let lt = has.1 in omega arith))
 
-    -- for as many arcs as the way down has
+    -- these legs stand for as many arcs as the way down has
     fallen_arcs : pending_arcs fallen.items ≡ down.arcs
     fallen_arcs = let sum = traced_arcs H y m down reached_both.1 start.items fallen.items fall in let nothing = ap pending_arcs none in omega arith
 
-    -- and for that back to the start
+    -- there is room for the way back to the start
     pub room_up : HasReachedWithRoom H x m turned
     room_up = (
       up,
@@ -110,11 +110,11 @@ module _ (H : LevelsAndLegs) (k : IsKeptForSome H) (x y : Search) (m : ℕ) (c :
     )
 
     module _ (all : Vec PendingLeg Global) (rise : IsTraced H x m turned.items all.items) (same'' : vec_capacity all ≡ vec_capacity turned) where
-      -- all are legs of the hierarchy
+      -- all pending legs are legs of the hierarchy
       pub all_pending : ArePending H all.items
       all_pending = traced_pending H x m up reached_both.0 turned.items all.items rise (turned_pending H fallen.items turned.items turn fallen_pending)
 
-      -- and there is room for their arcs
+      -- there is room for their arcs
       pub room_for_all : (arcs : Vec InArc Global) → vec_len arcs ≡ 0 → vec_capacity arcs ≡ c.arcs → HasRoomToUnpack all arcs
       room_for_all arcs empty exact' =
           let rising = traced_arcs H x m up reached_both.0 turned.items all.items rise in

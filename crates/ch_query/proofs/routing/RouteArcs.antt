@@ -22,7 +22,7 @@ use Rattle.ch_query.proofs.routing.DescentLaws.{steps_cost, descent_cost}
 use Rattle.ch_query.proofs.routing.DescentSteps.{step_pending, step_arcs}
 use Rattle.ch_query.proofs.routing.PendingLegs.{pending_arcs_append, pending_arcs_pop}
 
--- the legs of chosen steps are those of the hierarchy
+-- the legs of chosen steps are legs of the hierarchy
 steps_pending : (H : LevelsAndLegs) (side : Side) (a x : ℕ) (steps : List DescentStep) → IsDescent (rows_of H side) a x steps → ArePending H (map (pending_of side) steps)
 steps_pending H side a x [] d p (i, lt, e) = absurd (omega arith)
 steps_pending H side a x (step ∷ steps) d p (zero, lt, e) = subst (IsPending H) e (step_pending H side step d.1.last.0)
@@ -38,7 +38,7 @@ steps_arcs side (step ∷ steps) =
     let two = sum_by-cons (λ (k : Leg). k.cost.arcs) step.leg (map (λ (s : DescentStep). s.leg) steps) in
     omega arith
 
--- what a way back appends are legs of the hierarchy, that stand for as many arcs as the meet's cost there has
+-- a way back appends legs of the hierarchy, which stand for as many arcs as the cost of the meet has
 module _ (H : LevelsAndLegs) (x : Search) (m : ℕ) (c : Cost) (r : HasReached H x m c) (old new : List PendingLeg) (t : IsTraced H x m old new) where
   pub traced_pending : ArePending H old → ArePending H new
   traced_pending are = subst (ArePending H) (sym t.pushed) (λ p has. elim (Contains-append_cases old (map (pending_of x.side) t.steps) p has) [
@@ -54,21 +54,21 @@ module _ (H : LevelsAndLegs) (x : Search) (m : ℕ) (c : Cost) (r : HasReached H
       let cost = ap (λ (q : Cost). q.arcs) (descent_cost (rows_of H x.side) x.source m t.steps c t.descent r.least) in
       omega arith
 
--- turned round, legs stay legs of the hierarchy
+-- reversed, they are legs of the hierarchy
 pub turned_pending : (H : LevelsAndLegs) (old new : List PendingLeg) → IsPermutation old new → ArePending H old → ArePending H new
 turned_pending H old new same are p has = are p (Contains-permutation new old p (IsPermutation-sym old new same) has)
 
--- and stand for as many arcs
+-- reversed, they stand for as many arcs
 pub turned_arcs : (old new : List PendingLeg) → IsPermutation old new → pending_arcs new ≡ pending_arcs old
 turned_arcs old new same = sum_by-IsPermutation (λ p. p.cost.arcs) old new same
 
 module _ (H : LevelsAndLegs) where
-  -- the legs of steps up from s
+  -- the arcs of the legs of steps up from s
   are_up_arcs : (steps : List DescentStep) (arcs : List InArc) → ArePendingArcs H (map (pending_of Up) steps) arcs → AreUpArcs H steps arcs
   are_up_arcs [] arcs a = a
   are_up_arcs (step ∷ steps) arcs a = (a.0, a.1, are_up_arcs steps a.0 a.2, a.3, a.4)
 
-  -- the legs of steps down to t, turned round
+  -- the arcs of the legs of steps down to t, reversed
   are_down_arcs : (steps : List DescentStep) (arcs : List InArc) → ArePendingArcs H (reverse (map (pending_of Down) steps)) arcs → AreDownArcs H steps arcs
   are_down_arcs [] arcs a = a
   are_down_arcs (step ∷ steps) arcs a =
@@ -84,7 +84,7 @@ traced_by : (H : LevelsAndLegs) (x : Search) (m : ℕ) (old new : List PendingLe
 unfolding TracedBy
 traced_by H x m old new side is t = subst (λ q. TracedBy H q x.source m old new) is (t.steps, t.descent, t.pushed)
 
--- the arcs of both ways back are a route
+-- the arcs of both ways back make the route
 pub route_found : (H : LevelsAndLegs) (x y : Search) → x.side ≡ Up → y.side ≡ Down → (m : ℕ) (c : Cost) → IsMeet H x.source y.source m c → (falling turned both : List PendingLeg) →
     IsTraced H y m [] falling → turned ≡ reverse falling → IsTraced H x m turned both → (arcs : List InArc) → ArePendingArcs H both arcs →
     IsRoute H x.source y.source (record { weight = c.weight; arcs = arcs })

@@ -1,4 +1,4 @@
--- A route is a least walk, and the only one of its kind.
+-- A route is a least walk, and it is the only route.
 use Rattle.std.proofs.Common.{◌≡◌, ℕ, List, [], ◌∷◌, ◌++◌, refl, sym, ◌∙◌, ap, subst, arith, inl, inr}
 use Rattle.ch_graph.specs.declared.arc.InArc.{InArc}
 use Rattle.ch_graph.specs.declared.cost.Cost.{Cost}
@@ -43,7 +43,7 @@ module _ (g : Network) (H : LevelsAndLegs) (kept : IsKept g H) where
             ∙ cost_sum_comm step.leg.cost (steps_cost steps) ∙ sym (steps_cost-cons step steps),
       )
 
-  -- a route is a least walk of its weight
+  -- a route is a least walk, and has its weight
   pub route_least_walk : IsWithinLimits g → (s t : ℕ) (route : Route) → IsRoute H s t route → IsLeastWalk g s t route.arcs × (route.weight ≡ weight_of route.arcs)
   route_least_walk limits s t route r =
       let m = r.meets.meets in
@@ -61,7 +61,7 @@ module _ (g : Network) (H : LevelsAndLegs) (kept : IsKept g H) where
       )
 
 module _ (H : LevelsAndLegs) (k : IsLevelled H) where
-  -- the steps up have one list of arcs
+  -- the arcs of the steps up are determined
   up_arcs_one : (steps : List DescentStep) (xs ys : List InArc) → AreUpArcs H steps xs → AreUpArcs H steps ys → xs ≡ ys
   up_arcs_one [] xs ys a b = a ∙ sym b
   up_arcs_one (step ∷ steps) xs ys a b =
@@ -69,7 +69,7 @@ module _ (H : LevelsAndLegs) (k : IsLevelled H) where
       let here = unpacked_one H k a.3 b.3 in
       a.4 ∙ (λ i. front i ++ here i) ∙ sym b.4
 
-  -- and so have the steps down
+  -- the arcs of the steps down are determined
   down_arcs_one : (steps : List DescentStep) (xs ys : List InArc) → AreDownArcs H steps xs → AreDownArcs H steps ys → xs ≡ ys
   down_arcs_one [] xs ys a b = a ∙ sym b
   down_arcs_one (step ∷ steps) xs ys a b =

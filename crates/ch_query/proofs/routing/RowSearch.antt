@@ -1,4 +1,4 @@
--- A binary search finds the leg of a row at a node.
+-- The binary search finds the leg of a row at a node.
 use Rattle.std.proofs.Common.{◌≡◌, ℕ, ◌<◌, ◌≤◌, List, length, Contains, refl, ap, subst, arith, get_or, inl, inr}
 use Rattle.std.proofs.lemmas.Bool.{cases_lt}
 use Rattle.std.proofs.lemmas.List.{get_or_default}
@@ -11,11 +11,11 @@ use Rattle.std.specs.declared.cmp.Ordering.TheVariants.{Less, Equal, Greater}
 use Rattle.ch_hierarchy.specs.declared.leg.Leg.{Leg}
 use Rattle.ch_hierarchy.specs.Rows.{IsRow}
 
--- what a comparison of numbers says
+-- what the result of comparing two numbers means
 says : (a b : ℕ) (o : Ordering) → nat_cmp a b ≡ o → MatchOrdering o (a < b) (a ≡ b) (b < a)
 says a b o e = subst (λ q. MatchOrdering q (a < b) (a ≡ b) (b < a)) e (ranks a b)
 
--- greater numbers compare no lower
+-- a greater number does not compare lower
 rises : (x a b : ℕ) → a ≤ b → ordering_index (nat_cmp a x) ≤ ordering_index (nat_cmp b x)
 rises x a b le = at (nat_cmp a x) (nat_cmp b x) refl refl
   where
@@ -29,19 +29,19 @@ rises x a b le = at (nat_cmp a x) (nat_cmp b x) refl refl
     at Greater Greater e f = omega arith
 
 module _ (legs : List Leg) (node : ℕ) where
-  -- what compares equal is at the node
+  -- a leg that compares equal is at the node
   pub found_leg : (i : ℕ) (d : Leg) → i < length legs → HoldsAt (λ (l : Leg). nat_cmp l.node node ≡ Equal) legs i →
       Contains legs (get_or legs i d) × ((get_or legs i d).node ≡ node)
   found_leg i d lt equal = ((i, lt, get_or_default legs i (get_or legs i d) d lt), says (get_or legs i d).node node Equal (equal d))
 
-  -- the row rises
+  -- the row is in order of the comparison
   row_rises : IsRow legs → IsNonDecreasingBy (λ (l : Leg). ordering_index (nat_cmp l.node node)) legs
   row_rises order i j d le lt = elim (cases_lt i j) [
     | inl less ↦ (let r = order i j d less lt in rises node (get_or legs i d).node (get_or legs j d).node (omega arith))
     | inr ge ↦ let same : i ≡ j = omega arith in let e = ap (λ k. ordering_index (nat_cmp (get_or legs k d).node node)) same in omega arith
   ]
 
-  -- where the node has a leg the search does not miss it
+  -- if the row has a leg at the node, the search finds it
   pub not_missed : (l : Leg) → IsRow legs → Contains legs l → l.node ≡ node → (i : ℕ) →
       (IsNonDecreasingBy (λ (k : Leg). ordering_index (nat_cmp k.node node)) legs →
       IsPartitionPoint (λ (k : Leg). nat_cmp k.node node ≡ Less) (λ (k : Leg). nat_cmp k.node node ≡ Greater) legs i) → ⊥

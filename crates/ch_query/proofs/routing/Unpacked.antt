@@ -1,4 +1,4 @@
--- The arcs for which a leg stands are a walk of its cost, and are one list.
+-- The arcs that a leg stands for are a walk of its cost, and are determined.
 use Rattle.std.proofs.Common.{◌≡◌, ℕ, ◌<◌, List, [], ◌∷◌, ◌++◌, Contains, Option, Some, None, refl, sym, ◌∙◌, ap, subst, arith, inl, inr}
 use Rattle.std.specs.Prelude.{slice_index}
 use Rattle.ch_graph.specs.declared.arc.InArc.{InArc}
@@ -21,14 +21,14 @@ use Rattle.ch_query.specs.declared.side.Side.TheVariants.{Up, Down}
 use Rattle.ch_query.specs.Routes.{IsUnpacked, arc, shortcut}
 use Rattle.ch_query.proofs.routing.Rows.{row_one, rows_ordered}
 
--- the middle's two legs are one pair
+-- the two legs of a middle are determined
 pub halves_one : (H : LevelsAndLegs) → IsLevelled H → (u v w : ℕ) (a b a' b' : Leg) → Contains (row H.down v) a → a.node ≡ u → Contains (row H.up v) b → b.node ≡ w →
     Contains (row H.down v) a' → a'.node ≡ u → Contains (row H.up v) b' → b'.node ≡ w → (a ≡ a') × (b ≡ b')
 halves_one H k u v w a b a' b' ha na hb nb ha' na' hb' nb' =
     (row_one (row H.down v) (rows_ordered H k Down v) a a' ha ha' (na ∙ sym na'), row_one (row H.up v) (rows_ordered H k Up v) b b' hb hb' (nb ∙ sym nb'))
 
 module _ (H : LevelsAndLegs) (k : IsLevelled H) where
-  -- a leg has one list of arcs
+  -- the arcs of a leg are determined
   pub unpacked_one : {u w weight : ℕ} {middle : Option ℕ} {xs ys : List InArc} → IsUnpacked H u w weight middle xs → IsUnpacked H u w weight middle ys → xs ≡ ys
   unpacked_one arc arc = refl
   unpacked_one (shortcut {u = u} {w = w} {v = v} {a = a} {b = b} ha na hb nb p q) (shortcut {a = a'} {b = b'} {xs = xs'} {ys = ys'} ha' na' hb' nb' p' q') =

@@ -13,14 +13,14 @@ use Rattle.ch_query.specs.Routes.{IsUnpacked, arc}
 use Rattle.ch_query.specs.Unpacking.{IsPending, ArePending, pending_arcs, ArePendingArcs, IsSplit}
 use Rattle.ch_query.proofs.routing.PendingLegs.{unpackings, pending_arcs_push, pending_pop, pending_has_arc, pending_few, halves, split_pending, split_sum, split_nearer, split_arcs}
 
--- these arcs and those of the pending legs are what the legs at the start stand for, and there is room
+-- the written arcs, and those of the pending legs, are the arcs of all legs, and there is room
 pub record IsPartlyUnpacked (H : LevelsAndLegs) (start : List PendingLeg) (pending : Vec PendingLeg Global) (arcs : Vec InArc Global) : Type 0 where
   pub legs : ArePending H pending.items
   pub rest : (after : List InArc) → ArePendingArcs H pending.items after → ArePendingArcs H start (arcs.items ++ after)
   pub room : pending_arcs pending.items ≤ vec_capacity pending
   pub space : vec_len arcs + pending_arcs pending.items ≤ vec_capacity arcs
 
--- at the end
+-- at the end all arcs are written
 pub unpacking_ends : (H : LevelsAndLegs) (start : List PendingLeg) (pending : Vec PendingLeg Global) (arcs : Vec InArc Global) → IsPartlyUnpacked H start pending arcs →
     vec_len pending ≡ 0 → ArePendingArcs H start arcs.items
 unpacking_ends H start pending arcs u none =
@@ -33,19 +33,19 @@ unpacking_ends H start pending arcs u none =
 module _ (H : LevelsAndLegs) (k : IsKeptForSome H) (start : List PendingLeg) (pending : Vec PendingLeg Global) (arcs : Vec InArc Global)
     (u : IsPartlyUnpacked H start pending arcs)
     (popped : Vec PendingLeg Global) (p : PendingLeg) (items : pending.items ≡ popped.items ++ p ∷ []) (capacity : vec_capacity popped ≡ vec_capacity pending) where
-  -- the legs below, and the one on top
+  -- the pending legs are those below and the one on top
   parts : ArePending H popped.items × IsPending H p
   parts = pending_pop H popped.items p (subst (ArePending H) items u.legs)
 
-  -- the leg on top is one of the hierarchy
+  -- the leg on top is a leg of the hierarchy
   pub top_is : IsPending H p
   top_is = parts.1
 
-  -- the arcs add up
+  -- the numbers of arcs add up
   total : pending_arcs pending.items ≡ pending_arcs popped.items + p.cost.arcs
   total = ap pending_arcs items ∙ sum_by_push (λ (q : PendingLeg). q.cost.arcs) popped.items p
 
-  -- and so do the pops
+  -- the numbers of pops add up
   pops : unpackings pending.items ≡ unpackings popped.items + (p.cost.arcs + p.cost.arcs - 1)
   pops = ap unpackings items ∙ sum_by_push (λ (q : PendingLeg). q.cost.arcs + q.cost.arcs - 1) popped.items p
 
@@ -62,11 +62,11 @@ module _ (H : LevelsAndLegs) (k : IsKeptForSome H) (start : List PendingLeg) (pe
       let ok = popped.ok in
       omega arith
 
-  -- there is room for an arc
+  -- there is room for one more arc
   pub room_for_arc : vec_len arcs < vec_capacity arcs
   room_for_arc = let one = pending_has_arc H k p top_is in let sum = total in let space = u.space in omega arith
 
-  -- a leg without a middle is an arc
+  -- a leg without a middle is written as an arc
   pub arc_step : (arcs' : Vec InArc Global) → p.middle ≡ None → arcs'.items ≡ arcs.items ++ record { from = p.from; to = p.to; weight = p.cost.weight } ∷ [] →
       vec_len arcs' ≡ vec_len arcs + 1 → vec_capacity arcs' ≡ vec_capacity arcs → IsPartlyUnpacked H start popped arcs'
   arc_step arcs' e pushed len cap =
@@ -81,11 +81,11 @@ module _ (H : LevelsAndLegs) (k : IsKeptForSome H) (start : List PendingLeg) (pe
         space = (let space = u.space in let one = pending_has_arc H k p top_is in omega arith);
       }
 
-  -- one leg less is to be popped
+  -- one pop fewer is left after an arc
   pub arc_less : unpackings popped.items < unpackings pending.items
   arc_less = let one = pending_has_arc H k p top_is in let sum = pops in omega arith
 
-  -- a shortcut is its two legs
+  -- a shortcut is replaced by its two legs
   pub split_step : (v : ℕ) (new : Vec PendingLeg Global) → p.middle ≡ Some v → IsSplit H p.from v p.to popped.items new.items → vec_capacity new ≡ vec_capacity popped →
       IsPartlyUnpacked H start new arcs
   split_step v new e s cap =
@@ -98,6 +98,6 @@ module _ (H : LevelsAndLegs) (k : IsKeptForSome H) (start : List PendingLeg) (pe
         space = (let space = u.space in omega arith);
       }
 
-  -- one leg less is to be popped
+  -- one pop fewer is left after a shortcut
   pub split_less : (v : ℕ) (new : Vec PendingLeg Global) → p.middle ≡ Some v → IsSplit H p.from v p.to popped.items new.items → unpackings new.items < unpackings pending.items
   split_less v new e s = let near = split_nearer H k p v top_is e popped.items new.items s in let sum = pops in omega arith

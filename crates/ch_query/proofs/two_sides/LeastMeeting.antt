@@ -1,4 +1,4 @@
--- Two searches that are past the least sum have found the meet, and reached it at its least costs.
+-- Two searches that are past the least sum have found the meet, and have reached it at its least costs.
 use Rattle.std.proofs.Common.{◌≡◌, ℕ, ◌≤◌, List, Option, Some, None, refl, sym, ◌∙◌, subst, inl, inr}
 use Rattle.std.specs.Prelude.{MatchOption}
 use Rattle.std.proofs.lemmas.Option.{same_Some}
@@ -40,27 +40,28 @@ module _ (H : LevelsAndLegs) (k : IsKeptForSome H) (x y : Search) (least : Optio
   law : MeetingsAreDistances k.0 H
   law = meetings_are_distances k.0 H k.1 k.2
 
-  -- what is known is the sum of a path up and one down
+  -- the known sum is that of a path up and a path down
   found : IsFound H x.source y.source least
   found e is =
       let f = meeting.found e is in
       (f.0, f.1, subst (λ q. IsUpwardCost (rows_of H q) x.source e.1 f.0) up f.2, subst (λ q. IsUpwardCost (rows_of H q) y.source e.1 f.1) down f.3, f.4)
 
-  -- so it is what a walk costs
+  -- the known sum is the cost of a walk
   found_walks : (e : Cost × ℕ) → least ≡ Some e → IsWalkCost k.0 x.source y.source e.0
   found_walks e is = let f = found e is in subst (IsWalkCost k.0 x.source y.source) f.4 (sum_walk H k x.source y.source e.1 f.0 f.1 f.2 f.3)
 
   -- a least meeting
   module _ (c : Cost) (h : IsLeastMeeting H x.source y.source c) where
-    -- what is known is no less
+    -- the known sum is at least c
     no_less : (e : Cost × ℕ) → least ≡ Some e → IsAtMost c e.0
     no_less e is = IsLeast-IsAtMost k.0 x.source y.source c e.0 ((law.least x.source y.source c).1 h) (found_walks e is)
 
-    -- so what is left in a queue costs more than c
+    -- each remaining key is above c
     above : (queue : List (Option Cost)) → IsPast queue least → (a : Cost) → IsAtMost a c → IsPastCost queue a
     above queue past a le v d key = let r = past v d key in then_below a r.0.0 d (IsAtMost_trans a c r.0.0 le (no_less r.0 r.1)) r.2
 
-    -- a node where they meet at that cost is tight on both sides, so both searches have reached it at its least costs
+    -- a node where the sides meet at cost c is tight on both sides, so both searches have reached it at its least
+    -- costs
     pub reached : (m : ℕ) (there : IsMeeting H x.source y.source m c) → HasReached H x m there.0 × HasReached H y m there.1
     reached m (a, b, rise, fall, sum) =
         let from = least_reached H.up x.source m a rise in
@@ -73,7 +74,7 @@ module _ (H : LevelsAndLegs) (k : IsKeptForSome H) (x y : Search) (least : Optio
           tight_reached H k y meeting.there meeting.stalls.1 m b tight' meeting.most.1 (above (keys_of H y) (past_by_node H y least past_there) b low'),
         )
 
-    -- so c is known, at a node no later than that of any least meeting
+    -- the known sum is c, at a node that is at most that of each least meeting
     known : (m : ℕ) → IsMeeting H x.source y.source m c → (e : Cost × ℕ) × (least ≡ Some e) × (e.0 ≡ c) × (e.1 ≤ m)
     known m there =
         let both = reached m there in
@@ -81,7 +82,7 @@ module _ (H : LevelsAndLegs) (k : IsKeptForSome H) (x y : Search) (least : Optio
         let same : r.0.0 ≡ c = IsAtMost_antisymm r.0.0 c (subst (IsAtMost r.0.0) there.4 r.2.0) (no_less r.0 r.1) in
         (r.0, r.1, same, r.2.1 (same ∙ sym there.4))
 
-    -- and what is known is the meet
+    -- the known sum is that of the meet
     meet_found : (e : Cost × ℕ) × (least ≡ Some e) × IsMeet H x.source y.source e.1 e.0
     meet_found =
         let r = known h.meets.0 h.meets.1 in
@@ -102,13 +103,13 @@ module _ (H : LevelsAndLegs) (k : IsKeptForSome H) (x y : Search) (least : Optio
           }),
         )
 
-  -- where there is no walk, nothing is known
+  -- if there is no walk, no sum is known
   nothing_found : IsUnreachable k.0 x.source y.source → (o : Option (Cost × ℕ)) → least ≡ o →
       MatchOption o (NeverMeets H x.source y.source) (λ e. IsMeet H x.source y.source e.1 e.0)
   nothing_found none None is = (law.never x.source y.source).0 none
   nothing_found none (Some e) is = let w = found_walks e is in absurd (none w.0 w.1)
 
-  -- what is known is the meet, and where there is none no node is reached from both
+  -- the known sum is that of the meet, and if there is none, no node is reached from both ends
   meeting_least : MatchOption least (NeverMeets H x.source y.source) (λ e. IsMeet H x.source y.source e.1 e.0)
   meeting_least = elim (IsLeast-decided k.0 x.source y.source) [
     | inl some ↦
@@ -117,7 +118,7 @@ module _ (H : LevelsAndLegs) (k : IsKeptForSome H) (x y : Search) (least : Optio
     | inr none ↦ nothing_found none least refl
   ]
 
-  -- by the nodes where the searches began
+  -- the same for the nodes where the searches began
   pub meeting_between : (s t : ℕ) → x.source ≡ s → y.source ≡ t → MatchOption least (NeverMeets H s t) (λ e. IsMeet H s t e.1 e.0)
   meeting_between s t from to =
       subst (λ q. MatchOption least (NeverMeets H s q) (λ e. IsMeet H s q e.1 e.0)) to

@@ -22,7 +22,7 @@ use Rattle.ch_query.proofs.one_side.Expanding.{reached_arcs}
 use Rattle.ch_query.proofs.one_side.PathLaws.{below_then}
 use Rattle.ch_query.proofs.one_side.Popping.{with_queue, key_within}
 
--- what comes before what comes before a third comes before it
+-- coming first is transitive
 pub first_trans : (a b c : Cost × ℕ) → MeetsFirst a b → MeetsFirst b c → MeetsFirst a c
 first_trans a b c h k = (
   IsAtMost_trans a.0 b.0 c.0 h.0 k.0,
@@ -34,7 +34,7 @@ first_trans a b c h k = (
       omega arith,
 )
 
--- each side is the other's other side
+-- the two sides can be exchanged
 pub swapped : (H : LevelsAndLegs) (x y : Search) (least : Option (Cost × ℕ)) → AreMeeting H x y least → AreMeeting H y x least
 swapped H x y least m = record {
   here = m.there;
@@ -45,17 +45,17 @@ swapped H x y least m = record {
   found = λ e is. let f = m.found e is in (f.1, f.0, f.3, f.2, cost_sum_comm f.1 f.0 ∙ f.4);
 }
 
--- where the queue that leads is past the least sum, so is the other
+-- if the queue that leads is past the least sum, so is the other
 past_both : (first second : List (Option Cost)) (least : Option (Cost × ℕ)) → LeadsKeys first second → IsPast first least → IsPast second least
 past_both first second least leads past v d k = let l = leads v d k in let p = past l.0 l.1 l.2 in (p.0, p.1, below_then p.0.0 l.1 d p.2 l.3)
 
--- so where the side that leads stops, both are past it
+-- if the side that leads stops, both sides are past the least sum
 pub both_stopped : (x x' y : Search) (least least' : Option (Cost × ℕ)) → LeadsKeys x.queue y.queue → (x' ≡ x) × (least' ≡ least) × IsPast x.queue least → IsPast x'.queue least' × IsPast y.queue least'
 both_stopped x x' y least least' leads s =
     let past : IsPast x.queue least' = subst (IsPast x.queue) (sym s.1) s.2 in
     (subst (λ (z : Search). IsPast z.queue least') (sym s.0) past, past_both x.queue y.queue least' leads past)
 
--- a queue that is past the least sum by rank is so by node
+-- a queue that is past the least sum by rank is past it by node
 pub past_by_node : (H : LevelsAndLegs) (x : Search) (least : Option (Cost × ℕ)) → IsPast x.queue least → IsPast (keys_of H x) least
 past_by_node H x least past v d e = past (rank_of H v) d (by_node-some H x.queue v d e).1
 
@@ -63,21 +63,21 @@ past_by_node H x least past v d e = past (rank_of H v) d (by_node-some H x.queue
 module _ (H : LevelsAndLegs) (x y : Search) (least : Option (Cost × ℕ)) (m : AreMeeting H x y least) (q : List (Option Cost)) (v : ℕ) (c : Cost)
     (l : IsLeastKey (keys_of H x) v c) (e : keys_of H (with_queue x q) ≡ set (keys_of H x) v None)
     (least' : Option (Cost × ℕ)) (met : IsLeastAfter (cost_at (costs_of H y) v) v c least least') where
-  -- v is known at c here
+  -- the known cost of v on this side is c
   known : cost_at (costs_of H x) v ≡ Some c
   known = m.here.search.queued v c l.has
 
-  -- what was known is covered
+  -- the new sum is at most the old one
   keeps : (o : Option Cost) → IsLeastAfter o v c least least' → (d : Cost × ℕ) → least ≡ Some d → (f : Cost × ℕ) × (least' ≡ Some f) × MeetsFirst f d
   keeps None is d e' = (d, is ∙ e', (IsAtMost_refl d.0, λ _. omega arith))
   keeps (Some b) is d e' = is.covers_old d e'
 
-  -- the sum at v is covered
+  -- the new sum is at most the sum at v
   gains : (o : Option Cost) (b : Cost) → o ≡ Some b → IsLeastAfter o v c least least' → (f : Cost × ℕ) × (least' ≡ Some f) × MeetsFirst f (cost_sum c b, v)
   gains None b e' is = absurd (none-some _ e')
   gains (Some d) b e' is = subst (λ r. (f : Cost × ℕ) × (least' ≡ Some f) × MeetsFirst f (cost_sum c r, v)) (same_Some _ _ e') is.covers_new
 
-  -- so are all sums of nodes that both settled
+  -- the new sum is at most that of each node that both sides have settled
   seen : IsSeen (costs_of H x) (keys_of H (with_queue x q)) (costs_of H y) (keys_of H y) least'
   seen w a b h k = elim (popped_settled _ _ _ _ _ m.here.search v c l.has l.least (key_within (keys_of H x) v c l.has) w a (subst (λ r. IsSettled (costs_of H x) r w a) e h)) [
     | inl was ↦
@@ -89,7 +89,7 @@ module _ (H : LevelsAndLegs) (x y : Search) (least : Option (Cost × ℕ)) (m : 
         (r.0, r.1, subst (λ z. MeetsFirst r.0 (cost_sum a b, z)) (sym is.0) (subst (λ z. MeetsFirst r.0 (cost_sum z b, v)) (sym is.1) r.2))
   ]
 
-  -- what is known now is the sum of two paths
+  -- the new sum is the sum of two paths
   found_at : (o : Option Cost) → cost_at (costs_of H y) v ≡ o → IsLeastAfter o v c least least' → IsFoundBy H x y least'
   found_at None at is f e' = m.found f (sym is ∙ e')
   found_at (Some d) at is f e' = elim is.chosen [
@@ -100,7 +100,7 @@ module _ (H : LevelsAndLegs) (x y : Search) (least : Option (Cost × ℕ)) (m : 
     | inr old ↦ m.found f (sym old ∙ e')
   ]
 
-  -- after the node's legs are done, or it is left idle
+  -- after the node's legs were taken, or it stayed idle, the searches are still meeting
   pub met_then : (z : Search) → IsUnderway H z → IsSameSearch (with_queue x q) z → KeepsSettled H (with_queue x q) z → AreMeeting H z y least'
   met_then z u same settled = record {
     here = u;
@@ -117,7 +117,7 @@ module _ (H : LevelsAndLegs) (x y : Search) (least : Option (Cost × ℕ)) (m : 
 pub known_arcs : (H : LevelsAndLegs) (x : Search) (v : ℕ) (c : Cost) → IsUnderway H x → cost_at (costs_of H x) v ≡ Some c → (c.weight ≤ MOST_WEIGHT) × (c.arcs ≤ MOST_PATH_ARCS)
 known_arcs H x v c u known = let r = u.search.sound v c known in (r.weight, reached_arcs H u.levelled x.side x.source v c r)
 
--- so what both sides know of a node has room for its sum
+-- the sum of the arcs that both sides know of a node does not overflow
 pub both_arcs : (H : LevelsAndLegs) (y : Search) (v : ℕ) (c d : Cost) → IsUnderway H y → c.arcs ≤ MOST_PATH_ARCS → cost_at (costs_of H y) v ≡ Some d → c.arcs + d.arcs < 2 ^ 64
 both_arcs H y v c d u few known = let there = (known_arcs H y v d u known).1 in omega arith
 
@@ -125,10 +125,10 @@ both_arcs H y v c d u few known = let there = (known_arcs H y v d u known).1 in 
 pub rank_in_labels : (H : LevelsAndLegs) (x : Search) (rank : ℕ) → IsUnderway H x → IsSomeRank H rank → rank < length x.labels.costs
 rank_in_labels H x rank u r = let within = rank_below H u.levelled r.0 r.1 in let is = r.2 in let size = u.sizes.0 in omega arith
 
--- a cost that stands at a rank is known of its node
+-- a cost at a rank is the known cost of its node
 pub known_at : (H : LevelsAndLegs) (x : Search) (rank : ℕ) (c : Cost) (r : IsSomeRank H rank) → cost_at x.labels.costs rank ≡ Some c → cost_at (costs_of H x) r.0 ≡ Some c
 known_at H x rank c r known = by_node-at H x.labels.costs None None r.0 r.1 ∙ ap (cost_at x.labels.costs) (sym r.2) ∙ known
 
--- and the other way round
+-- the known cost of a node is the cost at its rank
 pub at_rank : (H : LevelsAndLegs) (x : Search) (v rank : ℕ) (c : Cost) → v < nodes_of H → rank_of H v ≡ rank → cost_at (costs_of H x) v ≡ Some c → cost_at x.labels.costs rank ≡ Some c
 at_rank H x v rank c within is known = ap (cost_at x.labels.costs) (sym is) ∙ sym (by_node-at H x.labels.costs None None v within) ∙ known

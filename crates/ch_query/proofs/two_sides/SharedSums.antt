@@ -1,4 +1,4 @@
--- What the search spaces of two nodes say together: the distance between them.
+-- The search spaces of two nodes together give the distance between them.
 use Rattle.std.proofs.Common.{◌≡◌, ℕ, ◌+◌, ◌<◌, ◌≤◌, List, Contains, Option, Some, None, refl, sym, ap, subst, arith, inl, inr}
 use Rattle.std.specs.Prelude.{MatchOption}
 use Rattle.ch_graph.specs.declared.cost.Cost.{Cost}
@@ -24,31 +24,32 @@ use Rattle.ch_query.proofs.two_sides.Distances.{weight_is_distance}
 use Rattle.ch_query.proofs.one_side.End.{least_reached}
 use Rattle.ch_query.proofs.one_side.TightNodes.{sum_walk, tight_up, tight_down}
 
--- x is the sum of the weights that P and Q say of one node
+-- x is the sum of the weights that P and Q have for one node
 abbrev pub IsNodeSum : (ℕ → ℕ → Type 0) → (ℕ → ℕ → Type 0) → ℕ → Type 0
 IsNodeSum P Q x = (v a b : ℕ) × P v a × Q v b × (a + b ≡ x)
 
--- what is no more than a weight within the limit is within it
+-- a weight that is at most one within the limit is within the limit
 pub within_less : (limit : Option ℕ) (x y : ℕ) → x ≤ y → IsWithin limit y → IsWithin limit x
 within_less None x y le w = tt
 within_less (Some most) x y le w = omega arith
 
--- P says weights of paths up from s and of each tight node its least, all of them within the limit, and Q says the same of paths down to t
+-- P has weights of paths up from s, and the least weight of each tight node, all within the limit; Q has the same for
+-- paths down to t
 module _ (H : LevelsAndLegs) (k : IsKeptForSome H) (limit : Option ℕ) (s t : ℕ) (P Q : ℕ → ℕ → Type 0)
     (up_sound : (v x : ℕ) → P v x → IsPathWeight H.up s v x × IsWithin limit x)
     (up_whole : (v : ℕ) (c : Cost) → IsTight H Up s v c → IsWithin limit c.weight → P v c.weight)
     (down_sound : (v x : ℕ) → Q v x → IsPathWeight H.down t v x × IsWithin limit x)
     (down_whole : (v : ℕ) (c : Cost) → IsTight H Down t v c → IsWithin limit c.weight → Q v c.weight) where
-  -- the graph for which the hierarchy is kept
+  -- the graph that the hierarchy is kept for
   g : Network
   g = k.0
 
-  -- its paths are walks
+  -- the paths of the hierarchy are walks
   walks : HasWalks g H
   unfolding g
   walks = kept_has_walks k.0 H k.1 k.2
 
-  -- and its least meetings are distances
+  -- the least meetings of the hierarchy are the distances
   law : MeetingsAreDistances g H
   unfolding g
   law = meetings_are_distances k.0 H k.1 k.2
@@ -64,7 +65,7 @@ module _ (H : LevelsAndLegs) (k : IsKeptForSome H) (limit : Option ℕ) (s t : �
         (let a = up.2 in let b = down.2 in let e = h.5 in omega arith),
       )
 
-  -- so no sum is below the least cost
+  -- each sum is at least the least cost's weight
   pub no_less : (c : Cost) → IsLeastMeeting H s t c → (x : ℕ) → IsNodeSum P Q x → c.weight ≤ x
   no_less c h x sum =
       let walk = sum_walks x sum in
@@ -74,11 +75,11 @@ module _ (H : LevelsAndLegs) (k : IsKeptForSome H) (limit : Option ℕ) (s t : �
       let is = walk.2 in
       omega arith
 
-  -- where there is no meeting there is no sum
+  -- if there is no meeting, there is no sum
   pub none_without_walk : NeverMeets H s t → (x : ℕ) → IsNodeSum P Q x → ⊥
   none_without_walk never x sum = let walk = sum_walks x sum in (law.never s t).1 never walk.1.0 walk.1.1
 
-  -- and the least cost is a sum, where its weight is within the limit
+  -- the weight of the least cost is a sum, if it is within the limit
   pub attained : (c : Cost) → IsLeastMeeting H s t c → IsWithin limit c.weight → IsNodeSum P Q c.weight
   attained c h low =
       let m = h.meets.0 in
@@ -97,11 +98,11 @@ module _ (H : LevelsAndLegs) (k : IsKeptForSome H) (limit : Option ℕ) (s t : �
         sum,
       )
 
-  -- the least of the sums that are within the limit, and none where there are none
+  -- the least of the sums within the limit, or none if there is no sum
   abbrev IsLeastSum : Option ℕ → Type 0
   IsLeastSum o = MatchOption o ((x : ℕ) → IsNodeSum P Q x → IsWithin limit x → ⊥) (λ x. IsNodeSum P Q x × IsWithin limit x × ((y : ℕ) → IsNodeSum P Q y → IsWithin limit y → x ≤ y))
 
-  -- so the least sum within the limit is the least weight, where that is within the limit
+  -- the least sum within the limit is the least weight, if that is within the limit
   least_sum_cuts : (c : Cost) → IsLeastMeeting H s t c → (o : Option ℕ) → IsLeastSum o → IsCut limit (Some c.weight) o
   least_sum_cuts c h None none = (λ low. absurd (none c.weight (attained c h low) low), λ _. refl)
   least_sum_cuts c h (Some x) least =
@@ -110,12 +111,12 @@ module _ (H : LevelsAndLegs) (k : IsKeptForSome H) (limit : Option ℕ) (s t : �
         λ above. absurd (above (within_less limit c.weight x low least.1)),
       )
 
-  -- and there is none where there is no walk
+  -- if there is no walk, there is no sum
   no_sum_cuts : NeverMeets H s t → (o : Option ℕ) → IsLeastSum o → o ≡ None
   no_sum_cuts never None none = refl
   no_sum_cuts never (Some x) least = absurd (none_without_walk never x least.0)
 
-  -- so it is the distance within the limit
+  -- the least sum is the distance within the limit
   pub least_sum_is_distance : (o : Option ℕ) → IsLeastSum o → IsDistanceWithin H limit s t o
   least_sum_is_distance o sum = elim (walks.decided s t) [
     | inl found ↦
@@ -128,18 +129,18 @@ module _ (H : LevelsAndLegs) (k : IsKeptForSome H) (limit : Option ℕ) (s t : �
         record { whole = None; least = never; distance = weight_is_distance H s t None never; cut = no_sum_cuts never o sum }
   ]
 
--- two search spaces within the limit give the distance within it
+-- two search spaces within a limit give the distance within that limit
 pub spaces_give_distance : (H : LevelsAndLegs) (limit : Option ℕ) (s t : ℕ) (ups downs : List (ℕ × ℕ)) (answer : Option ℕ) → IsKeptForSome H → IsSearchSpace H Up limit s ups →
     IsSearchSpace H Down limit t downs → IsLeastSharedSum limit ups downs answer → IsDistanceWithin H limit s t answer
 spaces_give_distance H limit s t ups downs answer k up down least =
     least_sum_is_distance H k limit s t (λ v x. Contains ups (v, x)) (λ v x. Contains downs (v, x)) up.sound up.whole down.sound down.whole answer least
 
--- a ranked space says a weight of a node by its rank
+-- the weight that a ranked space has for a node, found by the node's rank
 module _ (H : LevelsAndLegs) (levelled : IsLevelled H) (side : Side) (limit : Option ℕ) (s : ℕ) (list : List (ℕ × ℕ)) (space : IsRankedSpace H side limit s list) where
   abbrev pub IsSaidOf : ℕ → ℕ → Type 0
   IsSaidOf v x = (v < nodes_of H) × Contains list (rank_of H v, x)
 
-  -- it is that of a path
+  -- this weight is that of a path
   pub said_sound : (v x : ℕ) → IsSaidOf v x → IsPathWeight (rows_of H side) s v x × IsWithin limit x
   said_sound v x (lt, has) =
       let r = space.sound (rank_of H v) x has in
@@ -154,13 +155,13 @@ module _ (H : LevelsAndLegs) (k : IsKeptForSome H) (limit : Option ℕ) (s t : �
   abbrev Downs : ℕ → ℕ → Type 0
   Downs = IsSaidOf H k.2.levelled Down limit t downs down
 
-  -- what they share by rank they share by node
+  -- a sum that they share by rank is shared by node
   by_node : (x : ℕ) → IsSharedSum ups downs x → IsNodeSum Ups Downs x
   by_node x h =
       let r = up.sound h.0 h.1 h.3 in
       (r.0, h.1, h.2, (r.1, subst (λ q. Contains ups (q, h.1)) (sym r.2) h.3), (r.1, subst (λ q. Contains downs (q, h.2)) (sym r.2) h.4), h.5)
 
-  -- and the other way round
+  -- a sum that they share by node is shared by rank
   by_rank : (x : ℕ) → IsNodeSum Ups Downs x → IsSharedSum ups downs x
   by_rank x h = (rank_of H h.0, h.1, h.2, h.3.1, h.4.1, h.5)
 
@@ -169,7 +170,7 @@ module _ (H : LevelsAndLegs) (k : IsKeptForSome H) (limit : Option ℕ) (s t : �
   least_by_node None none = λ x sum. none x (by_rank x sum)
   least_by_node (Some x) least = (by_node x least.0, least.1, λ y sum. least.2 y (by_rank y sum))
 
-  -- within the limit they give the distance within it
+  -- two ranked spaces within a limit give the distance within that limit
   pub ranked_spaces_give_distance : (answer : Option ℕ) → IsLeastSharedSum limit ups downs answer → IsDistanceWithin H limit s t answer
   ranked_spaces_give_distance answer least =
       least_sum_is_distance H k limit s t Ups Downs (said_sound H k.2.levelled Up limit s ups up) up.whole (said_sound H k.2.levelled Down limit t downs down) down.whole

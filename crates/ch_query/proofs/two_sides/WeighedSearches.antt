@@ -1,4 +1,4 @@
--- Two searches by weights alone that are past what they know have found the least weight.
+-- Two searches by weights alone that are past the sum that they know have found the least weight.
 use Rattle.std.proofs.Common.{◌≡◌, ℕ, ◌+◌, ◌<◌, ◌≤◌, List, Option, Some, None, refl, sym, ◌∙◌, ap, subst, arith, inl, inr}
 use Rattle.std.proofs.lemmas.Bool.{cases_lt}
 use Rattle.std.proofs.lemmas.Option.{same_Some}
@@ -23,11 +23,12 @@ use Rattle.ch_query.proofs.one_side.TightNodes.{sum_walk, tight_up, tight_down, 
 use Rattle.ch_query.proofs.one_side.WeighedPaths.{weighed_rows, weighed_reached, reached_weight, weighed_avoids}
 use Rattle.ch_query.proofs.two_sides.Distances.{weight_is_distance}
 
--- each key that is left weighs more than x
+-- each remaining key weighs more than x
 abbrev pub IsPastAll : List (Option Cost) → ℕ → Type 0
 IsPastAll queue x = (v : ℕ) (d : Cost) → cost_at queue v ≡ Some d → x < d.weight
 
--- once each key that is left weighs more, a tight node that weighs no more than `most` is settled at no more than its least weight
+-- once each remaining key weighs more, a tight node that weighs at most `most` is settled at no more than its least
+-- weight
 pub tight_settled : {most : ℕ} (H : LevelsAndLegs) → IsKeptForSome H → (side : Side) (s m : ℕ) (a : Cost) (best queue : List (Option Cost)) → IsWeightSearchTo most H side s best queue →
     IsTight H side s m a → a.weight ≤ most → IsPastAll queue a.weight → (b : Cost) × IsSettled best queue m b × (b.weight ≤ a.weight)
 tight_settled H k side s m a best queue is_search tight light past =
@@ -42,11 +43,11 @@ tight_settled H k side s m a best queue is_search tight light past =
 module _ (H : LevelsAndLegs) (k : IsKeptForSome H) (s t : ℕ) (least : Option ℕ) (best_up queue_up best_down queue_down : List (Option Cost))
     (up : IsWeightSearch H Up s best_up queue_up) (down : IsWeightSearch H Down t best_down queue_down) (seen : IsWeightSeen best_up queue_up best_down queue_down least)
     (found : IsWeightFound H s t least) (past_up : IsPastWeight queue_up least) (past_down : IsPastWeight queue_down least) where
-  -- least meetings are distances
+  -- the least meetings of the hierarchy are the distances
   law : MeetingsAreDistances k.0 H
   law = meetings_are_distances k.0 H k.1 k.2
 
-  -- what is known is what a walk weighs
+  -- the known sum is the weight of a walk
   found_walks : (e : ℕ) → least ≡ Some e → (d : Cost) × IsWalkCost k.0 s t d × (d.weight ≡ e)
   found_walks e is =
       let f = found e is in
@@ -59,7 +60,7 @@ module _ (H : LevelsAndLegs) (k : IsKeptForSome H) (s t : ℕ) (least : Option �
 
   -- a least meeting
   module _ (c : Cost) (h : IsLeastMeeting H s t c) where
-    -- what is known is no less
+    -- the known sum is at least the weight of c
     no_less : (e : ℕ) → least ≡ Some e → c.weight ≤ e
     no_less e is =
         let walk = found_walks e is in
@@ -67,15 +68,15 @@ module _ (H : LevelsAndLegs) (k : IsKeptForSome H) (s t : ℕ) (least : Option �
         let weight = walk.2 in
         omega arith
 
-    -- whatever is known is more
+    -- each known sum is more than the weight of c
     abbrev IsMore : Type 0
     IsMore = (e : ℕ) → least ≡ Some e → c.weight < e
 
-    -- then each key that is left is more too
+    -- if so, each remaining key is more than the weight of c
     above : (queue : List (Option Cost)) → IsPastWeight queue least → IsMore → (x : ℕ) → x ≤ c.weight → IsPastAll queue x
     above queue past more x le v d key = let r = past v d key in let low = r.2 in let high = more r.0 r.1 in omega arith
 
-    -- and both sides settled a node where they meet at that cost, so that no more is known: it can't be
+    -- this is impossible: both sides have settled a node where they meet at cost c, so a sum that is no more is known
     not_more : IsMore → ⊥
     not_more more =
         let m = h.meets.0 in
@@ -95,7 +96,7 @@ module _ (H : LevelsAndLegs) (k : IsKeptForSome H) (s t : ℕ) (least : Option �
         let low_down = second.2 in
         omega arith
 
-    -- what is known is the least weight
+    -- the known sum is the least weight
     known : (o : Option ℕ) → least ≡ o → IsLeastWeight H s t o
     known None is = absurd (not_more (λ e there. absurd (let no : None ≡ Some e = sym is ∙ there in cc)))
     known (Some x) is = elim (cases_lt c.weight x) [
@@ -103,19 +104,19 @@ module _ (H : LevelsAndLegs) (k : IsKeptForSome H) (s t : ℕ) (least : Option �
       | inr ge ↦ (let low = no_less x is in (c, h, omega arith))
     ]
 
-  -- where there is no walk, nothing is known
+  -- if there is no walk, no sum is known
   nothing_found : IsUnreachable k.0 s t → (o : Option ℕ) → least ≡ o → IsLeastWeight H s t o
   nothing_found none None is = (law.never s t).0 none
   nothing_found none (Some x) is = let w = found_walks x is in absurd (none w.1.0 w.1.1)
 
-  -- what is known is the least weight, and none exactly where no node is reached from both
+  -- the known sum is the least weight, and if there is none, no node is reached from both ends
   pub weighed_least : IsLeastWeight H s t least
   weighed_least = elim ((kept_has_walks k.0 H k.1 k.2).decided s t) [
     | inl some ↦ known some.0 ((law.least s t some.0).0 some.1) least refl
     | inr none ↦ nothing_found none least refl
   ]
 
-  -- so it is the distance
+  -- the known sum is the distance
   pub weighed_distance : IsDistanceBy H s t least
   weighed_distance = weight_is_distance H s t least weighed_least
 

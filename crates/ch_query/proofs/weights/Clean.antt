@@ -1,4 +1,4 @@
--- A search of which nothing is left.
+-- A search with nothing left from an earlier one.
 use Rattle.std.proofs.Common.{◌≡◌, ℕ, zero, suc, ◌*◌, ◌≤◌, [], ◌∷◌, length, map, replicate, Option, Some, None, refl, sym, ◌∙◌, ap, subst, arith, set, length-set, ◌+◌, ◌++◌, vec_len, List, Vec, inl, inr}
 use Rattle.std.specs.Prelude.{◌≢◌, slice_index_or, vec_capacity, is_some, AllPairs, Contains}
 use Rattle.std.specs.declared.alloc.Global.{Global}
@@ -22,19 +22,19 @@ use Rattle.ch_query.proofs.weights.Known.{known_at, known_cleared}
 use Rattle.ch_query.proofs.one_side.Begun.{never_some}
 use Rattle.std.specs.Option.{option_map}
 
--- states of that weight have no costs
+-- states of weight UNREACHED have no costs
 none_reached : (n : ℕ) → map known_cost (replicate n UNREACHED) ≡ replicate n None
 none_reached zero = refl
 none_reached (suc n) = λ i. None ∷ none_reached n i
 
--- a queue without keys has none at any state
+-- a queue without keys has no key at any state
 no_key : (n state weight : ℕ) → slice_index_or {A = Option ℕ} (replicate n None) state None ≡ Some weight → ⊥
 no_key n state weight e = elim (cases_lt state n) [
   | inl lt ↦ none-some weight (sym (get_or-replicate {A = Option ℕ} n state None None lt) ∙ e)
   | inr ge ↦ none-some weight (sym (get_or_past (replicate n None) state None (let size = length-replicate {A = Option ℕ} n None in omega arith)) ∙ e)
 ]
 
--- new lists are clean
+-- a search with new lists is clean
 pub clean_at_first : (n states : ℕ) (x : WeightSearch) → states ≡ 2 * n → x.known.items ≡ replicate states UNREACHED → x.queue ≡ replicate states None →
     x.touched.items ≡ [] → vec_len x.touched ≡ 0 → states ≤ vec_capacity x.touched → IsCleanFor n x
 clean_at_first n states x twice known queue items len capacity = record {
@@ -47,7 +47,7 @@ clean_at_first n states x twice known queue items len capacity = record {
   nothing = len;
 }
 
--- a list of the same values lists the same
+-- a copy of the list of touched states lists the same states
 pub listed_alike : (best : List (Option Cost)) (xs ys : Vec ℕ Global) → IsTouched best xs → ys.items ≡ xs.items → vec_len ys ≡ vec_len xs → vec_capacity ys ≡ vec_capacity xs → IsTouched best ys
 listed_alike best xs ys t items len capacity = record {
   room = (let room = t.room in omega arith);
@@ -57,7 +57,7 @@ listed_alike best xs ys t items len capacity = record {
   distinct = subst (AllPairs ◌≢◌) (sym items) t.distinct;
 }
 
--- one state that was reached is cleaned
+-- one reached state fewer after its weight was removed
 pub one_less : (n : ℕ) (x y : WeightSearch) (state : ℕ) → IsSizedFor n x → y.known.items ≡ set x.known.items state UNREACHED → y.queue ≡ x.queue → x.touched.items ≡ y.touched.items ++ state ∷ [] →
     vec_len y.touched + 1 ≡ vec_len x.touched → vec_capacity y.touched ≡ vec_capacity x.touched → IsSizedFor n y
 one_less n x y state sizes known queue items len capacity = record {
@@ -67,7 +67,7 @@ one_less n x y state sizes known queue items len capacity = record {
       (touched_less _ _ y.touched sizes.touched state items len capacity);
 }
 
--- of a clean search no node has a cost
+-- in a clean search no node has a cost
 pub clean_costs : (H : LevelsAndLegs) (side : Side) (x : WeightSearch) → IsCleanFor (nodes_of H) x → IsLevelled H → (v : ℕ) → cost_at (side_costs H side x) v ≡ None
 clean_costs H side x clean k v = never_some _ (λ c is.
     let there = by_state-some known_cost H side x.known.items UNREACHED v c is in
@@ -79,7 +79,7 @@ clean_costs H side x clean k v = never_some _ (λ c is.
     let none = clean.nothing in
     omega arith)
 
--- nor a key
+-- in a clean search no node has a key
 pub clean_keys : (H : LevelsAndLegs) (side : Side) (x : WeightSearch) → IsCleanFor (nodes_of H) x → (v : ℕ) → cost_at (side_keys H side x) v ≡ None
 clean_keys H side x clean v = never_some _ (λ c is.
     let there = by_state-some (option_map weight_cost) H side x.queue None v c is in

@@ -1,4 +1,4 @@
--- The program reads the legs of a node by rank, of which a search by weights alone sees the weights.
+-- The program reads the legs of a node by rank. A search by weights alone sees only their weights.
 use Rattle.std.proofs.Common.{◌≡◌, ℕ, ◌+◌, ◌*◌, ◌^◌, ◌<◌, ◌≤◌, List, [], ◌∷◌, ◌++◌, length, map, take, take_all, Contains, ◌∙◌, ap, subst, arith, get_or}
 use Rattle.std.proofs.lemmas.List.{take_more, get_or-map, length-map}
 use Rattle.std.proofs.lemmas.List.Elements.{Contains-get_or}
@@ -17,7 +17,7 @@ use Rattle.ch_query.proofs.one_side.Expanding.{leg_up}
 use Rattle.ch_query.proofs.one_side.WeighedPaths.{weighed_row}
 use Rattle.ch_query.proofs.weights.States.{state_below}
 
--- r is how the program reads the leg l, which stands at place i of the legs of v
+-- the program reads the leg l, at place i of the legs of v, as r
 pub record IsReadLeg (H : LevelsAndLegs) (side : Side) (v i : ℕ) (r : RankedLeg) (l : Leg) : Type 0 where
   pub has : Contains (row (rows_of (weighed H) side) v) (weighed_leg l)
   pub node : l.node < nodes_of H
@@ -51,7 +51,7 @@ read_leg H k side v items i d e lt =
       },
     )
 
--- its rank has states
+-- the rank that is read has states
 pub read_rank : (H : LevelsAndLegs) → IsLevelled H → (side : Side) (v : ℕ) (items : List RankedLeg) (i : ℕ) (d : RankedLeg) →
     items ≡ map (ranked_leg H) (row (rows_of H side) v) → i < length items → (get_or items i d).rank < 2 ^ 31
 read_rank H k side v items i d e lt =
@@ -61,7 +61,7 @@ read_rank H k side v items i d e lt =
     let count = k.count in
     omega arith
 
--- its weight makes no sum overflow
+-- the weight that is read makes no sum overflow
 pub read_light : (H : LevelsAndLegs) → IsLevelled H → (side : Side) (v : ℕ) (items : List RankedLeg) (i : ℕ) (d : RankedLeg) →
     items ≡ map (ranked_leg H) (row (rows_of H side) v) → i < length items → (get_or items i d).weight ≤ MOST_WEIGHT
 read_light H k side v items i d e lt =
@@ -70,7 +70,7 @@ read_light H k side v items i d e lt =
     let light = r.1.light in
     omega arith
 
--- past their end all legs are taken
+-- past the last leg, all legs are taken
 pub read_whole : (H : LevelsAndLegs) (side : Side) (v : ℕ) (items : List RankedLeg) (i : ℕ) → items ≡ map (ranked_leg H) (row (rows_of H side) v) → length items ≤ i →
     take i (row (rows_of (weighed H) side) v) ≡ row (rows_of (weighed H) side) v
 read_whole H side v items i e past =
@@ -78,7 +78,7 @@ read_whole H side v items i e past =
     let light_size = ap length (weighed_row H side v) ∙ length-map (row (rows_of H side) v) weighed_leg in
     take_all i (row (rows_of (weighed H) side) v) (omega arith)
 
--- the state of a leg's node is there
+-- the state of a leg's node exists
 pub read_state : (H : LevelsAndLegs) → IsLevelled H → (side turned : Side) (v i : ℕ) (r : RankedLeg) (l : Leg) → IsReadLeg H turned v i r l → (state : ℕ) →
     state ≡ state_of side r.rank → (state ≡ state_of side (rank_of H l.node)) × (state < 2 * nodes_of H)
 read_state H k side turned v i r l is state e =

@@ -1,4 +1,4 @@
--- A search space by ranks, with nodes in place of the ranks and in order of node.
+-- A search space by ranks, with nodes in place of the ranks, and in order of node.
 use Rattle.std.proofs.Common.{◌≡◌, ℕ, ◌+◌, ◌<◌, ◌≤◌, Bool, true, false, is_lt, true≢false, nat_cmp}
 use Rattle.std.proofs.Common.{List, [], ◌∷◌, ◌++◌, length, take, All, get_or, Contains, Option, refl, sym, ◌∙◌, ap, subst, arith, inl, inr}
 use Rattle.std.specs.Prelude.{◌≢◌, AllPairs, eqb, nat_lt}
@@ -18,7 +18,7 @@ use Rattle.ch_query.specs.declared.side.Side.{Side}
 use Rattle.ch_query.specs.SearchSpace.{IsSearchSpace, IsRankedSpace}
 use Rattle.ch_query.proofs.two_sides.SharedSums.{IsSaidOf, said_sound}
 
--- of two pairs in order the first number does not fall
+-- if two pairs are in order, the first number does not fall
 first_rises : (a b : ℕ × ℕ) → is_lt (ordering_then (nat_cmp b.0 a.0) (nat_cmp b.1 a.1)) ≡ false → a.0 ≤ b.0
 first_rises a b not_less = at (nat_lt b.0 a.0) refl
   where
@@ -26,7 +26,7 @@ first_rises a b not_less = at (nat_lt b.0 a.0) refl
     at true is = absurd (true≢false (sym (rw is refl) ∙ not_less))
     at false is = ltb-false b.0 a.0 is
 
--- pairs whose first numbers differ rise by them once they are sorted
+-- pairs with different first numbers rise by these after they are sorted
 pairs_rise : (xs ys : List (ℕ × ℕ)) → AllPairs (λ a b. a.0 ≢ b.0) xs → IsPermutation xs ys →
     IsSorted (λ a b. ordering_then (nat_cmp a.0 b.0) (nat_cmp a.1 b.1)) ys → AllPairs (λ a b. a.0 < b.0) ys
 pairs_rise xs ys differ p sorted i j d lt within =
@@ -38,11 +38,11 @@ pairs_rise xs ys differ p sorted i j d lt within =
     let low = rises i j d (omega arith) within in
     elim (cases_lt (get_or ys i d).0 (get_or ys j d).0) [ inl less ↦ less | inr more ↦ absurd (apart (omega arith)) ]
 
--- an entry says of a node what another says of its rank
+-- an entry has for a node the weight that another entry has for its rank
 abbrev pub NamesRank : LevelsAndLegs → ℕ × ℕ → ℕ × ℕ → Type 0
 NamesRank H entry named = (named.0 < nodes_of H) × (rank_of H named.0 ≡ entry.0) × (named.1 ≡ entry.1)
 
--- one entry more is named
+-- one more entry gets its node
 pub names_more : (H : LevelsAndLegs) (ranked : List (ℕ × ℕ)) (i v : ℕ) (d : ℕ × ℕ) (list new : List (ℕ × ℕ)) → i < length ranked → AllZip (NamesRank H) (take i ranked) list →
     v < nodes_of H → rank_of H v ≡ (get_or ranked i d).0 → new ≡ list ++ (v, (get_or ranked i d).1) ∷ [] → AllZip (NamesRank H) (take (i + 1) ranked) new
 names_more H ranked i v d list new lt names within rank is =
@@ -59,7 +59,7 @@ ranks_below H levelled side limit s list space k d lt =
 
 module _ (H : LevelsAndLegs) (levelled : IsLevelled H) (side : Side) (limit : Option ℕ) (s : ℕ) (ranked named : List (ℕ × ℕ)) (space : IsRankedSpace H side limit s ranked)
     (names : AllZip (NamesRank H) ranked named) where
-  -- both lists are as long
+  -- both lists have the same length
   long : length ranked ≡ length named
   long = length_all_zip (NamesRank H) ranked named names
 
@@ -71,7 +71,7 @@ module _ (H : LevelsAndLegs) (levelled : IsLevelled H) (side : Side) (limit : Op
       let second = AllZip-get_or (NamesRank H) ranked named j d d names (omega arith) in
       space.distinct i j d lt (omega arith) (sym first.1 ∙ ap (rank_of H) same ∙ second.1)
 
-  -- what is said of a node was said of its rank
+  -- the weight of a node was that of its rank
   said_of_rank : (v x : ℕ) → Contains named (v, x) → IsSaidOf H levelled side limit s ranked space v x
   said_of_rank v x h =
       let size = long in
@@ -83,7 +83,7 @@ module _ (H : LevelsAndLegs) (levelled : IsLevelled H) (side : Side) (limit : Op
       let weight = sym entry.2 ∙ ap (λ (q : ℕ × ℕ). q.1) h.2 in
       (subst (λ q. q < nodes_of H) node entry.0, (h.0, low, λ i. (rank i, weight i)))
 
-  -- and the other way round
+  -- the weight of a rank is that of its node
   rank_said : (v x : ℕ) → IsSaidOf H levelled side limit s ranked space v x → Contains named (v, x)
   rank_said v x (within, h) =
       let size = long in
@@ -94,7 +94,7 @@ module _ (H : LevelsAndLegs) (levelled : IsLevelled H) (side : Side) (limit : Op
       let weight = entry.2 ∙ ap (λ (q : ℕ × ℕ). q.1) h.2 in
       (h.0, omega arith, λ i. (node i, weight i))
 
-  -- in order of node it is a search space
+  -- sorted by node, it is a search space
   pub named_space : (sorted : List (ℕ × ℕ)) → IsPermutation named sorted → IsSorted (λ a b. ordering_then (nat_cmp a.0 b.0) (nat_cmp a.1 b.1)) sorted → IsSearchSpace H side limit s sorted
   named_space sorted p order = record {
     order = pairs_rise named sorted nodes_differ p order;

@@ -10,7 +10,7 @@ use Rattle.ch_queue.specs.Queue.{IsLeastEntry, HasNone}
 use Rattle.ch_query.specs.declared.weight_search.WeightSearch.{WeightSearch}
 use Rattle.ch_query.specs.Weights.{AreKeysFrom, IsLeastState, without_state}
 
--- what comparing two weights tells, where the first is not greater
+-- what the comparison of two weights means if it is not greater
 at_most_by : (a b : ℕ) → is_gt (nat_cmp a b) ≡ false → a ≤ b
 at_most_by a b e = elim (cases_lt b a) [
   | inl more ↦ absurd (false≢true (sym e ∙ ap is_gt (sym (nat_cmp_is a b Greater more))))
@@ -21,11 +21,11 @@ at_most_by a b e = elim (cases_lt b a) [
 pub least_state : (queue : List (Option ℕ)) (e : ℕ × ℕ) → IsLeastEntry nat_cmp queue e → IsLeastState queue e
 least_state queue e l = record { has = l.has; least = λ state weight key. at_most_by e.0 weight (l.least state weight key).0 }
 
--- where the least weight is no less than the limit, nor is any
+-- if the least weight is at least the limit, so is each weight
 pub keys_from : (queue : List (Option ℕ)) (e : ℕ × ℕ) (limit : ℕ) → IsLeastEntry nat_cmp queue e → limit ≤ e.0 → AreKeysFrom queue limit
 keys_from queue e limit l le state weight key = let low = (least_state queue e l).least state weight key in omega arith
 
--- where it is less, such a state leaves the queue
+-- if the least weight is below the limit, its state leaves the queue
 pub popped_state : (x y : WeightSearch) (e : ℕ × ℕ) (limit : ℕ) → IsLeastEntry nat_cmp x.queue e → e.0 < limit → (o : Option (ℕ × ℕ)) →
     MatchOption o (HasNone x.queue) (IsLeastEntry nat_cmp x.queue) → MatchOption o (y.queue ≡ x.queue) (λ f. y.queue ≡ set x.queue f.1 None) → y ≡ record x { queue = y.queue } →
     MatchOption o (AreKeysFrom x.queue limit × (y ≡ x)) (λ f. IsLeastState x.queue f × (f.0 < limit) × (y ≡ without_state x f.1))

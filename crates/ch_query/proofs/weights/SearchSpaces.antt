@@ -1,4 +1,5 @@
--- A search by weights on one side, from its first state to its end: the states at which it did not stall are a search space.
+-- A search by weights on one side, from its first state to its end. The states where it did not stall are a search
+-- space.
 use Rattle.std.proofs.Common.{◌≡◌, ℕ, ◌/◌, ◌%◌, ◌<◌, List, [], ◌∷◌, ◌++◌, Contains, Option, None, get_or, refl, sym, ◌∙◌, ap, subst, arith, set, inl, inr, nat_cmp}
 use Rattle.std.specs.Prelude.{◌⊎◌, ◌≢◌, IfOk, Vec}
 use Rattle.std.specs.declared.alloc.Global.{Global}
@@ -46,7 +47,7 @@ side_or_other : (side : Side) (state : ℕ) → (state ≡ state_of side (state 
 side_or_other Up state = elim (cases_eq (state % 2) 0) [ inl even ↦ inl (omega arith) | inr odd ↦ inr (omega arith) ]
 side_or_other Down state = elim (cases_eq (state % 2) 0) [ inl even ↦ inr (omega arith) | inr odd ↦ inl (omega arith) ]
 
--- where the other side has no keys, a state with a key is of this side
+-- if the other side has no keys, a state with a key is of this side
 pub state_here : (H : LevelsAndLegs) (side : Side) (x : WeightSearch) → IsEmpty (side_keys H (other side) x) → (v weight state : ℕ) → v < nodes_of H → rank_of H v ≡ state / 2 →
     IsLeastState x.queue (weight, state) → state ≡ state_of side (rank_of H v)
 state_here H side x alone v weight state within at l = elim (side_or_other side state) [
@@ -65,7 +66,7 @@ node_popped H side x m weight state l =
     let size = m.sizes.queue in
     node_of_rank H m.levelled (state / 2) (omega arith)
 
--- where no state has a key, no node has one
+-- if no state has a key, no node has a key
 pub none_left : (H : LevelsAndLegs) (side : Side) (queue : List (Option ℕ)) → HasNone queue → IsEmpty (by_state (option_map weight_cost) H side queue None)
 none_left H side queue none v c e =
     let key = key_weight _ c (by_state-some (option_map weight_cost) H side queue None v c e).1 in
@@ -78,7 +79,7 @@ pub record SettlesState (H : LevelsAndLegs) (side : Side) (x z : WeightSearch) (
   pub least : IsLeastState x.queue (weight, state)
   pub gone : HasGoneOn H side (without_state x state) z
 
--- as the program does it
+-- the program settles the state that it took out
 pub settles_popped : (H : LevelsAndLegs) (side : Side) (x z : WeightSearch) (weight state : ℕ) (queue : List (Option ℕ)) → IsWeighingOn H side x → IsEmpty (side_keys H (other side) x) →
     IsLeastEntry nat_cmp x.queue (weight, state) → queue ≡ set x.queue state None → HasGoneOn H side (record x { queue = queue }) z →
     (v : ℕ) × SettlesState H side x z v weight state × (rank_of H v ≡ state / 2)
@@ -100,38 +101,38 @@ module _ (H : LevelsAndLegs) (side : Side) (x z : WeightSearch) (m : IsWeighingO
   pub still_alone : IsEmpty (side_keys H (other side) x) → IsEmpty (side_keys H (other side) z)
   still_alone = subst IsEmpty (sym (s.gone.there.keys ∙ (pop_there H side x m v weight state s.within s.is s.least).keys))
 
-  -- it is the same search
+  -- the search has the same source, target and limit
   pub still_same : (w : WeightSearch) → IsSameWeighing w x → IsSameWeighing w z
   still_same w same = same_then w (without_state x state) z (record { start = same.start; end = same.end; most = same.most }) s.gone.same
 
-  -- and one state fewer is not settled
+  -- one state fewer is unsettled
   pub unsettled_falls : count_unsettled_on H side z < count_unsettled_on H side x
   unsettled_falls = let falls = pop_falls H side x m v weight state s.within s.is s.least in let same = s.gone.measure in omega arith
 
   module _ (list : List (ℕ × ℕ)) (a : AreUnstalledOn H side x list) where
-    -- what was settled is so now
+    -- a node that was settled is settled now
     remains : (u : ℕ) (d : Cost) → IsSettled (side_costs H side x) (side_keys H side x) u d → IsSettled (side_costs H side z) (side_keys H side z) u d
     remains u d h =
         let key = least_on_side H side x m v weight state s.within s.is s.least in
         s.gone.stays u d (subst (λ r. IsSettled (side_costs H side x) r u d) (sym (keys_here H side x m v weight state s.within s.is s.least))
         (popped_stays _ _ _ _ _ m.search v (weight_cost weight) key.has key.least (key_within (side_keys H side x) v (weight_cost weight) key.has) u d h))
 
-    -- and so is v
+    -- v is settled now
     here : IsSettled (side_costs H side z) (side_keys H side z) v (weight_cost weight)
     here =
         let key = least_on_side H side x m v weight state s.within s.is s.least in
         s.gone.stays v (weight_cost weight) (subst (λ r. IsSettled (side_costs H side x) r v (weight_cost weight)) (sym (keys_here H side x m v weight state s.within s.is s.least))
         (popped_here _ _ _ _ _ m.search v (weight_cost weight) key.has key.least (key_within (side_keys H side x) v (weight_cost weight) key.has)))
 
-    -- no other node is
+    -- no other node is settled now
     was : (u : ℕ) (d : Cost) → IsSettled (side_costs H side z) (side_keys H side z) u d → IsSettled (side_costs H side x) (side_keys H side x) u d ⊎ ((u ≡ v) × (d ≡ weight_cost weight))
     was u d h = pop_settled H side x m v weight state s.within s.is s.least u d (s.gone.settled u d h)
 
-    -- what was idle is so now
+    -- a node that was idle is idle now
     still_idle : (u : ℕ) (d : Cost) → is_idle_on H side (source_of x side) u d → is_idle_on H side (source_of z side) u d
     still_idle u d idle = subst (λ q. is_idle_on H side q u d) (sym (same_source (without_state x state) z s.gone.same side ∙ source_stays x state side)) idle
 
-    -- where the search stalls at v, the list stays
+    -- if the search stalls at v, the list stays the same
     pub unstalled_skips : is_idle_on H side (source_of z side) v (weight_cost weight) → AreUnstalledOn H side z list
     unstalled_skips idle = record {
       distinct = a.distinct;
@@ -142,7 +143,7 @@ module _ (H : LevelsAndLegs) (side : Side) (x z : WeightSearch) (m : IsWeighingO
       ];
     }
 
-    -- else v is listed too
+    -- otherwise v is in the list too
     pub unstalled_grows : (rank : ℕ) → rank_of H v ≡ rank → (list' : List (ℕ × ℕ)) → list' ≡ list ++ (rank, weight) ∷ [] → AreUnstalledOn H side z list'
     unstalled_grows rank at list' grown = subst (AreUnstalledOn H side z) (sym grown) (record {
       distinct = all_pairs_push (λ (p q : ℕ × ℕ). p.0 ≢ q.0) list (rank, weight) a.distinct (λ k d lt same.
@@ -168,16 +169,16 @@ module _ (H : LevelsAndLegs) (side : Side) (x z : WeightSearch) (m : IsWeighingO
       ];
     })
 
--- a search that ended, of the paths within the limit
+-- a search that has ended, for the paths within the limit
 module _ (H : LevelsAndLegs) (k : IsKeptForSome H) (side : Side) (x : WeightSearch) (m : IsWeighingOn H side x) (done : IsEmpty (side_keys H side x)) (limit : Option ℕ)
     (most : IsMost limit x.most) where
-  -- what it settled has the weight of a path within the limit
+  -- a settled node has the weight of a path within the limit
   settled_path : (v y : ℕ) → IsSettled (side_costs H side x) (side_keys H side x) v (weight_cost y) → IsPathWeight (rows_of H side) (source_of x side) v y × IsWithin limit y
   settled_path v y h =
       let there = reached_weight H side (source_of x side) v (weight_cost y) (m.search.sound v (weight_cost y) h.0) in
       (there, most.sound y (m.search.light v (weight_cost y) h.0))
 
-  -- a tight node within the limit is settled at its least weight, and the search does not stall there
+  -- a tight node within the limit is settled at its least weight, and the search did not stall there
   tight_at : (v : ℕ) (c : Cost) → IsTight H side (source_of x side) v c → IsWithin limit c.weight →
       (v < nodes_of H) × IsSettled (side_costs H side x) (side_keys H side x) v (weighed_cost c) × (is_idle_on H side (source_of x side) v (weighed_cost c) → ⊥)
   tight_at v c tight low =
@@ -198,7 +199,7 @@ module _ (H : LevelsAndLegs) (k : IsKeptForSome H) (side : Side) (x : WeightSear
             (subst (λ q. IsAtMost q (weighed_cost c)) (sym (cost_sum-no_cost (weighed_cost c))) (IsAtMost_refl (weighed_cost c))),
       )
 
-  -- the states at which it did not stall are the search space
+  -- the states where it did not stall are the search space
   space_is : (list : List (ℕ × ℕ)) → AreUnstalledOn H side x list → IsRankedSpace H side limit (source_of x side) list
   space_is list a = record {
     distinct = a.distinct;
@@ -209,11 +210,11 @@ module _ (H : LevelsAndLegs) (k : IsKeptForSome H) (side : Side) (x : WeightSear
     );
   }
 
-  -- of the node with which it began
+  -- they are the search space of the node where it began
   pub space_of : (s : ℕ) → source_of x side ≡ s → (list : List (ℕ × ℕ)) → AreUnstalledOn H side x list → IsRankedSpace H side limit s list
   space_of s from list a = subst (λ q. IsRankedSpace H side limit q list) from (space_is list a)
 
--- so a list of them is the search space, where there is room for it
+-- a list with these entries is the search space
 pub space_if_listed : (H : LevelsAndLegs) (side : Side) (limit : Option ℕ) (s : ℕ) (found : List (ℕ × ℕ)) → IsRankedSpace H side limit s found →
     {E : Type 0} (r : Result (Vec (ℕ × ℕ) Global) E) → IfOk r (λ list. list.items ≡ found) → IfOk r (λ list. IsRankedSpace H side limit s list.items)
 space_if_listed H side limit s found space (Ok list) same = subst (IsRankedSpace H side limit s) (sym same) space

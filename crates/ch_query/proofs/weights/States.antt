@@ -1,4 +1,4 @@
--- What stands at the states of one side, read by node.
+-- The values of the states of one side, read by node.
 use Rattle.std.proofs.Common.{◌≡◌, ℕ, ◌-◌, ◌*◌, ◌<◌, List, length, map, Option, Some, None, refl, sym, ◌∙◌, ap, arith, get_or, set, length-set, get_or-set_same, get_or-set_other, inl, inr}
 use Rattle.std.specs.Option.{option_map}
 use Rattle.std.proofs.lemmas.Bool.{cases_lt, cases_eq}
@@ -14,12 +14,12 @@ use Rattle.ch_query.specs.declared.side.Side.TheVariants.{Up, Down}
 use Rattle.ch_query.specs.Side.{other, state_of}
 use Rattle.ch_query.specs.Weights.{by_state, weight_cost}
 
--- two ranks have two states on a side
+-- two different ranks have different states on a side
 pub state_one : (side : Side) (a b : ℕ) → state_of side a ≡ state_of side b → a ≡ b
 state_one Up a b same = omega arith
 state_one Down a b same = omega arith
 
--- no state is of both sides
+-- a state of one side is not a state of the other
 pub state_apart : (side : Side) (a b : ℕ) → state_of (other side) a ≡ state_of side b → ⊥
 state_apart Up a b same = omega arith
 state_apart Down a b same = omega arith
@@ -29,21 +29,21 @@ pub state_below : (side : Side) (rank n : ℕ) → rank < n → state_of side ra
 state_below Up rank n lt = omega arith
 state_below Down rank n lt = omega arith
 
--- the other side of the other side
+-- the other side of the other side is the side
 pub other_twice : (side : Side) → other (other side) ≡ side
 other_twice Up = refl
 other_twice Down = refl
 
 module _ {A B : Type 0} (f : A → B) (H : LevelsAndLegs) (side : Side) where
-  -- a list by node is for all nodes
+  -- a list by node has an element for each node
   pub by_state-size : (list : List A) (default : A) → length (by_state f H side list default) ≡ nodes_of H
   by_state-size list default = length-map H.level (λ level. f (get_or list (state_of side (nodes_of H - level)) default))
 
-  -- a node has what stands at its state
+  -- the element of a node is the one at its state
   pub by_state-at : (list : List A) (default : A) (d : B) (v : ℕ) → v < nodes_of H → get_or (by_state f H side list default) v d ≡ f (get_or list (state_of side (rank_of H v)) default)
   by_state-at list default d v lt = get_or-map (λ level. f (get_or list (state_of side (nodes_of H - level)) default)) H.level v 0 d lt
 
-  -- what is written at a node's state is written at the node
+  -- a write at the state of a node is a write at the node
   pub by_state-set : IsLevelled H → (list : List A) (default x : A) (v : ℕ) → length list ≡ 2 * nodes_of H → v < nodes_of H →
       by_state f H side (set list (state_of side (rank_of H v)) x) default ≡ set (by_state f H side list default) v (f x)
   by_state-set k list default x v size lt =
@@ -65,12 +65,12 @@ module _ {A B : Type 0} (f : A → B) (H : LevelsAndLegs) (side : Side) where
             ∙ sym (get_or-set_other old v w (f x) (f default) away ∙ by_state-at list default (f default) w lt')
       ])
 
-  -- and changes nothing of the other side
+  -- a write at a state of one side changes nothing on the other
   pub by_state-other : (list : List A) (default x : A) (rank : ℕ) → by_state f H (other side) (set list (state_of side rank) x) default ≡ by_state f H (other side) list default
   by_state-other list default x rank =
       λ i. map (λ level. f (get_or-set_other list (state_of side rank) (state_of (other side) (nodes_of H - level)) x default (state_apart side (nodes_of H - level) rank) i)) H.level
 
--- a cost that a node has is that of what stands at its state
+-- a cost of a node is that of the element at its state
 pub by_state-some : {A : Type 0} → (f : A → Option Cost) (H : LevelsAndLegs) (side : Side) (list : List A) (default : A) (v : ℕ) (c : Cost) →
     cost_at (by_state f H side list default) v ≡ Some c → (v < nodes_of H) × (f (get_or list (state_of side (rank_of H v)) default) ≡ Some c)
 by_state-some f H side list default v c e = elim (cases_lt v (nodes_of H)) [
@@ -78,7 +78,7 @@ by_state-some f H side list default v c e = elim (cases_lt v (nodes_of H)) [
   | inr ge ↦ absurd (none-some c (sym (get_or_past (by_state f H side list default) v None (let size = by_state-size f H side list default in omega arith)) ∙ e))
 ]
 
--- a key's cost is its weight
+-- the cost of a key is its weight
 pub key_weight : (o : Option ℕ) (c : Cost) → option_map weight_cost o ≡ Some c → (w : ℕ) × (o ≡ Some w) × (weight_cost w ≡ c)
 key_weight None c e = absurd (none-some c e)
 key_weight (Some w) c e = (w, refl, same_Some _ _ e)

@@ -15,11 +15,11 @@ use Rattle.ch_query.proofs.one_side.Touched.{none_unless}
 use Rattle.ch_query.proofs.weights.Known.{no_cost_known}
 use Rattle.ch_query.proofs.weights.States.{by_state-at, state_below}
 
--- in a clean search no state has one
+-- in a clean search no state has a key
 pub clean_none : (n : ℕ) (x : WeightSearch) → IsCleanFor n x → (state : ℕ) → get_or x.queue state None ≡ None
 clean_none n x clean state = none_unless (get_or x.queue state None) (clean.queue state)
 
--- where a search takes the legs of a node, no unreached state of that side has one
+-- in a search that is taking the legs of a node, an unreached state of that side has no key
 pub unreached_here : (H : LevelsAndLegs) (side : Side) (x : WeightSearch) (v weight : ℕ) → IsWeighingAt H side x v weight → (u state : ℕ) → u < nodes_of H → state ≡ state_of side (rank_of H u) → UnreachedStateIsUnkeyed x state
 unreached_here H side x v weight m u state within is unreached = none_unless (get_or x.queue state None) (λ w key.
     let low = state_below side (rank_of H u) (nodes_of H) (rank_below H m.levelled u within) in

@@ -1,4 +1,4 @@
--- A search by weights that begins: on each side its end is reached, and nothing else.
+-- A search by weights at its beginning: on each side the end is reached, and no other node is.
 use Rattle.std.proofs.Common.{◌≡◌, ℕ, ◌<◌, ◌≤◌, length, map, Some, None, sym, ◌∙◌, ap, subst, arith, set, length-set}
 use Rattle.std.specs.Option.{option_map}
 use Rattle.std.proofs.lemmas.Option.{none-some}
@@ -22,12 +22,12 @@ use Rattle.ch_query.proofs.one_side.WeighedPaths.{weighed_levelled}
 use Rattle.ch_query.proofs.weights.Clean.{clean_costs, clean_keys}
 use Rattle.ch_query.proofs.weights.States.{by_state-size, by_state-set, by_state-other}
 
--- a search with one node for both ends begins at it on each side
+-- if both ends are the same node, each side begins there
 pub source_where : (x : WeightSearch) (side : Side) (s : ℕ) → x.start ≡ s → x.end ≡ s → source_of x side ≡ s
 source_where x Up s start end = start
 source_where x Down s start end = end
 
--- z is x, which is clean, with one node of a side reached
+-- x is clean, and z is x with one node of a side reached
 module _ (H : LevelsAndLegs) (k : IsLevelled H) (x z : WeightSearch) (clean : IsCleanFor (nodes_of H) x) (side : Side) (s : ℕ) (within : s < nodes_of H) (source : source_of z side ≡ s)
     (most : z.most ≤ MOST_WEIGHT) (sizes : IsSizedFor (nodes_of H) z) (costs : side_costs H side z ≡ set (side_costs H side x) s (Some no_cost))
     (keys : side_keys H side z ≡ set (side_keys H side x) s (Some no_cost)) where
@@ -63,7 +63,7 @@ module _ (H : LevelsAndLegs) (k : IsLevelled H) (x z : WeightSearch) (clean : Is
       costs_many keys_many in_rows (clean_costs H side x clean k) (clean_keys H side x clean) v c
       (subst (λ q. IsSettled (set (side_costs H side x) s (Some no_cost)) q v c) keys (subst (λ q. IsSettled q (side_keys H side z) v c) costs settled))
 
--- z is x, which is clean, with a node reached on one side
+-- x is clean, and z is x with the state of one node reached
 module _ (H : LevelsAndLegs) (k : IsLevelled H) (x z : WeightSearch) (clean : IsCleanFor (nodes_of H) x) (side : Side) (s state : ℕ) (within : s < nodes_of H) (is : state ≡ state_of side (rank_of H s))
     (source : source_of z side ≡ s) (most : z.most ≤ MOST_WEIGHT) (known : z.known.items ≡ set x.known.items state 0) (queue : z.queue ≡ set x.queue state (Some 0))
     (touched : IsTouched (map known_cost z.known.items) z.touched) where
@@ -96,28 +96,28 @@ module _ (H : LevelsAndLegs) (k : IsLevelled H) (x z : WeightSearch) (clean : Is
     fresh = side_fresh H k x z clean side s within source most sizes_on costs_on keys_on;
   }
 
--- z is x, which is clean, with both ends reached
+-- x is clean, and z is x with both ends reached
 module _ (H : LevelsAndLegs) (k : IsLevelled H) (x z : WeightSearch) (s t : ℕ) (clean : IsCleanFor (nodes_of H) x) (from : s < nodes_of H) (to : t < nodes_of H) (start : z.start ≡ s) (end : z.end ≡ t) (most : z.most ≡ MOST_WEIGHT)
     (known : z.known.items ≡ set (set x.known.items (state_of Up (rank_of H s)) 0) (state_of Down (rank_of H t)) 0)
     (queue : z.queue ≡ set (set x.queue (state_of Up (rank_of H s)) (Some 0)) (state_of Down (rank_of H t)) (Some 0)) (touched : IsTouched (map known_cost z.known.items) z.touched) where
-  -- the end of a side
+  -- the node where a side begins
   end_of : Side → ℕ
   end_of Up = s
   end_of Down = t
 
-  -- it is a node
+  -- this node is a node of the hierarchy
   end_within : (side : Side) → end_of side < nodes_of H
   unfolding end_of
   end_within Up = from
   end_within Down = to
 
-  -- and is where the side begins
+  -- this node is the source of its side
   source_is : (side : Side) → source_of z side ≡ end_of side
   unfolding end_of
   source_is Up = start
   source_is Down = end
 
-  -- the end alone gets a cost
+  -- on each side only this node gets a cost
   costs_then : (side : Side) → side_costs H side z ≡ set (side_costs H side x) (end_of side) (Some no_cost)
   unfolding end_of
   costs_then Up =
@@ -129,7 +129,7 @@ module _ (H : LevelsAndLegs) (k : IsLevelled H) (x z : WeightSearch) (s t : ℕ)
       ∙ by_state-set known_cost H Down k (set x.known.items (state_of Up (rank_of H s)) 0) UNREACHED 0 t (length-set x.known.items (state_of Up (rank_of H s)) 0 ∙ clean.sizes.known) to
       ∙ ap (λ q. set q t (Some no_cost)) (by_state-other known_cost H Up x.known.items UNREACHED 0 (rank_of H s))
 
-  -- and a key
+  -- on each side only this node gets a key
   keys_then : (side : Side) → side_keys H side z ≡ set (side_keys H side x) (end_of side) (Some no_cost)
   unfolding end_of
   keys_then Up =
@@ -141,7 +141,7 @@ module _ (H : LevelsAndLegs) (k : IsLevelled H) (x z : WeightSearch) (s t : ℕ)
       ∙ by_state-set (option_map weight_cost) H Down k (set x.queue (state_of Up (rank_of H s)) (Some 0)) None (Some 0) t (length-set x.queue (state_of Up (rank_of H s)) (Some 0) ∙ clean.sizes.queue) to
       ∙ ap (λ q. set q t (Some no_cost)) (by_state-other (option_map weight_cost) H Up x.queue None (Some 0) (rank_of H s))
 
-  -- the lists have the lengths that they had
+  -- the lists keep their lengths
   sizes : IsSizedFor (nodes_of H) z
   sizes = record {
     known = ap length known ∙ length-set (set x.known.items (state_of Up (rank_of H s)) 0) _ 0 ∙ length-set x.known.items _ 0 ∙ clean.sizes.known;
@@ -149,7 +149,7 @@ module _ (H : LevelsAndLegs) (k : IsLevelled H) (x z : WeightSearch) (s t : ℕ)
     touched = touched;
   }
 
-  -- its limit is that of all paths
+  -- the search has the limit of all paths
   small : z.most ≤ MOST_WEIGHT
   small = omega arith
 
@@ -157,7 +157,7 @@ module _ (H : LevelsAndLegs) (k : IsLevelled H) (x z : WeightSearch) (s t : ℕ)
   both_begun : (side : Side) → IsWeighingOn H side z
   both_begun side = side_begun H k x z clean side (end_of side) (end_within side) (source_is side) small sizes (costs_then side) (keys_then side)
 
-  -- no sum is known
+  -- no sum is known yet
   pub weighing_begun : IsLeastSoFar H z UNREACHED
   weighing_begun = record {
     weighing = record { most = most; sides = both_begun };

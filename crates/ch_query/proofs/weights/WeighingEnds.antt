@@ -22,7 +22,7 @@ module _ (H : LevelsAndLegs) (k : IsKeptForSome H) (x : WeightSearch) (least : �
   all_paths : (side : Side) → IsWeightSearch H side (source_of x side) (side_costs H side x) (side_keys H side x)
   all_paths side = subst (λ m. IsWeightSearchTo m H side (source_of x side) (side_costs H side x) (side_keys H side x)) s.weighing.most (s.weighing.sides side).search
 
-  -- each key that is left is at least the least sum
+  -- each remaining key is at least the least sum
   key_from : (side : Side) (v : ℕ) (d : Cost) → cost_at (side_keys H side x) v ≡ Some d → least ≤ d.weight
   key_from side v d e =
       let there = by_state-some (option_map weight_cost) H side x.queue None v d e in
@@ -31,7 +31,7 @@ module _ (H : LevelsAndLegs) (k : IsKeptForSome H) (x : WeightSearch) (least : �
       let is = ap (λ (q : Cost). q.weight) key.2 in
       omega arith
 
-  -- where there is a sum
+  -- the case where there is a sum
   module _ (known : least < UNREACHED) where
     seen : IsWeightSeen (side_costs H Up x) (side_keys H Up x) (side_costs H Down x) (side_keys H Down x) (Some least)
     seen v a b up down = (least, refl, s.seen v a b up down)
@@ -45,11 +45,11 @@ module _ (H : LevelsAndLegs) (k : IsKeptForSome H) (x : WeightSearch) (least : �
     past_by : (side : Side) → IsPastWeight (side_keys H side x) (Some least)
     past_by side v d e = (least, refl, key_from side v d e)
 
-    -- it is the least weight
+    -- the sum is the least weight
     pub least_known : IsLeastWeight H x.start x.end (Some least)
     least_known = weighed_least H k x.start x.end (Some least) _ _ _ _ (all_paths Up) (all_paths Down) seen found (past_by Up) (past_by Down)
 
-  -- where there is none
+  -- the case where there is no sum
   module _ (none : least ≡ UNREACHED) where
     not_seen : IsWeightSeen (side_costs H Up x) (side_keys H Up x) (side_costs H Down x) (side_keys H Down x) None
     not_seen v a b up down =
@@ -64,10 +64,10 @@ module _ (H : LevelsAndLegs) (k : IsKeptForSome H) (x : WeightSearch) (least : �
         let light = (all_paths side).light v d ((all_paths side).queued v d e) in
         absurd (omega arith)
 
-    -- no node is reached from both
+    -- no node is reached from both ends
     pub none_known : IsLeastWeight H x.start x.end None
     none_known = weighed_least H k x.start x.end None _ _ _ _ (all_paths Up) (all_paths Down) not_seen (λ e is. absurd (none-some e is)) (not_past Up) (not_past Down)
 
--- by the nodes where the search began
+-- the same for the nodes where the search began
 pub least_between : (H : LevelsAndLegs) (s t s' t' : ℕ) (o : Option ℕ) → s' ≡ s → t' ≡ t → IsLeastWeight H s' t' o → IsLeastWeight H s t o
 least_between H s t s' t' o from to least = subst (λ q. IsLeastWeight H s q o) to (subst (λ q. IsLeastWeight H q t' o) from least)

@@ -1,4 +1,4 @@
--- One leg after the other, of one side of a search by weights alone.
+-- Legs that are taken one after the other, on one side of a search by weights alone.
 use Rattle.std.proofs.Common.{◌≡◌, ℕ, ◌+◌, ◌<◌, ◌≤◌, List, [], ◌∷◌, ◌++◌, length, map, take, Contains, Option, Some, None, refl, sym, ◌∙◌, ap, subst, arith, get_or, set, length-set, inl, inr}
 use Rattle.std.specs.Option.{option_map}
 use Rattle.std.proofs.lemmas.List.{get_or_default}
@@ -25,16 +25,16 @@ use Rattle.ch_query.proofs.weights.Known.{light_cost, known_weight}
 use Rattle.ch_query.proofs.weights.LegsRead.{IsReadLeg, read_state}
 use Rattle.ch_query.proofs.weights.States.{by_state-size, by_state-at, by_state-set, by_state-other}
 
--- a side of the same search begins where it did
+-- two searches with the same ends have the same source on each side
 pub same_source : (x y : WeightSearch) → IsSameWeighing x y → (side : Side) → source_of y side ≡ source_of x side
 same_source x y same Up = same.start
 same_source x y same Down = same.end
 
--- what is of the same search as one of the same search is so too
+-- having the same source, target and limit is transitive
 pub same_then : (x y z : WeightSearch) → IsSameWeighing x y → IsSameWeighing y z → IsSameWeighing x z
 same_then x y z first second = record { start = second.start ∙ first.start; end = second.end ∙ first.end; most = second.most ∙ first.most }
 
--- a side on which nothing changes stays a search
+-- a side without changes is still a search
 pub side_stays : (H : LevelsAndLegs) (side : Side) (x y : WeightSearch) → IsWeighingOn H side x → IsSameWeighing x y → IsSameSide H side x y → IsSizedFor (nodes_of H) y → IsWeighingOn H side y
 side_stays H side x y m same stays sizes = record {
   levelled = m.levelled;
@@ -45,14 +45,14 @@ side_stays H side x y m same stays sizes = record {
       (subst (λ q. IsWeightSearchTo x.most H side (source_of x side) (side_costs H side x) q) (sym stays.keys) m.search)));
 }
 
--- what taking the legs of v asks of one side's costs and keys
+-- the conditions on the costs and keys of a side that is taking the legs of v
 abbrev ExpandingOn : ℕ → LevelsAndLegs → Side → ℕ → List (Option Cost) → List (Option Cost) → ℕ → ℕ → Type 0
 ExpandingOn most H side s best queue v weight = IsExpanding most (rows_of (weighed H) side) s (OrNode (is_idle_on H side s) v) best queue v (weight_cost weight)
 
--- a leg is shown to this side
+-- a leg is offered to this side
 module _ (H : LevelsAndLegs) (side : Side) (x y z : WeightSearch) (v weight : ℕ) (legs : List Leg) (p : IsPartlyWeighed H side x y v weight legs) (l : Leg)
     (touched : IsTouched (map known_cost z.known.items) z.touched) (same : IsSameWeighing y z) where
-  -- one leg more is taken, where the other side stays and this one goes on
+  -- one more leg is taken, where the other side stays the same
   partly_by : (best queue : List (Option Cost)) → side_costs H side z ≡ best → side_keys H side z ≡ queue → IsSameSide H (other side) y z →
       (length z.known.items ≡ length y.known.items) × (length z.queue ≡ length y.queue) →
       ExpandingOn y.most H side (source_of y side) best queue v weight → ((k : Leg) → Contains (legs ++ l ∷ []) k → IsRelaxedFrom y.most best (weight_cost weight) k) →
@@ -78,7 +78,7 @@ module _ (H : LevelsAndLegs) (side : Side) (x y z : WeightSearch) (v weight : �
     measure = ap (λ q. count_unsettled q (side_keys H side z)) e ∙ ap (count_unsettled best) f ∙ counts ∙ p.measure;
   }
 
-  -- it shows no less than is known
+  -- the case where the leg shows no lower weight
   partly_same : (z.known.items ≡ y.known.items) → (z.queue ≡ y.queue) → IsRelaxedFrom y.most (side_costs H side y) (weight_cost weight) l →
       IsPartlyWeighed H side x z v weight (legs ++ l ∷ [])
   partly_same e f relaxed = partly_by (side_costs H side y) (side_keys H side y)
@@ -88,7 +88,7 @@ module _ (H : LevelsAndLegs) (side : Side) (x y z : WeightSearch) (v weight : �
       (λ k of. elim (Contains-push_cases legs l k of) [ inl old ↦ p.relaxed k old | inr is ↦ subst (IsRelaxedFrom y.most (side_costs H side y) (weight_cost weight)) is relaxed ])
       (λ w c k. k) (λ w c k. k) refl
 
-  -- it shows less
+  -- the case where the leg shows a lower weight
   partly_less : (has : Contains (row (rows_of (weighed H) side) v) l) (within : l.node < nodes_of H) (sum : ℕ) → cost_sum (weight_cost weight) l.cost ≡ weight_cost sum →
       sum ≤ y.most → WouldLower (side_costs H side y) l.node (cost_sum (weight_cost weight) l.cost) →
       (z.known.items ≡ set y.known.items (state_of side (rank_of H l.node)) sum) → (z.queue ≡ set y.queue (state_of side (rank_of H l.node)) (Some sum)) →

@@ -1,4 +1,4 @@
--- A node to which a higher node shows a lighter way is left unexpanded.
+-- A node stays unexpanded if a higher node shows a lighter way to it.
 use Rattle.std.proofs.Common.{◌≡◌, ℕ, ◌+◌, ◌<◌, ◌≤◌, length, refl, sym, ◌∙◌, ap, arith, get_or, inl, inr, None}
 use Rattle.std.proofs.lemmas.Bool.{cases_eq}
 use Rattle.std.proofs.lemmas.List.{get_or_default}
@@ -18,9 +18,9 @@ use Rattle.ch_query.proofs.weights.States.{by_state-at}
 use Rattle.ch_query.proofs.weights.LegsRead.{IsReadLeg, read_state}
 
 module _ (H : LevelsAndLegs) (side : Side) (x : WeightSearch) (v weight : ℕ) (w : IsWeighingAt H side x v weight) where
-  -- a weight that the stall test reads is that of no path, or the least that is known of one
+  -- the weight that the test for stalling reads is the least known weight, or UNREACHED
   module _ (i : ℕ) (r : RankedLeg) (l : Leg) (is : IsReadLeg H (other side) v i r l) (state : ℕ) (at : state ≡ state_of side r.rank) where
-    -- the state is there
+    -- the state that is read exists
     pub stall_within : state < length x.known.items
     stall_within = (let there = (read_state H w.levelled side (other side) v i r l is state at).1 in let size = w.sizes.known in omega arith)
 
@@ -31,14 +31,14 @@ module _ (H : LevelsAndLegs) (side : Side) (x : WeightSearch) (v weight : ℕ) (
         by_state-at known_cost H side x.known.items UNREACHED None l.node is.node ∙ ap (λ q. known_cost (get_or x.known.items q UNREACHED)) (sym there)
         ∙ ap known_cost (get_or_default x.known.items state UNREACHED known stall_within ∙ sym e)
 
-    -- it is no more than that of no path
+    -- its weight is at most UNREACHED
     pub stall_small : (known : ℕ) → known ≡ get_or x.known.items state known → known ≤ UNREACHED
     stall_small known e = elim (cases_eq known UNREACHED) [
       | inl same ↦ omega arith
       | inr away ↦ let light = w.here.search.light l.node (weight_cost known) (known_there known e ∙ reached_cost known away) in let most = w.here.search.limits in omega arith
     ]
 
-    -- a sum that is less than the weight lets v be idle
+    -- if a sum is less than the weight, v may stay idle
     pub stall_idle : (known : ℕ) → known ≡ get_or x.known.items state known → known + r.weight < weight → is_idle_on H side (source_of x side) v (weight_cost weight)
     stall_idle known e less =
         let light = w.here.search.light v (weight_cost weight) w.here.here.0 in
@@ -52,7 +52,7 @@ module _ (H : LevelsAndLegs) (side : Side) (x : WeightSearch) (v weight : ℕ) (
           below = (omega arith, λ le. absurd (omega arith));
         }
 
-  -- an idle node's legs need not be taken
+  -- the legs of an idle node need not be taken
   pub stalled_goes_on : is_idle_on H side (source_of x side) v (weight_cost weight) → HasGoneOn H side x x
   stalled_goes_on idle = record {
     weighing = record { levelled = w.levelled; sizes = w.sizes; search = stalled _ _ _ _ _ v (weight_cost weight) w.here idle };

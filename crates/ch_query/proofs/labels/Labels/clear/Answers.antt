@@ -6,7 +6,7 @@ use Rattle.ch_query.specs.Labels.{CostsAndParents}
 use Rattle.ch_query.proofs.one_side.Labelled.{as_many, label_set_alone, no_label}
 use Rattle.ch_query.proofs.labels.Labels.clear.Goals as goal
 
--- the label without its weight
+-- the label after its weight was removed
 abbrev unreached : Label → Label
 unreached l = record { weight = NO_WEIGHT; arcs = l.arcs; parent = l.parent }
 
