@@ -28,7 +28,7 @@ path_within H rows up a b [] lt p = subst (λ q. q < nodes_of H) p lt
 path_within H rows up a b (l ∷ legs) lt p = path_within H rows up l.node b legs (All-contains (IsLegUp H a) _ l (up.1 a).1 p.0).node p.1
 
 module _ (rows : List (List Leg)) (limit : Option ℕ) (nodes : List ℕ) where
-  -- no places, no entries
+  -- without places there are no entries
   pub entries_none : AreEntries rows limit nodes 0 []
   entries_none = record {
     order = λ i j d lt within. absurd (omega arith);
@@ -52,7 +52,7 @@ module _ (rows : List (List Leg)) (limit : Option ℕ) (nodes : List ℕ) where
           subst (IsWithin limit) weight least.1,
         )
 
-    -- one place more
+    -- one more place
     pub entries_more : (entries : List (ℕ × (ℕ × ℕ))) → AreEntries rows limit nodes k entries → AreEntries rows limit nodes (k + 1) (entries ++ map (entry_at k) reached)
     entries_more entries h = record {
       order = pairs_append (λ a b. a.0 ≡ b.0 → a.1.0 < b.1.0) entries (map (entry_at k) reached) h.order
@@ -78,7 +78,7 @@ module _ (rows : List (List Leg)) (limit : Option ℕ) (nodes : List ℕ) where
       reached_within : (v j : ℕ) (c : Cost) → j < length nodes → IsLeastUpwardPath rows (slice_index nodes j) v c → v < nodes_of H
       reached_within v j c lt p = path_within H rows up (slice_index nodes j) v p.path.0 (All-get_or (λ x. x < nodes_of H) nodes j 0 lt below) p.path.1
 
-      -- so each entry is of the bucket of a node
+      -- each entry is of the bucket of a node
       pub keys_below : All (λ e. e.0 < nodes_of H) entries
       keys_below k d lt =
           let e = get_or entries k d in
@@ -94,7 +94,7 @@ module _ (rows : List (List Leg)) (limit : Option ℕ) (nodes : List ℕ) where
           let second = eqb-true _ _ (passes j d within) in
           AllPairs-filter (λ a b. a.0 ≡ b.0 → a.1.0 < b.1.0) (λ e. e.0 == v) entries h.order i j d lt within (first ∙ sym second))
 
-      -- a bucket has the entries of its node
+      -- a bucket has exactly the entries of its node
       bucket : (v : ℕ) → IsBucket rows limit nodes v (values_of v entries)
       bucket v = record {
         order = values_order v;
@@ -107,7 +107,7 @@ module _ (rows : List (List Leg)) (limit : Option ℕ) (nodes : List ℕ) where
             (contains_filter (λ e. e.0 == v) entries (v, (j, c.weight)) (h.whole v j c lt p low) (let e : v ≡ v = refl in grind (arith, nat_tests)));
       }
 
-      -- past the nodes there is nothing
+      -- past the last node the bucket is empty
       no_bucket : (v : ℕ) → nodes_of H ≤ v → IsBucket rows limit nodes v []
       no_bucket v past = record {
         order = λ i j d lt within. absurd (omega arith);

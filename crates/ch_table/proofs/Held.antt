@@ -11,7 +11,7 @@ use Rattle.ch_graph.proofs.Lists.{contains_none, contains_map, contains_map_of, 
 use Rattle.ch_table.specs.Buckets.{HoldLists}
 use Rattle.ch_table.specs.Entries.{entry_of, AreEntriesOf}
 
--- past the lists nothing is held
+-- past the last list nothing is held
 pub held_within : {X : Type 0} (lists : List (List X)) (v : ℕ) (x : X) → Contains (slice_index_or lists v []) x → v < length lists
 held_within lists v x h = elim (cases_lt v (length lists)) [
   | inl lt ↦ lt
@@ -19,14 +19,14 @@ held_within lists v x h = elim (cases_lt v (length lists)) [
 ]
 
 module _ (item : ℕ → ℕ) (lists : List (List (ℕ × ℕ))) where
-  -- no lists, no entries
+  -- without lists there are no entries
   pub entries_of_none : AreEntriesOf item lists 0 []
   entries_of_none = record {
     sound = λ q j x h. absurd (contains_none (q, (j, x)) h);
     whole = λ r j x lt h. absurd (omega arith);
   }
 
-  -- one list more
+  -- one more list
   pub entries_of_more : (k : ℕ) (entries : List (ℕ × (ℕ × ℕ))) → AreEntriesOf item lists k entries → AreEntriesOf item lists (k + 1) (entries ++ map (entry_of item k) (slice_index_or lists k []))
   entries_of_more k entries h =
       let next = slice_index_or lists k [] in record {
@@ -54,7 +54,7 @@ module _ (item : ℕ → ℕ) (lists : List (List (ℕ × ℕ))) where
     entry_below : (r j x : ℕ) → j < length lists → Contains (slice_index_or lists j []) (r, x) → item r < n
     entry_below r j x lt c = All-contains (λ (pair : ℕ × ℕ). item pair.0 < n) (slice_index_or lists j []) (r, x) (below j [] lt) c
 
-    -- so each entry is of the bucket of an item
+    -- each entry is of the bucket of an item
     pub keys_within : All (λ e. e.0 < n) entries
     keys_within k d lt =
         let e = get_or entries k d in
@@ -78,7 +78,7 @@ module _ (item : ℕ → ℕ) (lists : List (List (ℕ × ℕ))) where
           (contains_filter (λ e. e.0 == item r) entries (item r, (j, x)) (h.whole r j x lt c) (let e : item r ≡ item r = refl in grind (arith, nat_tests))));
     }
 
--- a pair of many lists is one of a list, with its place
+-- a pair of the joined lists is a pair of one list, with its place
 pairs_sound : (place : ℕ) (lists : List (List (ℕ × ℕ))) (q j x : ℕ) → Contains (pairs_from place lists) (q, (j, x)) → (i : ℕ) × (i < length lists) × (j ≡ place + i) × Contains (slice_index_or lists i []) (q, x)
 pairs_sound place [] q j x c = absurd (contains_none (q, (j, x)) c)
 pairs_sound place (list ∷ lists) q j x c = elim (Contains-append_cases (pairs_at place list) (pairs_from (place + 1) lists) (q, (j, x)) c) [
@@ -96,7 +96,7 @@ pairs_sound place (list ∷ lists) q j x c = elim (Contains-append_cases (pairs_
       (suc r.0, omega arith, omega arith, r.3)
 ]
 
--- and each pair of a list is there
+-- each pair of a list is a pair of the joined lists
 pairs_whole : (place : ℕ) (lists : List (List (ℕ × ℕ))) (i r x : ℕ) → i < length lists → Contains (slice_index_or lists i []) (r, x) → Contains (pairs_from place lists) (r, (place + i, x))
 pairs_whole place [] i r x lt c = absurd (omega arith)
 pairs_whole place (list ∷ lists) zero r x lt c =
@@ -108,7 +108,7 @@ pairs_whole place (list ∷ lists) (suc i) r x lt c =
     Contains-append_right (pairs_at place list) (pairs_from (place + 1) lists) (r, (place + suc i, x))
     (subst (λ q. Contains (pairs_from (place + 1) lists) (r, (q, x))) at (pairs_whole (place + 1) lists i r x (omega arith) c))
 
--- so they are the entries of the lists, each at its rank
+-- the pairs of the lists are their entries, each at its rank
 pub pairs_entries : (lists : List (List (ℕ × ℕ))) → AreEntriesOf (λ rank. rank) lists (length lists) (pairs_of lists)
 pairs_entries lists = record {
   sound = λ q j x c.

@@ -1,4 +1,4 @@
--- Rows of words that are lowered, sum by sum.
+-- Rows of words, lowered sum by sum.
 use Rattle.std.proofs.Common.{◌≡◌, ℕ, ◌+◌, ◌<◌, ◌≤◌, ◌⊎◌, min, List, [], ◌∷◌, ◌++◌, length, Contains, take, get_or, set, refl, sym, ◌∙◌, ap, subst, arith, inl, inr, length-set, get_or-set_same, get_or-set_other}
 use Rattle.std.specs.Prelude.{slice_index_or}
 use Rattle.std.proofs.lemmas.Bool.{cases_eq, cases_lt}
@@ -6,7 +6,7 @@ use Rattle.std.proofs.lemmas.List.Elements.{Contains-append_left, Contains-push,
 use Rattle.ch_graph.proofs.Lists.{contains_none}
 use Rattle.ch_table.specs.Rows.{AreLowered, IsSumAt, IsSumOf}
 
--- where there are no sums nothing is lowered
+-- without sums nothing is lowered
 pub lowered_none : (P : ℕ → ℕ → Type 0) (row : List ℕ) → ((j x : ℕ) → P j x → ⊥) → AreLowered P row row
 lowered_none P row none = record { size = refl; lower = λ j. omega arith; sound = λ j lt. inl refl; whole = λ j x p. absurd (none j x p) }
 
@@ -14,7 +14,7 @@ lowered_none P row none = record { size = refl; lower = λ j. omega arith; sound
 abbrev pub IsOne : ℕ → ℕ → ℕ → ℕ → Type 0
 IsOne place weight j x = (j ≡ place) × (x ≡ weight)
 
--- it lowers that place where it is less
+-- one weight lowers one place, if it is less
 pub lowered_one : (place weight : ℕ) (row : List ℕ) → place < length row → AreLowered (IsOne place weight) row (set row place (min (get_or row place 0) weight))
 lowered_one place weight row lt =
     let low = min (get_or row place 0) weight in
@@ -40,7 +40,7 @@ lowered_one place weight row lt =
     either : (a b : ℕ) → (min a b ≡ a) ⊎ (min a b ≡ b)
     either a b = elim (cases_lt b a) [ inl lt ↦ inr (omega arith) | inr le ↦ inl (omega arith) ]
 
--- what is lowered by P and then by Q is lowered by what either says
+-- lowering by P and then by Q is lowering by both
 pub lowered_then : (P Q R : ℕ → ℕ → Type 0) (a b c : List ℕ) → ((j x : ℕ) → P j x → R j x) → ((j x : ℕ) → Q j x → R j x) → ((j x : ℕ) → R j x → P j x ⊎ Q j x) →
     AreLowered P a b → AreLowered Q b c → AreLowered R a c
 lowered_then P Q R a b c first second parts h k = record {
@@ -65,7 +65,7 @@ lowered_then P Q R a b c first second parts h k = record {
 pub bucket_none : (weight : ℕ) (row : List ℕ) → AreLowered (IsSumAt weight []) row row
 bucket_none weight row = lowered_none (IsSumAt weight []) row (λ j x sum. contains_none (j, sum.0) sum.1)
 
--- one entry more
+-- one more entry
 pub bucket_more : (weight i : ℕ) (bucket : List (ℕ × ℕ)) (entry : ℕ × ℕ) → take (i + 1) bucket ≡ take i bucket ++ entry ∷ [] → (a b c : List ℕ) →
     AreLowered (IsSumAt weight (take i bucket)) a b → AreLowered (IsOne entry.0 (weight + entry.1)) b c → AreLowered (IsSumAt weight (take (i + 1) bucket)) a c
 bucket_more weight i bucket entry is a b c =
@@ -85,7 +85,7 @@ bucket_more weight i bucket entry is a b c =
 pub space_none : (buckets : List (List (ℕ × ℕ))) (row : List ℕ) → AreLowered (IsSumOf [] buckets) row row
 space_none buckets row = lowered_none (IsSumOf [] buckets) row (λ j x sum. contains_none (sum.0, sum.1) sum.2)
 
--- one entry more, and the bucket of its rank
+-- one more entry, and the bucket of its rank
 pub space_more : (i : ℕ) (space : List (ℕ × ℕ)) (buckets : List (List (ℕ × ℕ))) (entry : ℕ × ℕ) → take (i + 1) space ≡ take i space ++ entry ∷ [] → (a b c : List ℕ) →
     AreLowered (IsSumOf (take i space) buckets) a b → AreLowered (IsSumAt entry.1 (slice_index_or buckets entry.0 [])) b c → AreLowered (IsSumOf (take (i + 1) space) buckets) a c
 space_more i space buckets entry is a b c =

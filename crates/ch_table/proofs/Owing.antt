@@ -12,7 +12,7 @@ use Rattle.ch_work.specs.declared.board.known.Known.{Known}
 use Rattle.ch_work.specs.Owed.{HasPaid}
 use Rattle.ch_work.proofs.Payments.{paid_none, paid_then}
 
--- one weight at one cell, where it is within the limit
+-- one weight at one cell, if it is within the limit
 abbrev pub OneWithin : Option ℕ → ℕ → ℕ → ℕ → ℕ → Type 0
 OneWithin limit cell weight at x = (at ≡ cell) × (x ≡ weight) × IsWithin limit x
 
@@ -20,7 +20,7 @@ OneWithin limit cell weight at x = (at ≡ cell) × (x ≡ weight) × IsWithin l
 pub row_none : (limit : Option ℕ) (first weight : ℕ) (v : Known) → HasPaid (IsOwedInRow limit first weight []) v v
 row_none limit first weight v = paid_none (IsOwedInRow limit first weight []) v (λ cell x o. contains_none (o.0, o.1) o.2)
 
--- one entry more
+-- one more entry
 pub row_more : (limit : Option ℕ) (first weight i : ℕ) (targets : List (ℕ × ℕ)) (entry : ℕ × ℕ) → take (i + 1) targets ≡ take i targets ++ entry ∷ [] → (u v w : Known) →
     HasPaid (IsOwedInRow limit first weight (take i targets)) u v → HasPaid (OneWithin limit (first + entry.0) (weight + entry.1)) v w →
     HasPaid (IsOwedInRow limit first weight (take (i + 1) targets)) u w
@@ -42,7 +42,7 @@ row_more limit first weight i targets entry is u v w =
 pub item_none : (limit : Option ℕ) (columns : ℕ) (targets : List (ℕ × ℕ)) (v : Known) → HasPaid (IsOwedBy limit columns [] targets) v v
 item_none limit columns targets v = paid_none (IsOwedBy limit columns [] targets) v (λ cell x o. contains_none (o.0, o.1) o.2)
 
--- one entry more, and its row
+-- one more entry, and its row
 pub item_more : (limit : Option ℕ) (columns i : ℕ) (sources targets : List (ℕ × ℕ)) (entry : ℕ × ℕ) → take (i + 1) sources ≡ take i sources ++ entry ∷ [] → (u v w : Known) →
     HasPaid (IsOwedBy limit columns (take i sources) targets) u v → HasPaid (IsOwedInRow limit (entry.0 * columns) entry.1 targets) v w → HasPaid (IsOwedBy limit columns (take (i + 1) sources) targets) u w
 item_more limit columns i sources targets entry is u v w =
@@ -58,7 +58,7 @@ item_more limit columns i sources targets entry is u v w =
 pub items_none : (S : BothSides) (from : ℕ) (v : Known) → HasPaid (IsOwedAmong S from from) v v
 items_none S from v = paid_none (IsOwedAmong S from from) v (λ cell x o. let a = o.1 in let b = o.2 in omega arith)
 
--- one item more
+-- one more item
 pub items_more : (S : BothSides) (from item : ℕ) → from ≤ item → (u v w : Known) → HasPaid (IsOwedAmong S from item) u v → HasPaid (IsOwedAt S item) v w → HasPaid (IsOwedAmong S from (item + 1)) u w
 items_more S from item low u v w =
     paid_then (IsOwedAmong S from item) (IsOwedAt S item) (IsOwedAmong S from (item + 1)) u v w
@@ -69,7 +69,7 @@ items_more S from item low u v w =
     (λ cell x o. (o.0, o.1, (let b = o.2 in omega arith), o.3))
     (λ cell x o. (item, low, omega arith, o))
 
--- the cells of a source's row are those of the board, and the weights those of paths
+-- the cells of a source's row are cells of the board, and the weights are those of paths
 pub row_cells : (S : BothSides) (cells i : ℕ) (targets : List (ℕ × ℕ)) → i < S.rows → cells ≡ S.rows * S.columns → All (IsEntryAmong S.columns) targets → All (λ entry. (i * S.columns + entry.0 < cells) × (entry.1 ≤ MOST_WEIGHT)) targets
 row_cells S cells i targets lt size all k d within =
     let e = all k d within in

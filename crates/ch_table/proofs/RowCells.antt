@@ -1,4 +1,4 @@
--- The cells of a row: what the least sums of a source's search space and the buckets of the targets mean.
+-- The cells of a row: the meaning of the least sums of a source's search space and the buckets of the targets.
 use Rattle.std.proofs.Common.{◌≡◌, ℕ, ◌-◌, ◌<◌, ◌≤◌, List, [], ◌++◌, length, map, replicate, take, take_all, Contains, Option, None, get_or, sym, ◌∙◌, ap, subst, arith, inl, inr}
 use Rattle.std.specs.Prelude.{All, slice_index, slice_index_or}
 use Rattle.std.proofs.lemmas.Bool.{cases_lt, le-leb, lt-leb}
@@ -16,13 +16,13 @@ use Rattle.ch_table.specs.Rows.{AreTargetsOf, AreLowered, IsMostSum, IsSumOf, ce
 use Rattle.ch_table.specs.Table.{IsRowBy}
 use Rattle.ch_table.proofs.Tables.{all_zip_at, space_at, space_within, spaces_count}
 
--- a list that was cleared and made as long as the targets
+-- a row that was cleared and then filled to the number of targets
 pub refilled : (n x : ℕ) (row cleared : List ℕ) (len : ℕ) → row ≡ take n cleared ++ replicate (n - len) x → cleared ≡ [] → len ≡ 0 → row ≡ replicate n x
 refilled n x row cleared len is none zero =
     let whole : n - len ≡ n = omega arith in
     is ∙ ap (λ l. take n l ++ replicate (n - len) x) none ∙ ap (λ l. l ++ replicate (n - len) x) (take_all n [] (omega arith)) ∙ ap (λ m. replicate m x) whole
 
--- the entries of a search space are of ranks of nodes, and their weights those of paths
+-- the entries of a search space have ranks of nodes and weights of paths
 pub space_among : (H : LevelsAndLegs) (limit : Option ℕ) → IsLevelled H → (s : ℕ) (space : List (ℕ × ℕ)) → IsRankedSpace H Up limit s space → All (λ entry. (entry.0 < nodes_of H) × (entry.1 ≤ MOST_WEIGHT)) space
 space_among H limit levelled s space up k d lt =
     let e = get_or space k d in
@@ -38,19 +38,19 @@ module _ (H : LevelsAndLegs) (limit : Option ℕ) (targets : List ℕ) (buckets 
     abbrev to : IsRankedSpace H Down limit (slice_index targets j) down
     to = space_at H Down limit (λ rank. rank) targets buckets are.fall j column
 
-    -- a sum of the row is one that the two search spaces share
+    -- a sum of the row is shared by the two search spaces
     sum_shared : (x : ℕ) → IsSumOf space buckets j x → IsSharedSum space down x
     sum_shared x sum =
         let target = are.fall.held.sound sum.0 j sum.3.0 sum.3.1 in
         (sum.0, sum.1, sum.3.0, sum.2, subst (λ r. Contains down (r, sum.3.0)) target.3 target.2, sym sum.3.2)
 
-    -- and the other way round
+    -- a shared sum is a sum of the row
     shared_sum : (x : ℕ) → IsSharedSum space down x → IsSumOf space buckets j x
     shared_sum x sum =
         let size = spaces_count H Down limit (λ rank. rank) targets buckets are.fall in
         (sum.0, sum.1, sum.3, (sum.2, are.fall.held.whole sum.0 j sum.2 (omega arith) sum.4, sym sum.5))
 
-    -- it is no more than two weights of paths
+    -- a shared sum is at most the sum of two weights of paths
     shared_low : (x : ℕ) → IsSharedSum space down x → x ≤ MOST_SUM
     shared_low x sum =
         let first = (up.sound sum.0 sum.1 sum.3).3 in
@@ -61,7 +61,7 @@ module _ (H : LevelsAndLegs) (limit : Option ℕ) (targets : List ℕ) (buckets 
         let same' = second.2 in
         let all = sum.5 in omega arith
 
-    -- a word that is no more than the most is a sum
+    -- a word that is at most `most` is a sum
     reached : get_or row j 0 ≤ most → IsSumOf space buckets j (get_or row j 0)
     reached low =
         let size = length-replicate (length targets) UNREACHED in
@@ -72,7 +72,7 @@ module _ (H : LevelsAndLegs) (limit : Option ℕ) (targets : List ℕ) (buckets 
           | inr sum ↦ sum
         ]
 
-    -- so the cell is the least shared sum within the limit
+    -- the cell is the least shared sum within the limit
     least : IsLeastSharedSum limit space down (cell_of most (get_or row j 0))
     least = elim (cases_lt most (get_or row j 0)) [
       | inl over ↦ rw (lt-leb (get_or row j 0) most over) (λ x sum low.
@@ -82,11 +82,11 @@ module _ (H : LevelsAndLegs) (limit : Option ℕ) (targets : List ℕ) (buckets 
           (sum_shared (get_or row j 0) (reached low), is_most.sound (get_or row j 0) low, λ y sum within. lowered.whole j y (shared_sum y sum))
     ]
 
-    -- which is the distance within the limit
+    -- the cell is the distance within the limit
     pub cell_is : IsDistanceWithin H limit s (slice_index targets j) (cell_of most (get_or row j 0))
     cell_is = ranked_spaces_give_distance H are.kept limit s (slice_index targets j) space down up to (cell_of most (get_or row j 0)) least
 
-  -- so the cells are the row of the source
+  -- the cells are the row of the source
   pub row_is : IsRowBy H limit targets s (map (cell_of most) row)
   row_is =
       let size = lowered.size in

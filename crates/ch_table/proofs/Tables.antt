@@ -1,4 +1,4 @@
--- The cells of a table: the least sums that the nodes owe, and what they mean.
+-- The cells of a table: the least sums that the nodes owe, and their meaning.
 use Rattle.std.proofs.Common.{◌≡◌, ℕ, zero, suc, ◌+◌, ◌*◌, ◌<◌, ◌≤◌, min, List, [], ◌∷◌, length, Contains, Option, Some, None, get_or, refl, sym, ◌∙◌, subst, arith}
 use Rattle.std.specs.Prelude.{All, slice_index, slice_index_or, slice_range, Vec}
 use Rattle.std.specs.declared.alloc.Global.{Global}
@@ -26,7 +26,7 @@ use Rattle.ch_table.specs.Sums.{BothSides, AreWithin, IsEntryAmong, IsOwedAmong}
 use Rattle.ch_table.specs.Table.{IsRowBy, rows_of_cells}
 use Rattle.ch_table.proofs.Held.{held_within}
 
--- two lists of one length that are related at each place
+-- two lists of the same length are related if their elements are at each place
 pub all_zip_at : {X Y : Type 0} (R : X → Y → Type 0) (d : X) (e : Y) (xs : List X) (ys : List Y) → length ys ≡ length xs →
     ((j : ℕ) → j < length xs → R (get_or xs j d) (get_or ys j e)) → AllZip R xs ys
 all_zip_at R d e [] [] size h = tt
@@ -34,7 +34,7 @@ all_zip_at R d e [] (y ∷ ys) size h = absurd (omega arith)
 all_zip_at R d e (x ∷ xs) [] size h = absurd (omega arith)
 all_zip_at R d e (x ∷ xs) (y ∷ ys) size h = (h zero (omega arith), all_zip_at R d e xs ys (omega arith) (λ j lt. h (suc j) (omega arith)))
 
--- what is related place by place is so at each place
+-- the elements of related lists are related at each place
 zip_at : {X Y : Type 0} (R : X → Y → Type 0) (d : X) (e : Y) (xs : List X) (ys : List Y) → AllZip R xs ys → (j : ℕ) → j < length xs → R (get_or xs j d) (get_or ys j e)
 zip_at R d e [] [] h j lt = absurd (omega arith)
 zip_at R d e [] (y ∷ ys) h j lt = absurd h
@@ -42,15 +42,15 @@ zip_at R d e (x ∷ xs) [] h j lt = absurd h
 zip_at R d e (x ∷ xs) (y ∷ ys) h zero lt = h.0
 zip_at R d e (x ∷ xs) (y ∷ ys) h (suc j) lt = zip_at R d e xs ys h.1 j (omega arith)
 
--- there are as many rows
+-- there are `rows` rows
 pub length_rows : (rows columns : ℕ) (cells : List (Option ℕ)) → length (rows_of_cells rows columns cells) ≡ rows
 length_rows rows columns cells = length-map-range_with_len (λ i. slice_range cells (i * columns) (i * columns + columns)) 0 rows
 
--- and each is its part of the cells
+-- each row is its part of the cells
 pub row_at : (rows columns : ℕ) (cells : List (Option ℕ)) (i : ℕ) → i < rows → slice_index_or (rows_of_cells rows columns cells) i [] ≡ slice_range cells (i * columns) (i * columns + columns)
 row_at rows columns cells i lt = get_or-map-range_with_len (λ j. slice_range cells (j * columns) (j * columns + columns)) 0 rows i i [] lt (omega arith)
 
--- a row lies within the cells
+-- a row is within the cells
 pub row_fits : (rows columns i : ℕ) → i < rows → i * columns + columns ≤ rows * columns
 row_fits rows columns i lt =
     let next : (i + 1) * columns ≡ i * columns + columns = omega arith in
@@ -61,7 +61,7 @@ pub space_within : (H : LevelsAndLegs) (side : Side) (limit : Option ℕ) → Is
 space_within H side limit levelled s rank x list space c =
     let node = space.sound rank x c in subst (λ q. q < nodes_of H) node.2 (rank_below H levelled node.0 node.1)
 
--- the entries of a search space are those of paths
+-- the entries of the buckets are those of search spaces
 module _ (H : LevelsAndLegs) (side : Side) (limit : Option ℕ) (item : ℕ → ℕ) (nodes : List ℕ) (buckets : List (List (ℕ × ℕ))) (hold : HoldSearchSpaces H side limit item nodes buckets) where
   pub spaces_count : length hold.spaces ≡ length nodes
   spaces_count = zipped_length (IsRankedSpace H side limit) nodes hold.spaces hold.each
@@ -110,7 +110,8 @@ module _ (H : LevelsAndLegs) (limit : Option ℕ) (item : ℕ → ℕ) (sources 
     abbrev cell : ℕ
     cell = i * length targets + j
 
-    -- what the nodes of items owe to the cell is shared by the two search spaces, and within the limit: entries of one item are of one rank
+    -- a weight that the nodes owe to the cell is shared by the two search spaces and within the limit, because an
+    -- item has one rank
     owed_shared : (from to x : ℕ) → IsOwedAmong sides from to cell x → IsSharedSum up down x × IsWithin limit x
     owed_shared from to x o =
         let source = rise.held.sound o.0 o.3.0 o.3.1 o.3.2 in
@@ -129,7 +130,7 @@ module _ (H : LevelsAndLegs) (limit : Option ℕ) (item : ℕ → ℕ) (sources 
           there.5,
         )
 
-    -- and what they share is owed by the piece of its rank's item
+    -- a shared weight within the limit is owed by the piece of its rank's item
     shared_owed : (p x : ℕ) → 0 < p → IsSharedSum up down x → IsWithin limit x → (k : ℕ) × (k < pieces_of (length ups) p) × owed_by (IsOwedAmong sides) (length ups) p k cell x
     shared_owed p x positive h low =
         let r = h.0 in
@@ -140,7 +141,7 @@ module _ (H : LevelsAndLegs) (limit : Option ℕ) (item : ℕ → ℕ) (sources 
         let piece = piece_of (length ups) p (item r) positive (held_within ups (item r) (i, h.1) source) in
         (piece.0, piece.1, (item r, piece.2, piece.3, (i, h.1, source, (j, h.2, target, refl, sym h.5, low))))
 
-    -- so the least that is owed is the distance within the limit
+    -- the least weight that is owed is the distance within the limit
     cell_is : (p : ℕ) (o : Option ℕ) → 0 < p → IsLeastOwed (IsOwedAmong sides) (length ups) p cell o →
         IsDistanceWithin H limit (slice_index sources i) (slice_index targets j) o
     cell_is p o positive h =
@@ -154,7 +155,7 @@ module _ (H : LevelsAndLegs) (limit : Option ℕ) (item : ℕ → ℕ) (sources 
             let owed = owed_shared (least.0.0 * p) (min (least.0.0 * p + p) (length ups)) x least.0.2 in
             (owed.0, owed.1, λ y sum low. let r = shared_owed p y positive sum low in least.1 r.0 y r.1 r.2)
 
-  -- and the cells are the table
+  -- the cells are the table
   pub table_is : (p : ℕ) (cells : List (Option ℕ)) → 0 < p → IsKeptForSome H → ((q r : ℕ) → q < nodes_of H → r < nodes_of H → item q ≡ item r → q ≡ r) →
       length cells ≡ length sources * length targets →
       ((cell : ℕ) (d : Option ℕ) → cell < length sources * length targets → IsLeastOwed (IsOwedAmong sides) (length ups) p cell (slice_index_or cells cell d)) →

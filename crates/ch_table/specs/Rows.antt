@@ -7,7 +7,7 @@ use Rattle.ch_query.specs.Distance.{IsKeptForSome}
 use Rattle.ch_query.specs.Limits.{IsWithin}
 use Rattle.ch_table.specs.Buckets.{HoldSearchSpaces}
 
--- the hierarchy, targets and limit of which rows are asked for
+-- the hierarchy, the targets and the limit of rows
 pub record Asked : Type 0 where
   pub hierarchy : LevelsAndLegs
   pub targets : List ℕ
@@ -22,23 +22,23 @@ pub record AreTargetsOf (H : LevelsAndLegs) (most : Option ℕ) (targets : List 
 abbrev pub IsSumAt : ℕ → List (ℕ × ℕ) → ℕ → ℕ → Type 0
 IsSumAt weight bucket j x = (b : ℕ) × Contains bucket (j, b) × (x ≡ weight + b)
 
--- so it is at some rank of the search space
+-- x is such a sum at some rank of the search space
 abbrev pub IsSumOf : List (ℕ × ℕ) → List (List (ℕ × ℕ)) → ℕ → ℕ → Type 0
 IsSumOf space buckets j x = (rank a : ℕ) × Contains space (rank, a) × IsSumAt a (slice_index_or buckets rank []) j x
 
--- each place has the least of what it had and of its sums, where P says of a place and a weight that it is one
+-- each place has the least of its old value and its sums, where P relates a place to its sums
 pub record AreLowered (P : ℕ → ℕ → Type 0) (before after : List ℕ) : Type 0 where
   pub size : length after ≡ length before
   pub lower : (j : ℕ) → slice_index after j ≤ slice_index before j
   pub sound : (j : ℕ) → j < length before → (slice_index after j ≡ slice_index before j) ⊎ P j (slice_index after j)
   pub whole : (j x : ℕ) → P j x → slice_index after j ≤ x
 
--- the most that a sum of two weights of paths may be that is within the limit
+-- the most that a sum of the weights of two paths may be, if it is within the limit
 pub record IsMostSum (limit : Option ℕ) (most : ℕ) : Type 0 where
   pub limits : most ≤ MOST_SUM
   pub sound : (x : ℕ) → x ≤ most → IsWithin limit x
   pub whole : (x : ℕ) → x ≤ MOST_SUM → IsWithin limit x → x ≤ most
 
--- the cell of a word: none where the word is more
+-- the cell of a word, which is none if the word is more than `most`
 abbrev pub cell_of : ℕ → ℕ → Option ℕ
 cell_of most word = (if nat_le word most then Some word else None)

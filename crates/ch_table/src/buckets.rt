@@ -15,9 +15,10 @@ use ch_work::length_of;
 use std::alloc::{AllocError, Global};
 use std::marker::Model;
 
-/// For each node the targets that it reaches by going down, each as its place and the least weight of such
-/// a path, ordered by place; or the sources that reach it by going up. With a limit those whose weight is at most
-/// that.
+/// For each node, the targets that it reaches by going down, or the sources that reach it by going up.
+///
+/// An entry is a place in the list of targets or sources and the least weight of such a path. The entries
+/// of a node are in order of place. With a limit, only weights of at most that have entries.
 #[derive(Debug, Drop)]
 pub struct Buckets {
     rows: Rows<(u32, u64)>,
@@ -32,11 +33,11 @@ impl Model for Buckets {
 }
 
 impl Buckets {
-    /// The buckets of the targets, of the weights that are at most `within` where there is such a limit. A target
-    /// that comes again has an entry for each of its places.
+    /// Makes the buckets of the targets. With a limit `within`, they hold only weights of at most that. A
+    /// target that occurs more than once has an entry for each of its places.
     ///
     /// # Errors
-    /// `AllocError` where there is no memory.
+    /// `AllocError` if there is no memory.
     pub fn fill(
         alloc: Global,
         hierarchy: &Hierarchy,
@@ -50,11 +51,12 @@ impl Buckets {
         Buckets::fill_side(alloc, hierarchy, targets, Side::Down, within)
     }
 
-    /// The buckets of the sources: for each node the sources that reach it by going up, of the weights that are
-    /// at most `within` where there is such a limit. A source that comes again has an entry for each of its places.
+    /// Makes the buckets of the sources: for each node the sources that reach it by going up. With a limit
+    /// `within`, they hold only weights of at most that. A source that occurs more than once has an entry
+    /// for each of its places.
     ///
     /// # Errors
-    /// `AllocError` where there is no memory.
+    /// `AllocError` if there is no memory.
     pub fn fill_up(
         alloc: Global,
         hierarchy: &Hierarchy,
@@ -68,7 +70,7 @@ impl Buckets {
         Buckets::fill_side(alloc, hierarchy, sources, Side::Up, within)
     }
 
-    /// The buckets of these nodes, by their paths to higher nodes in this direction.
+    /// Makes the buckets of these nodes, from their paths to higher nodes in this direction.
     fn fill_side(
         alloc: Global,
         hierarchy: &Hierarchy,
@@ -85,8 +87,8 @@ impl Buckets {
         Ok(Buckets { rows })
     }
 
-    /// The buckets of all items, which hold lists of ranks and weights, one list for each place: each weight in the
-    /// bucket of its rank's item.
+    /// Makes the buckets of all items from lists of ranks and weights, one list for each place. Each weight
+    /// goes to the bucket of its rank's item.
     pub(crate) fn of_lists(
         alloc: Global,
         dealing: &Dealing,
@@ -97,7 +99,7 @@ impl Buckets {
         ensures { IfOk result (HoldLists dealing.now.nodes (item_of dealing.now) (map (λ list. list.items) lists.items)) }
     {
         let entries = entries_of(alloc, dealing, &lists)?;
-        // Their memory serves the rows.
+        // This frees their memory for the rows.
         drop(lists);
         let rows = Rows::build(alloc, dealing.nodes(), &entries)?;
         Ok(Buckets { rows })
@@ -112,10 +114,10 @@ impl Buckets {
     }
 }
 
-/// An entry of a bucket, after the node, or the item, whose bucket it is in.
+/// The node or the item that a bucket belongs to, and an entry of that bucket.
 type Entry = (u32, (u32, u64));
 
-/// The entries of all buckets, place after place.
+/// Returns the entries of all buckets, place after place.
 fn entries(
     alloc: Global,
     hierarchy: &Hierarchy,
@@ -150,7 +152,7 @@ fn push_entries(
     Ok(())
 }
 
-/// The entries of all lists, place after place, each at the item of its rank.
+/// Returns the entries of all lists, place after place, each at the item of its rank.
 fn entries_of(
     alloc: Global,
     dealing: &Dealing,

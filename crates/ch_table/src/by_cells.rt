@@ -1,4 +1,4 @@
-//! Tables whose cells all workers share.
+//! Tables whose cells are shared by all workers.
 ghost use Rattle.std.specs.Prelude.{◌≡◌, ◌*◌, ◌<◌, ◌≤◌, length, map, vec_len, All, IfOk};
 ghost use Rattle.std.specs.List.{AllZip};
 ghost use Rattle.ch_graph.specs.declared.limits.TheConstants.{MOST_LISTED};
@@ -14,9 +14,11 @@ use ch_work::{Crew, Gate, Stage, run_cells};
 use std::alloc::{AllocError, Global};
 use std::thread::Threads;
 
-/// The table of few sources. At each node the entries of sources and those of targets owe their sums to the cells, which all
-/// workers share. The workers share the targets, then the sources, then the nodes, of which each piece has its share of the
-/// high ones and does them last. With a limit no greater sum is owed.
+/// Makes a table of few sources.
+///
+/// At each node, the entries of sources and of targets owe their sums to the cells, which all workers
+/// share. With a limit, only sums of at most that are owed. The workers share first the targets, then the
+/// sources, and then the nodes. Each piece of nodes has its share of the high nodes, and does them last.
 pub(crate) fn table_by_cells<R: Threads + Sync, G: Gate>(
     crew: &Crew<'_, R, G>,
     hierarchy: &Hierarchy,
@@ -35,18 +37,18 @@ pub(crate) fn table_by_cells<R: Threads + Sync, G: Gate>(
     let rows = sources.len() as u32;
     let columns = targets.len() as u32;
     let nodes = hierarchy.nodes();
-    // The proof learns from this call that a piece has an item.
+    // This call tells the proof that a piece has at least one item.
     let _ = crew.plan.piece();
     crew.gate
         .watch(Stage::Answering, 0, crew.plan.pieces(nodes));
     let cells = run_cells(crew, nodes, rows * columns, &sums)?;
-    // Their memory serves the rows.
+    // This frees their memory for the rows.
     drop(sums);
     let rows = cut(crew.alloc, &cells, rows, columns)?;
     Ok(Table { rows })
 }
 
-/// The rows of cells that stand row after row.
+/// Cuts the cells, which are row after row, into rows.
 fn cut(
     alloc: Global,
     cells: &[Option<u64>],

@@ -1,4 +1,4 @@
-//! Tables whose rows workers make, each row by one worker, and those that the caller makes alone.
+//! Tables made row by row: each row by one worker, or all rows by the caller alone.
 ghost use Rattle.std.specs.Prelude.{◌≡◌, ◌<◌, ◌≤◌, length, All, IfOk};
 ghost use Rattle.std.specs.List.{AllZip};
 ghost use Rattle.ch_graph.specs.declared.limits.TheConstants.{MOST_LISTED};
@@ -19,8 +19,10 @@ use std::alloc::{AllocError, Global};
 use std::marker::Model;
 use std::thread::Threads;
 
-/// The table, row by row. The workers share the targets, whose weights go to the buckets of the nodes that they reach, and
-/// then the sources, each of which is searched from for its row.
+/// Makes the table row by row.
+///
+/// The workers share the targets, whose weights go to the buckets of the nodes that they reach. Then they
+/// share the sources. Each source is searched from for its row.
 pub(crate) fn table_by_rows<R: Threads + Sync, G: Gate>(
     crew: &Crew<'_, R, G>,
     hierarchy: &Hierarchy,
@@ -42,11 +44,12 @@ pub(crate) fn table_by_rows<R: Threads + Sync, G: Gate>(
     Ok(Table { rows })
 }
 
-/// The distances from each source to each target, as [`table`](crate::table) gives them, by the caller alone in a scratch
-/// of its own: no thread is started and no gate is passed. The scratch is for as many nodes.
+/// Returns the distances from each source to each target, as [`table`](crate::table) does, by the caller
+/// alone. It starts no thread, passes no gate, and uses a scratch of the caller. The scratch has room for
+/// the number of nodes.
 ///
 /// # Errors
-/// `AllocError` where there is no memory; the scratch then serves on.
+/// `AllocError` if there is no memory. The scratch can still be used.
 pub fn table_alone(
     alloc: Global,
     hierarchy: &Hierarchy,
@@ -69,7 +72,7 @@ pub fn table_alone(
     Ok(Table { rows })
 }
 
-/// The search spaces down to these targets, within the limit, by ranks, one after the other.
+/// Returns the search spaces down to these targets within the limit, by ranks, one after the other.
 fn spaces_alone(
     alloc: Global,
     hierarchy: &Hierarchy,
@@ -91,13 +94,15 @@ fn spaces_alone(
     Ok(spaces)
 }
 
-/// The rows of sources, each made of the source's search space and the buckets of the targets.
+/// The job that makes the rows of sources. Each row is made of the source's search space and the buckets of
+/// the targets.
 #[derive(Drop)]
 struct SourceRows<'a> {
     hierarchy: &'a Hierarchy,
     targets: &'a [u32],
     within: Option<u64>,
-    /// By rank, the places of the targets that reach the node by going down, with their weights there.
+    /// By rank, the places of the targets that the node reaches by going down, with the weights of these
+    /// paths.
     buckets: Rows<(u32, u64)>,
 }
 
@@ -112,7 +117,7 @@ impl<'a> Model for SourceRows<'a> {
 }
 
 impl<'a> SourceRows<'a> {
-    /// The job over sources that the search spaces of the targets make. The rows take their memory.
+    /// Makes the job over sources from the search spaces of the targets, which it frees.
     fn of(
         alloc: Global,
         hierarchy: &'a Hierarchy,
@@ -134,7 +139,7 @@ impl<'a> SourceRows<'a> {
         })
     }
 
-    /// The rows of these sources, one after the other.
+    /// Returns the rows of these sources, one after the other.
     fn rows_alone(
         &self,
         alloc: Global,
@@ -155,7 +160,7 @@ impl<'a> SourceRows<'a> {
         Ok(rows)
     }
 
-    /// The row of a source, by a search in this scratch and these words.
+    /// Returns the row of a source, by a search in this scratch. `row` is room for the words.
     fn row(
         &self,
         alloc: Global,

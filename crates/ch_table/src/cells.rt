@@ -21,7 +21,7 @@ impl Model for Table {
 }
 
 impl Table {
-    /// The number of rows, which is that of the sources.
+    /// The number of rows, which is the number of sources.
     pub fn row_count(&self) -> u32
         ensures { result ≡ length self.now }
     {

@@ -6,16 +6,18 @@ ghost use Rattle.ch_work.specs.declared.limits.TheConstants.{MOST_PIECE};
 
 use std::marker::Model;
 
-/// Which item is whose, where a job's items are nodes. From the highest node on each piece is dealt one in turn, and is
-/// filled from its end; once the last piece, which may be shorter, is full, those before it get the rest. So the
-/// pieces share the high nodes, which owe most to a table, and each does its low nodes first.
+/// Which item each node is, in a job whose items are nodes.
+///
+/// From the highest node on, each piece in turn gets one node, and fills its items from the end. The last
+/// piece may be shorter. Once it is full, the pieces before it get the rest. So the pieces share the high
+/// nodes, which owe most to a table, and each piece does its low nodes first.
 #[derive(Drop)]
 pub(crate) struct Dealing {
     nodes: u32,
     piece: u32,
-    /// How many pieces come before the last.
+    /// The number of pieces before the last.
     before: u32,
-    /// How many items the last has.
+    /// The number of items of the last piece.
     last: u32,
 }
 
@@ -34,7 +36,7 @@ impl Model for Dealing {
 }
 
 impl Dealing {
-    /// Deals so many nodes over pieces of so many items.
+    /// Deals `nodes` nodes over pieces of `piece` items.
     pub(crate) fn new(nodes: u32, piece: u32) -> Dealing
         requires nodes { nodes ≤ MOST_NODES }
         requires piece { (0 < piece) × (piece ≤ MOST_PIECE) }
@@ -49,7 +51,7 @@ impl Dealing {
         }
     }
 
-    /// How many nodes are dealt.
+    /// The number of nodes that are dealt.
     pub(crate) fn nodes(&self) -> u32
         ensures nodes { result ≡ self.now.nodes }
         ensures piece { 0 < self.now.piece }
@@ -57,7 +59,7 @@ impl Dealing {
         self.nodes
     }
 
-    /// The item of the node of this rank.
+    /// Returns the item of the node of this rank.
     pub(crate) fn item(&self, rank: u32) -> u32
         requires { rank < self.now.nodes }
         ensures item { result ≡ item_of self.now rank }
@@ -69,13 +71,13 @@ impl Dealing {
         end - 1 - round
     }
 
-    /// The piece and the round in which the node of this rank is dealt.
+    /// Returns the piece and the round of the node of this rank.
     fn turn(&self, rank: u32) -> (u32, u32)
         requires { rank < self.now.nodes }
         ensures { result ≡ turn_of self.now rank }
     {
         let all = self.before + 1;
-        // Most nodes that searches reach are dealt in the first round, and it needs no division.
+        // Most nodes that searches reach are dealt in the first round. That round needs no division.
         if rank < all {
             return (rank, 0);
         }

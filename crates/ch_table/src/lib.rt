@@ -1,12 +1,15 @@
 //! Tables of distances between many sources and many targets, by buckets (Knopp, Sanders, Schultes, Schulz
 //! and Wagner 2007).
 //!
-//! It stands on ch_graph, ch_hierarchy, ch_query and ch_work. Proved of it: on every hierarchy [`Buckets`]
-//! hold at each node exactly the targets that it reaches by going down, or the sources that reach it by going
-//! up, with the least weights of such paths, ordered by place; on every hierarchy that is right for a graph each
-//! cell of [`table`] is the least weight of a walk, or says that there is no walk, for every plan and gate. With a
-//! limit the buckets hold exactly the weights that are at most that, and a cell is none where the least weight is
-//! more.
+//! It stands on ch_graph, ch_hierarchy, ch_query and ch_work. These statements are proved:
+//!
+//! - On every hierarchy, [`Buckets`] hold at each node exactly the targets that it reaches by going down,
+//!   or the sources that reach it by going up. They hold the least weights of such paths, in order of
+//!   place.
+//! - On every hierarchy that is right for a graph, each cell of [`table`] is the least weight of a walk, or
+//!   says that there is no walk. This holds for every plan and gate.
+//! - With a limit, the buckets hold exactly the weights that are at most that. A cell is none if the least
+//!   weight is more.
 #![tactic(auto)]
 
 mod buckets;

@@ -1,4 +1,4 @@
-//! Distances from many nodes to many.
+//! Distances from many nodes to many nodes.
 ghost use Rattle.std.specs.Prelude.{◌*◌, ◌<◌, ◌≤◌, length, All, IfOk};
 ghost use Rattle.std.specs.List.{AllZip};
 ghost use Rattle.ch_graph.specs.declared.limits.TheConstants.{MOST_LISTED};
@@ -15,17 +15,19 @@ use ch_work::{Crew, Gate};
 use std::alloc::AllocError;
 use std::thread::Threads;
 
-/// The distances from each source to each target; with a limit `within` those that are at most that, and none
-/// for the others.
+/// Returns the distances from each source to each target. With a limit `within`, a distance of more than
+/// that is none.
 ///
-/// Each target is searched from once, down its paths to higher nodes, and leaves its weight in the bucket of
-/// each node that it reaches (Knopp, Sanders, Schultes and Wagner 2007). Then each source is searched from, up, and its
-/// row is made of the sums with the buckets of the nodes that it reaches. The workers share the targets, then the
-/// sources. Where there are fewer sources than workers, but some, these share cells in place of rows. With a limit a search
-/// ends where the least weight that is left is more.
+/// Each target is searched from once, down its paths to higher nodes. It leaves its weight in the bucket of
+/// each node that it reaches (Knopp, Sanders, Schultes, Schulz and Wagner 2007). Then each source is
+/// searched from, up. Its row is made of the sums with the buckets of the nodes that it reaches.
+///
+/// The workers share the targets, and then the sources. If there are fewer sources than workers, and at
+/// least one, the workers share cells in place of rows. With a limit, a search takes no leg that makes a
+/// path heavier.
 ///
 /// # Errors
-/// `AllocError` where there is no memory.
+/// `AllocError` if there is no memory.
 pub fn table<R: Threads + Sync, G: Gate>(
     crew: &Crew<'_, R, G>,
     hierarchy: &Hierarchy,

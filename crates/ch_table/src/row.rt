@@ -1,4 +1,4 @@
-//! The row of one source: sums, and the least of each place.
+//! The row of one source: sums, and the least sum of each place.
 ghost use Rattle.std.specs.Prelude.{◌≡◌, ◌<◌, ◌≤◌, ℕ, [], length, map, slice_index_or, All, IfOk};
 ghost use Rattle.ch_graph.specs.declared.limits.TheConstants.{MOST_WEIGHT};
 ghost use Rattle.ch_table.specs.Rows.{AreLowered, IsMostSum, IsSumAt, IsSumOf, cell_of};
@@ -8,10 +8,11 @@ use ch_graph::Rows;
 use ch_graph::limits::MOST_SUM;
 use std::alloc::{AllocError, Global};
 
-/// The word of a place that no sum has reached: it is more than any sum, so none wraps.
+/// The word of a place that no sum has reached. It is more than any sum, and adding to it does not
+/// overflow.
 pub(crate) const UNREACHED: u64 = 2 * MOST_SUM;
 
-/// Lowers each place of the row to its sums at the ranks of a search space, where they are less.
+/// Lowers each place of the row to its least sum over the ranks of a search space, if that is less.
 pub(crate) fn lower_by_space(row: &mut [u64], space: &[(u32, u64)], buckets: &Rows<(u32, u64)>)
     requires space { All (λ entry. (entry.0 < length buckets.now) × (entry.1 ≤ MOST_WEIGHT)) space.now }
     requires buckets { (rank : ℕ) → All (IsEntryAmong (length row.old)) (slice_index_or buckets.now rank []) }
@@ -22,7 +23,7 @@ pub(crate) fn lower_by_space(row: &mut [u64], space: &[(u32, u64)], buckets: &Ro
     }
 }
 
-/// Lowers each place of a bucket to its sum with this weight, where that is less.
+/// Lowers each place of a bucket to its sum with this weight, if that is less.
 fn lower(row: &mut [u64], weight: u64, bucket: &[(u32, u64)])
     requires weight { weight ≤ MOST_WEIGHT }
     requires bucket { All (IsEntryAmong (length row.old)) bucket.now }
@@ -34,7 +35,8 @@ fn lower(row: &mut [u64], weight: u64, bucket: &[(u32, u64)])
     }
 }
 
-/// The cells of a row: its words, but none where a word is more than the limit or was not reached.
+/// Returns the cells of a row. A cell is the word of its place, or none if the word is more than the limit
+/// or was not reached.
 pub(crate) fn cells_of(
     alloc: Global,
     row: &[u64],
@@ -50,7 +52,7 @@ pub(crate) fn cells_of(
     Ok(cells)
 }
 
-/// The most that a sum within the limit may be.
+/// Returns the most that a sum within the limit may be.
 fn most_sum(within: Option<u64>) -> u64
     ensures { IsMostSum within result }
 {

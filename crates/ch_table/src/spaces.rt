@@ -1,4 +1,4 @@
-//! The searches of a table, and what a worker needs for one.
+//! The searches of a table, and what a worker needs for them.
 ghost use Rattle.std.specs.Prelude.{◌≡◌, ◌<◌, ◌≤◌, length, All, IfOk};
 ghost use Rattle.std.specs.List.{AllZip};
 ghost use Rattle.ch_graph.specs.declared.limits.TheConstants.{MOST_LISTED};
@@ -13,8 +13,8 @@ use std::alloc::{AllocError, Global};
 use std::marker::Model;
 use std::thread::Threads;
 
-/// What a worker has for a table: a scratch to search in, and a row of words, one for each target, where it makes
-/// rows.
+/// What a worker has for a table: a scratch to search in, and a row of words. A worker that makes rows uses
+/// one word for each target.
 #[derive(Drop)]
 pub(crate) struct Room {
     pub(crate) scratch: Scratch,
@@ -22,7 +22,7 @@ pub(crate) struct Room {
 }
 
 impl Room {
-    /// Room for searches among `nodes` nodes, with a row that has no words yet.
+    /// Makes room for searches among `nodes` nodes, with a row that has no words yet.
     pub(crate) fn new(alloc: Global, nodes: u32) -> Result<Room, AllocError>
         ensures { IfOk result (λ room. room.scratch ≡ nodes) }
     {
@@ -34,8 +34,8 @@ impl Room {
     }
 }
 
-/// The search spaces of these nodes in this direction, within the limit, by ranks. The workers share the nodes, and the
-/// rooms stay.
+/// Returns the search spaces of these nodes in this direction, within the limit, by ranks. The workers
+/// share the nodes, and the rooms stay.
 pub(crate) fn search_spaces<R: Threads + Sync, G: Gate>(
     crew: &Crew<'_, R, G>,
     hierarchy: &Hierarchy,
@@ -61,7 +61,7 @@ pub(crate) fn search_spaces<R: Threads + Sync, G: Gate>(
     run_list_in(crew, nodes, rooms, &searches)
 }
 
-/// Searches from nodes, in one direction, within a limit.
+/// The job that searches from nodes, in one direction, within a limit.
 #[derive(Drop)]
 struct Searches<'a> {
     hierarchy: &'a Hierarchy,

@@ -21,8 +21,11 @@ use std::alloc::{AllocError, Global};
 use std::marker::Model;
 use std::thread::Threads;
 
-/// The sums within the limit of what the nodes' buckets hold, for each source and target that meet at a node. Nodes are
-/// items as they are dealt. Cell `i * columns + j` is that of source i and target j.
+/// The sums within the limit that nodes owe. A source and a target that meet at a node owe their cell the
+/// sum of their two weights there.
+///
+/// Nodes are items as they are dealt. Cell `i * columns + j` is that of source i and
+/// target j.
 #[derive(Drop)]
 pub(crate) struct Sums {
     sources: Buckets,
@@ -67,8 +70,8 @@ impl CellJob for Sums {
 }
 
 impl Sums {
-    /// What nodes owe to the cells of these sources and targets, dealt over pieces as the plan cuts them. The workers
-    /// share the targets, then the sources.
+    /// Searches from these sources and targets, and returns what the nodes owe to their cells. The nodes
+    /// are dealt over pieces as the plan cuts them. The workers share the targets, and then the sources.
     pub(crate) fn search<R: Threads + Sync, G: Gate>(
         crew: &Crew<'_, R, G>,
         hierarchy: &Hierarchy,
@@ -128,8 +131,8 @@ impl Sums {
     }
 }
 
-/// The buckets that hold the search spaces of these nodes in this direction, within the limit, by the items of what is
-/// reached. The workers share the nodes, and the rooms stay.
+/// Returns buckets with the search spaces of these nodes in this direction, within the limit. Each entry is
+/// at the item of the node that is reached. The workers share the nodes, and the rooms stay.
 fn search_buckets<R: Threads + Sync, G: Gate>(
     crew: &Crew<'_, R, G>,
     hierarchy: &Hierarchy,
@@ -151,8 +154,8 @@ fn search_buckets<R: Threads + Sync, G: Gate>(
     Buckets::of_lists(crew.alloc, dealing, spaces)
 }
 
-/// Pays what a source owes at a node to the cells of its row, of which the first is given: its weight there
-/// and that of each target, where their sum is within the limit.
+/// Pays what a source owes at a node to the cells of its row, where `first` is the first cell of that row.
+/// It owes the sum of its own weight and that of each target, if the sum is within the limit.
 fn pay_row(
     board: &Board,
     pass: &mut Pass,
@@ -173,7 +176,7 @@ fn pay_row(
     }
 }
 
-/// Pays one weight that is owed to a cell where it is within the limit.
+/// Pays one weight that is owed to a cell, if it is within the limit.
 fn pay_within(board: &Board, pass: &mut Pass, cell: u32, weight: u64, within: Option<u64>)
     requires board { IsPassOf board.now pass.old }
     requires cell { cell < (size_of board.now).cells }
@@ -186,7 +189,7 @@ fn pay_within(board: &Board, pass: &mut Pass, cell: u32, weight: u64, within: Op
     }
 }
 
-/// Whether the weight is at most the limit, if there is one.
+/// Whether the weight is at most the limit, or there is no limit.
 fn is_within(within: Option<u64>, weight: u64) -> bool
     ensures { IsTrue result ↔ IsWithin within weight }
 {

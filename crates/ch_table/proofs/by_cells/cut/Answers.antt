@@ -8,7 +8,7 @@ use Rattle.ch_table.proofs.by_cells.cut.Goals as goal
 pub loop-i-init : goal.loop-i-init
 loop-i-init c = ap (map (λ (row : Vec (Option ℕ) Global). row.items)) c.in_ok-list.ensures.items
 
--- one row more
+-- the loop adds one more row
 pub loop-i-preserved : goal.loop-i-preserved
 loop-i-preserved c =
     let items : Vec (Option ℕ) Global → List (Option ℕ) = λ row. row.items in

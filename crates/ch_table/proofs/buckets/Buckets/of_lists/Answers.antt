@@ -14,7 +14,7 @@ use Rattle.ch_table.proofs.buckets.Buckets.of_lists.Goals as goal
 abbrev items : Vec (ℕ × ℕ) Global → List (ℕ × ℕ)
 items list = list.items
 
--- the entries are those of the lists that the vectors hold, and of items below the number of nodes
+-- the entries are those of the lists in the vectors, and their items are below the number of nodes
 listed : (d : Deal) → 0 < d.piece → (vecs : List (Vec (ℕ × ℕ) Global)) (entries : List (ℕ × (ℕ × ℕ))) →
     AreEntriesOf (item_of d) (map items vecs) (length vecs) entries → All (λ (vec : Vec (ℕ × ℕ) Global). All (λ (entry : ℕ × ℕ). entry.0 < d.nodes) vec.items) vecs →
     AreEntriesOf (item_of d) (map items vecs) (length (map items vecs)) entries
