@@ -1,4 +1,4 @@
--- What holds in a hierarchy that is turned round.
+-- Facts about a hierarchy that is reversed.
 use Rattle.std.proofs.Common.{ℕ, List, [], ◌∷◌, Vec, sym, subst}
 use Rattle.std.specs.Prelude.{Option, Some}
 use Rattle.std.specs.List.{AllZip}
@@ -19,12 +19,12 @@ use Rattle.ch_near.specs.Direction.{source_side, target_side, facing}
 use Rattle.ch_near.specs.Near.{IsDistanceIn}
 use Rattle.ch_near.proofs.Distances.{least_of, of_least}
 
--- it is right for some graph
+-- a hierarchy that is right for some graph is right for some graph when it is reversed
 pub kept_facing : (direction : Direction) (H : LevelsAndLegs) → IsKeptForSome H → IsKeptForSome (facing direction H)
 kept_facing To H kept = kept
 kept_facing From H kept = kept_turned H kept
 
--- a space down is one up in the hierarchy turned round
+-- a space down is a space up in the reversed hierarchy
 space_down_turned : (H : LevelsAndLegs) (limit : Option ℕ) (s : ℕ) (list : List (ℕ × ℕ)) → IsRankedSpace H Down limit s list → IsRankedSpace (turned_hierarchy H) Up limit s list
 space_down_turned H limit s list space = record {
   distinct = space.distinct;
@@ -39,19 +39,19 @@ space_up_turned H limit s list space = record {
   whole = λ v c tight low. space.whole v c (tight.0, least_meeting_turned (turned_hierarchy H) v s c tight.1) low;
 }
 
--- the space of a source is one up
+-- the space of a source is a space up
 pub source_space : (direction : Direction) (H : LevelsAndLegs) (limit : Option ℕ) (s : ℕ) (list : List (ℕ × ℕ)) → IsRankedSpace H (source_side direction) limit s list →
     IsRankedSpace (facing direction H) Up limit s list
 source_space To H limit s list space = space
 source_space From H limit s list space = space_down_turned H limit s list space
 
--- and that of a target one down
+-- the space of a target is a space down
 pub target_space : (direction : Direction) (H : LevelsAndLegs) (limit : Option ℕ) (s : ℕ) (list : List (ℕ × ℕ)) → IsRankedSpace H (target_side direction) limit s list →
     IsRankedSpace (facing direction H) Down limit s list
 target_space To H limit s list space = space
 target_space From H limit s list space = space_up_turned H limit s list space
 
--- distances by it are those of each graph for which the hierarchy is right
+-- the distances in the reversed hierarchy are those of each graph that the hierarchy is right for
 module _ (g : Network) (H : LevelsAndLegs) (limits : IsWithinLimits g) (kept : IsKept g H) (limit : Option ℕ) (s t x : ℕ) where
   pub distance_in : (direction : Direction) → IsDistanceWithin (facing direction H) limit s t (Some x) → IsDistanceIn g direction s t x × IsWithin limit x
   distance_in To d =
@@ -70,7 +70,7 @@ module _ (g : Network) (H : LevelsAndLegs) (limits : IsWithinLimits g) (kept : I
       subst (λ q. IsDistanceWithin (turned_hierarchy H) limit s t (Some q)) m.2
       (of_least (turned_hierarchy H) limit s t m.0 (least_meeting_turned H t s m.0 m.1) (subst (IsWithin limit) (sym m.2) low))
 
--- and what is right turned round is right
+-- a hierarchy that is right for some graph when it is reversed is right for some graph
 pub kept_faced : (direction : Direction) (H : LevelsAndLegs) → IsKeptForSome (facing direction H) → IsKeptForSome H
 kept_faced To H kept = kept
 kept_faced From H kept = kept_turned (turned_hierarchy H) kept

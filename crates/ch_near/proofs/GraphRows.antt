@@ -1,4 +1,4 @@
--- Near rows in the graph, and in searches of a lesser limit.
+-- Near rows in the graph, and near rows within a lesser limit.
 use Rattle.std.proofs.Common.{◌≡◌, ℕ, ◌≤◌, List, length, get_or, Option, Some, sym, ap, subst, arith, inl, inr}
 use Rattle.std.specs.Prelude.{slice_index}
 use Rattle.std.proofs.lemmas.Bool.{cases_lt}
@@ -14,18 +14,18 @@ use Rattle.ch_near.specs.Near.{IsDistanceTo, IsWalkTo, IsNearRow, IsNearestRow}
 use Rattle.ch_near.proofs.Distances.{least_of, of_least}
 use Rattle.ch_near.proofs.Facing.{distance_in, in_distance}
 
--- the first of pairs of which the same holds
+-- equivalent properties have the same first pairs
 pub first_alike : (count : Option ℕ) (P Q : ℕ × ℕ → Type 0) (list : List (ℕ × ℕ)) → ((e : ℕ × ℕ) → P e → Q e) → ((e : ℕ × ℕ) → Q e → P e) → AreFirst count P list → AreFirst count Q list
 first_alike count P Q list to from first = record { order = first.order; few = first.few; sound = λ e c. to e (first.sound e c); whole = λ e q. first.whole e (from e q) }
 
--- a near row is that of each graph for which the hierarchy is right
+-- a near row is a near row of each graph that the hierarchy is right for
 pub row_of_graph : (g : Network) (H : LevelsAndLegs) (direction : Direction) (limit count : Option ℕ) (targets : List ℕ) (s : ℕ) (row : List (ℕ × ℕ)) → IsWithinLimits g → IsKept g H →
     IsNearRow (facing direction H) limit count targets s row → IsNearestRow g direction limit count targets s row
 row_of_graph g H direction limit count targets s row limits kept = first_alike count (IsDistanceTo (facing direction H) limit targets s) (IsWalkTo g direction limit targets s) row
     (λ e d. let r = distance_in g H limits kept limit s (slice_index targets e.1) e.0 direction d.1 in (d.0, r.0, r.1))
     (λ e w. (w.0, in_distance g H limits kept limit s (slice_index targets e.1) e.0 direction w.1 w.2))
 
--- a row within a lesser limit that has as many as are asked for is the row
+-- a row within a lesser limit that is full is the row within the limit
 pub full_row : (H : LevelsAndLegs) (limit : Option ℕ) (most k : ℕ) (targets : List ℕ) (s : ℕ) (row : List (ℕ × ℕ)) → ((x : ℕ) → x ≤ most → IsWithin limit x) → length row ≡ k →
     IsNearRow H (Some most) (Some k) targets s row → IsNearRow H limit (Some k) targets s row
 full_row H limit most k targets s row lesser full near = record {

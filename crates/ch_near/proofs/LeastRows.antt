@@ -1,4 +1,5 @@
--- The row that least offers make: put in order and cut, where what is no offer has as many nearer ones as are asked for.
+-- The row that the least offers make, once it is put in order and cut. A pair that is not offered has enough offers
+-- before it.
 use Rattle.std.proofs.Common.{◌≡◌, ℕ, ◌+◌, ◌<◌, ◌≤◌, ◌⊎◌, List, length, map, Contains, Option, Some, get_or, sym, ◌∙◌, ap, subst, arith, inl, inr}
 use Rattle.std.specs.Prelude.{◌≢◌, AllPairs, slice_index}
 use Rattle.std.proofs.lemmas.Bool.{cases_lt}
@@ -12,14 +13,14 @@ use Rattle.ch_near.specs.Offers.{AreUnoffered, AreOffered, AreTaken}
 use Rattle.ch_near.proofs.Orders.{nearer_in_order, apart_in_order, nearer_never}
 use Rattle.ch_near.proofs.Firsts.{IsBeaten, first_of}
 
--- as many other places as are asked for have offers that are nearer
+-- as many other places as are asked for have offers that come before e
 pub record IsOutdone (count : Option ℕ) (S : ℕ × ℕ → Type 0) (e : ℕ × ℕ) : Type 0 where
   pub places : List ℕ
   pub enough : count ≡ Some (length places)
   pub distinct : AllPairs ◌≢◌ places
   pub nearer : (j : ℕ) → Contains places j → (x : ℕ) × S (x, j) × IsNearer (x, j) e
 
--- pairs in order that say one weight of each place are of different places
+-- pairs in order have different places, if each place has only one weight
 pub places_apart : (D : ℕ × ℕ → Type 0) (list : List (ℕ × ℕ)) → AllPairs IsNearer list → ((f : ℕ × ℕ) → Contains list f → D f) →
     ((x y j : ℕ) → D (x, j) → D (y, j) → x ≡ y) → AllPairs (λ a b. a.1 ≢ b.1) list
 places_apart D list order all one i k d less within same =
@@ -32,7 +33,7 @@ places_apart D list order all one i k d less within same =
     let is : a ≡ b = λ q. (alike q, same q) in
     nearer_never b (subst (λ q. IsNearer q b) is near)
 
--- what a full list leaves out is outdone, also where a weight is added to all
+-- a pair that a full list leaves out is outdone, even if a weight is added to all pairs
 pub outdone_by : (count : Option ℕ) (S : ℕ × ℕ → Type 0) (list : List (ℕ × ℕ)) (weight x j : ℕ) → AllPairs (λ a b. a.1 ≢ b.1) list → AreFullOfNearer count list (x, j) →
     ((f : ℕ × ℕ) → Contains list f → weight + f.0 ≤ weight + x → S (weight + f.0, f.1)) → IsOutdone count S (weight + x, j)
 outdone_by count S list weight x j apart full sums = record {
@@ -55,7 +56,7 @@ outdone_by count S list weight x j apart full sums = record {
     nearer_still f (inl lt) i is = inl (omega arith)
     nearer_still f (inr both) i is = let e = both.0 in let low = both.1 in inr (omega arith, omega arith)
 
--- offers of so many places, and the least of each, taken out into a row that is put in order and cut
+-- offers to places, and the least offer of each, moved into a row that is put in order and cut
 module _ (places : ℕ) (count : Option ℕ) (S D : ℕ × ℕ → Type 0) (among : (e : ℕ × ℕ) → S e → (e.1 < places) × (e.0 < UNOFFERED))
     (one : (x y j : ℕ) → D (x, j) → D (y, j) → x ≡ y) (below : (e : ℕ × ℕ) → S e → (x : ℕ) × D (x, e.1) × (x ≤ e.0))
     (reached : (e : ℕ × ℕ) → D e → S e ⊎ IsOutdone count S e)
@@ -64,7 +65,7 @@ module _ (places : ℕ) (count : Option ℕ) (S D : ℕ × ℕ → Type 0) (amon
   abbrev xs : List (ℕ × ℕ)
   xs = cut.sorted
 
-  -- what stands there is an offer
+  -- each pair of the row is an offer
   listed : (e : ℕ × ℕ) → Contains xs e → S e
   listed e c =
       let r = taken.sound e (Contains-permutation xs row e (IsPermutation-sym row xs cut.permutation) c) in
@@ -76,7 +77,7 @@ module _ (places : ℕ) (count : Option ℕ) (S D : ℕ × ℕ → Type 0) (amon
         | inr offer ↦ subst (λ q. S (q, e.1)) r.1 offer
       ]
 
-  -- and of each place that has an offer one that is no greater stands there
+  -- for each offer, the row has a pair of its place with no greater weight
   unlisted : (e : ℕ × ℕ) → S e → (x : ℕ) × (x ≤ e.0) × Contains xs (x, e.1)
   unlisted e offer =
       let le = offered.whole e offer in
@@ -88,7 +89,7 @@ module _ (places : ℕ) (count : Option ℕ) (S D : ℕ × ℕ → Type 0) (amon
       let some : slice_index least e.1 ≢ UNOFFERED = λ q. omega arith in
       (slice_index least e.1, le, Contains-permutation row xs (slice_index least e.1, e.1) cut.permutation (taken.whole e.1 (omega arith) some))
 
-  -- what is outdone by offers is beaten in the list
+  -- a pair that is outdone by offers is beaten in the row
   outdone_beaten : (e : ℕ × ℕ) → IsOutdone count S e → IsBeaten count xs e
   outdone_beaten e out = record {
     places = out.places;

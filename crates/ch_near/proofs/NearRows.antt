@@ -27,7 +27,7 @@ use Rattle.ch_near.proofs.Distances.{one_distance, distance_shared, shared_dista
 use Rattle.ch_near.proofs.Orders.{nearer_in_order, apart_in_order, nearer_never}
 use Rattle.ch_near.proofs.Firsts.{IsBeaten, first_of}
 
--- what is related place by place is so at each place
+-- the elements of related lists are related at each place
 pub zip_at : {X Y : Type 0} (R : X → Y → Type 0) (d : X) (e : Y) (xs : List X) (ys : List Y) → AllZip R xs ys → (j : ℕ) → j < length xs → R (get_or xs j d) (get_or ys j e)
 zip_at R d e [] [] h j lt = absurd (omega arith)
 zip_at R d e [] (y ∷ ys) h j lt = absurd h
@@ -40,7 +40,7 @@ module _ (H : LevelsAndLegs) (side : Side) (limit : Option ℕ) (s : ℕ) (space
   pub space_weight : (rank x : ℕ) → Contains space (rank, x) → x ≤ MOST_WEIGHT
   space_weight rank x h = let path = (is.sound rank x h).3 in let low = path.1.weight in let same = path.2 in omega arith
 
-  -- a rank stands once
+  -- a rank occurs only once
   pub rank_once : (rank x y : ℕ) → Contains space (rank, x) → Contains space (rank, y) → x ≡ y
   rank_once rank x y h h' =
       let there = get_or_default space h'.0 (rank, x) (rank, y) h'.1 ∙ h'.2 in
@@ -63,7 +63,7 @@ module _ (H : LevelsAndLegs) (limit count : Option ℕ) (targets : List ℕ) (bu
   pub down_at : (j : ℕ) → j < length targets → IsRankedSpace H Down limit (slice_index targets j) (down j)
   down_at j lt = zip_at (IsRankedSpace H Down limit) 0 [] targets hold.spaces hold.each j lt
 
-  -- an entry of a bucket is one of a space
+  -- an entry of a bucket is an entry of a space
   pub entry_at : (rank : ℕ) (e : ℕ × ℕ) → rank < nodes_of H → Contains (slice_index_or buckets rank []) e → (e.1 < length targets) × Contains (down e.1) (rank, e.0)
   entry_at rank e lt c =
       let r = (hold.held.each rank lt).sound e c in
@@ -71,7 +71,7 @@ module _ (H : LevelsAndLegs) (limit count : Option ℕ) (targets : List ℕ) (bu
       let low = r.0 in
       (omega arith, r.1)
 
-  -- past the ranks there is none
+  -- past the last rank there is no entry
   rank_held : (rank : ℕ) (e : ℕ × ℕ) → Contains (slice_index_or buckets rank []) e → rank < nodes_of H
   rank_held rank e c = elim (cases_lt rank (nodes_of H)) [
     | inl lt ↦ lt
@@ -92,7 +92,7 @@ module _ (H : LevelsAndLegs) (limit count : Option ℕ) (targets : List ℕ) (bu
         (space_weight H Down limit (slice_index targets e.1) (down e.1) (down_at e.1 r.0) rank e.0 r.1, r.0);
   }
 
-  -- a source, and its space within a bound that is no more than the limit
+  -- a source, and its space within a bound that is at most the limit
   module _ (bound : Option ℕ) (lesser : (x : ℕ) → IsWithin bound x → IsWithin limit x) (s : ℕ) (ups : List (ℕ × ℕ)) (up : IsRankedSpace H Up bound s ups) where
     pub space_among : All (λ entry. (entry.0 < length buckets) × (entry.1 ≤ MOST_WEIGHT)) ups
     space_among k d lt =
@@ -103,7 +103,7 @@ module _ (H : LevelsAndLegs) (limit count : Option ℕ) (targets : List ℕ) (bu
         let size = hold.held.size in
         (omega arith, space_weight H Up bound s ups up e.0 e.1 c)
 
-    -- a sum is shared by the spaces of its place
+    -- a sum is shared by the space of the source and the space of its place
     sum_shared : (e : ℕ × ℕ) → IsSumOf bound ups buckets e → (e.1 < length targets) × IsSharedSum ups (down e.1) e.0 × IsWithin bound e.0
     sum_shared e h =
         let r = entry_at h.0 (h.3.0, e.1) (rank_held h.0 (h.3.0, e.1) h.3.1) h.3.1 in
@@ -117,13 +117,13 @@ module _ (H : LevelsAndLegs) (limit count : Option ℕ) (targets : List ℕ) (bu
         let sum = h.3.2 in
         omega arith
 
-    -- the least sums, taken out into a row, which is put in order and cut
+    -- the least sums, moved into a row that is put in order and cut
     module _ (fresh least : List ℕ) (row result : List (ℕ × ℕ)) (none : AreUnoffered (length targets) fresh) (offered : AreOffered (IsSumOf bound ups buckets) fresh least)
         (taken : AreTaken least row) (cut : IsSortedAndCut count row result) where
       abbrev xs : List (ℕ × ℕ)
       xs = cut.sorted
 
-      -- what stands there is a sum
+      -- each pair of the row is a sum
       listed : (e : ℕ × ℕ) → Contains xs e → IsSumOf bound ups buckets e
       listed e c =
           let r = taken.sound e (Contains-permutation xs row e (IsPermutation-sym row xs cut.permutation) c) in
@@ -135,7 +135,7 @@ module _ (H : LevelsAndLegs) (limit count : Option ℕ) (targets : List ℕ) (bu
             | inr sum ↦ subst (λ q. IsSumOf bound ups buckets (q, e.1)) r.1 sum
           ]
 
-      -- and of each place that has a sum one that is no greater stands there
+      -- for each sum, the row has a pair of its place with no greater weight
       unlisted : (e : ℕ × ℕ) → IsSumOf bound ups buckets e → (x : ℕ) × (x ≤ e.0) × Contains xs (x, e.1)
       unlisted e sum =
           let le = offered.whole e sum in
@@ -146,7 +146,7 @@ module _ (H : LevelsAndLegs) (limit count : Option ℕ) (targets : List ℕ) (bu
           let some : slice_index least e.1 ≢ UNOFFERED = λ q. omega arith in
           (slice_index least e.1, le, Contains-permutation row xs (slice_index least e.1, e.1) cut.permutation (taken.whole e.1 (omega arith) some))
 
-      -- the places of a full bucket beat what it leaves out
+      -- the places of a full bucket beat each pair that it leaves out
       beaten : (rank weight x j : ℕ) → rank < nodes_of H → Contains ups (rank, weight) → IsWithin bound (weight + x) → AreFullOfNearer count (slice_index_or buckets rank []) (x, j) →
           IsBeaten count xs (weight + x, j)
       beaten rank weight x j lt c low full =
@@ -218,7 +218,7 @@ module _ (H : LevelsAndLegs) (limit : Option ℕ) (targets : List ℕ) (spaces :
       let size = found_count in
       zip_at (λ node (list : Vec (ℕ × ℕ) Global). IsRankedSpace H Down limit node list.items) 0 d targets spaces each k (omega arith)
 
-  -- their ranks are below the number of nodes, and differ
+  -- the ranks of the spaces are below the number of nodes, and they are different
   pub found_within : IsLevelled H → All (λ (space : Vec (ℕ × ℕ) Global). All (λ entry. entry.0 < nodes_of H) space.items) spaces
   found_within levelled k d lt k' d' lt' =
       let list = (get_or spaces k d).items in

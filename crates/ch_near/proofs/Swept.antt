@@ -1,4 +1,4 @@
--- The rows of all nodes: that of a node is made of its bucket and of the rows of higher nodes.
+-- The rows of all nodes. The row of a node is made of its bucket and the rows of higher nodes.
 use Rattle.std.proofs.Common.{◌≡◌, ℕ, ◌+◌, ◌<◌, ◌≤◌, ◌⊎◌, List, [], ◌∷◌, ◌++◌, length, map, Contains, Option, Some, get_or, refl, sym, ◌∙◌, ap, subst, arith, inl, inr}
 use Rattle.std.specs.Prelude.{◌≢◌, All, AllPairs, slice_index, slice_index_or}
 use Rattle.std.proofs.lemmas.Bool.{cases_lt}
@@ -43,7 +43,7 @@ use Rattle.ch_near.proofs.LeastRows.{IsOutdone, places_apart, outdone_by, row_of
 pub rows_none : (wanted : Wanted) → AreRowsTo wanted 0 []
 rows_none wanted = record { size = refl; each = λ v lt low. absurd (omega arith) }
 
--- one row more
+-- one more row
 pub rows_more : (wanted : Wanted) (k : ℕ) (rows : List (List (ℕ × ℕ))) (list : List (ℕ × ℕ)) → AreRowsTo wanted k rows →
     ((v : ℕ) → v < nodes_of wanted.hierarchy → rank_of wanted.hierarchy v ≡ k → IsNearRow wanted.hierarchy wanted.limit wanted.count wanted.targets v list) →
     AreRowsTo wanted (k + 1) (rows ++ list ∷ [])
@@ -69,7 +69,7 @@ in_among : (n : ℕ) (list : List (ℕ × ℕ)) → IsBucketAmong n list → (f 
 in_among n list among f c = All-contains (λ (e : ℕ × ℕ). (e.0 ≤ MOST_WEIGHT) × (e.1 < n)) list f among.entries c
 
 module _ (H : LevelsAndLegs) (kept : IsKeptForSome H) where
-  -- the weight of a walk within the limit is no less than a distance
+  -- the weight of a walk within the limit is at least a distance
   walk_distance : (limit : Option ℕ) (s t : ℕ) (d : Cost) → IsWalkCost kept.0 s t d → IsWithin limit d.weight → (y : ℕ) × IsDistanceWithin H limit s t (Some y) × (y ≤ d.weight)
   walk_distance limit s t d walk low = elim ((kept_has_walks kept.0 H kept.1 kept.2).decided s t) [
     | inl found ↦
@@ -80,11 +80,11 @@ module _ (H : LevelsAndLegs) (kept : IsKeptForSome H) where
     | inr away ↦ absurd (away walk.0 walk.1)
   ]
 
-  -- a distance is that of a least walk
+  -- a distance is the weight of a least walk
   distance_walk : (limit : Option ℕ) (s t x : ℕ) → IsDistanceWithin H limit s t (Some x) → (c : Cost) × IsLeast kept.0 s t c × (c.weight ≡ x)
   distance_walk limit s t x d = let m = least_of H limit s t x d in (m.0, ((meetings_are_distances kept.0 H kept.1 kept.2).least s t m.0).1 m.1, m.2)
 
-  -- and no more than a path weighs
+  -- a distance is at most the greatest weight of a path
   pub distance_light : (limit : Option ℕ) (s t x : ℕ) → IsDistanceWithin H limit s t (Some x) → x ≤ MOST_WEIGHT
   distance_light limit s t x d =
       let w = distance_walk limit s t x d in
@@ -92,7 +92,7 @@ module _ (H : LevelsAndLegs) (kept : IsKeptForSome H) where
       let is = w.2 in
       omega arith
 
-  -- the empty path
+  -- the empty path reaches its own node
   stays : (v : ℕ) → IsUpwardCost H.up v v no_cost
   stays v = record { path = ([], refl, refl); weight = omega arith }
 
@@ -100,7 +100,7 @@ module _ (H : LevelsAndLegs) (kept : IsKeptForSome H) where
   fall_walk : (v t : ℕ) (b : Cost) → IsUpwardCost H.down t v b → (d : Cost) × IsWalkCost kept.0 v t d × (d.weight ≡ b.weight)
   fall_walk v t b down = (cost_sum no_cost b, sum_walk H kept v t v no_cost b (stays v) down, omega arith)
 
-  -- a leg and then a distance is a walk
+  -- a leg followed by a distance gives a walk
   leg_then_walk : (v t : ℕ) (l : Leg) (limit : Option ℕ) (y : ℕ) → Contains (row H.up v) l → IsDistanceWithin H limit l.node t (Some y) →
       (d : Cost) × IsWalkCost kept.0 v t d × (d.weight ≡ l.cost.weight + y)
   leg_then_walk v t l limit y has dist =
@@ -111,7 +111,7 @@ module _ (H : LevelsAndLegs) (kept : IsKeptForSome H) where
       let weight : (path_cost (l ∷ [])).weight ≡ l.cost.weight = ap (λ (q : Cost). q.weight) cost ∙ (omega arith) in
       (cost_sum (path_cost (l ∷ [])) w.0, IsWalkCost-cost_sum kept.0 v l.node t (path_cost (l ∷ [])) w.0 leg w.1.walk, omega arith)
 
-  -- a distance is that of a path down, or begins with a leg up and goes on with a distance
+  -- a distance is the weight of a path down, or of a leg up followed by a distance
   record BeginsWithLeg (limit : Option ℕ) (v t x : ℕ) : Type 0 where
     leg : Leg
     has : Contains (row H.up v) leg
@@ -167,7 +167,7 @@ module _ (H : LevelsAndLegs) (kept : IsKeptForSome H) where
     rank_low : k < nodes_of H
     rank_low = subst (λ q. q < nodes_of H) here (rank_below H kept.2.levelled v below_n)
 
-    -- a leg leads to a node that has its row
+    -- a leg leads to a node that has its row already
     leg_row : (l : Leg) → Contains (row H.up v) l → (l.node < nodes_of H) × (rank_of H l.node < k) × (l.cost.weight ≤ MOST_WEIGHT)
     leg_row l has =
         let up = leg_up H kept.2.levelled Up v l has in
@@ -179,7 +179,7 @@ module _ (H : LevelsAndLegs) (kept : IsKeptForSome H) where
     row_of_leg : (l : Leg) → Contains (row H.up v) l → IsNearRow H limit count targets l.node (slice_index_or rows (rank_of H l.node) [])
     row_of_leg l has = let r = leg_row l has in done.each l.node r.0 r.1
 
-    -- the leg of an entry
+    -- an entry of the legs comes from a leg
     leg_of : (rank weight : ℕ) → Contains (map entry_of_leg legs) (rank, weight) → (l : Leg) × Contains (row H.up v) l × (rank_of H l.node ≡ rank) × (l.cost.weight ≡ weight)
     leg_of rank weight c =
         let r = contains_map_of entry_of_leg legs (rank, weight) c in
@@ -189,7 +189,7 @@ module _ (H : LevelsAndLegs) (kept : IsKeptForSome H) where
     entry_has : (l : Leg) → Contains (row H.up v) l → Contains (map entry_of_leg legs) (rank_of H l.node, l.cost.weight)
     entry_has l has = contains_map entry_of_leg legs (ranked_leg H l) (subst (λ q. Contains q (ranked_leg H l)) (sym ranked) (contains_map (ranked_leg H) (row H.up v) l has))
 
-    -- each offer is no less than a distance
+    -- each offer is at least a distance
     pub owed_below : (e : ℕ × ℕ) → S e → (x : ℕ) × D (x, e.1) × (x ≤ e.0)
     owed_below e (inl own) =
         let r = entry_at H limit count targets buckets hold k (own.0, e.1) rank_low own.1 in
@@ -216,7 +216,7 @@ module _ (H : LevelsAndLegs) (kept : IsKeptForSome H) where
         let d = walk_distance limit v (slice_index targets e.1) walk.0 walk.1 (subst (IsWithin limit) (sym same) sum.3) in
         (d.0, (pair.0, d.1), let le = d.2 in omega arith)
 
-    -- rows of higher nodes are of distances
+    -- the rows of higher nodes have weights of paths, in order
     pub row_among : (rank : ℕ) → IsBucketAmong (length targets) (slice_index_or rows rank [])
     row_among rank = elim (cases_lt rank k) [
       | inl less ↦ of_node rank less
@@ -240,7 +240,7 @@ module _ (H : LevelsAndLegs) (kept : IsKeptForSome H) where
                   (distance_light limit u.0 (slice_index targets e.1) e.0 pair.1, pair.0);
             }
 
-    -- each offer is of a place, and no more than two paths weigh
+    -- each offer is to a place, and is at most the sum of two paths
     pub owed_among : (e : ℕ × ℕ) → S e → (e.1 < length targets) × (e.0 ≤ MOST_WEIGHT + MOST_WEIGHT)
     owed_among e (inl own) =
         let among = bucket_among H limit count targets buckets hold k in
@@ -259,13 +259,13 @@ module _ (H : LevelsAndLegs) (kept : IsKeptForSome H) where
         let is' = sum.2 in
         (r.1, omega arith)
 
-    -- a place stands once in the bucket
+    -- a place occurs once in the bucket
     bucket_apart : AllPairs (λ a b. a.1 ≢ b.1) bucket
     bucket_apart = places_apart (λ f. (f.1 < length targets) × Contains (down H limit count targets buckets hold f.1) (k, f.0)) bucket (hold.held.each k rank_low).order
         (λ f c. entry_at H limit count targets buckets hold k f rank_low c)
         (λ x y j p q. rank_once H Down limit (slice_index targets j) (down H limit count targets buckets hold j) (down_at H limit count targets buckets hold j p.0) k x y p.1 q.1)
 
-    -- a distance is offered, or outdone by offers
+    -- a distance is offered, or is outdone by offers
     pub owed_reached : (e : ℕ × ℕ) → D e → S e ⊎ IsOutdone count S e
     owed_reached e d =
         let t = slice_index targets e.1 in
@@ -312,7 +312,7 @@ module _ (H : LevelsAndLegs) (kept : IsKeptForSome H) where
               ]
         ]
 
-    -- the legs lead to ranks that have their rows
+    -- the legs lead to ranks that have their rows already
     pub legs_among : All (λ (l : RankedLeg). (l.rank < length rows) × (l.weight ≤ MOST_WEIGHT)) legs
     legs_among i d lt =
         let c = contains_map_of (ranked_leg H) (row H.up v) (get_or legs i d) (subst (λ q. Contains q (get_or legs i d)) ranked (Contains-get_or legs i d lt)) in
@@ -324,7 +324,7 @@ module _ (H : LevelsAndLegs) (kept : IsKeptForSome H) where
         let size = done.size in
         (omega arith, omega arith)
 
-    -- so the least of the offers make the row
+    -- the least offers make the row
     pub row_made : (fresh least : List ℕ) (taken result : List (ℕ × ℕ)) → AreUnoffered (length targets) fresh → AreOffered S fresh least → AreTaken least taken →
         IsSortedAndCut count taken result → IsNearRow H limit count targets v result
     row_made fresh least taken result none offered out cut =

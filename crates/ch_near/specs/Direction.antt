@@ -1,4 +1,4 @@
--- Which way distances go.
+-- The direction of distances.
 use Rattle.ch_hierarchy.specs.Hierarchy.{LevelsAndLegs}
 use Rattle.ch_query.specs.declared.side.Side.{Side}
 use Rattle.ch_query.specs.declared.side.Side.TheVariants.{Up, Down}
@@ -6,16 +6,16 @@ use Rattle.ch_query.specs.Side.{rows_of}
 use Rattle.ch_near.specs.declared.direction.Direction.{Direction}
 use Rattle.ch_near.specs.declared.direction.Direction.TheVariants.{To, From}
 
--- the direction in which a source is searched from
+-- the side of the searches from a source
 abbrev pub source_side : Direction → Side
 source_side To = Up
 source_side From = Down
 
--- and that in which a target is
+-- the side of the searches from a target
 abbrev pub target_side : Direction → Side
 target_side To = Down
 target_side From = Up
 
--- the hierarchy, turned round where distances go from the targets
+-- the hierarchy, reversed if distances go from the targets
 abbrev pub facing : Direction → LevelsAndLegs → LevelsAndLegs
 facing direction H = record { level = H.level; up = rows_of H (source_side direction); down = rows_of H (target_side direction) }

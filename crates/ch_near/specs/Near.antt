@@ -13,12 +13,13 @@ abbrev pub IsDistanceIn : Network → Direction → ℕ → ℕ → ℕ → Type
 IsDistanceIn g To s t x = IsDistance g s t x
 IsDistanceIn g From s t x = IsDistance g t s x
 
--- the weight is the least of a walk between s and the target at this place, in this direction, and within the limit
+-- the weight is the least of a walk between s and the target at this place, in this direction, and it is within the
+-- limit
 abbrev pub IsWalkTo : Network → Direction → Option ℕ → List ℕ → ℕ → ℕ × ℕ → Type 0
 IsWalkTo g direction limit targets s e = (e.1 < length targets) × IsDistanceIn g direction s (slice_index targets e.1) e.0 × IsWithin limit e.0
 
--- of the targets to which there is a walk of a weight within the limit, the first `count` in order of their least weights and then of place,
--- or all where there is no such number: each as its least weight and its place
+-- the targets whose least weight of a walk is within the limit, each as that weight and its place. The row has the
+-- first `count` in order of weight and then of place, or all without such a number
 abbrev pub IsNearestRow : Network → Direction → Option ℕ → Option ℕ → List ℕ → ℕ → List (ℕ × ℕ) → Type 0
 IsNearestRow g direction limit count targets s row = AreFirst count (IsWalkTo g direction limit targets s) row
 
@@ -29,7 +30,7 @@ IsDistanceTo H limit targets s e = (e.1 < length targets) × IsDistanceWithin H 
 abbrev pub IsNearRow : LevelsAndLegs → Option ℕ → Option ℕ → List ℕ → ℕ → List (ℕ × ℕ) → Type 0
 IsNearRow H limit count targets s row = AreFirst count (IsDistanceTo H limit targets s) row
 
--- what near rows are asked for: in which hierarchy, to which targets, within which limit, and how many at most
+-- what near rows are asked for: the hierarchy, the targets, the limit, and the greatest number of targets
 pub record Wanted : Type 0 where
   pub hierarchy : LevelsAndLegs
   pub targets : List ℕ

@@ -1,4 +1,4 @@
-//! Which way distances go.
+//! The direction of distances.
 ghost use Rattle.std.specs.Prelude.{◌≡◌, ◌<◌, ℕ, map};
 ghost use Rattle.ch_hierarchy.specs.Hierarchy.{IsLevelled, nodes_of};
 ghost use Rattle.ch_hierarchy.specs.Ranked.{rank_of, ranked_leg};
@@ -8,7 +8,7 @@ ghost use Rattle.ch_near.specs.Direction.{facing, source_side, target_side};
 use ch_hierarchy::{Hierarchy, RankedLeg};
 use ch_query::Side;
 
-/// Which way the distances of near rows go.
+/// The direction of the distances of near rows.
 #[derive(Clone, Copy, Debug, PartialEq, Eq)]
 pub enum Direction {
     /// From a source to the targets.
@@ -18,7 +18,7 @@ pub enum Direction {
 }
 
 impl Direction {
-    /// The direction in which a source is searched from.
+    /// The side of the searches from a source.
     pub(crate) fn side(self) -> Side
         ensures { result ≡ source_side self }
     {
@@ -28,7 +28,7 @@ impl Direction {
         }
     }
 
-    /// The direction in which a target is searched from.
+    /// The side of the searches from a target.
     pub(crate) fn target_side(self) -> Side
         ensures { result ≡ target_side self }
     {
@@ -38,14 +38,14 @@ impl Direction {
         }
     }
 
-    /// The legs by rank along which distances go on from the node of this rank, or come to it.
+    /// The legs by rank that distances go along from the node of this rank, or to it.
     #[inline]
     pub(crate) fn ranked_legs(self, hierarchy: &Hierarchy, rank: u32) -> &[RankedLeg]
         requires { rank < nodes_of hierarchy.now }
         ensures legs { (v : ℕ) → v < nodes_of hierarchy.now → rank_of hierarchy.now v ≡ rank → result.now ≡ map (ranked_leg (facing self hierarchy.now)) (row (facing self hierarchy.now).up v) }
         ensures levelled { IsLevelled hierarchy.now }
     {
-        // The proof learns from this call that the hierarchy has levels.
+        // This call tells the proof that the hierarchy has levels.
         let _ = hierarchy.nodes();
         match self {
             Direction::To => hierarchy.ranked_legs(2 * rank),

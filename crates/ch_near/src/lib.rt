@@ -1,9 +1,14 @@
-//! The targets that are nearest to each source, by buckets (Knopp, Sanders, Schultes, Schulz and Wagner 2007).
+//! The targets that are nearest to each source, by buckets (Knopp, Sanders, Schultes, Schulz and Wagner
+//! 2007).
 //!
-//! It stands on ch_graph, ch_hierarchy, ch_query and ch_work. Proved of it: on every hierarchy that is right for a graph each
-//! row of [`near`] has exactly the first targets in order of distance and then of place, with their distances: as many as are
-//! asked for, or all, and with a limit those alone whose distance is at most that, for every plan and gate. That is one row
-//! ([`laws`]).
+//! It stands on ch_graph, ch_hierarchy, ch_query and ch_work. These statements are proved on every hierarchy
+//! that is right for a graph, for every plan and gate:
+//!
+//! - Each row of [`near`] has exactly the first targets in order of distance and then of place, with their
+//!   distances. It has as many as are asked for, or all.
+//! - With a limit, it has only targets whose distance is at most that.
+//! - There is only one such row ([`laws`]).
+//! - The same holds of each row of [`NearTargets::node_rows`].
 #![tactic(auto)]
 
 mod buckets;

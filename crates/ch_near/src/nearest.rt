@@ -17,12 +17,14 @@ use std::alloc::{AllocError, Global};
 use std::marker::Model;
 use std::thread::Threads;
 
-/// For each source the first `count` targets in order of distance and then of place, or all where there is no such number;
-/// with a limit `within` those alone whose distance is at most that. The distances are to the targets, or from them. A row has
-/// pairs of a distance and a place in the list of targets, in this order. A target that comes again has each of its places.
+/// Returns for each source the first `count` targets in order of distance and then of place, or all targets
+/// without such a number. With a limit `within`, a row has only targets whose distance is at most that.
+///
+/// The distances are to the targets or from them. A row has pairs of a distance and a place in the list of
+/// targets, in this order. A target that occurs more than once has each of its places.
 ///
 /// # Errors
-/// `AllocError` where there is no memory.
+/// `AllocError` if there is no memory.
 pub fn near<R: Threads + Sync, G: Gate>(
     crew: &Crew<'_, R, G>,
     hierarchy: &Hierarchy,
@@ -42,8 +44,8 @@ pub fn near<R: Threads + Sync, G: Gate>(
     near.rows(crew, sources)
 }
 
-/// Targets that were searched from, of which the nearest to sources are asked for: one search from each target serves any
-/// number of sources. What workers need for a row stays from one call to the next.
+/// Targets that were searched from, and can be asked for those nearest to sources. One search from each
+/// target serves any number of sources. The rooms of workers stay from one call to the next.
 #[derive(Drop)]
 pub struct NearTargets<'a> {
     pub(crate) nearest: Nearest<'a>,
@@ -67,7 +69,7 @@ impl<'a> NearTargets<'a> {
     /// Searches from each target, along its paths to higher nodes. The workers share the targets.
     ///
     /// # Errors
-    /// `AllocError` where there is no memory.
+    /// `AllocError` if there is no memory.
     pub fn search<R: Threads + Sync, G: Gate>(
         crew: &Crew<'_, R, G>,
         hierarchy: &'a Hierarchy,
@@ -98,10 +100,10 @@ impl<'a> NearTargets<'a> {
         })
     }
 
-    /// The row of each source, in order. The workers share the sources.
+    /// Returns the row of each source, in order. The workers share the sources.
     ///
     /// # Errors
-    /// `AllocError` where there is no memory. What is asked for next is answered as before.
+    /// `AllocError` if there is no memory. Later calls return the same rows as before.
     pub fn rows<R: Threads + Sync, G: Gate>(
         &mut self,
         crew: &Crew<'_, R, G>,

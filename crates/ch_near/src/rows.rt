@@ -17,7 +17,8 @@ use ch_work::ListJob;
 use std::alloc::{AllocError, Global};
 use std::marker::Model;
 
-/// The rows of sources, each made of the source's search space and the buckets of the targets.
+/// The job that makes the rows of sources. Each row is made of the source's search space and the buckets of
+/// the targets.
 #[derive(Drop)]
 pub(crate) struct Nearest<'a> {
     pub(crate) hierarchy: &'a Hierarchy,
@@ -42,7 +43,7 @@ impl<'a> Model for Nearest<'a> {
 }
 
 impl<'a> Nearest<'a> {
-    /// Makes the row of a source, of what is within a bound that is no more than the limit.
+    /// Makes the row of a source within a bound that is at most the limit.
     fn fill(
         &self,
         alloc: Global,
@@ -78,8 +79,8 @@ impl<'a> Nearest<'a> {
         Ok(())
     }
 
-    /// Makes the row of a source: within the guess, where that is less than the limit, and where it is not full then within
-    /// the limit.
+    /// Makes the row of a source. If the guess is less than the limit, it tries the guess as the bound
+    /// first. If the row is not full then, it makes the row within the limit.
     fn fill_by_guess(&self, alloc: Global, room: &mut Room, source: u32) -> Result<(), AllocError>
         requires source { source < nodes_of self.now.hierarchy }
         requires scratch { room.old.scratch ≡ nodes_of self.now.hierarchy }
@@ -99,18 +100,18 @@ impl<'a> Nearest<'a> {
     }
 }
 
-/// What a worker has for the rows of sources: it is lent to one after the other.
+/// What a worker has for the rows of sources. It serves one row after the other.
 #[derive(Drop)]
 pub(crate) struct Room {
     pub(crate) scratch: Scratch,
     pub(crate) offers: Offers,
     row: Vec<(u64, u32)>,
-    /// How far the nearest targets may be: a guess by the last row. It changes no row.
+    /// A guess from the last row how far the nearest targets are at most. It changes no row.
     guess: u64,
 }
 
 impl Room {
-    /// Whether the row has as many as are asked for.
+    /// Whether the row has as many targets as are asked for.
     fn is_full(&self, count: Option<u32>) -> bool
         ensures { result ≡ true → count ≡ Some (length self.now.row.items) }
     {
@@ -120,8 +121,8 @@ impl Room {
         }
     }
 
-    /// Guesses that the nearest targets of the next source are at most twice as far as the last of this row, where the row is
-    /// full, and else as far as any.
+    /// Guesses that the nearest targets of the next source are at most twice as far as the last target of
+    /// this row. If the row is not full, there is no such bound.
     fn guess_by(&mut self, count: Option<u32>)
         ensures scratch { self.new.scratch ≡ self.old.scratch }
         ensures offers { self.new.offers ≡ self.old.offers }
@@ -139,7 +140,7 @@ impl Room {
     }
 }
 
-/// Whether a limit that was guessed is less than the one that is asked for, if there is one, and than that of all paths.
+/// Whether a guess is less than the limit, if there is one, and less than the greatest weight of a path.
 fn is_lesser(guess: u64, within: Option<u64>) -> bool
     ensures { result ≡ true → (x : ℕ) → x ≤ guess → IsWithin within x }
 {

@@ -16,7 +16,7 @@ use std::alloc::{AllocError, Global};
 use std::marker::Model;
 use std::thread::Threads;
 
-/// The search space of each target, by ranks, within the limit. The workers share the targets.
+/// Returns the search space of each target within the limit, by ranks. The workers share the targets.
 pub(crate) fn search_targets<R: Threads + Sync, G: Gate>(
     crew: &Crew<'_, R, G>,
     hierarchy: &Hierarchy,
@@ -38,7 +38,7 @@ pub(crate) fn search_targets<R: Threads + Sync, G: Gate>(
     run_list(crew, targets, &searches)
 }
 
-/// Searches from nodes, in one direction, within a limit.
+/// The job that searches from nodes, in one direction, within a limit.
 #[derive(Drop)]
 struct Searches<'a> {
     hierarchy: &'a Hierarchy,

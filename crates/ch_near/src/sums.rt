@@ -10,7 +10,8 @@ use crate::offers::Offers;
 use ch_graph::Rows;
 use std::alloc::AllocError;
 
-/// Offers to each place the sums within the limit of the space's weights and its own, at all ranks of the space.
+/// Offers to each place its sums within the limit. At a rank of the space, a sum is the weight of the space
+/// plus the weight of the place in the bucket.
 pub(crate) fn offer_all(
     offers: &mut Offers,
     space: &[(u32, u64)],
@@ -27,8 +28,8 @@ pub(crate) fn offer_all(
     Ok(())
 }
 
-/// Offers to each place of a bucket its sum with this weight, where that is within the limit. The first sum that is not ends
-/// it, since those after it are no less.
+/// Offers to each place of a bucket its sum with this weight, if that is within the limit. It stops at the
+/// first sum that is not, because later sums are at least as great.
 pub(crate) fn offer_row(
     offers: &mut Offers,
     weight: u64,
@@ -49,7 +50,7 @@ pub(crate) fn offer_row(
     Ok(())
 }
 
-/// Whether the weight is at most the limit, if there is one.
+/// Whether the weight is at most the limit, or there is no limit.
 fn is_within(within: Option<u64>, weight: u64) -> bool
     ensures { IsTrue result ↔ IsWithin within weight }
 {

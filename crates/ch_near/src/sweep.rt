@@ -1,4 +1,4 @@
-//! The rows of all nodes by one sweep.
+//! The rows of all nodes, made by one sweep.
 ghost use Rattle.std.specs.Prelude.{◌≡◌, ◌<◌, ◌≤◌, [], ◌∷◌, ◌++◌, ◌+◌, ℕ, length, map, slice_index_or, All, IfOk, OnOk};
 ghost use Rattle.ch_graph.specs.declared.limits.TheConstants.{MOST_WEIGHT};
 ghost use Rattle.ch_hierarchy.specs.Hierarchy.{nodes_of};
@@ -22,7 +22,7 @@ use std::marker::Model;
 #[derive(Drop)]
 pub struct NodeRows<'a> {
     hierarchy: &'a Hierarchy,
-    /// By rank.
+    /// The rows by rank.
     rows: Rows<(u64, u32)>,
 }
 
@@ -48,12 +48,15 @@ impl<'a> NodeRows<'a> {
 }
 
 impl<'a> NearTargets<'a> {
-    /// The rows of all nodes, by one sweep from the highest node down, as one-to-all sweeps over a hierarchy (Delling, Goldberg,
-    /// Nowatzyk and Werneck 2011): the row of a node is the first of its bucket and of the rows of the nodes to which its legs
-    /// lead, each pair with the weight of the leg added. It takes no search. One worker makes it.
+    /// Returns the rows of all nodes, by one sweep from the highest node down. It is like a one-to-all
+    /// sweep over a hierarchy (Delling, Goldberg, Nowatzyk and Werneck 2011).
+    ///
+    /// The row of a node has the first of two kinds of pairs. The first kind are those of its bucket. The
+    /// second are those of the rows where its legs lead, with the weight of the leg added. It does no
+    /// search. The caller alone makes the rows.
     ///
     /// # Errors
-    /// `AllocError` where there is no memory.
+    /// `AllocError` if there is no memory.
     pub fn node_rows(&self, alloc: Global) -> Result<NodeRows<'a>, AllocError>
         ensures { IfOk result (AreNodeRows self.now) }
     {
@@ -66,7 +69,7 @@ impl<'a> NearTargets<'a> {
 }
 
 impl<'a> Nearest<'a> {
-    /// The row of each rank's node.
+    /// Returns the row of each rank's node.
     fn sweep(&self, alloc: Global) -> Result<Rows<(u64, u32)>, AllocError>
         ensures { IfOk result (AreRowsTo self.now (nodes_of self.now.hierarchy)) }
     {
@@ -81,7 +84,7 @@ impl<'a> Nearest<'a> {
         Ok(rows)
     }
 
-    /// Makes the row of the node of a rank, of its bucket and of the rows of higher nodes.
+    /// Makes the row of the node of a rank, from its bucket and the rows of higher nodes.
     fn make_row(
         &self,
         offers: &mut Offers,
@@ -104,7 +107,8 @@ impl<'a> Nearest<'a> {
     }
 }
 
-/// Offers to each place the sums within the limit of each leg's weight and the pairs of the row to which the leg leads.
+/// Offers to each place its sums within the limit. For a leg, a sum is the leg's weight plus the weight of
+/// the place in the row where the leg leads.
 fn offer_legs(
     offers: &mut Offers,
     legs: &[RankedLeg],
