@@ -1,6 +1,6 @@
 //! Calls that may be refused memory once.
 
-/// What a call answers, made a second time where the first was refused memory.
+/// Makes a call, and makes it a second time if the first was refused memory.
 macro_rules! again {
     ($call:expr) => {
         match $call {

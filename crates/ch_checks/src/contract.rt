@@ -1,4 +1,4 @@
-//! Hierarchies that are built, and the legs that are left while nodes are contracted.
+//! Hierarchies that are built, and the legs that remain while nodes are contracted.
 ghost use Rattle.std.specs.Prelude.{◌≡◌, ◌<◌, IfOk};
 ghost use Rattle.ch_contract.specs.Legs.{IsHopBound};
 ghost use Rattle.ch_hierarchy.specs.Hierarchy.{nodes_of};
@@ -22,7 +22,7 @@ use std::process::Abort;
 use std::test::Fail;
 use std::thread::Threads;
 
-/// Builds the hierarchy of the graph at several plans, and expects the same of each.
+/// Builds the hierarchy of the graph by several plans, and expects the same of each.
 fn expect<R: Threads + Abort + Sync>(
     rt: &R,
     alloc: Global,
@@ -43,7 +43,7 @@ fn expect<R: Threads + Abort + Sync>(
     Ok(())
 }
 
-/// The nodes of the order have the levels from 1 on.
+/// Expects that the nodes of the order have the levels from 1 on.
 fn expect_levels(rt: &impl Abort, hierarchy: &Hierarchy, order: &[u32]) {
     assert_eq!(rt; order.len(), hierarchy.nodes() as usize);
     for (place, node) in order.iter().enumerate() {
@@ -56,7 +56,7 @@ fn expect_levels(rt: &impl Abort, hierarchy: &Hierarchy, order: &[u32]) {
     }
 }
 
-/// The rows have these legs and no others.
+/// Expects that the rows have these legs and no others.
 fn expect_legs(rt: &impl Abort, hierarchy: &Hierarchy, legs: &[LegLine]) {
     for (from, to, weight, arcs, middle) in legs {
         assert!(rt; *from > 0 && *from <= hierarchy.nodes());
@@ -74,7 +74,7 @@ fn expect_legs(rt: &impl Abort, hierarchy: &Hierarchy, legs: &[LegLine]) {
     assert_eq!(rt; leg_count(hierarchy), legs.len());
 }
 
-/// The leg from one node to another, in the row of the lower one.
+/// Returns the leg from one node to another, from the row of the lower node.
 fn leg_between(hierarchy: &Hierarchy, from: u32, to: u32) -> Option<Leg>
     requires from { from < nodes_of hierarchy.now }
     requires to { to < nodes_of hierarchy.now }
@@ -100,7 +100,7 @@ fn find(row: &[Leg], node: u32) -> Option<Leg> {
     row.iter().find(|leg| leg.node == node).copied()
 }
 
-/// The weight of the arcs of the ring whose first shortcut is too heavy for searches over words.
+/// The weight of the arcs of a ring. The first shortcut of the ring is too heavy for a search over words.
 const ARC: u64 = 1 << 29;
 
 const HEAVY_RING: Example = Example {
@@ -138,7 +138,7 @@ fn worked_hierarchies_are_built(rt: HostRuntime) -> Result<(), Fail> {
     expect(&rt, rt.alloc(), 3, by, &LONG_SHORTCUT)
 }
 
-/// The hierarchies of a star, a ring, and a loop with a tail. By the difference they are others.
+/// The hierarchies of a star, a ring, and a loop with a tail. The order by difference gives others.
 #[test]
 fn worked_hierarchies_are_built_by_depth(rt: HostRuntime) -> Result<(), Fail> {
     let star = Example {
@@ -184,7 +184,8 @@ fn worked_hierarchies_are_built_by_depth(rt: HostRuntime) -> Result<(), Fail> {
     Ok(())
 }
 
-/// It holds when any one request for memory is refused: building, asked again, builds what it does with ample memory.
+/// It holds if any one request for memory is refused. A call that is made again builds the same as with
+/// enough memory.
 #[test]
 fn built_refused_in_turn(rt: HostRuntime) -> Result<(), Fail> {
     expect(&rt, rt.alloc(), 5, OrderBy::Difference, &STAR)?;

@@ -1,8 +1,8 @@
-//! Crews of tests.
+//! Crews for tests.
 use ch_work::{Crew, Plan};
 use std::alloc::Global;
 
-/// Those who share work by this plan, and pass this gate.
+/// Makes a crew with this plan and this gate.
 pub(crate) fn crew<'a, R, G>(rt: &'a R, alloc: Global, plan: &Plan, gate: &'a G) -> Crew<'a, R, G> {
     Crew {
         rt,

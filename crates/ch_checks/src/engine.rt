@@ -1,13 +1,13 @@
-//! Engines: that they open, answer and refuse.
+//! Engines: they open, answer and refuse.
 use ch_engine::{Engine, NO_DISTANCE, OpenError, Refusal};
 use ch_hierarchy::CheckFault;
 use ch_read::{FaultKind, ReadFault};
 use std::test::Fail;
 
-/// Three nodes in a line, from the first to the last.
+/// The graph of three nodes in a line, from the first to the last.
 const GRAPH: &[u8] = b"p sp 3 2\na 1 2 4\na 2 3 5\n";
 
-/// Its hierarchy.
+/// The hierarchy of this graph.
 const SAVED: &[u8] = b"p ch 3 2\no 1\no 2\no 3\nl 1 2 4 1 0\nl 2 3 5 1 0\n";
 
 #[test]

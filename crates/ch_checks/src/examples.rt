@@ -16,10 +16,10 @@ use std::thread::Threads;
 /// An arc: from, to, weight.
 pub(crate) type Arc = (u32, u32, u64);
 
-/// A leg: from, to, weight, number of arcs, and middle, which is 0 where it has none.
+/// A leg: from, to, weight, number of arcs, and middle, which is 0 if the leg has none.
 pub(crate) type LegLine = (u32, u32, u64, u64, u32);
 
-/// A graph, the order in which its nodes are contracted, and all legs of its hierarchy. Nodes are counted from 1, as
+/// A graph, the order of contraction of its nodes, and all legs of its hierarchy. Nodes are counted from 1, as
 /// in files.
 #[derive(Clone, Copy)]
 pub(crate) struct Example<'a> {
@@ -43,7 +43,7 @@ pub(crate) const LINE: Example = Example {
     legs: &[(1, 2, 4, 1, 0), (2, 3, 5, 1, 0)],
 };
 
-/// Of parallel arcs the lightest is a leg, and a loop needs none.
+/// The lightest of parallel arcs is a leg. A loop needs no leg.
 pub(crate) const PARALLEL: Example = Example {
     nodes: 2,
     arcs: &[(1, 2, 7), (2, 2, 2), (1, 2, 3), (1, 1, 0), (1, 2, 5)],
@@ -51,7 +51,8 @@ pub(crate) const PARALLEL: Example = Example {
     legs: &[(1, 2, 3, 1, 0)],
 };
 
-/// Node 1 in the middle, both ways. After the first step three priorities tie, and the middle is the least numbered.
+/// Node 1 is in the middle, with arcs both ways. After the first step three priorities are equal, and the
+/// middle has the least number.
 pub(crate) const STAR: Example = Example {
     nodes: 4,
     arcs: &[
@@ -75,7 +76,7 @@ pub(crate) const STAR: Example = Example {
     ],
 };
 
-/// Two ways of equal cost: a witness of equal cost spares a shortcut.
+/// Two ways of equal cost. A witness of equal cost makes a shortcut unnecessary.
 pub(crate) const DIAMOND: Example = Example {
     nodes: 4,
     arcs: &[(1, 2, 1), (2, 4, 1), (1, 3, 1), (3, 4, 1)],
@@ -88,7 +89,7 @@ pub(crate) const DIAMOND: Example = Example {
     ],
 };
 
-/// At weight 0 the fewest arcs win.
+/// At weight 0 the fewest arcs decide.
 pub(crate) const TRIANGLE: Example = Example {
     nodes: 3,
     arcs: &[(1, 2, 0), (2, 3, 0), (1, 3, 0)],
@@ -110,8 +111,8 @@ pub(crate) const TAIL: Example = Example {
     ],
 };
 
-/// From node 1 to node 3 over node 2 in two arcs, and in three arcs without weight. At two legs node 2 has a shortcut
-/// at first, at three a witness spares it.
+/// Node 1 leads to node 3 over node 2 in two arcs, and in three arcs of weight 0. With at most two legs in
+/// a witness, node 2 first has a shortcut. With three legs a witness replaces it.
 pub(crate) const DETOUR: Example = Example {
     nodes: 5,
     arcs: &[(1, 2, 1), (2, 3, 1), (1, 4, 0), (4, 5, 0), (5, 3, 0)],
@@ -125,7 +126,7 @@ pub(crate) const DETOUR: Example = Example {
     ],
 };
 
-/// From node 1 to node 3 two arcs weigh as much as three: nothing.
+/// From node 1 to node 3, two arcs and three arcs both weigh 0.
 pub(crate) const FEWER_ARCS: Example = Example {
     nodes: 5,
     arcs: &[(1, 5, 0), (5, 3, 0), (1, 2, 0), (2, 4, 0), (4, 3, 0)],
@@ -139,7 +140,7 @@ pub(crate) const FEWER_ARCS: Example = Example {
     ],
 };
 
-/// The last node has a leg of 1 to 4 arcs to each other.
+/// The last node has a leg of 1 to 4 arcs to each other node.
 pub(crate) const RING: Example = Example {
     nodes: 5,
     arcs: &[(1, 2, 1), (2, 3, 1), (3, 4, 1), (4, 5, 1), (5, 1, 1)],
@@ -156,7 +157,7 @@ pub(crate) const RING: Example = Example {
     ],
 };
 
-/// The graph of these arcs, whose nodes are counted from 1.
+/// Makes the graph of these arcs, whose nodes are counted from 1.
 pub(crate) fn graph(alloc: Global, nodes: u32, list: &[Arc]) -> Result<Graph, Fail>
     ensures { IfOk result (λ g. g.nodes ≡ nodes) }
 {
@@ -171,7 +172,7 @@ pub(crate) fn graph(alloc: Global, nodes: u32, list: &[Arc]) -> Result<Graph, Fa
     Ok(Graph::new(nodes, arcs)?)
 }
 
-/// The hierarchy of this order and these legs as a file holds it.
+/// Makes the saved hierarchy of this order and these legs.
 pub(crate) fn saved(alloc: Global, nodes: &[u32], lines: &[LegLine]) -> Result<Saved, AllocError> {
     let mut order = again!(Vec::with_capacity(alloc, nodes.len()));
     for node in nodes {
@@ -200,12 +201,12 @@ fn check_once<R: Threads + Sync>(
 ) -> Result<Hierarchy, CheckError>
     ensures { IfOk result IsKeptForSome }
 {
-    // The proof learns from this call that the graph keeps the limits.
+    // This call tells the proof that the graph keeps the limits.
     let _ = graph.arcs();
     check(&crew(rt, alloc, &Plan::new(2, 1, 64), &Open), graph, saved)
 }
 
-/// What `check` answers for an example, made a second time where the first was refused memory.
+/// Calls `check` on an example, a second time if the first call was refused memory.
 pub(crate) fn checked<R: Threads + Sync>(
     rt: &R,
     alloc: Global,
@@ -221,7 +222,7 @@ pub(crate) fn checked<R: Threads + Sync>(
     }
 }
 
-/// The hierarchy of an example.
+/// Returns the hierarchy of an example.
 pub(crate) fn hierarchy<R: Threads + Abort + Sync>(
     rt: &R,
     alloc: Global,

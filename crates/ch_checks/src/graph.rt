@@ -13,7 +13,7 @@ fn fault(alloc: Global, nodes: u32, arcs: &[InArc]) -> Result<Option<GraphFault>
     Ok(Graph::new(nodes, Vec::from_slice(alloc, arcs)?).err())
 }
 
-/// The first fault of each list of arcs, and none at the limits.
+/// The first fault of each list of arcs, and no fault at the limits.
 #[test]
 fn graphs_have_faults(rt: HostRuntime) -> Result<(), Fail> {
     let alloc = rt.alloc();
@@ -51,8 +51,8 @@ fn graphs_have_faults(rt: HostRuntime) -> Result<(), Fail> {
     Ok(())
 }
 
-/// Of parallel arcs the lightest counts, a detour may be lighter, arcs lead one way, and a node is at no distance from
-/// itself.
+/// The lightest of parallel arcs counts, a detour may be lighter, arcs lead one way, and a node has
+/// distance 0 from itself.
 #[test]
 fn the_lightest_walk_is_taken(rt: HostRuntime) -> Result<(), Fail> {
     let alloc = rt.alloc();
@@ -88,7 +88,7 @@ fn costs_go_by_weight_first(rt: HostRuntime) {
     assert_eq!(rt; cost(1 << 60, 2).plus(cost(1 << 60, 3)), cost(1 << 61, 5));
 }
 
-/// Rows are made of pairs, or pushed one behind the other.
+/// Expects rows that are made of pairs.
 fn expect_rows(rt: &impl Abort, alloc: Global) -> Result<(), AllocError> {
     let pairs = [(2, 7), (0, 8), (2, 9)];
     let rows = again!(Rows::build(alloc, 3, &pairs));
@@ -111,8 +111,8 @@ fn expect_pushed(rt: &impl Abort, alloc: Global) -> Result<(), AllocError> {
     Ok(())
 }
 
-/// It holds when any one request for memory is refused: the call that meets the refusal answers `AllocError`, and made
-/// again with what it was lent it answers as with ample memory.
+/// It holds if any one request for memory is refused. The call that is refused answers `AllocError`. Made
+/// again with the same arguments, it answers as with enough memory.
 #[test]
 fn refused_in_turn(rt: HostRuntime) -> Result<(), Fail> {
     let alloc = rt.alloc();

@@ -1,4 +1,4 @@
-//! Hierarchies that a saved one names: their levels and legs, and the first fault.
+//! The hierarchies that saved ones name: their levels and legs, and the first fault.
 ghost use Rattle.std.specs.Prelude.{◌≡◌, ◌<◌};
 ghost use Rattle.ch_hierarchy.specs.Hierarchy.{nodes_of};
 
@@ -11,12 +11,12 @@ use std::alloc::AllocError;
 use std::process::Abort;
 use std::test::Fail;
 
-/// What so many arcs of weight 1 cost.
+/// The cost of `arcs` arcs of weight 1.
 fn cost(arcs: u64) -> Cost {
     Cost { weight: arcs, arcs }
 }
 
-/// A leg that stands for so many arcs.
+/// A leg that stands for `arcs` arcs of weight 1.
 fn leg(node: u32, arcs: u64, middle: Option<u32>) -> Leg {
     Leg {
         node,
@@ -25,7 +25,7 @@ fn leg(node: u32, arcs: u64, middle: Option<u32>) -> Leg {
     }
 }
 
-/// A node has this level, and these legs to and from higher nodes.
+/// Expects that a node has this level, and these legs to and from higher nodes.
 fn expect_node(
     rt: &impl Abort,
     hierarchy: &Hierarchy,
@@ -41,7 +41,7 @@ fn expect_node(
     assert_eq!(rt; hierarchy.down(node), down);
 }
 
-/// A leg by rank that stands for so many arcs.
+/// A leg by rank that stands for `arcs` arcs of weight 1.
 fn ranked(rank: u32, arcs: u32) -> RankedLeg {
     RankedLeg {
         rank,
@@ -50,7 +50,7 @@ fn ranked(rank: u32, arcs: u32) -> RankedLeg {
     }
 }
 
-/// This is the node of this rank, and has these legs by rank.
+/// Expects that the node of this rank is `node`, and that it has these legs by rank.
 fn expect_ranked(
     rt: &impl Abort,
     hierarchy: &Hierarchy,
@@ -83,8 +83,8 @@ fn expect_ring(rt: &impl Abort, hierarchy: &Hierarchy) {
     expect_ranked(rt, hierarchy, 0, 4, &[], &[]);
 }
 
-/// It holds when any one request for memory is refused: the call that meets the refusal answers want of memory, and the
-/// same, made again with what it was lent, answers as with ample memory.
+/// It holds if any one request for memory is refused. The call that is refused answers that memory ran out.
+/// Made again with the same arguments, it answers as with enough memory.
 #[test]
 fn refused_in_turn(rt: HostRuntime) -> Result<(), Fail> {
     let alloc = rt.alloc();
@@ -107,7 +107,8 @@ const SECOND: LegLine = (2, 3, 5, 1, 0);
 
 const HEAVY: LegLine = (1, 3, MOST_WEIGHT + 1, 2, 0);
 
-/// The first fault of orders and legs for a line of three nodes, and none where both ways of a pair have a leg.
+/// The first fault of orders and legs for a line of three nodes. There is no fault if a pair has legs both
+/// ways.
 #[test]
 fn the_first_fault_is_named(rt: HostRuntime) -> Result<(), Fail> {
     let alloc = rt.alloc();

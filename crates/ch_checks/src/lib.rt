@@ -1,8 +1,12 @@
-//! Tests of the crates below the runs, through their public calls: what no clause says.
+//! Tests of the crates below the runs, through their public calls. They test what no clause says.
 //!
-//! That is that calls succeed where there is memory, values from outside, texts of faults, what a refusal of memory
-//! leaves, and what workers do at once. Nothing but tests stands here, so the crates below are proved once.
-//! It stands on ch_contract, ch_engine, ch_graph, ch_hierarchy, ch_lists, ch_near, ch_query, ch_queue, ch_read, ch_table and ch_work.
+//! - Calls succeed if there is memory.
+//! - Results have values that were worked out elsewhere, and faults have their texts.
+//! - After a refusal of memory, what was lent is usable.
+//! - Workers do pieces at the same time.
+//!
+//! The crate has only tests, so the crates below are proved once. It stands on ch_contract, ch_engine, ch_graph,
+//! ch_hierarchy, ch_lists, ch_near, ch_query, ch_queue, ch_read, ch_table and ch_work.
 #![tactic(auto)]
 
 #[cfg(test)]

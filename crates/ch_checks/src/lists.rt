@@ -1,4 +1,4 @@
-//! Lists in one array: what they hold, and how much room they take.
+//! Lists in one array: their values, and the room that they take.
 ghost use Rattle.std.specs.Prelude.{◌≡◌, ◌<◌, length};
 
 use crate::again::again;
@@ -43,7 +43,8 @@ fn the_first_lists_are_skipped(rt: HostRuntime) -> Result<(), Fail> {
     Ok(())
 }
 
-/// Inserts `value` at the front of a list, asked twice where it must be: a refusal leaves the lists as they were.
+/// Inserts `value` at the front of a list, a second time if the first call is refused memory. A refusal
+/// leaves the lists as they were.
 fn insert_again<R: Abort>(rt: &R, lists: &mut Lists<u64>, list: u32, value: u64) -> Result<(), Fail>
     requires { list < length lists.old }
     ensures { length lists.new ≡ length lists.old }
@@ -56,7 +57,8 @@ fn insert_again<R: Abort>(rt: &R, lists: &mut Lists<u64>, list: u32, value: u64)
     Ok(())
 }
 
-/// Packs the lists, asked twice where it must be: a refusal leaves them, and their room, as they were.
+/// Packs the lists, a second time if the first call is refused memory. A refusal leaves the lists and their
+/// room as they were.
 fn pack_again<R: Abort>(rt: &R, lists: &mut Lists<u64>) -> Result<(), Fail>
     ensures { length lists.new ≡ length lists.old }
 {
@@ -68,9 +70,10 @@ fn pack_again<R: Abort>(rt: &R, lists: &mut Lists<u64>) -> Result<(), Fail>
     Ok(())
 }
 
-/// It holds when any one request for memory is refused: the call that meets the refusal answers `AllocError`, and
-/// asked again it does what it does with ample memory. Rooms of 2^32 values together are refused before any memory is
-/// taken.
+/// It holds if any one request for memory is refused. The call that is refused answers `AllocError`. Made
+/// again, it does the same as with enough memory.
+///
+/// Rooms of 2^32 values together are refused before any memory is taken.
 #[test]
 fn refused_in_turn(rt: HostRuntime) -> Result<(), Fail> {
     let mut lists = again!(Lists::with_rooms(rt.alloc(), &[1, 2], 0));

@@ -1,4 +1,4 @@
-//! Rows of the nearest targets, by searches and by the sweep, at several plans.
+//! Rows of the nearest targets, by searches and by the sweep, with several plans.
 ghost use Rattle.std.specs.Prelude.{◌<◌, ◌≤◌, length, All};
 ghost use Rattle.ch_hierarchy.specs.Hierarchy.{nodes_of};
 ghost use Rattle.ch_query.specs.Distance.{IsKeptForSome};
@@ -15,7 +15,8 @@ use std::process::Abort;
 use std::test::Fail;
 use std::thread::Threads;
 
-/// What is asked for, and the rows of all nodes: distances, and places from 0 on. Targets are counted from 1.
+/// What is asked for, and the rows of all nodes: pairs of a distance and a place, which is counted from 0.
+/// Targets are counted from 1.
 #[derive(Clone, Copy)]
 struct Case<'a> {
     roads: Example<'a>,
@@ -26,7 +27,7 @@ struct Case<'a> {
     rows: &'a [&'a [(u64, u32)]],
 }
 
-/// Expects the rows of a case by searches from all nodes, one after the other, by this plan.
+/// Expects the rows of a case from searches from the nodes 1 to 3, with this plan.
 fn expect_searched<R: Threads + Abort + Sync>(
     rt: &R,
     alloc: Global,
@@ -54,7 +55,7 @@ fn expect_searched<R: Threads + Abort + Sync>(
     Ok(())
 }
 
-/// Expects the rows of a case by the sweep, where no memory is refused.
+/// Expects the rows of a case from the sweep, if no memory is refused.
 fn sweep<R: Threads + Abort + Sync>(
     rt: &R,
     alloc: Global,
@@ -84,7 +85,7 @@ fn sweep<R: Threads + Abort + Sync>(
     Ok(())
 }
 
-/// Expects the rows of a case by the sweep, made a second time where the first was refused memory.
+/// Expects the rows of a case from the sweep, a second time if the first was refused memory.
 fn expect_swept<R: Threads + Abort + Sync>(rt: &R, alloc: Global, case: &Case) -> Result<(), Fail> {
     let hierarchy = hierarchy(rt, alloc, &case.roads)?;
     let targets = from_zero(rt, alloc, &hierarchy, case.targets)?;
@@ -93,7 +94,7 @@ fn expect_swept<R: Threads + Abort + Sync>(rt: &R, alloc: Global, case: &Case) -
     Ok(())
 }
 
-/// Expects the rows of a case by both forms and at several plans.
+/// Expects the rows of a case from searches with several plans, and from the sweep.
 fn expect<R: Threads + Abort + Sync>(rt: &R, alloc: Global, case: &Case) -> Result<(), Fail> {
     for workers in [1, 2, 64] {
         expect_searched(rt, alloc, case, &Plan::new(workers, 1, 1))?;
@@ -101,7 +102,8 @@ fn expect<R: Threads + Abort + Sync>(rt: &R, alloc: Global, case: &Case) -> Resu
     expect_swept(rt, alloc, case)
 }
 
-/// Around the ring, whose arcs weigh 1, to node 4 twice and to node 5: the first two, and ties go by place.
+/// Around the ring, whose arcs weigh 1, to node 4 twice and to node 5. The rows have the first two targets,
+/// and equal distances are in order of place.
 const AROUND: Case = Case {
     roads: RING,
     direction: Direction::To,
@@ -117,7 +119,7 @@ const AROUND: Case = Case {
     ],
 };
 
-/// From these targets, all of them.
+/// Around the ring from these targets, all of them.
 const AROUND_FROM: Case = Case {
     roads: RING,
     direction: Direction::From,
@@ -143,7 +145,7 @@ const LINE_WITHIN: Case = Case {
     rows: &[&[(4, 1)], &[(0, 1), (5, 0)], &[(0, 0)]],
 };
 
-/// No targets.
+/// On the line, without targets.
 const LINE_TO_NONE: Case = Case {
     roads: LINE,
     direction: Direction::To,

@@ -1,4 +1,5 @@
-//! Distances, routes and search spaces by hierarchies that are right for a graph, and which are.
+//! Distances, routes and search spaces by hierarchies that are right for a graph, and the check whether a
+//! hierarchy is right.
 mod answers;
 mod checking;
 mod prepared;
@@ -13,7 +14,7 @@ use std::process::Abort;
 use std::test::Fail;
 use std::thread::Threads;
 
-/// A route: from, to, its weight, none where there is no walk, and its arcs. Nodes are counted from 0.
+/// A route: from, to, its weight, or `None` if there is no walk, and its arcs. Nodes are counted from 0.
 type Way<'a> = (u32, u32, Option<u64>, &'a [Arc]);
 
 /// Expects these routes in an example.
@@ -30,8 +31,12 @@ fn expect<R: Threads + Abort + Sync>(
     Ok(())
 }
 
-/// The lightest of parallel arcs is taken, shortcuts are unpacked, the least numbered of two meeting nodes wins, at weight
-/// 0 the fewest arcs, also over a lesser number, no node repeats, and a ring is travelled one way.
+/// The test covers these rules:
+///
+/// - The lightest of parallel arcs is taken, and shortcuts are unpacked.
+/// - Of two nodes where searches meet, the least numbered decides.
+/// - At weight 0 the fewest arcs decide, even against a lesser number. No node repeats.
+/// - A ring leads one way.
 #[test]
 fn worked_routes(rt: HostRuntime) -> Result<(), Fail> {
     let cases: &[(Example, &[Way])] = &[
@@ -59,10 +64,11 @@ fn worked_routes(rt: HostRuntime) -> Result<(), Fail> {
     Ok(())
 }
 
-/// A spread: source, side, limit, and its entries, each (node, weight, arcs).
+/// A spread: source, side, limit, and its entries, each as (node, weight, arcs).
 type Spread<'a> = (u32, Side, Option<u64>, &'a [(u32, u64, u64)]);
 
-/// Up the ring and down, within limits and without, with a distance before and one after in the same room.
+/// Spreads up and down the ring, within limits and without. A distance before and a distance after use the
+/// same room.
 #[test]
 fn worked_spreads(rt: HostRuntime) -> Result<(), Fail> {
     let mut ring = Prepared::new(&rt, rt.alloc(), &RING)?;
@@ -94,8 +100,8 @@ fn worked_spreads(rt: HostRuntime) -> Result<(), Fail> {
     Ok(())
 }
 
-/// Three roads, open both ways: nodes 1 and 2 are 10 apart by their own, and 2 over node 3. The nodes are contracted in
-/// order, with no shortcut, so each leg is a road.
+/// Three roads, open both ways. Nodes 1 and 2 are 10 apart on their own road, and 2 apart over node 3. The
+/// nodes are contracted in order without a shortcut, so each leg is a road.
 const STALLING: Example = Example {
     nodes: 3,
     arcs: &[
@@ -117,7 +123,7 @@ const STALLING: Example = Example {
     ],
 };
 
-/// A search space: source, limit, and its entries, each (node, weight).
+/// A search space: source, limit, and its entries, each as (node, weight).
 type Space<'a> = (u32, Option<u64>, &'a [(u32, u64)]);
 
 /// Expects these search spaces, in both directions.
@@ -133,7 +139,8 @@ fn expect_spaces(
     Ok(())
 }
 
-/// A node to which a higher node shows a lighter way has no entry in a search space, and one in a spread.
+/// A node has no entry in a search space if a higher node shows a lighter way to it. In a spread it has
+/// one.
 #[test]
 fn a_stalled_node_has_no_entry(rt: HostRuntime) -> Result<(), Fail> {
     let mut roads = Prepared::new(&rt, rt.alloc(), &STALLING)?;
@@ -159,8 +166,8 @@ fn expect_found(rt: &impl Abort, ring: &mut Prepared) -> Result<(), AllocError> 
     ring.expect_space(rt, 2, Side::Up, None, &[(2, 0), (3, 1), (4, 2)])
 }
 
-/// It holds when any one request for memory is refused: the call that meets the refusal answers want of memory, and the
-/// same, made again with what it was lent, answers as with ample memory.
+/// It holds if any one request for memory is refused. The call that is refused answers that memory ran out.
+/// Made again with the same arguments, it answers as with enough memory.
 #[test]
 fn refused_in_turn(rt: HostRuntime) -> Result<(), Fail> {
     let mut ring = Prepared::new(&rt, rt.alloc(), &RING)?;

@@ -1,4 +1,4 @@
-//! Queues whose keys change, at three types of keys.
+//! Queues whose keys change, with three types of keys.
 use crate::again::again;
 use ch_graph::Cost;
 use ch_queue::KeyQueue;
@@ -9,7 +9,7 @@ fn cost(weight: u64, arcs: u64) -> Cost {
     Cost { weight, arcs }
 }
 
-/// Keys are raised, lowered and removed, and of equal keys that of the least id leaves first.
+/// Keys are raised, lowered and removed. Of equal keys the one with the least id leaves first.
 #[test]
 fn keys_change_and_the_least_leaves(rt: HostRuntime) -> Result<(), Fail> {
     let mut queue = KeyQueue::new(rt.alloc(), 4)?;
@@ -42,8 +42,8 @@ fn a_queue_is_used_again_after_clear(rt: HostRuntime) -> Result<(), Fail> {
     Ok(())
 }
 
-/// It holds when any one request for memory is refused: `new` answers `AllocError`, and called again gives the queue
-/// that it gives with ample memory.
+/// It holds if any one request for memory is refused. `new` answers `AllocError`, and a second call returns
+/// the same queue as with enough memory.
 #[test]
 fn refused_in_turn(rt: HostRuntime) -> Result<(), Fail> {
     let mut queue = again!(KeyQueue::new(rt.alloc(), 4));

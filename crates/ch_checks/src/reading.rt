@@ -7,7 +7,7 @@ use ch_read::{Form, ReadError, read_graph, read_nodes, read_queries, read_saved}
 use std::alloc::Global;
 use std::test::Fail;
 
-/// What a reader answers, asked a second time where the first was refused memory.
+/// Makes a call of a reader, and makes it a second time if the first was refused memory.
 macro_rules! again {
     ($read:expr) => {
         match $read {
@@ -17,7 +17,7 @@ macro_rules! again {
     };
 }
 
-/// A leg of this cost.
+/// A leg of a saved hierarchy, by its parts.
 fn leg(from: u32, to: u32, weight: u64, arcs: u64, middle: Option<u32>) -> SavedLeg {
     SavedLeg {
         from,
@@ -27,9 +27,10 @@ fn leg(from: u32, to: u32, weight: u64, arcs: u64, middle: Option<u32>) -> Saved
     }
 }
 
-/// Each form of file is read, with any blanks, leading zeros, lines to be skipped, and the largest numbers. It holds
-/// when any one request for memory is refused: the reader that meets the refusal answers `NoMemory`, and no fault, and
-/// asked again it answers as with ample memory.
+/// Each form of file is read, with blanks, leading zeros, lines to skip, and the greatest numbers.
+///
+/// It holds if any one request for memory is refused. The reader that is refused answers `NoMemory` and no
+/// fault, and a second call answers as with enough memory.
 #[test]
 fn files_are_read_refused_in_turn(rt: HostRuntime) -> Result<(), Fail> {
     let alloc = rt.alloc();
@@ -61,7 +62,7 @@ fn files_are_read_refused_in_turn(rt: HostRuntime) -> Result<(), Fail> {
     Ok(())
 }
 
-/// What the reader of this form says of a faulty file, and nothing of another.
+/// Returns the text of the fault that the reader of this form finds in a file, or an empty text.
 fn said(alloc: Global, form: Form, text: &str) -> Result<String, Fail> {
     let bytes = text.as_bytes();
     let error = match form {
@@ -76,7 +77,7 @@ fn said(alloc: Global, form: Form, text: &str) -> Result<String, Fail> {
     }
 }
 
-/// The first fault of the first faulty line is told, and want of memory.
+/// The text names the first fault of the first faulty line. A lack of memory has a text too.
 #[test]
 fn faults_are_told(rt: HostRuntime) -> Result<(), Fail> {
     let alloc = rt.alloc();

@@ -1,4 +1,4 @@
-//! Tables and buckets at several plans, with a limit and without.
+//! Tables and buckets with several plans, with a limit and without.
 ghost use Rattle.std.specs.Prelude.{◌≡◌, ◌<◌, ◌≤◌, length, All, IfOk};
 ghost use Rattle.ch_hierarchy.specs.Hierarchy.{nodes_of};
 ghost use Rattle.ch_query.specs.Distance.{IsKeptForSome};
@@ -16,7 +16,7 @@ use std::process::Abort;
 use std::test::Fail;
 use std::thread::Threads;
 
-/// The nodes, counted from 0.
+/// Returns the nodes of a list that counts from 1, counted from 0.
 pub(crate) fn from_zero<R: Abort>(
     rt: &R,
     alloc: Global,
@@ -45,7 +45,7 @@ struct Case<'a> {
     rows: &'a [&'a [Option<u64>]],
 }
 
-/// The table of a case by this plan, asked for a second time where the first was refused memory.
+/// Makes the table of a case with this plan, a second time if the first call was refused memory.
 fn make<R: Threads + Abort + Sync, G: Gate>(
     rt: &R,
     alloc: Global,
@@ -65,7 +65,7 @@ fn make<R: Threads + Abort + Sync, G: Gate>(
     )))
 }
 
-/// Expects these rows of the table by this plan.
+/// Expects these rows of the table with this plan.
 fn expect<R: Threads + Abort + Sync>(
     rt: &R,
     alloc: Global,
@@ -81,7 +81,7 @@ fn expect<R: Threads + Abort + Sync>(
     Ok(())
 }
 
-/// The table of the line, with a source twice.
+/// The table of the line, with one source twice.
 const LINE_TWICE: Case = Case {
     roads: LINE,
     sources: &[1, 1, 3],
@@ -146,7 +146,8 @@ const WEIGHTLESS: Case = Case {
     rows: &[&[Some(0)]],
 };
 
-/// A cell at the limit stays, one above it has none, and weights of 0 are within a limit of 0.
+/// A cell at the limit has its distance, and a cell above the limit has none. Weights of 0 are within a
+/// limit of 0.
 #[test]
 fn worked_tables(rt: HostRuntime) -> Result<(), Fail> {
     for case in [
@@ -168,7 +169,8 @@ fn worked_tables(rt: HostRuntime) -> Result<(), Fail> {
     Ok(())
 }
 
-/// How often each piece of the line's table passes the gate by so many workers, where each node is a piece of its own.
+/// Expects how often each piece passes the gate when `workers` workers make the line's table. Each node is
+/// a piece of its own.
 fn expect_passes<R: Threads + Abort + Sync>(
     rt: &R,
     alloc: Global,
@@ -185,7 +187,8 @@ fn expect_passes<R: Threads + Abort + Sync>(
     Ok(())
 }
 
-/// Each of two targets and each of three sources is a piece. Where there are more workers than sources, each node is one too.
+/// Each of the two targets and each of the three sources is a piece. If there are more workers than
+/// sources, each node is a piece too.
 #[test]
 fn gates_passed(rt: HostRuntime) -> Result<(), Fail> {
     expect_passes(&rt, rt.alloc(), 1, [2, 2, 1, 0])?;
@@ -193,8 +196,8 @@ fn gates_passed(rt: HostRuntime) -> Result<(), Fail> {
     expect_passes(&rt, rt.alloc(), 4, [3, 3, 2, 0])
 }
 
-/// The buckets of an example: of sources, by going up, or of targets, by going down; the nodes, counted from 1; the
-/// limit; and the entries of each node in order.
+/// The buckets of an example: the side, the nodes, the limit, and the entries of each node in order. The
+/// side is up for sources and down for targets. Nodes are counted from 1.
 #[derive(Clone, Copy)]
 struct Filled<'a> {
     roads: Example<'a>,
@@ -204,7 +207,7 @@ struct Filled<'a> {
     rows: &'a [&'a [(u32, u64)]],
 }
 
-/// Expects these buckets of the nodes, in order.
+/// Expects these entries of the nodes' buckets, in order.
 fn expect_entries<R: Abort>(rt: &R, nodes: u32, buckets: &Buckets, rows: &[&[(u32, u64)]])
     requires { length buckets.now ≡ nodes }
 {
@@ -214,7 +217,7 @@ fn expect_entries<R: Abort>(rt: &R, nodes: u32, buckets: &Buckets, rows: &[&[(u3
     }
 }
 
-/// Fills buckets as they are described, and expects their entries.
+/// Fills the buckets of a case, and expects their entries.
 fn expect_filled<R: Threads + Abort + Sync>(
     rt: &R,
     alloc: Global,
@@ -235,7 +238,7 @@ fn expect_filled<R: Threads + Abort + Sync>(
     Ok(())
 }
 
-/// On the ring node 4 is 4 away from node 5, by the one path that leads down to it.
+/// On the ring, node 5 reaches node 4 at weight 4 by the only path that leads down to it.
 const DOWN_THE_RING: Filled = Filled {
     roads: RING,
     side: Side::Down,
@@ -281,8 +284,8 @@ fn worked_buckets(rt: HostRuntime) -> Result<(), Fail> {
     Ok(())
 }
 
-/// It holds when any one request for memory is refused: the call that meets the refusal answers `AllocError`, and
-/// called again answers as with ample memory.
+/// It holds if any one request for memory is refused. The call that is refused answers `AllocError`. Made
+/// again, it answers as with enough memory.
 #[test]
 fn refused_in_turn(rt: HostRuntime) -> Result<(), Fail> {
     let alloc = rt.alloc();

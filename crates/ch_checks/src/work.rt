@@ -1,4 +1,4 @@
-//! Jobs that workers share: how often pieces pass the gate, two of them at once, and want of memory.
+//! Jobs that workers share: how often pieces pass the gate, two pieces at once, and a lack of memory.
 mod boards;
 mod cells;
 mod rooms;
@@ -12,7 +12,7 @@ use std::sync::atomic::{AtomicBool, Ordering};
 use std::test::Fail;
 use std::thread::Threads;
 
-/// The value of a range is the list of its numbers.
+/// A job whose value of a range is the list of its numbers.
 #[derive(Drop)]
 struct Numbers {
     items: u32,
@@ -30,7 +30,7 @@ impl Job for Numbers {
     }
 }
 
-/// The piece that begins with this item is refused memory.
+/// A job that is refused memory in the piece that begins with this item.
 #[derive(Drop)]
 struct Refused {
     items: u32,
@@ -52,7 +52,8 @@ impl Job for Refused {
     }
 }
 
-/// The joined values have the numbers of all items in order, and each piece passes the gate once.
+/// Expects that the joined values are the numbers of all items in order, and that each piece passes the
+/// gate once.
 fn expect_numbers<R: Threads + Abort + Sync>(
     rt: &R,
     alloc: Global,
@@ -87,7 +88,8 @@ fn every_plan_gives_the_same_numbers_in_order(rt: HostRuntime) -> Result<(), Fai
     Ok(())
 }
 
-/// A piece that is refused memory ends its worker alone: the other does the rest, and the call answers want of memory.
+/// A piece that is refused memory ends only its own worker. The other worker does the rest, and the call
+/// answers that memory ran out.
 #[test]
 fn want_of_memory_in_one_piece_is_answered(rt: HostRuntime) -> Result<(), Fail> {
     for item in 0..4 {
@@ -116,7 +118,7 @@ fn two_workers_meet_and_one_meets_nobody(rt: HostRuntime) -> Result<(), Fail> {
     Ok(())
 }
 
-/// Holds piece 0 up until pieces 1, 2 and 3 have come, for at most 1,000,000,000 turns.
+/// A gate that holds piece 0 up until pieces 1, 2 and 3 have come, for at most 1,000,000,000 turns.
 #[derive(Drop)]
 struct SlowGate {
     come: [AtomicBool; 4],
@@ -168,8 +170,8 @@ fn one_slow_piece(rt: HostRuntime) -> Result<(), Fail> {
     Ok(())
 }
 
-/// It holds when any one request for memory is refused: the call that meets the refusal answers `AllocError`, and
-/// called again answers as with ample memory.
+/// It holds if any one request for memory is refused. The call that is refused answers `AllocError`. Made
+/// again, it answers as with enough memory.
 #[test]
 fn refused_in_turn(rt: HostRuntime) -> Result<(), Fail> {
     let alloc = rt.alloc();

@@ -1,8 +1,11 @@
 //! A graph where a shortcut would stand for as many arcs as there are nodes.
 use crate::examples::Example;
 
-/// A long way there and back between nodes 1 and 16, a short way around it, and nodes that hang on the short way. Two
-/// legs of 33 arcs together are no shortcut, and the order shows it: with that shortcut it is another.
+/// A long way there and back between nodes 1 and 16, a short way around it, and nodes that hang on the
+/// short way.
+///
+/// Two legs of 33 arcs together are no shortcut. The order shows it, because it would be another with that
+/// shortcut.
 pub(super) const LONG_SHORTCUT: Example = Example {
     nodes: 33,
     arcs: &[

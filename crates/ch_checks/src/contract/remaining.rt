@@ -1,4 +1,5 @@
-//! The calls on the legs that are left: witnesses, shortcuts, priorities, contractions. Nodes are counted from 0.
+//! The calls on the legs that remain: witnesses, shortcuts, priorities and contractions. Nodes are counted
+//! from 0.
 ghost use Rattle.std.specs.Prelude.{◌≡◌, ◌<◌, IfOk};
 
 use crate::again::again;
@@ -11,14 +12,14 @@ use std::alloc::{AllocError, Global};
 use std::process::Abort;
 use std::test::Fail;
 
-/// What so many arcs of weight 1 cost.
+/// The cost of `arcs` arcs of weight 1.
 fn cost(arcs: u64) -> Cost
     ensures { result ≡ record { weight = arcs; arcs = arcs } }
 {
     Cost { weight: arcs, arcs }
 }
 
-/// A leg that stands for so many arcs.
+/// A leg that stands for `arcs` arcs of weight 1.
 fn leg(node: u32, arcs: u64, middle: Option<u32>) -> Leg {
     Leg {
         node,
@@ -27,7 +28,7 @@ fn leg(node: u32, arcs: u64, middle: Option<u32>) -> Leg {
     }
 }
 
-/// The legs of an example before any contraction.
+/// Opens the legs of an example, before any contraction.
 fn open(alloc: Global, example: &Example) -> Result<Remaining, Fail>
     ensures { IfOk result (λ r. r.nodes ≡ example.now.nodes) }
 {
@@ -35,10 +36,11 @@ fn open(alloc: Global, example: &Example) -> Result<Remaining, Fail>
     Ok(Remaining::open(alloc, &graph)?)
 }
 
-/// A bound in weight and in arcs, one in legs, and whether a chain keeps them.
+/// A bound in weight and in arcs, a bound in legs, and whether a chain within both is expected.
 type Bound = ((u64, u64), u32, bool);
 
-/// Expects within which of these bounds a chain leads from node 0 past node 1 to this node.
+/// Expects for each of these bounds whether a chain within it leads from node 0 to this node and avoids
+/// node 1.
 fn expect_reached(
     rt: &impl Abort,
     legs: &Remaining,
@@ -57,7 +59,8 @@ fn expect_reached(
     Ok(())
 }
 
-/// A witness may cost as much as what it spares, in weight and then in arcs, and has at most so many legs.
+/// A witness may cost as much as the two legs that it replaces, by weight and then by arcs. Its number of
+/// legs is bounded.
 #[test]
 fn witnesses_are_bounded(rt: HostRuntime) -> Result<(), Fail> {
     let detour = open(rt.alloc(), &DETOUR)?;
@@ -112,7 +115,7 @@ fn shortcut(from: u32, to: u32) -> Shortcut {
     }
 }
 
-/// What the calls answer for node 0 among the legs of a graph.
+/// The expected answers for node 0 among the legs of a graph.
 #[derive(Clone, Copy)]
 struct Answers<'a> {
     has_witness: bool,
@@ -122,7 +125,7 @@ struct Answers<'a> {
     down: &'a [Leg],
 }
 
-/// Judges the legs for node 0.
+/// Expects these answers of the calls that leave the legs as they are.
 fn expect_judged(rt: &impl Abort, legs: &Remaining, answers: &Answers) -> Result<(), AllocError>
     requires { 2 < legs.now.nodes }
 {
@@ -134,8 +137,8 @@ fn expect_judged(rt: &impl Abort, legs: &Remaining, answers: &Answers) -> Result
     Ok(())
 }
 
-/// Makes each call on the legs of a graph for node 0. A refused contraction drops the legs, so they are opened
-/// again.
+/// Expects these answers of each call on the legs of a graph. A refused contraction drops the legs, so they
+/// are opened again.
 fn expect_answers(
     rt: &impl Abort,
     alloc: Global,
@@ -155,8 +158,8 @@ fn expect_answers(
     Ok(())
 }
 
-/// It holds when any one request for memory is refused: the call that meets the refusal answers want of memory, and the
-/// same, made again with what it was lent, answers as with ample memory.
+/// It holds if any one request for memory is refused. The call that is refused answers that memory ran out.
+/// Made again with the same arguments, it answers as with enough memory.
 #[test]
 fn refused_in_turn(rt: HostRuntime) -> Result<(), Fail> {
     let alloc = rt.alloc();

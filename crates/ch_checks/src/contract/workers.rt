@@ -1,11 +1,11 @@
-//! How workers share what [`build`] computes: which pieces pass the gate, and two of them at once.
+//! How workers share the work of [`build`]: the pieces that pass the gate, and two pieces at once.
 use crate::crew::crew;
 use crate::examples::{STAR, graph};
 use ch_contract::build;
 use ch_work::{CountingGate, MeetingGate, Plan};
 use std::test::Fail;
 
-/// The steps of a star of four nodes have one neighbour, two, one and none.
+/// The nodes of a star of four nodes have one neighbour, two, one and none when they are contracted.
 #[test]
 fn neighbours_are_shared_where_they_are_many(rt: HostRuntime) -> Result<(), Fail> {
     let graph = graph(rt.alloc(), STAR.nodes, STAR.arcs)?;

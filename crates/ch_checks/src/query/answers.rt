@@ -1,4 +1,4 @@
-//! Answers to many queries on a ring, and plans that change none.
+//! Answers to many queries on a ring. No plan changes them.
 ghost use Rattle.std.specs.Prelude.{◌≡◌, ◌≤◌, length, IfOk};
 ghost use Rattle.ch_graph.specs.declared.limits.TheConstants.{MOST_QUERIES};
 ghost use Rattle.ch_hierarchy.specs.Hierarchy.{nodes_of};
@@ -27,7 +27,8 @@ fn ring<R: Threads + Abort + Sync>(rt: &R, alloc: Global) -> Result<Hierarchy, F
     Ok(ring)
 }
 
-/// The answer's arcs are those of the ring from the first node on, as many as the weight.
+/// Expects that the answer has the arcs of the ring from its first node on. There are as many arcs as the
+/// weight.
 fn expect_arcs(rt: &impl Abort, answer: &Answer, arcs: &[InArc]) {
     assert_eq!(rt; Some(arcs.len() as u64), answer.weight);
     let mut at = answer.from;
@@ -45,7 +46,7 @@ fn expect_arcs(rt: &impl Abort, answer: &Answer, arcs: &[InArc]) {
     assert_eq!(rt; at, answer.to);
 }
 
-/// Expects answers of these queries and weights, with routes or without.
+/// Expects the answers to these queries, with these weights, with routes or without.
 fn expect(
     rt: &impl Abort,
     answers: &[Answer],
@@ -64,7 +65,7 @@ fn expect(
     }
 }
 
-/// Expects the answers to these queries, without routes and with them.
+/// Expects the answers to these queries, first without routes and then with them.
 fn expect_answers<R: Threads + Abort + Sync>(
     rt: &R,
     alloc: Global,
@@ -99,7 +100,8 @@ fn no_plan_changes_an_answer(rt: HostRuntime) -> Result<(), Fail> {
     Ok(())
 }
 
-/// The answers of two workers, twice in the scratches that the first call leaves.
+/// Returns the answers of two workers. It asks twice, the second time in the scratches that the first call
+/// left.
 fn answered_again<R: Threads + Sync>(
     rt: &R,
     alloc: Global,
@@ -118,8 +120,8 @@ fn answered_again<R: Threads + Sync>(
     answer_all_in(&crew, ring, &mut scratches, queries, routes)
 }
 
-/// By one worker, by two that share the queries, and by two in scratches that stay. It holds when any one request for memory
-/// is refused.
+/// Queries are answered by one worker, by two workers that share them, and by two workers in scratches that
+/// stay. It holds if any one request for memory is refused.
 #[test]
 fn answered_refused_in_turn(rt: HostRuntime) -> Result<(), Fail> {
     let alloc = rt.alloc();

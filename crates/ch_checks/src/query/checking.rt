@@ -9,7 +9,7 @@ use std::process::Abort;
 use std::test::Fail;
 use std::thread::Threads;
 
-/// The fault that both ways to check answer, and none where the hierarchy is right.
+/// Returns the fault that both calls for a check find, or `None` if the hierarchy is right.
 fn fault_of<R: Threads + Abort + Sync>(
     rt: &R,
     alloc: Global,
@@ -33,7 +33,8 @@ const FIRST: LegLine = (1, 2, 4, 1, 0);
 
 const SECOND: LegLine = (2, 3, 5, 1, 0);
 
-/// A leg of two arcs is to be the two legs of its middle, one without a middle an arc, and the first fault is named.
+/// A leg with a middle has to be the sum of the two legs of that middle, and a leg without one an arc. The
+/// first fault is named.
 #[test]
 fn hierarchies_of_a_line(rt: HostRuntime) -> Result<(), Fail> {
     let middle: &[u32] = &[2, 1, 3];
@@ -81,7 +82,8 @@ fn hierarchies_of_a_line(rt: HostRuntime) -> Result<(), Fail> {
     Ok(())
 }
 
-/// Four roads in a square, of weight 1 but for the last: two ways lead from node 2 to node 4, by node 1 and by node 3.
+/// Checks a square of four arcs, whose weights are 1 except for the last. Two ways lead from node 2 to node
+/// 4, over node 1 and over node 3.
 fn square<R: Threads + Abort + Sync>(
     rt: &R,
     alloc: Global,
@@ -103,7 +105,8 @@ fn square<R: Threads + Abort + Sync>(
     fault_of(rt, alloc, &example)
 }
 
-/// Two legs need no leg beside them where a way over higher nodes costs no more; of parallel arcs the lightest is a leg.
+/// Two legs need no leg between their ends if a way over higher nodes costs no more. The lightest of
+/// parallel arcs is a leg.
 #[test]
 fn what_covers_legs_and_arcs(rt: HostRuntime) -> Result<(), Fail> {
     let alloc = rt.alloc();

@@ -1,4 +1,5 @@
-//! A hierarchy with room for queries, and what the calls are expected to answer on it. Nodes are counted from 0.
+//! A hierarchy with room for queries, and the answers that calls on it are expected to give. Nodes are
+//! counted from 0.
 use crate::again::again;
 use crate::examples::{Arc, Example, hierarchy};
 use ch_graph::{Cost, InArc};
@@ -32,7 +33,7 @@ impl Model for Prepared {
 }
 
 impl Prepared {
-    /// The hierarchy of an example, with room.
+    /// Makes the hierarchy of an example, with room for queries.
     pub(super) fn new<R: Threads + Abort + Sync>(
         rt: &R,
         alloc: Global,
@@ -47,7 +48,7 @@ impl Prepared {
         })
     }
 
-    /// Expects this weight of the least walk from one node to another.
+    /// Expects this least weight of a walk from one node to another.
     pub(super) fn expect_distance(
         &mut self,
         rt: &impl Abort,
@@ -66,8 +67,8 @@ impl Prepared {
         Ok(found)
     }
 
-    /// Expects this weight and these arcs of the route from one node to another, and the same weight of their
-    /// distance; or that no walk leads there.
+    /// Expects this weight and these arcs of the route from one node to another, and the same distance.
+    /// Without a weight, it expects that no walk leads there.
     pub(super) fn expect_route(
         &mut self,
         rt: &impl Abort,
@@ -106,7 +107,7 @@ impl Prepared {
         Ok(found)
     }
 
-    /// Expects these nodes of the spread of a node, each as (node, weight, arcs).
+    /// Expects these entries of the spread of a node, each as (node, weight, arcs).
     pub(super) fn expect_spread(
         &mut self,
         rt: &impl Abort,
@@ -123,7 +124,8 @@ impl Prepared {
         Ok(())
     }
 
-    /// Expects these entries of the search space of a node, each as (node, weight), and as many by rank.
+    /// Expects these entries of the search space of a node, each as (node, weight). Also expects the same
+    /// number of entries by rank.
     pub(super) fn expect_space(
         &mut self,
         rt: &impl Abort,

@@ -1,10 +1,10 @@
-//! Requests that come in parts, faulty ones, and long streams.
+//! Requests that come in parts, requests with faults, and long streams.
 use ch_read::{Request, RequestError, RequestReader};
 use std::alloc::{AllocError, Global};
 use std::process::Abort;
 use std::test::Fail;
 
-/// Feeds these bytes, a second time where memory was refused the first time.
+/// Feeds these bytes, a second time if memory was refused.
 fn feed(reader: &mut RequestReader, bytes: &[u8]) -> Result<(), AllocError> {
     match reader.feed(bytes) {
         Err(_) => reader.feed(bytes),
@@ -12,7 +12,7 @@ fn feed(reader: &mut RequestReader, bytes: &[u8]) -> Result<(), AllocError> {
     }
 }
 
-/// The next request, asked for a second time where memory was refused the first time.
+/// Asks for the next request, a second time if memory was refused.
 fn next(
     alloc: Global,
     reader: &mut RequestReader,
@@ -43,8 +43,8 @@ fn expect_table<R: Abort>(rt: &R, given: Option<Request>, sources: &[u32], targe
     }
 }
 
-/// It holds when any one request for memory is refused: the call that meets the refusal tells it, and made again it
-/// goes on as with ample memory.
+/// It holds if any one request for memory is refused. The call that is refused answers that memory ran out.
+/// Made again, it goes on as with enough memory.
 #[test]
 fn requests_come_refused_in_turn(rt: HostRuntime) -> Result<(), Fail> {
     let alloc = rt.alloc();
@@ -62,7 +62,7 @@ fn requests_come_refused_in_turn(rt: HostRuntime) -> Result<(), Fail> {
     Ok(())
 }
 
-/// A fault is told again by each further call, whatever is fed.
+/// Each further call answers with the same fault, even if more bytes are fed.
 #[test]
 fn faults_are_told_again(rt: HostRuntime) -> Result<(), Fail> {
     let alloc = rt.alloc();
@@ -85,7 +85,8 @@ fn faults_are_told_again(rt: HostRuntime) -> Result<(), Fail> {
     Ok(())
 }
 
-/// An unfinished line is searched from where the last search ended, so this takes time in the number of bytes.
+/// The search for the end of an unfinished line goes on where the last search ended. So the time is linear
+/// in the number of bytes.
 #[test]
 fn a_line_of_a_million_bytes_comes_one_by_one(rt: HostRuntime) -> Result<(), Fail> {
     let alloc = rt.alloc();
@@ -99,7 +100,8 @@ fn a_line_of_a_million_bytes_comes_one_by_one(rt: HostRuntime) -> Result<(), Fai
     Ok(())
 }
 
-/// Bytes are moved no oftener than lines are let go of, so this takes time in the number of bytes.
+/// Bytes are moved at most once for each line that is dropped. So the time is linear in the number of
+/// bytes.
 #[test]
 fn bytes_come_between_two_hundred_thousand_requests(rt: HostRuntime) -> Result<(), Fail> {
     let alloc = rt.alloc();

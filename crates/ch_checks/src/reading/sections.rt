@@ -1,4 +1,4 @@
-//! Files that workers read in sections: the same value and the same fault as one reader gives.
+//! Files that workers read in sections. The value and the fault are those of one reader.
 use super::{leg, said};
 use crate::crew::crew;
 use ch_graph::InArc;
@@ -10,12 +10,12 @@ use std::alloc::{AllocError, Global};
 use std::test::Fail;
 use std::thread::Threads;
 
-/// The numbers of workers, and the sizes of sections, with which each file is read.
+/// The numbers of workers and the sizes of sections that each file is read with.
 const WORKERS: [u32; 5] = [1, 2, 3, 4, 64];
 
 const SIZES: [usize; 6] = [0, 1, 5, 9, 40, 1000];
 
-/// What workers say of a faulty file, and nothing of another.
+/// Returns the text of the fault that workers find in a file, or an empty text.
 fn said_by<R: Threads + Sync>(
     rt: &R,
     alloc: Global,
@@ -35,7 +35,8 @@ fn said_by<R: Threads + Sync>(
     }
 }
 
-/// Graphs of one line, without a last line feed, of long comments in which a section is cut, and of blank lines.
+/// Graphs of one line, without a last line feed, with a long comment that is cut into sections, and with
+/// blank lines.
 #[test]
 fn graphs_are_the_same_in_sections(rt: HostRuntime) -> Result<(), Fail> {
     let alloc = rt.alloc();
@@ -60,7 +61,7 @@ fn graphs_are_the_same_in_sections(rt: HostRuntime) -> Result<(), Fail> {
     Ok(())
 }
 
-/// Both parts of a saved hierarchy keep the order of their lines, however these are mixed.
+/// The order and the legs of a saved hierarchy each keep the order of their lines, even if these are mixed.
 #[test]
 fn saved_hierarchies_are_the_same_in_sections(rt: HostRuntime) -> Result<(), Fail> {
     let alloc = rt.alloc();
@@ -89,7 +90,8 @@ fn saved_hierarchies_are_the_same_in_sections(rt: HostRuntime) -> Result<(), Fai
     Ok(())
 }
 
-/// Faults before, at and behind cuts are told with their lines, the first alone, and totals by the whole file.
+/// A fault before, at or after a cut is reported with its line. Only the first fault is reported, and
+/// totals count the whole file.
 #[test]
 fn faults_are_the_same_in_sections(rt: HostRuntime) -> Result<(), Fail> {
     let alloc = rt.alloc();
@@ -163,8 +165,8 @@ fn faults_are_the_same_in_sections(rt: HostRuntime) -> Result<(), Fail> {
     Ok(())
 }
 
-/// Sections pass no gate of the caller. The file is read when any one request for memory is refused: the reader
-/// answers `NoMemory` then, and asked again it answers as with ample memory.
+/// Sections do not pass the caller's gate. It holds if any one request for memory is refused: the reader
+/// answers `NoMemory`, and a second call answers as with enough memory.
 #[test]
 fn sections_are_read_refused_in_turn(rt: HostRuntime) -> Result<(), Fail> {
     let alloc = rt.alloc();

@@ -1,5 +1,5 @@
-//! Boards that two threads share: every number is claimed once, the least offer stays, and a look sees the
-//! other's offer.
+//! Boards that two threads share. Each number is claimed once, a cell keeps the least offer, and a look
+//! shows the offer of the other thread.
 ghost use Rattle.std.specs.Prelude.{◌<◌};
 ghost use Rattle.ch_work.specs.Passes.{size_of, IsPassOf};
 
@@ -7,7 +7,7 @@ use ch_work::{Board, Pass};
 use std::test::Fail;
 use std::thread::join;
 
-/// Which of three numbers the pass claimed, and the pass.
+/// Claims numbers until none is left. Returns which of three numbers the pass claimed, and the pass.
 fn claim_all(board: &Board, pass: Pass) -> ([bool; 3], Pass)
     requires { IsPassOf board.now pass }
     ensures { IsPassOf board.now result.1 }
@@ -25,7 +25,7 @@ fn claim_all(board: &Board, pass: Pass) -> ([bool; 3], Pass)
     (seen, pass)
 }
 
-/// Claims all that it can, and offers 9.
+/// Claims numbers until none is left, and offers 9.
 fn offer_nine(board: &Board, pass: Pass) -> ([bool; 3], Pass)
     requires { IsPassOf board.now pass × (0 < (size_of board.now).cells) }
     ensures { IsPassOf board.now result.1 }
@@ -35,7 +35,7 @@ fn offer_nine(board: &Board, pass: Pass) -> ([bool; 3], Pass)
     (seen, pass)
 }
 
-/// Claims all that it can, offers 7, and then looks.
+/// Claims numbers until none is left, offers 7, and then looks.
 fn offer_seven(board: &Board, pass: Pass) -> ([bool; 3], Option<u64>, Pass)
     requires { IsPassOf board.now pass × (0 < (size_of board.now).cells) }
     ensures { IsPassOf board.now result.2 }

@@ -1,4 +1,4 @@
-//! Jobs that lower cells, at a concrete type, and what no clause says: that the calls succeed, and that two
+//! Jobs that lower cells, with a concrete type. They test what no clause says: the calls succeed, and two
 //! pieces are under way at once.
 ghost use Rattle.std.specs.Prelude.{◌≡◌, ℕ, ◌+◌, ◌*◌, ◌<◌, ◌≤◌};
 
@@ -68,7 +68,7 @@ fn the_least_weight_that_is_owed_stands(rt: HostRuntime) -> Result<(), Fail> {
     Ok(())
 }
 
-/// The cells of a board of one cell, to which two passes offered 9 and 7.
+/// Returns the cells of a board of one cell. Two passes offered 9 and 7 to it.
 fn offered_twice(alloc: Global) -> Result<Vec<Option<u64>>, AllocError> {
     let (board, mut passes) = Board::new(alloc, 3, 1, 2)?;
     let mut back = Vec::with_capacity(alloc, 2)?;
@@ -82,8 +82,8 @@ fn offered_twice(alloc: Global) -> Result<Vec<Option<u64>>, AllocError> {
     Err(AllocError)
 }
 
-/// It holds when any one request for memory is refused: the call that meets the refusal answers `AllocError`, and
-/// called again answers as with ample memory.
+/// It holds if any one request for memory is refused. The call that is refused answers `AllocError`. Made
+/// again, it answers as with enough memory.
 #[test]
 fn refused_in_turn(rt: HostRuntime) -> Result<(), Fail> {
     let alloc = rt.alloc();

@@ -1,4 +1,4 @@
-//! Jobs with rooms at concrete types, and what no clause says: how many rooms are made.
+//! Jobs with rooms, with concrete types. They test what no clause says: the number of rooms that are made.
 ghost use Rattle.std.specs.Prelude.{◌≡◌, ◌+◌, ◌<◌, ◌^◌, [], ◌∷◌, length, All, IfOk};
 ghost use Rattle.std.specs.List.{AllZip};
 
@@ -10,8 +10,9 @@ use std::sync::atomic::{AtomicU64, Ordering};
 use std::test::Fail;
 use std::thread::Threads;
 
-/// The value of a range is its last number and one more, noted in the room and wiped from it. It counts the
-/// rooms that it made, of which it has memory for so many.
+/// A job whose value of a range is its end, which is written into the room and removed again.
+///
+/// It counts its calls for a room, and refuses memory for more than `most` rooms.
 #[derive(Drop)]
 struct Ends {
     items: u32,
@@ -49,7 +50,7 @@ impl RoomJob for Ends {
     }
 }
 
-/// The ends of ten items in pieces of three.
+/// Returns the ends of ten items in pieces of three.
 fn run_ends<R: Threads + Sync>(
     rt: &R,
     alloc: Global,
@@ -63,7 +64,7 @@ fn run_ends<R: Threads + Sync>(
     run_pieces_with_rooms(&crew(rt, alloc, &plan, &Open), 10, job)
 }
 
-/// The rooms that a job has memory for, none made yet.
+/// Makes a job that has memory for `most` rooms and has made none yet.
 fn job_with(most: u64) -> Ends
     ensures { result.items ≡ 10 }
 {
@@ -74,7 +75,7 @@ fn job_with(most: u64) -> Ends
     }
 }
 
-/// Where there is no memory for the last room, that is answered.
+/// If there is no memory for the last room, the call answers that.
 #[test]
 fn each_worker_makes_a_room(rt: HostRuntime) -> Result<(), Fail> {
     for workers in [1, 2, 64] {
@@ -89,7 +90,7 @@ fn each_worker_makes_a_room(rt: HostRuntime) -> Result<(), Fail> {
     Ok(())
 }
 
-/// Each number once more than it is, by a room of one place.
+/// A job that adds `step` to each number, in a room of one place.
 #[derive(Drop)]
 struct Successors {
     step: u32,
@@ -120,7 +121,7 @@ impl ListJob for Successors {
     }
 }
 
-/// The successors of the numbers: no answer is needed for a caller's proof.
+/// Returns the successors of the numbers. The proof of a caller needs no answers of its own.
 fn run_successors<R: Threads + Sync>(
     rt: &R,
     alloc: Global,
@@ -152,7 +153,7 @@ fn a_list_has_its_values_in_order(rt: HostRuntime) -> Result<(), Fail> {
     Ok(())
 }
 
-/// The successors of two lists, in rooms that stay.
+/// Returns the successors of two lists, in rooms that stay.
 fn in_rooms_that_stay<R: Threads + Sync>(
     rt: &R,
     alloc: Global,
@@ -168,7 +169,7 @@ fn in_rooms_that_stay<R: Threads + Sync>(
     Ok((first, second))
 }
 
-/// It holds when any one request for memory is refused.
+/// It holds if any one request for memory is refused.
 #[test]
 fn lists_and_rooms_refused_in_turn(rt: HostRuntime) -> Result<(), Fail> {
     let alloc = rt.alloc();
