@@ -1,4 +1,4 @@
-//! A caller of the crates, as docs/CALLING.md shows it: from the bytes of a graph file to a distance.
+//! A caller of the crates, as in docs/CALLING.md: from the bytes of a graph file to a distance.
 ghost use Rattle.std.specs.Prelude.{◌≡◌, ◌≤◌, ◌⊎◌, IfOk};
 ghost use Rattle.ch_graph.specs.Graph.{Network};
 ghost use Rattle.ch_graph.specs.Walk.{IsAnswer};
@@ -26,11 +26,11 @@ enum Refused {
     Memory,
 }
 
-/// The least weight of a walk between two nodes of the graph that the file names, or `None` where there is no walk. Nodes are
-/// counted from 0.
+/// Returns the least weight of a walk between two nodes of the graph in the file, or `None` if there is no
+/// walk. Nodes are counted from 0.
 ///
 /// # Errors
-/// The first fault of the file, a node out of range, or want of memory.
+/// The first fault of the file, a node that is out of range, or a lack of memory.
 fn distance_in<R: Threads + Sync>(
     rt: &R,
     alloc: Global,

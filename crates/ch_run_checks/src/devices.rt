@@ -1,4 +1,5 @@
-//! Devices: readings to the end and writings of a whole text, where a call moves little, is interrupted or fails.
+//! Devices. An input is read to its end and a text is written whole, over calls that move few bytes, are
+//! interrupted, or fail.
 ghost use Rattle.std.specs.Prelude.{◌≡◌};
 
 use ch_run::{
@@ -11,13 +12,13 @@ use std::test::Fail;
 
 const TEXT: &[u8] = b"d 1 3 9\nd 3 1 -\n";
 
-/// How many bytes of the text a device gives or takes at most: one, a few, all.
+/// How many bytes of the text a device moves at most in one call: one, a few, or all.
 const PARTS: [usize; 3] = [1, 3, 1000];
 
 #[test]
 fn an_input_is_read_to_its_end_or_to_a_read_that_fails(rt: HostRuntime) -> Result<(), Fail> {
     for most in PARTS {
-        // The last read gives no byte.
+        // The last read returns no byte.
         let reads = TEXT.len().div_ceil(most) as u64 + 1;
         for before in 0..reads {
             let mut input = MemoryInput::new(TEXT, most).failing_after(before);
@@ -36,7 +37,8 @@ fn an_input_is_read_to_its_end_or_to_a_read_that_fails(rt: HostRuntime) -> Resul
     Ok(())
 }
 
-/// Expects that the output takes so many bytes of the text, what it counts then, and whether it is closed.
+/// Expects that the output takes `count` bytes of the text. Also expects its counts of failures and of
+/// writes without a byte, and whether it is closed.
 fn expect_taken(
     rt: &impl Abort,
     output: MemoryOutput,
@@ -87,7 +89,7 @@ fn a_text_is_written_whole_or_up_to_a_write_that_fails(rt: HostRuntime) -> Resul
             expect_taken(&rt, output.idle_after(before as u64), count, (0, 1), false);
         }
     }
-    // One that is full takes no byte.
+    // An output that is full takes no byte.
     let output = MemoryOutput::new(rt.alloc(), 5, 3)?;
     expect_taken(&rt, output, 5, (0, 1), false);
     Ok(())
@@ -165,7 +167,8 @@ fn an_interrupted_call_is_made_again(rt: HostRuntime) -> Result<(), Fail> {
     Ok(())
 }
 
-/// A reader and a writer whose reads and flushes fail with an error of this kind, and whose writes do, or take all bytes.
+/// A reader and a writer whose reads and flushes fail with an error of this kind. Its writes fail too, or
+/// take all bytes.
 #[derive(Drop)]
 struct Broken {
     kind: ErrorKind,
@@ -191,7 +194,7 @@ impl Write for Broken {
     }
 }
 
-/// None of the bytes of a write are counted where its flush fails. A broken pipe closes the output.
+/// If the flush of a write fails, none of its bytes count. A broken pipe closes the output.
 #[test]
 fn a_call_that_fails_is_not_made_again(rt: HostRuntime) -> Result<(), Fail> {
     for (kind, closes) in [(ErrorKind::BrokenPipe, true), (ErrorKind::Other, false)] {

@@ -28,13 +28,13 @@ pub struct Files<'a> {
     pub asked: Asked<'a>,
 }
 
-/// What a run answered, and what its output took.
+/// The answer of a run, and its output.
 pub type Ended = (Result<(), RunFault>, MemoryOutput);
 
-/// How many bytes the devices of a run move at a call.
+/// How many bytes the devices of a run move at most in one call.
 const MOST: usize = 4096;
 
-/// Does what the run is asked for, over devices in memory.
+/// Runs what is asked for, over devices in memory.
 pub(crate) fn run<R: Threads + Sync>(
     rt: &R,
     alloc: Global,

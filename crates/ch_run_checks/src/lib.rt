@@ -1,8 +1,8 @@
-//! Tests of `ch_run` and `ch_line` by their public calls, of what no clause says: that the calls succeed, what comes of
-//! a request for memory that is refused, devices that fail in mid-stream, and workers that share a run.
+//! Tests of `ch_run` and `ch_line` through their public calls. They test what no clause says: calls
+//! succeed, memory is refused, devices fail in mid-stream, and workers share a run.
 //!
-//! They are in a crate of their own, because a crate with tests is proved twice.
-//! It stands on ch_contract, ch_graph, ch_line, ch_query, ch_read, ch_run, ch_words and ch_work.
+//! They are in a crate of their own, because a crate with tests is proved twice. It stands on ch_contract,
+//! ch_graph, ch_line, ch_query, ch_read, ch_run, ch_words and ch_work.
 #![tactic(auto)]
 
 #[cfg(test)]

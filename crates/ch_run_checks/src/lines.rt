@@ -1,4 +1,4 @@
-//! Lines over files in memory: each tool, by a hierarchy that is built and by a saved one.
+//! Lines over files in memory: each tool, with a hierarchy that is built and with a saved one.
 ghost use Rattle.std.specs.Prelude.{IfOk};
 ghost use Rattle.ch_words.specs.Line.{IsAllowed};
 
@@ -40,22 +40,22 @@ const ROUTES: &[u8] = b"d 1 3 9\nr 2\na 1 2 4\na 2 3 5\nd 3 1 -\n";
 
 const TABLE: &[u8] = b"t 1 9 4\nt 3 0 -\n";
 
-/// The nearest target of each source, and of each node.
+/// The nearest target of each source, and then of each node.
 const NEAR: &[u8] = b"n 1 1 2 4\nn 3 1 3 0\n";
 
 const NEAR_ALL: &[u8] = b"n 1 1 2 4\nn 2 1 2 0\nn 3 1 3 0\n";
 
-/// The same queries, lists and table as requests, and their answers.
+/// The same queries, lists and table as requests, and then their answers.
 const REQUESTS: &[u8] = b"q 1 3\nq 3 1\nt 2 2\ns 1\ns 3\ns 3\ns 2\n";
 
 const ANSWERS: &[u8] = b"d 1 3 9\nr 2\na 1 2 4\na 2 3 5\nd 3 1 -\nt 1 9 4\nt 3 0 -\n";
 
-/// The name of the graph, in memory of its own.
+/// Returns the name of the graph, in memory of its own.
 fn graph(alloc: Global) -> Result<String, AllocError> {
     String::from_str(alloc, "line.gr")
 }
 
-/// A line of this tool and of this saved hierarchy, with routes, and with one target in each near row.
+/// Makes a line of this tool and this saved hierarchy, with routes, and with one target in each near row.
 fn line_of(alloc: Global, tool: Tool, saved: Option<&str>) -> Result<Line, AllocError>
     ensures { IfOk result IsAllowed }
 {
@@ -80,7 +80,7 @@ fn line_of(alloc: Global, tool: Tool, saved: Option<&str>) -> Result<Line, Alloc
     })
 }
 
-/// Expects that a line's run over these files is done, and that it writes this text.
+/// Expects that the run of a line over these files succeeds, and writes this text.
 fn expect<R: Threads + Abort + Sync>(
     rt: &R,
     alloc: Global,

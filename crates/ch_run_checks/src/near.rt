@@ -1,4 +1,4 @@
-//! Near rows in both directions, within a limit, and of some targets alone.
+//! Near rows in both directions, within a limit, and with a limited number of targets.
 ghost use Rattle.ch_contract.specs.Legs.{IsHopBound};
 
 use crate::files::{Asked, Files, run};
@@ -9,7 +9,8 @@ use std::process::Abort;
 use std::test::Fail;
 use std::thread::Threads;
 
-/// Expects the rows of the sources, and those of all nodes, on the line: by the hierarchy that is built, and by the saved one.
+/// Expects the rows of the sources and the rows of all nodes on the line. It asks with a hierarchy that is
+/// built, and then with the saved one.
 fn expect_rows<R: Threads + Abort + Sync>(
     rt: &R,
     alloc: Global,
@@ -64,7 +65,7 @@ fn distances_come_from_the_targets(rt: HostRuntime) -> Result<(), Fail> {
     )
 }
 
-/// A distance of 4 is within a limit of 4, and of two targets within a limit the nearer one is told.
+/// A distance of 4 is within a limit of 4. With one target asked for, the nearer of two is reported.
 #[test]
 fn limits_and_counts_leave_targets_out(rt: HostRuntime) -> Result<(), Fail> {
     let within = Options {

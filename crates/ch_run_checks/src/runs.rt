@@ -1,4 +1,4 @@
-//! Each kind of run: by any plan, and with each request for memory refused.
+//! Each kind of run: with every plan, and with each request for memory refused.
 
 use crate::files::{Asked, Files, run};
 use ch_run::{Direction, Options, OrderBy, Plan, RunFault};
@@ -37,14 +37,16 @@ const TABLE: &[u8] = b"t 1 9 4\nt 1 9 4\nt 3 0 -\n";
 /// The targets that are near each node of the line.
 const NEAR_EACH: &[u8] = b"n 1 2 2 4 3 9\nn 2 2 2 0 3 5\nn 3 1 3 0\n";
 
-/// Four nodes, each of the others tied to the first, a query between two of these, and its answer with its route.
+/// A star of four nodes, with the first in the middle. A query between two of the others, and its answer
+/// with its route.
 pub const STAR: &[u8] = b"p sp 4 6\na 1 2 1\na 2 1 1\na 1 3 1\na 3 1 1\na 1 4 1\na 4 1 1\n";
 
 pub const ACROSS: &[u8] = b"p aux sp p2p 1\nq 3 4\n";
 
 const STAR_ROUTE: &[u8] = b"d 3 4 2\nr 2\na 3 1 1\na 1 4 1\n";
 
-/// A source and targets on the star, one of them twice, and the row of the source. It is one of four nodes, so it is searched from.
+/// A source and targets on the star, one of them twice, and the row of the source. The source is one of
+/// four nodes, so the run searches from it and makes no sweep.
 const END: &[u8] = b"p aux sp ss 1\ns 3\n";
 
 const TWICE: &[u8] = b"p aux sp ss 3\ns 4\ns 1\ns 4\n";
@@ -57,12 +59,13 @@ pub const LINE_SAVED: &[u8] = b"p ch 3 2\no 1\no 2\no 3\nl 1 2 4 1 0\nl 2 3 5 1 
 const STAR_SAVED: &[u8] =
     b"p ch 4 8\no 2\no 1\no 3\no 4\nl 2 1 1 1 0\nl 1 2 1 1 0\nl 1 3 1 1 0\nl 1 4 1 1 0\nl 3 1 1 1 0\nl 4 1 1 1 0\nl 3 4 2 2 1\nl 4 3 2 2 1\n";
 
-/// The table as requests, and the query as one, each with no line feed at the end.
+/// The table as requests, and the query as a request. Neither ends with a line feed.
 const TABLE_ASKED: &[u8] = b"t 3 2\ns 1\ns 1\ns 3\ns 3\ns 2";
 
 const QUERY_ASKED: &[u8] = b"q 3 4";
 
-/// Runs of each kind, with routes, and their texts. Each of those over requests has one answer, which is whole at the end.
+/// Runs of each kind, with routes, and their texts. Each run over requests has one answer, which is written
+/// at its end.
 const EACH_RUN: [(Files<'static>, &[u8]); 11] = [
     (
         Files {
@@ -169,8 +172,8 @@ fn no_plan_changes_a_byte(rt: HostRuntime) -> Result<(), Fail> {
     Ok(())
 }
 
-/// What a run answers and writes, made a second time where the first was refused memory. It has written
-/// nothing then.
+/// Makes a run, and makes it a second time if the first was refused memory. The first has then written
+/// nothing.
 macro_rules! again {
     ($rt:expr, $run:expr) => {
         match $run {

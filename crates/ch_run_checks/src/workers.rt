@@ -1,4 +1,4 @@
-//! Workers: two pieces of a run are under way at once, and runs go by the pieces of their layers.
+//! Workers: two pieces of a run are under way at once, and each layer passes the gate with its pieces.
 ghost use Rattle.ch_contract.specs.Legs.{IsHopBound};
 
 use crate::runs::{ACROSS, BY_HIERARCHY, LINE, LINE_SAVED, PLAIN, SOURCES, STAR, TARGETS};
@@ -11,10 +11,10 @@ use std::process::Abort;
 use std::test::Fail;
 use std::thread::Threads;
 
-/// How many bytes the devices of a run move at a call.
+/// How many bytes the devices of a run move at most in one call.
 const MOST: usize = 4096;
 
-/// Two workers, who share pieces of one item and pass this gate.
+/// Makes a crew of two workers that share pieces of one item and pass this gate.
 fn crew<'a, R, G>(rt: &'a R, alloc: Global, gate: &'a G) -> Crew<'a, R, G> {
     Crew {
         rt,
@@ -24,7 +24,8 @@ fn crew<'a, R, G>(rt: &'a R, alloc: Global, gate: &'a G) -> Crew<'a, R, G> {
     }
 }
 
-/// By a saved hierarchy the only pieces of a run are those of its answers.
+/// The check of the saved hierarchy passes the gate too, with a piece for each node. So the two pieces that
+/// meet may be pieces of the check.
 #[test]
 fn two_queries_are_answered_at_once(rt: HostRuntime) -> Result<(), Fail> {
     let gate = MeetingGate::new();
@@ -60,8 +61,8 @@ fn two_nodes_of_a_table_are_searched_at_once(rt: HostRuntime) -> Result<(), Fail
     Ok(())
 }
 
-/// Expects how often each of the first five pieces passes in a run with two workers and pieces of one item, which answers the
-/// query from 3 to 4 on the star.
+/// Expects how often each of the first five pieces passes the gate in a run. The run has two workers and
+/// pieces of one item, and answers the query from 3 to 4 on the star.
 fn expect_passes<R: Threads + Abort + Sync>(
     rt: &R,
     alloc: Global,
@@ -87,7 +88,7 @@ fn expect_passes<R: Threads + Abort + Sync>(
     Ok(())
 }
 
-/// Four priorities and one query are pieces of a run by the hierarchy; a plain run has none.
+/// A run with the hierarchy has four pieces for priorities and one for the query. A plain run has none.
 #[test]
 fn a_run_goes_by_the_pieces_of_its_layers(rt: HostRuntime) -> Result<(), Fail> {
     expect_passes(&rt, rt.alloc(), &BY_HIERARCHY, [2, 1, 1, 1, 0])?;
