@@ -4,4 +4,5 @@ pub mod LegCosts
 pub mod ArcRows
 pub mod Pairs
 pub mod Firsts
+pub mod Found
 pub mod Checked

@@ -11,6 +11,7 @@ ghost use Rattle.ch_query.specs.Checking.{IsArcIfBase, IsIfFault, IsOkWhere, Nam
 ghost use Rattle.ch_query.specs.Covering.{IsFirstUncovered};
 
 use crate::founding::{first_false_shortcut, first_unserved, first_without_arc};
+use crate::founding_jobs::{are_served, are_sums, have_arcs};
 use crate::lower::{first_uncovered, first_uncovered_alone};
 use ch_graph::{Graph, Saved};
 use ch_hierarchy::{CheckError, CheckFault, Hierarchy, assemble};
@@ -42,7 +43,7 @@ pub fn check<R: Threads + Sync, G: Gate>(
     ensures hierarchy { IfOk result (NamesKept graph.now saved.now) }
     ensures fault { (f : AnyFault) → AnswersWhere result (Err (CheckError.Fault f)) (IsFirstFault graph.now saved.now f) }
 {
-    let hierarchy = founded(crew.alloc, graph, saved)?;
+    let hierarchy = founded_by(crew, graph, saved)?;
     covered(crew, hierarchy)
 }
 
@@ -63,7 +64,7 @@ pub fn check_watched<R: Threads + Sync, G: Gate>(
 {
     crew.gate
         .watch(Stage::Checking, 0, crew.plan.pieces(graph.nodes()));
-    let hierarchy = founded(crew.alloc, graph, &saved)?;
+    let hierarchy = founded_by(crew, graph, &saved)?;
     drop(saved);
     covered(crew, hierarchy)
 }
@@ -94,6 +95,47 @@ fn founded(alloc: Global, graph: &Graph, saved: &Saved) -> Result<Hierarchy, Che
         Some(fault) => Err(CheckError::Fault(fault)),
         None => Ok(hierarchy),
     }
+}
+
+/// Like [`founded`], by the workers of a crew. If they find a fault, one worker looks for the first one.
+fn founded_by<R: Threads + Sync, G: Gate>(
+    crew: &Crew<'_, R, G>,
+    graph: &Graph,
+    saved: &Saved,
+) -> Result<Hierarchy, CheckError>
+    ensures value { IfOk result (NamesFounded graph.now saved.now) }
+    ensures fault { IfErr result (IsIfFault (IsFirstFault graph.now saved.now)) }
+{
+    if crew.plan.workers() > 1 {
+        if let Some(hierarchy) = founded_by_all(crew, graph, saved)? {
+            return Ok(hierarchy);
+        }
+    }
+    founded(crew.alloc, graph, saved)
+}
+
+/// Returns the hierarchy that a saved one names, if the workers of a crew find no fault.
+fn founded_by_all<R: Threads + Sync, G: Gate>(
+    crew: &Crew<'_, R, G>,
+    graph: &Graph,
+    saved: &Saved,
+) -> Result<Option<Hierarchy>, CheckError>
+    ensures value { IfOk result (λ found. MatchOption found (Unit {0}) (NamesFounded graph.now saved.now)) }
+    ensures fault { IfErr result (IsIfFault (IsFirstFault graph.now saved.now)) }
+{
+    let legs = saved.legs.as_slice();
+    let arcs = graph.arcs();
+    if u32::try_from(legs.len()).is_err() || u32::try_from(arcs.len()).is_err() {
+        return Ok(None);
+    }
+    if !have_arcs(crew, graph, legs)? {
+        return Ok(None);
+    }
+    let hierarchy = assemble(crew.alloc, graph, saved)?;
+    if !are_sums(crew, &hierarchy, legs)? || !are_served(crew, &hierarchy, arcs)? {
+        return Ok(None);
+    }
+    Ok(Some(hierarchy))
 }
 
 /// Returns the first fault of a leg or an arc with respect to the named hierarchy. `baseless` is the place

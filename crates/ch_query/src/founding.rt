@@ -32,7 +32,7 @@ pub(crate) fn first_without_arc(
 }
 
 /// Whether the leg has a middle, or is an arc of the graph with these rows.
-fn is_arc_if_base(rows: &Rows<InArc>, leg: SavedLeg) -> bool
+pub(crate) fn is_arc_if_base(rows: &Rows<InArc>, leg: SavedLeg) -> bool
     requires { (g : Network) × AreArcRows g rows.now }
     ensures { (g : Network) → IsWithinLimits g → AreArcRows g rows.now → (IsTrue result ↔ IsArcIfBase g leg) }
 {
@@ -60,7 +60,7 @@ pub(crate) fn first_false_shortcut(hierarchy: &Hierarchy, legs: &[SavedLeg]) -> 
 }
 
 /// Whether the leg has no middle, or is the sum of the two legs of its middle.
-fn is_sum_if_shortcut(hierarchy: &Hierarchy, leg: SavedLeg) -> bool
+pub(crate) fn is_sum_if_shortcut(hierarchy: &Hierarchy, leg: SavedLeg) -> bool
     ensures { IsTrue result ↔ IsSumIfShortcut hierarchy.now leg }
 {
     match leg.middle {
@@ -100,7 +100,7 @@ pub(crate) fn first_unserved(hierarchy: &Hierarchy, arcs: &[InArc]) -> Option<us
 }
 
 /// Whether the arc is a loop, or has a leg that costs at most as much.
-fn is_served(hierarchy: &Hierarchy, arc: InArc) -> bool
+pub(crate) fn is_served(hierarchy: &Hierarchy, arc: InArc) -> bool
     requires from { arc.from < nodes_of hierarchy.now }
     requires to { arc.to < nodes_of hierarchy.now }
     ensures { IsTrue result ↔ IsServed hierarchy.now arc }

@@ -25,6 +25,7 @@ mod checking;
 mod covering;
 mod descent;
 mod founding;
+mod founding_jobs;
 mod labels;
 pub mod laws;
 mod legs;
