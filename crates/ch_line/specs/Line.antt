@@ -6,7 +6,7 @@ use Rattle.ch_near.specs.declared.direction.Direction.TheVariants.{To, From}
 use Rattle.ch_run.specs.declared.options.Options.{Options}
 use Rattle.ch_run.specs.declared.fault.Which.{Which}
 use Rattle.ch_run.specs.declared.fault.RunFault.{RunFault}
-use Rattle.ch_run.specs.Device.{CountsAtMostOne, CountsAtMostOneOf}
+use Rattle.ch_text.specs.Device.{CountsAtMostOne, CountsAtMostOneOf}
 use Rattle.ch_run.specs.Run.{IsWrite, Reading}
 use Rattle.ch_words.specs.declared.line.Choices.{Choices}
 use Rattle.ch_words.specs.declared.line.Line.{Line}

@@ -2,7 +2,7 @@
 
 ghost use Rattle.std.specs.Prelude.{◌≡◌, ◌<◌, ◌↔◌, ◌⊎◌, Err, IsErrAnd};
 ghost use Rattle.ch_contract.specs.Legs.{IsHopBound};
-ghost use Rattle.ch_run.specs.Device.{CanCountOneMore, CountsAtMostOne, CountsAtMostOneOf};
+ghost use Rattle.ch_text.specs.Device.{CanCountOneMore, CountsAtMostOne, CountsAtMostOneOf};
 ghost use Rattle.ch_run.specs.Run.{IsWrite};
 ghost use Rattle.ch_run.specs.declared.fault.Which.{Which as WhichInput};
 ghost use Rattle.ch_line.specs.Inputs.{AreFresh, EndsFor, HasFailedRead, Writes, task_of};

@@ -14,8 +14,10 @@ use Rattle.ch_read.specs.Reading.{capped_number}
 use Rattle.ch_read.specs.Requests.{query_from}
 use Rattle.ch_run.specs.declared.fault.RunFault.{RunFault}
 use Rattle.ch_run.specs.declared.options.Options.{Options}
-use Rattle.ch_run.specs.Device.{HasTaken}
-use Rattle.ch_run.specs.Text.{HasText, IsTextBy, AnswersShortly, AnswersWithRoute, answer_text, writes_routes}
+use Rattle.ch_text.specs.Device.{HasTaken}
+use Rattle.ch_text.specs.Distances.{AnswersShortly, HasText, distance_text}
+use Rattle.ch_run.specs.Text.{IsTextBy, writes_routes}
+use Rattle.ch_text.specs.Routes.{AnswersWithRoute, answer_text}
 use Rattle.ch_run.specs.Ask.{AreAnswered, IsRequestText, TookAnswers}
 use Rattle.ch_run.specs.declared.run.batch.Then.{Then}
 use Rattle.ch_run.specs.declared.run.batch.Then.TheVariants.{Table, More, Nothing, Stop}
@@ -36,17 +38,17 @@ all_zipped_append P (x ∷ xs) (t ∷ ts) ys us h k = (h.0, all_zipped_append P 
 
 -- queries that are answered together are answered one by one
 
-module _ (P : ℕ × ℕ → Answer → Type 0) where
+module _ (written : Answer → List ℕ) (P : ℕ × ℕ → Answer → Type 0) where
   -- the texts of the answers, each by itself
-  each_text : (queries : List (ℕ × ℕ)) (answers : List Answer) → AllZip P queries answers → AllZip (λ query text. HasText P (query ∷ []) text) queries (map answer_text answers)
+  each_text : (queries : List (ℕ × ℕ)) (answers : List Answer) → AllZip P queries answers → AllZip (λ query text. HasText written P (query ∷ []) text) queries (map written answers)
   each_text [] [] h = tt
   each_text [] (a ∷ answers) h = absurd h
   each_text (q ∷ queries) [] h = absurd h
-  each_text (q ∷ queries) (a ∷ answers) h = ((a ∷ [], (h.0, tt), sym (append-nil (answer_text a))), each_text queries answers h.1)
+  each_text (q ∷ queries) (a ∷ answers) h = ((a ∷ [], (h.0, tt), sym (append-nil (written a))), each_text queries answers h.1)
 
-together : (answers : List Answer) → flat_map answer_text answers ≡ concat (map answer_text answers)
-together [] = refl
-together (a ∷ answers) = ap (λ r. answer_text a ++ r) (together answers)
+together : (written : Answer → List ℕ) (answers : List Answer) → flat_map written answers ≡ concat (map written answers)
+together written [] = refl
+together written (a ∷ answers) = ap (λ r. written a ++ r) (together written answers)
 
 -- what holds of all pairs of two lists holds of all where the first list is turned into another
 all_turned : {A B C : Type 0} (P : A → C → Type 0) (Q : B → C → Type 0) (f : A → B) → ((x : A) (z : C) → P x z → Q (f x) z) → (xs : List A) (zs : List C) → AllZip P xs zs → AllZip Q (map f xs) zs
@@ -59,13 +61,13 @@ all_turned P Q f so (x ∷ xs) (z ∷ zs) h = (so x z h.0, all_turned P Q f so x
 split_by : (routes : Bool) (g : Network) (From : LevelsAndLegs → Type 0) (queries : List (ℕ × ℕ)) (text : List ℕ) → IsTextBy routes g From queries text →
     (texts : List (List ℕ)) × AllZip (λ query each. IsTextBy routes g From (query ∷ []) each) queries texts × (text ≡ concat texts)
 split_by false g From queries text h =
-    (map answer_text h.0, each_text (AnswersShortly g) queries h.0 h.1, h.2 ∙ together h.0)
+    (map distance_text h.0, each_text distance_text (AnswersShortly g) queries h.0 h.1, h.2 ∙ together distance_text h.0)
 split_by true g From queries text h =
     let H = h.0 in
     let answers = h.2.0 in
-    let each = each_weaker (λ query one. HasText (AnswersWithRoute g H) (query ∷ []) one) (λ query one. IsTextBy true g From (query ∷ []) one)
-    (λ query one is. (H, h.1, is)) queries (map answer_text answers) (each_text (AnswersWithRoute g H) queries answers h.2.1) in
-    (map answer_text answers, each, h.2.2 ∙ together answers)
+    let each = each_weaker (λ query one. HasText answer_text (AnswersWithRoute g H) (query ∷ []) one) (λ query one. IsTextBy true g From (query ∷ []) one)
+    (λ query one is. (H, h.1, is)) queries (map answer_text answers) (each_text answer_text (AnswersWithRoute g H) queries answers h.2.1) in
+    (map answer_text answers, each, h.2.2 ∙ together answer_text answers)
 
 pub split_answers : (options : Options) (g : Network) (From : LevelsAndLegs → Type 0) (queries : List (ℕ × ℕ)) (text : List ℕ) → IsTextBy (writes_routes options) g From queries text →
     AreAnswered (IsRequestText options g From) (map query_from queries) text

@@ -6,7 +6,7 @@ use Rattle.ch_run.specs.declared.fault.RunFault.{RunFault}
 use Rattle.ch_run.specs.declared.run.batch.Then.{Then}
 use Rattle.ch_run.specs.declared.run.batch.Then.TheVariants.{Table, More, Nothing, Stop}
 use Rattle.ch_run.specs.declared.fault.Which.{Which}
-use Rattle.ch_run.specs.Device.{CountsAtMostOneOf}
+use Rattle.ch_text.specs.Device.{CountsAtMostOneOf}
 use Rattle.ch_run.specs.Run.{IsWrite}
 use Rattle.ch_run.specs.Serving.{CountsWrites, IsWithin, end_of, refused_writes}
 

@@ -1,9 +1,7 @@
 pub mod Texts
-pub mod Bytes
 pub mod Inputs
 pub mod OneText
 pub mod Tables
-pub mod Saving
 pub mod OneSavedText
 pub mod Writes
 pub mod ReadBack

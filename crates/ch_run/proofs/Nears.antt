@@ -18,7 +18,8 @@ use Rattle.ch_near.specs.Direction.{facing}
 use Rattle.ch_near.specs.Near.{Wanted, IsNearRow, IsNearestRow}
 use Rattle.ch_run.specs.declared.options.Options.{Options}
 use Rattle.ch_run.specs.NearRows.{HasNearRows}
-use Rattle.ch_run.specs.NearText.{IsNearTextFor, near_row_text, nodes_in_order}
+use Rattle.ch_run.specs.Text.{IsNearTextFor}
+use Rattle.ch_text.specs.NearText.{near_row_text, nodes_in_order}
 use Rattle.ch_run.proofs.Texts.{each_weaker}
 
 -- the row of a source as it is wanted

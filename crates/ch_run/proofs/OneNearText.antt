@@ -5,7 +5,8 @@ use Rattle.ch_graph.specs.Graph.{Network}
 use Rattle.ch_near.specs.Near.{IsNearestRow, IsWalkTo}
 use Rattle.ch_near.proofs.OneFirst.{one_first}
 use Rattle.ch_run.specs.declared.options.Options.{Options}
-use Rattle.ch_run.specs.NearText.{IsNearTextFor, near_row_text, nodes_in_order}
+use Rattle.ch_run.specs.Text.{IsNearTextFor}
+use Rattle.ch_text.specs.NearText.{near_row_text, nodes_in_order}
 use Rattle.ch_run.specs.NearTextLaws.{AllNearRowsHaveOneText, NearRowsHaveOneText, SavedAllNearRowsAreThoseOfTheGraph, SavedNearRowsAreThoseOfTheGraph}
 use Rattle.ch_run.specs.Run.{ReadsNodes}
 use Rattle.ch_run.proofs.OneText.{one_list, same_graph, same_nodes}

@@ -16,8 +16,8 @@ use Rattle.ch_run.specs.Run.{Reading, ReadsNodes, ReadsQueries}
 use Rattle.ch_run.specs.SavedRun.{AreChecked, ReadsSaved}
 use Rattle.ch_run.specs.SavedTextLaws.{SavedAnswersHaveOneText, SavedTablesHaveOneText, HierarchiesHaveOneText}
 use Rattle.ch_hierarchy.specs.Written.{written}
-use Rattle.ch_run.specs.SaveText.{IsHierarchyText, saved_text}
-use Rattle.ch_run.specs.TableText.{IsTableText}
+use Rattle.ch_text.specs.SaveText.{IsHierarchyText, saved_text}
+use Rattle.ch_text.specs.TableText.{IsTableText}
 use Rattle.ch_run.specs.Text.{IsTextBy}
 use Rattle.ch_run.proofs.OneText.{given_bytes, one_table_text, one_text_by, same_graph, same_nodes, same_queries}
 

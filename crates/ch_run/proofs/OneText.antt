@@ -16,10 +16,12 @@ use Rattle.ch_query.specs.declared.answer.Answer.{Answer}
 use Rattle.ch_query.specs.declared.routes.Route.{Route}
 use Rattle.ch_query.specs.Answers.{HasArcs}
 use Rattle.ch_query.proofs.routing.RouteWalks.{route_one}
-use Rattle.ch_run.specs.Text.{AnswersShortly, AnswersWithRoute, HasText, IsText, IsTextBy, answer_text}
+use Rattle.ch_text.specs.Distances.{AnswersShortly, HasText, distance_text}
+use Rattle.ch_text.specs.Routes.{AnswersWithRoute, answer_text}
+use Rattle.ch_run.specs.Text.{IsText, IsTextBy}
 use Rattle.ch_query.specs.Limits.{IsCut}
-use Rattle.ch_run.specs.TableText.{IsCell, IsTableRow, IsTableText, row_text}
-use Rattle.ch_run.specs.Device.{HasGiven}
+use Rattle.ch_text.specs.TableText.{IsCell, IsTableRow, IsTableText, row_text}
+use Rattle.ch_text.specs.Device.{HasGiven}
 use Rattle.ch_run.specs.Run.{Reading, ReadsGraph, ReadsNodes, ReadsQueries}
 use Rattle.ch_run.specs.TextLaws.{AnswersHaveOneText, TablesHaveOneText}
 use Rattle.ch_read.specs.Names.{NamesGraph, NamesNodes, NamesQueries}
@@ -95,16 +97,16 @@ one_routed g H kept query a b h k =
     same_answers a b (h.answers.from ∙ sym k.answers.from) (h.answers.to ∙ sym k.answers.to) weight arcs
 
 -- where each query has one answer there is one text
-one_answers_text : (P : ℕ × ℕ → Answer → Type 0) → ((q : ℕ × ℕ) (a b : Answer) → P q a → P q b → a ≡ b) → (queries : List (ℕ × ℕ)) (text other : List ℕ) → HasText P queries text → HasText P queries other → text ≡ other
-one_answers_text P one queries text other h k = h.2 ∙ ap (flat_map answer_text) (one_list P one queries h.0 k.0 h.1 k.1) ∙ sym k.2
+one_answers_text : (written : Answer → List ℕ) (P : ℕ × ℕ → Answer → Type 0) → ((q : ℕ × ℕ) (a b : Answer) → P q a → P q b → a ≡ b) → (queries : List (ℕ × ℕ)) (text other : List ℕ) → HasText written P queries text → HasText written P queries other → text ≡ other
+one_answers_text written P one queries text other h k = h.2 ∙ ap (flat_map written) (one_list P one queries h.0 k.0 h.1 k.1) ∙ sym k.2
 
 -- the answers have one text, where the routes are by one hierarchy, which is kept
 pub one_text_by : (routes : Bool) (g : Network) (From : LevelsAndLegs → Type 0) → ((H K : LevelsAndLegs) → From H → From K → H ≡ K) → ((H : LevelsAndLegs) → From H → IsKept g H) →
     (queries : List (ℕ × ℕ)) (text other : List ℕ) → IsTextBy routes g From queries text → IsTextBy routes g From queries other → text ≡ other
-one_text_by false g From one kept queries text other t u = one_answers_text (AnswersShortly g) (one_short g) queries text other t u
+one_text_by false g From one kept queries text other t u = one_answers_text distance_text (AnswersShortly g) (one_short g) queries text other t u
 one_text_by true g From one kept queries text other t u =
     let same : u.0 ≡ t.0 = one u.0 t.0 u.1 t.1 in
-    one_answers_text (AnswersWithRoute g t.0) (one_routed g t.0 (kept t.0 t.1)) queries text other t.2 (subst (λ (H : LevelsAndLegs). HasText (AnswersWithRoute g H) queries other) same u.2)
+    one_answers_text answer_text (AnswersWithRoute g t.0) (one_routed g t.0 (kept t.0 t.1)) queries text other t.2 (subst (λ (H : LevelsAndLegs). HasText answer_text (AnswersWithRoute g H) queries other) same u.2)
 
 -- a graph is named by its bytes
 pub same_graph : (graph : Reading) (bytes : List ℕ) (g h : Network) → graph.before ≡ Some bytes → ReadsGraph graph g → ReadsGraph graph h → g ≡ h

@@ -30,7 +30,7 @@ use Rattle.ch_hierarchy.proofs.theory.SavedLevels.{in_row_below}
 use Rattle.ch_hierarchy.proofs.theory.WrittenLegs.{written_names, written_kept}
 use Rattle.ch_contract.proofs.theory.BuiltKept.{hierarchies_kept}
 use Rattle.ch_run.specs.SavedTextLaws.{HierarchyTextsReadBack, SavedTextsReadBack}
-use Rattle.ch_run.specs.SaveText.{middle_text, order_text, leg_text, saved_text}
+use Rattle.ch_text.specs.SaveText.{middle_text, order_text, leg_text, saved_text}
 
 -- the text is that of lines of words
 

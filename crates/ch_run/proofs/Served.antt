@@ -15,7 +15,7 @@ use Rattle.ch_read.specs.Requests.{Gives, IsErrorAhead, IsUsedUp, MayCome, Stand
 use Rattle.ch_read.proofs.RequestsHeldBack.{not_held_back}
 use Rattle.ch_run.specs.declared.fault.RunFault.{RunFault}
 use Rattle.ch_run.specs.declared.fault.Which.{Which}
-use Rattle.ch_run.specs.Device.{GivesBytes, HasGiven, HasRead}
+use Rattle.ch_text.specs.Device.{GivesBytes, HasGiven, HasRead}
 use Rattle.ch_run.specs.Run.{Reading, IsWrite}
 use Rattle.ch_run.specs.Ask.{IsOfServing, IsRequestText, Serves, TellsThen, TookAnswers, whole_in}
 use Rattle.ch_run.specs.declared.run.batch.Then.TheVariants.{Table, More, Nothing, Stop}

@@ -1,7 +1,7 @@
--- Texts that grow item by item, and the texts of answers.
-use Rattle.std.proofs.Common.{◌≡◌, ℕ, ◌+◌, ◌<◌, ◌≤◌, Bool, true, false, List, [], ◌∷◌, ◌++◌, length, take, get_or, Option, Some, None, refl, sym, ap, ◌∙◌, subst, arith}
-use Rattle.std.proofs.lemmas.List.{take_more, take_all, flat_map_more}
-use Rattle.std.proofs.lemmas.Slice.Zip.{all_zipped_more, length-zip, get_or-zip}
+-- The texts of answers.
+use Rattle.std.proofs.Common.{◌≡◌, ℕ, ◌+◌, ◌<◌, Bool, true, false, List, [], ◌∷◌, ◌++◌, length, take, get_or, Option, Some, None, refl, sym, ap, ap₂, ◌∙◌, subst}
+use Rattle.std.proofs.lemmas.List.{append-nil, take_more}
+use Rattle.std.proofs.lemmas.Slice.Zip.{all_zipped_more}
 use Rattle.std.specs.List.{AllZip, zip, flat_map}
 use Rattle.ch_graph.specs.declared.arc.InArc.{InArc}
 use Rattle.ch_graph.specs.Graph.{Network, IsWithinLimits}
@@ -16,36 +16,30 @@ use Rattle.ch_query.specs.Routes.{IsLeastWalk}
 use Rattle.ch_query.proofs.routing.RouteWalks.{route_least_walk}
 use Rattle.ch_query.specs.Limits.{IsDistanceWithin}
 use Rattle.ch_table.specs.Table.{IsRowBy}
-use Rattle.ch_run.specs.Text.{Answers, AnswersShortly, AnswersWithRoute, IsTextBy, answer_text}
-use Rattle.ch_run.specs.TableText.{IsCell, IsTableRow, IsTableText, row_text}
-
--- one more item is written
-pub grown : {X : Type 0} (f : X → List ℕ) (items : List X) (i : ℕ) (d : X) (start before after : List ℕ) → i < length items →
-    before ≡ start ++ flat_map f (take i items) → after ≡ before ++ f (get_or items i d) → after ≡ start ++ flat_map f (take (i + 1) items)
-grown f items i d start before after within so_far more =
-    more ∙ ap (λ t. t ++ f (get_or items i d)) so_far ∙ flat_map_more f start (take i items) (get_or items i d) ∙ ap (λ xs. start ++ flat_map f xs) (sym (take_more items i d within))
-
--- all items are written
-pub all_grown : {X : Type 0} (f : X → List ℕ) (items : List X) (i : ℕ) (start text : List ℕ) → length items ≤ i → text ≡ start ++ flat_map f (take i items) → text ≡ start ++ flat_map f items
-all_grown f items i start text past so_far = so_far ∙ ap (λ xs. start ++ flat_map f xs) (take_all i items past)
-
--- one more row is written
-pub row_grown : {X Y : Type 0} (f : X × Y → List ℕ) (xs : List X) (ys : List Y) (i : ℕ) (d : X) (e : Y) (start before after : List ℕ) → i < length xs → length ys ≡ length xs →
-    before ≡ start ++ flat_map f (take i (zip xs ys)) → after ≡ before ++ f (get_or xs i d, get_or ys i e) → after ≡ start ++ flat_map f (take (i + 1) (zip xs ys))
-row_grown f xs ys i d e start before after within same so_far more =
-    let inside : i < length ys = omega arith in
-    let long : i < length (zip xs ys) = let l = length-zip xs ys in omega arith in
-    grown f (zip xs ys) i (d, e) start before after long so_far (more ∙ ap (λ p. before ++ f p) (sym (get_or-zip xs ys i (d, e) within inside)))
-
--- all rows are written
-pub rows_grown : {X Y : Type 0} (f : X × Y → List ℕ) (xs : List X) (ys : List Y) (i : ℕ) (text : List ℕ) → length xs ≤ i → text ≡ flat_map f (take i (zip xs ys)) → text ≡ flat_map f (zip xs ys)
-rows_grown f xs ys i text past so_far = all_grown f (zip xs ys) i [] text (let l = length-zip xs ys in omega arith) so_far
+use Rattle.ch_text.specs.Distances.{Answers, AnswersShortly, IsDistanceText, distance_text}
+use Rattle.ch_text.specs.Routes.{AnswersWithRoute, answer_text, route_text}
+use Rattle.ch_run.specs.Text.{IsTextBy}
+use Rattle.ch_text.specs.TableText.{IsCell, IsTableRow, IsTableText, row_text}
 
 -- one more query is answered by its distance
 pub answered : (g : Network) (queries : List (ℕ × ℕ)) (i : ℕ) (d : ℕ × ℕ) (answers : List Answer) (a : Answer) → i < length queries →
     AllZip (AnswersShortly g) (take i queries) answers → AnswersShortly g (get_or queries i d) a → AllZip (AnswersShortly g) (take (i + 1) queries) (answers ++ a ∷ [])
 answered g queries i d answers a within so_far is =
     subst (λ qs. AllZip (AnswersShortly g) qs (answers ++ a ∷ [])) (sym (take_more queries i d within)) (all_zipped_more (AnswersShortly g) (take i queries) answers (get_or queries i d) a so_far is)
+
+-- an answer without arcs is written as its distance alone
+short_line : (g : Network) (query : ℕ × ℕ) (a : Answer) → AnswersShortly g query a → answer_text a ≡ distance_text a
+short_line g query a is = ap (λ arcs. distance_text a ++ route_text arcs) is.1 ∙ append-nil (distance_text a)
+
+short_lines : (g : Network) (queries : List (ℕ × ℕ)) (answers : List Answer) → AllZip (AnswersShortly g) queries answers → flat_map answer_text answers ≡ flat_map distance_text answers
+short_lines g [] [] h = refl
+short_lines g [] (a ∷ answers) h = absurd h
+short_lines g (q ∷ queries) [] h = absurd h
+short_lines g (q ∷ queries) (a ∷ answers) h = ap₂ ◌++◌ (short_line g q a h.0) (short_lines g queries answers h.1)
+
+-- answers without arcs, written out, are a text of distances
+pub short_text : (g : Network) (queries : List (ℕ × ℕ)) (answers : List Answer) (text : List ℕ) → AllZip (AnswersShortly g) queries answers → text ≡ flat_map answer_text answers → IsDistanceText g queries text
+short_text g queries answers text short is = (answers, short, is ∙ short_lines g queries answers short)
 
 -- what holds of all pairs of two lists, and implies something, gives that of all
 pub each_weaker : {A B : Type 0} (P Q : A → B → Type 0) → ((x : A) (y : B) → P x y → Q x y) → (xs : List A) (ys : List B) → AllZip P xs ys → AllZip Q xs ys
@@ -70,7 +64,8 @@ reply_walks g H limits kept s t (Some x) (Some xs) h arcs is =
 pub replies_text : (g : Network) (H : LevelsAndLegs) → IsWithinLimits g → IsKept g H → (routes : Bool) (queries : List (ℕ × ℕ)) (answers : List Answer) (text : List ℕ) →
     AllZip (IsReply H routes) queries answers → text ≡ flat_map answer_text answers → IsTextBy routes g (λ K. K ≡ H) queries text
 replies_text g H limits kept false queries answers text replies is =
-    (answers, each_weaker (IsReply H false) (AnswersShortly g) (λ query a r. (reply_answers g H limits kept false query a r, r.arcs)) queries answers replies, is)
+    let short = each_weaker (IsReply H false) (AnswersShortly g) (λ query a r. (reply_answers g H limits kept false query a r, r.arcs)) queries answers replies in
+    short_text g queries answers text short is
 replies_text g H limits kept true queries answers text replies is =
     let routed : (query : ℕ × ℕ) (a : Answer) → IsReply H true query a → AnswersWithRoute g H query a = λ query a r. record {
       answers = reply_answers g H limits kept true query a r;

@@ -14,10 +14,10 @@ use Rattle.ch_read.specs.RequestLaws.{went_by}
 use Rattle.ch_run.specs.declared.fault.Which.{Which}
 use Rattle.ch_run.specs.declared.fault.RunFault.{RunFault}
 use Rattle.ch_run.specs.declared.options.Options.{Options}
-use Rattle.ch_run.specs.Device.{HasRead, HasTaken}
+use Rattle.ch_text.specs.Device.{HasRead, HasTaken}
 use Rattle.ch_run.specs.Run.{Reading, ReadsAll, ReadsGraph, IsOf, IsWrite}
 use Rattle.ch_run.specs.SavedRun.{WithChecked, IsOfChecked}
-use Rattle.ch_run.specs.TableText.{IsTableText}
+use Rattle.ch_text.specs.TableText.{IsTableText}
 use Rattle.ch_run.specs.Text.{IsTextBy, writes_routes}
 
 -- the text of a request: of its query, as a run over this one query writes it, or of the table of its lists

@@ -1,16 +1,12 @@
-pub mod Device
 pub mod Fault
 pub mod Lists
 pub mod Run
-pub mod SaveText
 pub mod SavedRun
 pub mod SavedTextLaws
-pub mod TableText
 pub mod TextLaws
 pub mod Text
 pub mod Ask
 pub mod Serving
-pub mod NearText
 pub mod NearTextLaws
 pub mod NearRun
 pub mod NearRows

@@ -2,7 +2,7 @@
 use Rattle.std.specs.Prelude.{◌≡◌, ℕ, List, flat_map}
 use Rattle.std.specs.List.{AllZip, zip}
 use Rattle.ch_near.specs.Near.{Wanted, IsNearRow}
-use Rattle.ch_run.specs.NearText.{near_row_text}
+use Rattle.ch_text.specs.NearText.{near_row_text}
 
 -- the text has a line for each source, in order: its near row in the hierarchy, as it is wanted
 abbrev pub HasNearRows : Wanted → List ℕ → List ℕ → Type 0

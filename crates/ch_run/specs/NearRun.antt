@@ -7,7 +7,8 @@ use Rattle.ch_run.specs.declared.fault.Which.{Which}
 use Rattle.ch_run.specs.declared.fault.RunFault.{RunFault}
 use Rattle.ch_run.specs.declared.options.Options.{Options}
 use Rattle.ch_run.specs.Lists.{AcceptsList}
-use Rattle.ch_run.specs.NearText.{IsNearTextFor, nodes_in_order}
+use Rattle.ch_run.specs.Text.{IsNearTextFor}
+use Rattle.ch_text.specs.NearText.{nodes_in_order}
 use Rattle.ch_run.specs.SavedRun.{IsOfChecked, WithChecked}
 use Rattle.ch_run.specs.Run.{Reading, ReadsGraph, ReadsNodes, IsListRefused, IsOf, IsWrite}
 

@@ -9,9 +9,9 @@ use Rattle.ch_read.specs.Names.{NamesGraph, NamesQueries, NamesNodes}
 use Rattle.ch_run.specs.declared.fault.Which.{Which}
 use Rattle.ch_run.specs.declared.fault.RunFault.{RunFault}
 use Rattle.ch_run.specs.declared.options.Options.{Options}
-use Rattle.ch_run.specs.Device.{HasGiven, HasTaken}
+use Rattle.ch_text.specs.Device.{HasGiven, HasTaken}
 use Rattle.ch_run.specs.Text.{IsText}
-use Rattle.ch_run.specs.TableText.{IsTableText}
+use Rattle.ch_text.specs.TableText.{IsTableText}
 
 -- what an input has left before a run and after it, where it tells
 pub record Reading : Type 0 where

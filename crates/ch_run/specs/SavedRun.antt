@@ -14,9 +14,8 @@ use Rattle.ch_run.specs.declared.fault.RunFault.{RunFault}
 use Rattle.ch_run.specs.declared.options.Options.{Options}
 use Rattle.ch_run.specs.Run.{Reading, ReadsAll, ReadsGraph, ReadsQueries, IsListRefused, IsQueriesRefused, IsOf, IsWrite}
 use Rattle.ch_run.specs.Lists.{AcceptsList, HaveCellsRefused, HaveTargetsRefused, ReadsLists, IsOfLists}
-use Rattle.ch_run.specs.SaveText.{IsSaveText}
-use Rattle.ch_run.specs.TableText.{IsTableText}
-use Rattle.ch_run.specs.Text.{IsTextBy, writes_routes}
+use Rattle.ch_run.specs.Text.{IsSaveText, IsTextBy, writes_routes}
+use Rattle.ch_text.specs.TableText.{IsTableText}
 
 -- the input was read to its end and names this order and these legs, on a graph of so many nodes
 abbrev pub ReadsSaved : Reading → ℕ → OrderAndLegs → Type 0

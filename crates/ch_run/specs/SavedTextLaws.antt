@@ -12,7 +12,8 @@ use Rattle.ch_contract.specs.Built.{IsHierarchyBy}
 use Rattle.ch_run.specs.declared.options.Options.{Options}
 use Rattle.ch_run.specs.Run.{Reading}
 use Rattle.ch_run.specs.SavedRun.{IsAnsweredFrom, IsSavedBy, IsTabledFrom}
-use Rattle.ch_run.specs.SaveText.{IsHierarchyText, IsSaveText}
+use Rattle.ch_text.specs.SaveText.{IsHierarchyText}
+use Rattle.ch_run.specs.Text.{IsSaveText}
 
 -- two texts that answer the same bytes, as the same options ask, are equal
 abbrev pub SavedAnswersHaveOneText : Type 0

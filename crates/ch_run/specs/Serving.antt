@@ -14,7 +14,7 @@ use Rattle.ch_run.specs.declared.run.batch.Then.{Then}
 use Rattle.ch_run.specs.declared.run.batch.Then.TheVariants.{Table, More, Nothing, Stop}
 use Rattle.ch_run.specs.declared.fault.Which.{Which}
 use Rattle.ch_run.specs.Ask.{AreAnswered, TookAnswers, TookFirstAnswers, TookBeginning}
-use Rattle.ch_run.specs.Device.{HasTaken}
+use Rattle.ch_text.specs.Device.{HasTaken}
 use Rattle.ch_run.specs.Run.{IsWrite}
 
 -- how a call that was to answer these requests ended: all were answered, or the first of them, each whole, or a write was refused.

@@ -1,6 +1,6 @@
 //! Runs: from the bytes of a graph and of queries, of lists of nodes or of requests, to the text of the answers.
 //!
-//! It stands on ch_contract, ch_graph, ch_hierarchy, ch_near, ch_query, ch_read, ch_table, ch_work and itoa. It knows no command line.
+//! It stands on ch_contract, ch_graph, ch_hierarchy, ch_near, ch_query, ch_read, ch_table, ch_text and ch_work. It knows no command line.
 //! Proved of it: what the output took after [`run_dist`] and [`run_table`] is exactly the text that the
 //! definitions name for the bytes that the inputs had, which is one ([`laws::one_text`]), for every plan and
 //! gate; a run ends in no fault but its own, and touches nothing before all that comes earlier was accepted.
@@ -9,23 +9,16 @@
 //! [`run_near`] and [`run_near_all`] tell the targets that are nearest to each source of a list, or to each node of the graph;
 //! [`run_near_saved`] and [`run_near_all_saved`] do so by a saved hierarchy. What is proved of tables is proved of these.
 //! [`run_ask`] and [`run_ask_saved`] answer requests as they come: what is whole in the bytes that were read is answered before the next read.
-//! [`Input`] and [`Output`] are devices that count their faults, over memory ([`MemoryInput`],
-//! [`MemoryOutput`]) or over the readers and writers of `std` ([`ReaderInput`], [`WriterOutput`]). An output also tells
-//! whether it is closed: whether a write has failed because no one reads what is written any more.
+//! It passes on the devices of ch_text, from which the inputs come and to which the text goes.
 #![tactic(auto)]
 
-mod device;
 mod fault;
 pub mod laws;
-mod near_text;
 mod options;
 mod plan;
 mod run;
-mod save_text;
-mod short_text;
-mod text;
 
-pub use device::{
+pub use ch_text::{
     DeviceFault, Input, MemoryInput, MemoryOutput, Output, ReadAllFault, ReaderInput, WriterOutput,
     read_all, write_all,
 };

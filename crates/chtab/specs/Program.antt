@@ -2,7 +2,7 @@
 use Rattle.std.specs.Prelude.{◌≡◌, ◌⊎◌, ℕ, ◌++◌, ◌<◌, Bool, List, Option, Result, Ok, Err, IfErr, IsTrue, OnOk, codes, length, take}
 use Rattle.std.specs.String.{string_bytes}
 use Rattle.ch_run.specs.declared.fault.RunFault.{RunFault}
-use Rattle.ch_run.specs.Device.{CountsFault, HasTaken}
+use Rattle.ch_text.specs.Device.{CountsFault, HasTaken}
 use Rattle.ch_run.specs.Fault.{status_of, fault_text as run_fault_text}
 use Rattle.ch_run.specs.Run.{IsWrite}
 use Rattle.ch_words.specs.declared.line.Line.{Line}

@@ -1,6 +1,6 @@
 //! `chtab`: exact least distances on directed graphs, from files to text.
 //!
-//! It stands on ch_line, ch_run and ch_words.
+//! It stands on ch_line, ch_run, ch_text and ch_words.
 #![tactic(auto)]
 
 mod program;

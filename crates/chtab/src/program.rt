@@ -2,7 +2,7 @@
 
 ghost use Rattle.std.specs.Prelude.{◌≡◌, ◌↔◌, [], IfErr, IfOk, IsTrue, MatchResult, Result, map};
 ghost use Rattle.std.specs.String.{string_bytes};
-ghost use Rattle.ch_run.specs.Device.{CanCountOneMore};
+ghost use Rattle.ch_text.specs.Device.{CanCountOneMore};
 ghost use Rattle.ch_words.specs.Line.{IsAllowed, IsFaultOf, IsReadFrom, line_status_of};
 ghost use Rattle.chtab.specs.Program.{AnswersFault, IsAnswer, IsEnd, IsFaultEnd, IsTold, IsUnheard, answer_of, line_fault_text};
 ghost use Rattle.chtab.specs.declared.program.ProgramFault.{ProgramFault as FaultOf};

@@ -4,7 +4,7 @@ ghost use Rattle.ch_read.specs.declared.fault.ReadFault.{ReadFault as FaultAt};
 ghost use Rattle.ch_hierarchy.specs.declared.fault.CheckFault.{CheckFault as FaultOf};
 ghost use Rattle.ch_contract.specs.Legs.{IsHopBound};
 ghost use Rattle.ch_run.specs.Ask.{IsOfAsk, IsOfAskSaved, ServesBy, ServesFrom};
-ghost use Rattle.ch_run.specs.Device.{CanCountOneMore, CountsAtMostOne, CountsAtMostOneOf};
+ghost use Rattle.ch_text.specs.Device.{CanCountOneMore, CountsAtMostOne, CountsAtMostOneOf};
 ghost use Rattle.ch_run.specs.Run.{AcceptsGraph, GoesPast, IsGraphRefused, IsOf, IsWrite, reading};
 ghost use Rattle.ch_run.specs.SavedRun.{HasCheckRefused, HasSavedRefused, IsOfChecked};
 
@@ -13,11 +13,11 @@ use super::dist::order_for;
 use super::inputs::graph_from;
 use super::saved::{Checked, checked_from};
 use super::serving::serve;
-use crate::device::{Input, Output};
 use crate::fault::{RunFault, Which};
 use crate::options::Options;
 use crate::plan::{Crew, Gate, Stage};
 use ch_contract::build_by;
+use ch_text::{Input, Output};
 use std::thread::Threads;
 
 /// Reads a graph, builds its hierarchy, and then answers requests as they come: queries, and tables with their lists, in order.

@@ -9,17 +9,17 @@ ghost use Rattle.ch_read.specs.Requests.{AreTwoLists, IsUsedUp, query_from};
 ghost use Rattle.ch_read.specs.declared.request.Request.TheVariants as RequestOf;
 ghost use Rattle.ch_run.specs.declared.run.batch.Then.TheVariants as ThenOf;
 ghost use Rattle.ch_run.specs.Ask.{AreAnswered, IsRequestText};
-ghost use Rattle.ch_run.specs.Device.{CanCountOneMore};
+ghost use Rattle.ch_text.specs.Device.{CanCountOneMore};
 ghost use Rattle.ch_run.specs.Serving.{Answers, CountsWrites, EndsSo, GivesUntil, GoesOn, IsBatch, IsOfAnswering, IsStop, WritesMore, end_of, request_refusal, requests_of};
 
 use super::saved::Checked;
 use super::texts::{answers_in, plain_text, table_by};
-use crate::device::{Output, write_all};
 use crate::fault::{RunFault, Which};
 use crate::options::Options;
 use crate::plan::{Crew, Gate};
 use ch_query::Scratch;
 use ch_read::{Request, RequestError, RequestFault, RequestReader, TableLists};
+use ch_text::{Output, write_all};
 use std::alloc::{AllocError, Global};
 use std::thread::Threads;
 

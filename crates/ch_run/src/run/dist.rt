@@ -4,19 +4,19 @@ ghost use Rattle.ch_graph.specs.declared.limits.TheConstants.{MOST_QUERIES};
 ghost use Rattle.ch_read.specs.declared.fault.ReadFault.{ReadFault as FaultAt};
 ghost use Rattle.ch_contract.specs.Legs.{IsHopBound};
 ghost use Rattle.ch_query.specs.Answers.{AreQueries};
-ghost use Rattle.ch_run.specs.Device.{CanCountOneMore, CountsAtMostOne, CountsAtMostOneOf};
+ghost use Rattle.ch_text.specs.Device.{CanCountOneMore, CountsAtMostOne, CountsAtMostOneOf};
 ghost use Rattle.ch_run.specs.Text.{IsText};
 ghost use Rattle.ch_run.specs.Run.{AcceptsGraph, AcceptsQueries, Delivers, GoesPast, HasQueriesRefused, IsAnsweredBy, IsGraphRefused, IsOfDist, IsWrite, reading};
 
 use super::inputs::{graph_from, queries_from};
 use super::output::write_text;
 use super::texts::{answers_by, plain_text};
-use crate::device::{Input, Output};
 use crate::fault::{RunFault, Which};
 use crate::options::{Options, OrderBy};
 use crate::plan::{Crew, Gate, Stage};
 use ch_contract::build_by;
 use ch_graph::Graph;
+use ch_text::{Input, Output};
 use std::alloc::AllocError;
 use std::thread::Threads;
 

@@ -2,15 +2,15 @@
 ghost use Rattle.std.specs.Prelude.{◌≡◌, ◌<◌, ◌≤◌, ◌↔◌, All, IfOk, IfErr, vec_len};
 ghost use Rattle.ch_graph.specs.declared.limits.TheConstants.{MOST_LISTED, MOST_QUERIES};
 ghost use Rattle.ch_read.specs.declared.fault.ReadFault.{ReadFault as FaultAt};
-ghost use Rattle.ch_run.specs.Device.{CanCountOneMore, CountsAtMostOne, HasGiven};
+ghost use Rattle.ch_text.specs.Device.{CanCountOneMore, CountsAtMostOne, HasGiven};
 ghost use Rattle.ch_run.specs.Run.{IsGraphRefused, IsListRefused, IsOf, IsQueriesRefused, IsUnread, ReadsGraph, ReadsNodes, ReadsQueries, reading};
 ghost use Rattle.ch_query.specs.Answers.{AreQueries};
 
-use crate::device::{Input, ReadAllFault, read_all};
 use crate::fault::{RunFault, Which};
 use crate::plan::{Crew, Gate};
 use ch_graph::Graph;
 use ch_read::{read_graph_by, read_nodes, read_queries};
+use ch_text::{Input, ReadAllFault, read_all};
 use std::alloc::Global;
 use std::thread::Threads;
 

@@ -1,14 +1,14 @@
 //! The two lists of a table.
 ghost use Rattle.std.specs.Prelude.{◌≡◌, ◌<◌, ◌↔◌, ◌⊎◌, IfOk, IfErr};
 ghost use Rattle.ch_read.specs.declared.fault.ReadFault.{ReadFault as FaultAt};
-ghost use Rattle.ch_run.specs.Device.{CanCountOneMore, CountsAtMostOne};
+ghost use Rattle.ch_text.specs.Device.{CanCountOneMore, CountsAtMostOne};
 ghost use Rattle.ch_run.specs.Lists.{AreLists, ReadsLists, AcceptsList, HaveTargetsRefused, HaveCellsRefused, IsOfLists};
 ghost use Rattle.ch_run.specs.Run.{GoesPast, IsListRefused, reading};
 
 use super::inputs::nodes_from;
-use crate::device::Input;
 use crate::fault::{RunFault, Which};
 use ch_graph::Graph;
+use ch_text::Input;
 use ch_work::limits::MOST_CELLS;
 use std::alloc::Global;
 

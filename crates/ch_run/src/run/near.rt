@@ -2,9 +2,9 @@
 ghost use Rattle.std.specs.Prelude.{◌≡◌, ◌<◌, ◌↔◌, ◌⊎◌, IfOk, IfErr, IsErrAnd};
 ghost use Rattle.ch_read.specs.declared.fault.ReadFault.{ReadFault as FaultAt};
 ghost use Rattle.ch_contract.specs.Legs.{IsHopBound};
-ghost use Rattle.ch_run.specs.Device.{CanCountOneMore, CountsAtMostOne, CountsAtMostOneOf};
+ghost use Rattle.ch_text.specs.Device.{CanCountOneMore, CountsAtMostOne, CountsAtMostOneOf};
 ghost use Rattle.ch_run.specs.NearRun.{AcceptsNodeLists, AreNodeLists, IsNearBy, IsOfNear};
-ghost use Rattle.ch_run.specs.NearText.{IsNearTextFor};
+ghost use Rattle.ch_run.specs.Text.{IsNearTextFor};
 ghost use Rattle.ch_run.specs.Run.{AcceptsGraph, AcceptsSources, Delivers, GoesPast, HasSourcesRefused, HasTargetsRefused, IsGraphRefused, IsWrite, reading};
 
 use super::inputs::graph_from;
@@ -12,12 +12,12 @@ use super::lists::Lists;
 use super::near_texts::near_by;
 use super::node_lists::node_lists_from;
 use super::output::write_text;
-use crate::device::{Input, Output};
 use crate::fault::{RunFault, Which};
 use crate::options::Options;
 use crate::plan::{Crew, Gate, Stage};
 use ch_contract::{OrderBy, build_by};
 use ch_graph::Graph;
+use ch_text::{Input, Output};
 use std::alloc::AllocError;
 use std::thread::Threads;
 

@@ -2,7 +2,7 @@
 ghost use Rattle.std.specs.Prelude.{◌≡◌, ◌<◌, ◌↔◌, ◌⊎◌, IfErr, IsErrAnd};
 ghost use Rattle.ch_read.specs.declared.fault.ReadFault.{ReadFault as FaultAt};
 ghost use Rattle.ch_contract.specs.Legs.{IsHopBound};
-ghost use Rattle.ch_run.specs.Device.{CanCountOneMore, CountsAtMostOne, CountsAtMostOneOf};
+ghost use Rattle.ch_text.specs.Device.{CanCountOneMore, CountsAtMostOne, CountsAtMostOneOf};
 ghost use Rattle.ch_run.specs.NearRun.{AcceptsTargets, HasTargetsRefusedNext, IsNearAllBy, IsOfNearAll};
 ghost use Rattle.ch_run.specs.Run.{AcceptsGraph, Delivers, GoesPast, IsGraphRefused, IsWrite, reading};
 
@@ -10,10 +10,10 @@ use super::inputs::graph_from;
 use super::near::near_of;
 use super::node_lists::all_nodes_and;
 use super::output::write_text;
-use crate::device::{Input, Output};
 use crate::fault::{RunFault, Which};
 use crate::options::Options;
 use crate::plan::{Crew, Gate, Stage};
+use ch_text::{Input, Output};
 use std::thread::Threads;
 
 /// Reads a graph and a list of targets, and writes for each node of the graph, in order, the line that

@@ -2,7 +2,7 @@
 ghost use Rattle.std.specs.Prelude.{◌≡◌, ◌<◌, ◌↔◌, ◌⊎◌, IfErr, IsErrAnd};
 ghost use Rattle.ch_read.specs.declared.fault.ReadFault.{ReadFault as FaultAt};
 ghost use Rattle.ch_hierarchy.specs.declared.fault.CheckFault.{CheckFault as FaultOf};
-ghost use Rattle.ch_run.specs.Device.{CanCountOneMore, CountsAtMostOne, CountsAtMostOneOf};
+ghost use Rattle.ch_text.specs.Device.{CanCountOneMore, CountsAtMostOne, CountsAtMostOneOf};
 ghost use Rattle.ch_run.specs.NearRun.{AcceptsNodeListsFrom, IsNearFrom, IsOfNearSaved};
 ghost use Rattle.ch_run.specs.Run.{AcceptsGraph, Delivers, GoesPast, IsGraphRefused, IsWrite, reading};
 ghost use Rattle.ch_run.specs.SavedRun.{AcceptsSaved, AcceptsSourcesFrom, HasCheckRefused, HasSavedRefused, HasSourcesRefusedFrom, HasTargetsRefusedFrom};
@@ -11,10 +11,10 @@ use super::near_texts::near_by;
 use super::node_lists::node_lists_from;
 use super::output::write_text;
 use super::saved::checked_from;
-use crate::device::{Input, Output};
 use crate::fault::{RunFault, Which};
 use crate::options::Options;
 use crate::plan::{Crew, Gate};
+use ch_text::{Input, Output};
 use std::thread::Threads;
 
 /// As [`run_near`](super::run_near), by a hierarchy that was saved, by whatever program.

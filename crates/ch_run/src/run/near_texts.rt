@@ -6,13 +6,13 @@ ghost use Rattle.ch_hierarchy.specs.Kept.{IsKept};
 ghost use Rattle.ch_query.specs.Distance.{IsKeptForSome};
 ghost use Rattle.ch_run.specs.NearRun.{AreNodeLists};
 ghost use Rattle.ch_run.specs.NearRows.{HasNearRows};
-ghost use Rattle.ch_run.specs.NearText.{IsNearTextFor};
+ghost use Rattle.ch_run.specs.Text.{IsNearTextFor};
 
-use crate::near_text::{push_near_row, push_near_rows};
 use crate::options::Options;
 use crate::plan::{Crew, Gate, Stage};
 use ch_contract::Hierarchy;
 use ch_near::NearTargets;
+use ch_text::{push_near_row, push_near_rows};
 use std::alloc::AllocError;
 use std::thread::Threads;
 

@@ -1,17 +1,17 @@
 //! The two lists of a run that tells near rows.
 ghost use Rattle.std.specs.Prelude.{◌≡◌, ◌<◌, ◌↔◌, ◌⊎◌, IfOk, IfErr};
 ghost use Rattle.ch_read.specs.declared.fault.ReadFault.{ReadFault as FaultAt};
-ghost use Rattle.ch_run.specs.Device.{CanCountOneMore, CountsAtMostOne};
+ghost use Rattle.ch_text.specs.Device.{CanCountOneMore, CountsAtMostOne};
 ghost use Rattle.ch_run.specs.Lists.{AcceptsList, HaveTargetsRefused};
 ghost use Rattle.ch_run.specs.NearRun.{AreNodeLists, IsOfNodeLists, ReadsNodeLists};
-ghost use Rattle.ch_run.specs.NearText.{nodes_in_order};
+ghost use Rattle.ch_text.specs.NearText.{nodes_in_order};
 ghost use Rattle.ch_run.specs.Run.{GoesPast, IsListRefused, IsOf, ReadsNodes, reading};
 
 use super::inputs::nodes_from;
 use super::lists::Lists;
-use crate::device::Input;
 use crate::fault::{RunFault, Which};
 use ch_graph::Graph;
+use ch_text::Input;
 use std::alloc::{AllocError, Global};
 
 /// Reads the sources to their end and then the targets, as lists of nodes of this graph.

@@ -1,10 +1,10 @@
 //! The output, to which a run's text goes last.
 ghost use Rattle.std.specs.Prelude.{◌≡◌, ◌<◌, ◌↔◌, ◌⊎◌, IfErr, IsErrAnd};
-ghost use Rattle.ch_run.specs.Device.{CanCountOneMore, CountsAtMostOneOf};
+ghost use Rattle.ch_text.specs.Device.{CanCountOneMore, CountsAtMostOneOf};
 ghost use Rattle.ch_run.specs.Run.{Delivers, IsWrite};
 
-use crate::device::{Output, write_all};
 use crate::fault::RunFault;
+use ch_text::{Output, write_all};
 
 /// Writes the whole text of a run.
 pub(crate) fn write_text<O: Output>(output: &mut O, text: &[u8]) -> Result<(), RunFault>

@@ -2,18 +2,17 @@
 ghost use Rattle.std.specs.Prelude.{◌≡◌, ◌<◌, ◌↔◌, ◌⊎◌, IfErr, IsErrAnd};
 ghost use Rattle.ch_read.specs.declared.fault.ReadFault.{ReadFault as FaultAt};
 ghost use Rattle.ch_contract.specs.Legs.{IsHopBound};
-ghost use Rattle.ch_run.specs.Device.{CanCountOneMore, CountsAtMostOne, CountsAtMostOneOf};
+ghost use Rattle.ch_text.specs.Device.{CanCountOneMore, CountsAtMostOne, CountsAtMostOneOf};
 ghost use Rattle.ch_run.specs.Run.{AcceptsGraph, Delivers, IsGraphRefused, IsWrite, reading};
 ghost use Rattle.ch_run.specs.SavedRun.{IsOfSave, IsSavedBy};
 
 use super::inputs::graph_from;
 use super::output::write_text;
-use crate::device::{Input, Output};
 use crate::fault::{RunFault, Which};
 use crate::options::Options;
 use crate::plan::{Crew, Gate, Stage};
-use crate::save_text::save_text;
 use ch_contract::build_by;
+use ch_text::{Input, Output, save_text};
 use std::thread::Threads;
 
 /// Reads a graph, builds its contraction hierarchy, and writes it as a saved hierarchy.

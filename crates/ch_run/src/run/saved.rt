@@ -3,18 +3,18 @@ ghost use Rattle.std.specs.Prelude.{◌≡◌, ◌<◌, ◌↔◌, ◌⊎◌, If
 ghost use Rattle.ch_graph.specs.Saved.{OrderAndLegs};
 ghost use Rattle.ch_read.specs.declared.fault.ReadFault.{ReadFault as FaultAt};
 ghost use Rattle.ch_hierarchy.specs.declared.fault.CheckFault.{CheckFault as FaultOf};
-ghost use Rattle.ch_run.specs.Device.{CanCountOneMore, CountsAtMostOne};
+ghost use Rattle.ch_text.specs.Device.{CanCountOneMore, CountsAtMostOne};
 ghost use Rattle.ch_run.specs.Run.{AcceptsGraph, GoesPast, IsGraphRefused, IsOf, reading};
 ghost use Rattle.ch_run.specs.SavedRun.{AreChecked, HasCheckRefused, HasSavedRefused, IsOfChecked, IsSavedRefused, ReadsSaved};
 
 use super::inputs::{bytes_from, graph_from};
-use crate::device::Input;
 use crate::fault::{RunFault, Which};
 use crate::plan::{Crew, Gate, Stage};
 use ch_contract::{CheckError, Hierarchy};
 use ch_graph::{Graph, Saved};
 use ch_query::check_watched;
 use ch_read::read_saved_by;
+use ch_text::Input;
 use std::thread::Threads;
 
 /// A graph, and a hierarchy that is right for it.

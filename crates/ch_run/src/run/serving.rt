@@ -6,16 +6,16 @@ ghost use Rattle.ch_hierarchy.specs.Kept.{IsKept};
 ghost use Rattle.ch_read.specs.Requests.{IsUsedUp};
 ghost use Rattle.ch_read.specs.declared.request.Request.{Request as RequestOf};
 ghost use Rattle.ch_run.specs.Ask.{IsOfServing, IsRequestText, Serves};
-ghost use Rattle.ch_run.specs.Device.{CanCountOneMore, CountsAtMostOne, GivesBytes, failures_in};
+ghost use Rattle.ch_text.specs.Device.{CanCountOneMore, CountsAtMostOne, GivesBytes, failures_in};
 ghost use Rattle.ch_run.specs.Run.{reading};
 ghost use Rattle.ch_run.specs.Serving.{Answers, CountsWrites, GivesUntil};
 
 use super::batch::{Answering, answer_batch, gather};
-use crate::device::{Input, Output};
 use crate::fault::{RunFault, Which};
 use crate::plan::{Crew, Gate};
 use ch_query::Scratch;
 use ch_read::RequestReader;
+use ch_text::{Input, Output};
 use std::thread::Threads;
 
 /// How many bytes of requests are read at once.

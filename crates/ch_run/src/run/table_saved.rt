@@ -2,7 +2,7 @@
 ghost use Rattle.std.specs.Prelude.{◌≡◌, ◌<◌, ◌↔◌, ◌⊎◌, IfErr, IsErrAnd};
 ghost use Rattle.ch_read.specs.declared.fault.ReadFault.{ReadFault as FaultAt};
 ghost use Rattle.ch_hierarchy.specs.declared.fault.CheckFault.{CheckFault as FaultOf};
-ghost use Rattle.ch_run.specs.Device.{CanCountOneMore, CountsAtMostOne, CountsAtMostOneOf};
+ghost use Rattle.ch_text.specs.Device.{CanCountOneMore, CountsAtMostOne, CountsAtMostOneOf};
 ghost use Rattle.ch_run.specs.Run.{AcceptsGraph, Delivers, GoesPast, IsGraphRefused, IsWrite, reading};
 ghost use Rattle.ch_run.specs.SavedRun.{AcceptsListsFrom, AcceptsSaved, AcceptsSourcesFrom, HasCellsRefusedFrom, HasCheckRefused, HasSavedRefused, HasSourcesRefusedFrom, HasTargetsRefusedFrom, IsOfTableSaved, IsTabledFrom};
 
@@ -10,10 +10,10 @@ use super::lists::lists_from;
 use super::output::write_text;
 use super::saved::checked_from;
 use super::texts::table_by;
-use crate::device::{Input, Output};
 use crate::fault::{RunFault, Which};
 use crate::options::Options;
 use crate::plan::{Crew, Gate};
+use ch_text::{Input, Output};
 use std::thread::Threads;
 
 /// Reads a graph, a hierarchy that was saved, by whatever program, a list of sources and a list of targets, and

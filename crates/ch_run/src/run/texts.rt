@@ -7,16 +7,17 @@ ghost use Rattle.ch_hierarchy.specs.Hierarchy.{nodes_of};
 ghost use Rattle.ch_hierarchy.specs.Kept.{IsKept};
 ghost use Rattle.ch_query.specs.Answers.{AreQueries, IsReply};
 ghost use Rattle.ch_query.specs.Distance.{IsKeptForSome};
-ghost use Rattle.ch_run.specs.Text.{AnswersShortly, IsDistanceText, IsTextBy};
-ghost use Rattle.ch_run.specs.TableText.{IsTableText};
+ghost use Rattle.ch_text.specs.Distances.{AnswersShortly, IsDistanceText};
+ghost use Rattle.ch_run.specs.Text.{IsTextBy};
+ghost use Rattle.ch_text.specs.TableText.{IsTableText};
 ghost use Rattle.ch_run.specs.Lists.{AreLists};
 
 use crate::plan::{Crew, Gate, Stage};
-use crate::text::{answers_text, table_text};
 use ch_contract::Hierarchy;
 use ch_graph::{Graph, plain_distance};
 use ch_query::{Answer, Scratch, answer_all, answer_all_in};
 use ch_table::table;
+use ch_text::{answers_text, table_text};
 use std::alloc::{AllocError, Global};
 use std::thread::Threads;
 

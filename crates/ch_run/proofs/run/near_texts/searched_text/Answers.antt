@@ -4,7 +4,7 @@ use Rattle.std.specs.Prelude.{All}
 use Rattle.std.specs.List.{flat_map, zip}
 use Rattle.ch_graph.proofs.Lists.{zipped_length, zipped_map}
 use Rattle.ch_run.specs.NearRows.{HasNearRows}
-use Rattle.ch_run.specs.NearText.{near_row_text}
+use Rattle.ch_text.specs.NearText.{near_row_text}
 use Rattle.ch_run.proofs.Nears.{IsWantedRow, items, rows_joined, rows_places}
 use Rattle.ch_run.proofs.run.near_texts.searched_text.Goals as goal
 

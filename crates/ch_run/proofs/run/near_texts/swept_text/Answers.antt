@@ -3,9 +3,9 @@ use Rattle.std.specs.Prelude.{All}
 use Rattle.std.specs.List.{flat_map}
 use Rattle.ch_hierarchy.specs.Hierarchy.{LevelsAndLegs, nodes_of}
 use Rattle.ch_near.specs.Sweep.{row_at}
-use Rattle.ch_run.specs.NearText.{near_row_text}
+use Rattle.ch_text.specs.NearText.{near_row_text}
 use Rattle.ch_run.proofs.Nears.{IsWantedRow, nodes_text, row_places}
-use Rattle.ch_run.proofs.Texts.{all_grown, grown}
+use Rattle.ch_text.proofs.Growing.{all_grown, grown}
 use Rattle.ch_run.proofs.run.near_texts.swept_text.Goals as goal
 
 pub push_near_row-requires : goal.push_near_row-requires

@@ -1,6 +1,6 @@
 use Rattle.std.proofs.Common.{◌≡◌, take, flat_map}
 use Rattle.ch_near.specs.Sweep.{row_at}
-use Rattle.ch_run.specs.NearText.{near_row_text}
+use Rattle.ch_text.specs.NearText.{near_row_text}
 use Rattle.ch_run.proofs.run.near_texts.swept_text.Given as goal
 
 abbrev pub invariant-loop-source : goal.invariant-loop-source

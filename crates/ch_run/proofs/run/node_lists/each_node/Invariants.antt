@@ -1,5 +1,5 @@
 use Rattle.std.proofs.Common.{◌≡◌}
-use Rattle.ch_run.specs.NearText.{nodes_in_order}
+use Rattle.ch_text.specs.NearText.{nodes_in_order}
 use Rattle.ch_run.proofs.run.node_lists.each_node.Given as goal
 
 abbrev pub invariant-loop-node : goal.invariant-loop-node

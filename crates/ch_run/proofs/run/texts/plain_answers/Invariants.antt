@@ -1,6 +1,6 @@
 use Rattle.std.proofs.Common.{take}
 use Rattle.std.specs.List.{AllZip}
-use Rattle.ch_run.specs.Text.{AnswersShortly}
+use Rattle.ch_text.specs.Distances.{AnswersShortly}
 use Rattle.ch_run.proofs.run.texts.plain_answers.Given as goal
 
 abbrev pub invariant-loop-place : goal.invariant-loop-place

@@ -1,7 +1,0 @@
-use Rattle.std.proofs.Common.{◌≡◌, ◌++◌, take, flat_map}
-use Rattle.ch_hierarchy.specs.Written.{leg_down}
-use Rattle.ch_run.specs.SaveText.{leg_text}
-use Rattle.ch_run.proofs.save_text.push_downs.Given as goal
-
-abbrev pub invariant-loop-leg : goal.invariant-loop-leg
-invariant-loop-leg l = l.text.items ≡ l.fn.text.items ++ flat_map (λ leg. leg_text (leg_down l.node leg)) (take l.leg-index l.legs)

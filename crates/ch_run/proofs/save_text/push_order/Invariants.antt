@@ -1,6 +1,0 @@
-use Rattle.std.proofs.Common.{◌≡◌, ◌++◌, take, flat_map}
-use Rattle.ch_run.specs.SaveText.{order_text}
-use Rattle.ch_run.proofs.save_text.push_order.Given as goal
-
-abbrev pub invariant-loop-node : goal.invariant-loop-node
-invariant-loop-node l = l.text.items ≡ l.fn.text.items ++ flat_map order_text (take l.node-index l.order)

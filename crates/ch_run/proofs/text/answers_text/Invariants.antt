@@ -1,6 +1,0 @@
-use Rattle.std.proofs.Common.{◌≡◌, take, flat_map}
-use Rattle.ch_run.specs.Text.{answer_text}
-use Rattle.ch_run.proofs.text.answers_text.Given as goal
-
-abbrev pub invariant-loop-answer : goal.invariant-loop-answer
-invariant-loop-answer l = l.text.items ≡ flat_map answer_text (take l.answer-index l.answers)

@@ -1,6 +1,0 @@
-use Rattle.std.proofs.Common.{◌≡◌, ◌++◌, take, flat_map}
-use Rattle.ch_run.specs.Text.{arc_text}
-use Rattle.ch_run.proofs.text.push_arcs.Given as goal
-
-abbrev pub invariant-loop-arc : goal.invariant-loop-arc
-invariant-loop-arc l = l.text.items ≡ l.fn.text.items ++ flat_map arc_text (take l.arc-index l.arcs)

@@ -1,0 +1,76 @@
+-- What devices give, take and count.
+use Rattle.std.specs.Prelude.{◌≡◌, ℕ, zero, suc, ◌+◌, ◌-◌, ◌^◌, ◌<◌, ◌++◌, ◌==◌, ◌&&◌, ◌⊎◌, if◌then◌else◌, nat_lt, Bool, true, List, [], Option, Some, None, IsNone, Result, Ok, Err, IsErr, length, take, MatchResult}
+use Rattle.ch_text.specs.declared.device.ReadAllFault.{ReadAllFault}
+use Rattle.ch_text.specs.declared.device.ReadAllFault.TheVariants.{Device, Memory}
+
+-- a count of 64 bits can be raised by one more
+abbrev pub CanCountOneMore : ℕ → Type 0
+CanCountOneMore count = count < 2 ^ 64 - 1
+
+-- how much an answer raises the count of failures: an error raises it by one
+abbrev pub failures_in : {T E : Type 0} → Result T E → ℕ
+failures_in (Ok _) = 0
+failures_in (Err _) = 1
+
+-- how much a write of these bytes raises the count of writes that took none of some bytes
+abbrev pub idle_writes : {E : Type 0} → Result ℕ E → List ℕ → ℕ
+idle_writes (Ok n) bytes = if (n == 0) && nat_lt 0 (length bytes) then 1 else 0
+idle_writes (Err _) bytes = 0
+
+-- at most one more was counted
+abbrev pub CountsAtMostOne : ℕ → ℕ → Type 0
+CountsAtMostOne count count' = (count' ≡ count) ⊎ (count' ≡ count + 1)
+
+-- at most one more was counted, of two counts together
+abbrev pub CountsAtMostOneOf : (failed failed' idle idle' : ℕ) → Type 0
+CountsAtMostOneOf failed failed' idle idle' = (CountsAtMostOne failed failed' × (idle' ≡ idle)) ⊎ ((failed' ≡ failed) × CountsAtMostOne idle idle')
+
+-- how many failed reads the answer of reading a whole input tells of
+abbrev pub failed_reads : {T : Type 0} → Result T ReadAllFault → ℕ
+failed_reads (Ok _) = 0
+failed_reads (Err Device) = 1
+failed_reads (Err Memory) = 0
+
+-- an input that tells its bytes goes on telling them, and one that doesn't doesn't begin to:
+-- a read takes the bytes that it gives from the front of those left, none only at the end or into
+-- no room; a read that fails takes none
+abbrev pub GivesBytes : {E : Type 0} → Option (List ℕ) → Option (List ℕ) → Result ℕ E → List ℕ → Type 0
+GivesBytes None new result buffer = IsNone new
+GivesBytes (Some old) None result buffer = ⊥
+GivesBytes (Some old) (Some new) result buffer = MatchResult result (λ n. (old ≡ take n buffer ++ new) × (n ≡ 0 → 0 < length buffer → old ≡ [])) (λ _. new ≡ old)
+
+-- the same for an output: a write puts the front of these bytes after those that were taken
+abbrev pub TakesBytes : {E : Type 0} → Option (List ℕ) → Option (List ℕ) → Result ℕ E → List ℕ → Type 0
+TakesBytes None new result bytes = IsNone new
+TakesBytes (Some old) None result bytes = ⊥
+TakesBytes (Some old) (Some new) result bytes = MatchResult result (λ n. new ≡ old ++ take n bytes) (λ _. new ≡ old)
+
+-- an input that tells its bytes had these left, and now none
+abbrev pub HasGiven : Option (List ℕ) → Option (List ℕ) → List ℕ → Type 0
+HasGiven None new bytes = IsNone new
+HasGiven (Some old) new bytes = (old ≡ bytes) × (new ≡ Some [])
+
+-- of an input that tells its bytes these were read, and these are left
+abbrev pub HasRead : (old new : Option (List ℕ)) → (read left : List ℕ) → Type 0
+HasRead None new read left = IsNone new
+HasRead (Some old) new read left = (old ≡ read ++ left) × (new ≡ Some left)
+
+-- an output that tells the bytes that it took has taken these after the earlier ones
+abbrev pub HasTaken : Option (List ℕ) → Option (List ℕ) → List ℕ → Type 0
+HasTaken None new bytes = IsNone new
+HasTaken (Some old) new bytes = new ≡ Some (old ++ bytes)
+
+-- both counts stay at an `Ok`; at an error just one of them grows, by one
+abbrev pub CountsFault : {T E : Type 0} → (failed failed' idle idle' : ℕ) → Result T E → Type 0
+CountsFault failed failed' idle idle' (Ok _) = (failed' ≡ failed) × (idle' ≡ idle)
+CountsFault failed failed' idle idle' (Err _) = ((failed' ≡ failed + 1) × (idle' ≡ idle)) ⊎ ((failed' ≡ failed) × (idle' ≡ idle + 1))
+
+-- an output is open or closed as it was before, or an error has closed it
+abbrev pub ClosesAtFault : {T E : Type 0} → (closed closed' : Bool) → Result T E → Type 0
+ClosesAtFault closed closed' result = (closed' ≡ closed) ⊎ (IsErr result × (closed' ≡ true))
+
+-- the turns that are left after one: none where it was the last
+abbrev pub turns_after : Option ℕ → Option ℕ
+turns_after None = None
+turns_after (Some zero) = None
+turns_after (Some (suc turns)) = Some turns

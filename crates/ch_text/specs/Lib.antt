@@ -1,0 +1,6 @@
+pub mod Device
+pub mod Distances
+pub mod Routes
+pub mod TableText
+pub mod NearText
+pub mod SaveText

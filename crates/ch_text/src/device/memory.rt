@@ -1,0 +1,250 @@
+//! Devices over memory, which tell their bytes and fail where they are told to: for tests.
+
+ghost use Rattle.std.specs.Prelude.{◌≡◌, ◌+◌, ◌<◌, ◌≤◌, ◌↔◌, ◌||◌, [], true, false, Some, IfOk, IsErr, IsTrue, OnErr, OnOk, length};
+ghost use Rattle.ch_text.specs.Device.{CanCountOneMore, ClosesAtFault, GivesBytes, TakesBytes, idle_writes, failures_in, turns_after};
+
+use super::{DeviceFault, Input, Output};
+use std::alloc::{AllocError, Global};
+
+/// Which call of a device goes wrong: the one after so many others, or none.
+#[derive(Clone, Copy, Debug, PartialEq, Eq)]
+struct Turn {
+    before: Option<u64>,
+}
+
+impl Turn {
+    const NEVER: Turn = Turn { before: None };
+
+    /// Whether the call being made is the one.
+    fn has_come(&mut self) -> bool
+        ensures come { IsTrue result ↔ (self.old.before ≡ Some 0) }
+        ensures turns { self.new.before ≡ turns_after self.old.before }
+    {
+        match self.before {
+            None => false,
+            Some(0) => {
+                self.before = None;
+                true
+            }
+            Some(before) => {
+                self.before = Some(before - 1);
+                false
+            }
+        }
+    }
+}
+
+/// An input over a slice of bytes.
+#[derive(Clone, Copy, Debug)]
+pub struct MemoryInput<'a> {
+    left: &'a [u8],
+    most: usize,
+    fault: Turn,
+    failures: u64,
+    ghost gives_some: { 0 < most },
+}
+
+impl<'a> MemoryInput<'a> {
+    /// An input of these bytes that gives at most `most` of them at a read, and never fails.
+    pub fn new(bytes: &'a [u8], most: usize) -> Self
+        requires { 0 < most }
+        ensures left { ⟦<MemoryInput<'a> as Input>⟧.left result ≡ Some bytes.now }
+        ensures failed { ⟦<MemoryInput<'a> as Input>⟧.failed result ≡ 0 }
+    {
+        MemoryInput {
+            left: bytes,
+            most,
+            fault: Turn::NEVER,
+            failures: 0,
+        }
+    }
+
+    /// The same input, whose read after `reads` others fails.
+    pub fn failing_after(self, reads: u64) -> Self
+        ensures turn { result.fault.before ≡ Some reads }
+        ensures left { ⟦<MemoryInput<'a> as Input>⟧.left result ≡ ⟦<MemoryInput<'a> as Input>⟧.left self.entry }
+        ensures failed { ⟦<MemoryInput<'a> as Input>⟧.failed result ≡ ⟦<MemoryInput<'a> as Input>⟧.failed self.entry }
+    {
+        MemoryInput {
+            left: self.left,
+            most: self.most,
+            fault: Turn {
+                before: Some(reads),
+            },
+            failures: self.failures,
+        }
+    }
+}
+
+impl Input for MemoryInput<'_> {
+    ghost failed = { λ d. d.failures };
+
+    ghost left = { λ d. Some d.left.now };
+
+    // It fails at its turn, and at no other read.
+    fn read(&mut self, buffer: &mut [u8]) -> Result<usize, DeviceFault>
+        requires { CanCountOneMore self.old.failures }
+        ensures fits { IfOk result (λ count. count ≤ length buffer.new) }
+        ensures failures { self.new.failures ≡ self.old.failures + failures_in result }
+        ensures bytes { GivesBytes (Some self.old.left.now) (Some self.new.left.now) result buffer.new }
+        ensures turn { IsErr result ↔ (self.old.fault.before ≡ Some 0) }
+        ensures turns { self.new.fault.before ≡ turns_after self.old.fault.before }
+    {
+        if self.fault.has_come() {
+            self.failures += 1;
+            return Err(DeviceFault);
+        }
+        let count = self.left.len().min(buffer.len()).min(self.most);
+        let (given, left) = self.left.split_at(count);
+        buffer[..count].copy_from_slice(given);
+        self.left = left;
+        Ok(count)
+    }
+
+    fn failures(&self) -> u64 {
+        self.failures
+    }
+}
+
+/// An output into memory that was reserved before.
+#[derive(Debug, Drop)]
+pub struct MemoryOutput {
+    taken: Vec<u8>,
+    most: usize,
+    fault: Turn,
+    pause: Turn,
+    failures: u64,
+    zeros: u64,
+    closes: bool,
+    is_closed: bool,
+}
+
+impl MemoryOutput {
+    /// An output with room for `room` bytes that takes at most `most` of them at a write, none
+    /// once it is full, and never fails.
+    pub fn new(alloc: Global, room: usize, most: usize) -> Result<Self, AllocError>
+        ensures taken { IfOk result (λ output. ⟦<MemoryOutput as Output>⟧.taken output ≡ Some []) }
+        ensures failed { IfOk result (λ output. ⟦<MemoryOutput as Output>⟧.failed output ≡ 0) }
+        ensures idle { IfOk result (λ output. ⟦<MemoryOutput as Output>⟧.idle output ≡ 0) }
+        ensures closed { IfOk result (λ output. ⟦<MemoryOutput as Output>⟧.closed output ≡ false) }
+    {
+        Ok(MemoryOutput {
+            taken: Vec::with_capacity(alloc, room)?,
+            most,
+            fault: Turn::NEVER,
+            pause: Turn::NEVER,
+            failures: 0,
+            zeros: 0,
+            closes: false,
+            is_closed: false,
+        })
+    }
+
+    /// The same output, whose write after `writes` others fails.
+    pub fn failing_after(mut self, writes: u64) -> Self
+        ensures turn { result.fault.before ≡ Some writes }
+        ensures taken { ⟦<MemoryOutput as Output>⟧.taken result ≡ ⟦<MemoryOutput as Output>⟧.taken self }
+        ensures failed { ⟦<MemoryOutput as Output>⟧.failed result ≡ ⟦<MemoryOutput as Output>⟧.failed self }
+        ensures idle { ⟦<MemoryOutput as Output>⟧.idle result ≡ ⟦<MemoryOutput as Output>⟧.idle self }
+        ensures closed { ⟦<MemoryOutput as Output>⟧.closed result ≡ ⟦<MemoryOutput as Output>⟧.closed self }
+    {
+        self.fault = Turn {
+            before: Some(writes),
+        };
+        self
+    }
+
+    /// The same output, whose write after `writes` others takes no byte.
+    pub fn idle_after(mut self, writes: u64) -> Self
+        ensures turn { result.pause.before ≡ Some writes }
+        ensures taken { ⟦<MemoryOutput as Output>⟧.taken result ≡ ⟦<MemoryOutput as Output>⟧.taken self }
+        ensures failed { ⟦<MemoryOutput as Output>⟧.failed result ≡ ⟦<MemoryOutput as Output>⟧.failed self }
+        ensures idle { ⟦<MemoryOutput as Output>⟧.idle result ≡ ⟦<MemoryOutput as Output>⟧.idle self }
+        ensures closed { ⟦<MemoryOutput as Output>⟧.closed result ≡ ⟦<MemoryOutput as Output>⟧.closed self }
+    {
+        self.pause = Turn {
+            before: Some(writes),
+        };
+        self
+    }
+
+    /// The same output, whose write that fails closes it.
+    pub fn closing(mut self) -> Self
+        ensures closes { result.closes ≡ true }
+        ensures turn { result.fault.before ≡ self.fault.before }
+        ensures taken { ⟦<MemoryOutput as Output>⟧.taken result ≡ ⟦<MemoryOutput as Output>⟧.taken self }
+        ensures failed { ⟦<MemoryOutput as Output>⟧.failed result ≡ ⟦<MemoryOutput as Output>⟧.failed self }
+        ensures idle { ⟦<MemoryOutput as Output>⟧.idle result ≡ ⟦<MemoryOutput as Output>⟧.idle self }
+        ensures closed { ⟦<MemoryOutput as Output>⟧.closed result ≡ ⟦<MemoryOutput as Output>⟧.closed self }
+    {
+        self.closes = true;
+        self
+    }
+
+    /// The bytes that were taken.
+    pub fn bytes(&self) -> &[u8]
+        ensures { ⟦<MemoryOutput as Output>⟧.taken self.now ≡ Some result.now }
+    {
+        self.taken.as_slice()
+    }
+}
+
+impl Output for MemoryOutput {
+    ghost failed = { λ d. d.failures };
+
+    ghost idle = { λ d. d.zeros };
+
+    ghost taken = { λ d. Some d.taken.items };
+
+    ghost closed = { λ d. d.is_closed };
+
+    // It fails at its turn, and at no other write, and is closed then where it was told to close; and at the turn of its
+    // pause it takes no byte.
+    fn write(&mut self, bytes: &[u8]) -> Result<usize, DeviceFault>
+        requires failures { CanCountOneMore self.old.failures }
+        requires zeros { CanCountOneMore self.old.zeros }
+        ensures fits { IfOk result (λ count. count ≤ length bytes.now) }
+        ensures failures { self.new.failures ≡ self.old.failures + failures_in result }
+        ensures zeros { self.new.zeros ≡ self.old.zeros + idle_writes result bytes.now }
+        ensures bytes { TakesBytes (Some self.old.taken.items) (Some self.new.taken.items) result bytes.now }
+        ensures turn { IsErr result ↔ (self.old.fault.before ≡ Some 0) }
+        ensures turns { self.new.fault.before ≡ turns_after self.old.fault.before }
+        ensures pause { self.old.pause.before ≡ Some 0 → IfOk result (λ count. count ≡ 0) }
+        ensures pauses { OnOk result (self.new.pause.before ≡ turns_after self.old.pause.before) }
+        ensures no_pause { OnErr result (self.new.pause.before ≡ self.old.pause.before) }
+        ensures closes { ClosesAtFault self.old.is_closed self.new.is_closed result }
+        ensures closing { OnErr result (self.new.is_closed ≡ self.old.is_closed || self.old.closes) }
+        ensures told { self.new.closes ≡ self.old.closes }
+    {
+        if self.fault.has_come() {
+            self.failures += 1;
+            self.is_closed = self.is_closed || self.closes;
+            return Err(DeviceFault);
+        }
+        let room = self.taken.capacity() - self.taken.len();
+        let count = if self.pause.has_come() {
+            0
+        } else {
+            bytes.len().min(self.most).min(room)
+        };
+        let Ok(()) = self.taken.extend_from_slice(&bytes[..count]) else {
+            unreachable!();
+        };
+        if count == 0 && !bytes.is_empty() {
+            self.zeros += 1;
+        }
+        Ok(count)
+    }
+
+    fn failures(&self) -> u64 {
+        self.failures
+    }
+
+    fn zeros(&self) -> u64 {
+        self.zeros
+    }
+
+    fn is_closed(&self) -> bool {
+        self.is_closed
+    }
+}

@@ -1,0 +1,23 @@
+//! Devices, and the texts of answers.
+//!
+//! It stands on ch_graph, ch_hierarchy, ch_near, ch_query, ch_table and itoa. It knows no run, and not how a hierarchy is built.
+//! [`Input`] and [`Output`] are devices that count their faults, over memory ([`MemoryInput`],
+//! [`MemoryOutput`]) or over the readers and writers of `std` ([`ReaderInput`], [`WriterOutput`]). An output also says
+//! whether it is closed: whether a write has failed because no one reads what is written any more.
+//! Proved of [`read_all`] and [`write_all`]: they give and take exactly the bytes that the device had, in however many calls.
+//! Proved of each text: it is the one that the definitions name, byte for byte.
+#![tactic(auto)]
+
+mod device;
+mod hierarchy_text;
+mod near_text;
+mod short_text;
+mod text;
+
+pub use device::{
+    DeviceFault, Input, MemoryInput, MemoryOutput, Output, ReadAllFault, ReaderInput, WriterOutput,
+    read_all, write_all,
+};
+pub use hierarchy_text::save_text;
+pub use near_text::{push_near_row, push_near_rows};
+pub use text::{answers_text, table_text};
