@@ -1,3 +1,4 @@
 pub mod Bytes
 pub mod Growing
+pub mod Ranges
 pub mod Saving

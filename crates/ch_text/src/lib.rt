@@ -1,6 +1,6 @@
 //! Devices, and the texts of answers.
 //!
-//! It stands on ch_graph, ch_hierarchy, ch_near, ch_query, ch_table and itoa. It knows no run, and not how a hierarchy is built.
+//! It stands on ch_graph, ch_hierarchy, ch_near, ch_query, ch_table, ch_work and itoa. It knows no run, and not how a hierarchy is built.
 //! [`Input`] and [`Output`] are devices that count their faults, over memory ([`MemoryInput`],
 //! [`MemoryOutput`]) or over the readers and writers of `std` ([`ReaderInput`], [`WriterOutput`]). An output also says
 //! whether it is closed: whether a write has failed because no one reads what is written any more.
@@ -13,6 +13,7 @@ mod hierarchy_text;
 mod near_text;
 mod short_text;
 mod text;
+mod workers;
 
 pub use device::{
     DeviceFault, Input, MemoryInput, MemoryOutput, Output, ReadAllFault, ReaderInput, WriterOutput,
@@ -20,4 +21,5 @@ pub use device::{
 };
 pub use hierarchy_text::save_text;
 pub use near_text::{push_near_row, push_near_rows};
-pub use text::{answers_text, table_text};
+pub use text::answers_text;
+pub use workers::{answers_text_by, table_text};

@@ -2,7 +2,7 @@
 //! the distance where there is no walk; with its route a line `r K` and K lines `a U V W` follow. A row of a
 //! table is a line `t S`, with the distance to each target after it.
 ghost use Rattle.std.specs.Prelude.{◌≡◌, ◌≤◌, ◌++◌, length, flat_map, Some, IfOk, OnOk};
-ghost use Rattle.std.specs.List.{zip};
+ghost use Rattle.std.specs.List.{slice_range, zip};
 ghost use Rattle.ch_graph.specs.declared.limits.TheConstants.{MOST_LISTED};
 ghost use Rattle.ch_text.specs.Routes.{answer_text, arc_text, route_text};
 ghost use Rattle.ch_text.specs.Distances.{distance_text};
@@ -28,18 +28,27 @@ pub fn answers_text(alloc: Global, answers: &[Answer]) -> Result<Vec<u8>, AllocE
     Ok(text)
 }
 
-/// The text of the rows of a table, one for each of its sources in order.
+/// The text of the rows of a table from row `from` up to row `to`, which is not among them, one for each of
+/// its sources in order.
 ///
 /// # Errors
-/// `AllocError` where there is no memory for it.
-pub fn table_text(alloc: Global, sources: &[u32], table: &Table) -> Result<Vec<u8>, AllocError>
+/// `AllocError` if there is no memory for it.
+pub(crate) fn rows_text(
+    alloc: Global,
+    sources: &[u32],
+    table: &Table,
+    from: u32,
+    to: u32,
+) -> Result<Vec<u8>, AllocError>
     requires count { length sources.now ≤ MOST_LISTED }
     requires rows { length table.now ≡ length sources.now }
-    ensures { IfOk result (λ text. text.items ≡ flat_map row_text (zip sources.now table.now)) }
+    requires order { from ≤ to }
+    requires inside { to ≤ length sources.now }
+    ensures { IfOk result (λ text. text.items ≡ flat_map row_text (slice_range (zip sources.now table.now) from to)) }
 {
     let mut text = Vec::new(alloc);
-    for (place, source) in sources.iter().enumerate() {
-        push_row(&mut text, *source, table.row(place as u32))?;
+    for place in from..to {
+        push_row(&mut text, sources[place as usize], table.row(place))?;
     }
     Ok(text)
 }

@@ -17,7 +17,7 @@ use ch_contract::Hierarchy;
 use ch_graph::{Graph, plain_distance};
 use ch_query::{Answer, Scratch, answer_all, answer_all_in};
 use ch_table::table;
-use ch_text::{answers_text, table_text};
+use ch_text::{answers_text, answers_text_by, table_text};
 use std::alloc::{AllocError, Global};
 use std::thread::Threads;
 
@@ -35,7 +35,7 @@ pub(crate) fn answers_by<R: Threads + Sync, G: Gate>(
         IsTextBy routes g (λ H. H ≡ hierarchy.now) queries.now text.items) }
 {
     let answers = answer_all(crew, hierarchy, queries, routes)?;
-    answers_text(crew.alloc, &answers)
+    answers_text_by(crew, &answers)
 }
 
 /// As [`answers_by`], in scratches that the caller has.
@@ -55,7 +55,7 @@ pub(crate) fn answers_in<R: Threads + Sync, G: Gate>(
     ensures scratches { All (λ scratch. scratch ≡ nodes_of hierarchy.now) scratches.new.items }
 {
     let answers = answer_all_in(crew, hierarchy, scratches, queries, routes)?;
-    answers_text(crew.alloc, &answers)
+    answers_text_by(crew, &answers)
 }
 
 /// The text that answers the queries by rounds over all arcs, without a hierarchy and without routes.
@@ -112,5 +112,5 @@ pub(crate) fn table_by<R: Threads + Sync, G: Gate>(
         IsTableText g within sources.now targets.now text.items) }
 {
     let cells = table(crew, hierarchy, sources, targets, within)?;
-    table_text(crew.alloc, sources, &cells)
+    table_text(crew, sources, &cells)
 }

@@ -1,8 +1,16 @@
+use Rattle.std.proofs.Common.{arith}
 use Rattle.std.proofs.lemmas.Result.{IfOk-weaker}
+use Rattle.std.proofs.lemmas.Slice.Zip.{AllZip-long}
 use Rattle.ch_run.proofs.Texts.{replies_text}
 use Rattle.ch_run.proofs.run.texts.answers_by.Goals as goal
 
+pub answers_text_by-requires-after_bounds : goal.answers_text_by-requires-after_bounds
+answers_text_by-requires-after_bounds g c κs within =
+    let long = AllZip-long _ c.args.queries.now c.in_ok-answers.answers.items c.in_ok-answers.ensures in
+    let most = c.requires.count in
+    rw c.deref.ensures.value (omega arith)
+
 pub returns : goal.returns
 returns g c =
-    IfOk-weaker c.answers_text.result _ _ (λ text is network limits kept.
-    replies_text network c.args.hierarchy.now limits kept c.args.routes c.args.queries.now c.in_ok-answers.answers.items text.items c.in_ok-answers.ensures (rw c.deref.ensures.value at is)) c.answers_text.ensures
+    IfOk-weaker c.answers_text_by.result _ _ (λ text is network limits kept.
+    replies_text network c.args.hierarchy.now limits kept c.args.routes c.args.queries.now c.in_ok-answers.answers.items text.items c.in_ok-answers.ensures (rw c.deref.ensures.value at is)) c.answers_text_by.ensures

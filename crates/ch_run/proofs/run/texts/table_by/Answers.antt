@@ -5,7 +5,7 @@ use Rattle.ch_run.proofs.Texts.{cells_text}
 use Rattle.ch_run.proofs.run.texts.table_by.Goals as goal
 
 pub table_text-requires-clause-rows : goal.table_text-requires-clause-rows
-table_text-requires-clause-rows g c =
+table_text-requires-clause-rows g c κs within =
     AllZip-long (IsRowBy c.args.hierarchy.now c.args.within c.args.targets.now) c.args.sources.now c.in_ok-cells.cells c.in_ok-cells.ensures
 
 pub returns : goal.returns
