@@ -1,4 +1,4 @@
-/* chtab.h: exact distances, tables and routes in road networks, in your own process.
+/* chtab.h: exact distances, tables, routes and nearest places in road networks, in your own process.
  *
  * Link with -lchtab (or `pkg-config --cflags --libs chtab`). The library has no global state. It starts no thread, opens no
  * file, prints nothing and never ends the process. It takes its memory by malloc, realloc and free of your program.
@@ -39,8 +39,11 @@
 /* The distance where there is no walk: the greatest of 64 bits, which no distance reaches. */
 #define CHTAB_NO_DISTANCE ((uint64_t)-1)
 
-/* The limit of a table that leaves no distance out. */
+/* The limit of a table or of near rows that leaves no distance out. */
 #define CHTAB_NO_LIMIT ((uint64_t)-1)
+
+/* The number of places of a near row that leaves none out. */
+#define CHTAB_ALL ((uint32_t)-1)
 
 /* A handle that is closed. */
 #define CHTAB_CLOSED_HANDLE { 0, 0 }
@@ -65,11 +68,12 @@ typedef enum chtab_status {
     CHTAB_IS_OPEN = 3,      /* the handle is open already; close it first */
     CHTAB_NODE_RANGE = 4,   /* a node is not below the number of nodes */
     CHTAB_LENGTHS = 5,      /* the lengths do not fit one another */
-    CHTAB_TOO_LARGE = 6,    /* a table has more than 65,536 sources or targets */
-    CHTAB_TOO_SHORT = 7,    /* the route has more nodes than there is room for */
+    CHTAB_TOO_LARGE = 6,    /* there are more than 65,536 sources or targets of a table, or near places */
+    CHTAB_TOO_SHORT = 7,    /* a route has more nodes, or near rows have more pairs, than there is room for */
     CHTAB_BAD_GRAPH = 8,    /* the graph's bytes are faulty: see the fault's line and kind */
     CHTAB_BAD_SAVED = 9,    /* the hierarchy's bytes are faulty: see the fault's line and kind */
-    CHTAB_WRONG_SAVED = 10  /* the hierarchy is not right for the graph: see the fault's kind and place */
+    CHTAB_WRONG_SAVED = 10, /* the hierarchy is not right for the graph: see the fault's kind and place */
+    CHTAB_NO_PLACES = 11    /* the handle keeps no near places: give it some by chtab_near_places */
 } chtab_status;
 
 /* What is wrong with a file. The first ten are faults of a line, the others of a hierarchy for its graph. */
@@ -94,7 +98,8 @@ typedef enum chtab_fault_kind {
     CHTAB_FAULT_LOWER = 17   /* place: a node through which a way is shorter than any other in the hierarchy */
 } chtab_fault_kind;
 
-/* A network, and room for one question at a time: 16 bytes. Its members are the library's own. */
+/* A network, with room for one question at a time and the near places that are kept for it: 16 bytes. Its members are the
+ * library's own. */
 typedef struct chtab {
     uint64_t is_open;
     void *engine;
@@ -125,7 +130,7 @@ uint32_t chtab_open(chtab *handle, const uint8_t *graph, size_t graph_len, const
                     chtab_fault *fault);
 
 /* Opens the closed handle `other` in the network of the open handle `handle`, for another thread. This is a call with both.
- * The network is freed with the last handle that shares it.
+ * The network is freed with the last handle that shares it. Near places are not shared.
  * Errors: CHTAB_IS_OPEN of `other`, CHTAB_CLOSED of `handle`, CHTAB_NO_MEMORY. */
 uint32_t chtab_share(chtab *handle, chtab *other);
 
@@ -158,6 +163,31 @@ uint32_t chtab_table(chtab *handle, const uint32_t *sources, size_t sources_len,
  * not: call again with room for found->nodes. */
 uint32_t chtab_route(chtab *handle, uint32_t source, uint32_t target, chtab_found *found, uint32_t *nodes, size_t nodes_len);
 
+/* Searches from each of these nodes, the places, and keeps what is found in place of what the handle kept: for near rows. A
+ * row has the first `count` places (CHTAB_ALL: all) in order of their distance, and of equal distances in the order in which
+ * they stand here, and only those whose distance is at most `limit` (CHTAB_NO_LIMIT: all to or from which there is a walk).
+ * If is_from is 0, distances are those from a source to the places, and otherwise those from the places to a source. A node
+ * may stand here more than once. The time is that of one search for each place. No places free what was kept.
+ * Errors: CHTAB_CLOSED, CHTAB_TOO_LARGE, CHTAB_NODE_RANGE, CHTAB_NO_MEMORY. Then the places that were kept stay. */
+uint32_t chtab_near_places(chtab *handle, uint32_t is_from, const uint32_t *places, size_t places_len, uint64_t limit,
+                           uint32_t count);
+
+/* Makes the near rows of all nodes in one sweep, which is faster than as many searches, and keeps them with the places: 16
+ * bytes for each pair of each row. Afterwards chtab_near_rows copies rows, and searches for none. No answer changes.
+ * Errors: CHTAB_CLOSED, CHTAB_NO_PLACES, CHTAB_NO_MEMORY. */
+uint32_t chtab_near_sweep(chtab *handle);
+
+/* Writes the near rows of sources, one behind the other, and to `rows` how many. Row i is that of sources[i]. Its pairs stand
+ * from ends[i - 1], or 0 for the first row, up to but without ends[i]: weights[j] is a distance, and places[j] says which
+ * place it belongs to, counted from 0 in the order of chtab_near_places. ends_len is sources_len, and places_len is
+ * weights_len. The time is that of one search for each source, or that of a copy after chtab_near_sweep.
+ * Errors: CHTAB_CLOSED, CHTAB_LENGTHS, CHTAB_NO_PLACES, CHTAB_NODE_RANGE; and CHTAB_TOO_SHORT or CHTAB_NO_MEMORY, with which
+ * `rows` says how many rows are written: the next one has more pairs than there is room left for, or needs more memory. Ask
+ * for the other sources in a further call. Room for as many pairs as there are places, or as `count` says, is always enough
+ * for one row. */
+uint32_t chtab_near_rows(chtab *handle, const uint32_t *sources, size_t sources_len, uint64_t *rows, uint64_t *ends,
+                         size_t ends_len, uint64_t *weights, size_t weights_len, uint32_t *places, size_t places_len);
+
 /* Answers the words for a status: a text that stays, for every number. */
 CHTAB_INLINE const char *chtab_strerror(uint32_t status) {
     switch (status) {
@@ -167,11 +197,12 @@ CHTAB_INLINE const char *chtab_strerror(uint32_t status) {
     case CHTAB_IS_OPEN: return "the handle is open already";
     case CHTAB_NODE_RANGE: return "node out of range";
     case CHTAB_LENGTHS: return "lengths do not fit";
-    case CHTAB_TOO_LARGE: return "too many sources or targets";
-    case CHTAB_TOO_SHORT: return "not enough room for the route";
+    case CHTAB_TOO_LARGE: return "too many sources, targets or places";
+    case CHTAB_TOO_SHORT: return "not enough room for the answer";
     case CHTAB_BAD_GRAPH: return "bad graph";
     case CHTAB_BAD_SAVED: return "bad hierarchy";
     case CHTAB_WRONG_SAVED: return "the hierarchy is not right for the graph";
+    case CHTAB_NO_PLACES: return "no near places are kept";
     }
     return "unknown status";
 }

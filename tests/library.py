@@ -19,7 +19,7 @@ import tempfile
 import threading
 from pathlib import Path
 
-from helpers.in_process import HEADER, MADE, NO_DISTANCE, SHARED, Handle, Library, declared, statuses
+from helpers.in_process import ALL, HEADER, MADE, NO_DISTANCE, SHARED, Handle, Library, declared, statuses
 from helpers.running import ROOT, Count, build, run
 from helpers.writing import write_list, write_queries
 from oracles.reading import graph_of
@@ -179,6 +179,41 @@ def compare_answers(tally, folder, library, graph, hierarchy):
     library.close(handle)
 
 
+def near_of_program(folder, graph, hierarchy, options, sources, places):
+    """The program's near rows: the pairs of a weight and a node of each source."""
+    write_list(folder / "from.ss", [node + 1 for node in sources or []])
+    write_list(folder / "to.ss", [node + 1 for node in places])
+    lists = ["to.ss"] if sources is None else ["from.ss", "to.ss"]
+    told = run(["near", "--saved", hierarchy, *options, *["--all"] * (sources is None), graph, *lists], folder)
+    assert told.status == 0, told
+    rows = [list(map(int, line.split()[1:])) for line in told.out.decode().splitlines()]
+    return [[(weight, node - 1) for node, weight in zip(row[2::2], row[3::2])] for row in rows]
+
+
+def compare_near(tally, folder, library, graph, hierarchy):
+    """Near rows are those of the program: of some sources by searches, and of all nodes by the sweep."""
+    count, _ = graph_of(graph)
+    draw = random.Random(f"library near {graph.name}")
+    status, handle, _ = library.open(graph.read_bytes(), hierarchy.read_bytes())
+    for most, limit, is_from in (3, NO_DISTANCE, 0), (ALL, 9_000, 0), (1, NO_DISTANCE, 1), (5, 4_000, 1):
+        places, some = ([draw.randrange(count) for _ in range(30)] for _ in range(2))
+        words = [["--count", str(most)] * (most != ALL), ["--within", str(limit)] * (limit != NO_DISTANCE), ["--from"] * is_from]
+        options = [word for part in words for word in part]
+        tally.expect(library.near_places(handle, places, limit, most, is_from) == 0, f"{graph.name}: places")
+        for sources in some, None:
+            listed = range(count) if sources is None else sources
+            owed = near_of_program(folder, graph, hierarchy, options, sources, places)
+            if sources is None:
+                tally.expect(library.near_sweep(handle) == 0, f"{graph.name}: the sweep")
+            status, rows, ends, weights, found = library.near_rows(handle, list(listed), sum(map(len, owed)))
+            tally.expect((status, rows) == (0, len(owed)), f"{graph.name}: near rows {options} {status} {rows}")
+            pairs = [[*zip(weights[begin:end], (places[place] for place in found[begin:end]))] for begin, end in zip([0, *ends], ends)]
+            tally.expect(pairs == owed, f"{graph.name}: near rows {options} of {'all' if sources is None else 'some'} nodes")
+            by_place = [[*zip(weights[begin:end], found[begin:end])] for begin, end in zip([0, *ends], ends)]
+            tally.expect(all(row == sorted(row) for row in by_place), f"{graph.name}: rows are in order")
+    library.close(handle)
+
+
 def ask_in_threads(tally, library, graph, hierarchy):
     """Four threads, with a handle each, answer what one does."""
     count, _ = graph_of(graph)
@@ -223,12 +258,14 @@ def tell_faults(tally, library):
 
 
 def ask_too_much(tally, library):
-    """A table of more sources, or of more targets, than a list may have, with room for it."""
+    """A table of more sources, or of more targets, than a list may have, with room for it; and more near places."""
     status, handle, _ = library.open(LINE, OF_LINE)
     most = [0] * 65_536
     tally.expect(status == 0 and library.table(handle, most, [1]) == (0, [4] * len(most)), "a table of as many sources as may be")
     for sources, targets in ([*most, 0], [1]), ([1], [*most, 0]):
         tally.expect(library.table(handle, sources, targets) == (STATUS["TOO_LARGE"], [7] * (len(most) + 1)), "a table that is too large")
+    tally.expect(library.near_places(handle, [*most, 0]) == STATUS["TOO_LARGE"], "too many places")
+    tally.expect(library.near_places(handle, most, count=2) == 0 and library.near_rows(handle, [0], 2) == (0, 1, [2], [0, 0], [0, 1]), "as many places as may be")
     library.close(handle)
 
 
@@ -255,6 +292,7 @@ def main():
         tell_faults(tally, library)
         for graph in GRAPHS:
             compare_answers(tally, folder, library, graph, saved[graph])
+            compare_near(tally, folder, library, graph, saved[graph])
         ask_in_threads(tally, library, GRAPHS[1], saved[GRAPHS[1]])
     fuzzed = done(sys.executable, ROOT / "tests/library/fuzz.py", calls, 1)
     passed, failed = map(int, (re.search(r"(\d+) passed, (\d+) failed$", fuzzed.stdout.strip()) or re.match("(0) (1)", "0 1")).groups())

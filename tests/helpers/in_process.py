@@ -11,6 +11,8 @@ HEADER = ROOT / "include" / "chtab.h"
 MADE = ROOT / "out" / "library"
 SHARED = MADE / "lib" / "libchtab.so"
 NO_DISTANCE = 2**64 - 1
+# The number of places of a near row that leaves none out.
+ALL = 2**32 - 1
 
 
 @functools.cache
@@ -100,3 +102,20 @@ class Library:
         status = self.calls.chtab_route(ctypes.byref(handle), ctypes.c_uint32(source), ctypes.c_uint32(target), ctypes.byref(found), nodes, ctypes.c_size_t(room))
         assert nodes[room] == 7, "a node past the room is written"
         return status, found.weight, found.nodes, list(nodes)[:room]
+
+    def near_places(self, handle, places, limit=NO_DISTANCE, count=ALL, is_from=0):
+        return self.calls.chtab_near_places(ctypes.byref(handle), ctypes.c_uint32(is_from), numbers(places), ctypes.c_size_t(len(places)),
+                                            ctypes.c_uint64(limit), ctypes.c_uint32(count))
+
+    def near_sweep(self, handle):
+        return self.calls.chtab_near_sweep(ctypes.byref(handle))
+
+    def near_rows(self, handle, sources, room, places_room=None, ends_room=None):
+        """The status, the number of rows, and the ends, weights and places, in which 7 stands where nothing was written."""
+        rooms = [len(sources) if ends_room is None else ends_room, room, room if places_room is None else places_room]
+        kinds = ctypes.c_uint64, ctypes.c_uint64, ctypes.c_uint32
+        rows, arrays = ctypes.c_uint64(7), [numbers([7] * (length + 1), kind) for length, kind in zip(rooms, kinds)]
+        given = [word for array, length in zip(arrays, rooms) for word in (array, ctypes.c_size_t(length))]
+        status = self.calls.chtab_near_rows(ctypes.byref(handle), numbers(sources), ctypes.c_size_t(len(sources)), ctypes.byref(rows), *given)
+        assert all(array[length] == 7 for array, length in zip(arrays, rooms)), "a word past the room is written"
+        return status, rows.value, *(list(array)[:length] for array, length in zip(arrays, rooms))

@@ -1,4 +1,4 @@
-/* Opens a network and asks it for distances, a table and a route: once each way, and once each wrong way that a program can take.
+/* Opens a network and asks it for distances, a table, a route and near rows: once each way, and once each wrong way that a program can take.
  *
  *   example GRAPH SAVED
  *
@@ -50,6 +50,38 @@ static void ask(chtab *network) {
     printf("\n");
 }
 
+/* The rows of two sources to two places: each with the distances of its pairs, in order, by searches and by the sweep. */
+static void ask_near(chtab *network) {
+    uint32_t sources[2] = {0, 1}, places[2], found[4] = {7, 7, 7, 7}, count = 0, k, swept;
+    uint64_t ends[2] = {5, 5}, weights[4] = {5, 5, 5, 5}, rows = 9, cells[4], begin = 0;
+    expect(chtab_near_sweep(network) == CHTAB_NO_PLACES, "no places to sweep to");
+    expect(chtab_near_rows(network, sources, 2, &rows, ends, 2, weights, 4, found, 4) == CHTAB_NO_PLACES, "no places");
+    expect(rows == 9 && ends[0] == 5 && weights[0] == 5 && found[0] == 7, "a refusal writes no row");
+    expect(chtab_nodes(network, &count) == CHTAB_OK, "nodes");
+    places[0] = count - 1;
+    places[1] = count / 2;
+    expect(chtab_table(network, sources, 2, places, 2, CHTAB_NO_LIMIT, cells, 4) == CHTAB_OK, "table");
+    expect(chtab_near_places(network, 0, &count, 1, CHTAB_NO_LIMIT, CHTAB_ALL) == CHTAB_NODE_RANGE, "a place past the nodes");
+    expect(chtab_near_places(network, 0, places, 2, CHTAB_NO_LIMIT, CHTAB_ALL) == CHTAB_OK, "places");
+    for (swept = 0; swept < 2; swept++) {
+        if (swept) expect(chtab_near_sweep(network) == CHTAB_OK, "sweep");
+        expect(chtab_near_rows(network, sources, 2, &rows, ends, 2, weights, 4, found, 4) == CHTAB_OK && rows == 2, "near rows");
+        expect(ends[0] <= 2 && ends[1] <= 4, "at most two pairs a row");
+        for (k = 0; k < ends[1]; k++) {
+            expect(found[k] < 2 && weights[k] == cells[(k < ends[0] ? 0 : 2) + found[k]], "a pair has its cell's distance");
+            expect(k == 0 || k == ends[0] || weights[k - 1] <= weights[k], "pairs are in order");
+        }
+    }
+    expect(chtab_near_places(network, 1, places, 2, 0, 1) == CHTAB_OK, "places from which");
+    expect(chtab_near_rows(network, places, 2, &rows, ends, 2, weights, 1, found, 1) == CHTAB_TOO_SHORT && rows == 1, "room for a row");
+    expect(ends[0] == 1 && weights[0] == 0 && found[0] == 0, "a place is the nearest to itself");
+    for (k = 0; k < 2; k++) {
+        expect(chtab_near_rows(network, places + k, 1, &rows, ends, 1, weights, 1, found, 1) == CHTAB_OK && rows == 1, "one row");
+        begin += ends[0];
+    }
+    expect(begin == 2, "each place has a row of one pair");
+}
+
 static void ask_wrongly(chtab *network) {
     uint32_t node = 0, past = 0, nodes[1] = {7};
     uint64_t out[2] = {5, 5};
@@ -61,6 +93,9 @@ static void ask_wrongly(chtab *network) {
     expect(chtab_table(network, &node, 1, &node, 1, 0, out, 2) == CHTAB_LENGTHS, "lengths of a table");
     expect(chtab_route(network, past, node, &found, nodes, 1) == CHTAB_NODE_RANGE, "a route from past the nodes");
     expect(out[0] == 5 && out[1] == 5 && found.weight == 3 && found.nodes == 3 && nodes[0] == 7, "a refusal writes nothing");
+    expect(chtab_near_rows(network, &node, 1, out, out, 0, out, 1, nodes, 1) == CHTAB_LENGTHS, "lengths of ends");
+    expect(chtab_near_rows(network, &node, 1, out, out, 1, out, 2, nodes, 1) == CHTAB_LENGTHS, "lengths of near rows");
+    expect(out[0] == 5 && out[1] == 5 && nodes[0] == 7, "a refusal writes no row");
     expect(chtab_route(network, node, node, &found, nodes, 0) == CHTAB_TOO_SHORT && found.nodes == 1 && nodes[0] == 7, "no room");
     expect(chtab_route(network, node, node, &found, nodes, 1) == CHTAB_OK && found.weight == 0 && nodes[0] == 0, "a route of one node");
 }
@@ -90,6 +125,7 @@ int main(int count, char **words) {
     expect(chtab_close(&network) == CHTAB_OK, "close");
     expect(chtab_close(&network) == CHTAB_CLOSED, "close again");
     ask(&other);
+    ask_near(&other);
     ask_wrongly(&other);
     expect(chtab_close(&other) == CHTAB_OK, "close the other");
     return failures > 0;

@@ -15,7 +15,7 @@ from pathlib import Path
 sys.path.insert(0, str(Path(__file__).resolve().parent.parent))
 
 from helpers.cases import Case  # noqa: E402
-from helpers.in_process import NO_DISTANCE, Handle, Library, statuses  # noqa: E402
+from helpers.in_process import ALL, NO_DISTANCE, Handle, Library, statuses  # noqa: E402
 from helpers.running import Count  # noqa: E402
 from oracles.rules import hierarchy_text  # noqa: E402
 
@@ -47,6 +47,8 @@ class Caller:
         # The least weights and numbers of arcs, from each node to each, or None.
         self.away = [[case.costs[source].get(target) for target in range(1, case.nodes + 1)] for source in range(1, case.nodes + 1)]
         self.handles = [Handle(), Handle()]
+        # What each handle keeps: the places, the limit, the count and the direction.
+        self.kept = {}
 
     def word(self, source, target, limit=NO_DISTANCE):
         away = self.away[source][target]
@@ -79,6 +81,7 @@ class Caller:
         if self.draw.random() < 0.3:
             wanted = STATUS["OK" if handle.is_open else "CLOSED"]
             self.expect(self.library.close(handle) == wanted and not handle.is_open, "close", wanted)
+            self.kept.pop(id(handle), None)
         else:
             wanted = STATUS["IS_OPEN" if handle.is_open else "OK"]
             self.expect(self.library.open(self.graph, self.saved, handle)[0] == wanted and handle.is_open, "open", wanted)
@@ -139,6 +142,51 @@ class Caller:
             self.expect((weight, count) == (least, arcs + 1) and status == STATUS["OK" if count <= room else "TOO_SHORT"], *told)
             self.expect(self.is_way(nodes[:count], least) if count <= room else nodes == untouched, *told)
 
+    def keep_places(self):
+        handle, places = self.draw.choice(self.handles), self.nodes()
+        limit, count = self.draw.choice((0, 1, 5, 100, NO_DISTANCE)), self.draw.choice((0, 1, 2, 3, ALL))
+        is_from = self.draw.choice((0, 1, 2**32 - 1))
+        wanted = "OK" if handle.is_open and self.are_nodes(places) else "NODE_RANGE" if handle.is_open else "CLOSED"
+        self.expect(self.library.near_places(handle, places, limit, count, is_from) == STATUS[wanted], "near places", places, wanted)
+        if wanted == "OK":
+            self.kept[id(handle)] = places, limit, count, is_from
+
+    def sweep(self):
+        handle = self.draw.choice(self.handles)
+        wanted = "CLOSED" if not handle.is_open else "OK" if id(handle) in self.kept else "NO_PLACES"
+        self.expect(self.library.near_sweep(handle) == STATUS[wanted], "sweep", wanted)
+
+    def near_row(self, handle, source):
+        """The row of a source to the kept places: weights and places in order."""
+        places, limit, count, is_from = self.kept[id(handle)]
+        away = [self.word(place, source, limit) if is_from else self.word(source, place, limit) for place in places]
+        return sorted((weight, place) for place, weight in enumerate(away) if weight != NO_DISTANCE)[:count]
+
+    def ask_near(self):
+        handle, sources, room = self.draw.choice(self.handles), self.nodes(), self.draw.choice((0, 1, 2, 5, 40, 40, 80))
+        places_room = room if self.draw.random() < 0.9 else self.draw.randrange(9)
+        ends_room = len(sources) if self.draw.random() < 0.9 else self.draw.randrange(9)
+        status, rows, ends, weights, places = told = self.library.near_rows(handle, sources, room, places_room, ends_room)
+        wanted = "OK"
+        if not handle.is_open:
+            wanted = "CLOSED"
+        elif ends_room != len(sources) or places_room != room:
+            wanted = "LENGTHS"
+        elif id(handle) not in self.kept:
+            wanted = "NO_PLACES"
+        elif not self.are_nodes(sources):
+            wanted = "NODE_RANGE"
+        if wanted != "OK":
+            self.expect(told == (STATUS[wanted], 7, [7] * ends_room, [7] * room, [7] * places_room), "near rows", sources, room, wanted, told)
+            return
+        owed, begins = [self.near_row(handle, source) for source in sources], [0]
+        while len(begins) <= len(owed) and begins[-1] + len(owed[len(begins) - 1]) <= room:
+            begins.append(begins[-1] + len(owed[len(begins) - 1]))
+        self.expect((status, rows) == (STATUS["OK" if len(begins) > len(owed) else "TOO_SHORT"], len(begins) - 1), "near rows", sources, room, told)
+        self.expect(ends == [*begins[1:], *[7] * (len(owed) + 1 - len(begins))], "ends", sources, room, told)
+        pairs = [pair for row in owed[:rows] for pair in row]
+        self.expect([*zip(weights, places)] == [*pairs, *[(7, 7)] * (room - len(pairs))], "near pairs", sources, room, told)
+
     def is_way(self, nodes, least):
         """Whether the least weights from node to node add up."""
         return sum(self.away[one][other][0] for one, other in zip(nodes, nodes[1:])) == least
@@ -148,8 +196,11 @@ class Caller:
             self.library.close(handle)
 
     def call(self):
-        calls = self.open_changed, self.open_or_close, self.share, self.ask_nodes, self.ask_distances, self.ask_table, self.ask_route
-        self.draw.choices(calls, (20, 5, 3, 2, 30, 20, 20))[0]()
+        calls = (
+            self.open_changed, self.open_or_close, self.share, self.ask_nodes, self.ask_distances, self.ask_table, self.ask_route,
+            self.keep_places, self.sweep, self.ask_near,
+        )
+        self.draw.choices(calls, (20, 5, 3, 2, 20, 15, 15, 10, 3, 20))[0]()
 
 
 def memory():

@@ -53,6 +53,8 @@ static struct {
     uint32_t ends[8];
     uint32_t nodes[MOST_NODES];
     uint64_t cells[64];
+    uint64_t row_ends[8];
+    uint32_t places[64];
 } g;
 
 static uint32_t open_network(void) {
@@ -84,6 +86,57 @@ static uint32_t find_route(void) {
     g.nodes[0] = 7;
     status = chtab_route(&g.network, g.ends[0], g.ends[7], &g.found, g.nodes, MOST_NODES);
     if (status) expect(g.found.weight == 3 && g.nodes[0] == 7, "a route stays");
+    return status;
+}
+
+/* Rows of the first `count` ends among the kept places, with no request refused, whatever is refused after them. */
+static uint64_t pairs_of(size_t count) {
+    uint64_t rows = 9;
+    long kept = granted;
+    granted = -1;
+    expect(chtab_near_rows(&g.network, g.ends, count, &rows, g.row_ends, count, g.cells, 64, g.places, 64) == CHTAB_OK && rows == count, "near rows");
+    granted = kept;
+    return g.row_ends[count - 1];
+}
+
+static void keep_one_place(void) {
+    expect(chtab_near_places(&g.network, 0, g.ends, 1, CHTAB_NO_LIMIT, CHTAB_ALL) == CHTAB_OK && pairs_of(1) == 1, "one place");
+}
+
+/* Where places are refused memory, the one before stays. */
+static uint32_t keep_places(void) {
+    uint32_t status = chtab_near_places(&g.network, 0, g.ends, 8, CHTAB_NO_LIMIT, CHTAB_ALL);
+    if (status) expect(pairs_of(1) == 1, "places stay");
+    return status;
+}
+
+static void keep_all_places(void) {
+    expect(chtab_near_places(&g.network, 0, g.ends, 8, CHTAB_NO_LIMIT, CHTAB_ALL) == CHTAB_OK, "all places");
+}
+
+static uint32_t sweep_rows(void) {
+    uint32_t status = chtab_near_sweep(&g.network);
+    expect(pairs_of(8) >= 8, "places stay");
+    return status;
+}
+
+/* Where a row is refused memory, those before it are written, and the next call gives the others. */
+static uint32_t write_rows(void) {
+    uint64_t rows = 9, from = 0, pairs = pairs_of(8);
+    uint32_t status;
+    long kept = granted;
+    granted = -1;
+    keep_all_places();
+    granted = kept;
+    status = chtab_near_rows(&g.network, g.ends, 8, &rows, g.row_ends, 8, g.cells, 64, g.places, 64);
+    granted = -1;
+    expect((status == CHTAB_OK) == (rows == 8) && rows <= 8, "rows before the one that is refused");
+    if (rows) from = g.row_ends[rows - 1];
+    if (rows < 8) {
+        expect(chtab_near_rows(&g.network, g.ends + rows, 8 - rows, &rows, g.row_ends, 8 - rows, g.cells, 64, g.places, 64) == CHTAB_OK, "other rows");
+        from += g.row_ends[rows - 1];
+    }
+    expect(from == pairs, "all rows");
     return status;
 }
 
@@ -127,6 +180,11 @@ int main(int count, char **words) {
     refuse_each(share_network, close_other, "share");
     refuse_each(make_table, NULL, "table");
     refuse_each(find_route, NULL, "route");
+    keep_one_place();
+    refuse_each(keep_places, keep_one_place, "places");
+    keep_all_places();
+    refuse_each(sweep_rows, keep_all_places, "sweep");
+    refuse_each(write_rows, NULL, "near rows");
     close_network();
     free(g.graph);
     free(g.saved);

@@ -1,5 +1,5 @@
 -- What the calls for C answer, and what then is so.
-use Rattle.std.specs.Prelude.{◌≡◌, ◌⊎◌, ℕ, ◌+◌, ◌<◌, ◌≤◌, List, length, slice_index, slice_index_or, Option, Some, None}
+use Rattle.std.specs.Prelude.{◌≡◌, ◌⊎◌, ℕ, zero, suc, IsSome, ◌+◌, ◌<◌, ◌≤◌, List, length, slice_index, slice_index_or, Option, Some, None}
 use Rattle.ch_graph.specs.declared.arc.InArc.{InArc}
 use Rattle.ch_graph.specs.Graph.{Network}
 use Rattle.ch_hierarchy.specs.declared.fault.CheckFault.{CheckFault}
@@ -11,11 +11,18 @@ use Rattle.ch_query.specs.declared.routes.Route.{Route}
 use Rattle.ch_query.specs.Routes.{IsRouteBy}
 use Rattle.ch_engine.specs.declared.fault.OpenError.{OpenError}
 use Rattle.ch_engine.specs.declared.fault.Refusal.{Refusal}
+use Rattle.ch_near.specs.declared.direction.Direction.{Direction}
+use Rattle.ch_near.specs.declared.direction.Direction.TheVariants.{To, From}
+use Rattle.ch_engine.specs.declared.written.End.{End}
+use Rattle.ch_engine.specs.declared.written.End.TheVariants as End
+use Rattle.ch_engine.specs.declared.written.Written.{Written}
+use Rattle.ch_engine.specs.Held.{Held, only, with_places}
+use Rattle.ch_engine.specs.NearRows.{AreRowsWritten}
 use Rattle.ch_engine.specs.Cells.{ArePairCells, AreTableCells, no_distance}
-use Rattle.ch_engine.specs.Refusals.{IsOpenError, IsRefusalOfPairs, IsRefusalOfRoute, IsRefusalOfTable}
+use Rattle.ch_engine.specs.Refusals.{IsOpenError, IsRefusalOfPairs, IsRefusalOfPlaces, IsRefusalOfRoute, IsRefusalOfRows, IsRefusalOfSweep, IsRefusalOfTable}
 use Rattle.ch_c.specs.declared.faults.Fault.{Fault}
 use Rattle.ch_c.specs.declared.answers.Found.{Found}
-use Rattle.ch_c.specs.declared.status.TheConstants.{OK, NO_MEMORY, CLOSED, IS_OPEN, NODE_RANGE, LENGTHS, TOO_LARGE, TOO_SHORT, BAD_GRAPH, BAD_SAVED, WRONG_SAVED}
+use Rattle.ch_c.specs.declared.status.TheConstants.{OK, NO_MEMORY, CLOSED, IS_OPEN, NODE_RANGE, LENGTHS, TOO_LARGE, TOO_SHORT, BAD_GRAPH, BAD_SAVED, WRONG_SAVED, NO_PLACES}
 
 -- the status of a refusal
 abbrev pub refusal_status : Refusal → ℕ
@@ -23,6 +30,7 @@ refusal_status Refusal.NoMemory = NO_MEMORY
 refusal_status Refusal.NodeRange = NODE_RANGE
 refusal_status Refusal.Lengths = LENGTHS
 refusal_status Refusal.TooLarge = TOO_LARGE
+refusal_status Refusal.NoPlaces = NO_PLACES
 
 -- the status of an error of opening
 abbrev pub error_status : OpenError → ℕ
@@ -62,9 +70,9 @@ fault_of (OpenError.BadSaved f) = record { line = f.line; place = 0; kind = kind
 fault_of (OpenError.WrongSaved f) = check_fault f
 
 -- a closed handle answers that it is closed, and all else stays; an open one answers what is said of its network
-abbrev pub OfNetwork : Option LevelsAndLegs → ℕ → Type 0 → (LevelsAndLegs → Type 0) → Type 0
+abbrev pub OfNetwork : Option Held → ℕ → Type 0 → (Held → Type 0) → Type 0
 OfNetwork None status Stays Answers = (status ≡ CLOSED) × Stays
-OfNetwork (Some H) status Stays Answers = Answers H
+OfNetwork (Some held) status Stays Answers = Answers held
 
 -- a call is done, or it is refused
 abbrev pub IsOutcome : ℕ → Type 0 → (Refusal → Type 0) → Type 0
@@ -97,14 +105,49 @@ IsRouteAnswered H s t found_before found before after status =
     ⊎ ((refusal : Refusal) × (status ≡ refusal_status refusal) × (found ≡ found_before) × (after ≡ before) × IsRefusalOfRoute (nodes_of H) s t refusal)
 
 -- an open handle stays; a closed one opens with a hierarchy that is right for the graph, or stays closed and tells an error that is so
-abbrev pub IsOpening : List ℕ → List ℕ → Option LevelsAndLegs → Option LevelsAndLegs → Fault → Fault → ℕ → Type 0
-IsOpening graph saved (Some H) after fault_before fault status = (status ≡ IS_OPEN) × (after ≡ Some H) × (fault ≡ fault_before)
+abbrev pub IsOpening : List ℕ → List ℕ → Option Held → Option Held → Fault → Fault → ℕ → Type 0
+IsOpening graph saved (Some held) after fault_before fault status = (status ≡ IS_OPEN) × (after ≡ Some held) × (fault ≡ fault_before)
 IsOpening graph saved None after fault_before fault status =
-    ((status ≡ OK) × ((H : LevelsAndLegs) × (after ≡ Some H) × ((g : Network) × NamesGraph graph g × IsKept g H)) × (fault ≡ fault_before))
+    ((status ≡ OK) × ((H : LevelsAndLegs) × (after ≡ Some (only H)) × ((g : Network) × NamesGraph graph g × IsKept g H)) × (fault ≡ fault_before))
     ⊎ ((error : OpenError) × (status ≡ error_status error) × (after ≡ None) × (fault ≡ fault_of error) × IsOpenError graph saved error)
 
--- an open handle is not opened again; else it takes the network of an open one, or there is no memory
-abbrev pub IsSharing : Option LevelsAndLegs → Option LevelsAndLegs → Option LevelsAndLegs → ℕ → Type 0
-IsSharing network (Some G) after status = (status ≡ IS_OPEN) × (after ≡ Some G)
+-- an open handle is not opened again; else it takes the network of an open one, without its places, or there is no memory
+abbrev pub IsSharing : Option Held → Option Held → Option Held → ℕ → Type 0
+IsSharing network (Some held) after status = (status ≡ IS_OPEN) × (after ≡ Some held)
 IsSharing None None after status = (status ≡ CLOSED) × (after ≡ None)
-IsSharing (Some H) None after status = ((status ≡ OK) × (after ≡ Some H)) ⊎ ((status ≡ NO_MEMORY) × (after ≡ None))
+IsSharing (Some held) None after status = ((status ≡ OK) × (after ≡ Some (only held.hierarchy))) ⊎ ((status ≡ NO_MEMORY) × (after ≡ None))
+
+-- the direction of a number: to the places where it is 0, and else from them
+abbrev pub direction_of : ℕ → Direction
+direction_of zero = To
+direction_of (suc n) = From
+
+-- places are kept in place of those before, or refused
+abbrev pub ArePlacesKept : ℕ → List ℕ → ℕ → ℕ → Held → Option Held → ℕ → Type 0
+ArePlacesKept is_from places limit count held after status =
+    ((status ≡ OK) × (after ≡ Some (with_places held (record { direction = direction_of is_from; targets = places; limit = Some limit; count = Some count }))))
+    ⊎ ((refusal : Refusal) × (status ≡ refusal_status refusal) × (after ≡ Some held) × IsRefusalOfPlaces (nodes_of held.hierarchy) places refusal)
+
+-- the rows of all nodes are swept where places are kept, or that is refused
+abbrev pub IsSwept : Held → ℕ → Type 0
+IsSwept held status = IsOutcome status (IsSome held.near) (IsRefusalOfSweep held.near)
+
+-- the status of why no more rows were written
+abbrev pub end_status : End → ℕ
+end_status End.All = OK
+end_status End.NoRoom = TOO_SHORT
+end_status End.NoMemory = NO_MEMORY
+
+-- what near rows are written to: how many, where each ends, and the weights and places of their pairs
+pub record Arrays : Type 0 where
+  pub rows : ℕ
+  pub ends : List ℕ
+  pub weights : List ℕ
+  pub places : List ℕ
+
+-- near rows are written as far as there is room and memory, or all is as it was and they are refused
+abbrev pub AreRowsAnswered : Held → List ℕ → Arrays → Arrays → ℕ → Type 0
+AreRowsAnswered held sources before after status =
+    ((end : End) × (status ≡ end_status end) × IsSome held.near × AreRowsWritten held sources after.ends after.weights after.places (record { rows = after.rows; end = end }))
+    ⊎ ((refusal : Refusal) × (status ≡ refusal_status refusal) × (after ≡ before)
+    × IsRefusalOfRows (nodes_of held.hierarchy) held.near sources (length before.ends) (length before.weights) (length before.places) refusal)

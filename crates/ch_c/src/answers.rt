@@ -1,8 +1,9 @@
 //! What an engine answers, as C sees it.
-ghost use Rattle.std.specs.Prelude.{◌≡◌, ◌+◌, ◌<◌, ℕ, length, IfErr, IfOk, Option, Some};
+ghost use Rattle.std.specs.Prelude.{◌≡◌, ◌+◌, ◌<◌, ℕ, length, IfErr, IfOk, Option, None, Some};
 ghost use Rattle.ch_graph.specs.Graph.{Network};
 ghost use Rattle.ch_hierarchy.specs.Kept.{IsKept};
 ghost use Rattle.ch_read.specs.Names.{NamesGraph};
+ghost use Rattle.ch_engine.specs.Held.{only};
 ghost use Rattle.ch_engine.specs.Refusals.{IsOpenError};
 ghost use Rattle.ch_c.specs.Calls.{ArePairsAnswered, AreRouteNodes, IsRouteAnswered, IsRouteTold, IsTableAnswered};
 
@@ -31,7 +32,7 @@ pub(crate) fn opened(
     graph: &[u8],
     saved: &[u8],
 ) -> Result<Box<Engine, Global>, OpenError>
-    ensures value { IfOk result (λ engine. (g : Network) × NamesGraph graph.now g × IsKept g engine.value) }
+    ensures value { IfOk result (λ engine. (engine.value.near ≡ None) × ((g : Network) × NamesGraph graph.now g × IsKept g engine.value.hierarchy)) }
     ensures error { IfErr result (IsOpenError graph.now saved.now) }
 {
     let engine = Engine::open(alloc, graph, saved)?;
@@ -43,7 +44,7 @@ pub(crate) fn opened(
 
 /// A second engine on the heap in the same network, where there is memory.
 pub(crate) fn shared(alloc: Global, engine: &Engine) -> Option<Box<Engine, Global>>
-    ensures { (second : _) → result ≡ Some second → second.value ≡ engine.now }
+    ensures { (second : _) → result ≡ Some second → second.value ≡ only engine.now.hierarchy }
 {
     let Ok(second) = engine.share(alloc) else {
         return None;
@@ -61,7 +62,7 @@ pub(crate) fn write_distances(
     targets: &[u32],
     out: &mut [u64],
 ) -> u32
-    ensures answered { ArePairsAnswered engine.old sources.now targets.now out.old out.new result }
+    ensures answered { ArePairsAnswered engine.old.hierarchy sources.now targets.now out.old out.new result }
     ensures same { engine.new ≡ engine.old }
 {
     match engine.distances(sources, targets, out) {
@@ -79,7 +80,7 @@ pub(crate) fn write_table(
     limit: u64,
     out: &mut [u64],
 ) -> u32
-    ensures answered { IsTableAnswered engine.old limit sources.now targets.now out.old out.new result }
+    ensures answered { IsTableAnswered engine.old.hierarchy limit sources.now targets.now out.old out.new result }
     ensures same { engine.new ≡ engine.old }
 {
     match engine.table(alloc, sources, targets, Some(limit), out) {
@@ -97,7 +98,7 @@ pub(crate) fn write_route(
     found: &mut Found,
     nodes: &mut [u32],
 ) -> u32
-    ensures answered { IsRouteAnswered engine.old source target found.old found.new nodes.old nodes.new result }
+    ensures answered { IsRouteAnswered engine.old.hierarchy source target found.old found.new nodes.old nodes.new result }
     ensures same { engine.new ≡ engine.old }
 {
     match engine.route(alloc, source, target) {

@@ -1,13 +1,14 @@
 //! What C holds, and what it calls.
-ghost use Rattle.std.specs.Prelude.{◌≡◌, ◌↔◌, IsSome, MatchOption, None, Some};
+ghost use Rattle.std.specs.Prelude.{◌≡◌, ◌↔◌, IsSome, MatchOption, None, Some, ⊤};
 ghost use Rattle.ch_hierarchy.specs.Hierarchy.{nodes_of};
-ghost use Rattle.ch_c.specs.Calls.{ArePairsAnswered, IsOpening, IsRouteAnswered, IsSharing, IsTableAnswered, OfNetwork};
+ghost use Rattle.ch_c.specs.Calls.{ArePairsAnswered, ArePlacesKept, AreRowsAnswered, IsOpening, IsRouteAnswered, IsSharing, IsSwept, IsTableAnswered, OfNetwork};
 ghost use Rattle.ch_c.specs.declared.status.TheConstants.{OK};
 
 pub use crate::answers::Found;
 use crate::answers::{opened, shared, write_distances, write_route, write_table};
 use crate::erased::ErasedEngine;
 use crate::faults::{Fault, fault_of, status_of_error};
+use crate::near::{keep_places, sweep, write_rows};
 use crate::raw_box::RawBox;
 use crate::status::{CLOSED, IS_OPEN, NO_MEMORY, OK};
 use ch_engine::Engine;
@@ -135,7 +136,7 @@ pub extern "C" fn chtab_close(alloc: Global, handle: &mut Handle) -> u32
 /// Writes the number of nodes.
 #[unsafe(no_mangle)]
 pub extern "C" fn chtab_nodes(alloc: Global, handle: &mut Handle, nodes: &mut u32) -> u32
-    ensures answered { OfNetwork handle.old.engine.network result (nodes.new ≡ nodes.old) (λ H. (result ≡ OK) × (nodes.new ≡ nodes_of H)) }
+    ensures answered { OfNetwork handle.old.engine.network result (nodes.new ≡ nodes.old) (λ held. (result ≡ OK) × (nodes.new ≡ nodes_of held.hierarchy)) }
     ensures same { handle.new.engine.network ≡ handle.old.engine.network }
 {
     let Some(engine) = handle.take(alloc) else {
@@ -155,7 +156,7 @@ pub extern "C" fn chtab_distances(
     targets: &[u32],
     out: &mut [u64],
 ) -> u32
-    ensures answered { OfNetwork handle.old.engine.network result (out.new ≡ out.old) (λ H. ArePairsAnswered H sources.now targets.now out.old out.new result) }
+    ensures answered { OfNetwork handle.old.engine.network result (out.new ≡ out.old) (λ held. ArePairsAnswered held.hierarchy sources.now targets.now out.old out.new result) }
     ensures same { handle.new.engine.network ≡ handle.old.engine.network }
 {
     let Some(mut engine) = handle.take(alloc) else {
@@ -176,7 +177,7 @@ pub extern "C" fn chtab_table(
     limit: u64,
     out: &mut [u64],
 ) -> u32
-    ensures answered { OfNetwork handle.old.engine.network result (out.new ≡ out.old) (λ H. IsTableAnswered H limit sources.now targets.now out.old out.new result) }
+    ensures answered { OfNetwork handle.old.engine.network result (out.new ≡ out.old) (λ held. IsTableAnswered held.hierarchy limit sources.now targets.now out.old out.new result) }
     ensures same { handle.new.engine.network ≡ handle.old.engine.network }
 {
     let Some(mut engine) = handle.take(alloc) else {
@@ -197,13 +198,69 @@ pub extern "C" fn chtab_route(
     found: &mut Found,
     nodes: &mut [u32],
 ) -> u32
-    ensures answered { OfNetwork handle.old.engine.network result ((found.new ≡ found.old) × (nodes.new ≡ nodes.old)) (λ H. IsRouteAnswered H source target found.old found.new nodes.old nodes.new result) }
+    ensures answered { OfNetwork handle.old.engine.network result ((found.new ≡ found.old) × (nodes.new ≡ nodes.old)) (λ held. IsRouteAnswered held.hierarchy source target found.old found.new nodes.old nodes.new result) }
     ensures same { handle.new.engine.network ≡ handle.old.engine.network }
 {
     let Some(mut engine) = handle.take(alloc) else {
         return CLOSED;
     };
     let status = write_route(alloc, &mut engine, source, target, found, nodes);
+    handle.put(engine);
+    status
+}
+
+/// Keeps places, in place of those before, to which near rows lead.
+#[unsafe(no_mangle)]
+pub extern "C" fn chtab_near_places(
+    alloc: Global,
+    handle: &mut Handle,
+    is_from: u32,
+    places: &[u32],
+    limit: u64,
+    count: u32,
+) -> u32
+    ensures { OfNetwork handle.old.engine.network result (handle.new.engine.network ≡ None) (λ held. ArePlacesKept is_from places.now limit count held handle.new.engine.network result) }
+{
+    let Some(mut engine) = handle.take(alloc) else {
+        return CLOSED;
+    };
+    let status = keep_places(alloc, &mut engine, is_from, places, limit, count);
+    handle.put(engine);
+    status
+}
+
+/// Makes and keeps the rows of all nodes to the kept places by one sweep.
+#[unsafe(no_mangle)]
+pub extern "C" fn chtab_near_sweep(alloc: Global, handle: &mut Handle) -> u32
+    ensures answered { OfNetwork handle.old.engine.network result ⊤ (λ held. IsSwept held result) }
+    ensures same { handle.new.engine.network ≡ handle.old.engine.network }
+{
+    let Some(mut engine) = handle.take(alloc) else {
+        return CLOSED;
+    };
+    let status = sweep(alloc, &mut engine);
+    handle.put(engine);
+    status
+}
+
+/// Writes the rows of sources to the kept places: how many rows, where each ends, and the weights and places of their pairs.
+#[unsafe(no_mangle)]
+pub extern "C" fn chtab_near_rows(
+    alloc: Global,
+    handle: &mut Handle,
+    sources: &[u32],
+    rows: &mut u64,
+    ends: &mut [u64],
+    weights: &mut [u64],
+    places: &mut [u32],
+) -> u32
+    ensures answered { OfNetwork handle.old.engine.network result ((rows.new ≡ rows.old) × (ends.new ≡ ends.old) × (weights.new ≡ weights.old) × (places.new ≡ places.old)) (λ held. AreRowsAnswered held sources.now (record { rows = rows.old; ends = ends.old; weights = weights.old; places = places.old }) (record { rows = rows.new; ends = ends.new; weights = weights.new; places = places.new }) result) }
+    ensures same { handle.new.engine.network ≡ handle.old.engine.network }
+{
+    let Some(mut engine) = handle.take(alloc) else {
+        return CLOSED;
+    };
+    let status = write_rows(alloc, &mut engine, sources, rows, ends, weights, places);
     handle.put(engine);
     status
 }

@@ -22,10 +22,10 @@ pub(crate) const NODE_RANGE: u32 = 4;
 /// Lengths do not fit one another.
 pub(crate) const LENGTHS: u32 = 5;
 
-/// There are more sources or targets than a table takes.
+/// There are more sources, targets or places than a list takes.
 pub(crate) const TOO_LARGE: u32 = 6;
 
-/// There is less room than the route has nodes.
+/// There is less room than the route has nodes, or than the rows have pairs.
 pub(crate) const TOO_SHORT: u32 = 7;
 
 /// The bytes of the graph are faulty.
@@ -37,6 +37,9 @@ pub(crate) const BAD_SAVED: u32 = 9;
 /// The saved hierarchy is not right for the graph.
 pub(crate) const WRONG_SAVED: u32 = 10;
 
+/// No places are kept.
+pub(crate) const NO_PLACES: u32 = 11;
+
 /// The number of a refusal.
 pub(crate) fn status_of(refusal: Refusal) -> u32
     ensures { result ≡ refusal_status refusal }
@@ -46,5 +49,6 @@ pub(crate) fn status_of(refusal: Refusal) -> u32
         Refusal::NodeRange => NODE_RANGE,
         Refusal::Lengths => LENGTHS,
         Refusal::TooLarge => TOO_LARGE,
+        Refusal::NoPlaces => NO_PLACES,
     }
 }

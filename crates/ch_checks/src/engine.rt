@@ -1,6 +1,7 @@
 //! Engines: they open, answer and refuse.
-use ch_engine::{Engine, NO_DISTANCE, OpenError, Refusal};
+use ch_engine::{End, Engine, NO_DISTANCE, OpenError, Refusal, Written};
 use ch_hierarchy::CheckFault;
+use ch_near::Direction;
 use ch_read::{FaultKind, ReadFault};
 use std::test::Fail;
 
@@ -64,6 +65,68 @@ fn an_engine_refuses(rt: HostRuntime) -> Result<(), Fail> {
     );
     assert_eq!(rt; out, [7]);
     assert!(rt; matches!(engine.route(alloc, 0, 3), Err(Refusal::NodeRange)));
+    Ok(())
+}
+
+#[test]
+fn an_engine_writes_near_rows_as_far_as_there_is_room(rt: HostRuntime) -> Result<(), Fail> {
+    let alloc = rt.alloc();
+    let opened = Engine::open(alloc, GRAPH, SAVED);
+    assert!(rt; opened.is_ok());
+    let Ok(mut engine) = opened else {
+        return Ok(());
+    };
+    let mut ends = [7u64; 3];
+    let mut weights = [7u64; 3];
+    let mut places = [7u32; 3];
+    let kept = engine.keep_places(alloc, Direction::To, &[2, 1], Some(5), None);
+    assert!(rt; kept.is_ok());
+    let all = [0, 1, 2];
+    let written = engine.near_rows(alloc, &all, &mut ends, &mut weights, &mut places);
+    let end = End::NoRoom;
+    assert_eq!(rt; written, Ok(Written { rows: 2, end }));
+    assert_eq!(rt; ends, [1, 3, 7]);
+    assert_eq!(rt; weights, [4, 0, 5]);
+    assert_eq!(rt; places, [1, 1, 0]);
+    assert!(rt; engine.sweep(alloc).is_ok());
+    let mut ends = [7u64];
+    let written = engine.near_rows(alloc, &[2], &mut ends, &mut weights, &mut places);
+    let end = End::All;
+    assert_eq!(rt; written, Ok(Written { rows: 1, end }));
+    assert_eq!(rt; ends, [1]);
+    assert_eq!(rt; weights, [0, 0, 5]);
+    assert_eq!(rt; places, [0, 1, 0]);
+    Ok(())
+}
+
+#[test]
+fn an_engine_refuses_near_rows(rt: HostRuntime) -> Result<(), Fail> {
+    let alloc = rt.alloc();
+    let opened = Engine::open(alloc, GRAPH, SAVED);
+    assert!(rt; opened.is_ok());
+    let Ok(mut engine) = opened else {
+        return Ok(());
+    };
+    let mut ends = [7u64];
+    let mut weights = [7u64; 2];
+    let mut places = [7u32; 2];
+    assert_eq!(rt; engine.sweep(alloc), Err(Refusal::NoPlaces));
+    let refused = engine.near_rows(alloc, &[0], &mut ends, &mut weights, &mut places);
+    assert_eq!(rt; refused, Err(Refusal::NoPlaces));
+    let refused = engine.keep_places(alloc, Direction::From, &[3], None, Some(1));
+    assert_eq!(rt; refused, Err(Refusal::NodeRange));
+    assert!(rt;
+        engine
+            .keep_places(alloc, Direction::From, &[0], None, Some(1))
+            .is_ok()
+    );
+    let refused = engine.near_rows(alloc, &[0, 1], &mut ends, &mut weights, &mut places);
+    assert_eq!(rt; refused, Err(Refusal::Lengths));
+    let refused = engine.near_rows(alloc, &[3], &mut ends, &mut weights, &mut places);
+    assert_eq!(rt; refused, Err(Refusal::NodeRange));
+    assert_eq!(rt; ends, [7]);
+    assert_eq!(rt; weights, [7, 7]);
+    assert_eq!(rt; places, [7, 7]);
     Ok(())
 }
 

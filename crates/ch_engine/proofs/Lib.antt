@@ -1,3 +1,4 @@
 mod Filled
 mod Bounds
 mod Rows
+pub mod NearRows

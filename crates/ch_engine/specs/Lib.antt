@@ -1,2 +1,4 @@
 pub mod Cells
+pub mod Held
+pub mod NearRows
 pub mod Refusals

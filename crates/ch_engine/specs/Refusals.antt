@@ -1,5 +1,5 @@
 -- When a network is not opened, and a question not answered.
-use Rattle.std.specs.Prelude.{◌≡◌, ℕ, ◌*◌, ◌<◌, ◌≤◌, List, length, All, ⊤}
+use Rattle.std.specs.Prelude.{◌≡◌, ℕ, ◌*◌, ◌<◌, ◌≤◌, List, length, All, Option, None, ⊤}
 use Rattle.ch_graph.specs.declared.limits.TheConstants.{MOST_LISTED}
 use Rattle.ch_graph.specs.Graph.{Network}
 use Rattle.ch_graph.specs.Saved.{OrderAndLegs}
@@ -8,9 +8,8 @@ use Rattle.ch_read.specs.declared.form.Form.TheVariants.{Graph, Saved}
 use Rattle.ch_read.specs.Checks.{IsFault}
 use Rattle.ch_read.specs.Names.{NamesGraph, NamesSaved}
 use Rattle.ch_engine.specs.declared.fault.OpenError.{OpenError}
-use Rattle.ch_engine.specs.declared.fault.OpenError.TheVariants as OpenError
 use Rattle.ch_engine.specs.declared.fault.Refusal.{Refusal}
-use Rattle.ch_engine.specs.declared.fault.Refusal.TheVariants as Refusal
+use Rattle.ch_near.specs.Searched.{Asked}
 
 -- what the error says is so of the bytes of a graph and of a saved hierarchy
 abbrev pub IsOpenError : List ℕ → List ℕ → OpenError → Type 0
@@ -29,6 +28,7 @@ IsRefusalOfPairs n sources targets room Refusal.NoMemory = ⊥
 IsRefusalOfPairs n sources targets room Refusal.NodeRange = AreNodes n sources × AreNodes n targets → ⊥
 IsRefusalOfPairs n sources targets room Refusal.Lengths = (length sources ≡ room) × (length targets ≡ room) → ⊥
 IsRefusalOfPairs n sources targets room Refusal.TooLarge = ⊥
+IsRefusalOfPairs n sources targets room Refusal.NoPlaces = ⊥
 
 -- why a table is not written
 abbrev pub IsRefusalOfTable : ℕ → List ℕ → List ℕ → ℕ → Refusal → Type 0
@@ -36,6 +36,7 @@ IsRefusalOfTable n sources targets room Refusal.NoMemory = ⊤
 IsRefusalOfTable n sources targets room Refusal.NodeRange = AreNodes n sources × AreNodes n targets → ⊥
 IsRefusalOfTable n sources targets room Refusal.Lengths = length sources * length targets ≡ room → ⊥
 IsRefusalOfTable n sources targets room Refusal.TooLarge = (length sources ≤ MOST_LISTED) × (length targets ≤ MOST_LISTED) → ⊥
+IsRefusalOfTable n sources targets room Refusal.NoPlaces = ⊥
 
 -- why a route is not given
 abbrev pub IsRefusalOfRoute : ℕ → ℕ → ℕ → Refusal → Type 0
@@ -43,3 +44,28 @@ IsRefusalOfRoute n source target Refusal.NoMemory = ⊤
 IsRefusalOfRoute n source target Refusal.NodeRange = (source < n) × (target < n) → ⊥
 IsRefusalOfRoute n source target Refusal.Lengths = ⊥
 IsRefusalOfRoute n source target Refusal.TooLarge = ⊥
+IsRefusalOfRoute n source target Refusal.NoPlaces = ⊥
+
+-- why places are not kept
+abbrev pub IsRefusalOfPlaces : ℕ → List ℕ → Refusal → Type 0
+IsRefusalOfPlaces n places Refusal.NoMemory = ⊤
+IsRefusalOfPlaces n places Refusal.NodeRange = AreNodes n places → ⊥
+IsRefusalOfPlaces n places Refusal.Lengths = ⊥
+IsRefusalOfPlaces n places Refusal.TooLarge = length places ≤ MOST_LISTED → ⊥
+IsRefusalOfPlaces n places Refusal.NoPlaces = ⊥
+
+-- why the rows of all nodes are not swept
+abbrev pub IsRefusalOfSweep : Option Asked → Refusal → Type 0
+IsRefusalOfSweep near Refusal.NoMemory = ⊤
+IsRefusalOfSweep near Refusal.NodeRange = ⊥
+IsRefusalOfSweep near Refusal.Lengths = ⊥
+IsRefusalOfSweep near Refusal.TooLarge = ⊥
+IsRefusalOfSweep near Refusal.NoPlaces = near ≡ None
+
+-- why no near row is written: there are so many ends, weights and places to write to
+abbrev pub IsRefusalOfRows : ℕ → Option Asked → List ℕ → ℕ → ℕ → ℕ → Refusal → Type 0
+IsRefusalOfRows n near sources ends weights places Refusal.NoMemory = ⊥
+IsRefusalOfRows n near sources ends weights places Refusal.NodeRange = AreNodes n sources → ⊥
+IsRefusalOfRows n near sources ends weights places Refusal.Lengths = (length sources ≡ ends) × (weights ≡ places) → ⊥
+IsRefusalOfRows n near sources ends weights places Refusal.TooLarge = ⊥
+IsRefusalOfRows n near sources ends weights places Refusal.NoPlaces = near ≡ None

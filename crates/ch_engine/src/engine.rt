@@ -6,6 +6,7 @@ ghost use Rattle.ch_hierarchy.specs.Kept.{IsKept};
 ghost use Rattle.ch_query.specs.Distance.{IsKeptForSome};
 ghost use Rattle.ch_query.specs.Routes.{IsRouteBy};
 ghost use Rattle.ch_read.specs.Names.{NamesGraph};
+ghost use Rattle.ch_engine.specs.Held.{only};
 ghost use Rattle.ch_engine.specs.Cells.{ArePairCells, AreTableCells, IsCell};
 ghost use Rattle.ch_engine.specs.Refusals.{AreNodes, IsOpenError, IsRefusalOfPairs, IsRefusalOfRoute, IsRefusalOfTable};
 
@@ -15,30 +16,35 @@ use crate::opening::opened;
 use crate::words::{are_nodes, word_of, write_table};
 use ch_graph::limits::MOST_LISTED;
 use ch_hierarchy::Hierarchy;
+use ch_near::KeptTargets;
 use ch_query::{Route, Scratch, distance, route};
 use ch_table::table_alone;
 use std::alloc::{AllocError, Global};
 use std::marker::Model;
 use std::sync::Arc;
 
-/// A network, which several engines may share, and room for the questions of one. Contracts see its hierarchy, so the room
-/// is always that of its own network.
+/// A network, which several engines may share, with room for the questions of one, and with the places that it keeps. Contracts
+/// see the hierarchy and what is asked of the places, so room and places are always those of its own network.
 #[derive(Drop)]
 pub struct Engine {
-    network: Arc<Network, Global>,
+    pub(crate) network: Arc<Network, Global>,
     scratch: Scratch,
+    /// Places that near rows lead to, where some are kept.
+    pub(crate) kept: Option<KeptTargets>,
 }
 
 impl Model for Engine {
-    ghost use Rattle.std.specs.Prelude.{◌≡◌};
+    ghost use Rattle.std.specs.Prelude.{◌≡◌, MatchOption, option_map, ⊤};
     ghost use Rattle.std.specs.Arc.{arc_value};
-    ghost use Rattle.ch_hierarchy.specs.Hierarchy.{LevelsAndLegs, nodes_of};
+    ghost use Rattle.ch_hierarchy.specs.Hierarchy.{nodes_of};
+    ghost use Rattle.ch_near.specs.Kept.{AreKeptIn, asked_by};
+    ghost use Rattle.ch_engine.specs.Held.{Held};
 
-    ghost Value = { LevelsAndLegs };
+    ghost Value = { Held };
 
-    ghost view = { λ engine. arc_value engine.network };
+    ghost view = { λ engine. record { hierarchy = arc_value engine.network; near = option_map asked_by engine.kept } };
 
-    ghost invariant = { λ engine. engine.scratch ≡ nodes_of (arc_value engine.network) };
+    ghost invariant = { λ engine. (engine.scratch ≡ nodes_of (arc_value engine.network)) × MatchOption engine.kept ⊤ (AreKeptIn (arc_value engine.network)) };
 }
 
 impl Engine {
@@ -48,7 +54,7 @@ impl Engine {
     /// The first fault of the graph, else that of the saved hierarchy's bytes, else its first fault for the graph; or
     /// `NoMemory`.
     pub fn open(alloc: Global, graph: &[u8], saved: &[u8]) -> Result<Engine, OpenError>
-        ensures value { IfOk result (λ H. (g : Given) × NamesGraph graph.now g × IsKept g H) }
+        ensures value { IfOk result (λ held. (held.near ≡ None) × ((g : Given) × NamesGraph graph.now g × IsKept g held.hierarchy)) }
         ensures error { IfErr result (IsOpenError graph.now saved.now) }
     {
         let hierarchy = opened(alloc, graph, saved)?;
@@ -57,28 +63,36 @@ impl Engine {
 
     fn of(alloc: Global, hierarchy: Hierarchy) -> Result<Engine, AllocError>
         requires { IsKeptForSome hierarchy }
-        ensures { IfOk result (λ H. H ≡ hierarchy) }
+        ensures { IfOk result (λ held. held ≡ only hierarchy) }
     {
         let scratch = Scratch::new(alloc, hierarchy.nodes())?;
         let network = Arc::new(alloc, Network { hierarchy })?;
-        Ok(Engine { network, scratch })
+        Ok(Engine {
+            network,
+            scratch,
+            kept: None,
+        })
     }
 
-    /// A second engine in the same network, with room of its own.
+    /// A second engine in the same network, with room of its own. It keeps no places.
     ///
     /// # Errors
     /// `AllocError` where there is no memory, or where more engines share the network than can be counted.
     pub fn share(&self, alloc: Global) -> Result<Engine, AllocError>
-        ensures { IfOk result (λ H. H ≡ self.now) }
+        ensures { IfOk result (λ held. held ≡ only self.now.hierarchy) }
     {
         let network = Arc::try_clone(&self.network)?;
         let scratch = Scratch::new(alloc, network.hierarchy().nodes())?;
-        Ok(Engine { network, scratch })
+        Ok(Engine {
+            network,
+            scratch,
+            kept: None,
+        })
     }
 
     /// The number of nodes.
     pub fn nodes(&self) -> u32
-        ensures { result ≡ nodes_of self.now }
+        ensures { result ≡ nodes_of self.now.hierarchy }
     {
         self.network.hierarchy().nodes()
     }
@@ -94,8 +108,8 @@ impl Engine {
         targets: &[u32],
         out: &mut [u64],
     ) -> Result<(), Refusal>
-        ensures cells { OnOk result (ArePairCells self.old sources.now targets.now out.new) }
-        ensures refused { IfErr result (λ refusal. (out.new ≡ out.old) × IsRefusalOfPairs (nodes_of self.old) sources.now targets.now (length out.old) refusal) }
+        ensures cells { OnOk result (ArePairCells self.old.hierarchy sources.now targets.now out.new) }
+        ensures refused { IfErr result (λ refusal. (out.new ≡ out.old) × IsRefusalOfPairs (nodes_of self.old.hierarchy) sources.now targets.now (length out.old) refusal) }
         ensures same { self.new ≡ self.old }
     {
         if sources.len() != out.len() || targets.len() != out.len() {
@@ -111,9 +125,9 @@ impl Engine {
 
     fn write_distances(&mut self, sources: &[u32], targets: &[u32], out: &mut [u64])
         requires lengths { (length sources.now ≡ length out.old) × (length targets.now ≡ length out.old) }
-        requires sources { AreNodes (nodes_of self.old) sources.now }
-        requires targets { AreNodes (nodes_of self.old) targets.now }
-        ensures cells { ArePairCells self.old sources.now targets.now out.new }
+        requires sources { AreNodes (nodes_of self.old.hierarchy) sources.now }
+        requires targets { AreNodes (nodes_of self.old.hierarchy) targets.now }
+        ensures cells { ArePairCells self.old.hierarchy sources.now targets.now out.new }
         ensures same { self.new ≡ self.old }
     {
         for i in 0..out.len() {
@@ -122,9 +136,9 @@ impl Engine {
     }
 
     fn cell(&mut self, source: u32, target: u32) -> u64
-        requires source { source < nodes_of self.old }
-        requires target { target < nodes_of self.old }
-        ensures cell { IsCell self.old None source target result }
+        requires source { source < nodes_of self.old.hierarchy }
+        requires target { target < nodes_of self.old.hierarchy }
+        ensures cell { IsCell self.old.hierarchy None source target result }
         ensures same { self.new ≡ self.old }
     {
         let answer = distance(self.network.hierarchy(), &mut self.scratch, source, target);
@@ -144,8 +158,8 @@ impl Engine {
         within: Option<u64>,
         out: &mut [u64],
     ) -> Result<(), Refusal>
-        ensures cells { OnOk result (AreTableCells self.old within sources.now targets.now out.new) }
-        ensures refused { IfErr result (λ refusal. (out.new ≡ out.old) × IsRefusalOfTable (nodes_of self.old) sources.now targets.now (length out.old) refusal) }
+        ensures cells { OnOk result (AreTableCells self.old.hierarchy within sources.now targets.now out.new) }
+        ensures refused { IfErr result (λ refusal. (out.new ≡ out.old) × IsRefusalOfTable (nodes_of self.old.hierarchy) sources.now targets.now (length out.old) refusal) }
         ensures same { self.new ≡ self.old }
     {
         if sources.len().checked_mul(targets.len()) != Some(out.len()) {
@@ -182,9 +196,9 @@ impl Engine {
         source: u32,
         target: u32,
     ) -> Result<Option<Route>, Refusal>
-        ensures route { IfOk result (IsRouteBy self.old source target) }
-        ensures few { IfOk result (λ answer. MatchOption answer ⊤ (λ route. length route.arcs < nodes_of self.old)) }
-        ensures refused { IfErr result (IsRefusalOfRoute (nodes_of self.old) source target) }
+        ensures route { IfOk result (IsRouteBy self.old.hierarchy source target) }
+        ensures few { IfOk result (λ answer. MatchOption answer ⊤ (λ route. length route.arcs < nodes_of self.old.hierarchy)) }
+        ensures refused { IfErr result (IsRefusalOfRoute (nodes_of self.old.hierarchy) source target) }
         ensures same { self.new ≡ self.old }
     {
         let nodes = self.nodes();

@@ -29,8 +29,10 @@ pub enum Refusal {
     NodeRange,
     /// The lengths of what is given do not fit one another.
     Lengths,
-    /// There are more sources or targets than [`MOST_LISTED`](ch_graph::limits::MOST_LISTED).
+    /// There are more sources, targets or places than [`MOST_LISTED`](ch_graph::limits::MOST_LISTED).
     TooLarge,
+    /// No places are kept, to which near rows lead.
+    NoPlaces,
 }
 
 impl From<AllocError> for OpenError {

@@ -1,8 +1,10 @@
 pub mod Buckets
 pub mod Direction
 pub mod First
+pub mod Kept
 pub mod Near
 pub mod NearLaws
 pub mod Offers
+pub mod Searched
 pub mod Sums
 pub mod Sweep

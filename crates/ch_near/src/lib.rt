@@ -14,14 +14,17 @@
 mod buckets;
 mod direction;
 mod first;
+mod kept;
 pub mod laws;
 mod nearest;
 mod offers;
 mod rows;
+mod searched;
 mod spaces;
 mod sums;
 mod sweep;
 
 pub use direction::Direction;
+pub use kept::KeptTargets;
 pub use nearest::{NearTargets, near};
 pub use sweep::NodeRows;

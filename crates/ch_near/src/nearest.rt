@@ -7,9 +7,9 @@ ghost use Rattle.ch_near.specs.Direction.{facing};
 ghost use Rattle.ch_near.specs.Near.{IsNearRow};
 ghost use Rattle.ch_query.specs.Distance.{IsKeptForSome};
 
-use crate::buckets::buckets_of;
 use crate::direction::Direction;
 use crate::rows::{Nearest, Room};
+use crate::searched::Searched;
 use crate::spaces::search_targets;
 use ch_hierarchy::Hierarchy;
 use ch_work::{Crew, Gate, Stage, run_list_in};
@@ -48,7 +48,8 @@ pub fn near<R: Threads + Sync, G: Gate>(
 /// target serves any number of sources. The rooms of workers stay from one call to the next.
 #[derive(Drop)]
 pub struct NearTargets<'a> {
-    pub(crate) nearest: Nearest<'a>,
+    pub(crate) hierarchy: &'a Hierarchy,
+    searched: Searched,
     rooms: Vec<Room>,
 }
 
@@ -57,12 +58,13 @@ impl<'a> Model for NearTargets<'a> {
     ghost use Rattle.ch_hierarchy.specs.Hierarchy.{nodes_of};
     ghost use Rattle.ch_near.specs.Near.{Wanted};
     ghost use Rattle.ch_near.specs.Offers.{AreUnoffered};
+    ghost use Rattle.ch_near.specs.Searched.{AreSearched, asked_of, wanted_in};
 
     ghost Value = { Wanted };
 
-    ghost view = { λ t. t.nearest };
+    ghost view = { λ t. wanted_in t.hierarchy.now (asked_of t.searched) };
 
-    ghost invariant = { λ t. All (λ room. (room.scratch ≡ nodes_of t.nearest.hierarchy) × AreUnoffered (length t.nearest.targets) room.offers) t.rooms.items };
+    ghost invariant = { λ t. AreSearched t.hierarchy.now t.searched × All (λ room. (room.scratch ≡ nodes_of t.hierarchy.now) × AreUnoffered (length t.searched.targets.items) room.offers) t.rooms.items };
 }
 
 impl<'a> NearTargets<'a> {
@@ -84,18 +86,12 @@ impl<'a> NearTargets<'a> {
         ensures { IfOk result (λ near. near ≡ record { hierarchy = facing direction hierarchy.now; targets = targets.now; limit = within; count = count }) }
     {
         let spaces = search_targets(crew, hierarchy, direction, targets, within)?;
-        let buckets = buckets_of(crew.alloc, hierarchy.nodes(), spaces, count)?;
-        let listed = Vec::from_slice(crew.alloc, targets)?;
-        let nearest = Nearest {
-            hierarchy,
-            direction,
-            targets: listed,
-            within,
-            count,
-            buckets,
-        };
+        let searched = Searched::of(
+            crew.alloc, hierarchy, direction, targets, within, count, spaces,
+        )?;
         Ok(NearTargets {
-            nearest,
+            hierarchy,
+            searched,
             rooms: Vec::new(crew.alloc),
         })
     }
@@ -115,6 +111,20 @@ impl<'a> NearTargets<'a> {
         ensures same { self.new ≡ self.old }
     {
         crew.gate.watch(Stage::Answering, 0, crew.plan.pieces(sources.len() as u32));
-        run_list_in(crew, sources, &mut self.rooms, &self.nearest)
+        let nearest = Nearest {
+            hierarchy: self.hierarchy,
+            searched: &self.searched,
+        };
+        run_list_in(crew, sources, &mut self.rooms, &nearest)
+    }
+
+    /// What makes the rows.
+    pub(crate) fn nearest(&self) -> Nearest<'_>
+        ensures { result ≡ self.now }
+    {
+        Nearest {
+            hierarchy: self.hierarchy,
+            searched: &self.searched,
+        }
     }
 }

@@ -5,11 +5,10 @@ ghost use Rattle.ch_near.specs.Near.{IsNearRow};
 ghost use Rattle.ch_near.specs.Offers.{AreUnoffered};
 ghost use Rattle.ch_query.specs.Limits.{IsWithin};
 
-use crate::direction::Direction;
 use crate::first::sort_and_cut;
 use crate::offers::Offers;
+use crate::searched::Searched;
 use crate::sums::offer_all;
-use ch_graph::Rows;
 use ch_graph::limits::MOST_WEIGHT;
 use ch_hierarchy::Hierarchy;
 use ch_query::{Scratch, ranked_space};
@@ -22,24 +21,18 @@ use std::marker::Model;
 #[derive(Drop)]
 pub(crate) struct Nearest<'a> {
     pub(crate) hierarchy: &'a Hierarchy,
-    pub(crate) direction: Direction,
-    pub(crate) targets: Vec<u32>,
-    pub(crate) within: Option<u64>,
-    pub(crate) count: Option<u32>,
-    /// By rank, the weights and places of the targets that are nearest to the node.
-    pub(crate) buckets: Rows<(u64, u32)>,
+    pub(crate) searched: &'a Searched,
 }
 
 impl<'a> Model for Nearest<'a> {
-    ghost use Rattle.ch_near.specs.Buckets.{HoldNearest};
-    ghost use Rattle.ch_near.specs.Direction.{facing};
     ghost use Rattle.ch_near.specs.Near.{Wanted};
+    ghost use Rattle.ch_near.specs.Searched.{AreSearched, asked_of, wanted_in};
 
     ghost Value = { Wanted };
 
-    ghost view = { λ t. record { hierarchy = facing t.direction t.hierarchy.now; targets = t.targets.items; limit = t.within; count = t.count } };
+    ghost view = { λ t. wanted_in t.hierarchy.now (asked_of t.searched.now) };
 
-    ghost invariant = { λ t. HoldNearest (facing t.direction t.hierarchy.now) t.within t.count t.targets.items t.buckets };
+    ghost invariant = { λ t. AreSearched t.hierarchy.now t.searched.now };
 }
 
 impl<'a> Nearest<'a> {
@@ -70,18 +63,23 @@ impl<'a> Nearest<'a> {
             self.hierarchy,
             scratch,
             source,
-            self.direction.side(),
+            self.searched.direction.side(),
             bound,
         )?;
-        offer_all(offers, &space, &self.buckets, bound)?;
+        offer_all(offers, &space, &self.searched.buckets, bound)?;
         offers.take(row)?;
-        sort_and_cut(row, self.count);
+        sort_and_cut(row, self.searched.count);
         Ok(())
     }
 
     /// Makes the row of a source. If the guess is less than the limit, it tries the guess as the bound
     /// first. If the row is not full then, it makes the row within the limit.
-    fn fill_by_guess(&self, alloc: Global, room: &mut Room, source: u32) -> Result<(), AllocError>
+    pub(crate) fn fill_by_guess(
+        &self,
+        alloc: Global,
+        room: &mut Room,
+        source: u32,
+    ) -> Result<(), AllocError>
         requires source { source < nodes_of self.now.hierarchy }
         requires scratch { room.old.scratch ≡ nodes_of self.now.hierarchy }
         requires offers { AreUnoffered (length self.now.targets) room.old.offers }
@@ -90,13 +88,13 @@ impl<'a> Nearest<'a> {
         ensures offers { OnOk result (AreUnoffered (length self.now.targets) room.new.offers) }
     {
         let guess = room.guess;
-        if is_lesser(guess, self.within) {
+        if is_lesser(guess, self.searched.within) {
             self.fill(alloc, room, source, Some(guess))?;
-            if room.is_full(self.count) {
+            if room.is_full(self.searched.count) {
                 return Ok(());
             }
         }
-        self.fill(alloc, room, source, self.within)
+        self.fill(alloc, room, source, self.searched.within)
     }
 }
 
@@ -105,7 +103,7 @@ impl<'a> Nearest<'a> {
 pub(crate) struct Room {
     pub(crate) scratch: Scratch,
     pub(crate) offers: Offers,
-    row: Vec<(u64, u32)>,
+    pub(crate) row: Vec<(u64, u32)>,
     /// A guess from the last row how far the nearest targets are at most. It changes no row.
     guess: u64,
 }
@@ -123,7 +121,7 @@ impl Room {
 
     /// Guesses that the nearest targets of the next source are at most twice as far as the last target of
     /// this row. If the row is not full, there is no such bound.
-    fn guess_by(&mut self, count: Option<u32>)
+    pub(crate) fn guess_by(&mut self, count: Option<u32>)
         ensures scratch { self.new.scratch ≡ self.old.scratch }
         ensures offers { self.new.offers ≡ self.old.offers }
         ensures row { self.new.row.items ≡ self.old.row.items }
@@ -170,7 +168,7 @@ impl<'a> ListJob for Nearest<'a> {
 
     fn room(&self, alloc: Global) -> Result<Room, AllocError> {
         let scratch = Scratch::new(alloc, self.hierarchy.nodes())?;
-        let offers = Offers::new(alloc, self.targets.len() as u32)?;
+        let offers = Offers::new(alloc, self.searched.targets.len() as u32)?;
         Ok(Room {
             scratch,
             offers,
@@ -187,7 +185,7 @@ impl<'a> ListJob for Nearest<'a> {
     ) -> Result<Vec<(u64, u32)>, AllocError> {
         self.fill_by_guess(alloc, room, *item)?;
         let row = Vec::from_slice(alloc, &room.row)?;
-        room.guess_by(self.count);
+        room.guess_by(self.searched.count);
         Ok(row)
     }
 }

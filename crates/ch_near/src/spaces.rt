@@ -1,5 +1,5 @@
 //! Searches from targets.
-ghost use Rattle.std.specs.Prelude.{◌<◌, ◌≤◌, length, All, IfOk};
+ghost use Rattle.std.specs.Prelude.{◌≡◌, ◌<◌, ◌≤◌, length, All, IfOk};
 ghost use Rattle.std.specs.List.{AllZip};
 ghost use Rattle.ch_graph.specs.declared.limits.TheConstants.{MOST_LISTED};
 ghost use Rattle.ch_hierarchy.specs.Hierarchy.{nodes_of};
@@ -36,6 +36,52 @@ pub(crate) fn search_targets<R: Threads + Sync, G: Gate>(
     };
     crew.gate.watch(Stage::Searching, 0, crew.plan.pieces(targets.len() as u32));
     run_list(crew, targets, &searches)
+}
+
+/// Like [`search_targets`], by the caller alone.
+pub(crate) fn spaces_alone(
+    alloc: Global,
+    hierarchy: &Hierarchy,
+    direction: Direction,
+    targets: &[u32],
+    within: Option<u64>,
+) -> Result<Vec<Vec<(u32, u64)>>, AllocError>
+    requires kept { IsKeptForSome hierarchy.now }
+    requires targets { All (λ t. t < nodes_of hierarchy.now) targets.now }
+    ensures { IfOk result (λ spaces. AllZip (λ t space. IsRankedSpace (facing direction hierarchy.now) Down within t space.items) targets.now spaces.items) }
+{
+    let mut scratch = Scratch::new(alloc, hierarchy.nodes())?;
+    let mut spaces = Vec::with_capacity(alloc, targets.len())?;
+    for target in targets {
+        let space = space_to(alloc, hierarchy, &mut scratch, direction, *target, within)?;
+        spaces.push_reserved(space);
+    }
+    Ok(spaces)
+}
+
+/// Returns the search space of a target.
+fn space_to(
+    alloc: Global,
+    hierarchy: &Hierarchy,
+    scratch: &mut Scratch,
+    direction: Direction,
+    target: u32,
+    within: Option<u64>,
+) -> Result<Vec<(u32, u64)>, AllocError>
+    requires kept { IsKeptForSome hierarchy.now }
+    requires scratch { scratch.old ≡ nodes_of hierarchy.now }
+    requires target { target < nodes_of hierarchy.now }
+    ensures space { IfOk result (λ space. IsRankedSpace (facing direction hierarchy.now) Down within target space.items) }
+    ensures scratch { scratch.new ≡ scratch.old }
+{
+    ranked_space(
+        alloc,
+        hierarchy,
+        scratch,
+        target,
+        direction.target_side(),
+        within,
+    )
 }
 
 /// The job that searches from nodes, in one direction, within a limit.

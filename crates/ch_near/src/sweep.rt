@@ -60,9 +60,9 @@ impl<'a> NearTargets<'a> {
     pub fn node_rows(&self, alloc: Global) -> Result<NodeRows<'a>, AllocError>
         ensures { IfOk result (AreNodeRows self.now) }
     {
-        let rows = self.nearest.sweep(alloc)?;
+        let rows = self.nearest().sweep(alloc)?;
         Ok(NodeRows {
-            hierarchy: self.nearest.hierarchy,
+            hierarchy: self.hierarchy,
             rows,
         })
     }
@@ -70,12 +70,12 @@ impl<'a> NearTargets<'a> {
 
 impl<'a> Nearest<'a> {
     /// Returns the row of each rank's node.
-    fn sweep(&self, alloc: Global) -> Result<Rows<(u64, u32)>, AllocError>
+    pub(crate) fn sweep(&self, alloc: Global) -> Result<Rows<(u64, u32)>, AllocError>
         ensures { IfOk result (AreRowsTo self.now (nodes_of self.now.hierarchy)) }
     {
         let nodes = self.hierarchy.nodes();
         let mut rows = Rows::with_room(alloc, nodes, 0)?;
-        let mut offers = Offers::new(alloc, self.targets.len() as u32)?;
+        let mut offers = Offers::new(alloc, self.searched.targets.len() as u32)?;
         let mut row = Vec::new(alloc);
         for rank in 0..nodes {
             self.make_row(&mut offers, &mut row, rank, &rows)?;
@@ -98,11 +98,16 @@ impl<'a> Nearest<'a> {
         ensures row { OnOk result (AreRowsTo self.now (rank + 1) (rows.now ++ row.new.items ∷ [])) }
         ensures offers { OnOk result (AreUnoffered (length self.now.targets) offers.new) }
     {
-        let legs = self.direction.ranked_legs(self.hierarchy, rank);
-        offer_row(offers, 0, self.buckets.row(rank), self.within)?;
-        offer_legs(offers, legs, rows, self.within)?;
+        let legs = self.searched.direction.ranked_legs(self.hierarchy, rank);
+        offer_row(
+            offers,
+            0,
+            self.searched.buckets.row(rank),
+            self.searched.within,
+        )?;
+        offer_legs(offers, legs, rows, self.searched.within)?;
         offers.take(row)?;
-        sort_and_cut(row, self.count);
+        sort_and_cut(row, self.searched.count);
         Ok(())
     }
 }

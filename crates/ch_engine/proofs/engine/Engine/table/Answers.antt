@@ -1,4 +1,4 @@
-use Rattle.std.proofs.Common.{rules, ◌≡◌, ◌*◌, ◌/◌, ◌%◌, ◌<◌, length, slice_index, sym, subst, arith}
+use Rattle.std.proofs.Common.{rules, ◌≡◌, ◌*◌, ◌/◌, ◌%◌, length, slice_index, sym, subst, arith}
 use Rattle.ch_query.specs.Distance.{IsKeptForSome}
 use Rattle.ch_hierarchy.specs.Hierarchy.{LevelsAndLegs}
 use Rattle.ch_engine.specs.Cells.{IsCell}
@@ -18,7 +18,7 @@ returns-clause-cells c =
     let H = c.hierarchy-hierarchy.result.now in
     let sources = c.args.sources.now in
     let targets = c.args.targets.now in
-    let same : H ≡ c.args.self.now = search rules in
+    let same : H ≡ c.args.self.now.hierarchy = search rules in
     let room : length c.write_table.new.out ≡ length sources * length targets = search rules in
     let kept = subst IsKeptForSome (sym c.hierarchy-hierarchy.ensures.same) c.hierarchy-hierarchy.ensures.kept in
     λ k low. subst (λ (G : LevelsAndLegs). IsCell G c.args.within (slice_index sources (k / length targets)) (slice_index targets (k % length targets)) (slice_index c.write_table.new.out k)) same

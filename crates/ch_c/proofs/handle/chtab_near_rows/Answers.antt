@@ -1,0 +1,13 @@
+use Rattle.std.proofs.Common.{◌≡◌, sym, subst}
+use Rattle.ch_engine.specs.Held.{Held}
+use Rattle.ch_c.specs.Calls.{AreRowsAnswered, OfNetwork}
+use Rattle.ch_c.proofs.handle.chtab_near_rows.Goals as goal
+
+pub returns-clause-answered : goal.returns-clause-answered
+returns-clause-answered c =
+    let status = c.write_rows-status.result in
+    let args = c.args in
+    let new = c.write_rows-status.new in
+    let Says : Held → Type 0 = λ held. AreRowsAnswered held args.sources.now (record { rows = args.rows.now; ends = args.ends.now; weights = args.weights.now; places = args.places.now }) (record { rows = new.rows; ends = new.ends; weights = new.weights; places = new.places }) status in
+    subst (λ network. OfNetwork network status ((new.rows ≡ args.rows.now) × (new.ends ≡ args.ends.now) × (new.weights ≡ args.weights.now) × (new.places ≡ args.places.now)) Says) (sym c.in-Some.ensures.taken)
+    (subst Says c.deref_mut.ensures.value c.write_rows-status.ensures.answered)

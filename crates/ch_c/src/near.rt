@@ -1,0 +1,81 @@
+//! Near rows, as C sees them.
+ghost use Rattle.std.specs.Prelude.{◌≡◌, Some};
+ghost use Rattle.ch_c.specs.Calls.{ArePlacesKept, AreRowsAnswered, IsSwept, direction_of as the_direction, end_status};
+
+use crate::status::{NO_MEMORY, OK, TOO_SHORT, status_of};
+use ch_engine::{End, Engine};
+use ch_near::Direction;
+use std::alloc::Global;
+
+/// The direction of a number: to the places where it is 0, and else from them.
+fn direction_of(is_from: u32) -> Direction
+    ensures { result ≡ the_direction is_from }
+{
+    if is_from == 0 {
+        Direction::To
+    } else {
+        Direction::From
+    }
+}
+
+/// Keeps places, and answers a status.
+pub(crate) fn keep_places(
+    alloc: Global,
+    engine: &mut Engine,
+    is_from: u32,
+    places: &[u32],
+    limit: u64,
+    count: u32,
+) -> u32
+    ensures { ArePlacesKept is_from places.now limit count engine.old (Some engine.new) result }
+{
+    let direction = direction_of(is_from);
+    match engine.keep_places(alloc, direction, places, Some(limit), Some(count)) {
+        Ok(()) => OK,
+        Err(refusal) => status_of(refusal),
+    }
+}
+
+/// Sweeps the rows of all nodes, and answers a status.
+pub(crate) fn sweep(alloc: Global, engine: &mut Engine) -> u32
+    ensures swept { IsSwept engine.old result }
+    ensures same { engine.new ≡ engine.old }
+{
+    match engine.sweep(alloc) {
+        Ok(()) => OK,
+        Err(refusal) => status_of(refusal),
+    }
+}
+
+/// Writes the rows of sources as far as there is room and memory, and answers a status.
+pub(crate) fn write_rows(
+    alloc: Global,
+    engine: &mut Engine,
+    sources: &[u32],
+    rows: &mut u64,
+    ends: &mut [u64],
+    weights: &mut [u64],
+    places: &mut [u32],
+) -> u32
+    ensures answered { AreRowsAnswered engine.old sources.now (record { rows = rows.old; ends = ends.old; weights = weights.old; places = places.old }) (record { rows = rows.new; ends = ends.new; weights = weights.new; places = places.new }) result }
+    ensures same { engine.new ≡ engine.old }
+{
+    match engine.near_rows(alloc, sources, ends, weights, places) {
+        Ok(written) => {
+            *rows = written.rows;
+            status_of_end(written.end)
+        }
+        Err(refusal) => status_of(refusal),
+    }
+}
+
+/// The number of why no more rows were written.
+fn status_of_end(end: End) -> u32
+    ensures { result ≡ end_status end }
+{
+    match end {
+        End::All => OK,
+        End::NoRoom => TOO_SHORT,
+        End::NoMemory => NO_MEMORY,
+    }
+}

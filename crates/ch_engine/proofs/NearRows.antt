@@ -1,0 +1,56 @@
+-- Near rows that stand one after the other in arrays.
+use Rattle.std.proofs.Common.{◌≡◌, ℕ, zero, suc, ◌+◌, ◌<◌, ◌≤◌, List, length, get_or, set, inl, inr, refl, sym, ◌∙◌, subst, arith}
+use Rattle.std.proofs.lemmas.List.{get_or-set_same, get_or-set_other}
+use Rattle.std.proofs.lemmas.Bool.{cases_order}
+use Rattle.ch_engine.specs.Held.{Held}
+use Rattle.ch_engine.specs.NearRows.{AreRowsAt, IsKeptRow, IsRowAt, StandsAt, begin_of}
+
+-- the arrays agree before a place
+abbrev pub Agree : ℕ → List ℕ → List ℕ → List ℕ → List ℕ → Type 0
+Agree at weights places weights' places' = (k : ℕ) → k < at → (get_or weights' k 0 ≡ get_or weights k 0) × (get_or places' k 0 ≡ get_or places k 0)
+
+-- a row that ends before what is written stays
+row_stays : (held : Held) (s begin end at : ℕ) (weights places weights' places' : List ℕ) → IsRowAt held s begin end weights places → end ≤ at → Agree at weights places weights' places' →
+    length weights' ≡ length weights → IsRowAt held s begin end weights' places'
+row_stays held s begin end at weights places weights' places' row low agree long = (
+  row.0,
+  row.1,
+  row.2,
+  omega (arith, long, row.3),
+  λ j inside. let same = agree (begin + j) (omega (arith, low, inside, row.2)) in let stands = row.4 j inside in (same.0 ∙ stands.0, same.1 ∙ stands.1),
+)
+
+-- an end that is written moves no begin up to its own row
+begins_stay : (ends : List ℕ) (i end k : ℕ) → k < i + 1 → begin_of (set ends i end) k ≡ begin_of ends k
+begins_stay ends i end zero low = refl
+begins_stay ends i end (suc m) low = get_or-set_other ends i m end 0 (λ same. omega arith)
+
+-- the row behind row i begins at its end
+pub begin_next : (ends : List ℕ) (i : ℕ) → begin_of ends (i + 1) ≡ get_or ends i 0
+begin_next ends i = let next : i + 1 ≡ suc i = omega arith in subst (λ n. begin_of ends n ≡ get_or ends i 0) (sym next) refl
+
+module _ (held : Held) (sources ends weights places weights' places' : List ℕ) (i begin : ℕ) where
+  -- the rows before stay, and one more stands behind them
+  pub rows_more : AreRowsAt held sources ends weights places i → begin ≡ begin_of ends i → ((k : ℕ) → k < i → get_or ends k 0 ≤ begin) → i < length ends →
+      Agree begin weights places weights' places' → length weights' ≡ length weights → (row : List (ℕ × ℕ)) → IsKeptRow held (get_or sources i 0) row → begin + length row ≤ length weights →
+      StandsAt begin row weights' places' → AreRowsAt held sources (set ends i (begin + length row)) weights' places' (i + 1)
+  rows_more are here low inside agree long row kept fits stands k more =
+      let end = begin + length row in
+      let own : IsRowAt held (get_or sources i 0) begin end weights' places' = (row, kept, refl, omega (arith, long, fits), stands) in
+      elim (cases_order k i) [
+        | inl same ↦ subst (λ (n : ℕ). IsRowAt held (get_or sources n 0) (begin_of (set ends i end) n) (get_or (set ends i end) n 0) weights' places') (sym same)
+            (subst (λ b. IsRowAt held (get_or sources i 0) b (get_or (set ends i end) i 0) weights' places') (here ∙ sym (begins_stay ends i end i (omega arith)))
+            (subst (λ e. IsRowAt held (get_or sources i 0) begin e weights' places') (sym (get_or-set_same ends i end 0 inside)) own))
+        | inr (inl less) ↦ subst (λ b. IsRowAt held (get_or sources k 0) b (get_or (set ends i end) k 0) weights' places') (sym (begins_stay ends i end k (omega arith)))
+            (subst (λ e. IsRowAt held (get_or sources k 0) (begin_of ends k) e weights' places') (sym (get_or-set_other ends i k end 0 (λ same. omega arith)))
+            (row_stays held (get_or sources k 0) (begin_of ends k) (get_or ends k 0) begin weights places weights' places' (are k less) (low k less) agree long))
+        | inr (inr past) ↦ absurd (omega arith)
+      ]
+
+  -- no end is past the new one
+  pub ends_low : (end : ℕ) → ((k : ℕ) → k < i → get_or ends k 0 ≤ begin) → begin ≤ end → i < length ends → (k : ℕ) → k < i + 1 → get_or (set ends i end) k 0 ≤ end
+  ends_low end low more inside k less = elim (cases_order k i) [
+    | inl same ↦ subst (λ (n : ℕ). get_or (set ends i end) n 0 ≤ end) (sym same) (let is = get_or-set_same ends i end 0 inside in omega arith)
+    | inr (inl before) ↦ let is = get_or-set_other ends i k end 0 (λ same. omega arith) in let old = low k before in omega arith
+    | inr (inr past) ↦ absurd (omega arith)
+  ]

@@ -1,0 +1,15 @@
+use Rattle.std.proofs.Common.{◌≡◌, ◌<◌, ◌≤◌, ℕ, length, slice_index}
+use Rattle.ch_engine.specs.NearRows.{AreRowsAt, begin_of}
+use Rattle.ch_engine.proofs.engine.Engine.write_rows.Given as goal
+
+abbrev pub invariant-loop-i : goal.invariant-loop-i
+invariant-loop-i l = record {
+  same : l.self ≡ l.fn.self;
+  as_many : length l.ends ≡ length l.fn.ends;
+  long : length l.weights ≡ length l.fn.weights;
+  wide : length l.places ≡ length l.fn.places;
+  here : l.begin ≡ begin_of l.ends l.i;
+  low : (k : ℕ) → k < l.i → slice_index l.ends k ≤ l.begin;
+  fits : l.begin ≤ length l.weights;
+  rows : AreRowsAt l.fn.self l.sources l.ends l.weights l.places l.i;
+}

@@ -1,0 +1,160 @@
+//! Near rows of an engine, to places that it keeps.
+ghost use Rattle.std.specs.Prelude.{◌≡◌, ◌+◌, ◌<◌, ◌≤◌, ℕ, length, slice_index, IfErr, IfOk, OnOk, IsSome};
+ghost use Rattle.ch_hierarchy.specs.Hierarchy.{nodes_of};
+ghost use Rattle.ch_engine.specs.Held.{with_places};
+ghost use Rattle.ch_engine.specs.NearRows.{AreRowsWritten, IsKeptRow, StandsAt};
+ghost use Rattle.ch_engine.specs.Refusals.{AreNodes, IsRefusalOfPlaces, IsRefusalOfRows, IsRefusalOfSweep};
+
+use crate::engine::Engine;
+use crate::fault::Refusal;
+use crate::words::are_nodes;
+use crate::written::{End, Written};
+use ch_graph::limits::MOST_LISTED;
+use ch_near::{Direction, KeptTargets};
+use std::alloc::{AllocError, Global};
+
+impl Engine {
+    /// Searches from places and keeps what is found, in place of what was kept: for rows of the first `count` of them in
+    /// order of distance, or of all, and with a limit of those alone whose distance is at most that.
+    ///
+    /// # Errors
+    /// A refusal by the number of places, else by one that is no node; or `NoMemory`. Then what was kept stays.
+    pub fn keep_places(
+        &mut self,
+        alloc: Global,
+        direction: Direction,
+        places: &[u32],
+        within: Option<u64>,
+        count: Option<u32>,
+    ) -> Result<(), Refusal>
+        ensures kept { OnOk result (self.new ≡ with_places self.old (record { direction = direction; targets = places.now; limit = within; count = count })) }
+        ensures refused { IfErr result (λ refusal. (self.new ≡ self.old) × IsRefusalOfPlaces (nodes_of self.old.hierarchy) places.now refusal) }
+    {
+        if places.len() > MOST_LISTED as usize {
+            return Err(Refusal::TooLarge);
+        }
+        if !are_nodes(places, self.nodes()) {
+            return Err(Refusal::NodeRange);
+        }
+        let hierarchy = self.network.hierarchy();
+        let kept = KeptTargets::search(alloc, hierarchy, direction, places, within, count)?;
+        self.kept = Some(kept);
+        Ok(())
+    }
+
+    /// Makes the rows of all nodes to the places by one sweep and keeps them. Then no row takes a search.
+    ///
+    /// # Errors
+    /// `NoPlaces` or `NoMemory`.
+    pub fn sweep(&mut self, alloc: Global) -> Result<(), Refusal>
+        ensures refused { IfErr result (IsRefusalOfSweep self.old.near) }
+        ensures some { OnOk result (IsSome self.old.near) }
+        ensures same { self.new ≡ self.old }
+    {
+        let hierarchy = self.network.hierarchy();
+        let Some(kept) = &mut self.kept else {
+            return Err(Refusal::NoPlaces);
+        };
+        kept.sweep(alloc, hierarchy)?;
+        Ok(())
+    }
+
+    /// Writes the rows of sources, one after the other: where each ends, and the distance and the place of each of its pairs.
+    /// It ends before the first row for which there is no room. As much room as a row has pairs is always enough for one:
+    /// that is at most the number of places.
+    ///
+    /// # Errors
+    /// A refusal by lengths, else by places that are not kept, else by a number that is no node; then nothing is written.
+    pub fn near_rows(
+        &mut self,
+        alloc: Global,
+        sources: &[u32],
+        ends: &mut [u64],
+        weights: &mut [u64],
+        places: &mut [u32],
+    ) -> Result<Written, Refusal>
+        ensures written { IfOk result (AreRowsWritten self.old sources.now ends.new weights.new places.new) }
+        ensures some { OnOk result (IsSome self.old.near) }
+        ensures refused { IfErr result (λ refusal. (ends.new ≡ ends.old) × (weights.new ≡ weights.old) × (places.new ≡ places.old) × IsRefusalOfRows (nodes_of self.old.hierarchy) self.old.near sources.now (length ends.old) (length weights.old) (length places.old) refusal) }
+        ensures same { self.new ≡ self.old }
+    {
+        if sources.len() != ends.len() || weights.len() != places.len() {
+            return Err(Refusal::Lengths);
+        }
+        if self.kept.is_none() {
+            return Err(Refusal::NoPlaces);
+        }
+        if !are_nodes(sources, self.nodes()) {
+            return Err(Refusal::NodeRange);
+        }
+        Ok(self.write_rows(alloc, sources, ends, weights, places))
+    }
+
+    fn write_rows(
+        &mut self,
+        alloc: Global,
+        sources: &[u32],
+        ends: &mut [u64],
+        weights: &mut [u64],
+        places: &mut [u32],
+    ) -> Written
+        requires lengths { (length sources.now ≡ length ends.old) × (length weights.old ≡ length places.old) }
+        requires sources { AreNodes (nodes_of self.old.hierarchy) sources.now }
+        ensures written { AreRowsWritten self.old sources.now ends.new weights.new places.new result }
+        ensures same { self.new ≡ self.old }
+    {
+        let mut row = Vec::new(alloc);
+        let mut begin = 0;
+        for i in 0..sources.len() {
+            let rows = i as u64;
+            let Ok(()) = self.near_row(alloc, sources[i], &mut row) else {
+                let end = End::NoMemory;
+                return Written { rows, end };
+            };
+            if row.len() > weights.len() - begin {
+                let end = End::NoRoom;
+                return Written { rows, end };
+            }
+            write_row(&row, begin, weights, places);
+            begin += row.len();
+            ends[i] = begin as u64;
+        }
+        Written {
+            rows: sources.len() as u64,
+            end: End::All,
+        }
+    }
+
+    /// Makes the row of a source, where places are kept.
+    fn near_row(
+        &mut self,
+        alloc: Global,
+        source: u32,
+        row: &mut Vec<(u64, u32)>,
+    ) -> Result<(), AllocError>
+        requires { source < nodes_of self.old.hierarchy }
+        ensures row { OnOk result (IsKeptRow self.old source row.new.items) }
+        ensures same { self.new ≡ self.old }
+    {
+        let hierarchy = self.network.hierarchy();
+        match &mut self.kept {
+            Some(kept) => kept.row(alloc, hierarchy, source, row),
+            None => Ok(()),
+        }
+    }
+}
+
+/// Writes the weights and the places of a row from here on.
+fn write_row(row: &[(u64, u32)], begin: usize, weights: &mut [u64], places: &mut [u32])
+    requires room { begin + length row.now ≤ length weights.old }
+    requires lengths { length weights.old ≡ length places.old }
+    ensures stands { StandsAt begin row.now weights.new places.new }
+    ensures before { (k : ℕ) → k < begin → (slice_index weights.new k ≡ slice_index weights.old k) × (slice_index places.new k ≡ slice_index places.old k) }
+    ensures lengths { (length weights.new ≡ length weights.old) × (length places.new ≡ length places.old) }
+{
+    for j in 0..row.len() {
+        let (weight, place) = row[j];
+        weights[begin + j] = weight;
+        places[begin + j] = place;
+    }
+}

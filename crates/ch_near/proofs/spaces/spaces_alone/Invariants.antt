@@ -1,0 +1,13 @@
+use Rattle.std.proofs.Common.{◌≡◌, ◌+◌, ◌-◌, ◌≤◌, take, length, vec_len}
+use Rattle.std.specs.Prelude.{vec_capacity}
+use Rattle.std.specs.List.{AllZip}
+use Rattle.ch_hierarchy.specs.Hierarchy.{nodes_of}
+use Rattle.ch_near.specs.Direction.{facing}
+use Rattle.ch_query.specs.declared.side.Side.TheVariants.{Down}
+use Rattle.ch_query.specs.SearchSpace.{IsRankedSpace}
+use Rattle.ch_near.proofs.spaces.spaces_alone.Given as goal
+
+abbrev pub invariant-loop-target : goal.invariant-loop-target
+invariant-loop-target l =
+    AllZip (λ t space. IsRankedSpace (facing l.direction l.hierarchy) Down l.within t space.items) (take l.target-index l.targets) l.spaces.items
+    × (vec_len l.spaces + (length l.targets - l.target-index) ≤ vec_capacity l.spaces) × (l.scratch ≡ nodes_of l.hierarchy)
