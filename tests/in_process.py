@@ -66,7 +66,7 @@ def numbers_are_those_of_the_header():
 
     text = HEADER.read_text()
     assert f"#define CHTAB_VERSION {library.VERSION}\n" in text
-    assert all(getattr(library, name) == number for name, number in statuses().items()) and len(statuses()) == 11
+    assert all(getattr(library, name) == number for name, number in statuses().items()) and len(statuses()) == 12
     assert len(re.findall(r"CHTAB_FAULT_\w+ = \d+", text)) == len(library.KINDS)
     assert [ctypes.sizeof(kind) for kind in (library.Block, library.Fault, library.Found)] == [16, 24, 16]
     for kind, name in (library.Block, "chtab"), (library.Fault, "chtab_fault"), (library.Found, "chtab_found"):
@@ -78,10 +78,10 @@ def calls_are_those_of_the_header():
     """Each call is given as many words as the header says, each of its type."""
     from chtab import library
 
-    one, column = ctypes.POINTER(ctypes.c_uint32), ctypes.c_void_p
+    one, rows, column = ctypes.POINTER(ctypes.c_uint32), ctypes.POINTER(ctypes.c_uint64), ctypes.c_void_p
     types = {
         "chtab *": {library.HANDLE}, "const uint8_t *": {ctypes.c_char_p}, "size_t ": {ctypes.c_size_t}, "uint64_t ": {ctypes.c_uint64},
-        "uint32_t ": {ctypes.c_uint32}, "const uint32_t *": {column}, "uint64_t *": {column}, "uint32_t *": {column, one},
+        "uint32_t ": {ctypes.c_uint32}, "const uint32_t *": {column}, "uint64_t *": {column, rows}, "uint32_t *": {column, one},
         "chtab_fault *": {ctypes.POINTER(library.Fault)}, "chtab_found *": {ctypes.POINTER(library.Found)},
     }
     assert {*library.CALLS, "chtab_version"} == declared()
@@ -90,6 +90,7 @@ def calls_are_those_of_the_header():
         told = [re.fullmatch(r"(.*?)\w+", " ".join(word.split())).group(1) for word in words.split(",")]
         assert len(told) == len(given) and all(kind in types[word] for word, kind in zip(told, given)), (name, told)
     assert library.CALLS["chtab_nodes"][1] is one and column is library.CALLS["chtab_route"][4]
+    assert library.CALLS["chtab_near_rows"][3] is rows and library.CALLS["chtab_near_rows"][4::2] == (column,) * 3
 
 
 # What is refused.
@@ -110,6 +111,8 @@ def what_c_would_misread_is_refused():
         for call in handle.distances, handle.table:
             raises(TypeError, call, wrong, right)
             raises(TypeError, call, right, wrong)
+        raises(TypeError, handle.keep_places, wrong)
+        raises(TypeError, handle.near_rows, wrong, 9)
     raises(ValueError, handle.distances, right, right[:1], told="lengths")
     for node in 3, 4, 2**31, 2**32 - 1:
         outside = numpy.array([0, node], numpy.uint32)
@@ -118,16 +121,28 @@ def what_c_would_misread_is_refused():
             raises(ValueError, call, right, outside, told="not one of the network")
         raises(ValueError, handle.route, node, 0)
         raises(ValueError, handle.route, 0, node)
+        raises(ValueError, handle.keep_places, outside, told="not one of the network")
     for node in -1, 2**32, 2**64, -2**63:
         raises(ValueError, handle.route, node, 0, told="32 bits")
         raises(ValueError, handle.route, 0, node, told="32 bits")
     for limit in -1, 2**64:
         raises(ValueError, handle.table, right, right, limit, told="64 bits")
+        raises(ValueError, handle.keep_places, right, limit, told="64 bits")
+    for count in -1, 2**32:
+        raises(ValueError, handle.keep_places, right, 5, count, told="one of 32")
+    for call, words in (handle.sweep, ()), (handle.near_rows, (right, 9)):
+        raises(ValueError, call, *words, told="no places are kept")
     many = numpy.zeros(65_537, numpy.uint32)
     raises(ValueError, handle.table, many, right, told="65,536")
     raises(ValueError, handle.table, right, many, told="65,536")
+    raises(ValueError, handle.keep_places, many, told="65,536")
+    handle.keep_places(right)
+    raises(ValueError, handle.near_rows, outside, 9, told="not one of the network")
+    for pairs in -1, -9:
+        raises(ValueError, handle.near_rows, right, pairs)
     nothing = numpy.zeros(0, numpy.uint32)
     assert handle.distances(nothing, nothing).tolist() == [] and handle.table(nothing, right).shape == (0, 2) and handle.table(right, nothing).shape == (2, 0)
+    assert [part.tolist() for part in handle.near_rows(nothing, 0)] == [[]] * 3 and [part.tolist() for part in handle.near_rows(right, 2)] == [[2], [0, 4], [0, 1]]
     for words in (None, b""), ("p sp 0 0\n", b""), (b"", bytearray()), (b"", None):
         raises(TypeError, handle_of().open, *words)
     assert handle.route(0, 2)[0] == 9 and handle.route(0, 2)[1].tolist() == [0, 1, 2] and handle.route(2, 0)[0] == -1
@@ -196,14 +211,16 @@ def a_closed_handle_answers_nothing():
     handle.close()
     assert other.distances(one, one).tolist() == [0] and other.route(0, 2)[0] == 9
     for each in closed, handle:
-        for call, words in (each.distances, (one, one)), (each.table, (one, one)), (each.route, (0, 1)), (each.nodes, ()), (each.share, ()):
+        for call, words in (each.distances, (one, one)), (each.table, (one, one)), (each.route, (0, 1)), (each.nodes, ()), (each.share, ()), \
+                (each.keep_places, (one,)), (each.sweep, ()), (each.near_rows, (one, 1)):
             raises(chtab.ChtabError, call, *words, told="the network is closed")
     raises(chtab.ProgramFault, other.open, b"", b"", told="answered 3")
     for way in copy.copy, copy.deepcopy, pickle.dumps:
         raises(TypeError, way, other, told="neither copied nor pickled")
     with of_first() as network:
         assert network.distances([(1, 3)]).tolist() == [9]
-    for call, words in (network.distances, ([(1, 3)],)), (network.table, ([1], [3])), (network.routes, ([(1, 3)],)):
+    for call, words in (network.distances, ([(1, 3)],)), (network.table, ([1], [3])), (network.routes, ([(1, 3)],)), (network.near, ([1], [3])), \
+            (network.near, (None, [3])), (network.sum_within, (1, 5)), (network.nearest_of, ([1, 2], [3])):
         raises(chtab.ChtabError, call, *words, told="the network is closed")
     network.close()
     raises(chtab.ChtabError, network._engine.load, told="the network is closed")
@@ -233,6 +250,68 @@ def each_thread_has_a_handle():
         assert len(engine.handles) == 1 and engine.begun == 1, (len(engine.handles), engine.begun)
         with contextlib.closing(of_country()) as other, concurrent.futures.ThreadPoolExecutor(1) as threads:
             assert threads.submit(lambda: other._engine.handle() is other._engine.first).result() and len(other._engine.handles) == 1
+
+
+def near_rows_of_threads_have_handles_of_their_own():
+    """As many as ask at a time, which the next questions take; a row is never to the places of another question."""
+    import numpy
+
+    with of_country() as network:
+        draw, met = numpy.random.default_rng(7), threading.Barrier(4)
+        asked = [(draw.integers(1, network.nodes + 1, 50), draw.integers(1, network.nodes + 1, 9)) for _ in range(4)]
+        wanted = [network.table(*each) for each in asked]
+
+        def work(place):
+            met.wait(PATIENCE)
+            return all(numpy.array_equal(dense(network.near(*asked[place])), wanted[place]) for _ in range(20))
+
+        with concurrent.futures.ThreadPoolExecutor(4) as threads:
+            assert list(threads.map(work, range(4), timeout=PATIENCE)) == [True] * 4
+        assert 1 <= len(network._engine.spare) <= 4 and len(network._engine.handles) == 1 + len(network._engine.spare)
+
+
+def dense(near):
+    """Near rows as a table, -1 where a place is not near."""
+    import numpy
+
+    table = numpy.full((len(near), len(near.targets)), -1)
+    table[near.owners(), near.places] = near.weights
+    return table
+
+
+@contextlib.contextmanager
+def small_portions(pairs, swept, together):
+    """Calls of the library that give so few pairs, sweeps of so few, and so few sources of a call."""
+    from chtab import near_in_process
+
+    names, numbers = ("PAIRS", "SWEPT", "FEW", "TOGETHER"), (pairs, swept, 0, together)
+    before = [getattr(near_in_process, name) for name in names]
+    for name, number in zip(names, numbers):
+        setattr(near_in_process, name, number)
+    try:
+        yield
+    finally:
+        for name, number in zip(names, before):
+            setattr(near_in_process, name, number)
+
+
+def near_rows_come_in_portions():
+    """By sweeps and by searches, whatever room one call has: the same rows."""
+    import numpy
+
+    with of_country() as network:
+        draw = numpy.random.default_rng(8)
+        targets, some = draw.integers(1, network.nodes + 1, 40), draw.integers(1, network.nodes + 1, 300)
+        for sources in None, some, numpy.append(some, numpy.arange(1, network.nodes + 1)):
+            for count, within, direction in (None, None, "to"), (3, None, "from"), (None, 300_000, "to"), (2, 90_000, "from"):
+                with small_portions(1 << 20, 0, 1 << 13):
+                    wanted = network.near(sources, targets, count, within, direction)
+                for pairs, swept, together in (1, 10**9, 7), (50, 10**9, 1), (1_000, 30_000, 100), (1 << 20, 1 << 24, 1 << 13):
+                    with small_portions(pairs, swept, together):
+                        found = network.near(sources, targets, count, within, direction)
+                    assert all(numpy.array_equal(getattr(found, name), getattr(wanted, name)) for name in ("offsets", "places", "weights"))
+                if sources is not None and count is None:
+                    assert numpy.array_equal(dense(wanted)[:200], network.table(sources[:200], targets, within)), (within, direction)
 
 
 def threads_ask_while_it_is_closed():
@@ -326,7 +405,12 @@ def what_is_dropped_is_freed():
     def faulty():
         raises(chtab.ProgramFault, handle_of, GRAPH, FIRST_SAVED)
 
-    for work in dropped, closed, in_ring, faulty:
+    def near():
+        with of_country() as network:
+            network.nearest_of(None, [1, 2, 3], 2)
+            raises(ZeroDivisionError, network.sum_within, 1, 90_000, [1, 2], [3], lambda weights: weights / (1 // 0))
+
+    for work in dropped, closed, in_ring, faulty, near:
         assert growth(work, 60) < MOST_GROWTH, work.__name__
     with of_country() as network:
         def in_thread():
@@ -337,22 +421,23 @@ def what_is_dropped_is_freed():
         assert growth(in_thread, 300) < MOST_GROWTH and len(network._engine.handles) == 1
 
 
-def a_long_table_hears_ctrl_c():
-    """It is broken off between two of its parts, long before it would end; the next question is answered."""
+def what_is_long_hears_ctrl_c():
+    """A table and near rows are broken off between two of their parts, long before they would end; the next question is answered."""
     def alarm(number, frame):
         raise KeyboardInterrupt
 
     with of_country() as network:
-        nodes, before = list(range(1, network.nodes + 1)) * 8, signal.signal(signal.SIGALRM, alarm)
-        begun = time.monotonic()
-        try:
-            signal.setitimer(signal.ITIMER_REAL, 0.5)
-            raises(KeyboardInterrupt, network.table, nodes, nodes)
-        finally:
-            signal.setitimer(signal.ITIMER_REAL, 0)
-            signal.signal(signal.SIGALRM, before)
-        took = time.monotonic() - begun
-        assert took < 20 and network.distances([(5, 5)]).tolist() == [0], took
+        nodes = list(range(1, network.nodes + 1)) * 8
+        for call in network.table, network.near, lambda sources, targets: network.sum_within(1, 2**60, sources, targets):
+            begun, before = time.monotonic(), signal.signal(signal.SIGALRM, alarm)
+            try:
+                signal.setitimer(signal.ITIMER_REAL, 0.5)
+                raises(KeyboardInterrupt, call, nodes, nodes)
+            finally:
+                signal.setitimer(signal.ITIMER_REAL, 0)
+                signal.signal(signal.SIGALRM, before)
+            took = time.monotonic() - begun
+            assert took < 20 and network.distances([(5, 5)]).tolist() == [0] and network.near([5], [5]).weights.tolist() == [0], took
 
 
 def routes_of_another_graph_are_found_out():
@@ -377,7 +462,8 @@ def is_by_library(network):
 
 
 def it_is_taken_where_it_fits():
-    """Beside the program, of the package's version, with a hierarchy, one worker and no time; where it must be taken, what lacks is told."""
+    """Beside the program, of the package's version, with a hierarchy, one worker and no time; where it must be taken, what lacks is told. One of a
+    checkout whose sources are newer is not taken."""
     from chtab import library
 
     for place in "beside", "lib/chtab", "checkout":
@@ -398,6 +484,12 @@ def it_is_taken_where_it_fits():
     first = {"saved": FIRST_SAVED, "program": PROGRAM}
     assert not is_by_library(chtab.Network.open(FIRST, **first))
     raises(chtab.ChtabError, lambda: chtab.Network.open(FIRST, **first, library=True), told="`packaging/library` makes it")
+    os.makedirs("checkout/crates/ch_c/src")
+    pathlib.Path("checkout/crates/ch_c/src/handle.rt").write_text("")
+    for seconds, is_taken in (-5, True), (5, False):
+        made = os.stat(f"checkout/out/library/lib/{library.NAME}").st_mtime + seconds
+        os.utime("checkout/crates/ch_c/src/handle.rt", (made, made))
+        assert is_by_library(chtab.Network.open(FIRST, saved=FIRST_SAVED, program="checkout/chtab")) == is_taken, seconds
     assert is_by_library(pickle.loads(pickle.dumps(chtab.Network.open(FIRST, **first, library=os.path.relpath(make())))))
     for wrong, kind in (3, TypeError), (None, TypeError), ("none.so", chtab.ChtabError), (FIRST, chtab.ChtabError):
         raises(kind, lambda: chtab.Network.open(FIRST, **first, library=wrong))
@@ -431,8 +523,9 @@ GROUPS = (
         ("python3-numpy",),
         [
             numbers_are_those_of_the_header, calls_are_those_of_the_header, what_c_would_misread_is_refused, nodes_are_those_of_the_network,
-            faults_are_told_as_by_the_program, a_closed_handle_answers_nothing, each_thread_has_a_handle, threads_ask_while_it_is_closed,
-            a_forked_process_opens_it_anew, the_end_of_the_interpreter_waits_for_nothing, what_is_dropped_is_freed, a_long_table_hears_ctrl_c,
+            faults_are_told_as_by_the_program, a_closed_handle_answers_nothing, each_thread_has_a_handle,
+            near_rows_of_threads_have_handles_of_their_own, near_rows_come_in_portions, threads_ask_while_it_is_closed,
+            a_forked_process_opens_it_anew, the_end_of_the_interpreter_waits_for_nothing, what_is_dropped_is_freed, what_is_long_hears_ctrl_c,
             routes_of_another_graph_are_found_out, it_is_taken_where_it_fits, another_library_is_not_taken,
         ],
     ),

@@ -1,7 +1,7 @@
 #!/usr/bin/python3
 """Tests near rows of the Python package: the targets near each source, the nearest of them, sums over those within limits, and reach by them.
 
-Rows are compared with those that all distances of scipy's and networkx's own searches make. What needs a package that is missing is told and
+Rows are compared with those that all distances of scipy's and networkx's own searches make, by runs of the program and by the library for C. What needs a package that is missing is told and
 left out. The last line is 'N passed, N failed'.
 """
 import concurrent.futures
@@ -23,10 +23,12 @@ from helpers.maps import COUNTRY
 from helpers import running
 from helpers.columns import drawn, forms_of, labels_drawn, least_of
 from helpers.commands import raises, temporary
+from helpers.in_process import make
 from helpers.moods import STANDIN, asked, lives_on, living, mood, nears, noted
 from helpers.nearness import dense_owed, rows_owed, rows_told, sums_owed
 from helpers.packages import PYTHON, run_checks
 from helpers.running import PROGRAM, ROOT
+from helpers.ways import both
 import chtab
 
 FIRST = ROOT / "examples" / "first.gr"
@@ -444,7 +446,7 @@ def threads_share_a_network():
 
 
 def reach_goes_by_near_rows():
-    """It is told what tables tell, by a network that keeps no run, and by one that has its hierarchy saved."""
+    """It is told what tables tell, by a network that keeps no run, by one that has its hierarchy saved, and by the library for C."""
     import numpy
 
     with open("saved.ch", "w") as saved:
@@ -457,6 +459,11 @@ def reach_goes_by_near_rows():
         nodes, added = (column[0][spots.out_nodes[0] > 0] for column in (spots.out_nodes, spots.out_weights))
         table = network.table(nodes, network.labels)
         assert numpy.array_equal(wanted[0][0], numpy.where(table >= 0, table + added[:, None], 2**62).min(axis=0))
+    with chtab.Network.open(f"{COUNTRY}.gr", saved="saved.ch", program=PROGRAM, library=make()) as network:
+        for place in range(3):
+            for within, owed in zip(limits, wanted[place]):
+                assert numpy.array_equal(network.reach(spots[place:place + 1], within), owed), (place, within)
+        assert network.isochrones(spots[:1], [120_000, 300_000]) == polygons
     with mood():
         for more in {"load": False}, {"saved": "saved.ch", "load": False}, {"saved": "saved.ch"}:
             with chtab.Network.open(f"{COUNTRY}.gr", program=STANDIN, **more) as network:
@@ -472,13 +479,14 @@ GROUPS = (
         ("python3-numpy",),
         [
             what_is_no_question_is_refused, one_run_answers_what_is_small, blocks_are_within_their_limits, texts_that_are_no_answer_are_refused,
-            a_run_that_fails_is_told_and_gone, closing_ends_what_is_under_way, a_signal_leaves_nothing_behind, forked_processes_ask_too, threads_share_a_network,
+            a_run_that_fails_is_told_and_gone, closing_ends_what_is_under_way, a_signal_leaves_nothing_behind,
+            *both(forked_processes_ask_too, threads_share_a_network),
         ],
     ),
-    (("python3-numpy", "python3-scipy"), [blocks_answer_as_one_run, a_program_without_the_command]),
-    (("python3-numpy", "python3-scipy", "python3-pandas"), [random_graphs_answer_as_scipy, forms_of_an_answer, sums_take_values_in_each_form]),
-    (("python3-numpy", "python3-networkx"), [random_graphs_answer_as_networkx]),
-    (("python3-numpy", "python3-distributed"), [a_cluster_answers_too]),
+    (("python3-numpy", "python3-scipy"), [*both(blocks_answer_as_one_run), a_program_without_the_command]),
+    (("python3-numpy", "python3-scipy", "python3-pandas"), both(random_graphs_answer_as_scipy, forms_of_an_answer, sums_take_values_in_each_form)),
+    (("python3-numpy", "python3-networkx"), both(random_graphs_answer_as_networkx)),
+    (("python3-numpy", "python3-distributed"), both(a_cluster_answers_too)),
     (("python3-numpy", "python3-scipy", "python3-shapely"), [reach_goes_by_near_rows]),
 )
 

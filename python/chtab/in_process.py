@@ -1,4 +1,5 @@
-"""What is asked of the library for C, in this process: distances, routes and tables, by a handle for each thread."""
+"""What is asked of the library for C, in this process: distances, routes and tables, by a handle for each thread, and handles for near rows."""
+import contextlib
 import os
 import threading
 import weakref
@@ -12,6 +13,8 @@ from chtab.walks import Walks
 AUTO = "auto"
 # What one call of the library answers at most: distances, and targets of a table. So no call takes much more than a second, and Ctrl-C is heard.
 TOGETHER, WIDTH = 1 << 13, 1 << 13
+# What frees the places of a handle: none are kept in place of them.
+NO_PLACES = numpy.zeros(0, numpy.uint32)
 
 
 def engine_of(setting, choice, graph):
@@ -40,7 +43,7 @@ def engine_of(setting, choice, graph):
 def lack_of(setting, path):
     """Why the library does not fit a setting, None where it does."""
     if path is None:
-        return f"there is no {library.NAME} beside the program {setting.program}; `packaging/library` makes it"
+        return f"there is no {library.NAME} beside the program {setting.program}, or it is older than the sources; `packaging/library` makes it"
     if setting.saved is None:
         return "it opens a graph by its saved hierarchy; give `saved`, which `chtab save` writes"
     if setting.timeout is not None:
@@ -75,7 +78,7 @@ class InProcess:
         """Begins with no handle, and with a lock that nobody holds: in a process that was forked too."""
         self.lock, self.owner, self.begun = threading.RLock(), os.getpid(), 0
         self.of_thread, self.handles = threading.local(), weakref.WeakSet()
-        self.first, self.asker = None, None
+        self.first, self.asker, self.spare = None, None, []
 
     # Handles.
 
@@ -121,6 +124,27 @@ class InProcess:
                 self.asker = threading.current_thread()
                 return self.first
             # This waits for the call that the thread of the first handle makes.
+            made = self.first.share()
+            self.handles.add(made)
+            return made
+
+    @contextlib.contextmanager
+    def near_handle(self):
+        """A handle for one question on near rows, which no other question has meanwhile. Afterwards its places are freed."""
+        handle = self.spare_handle()
+        yield handle
+        handle.keep_places(NO_PLACES)
+        self.spare.append(handle)
+
+    def spare_handle(self):
+        if self.is_closed:
+            raise ChtabError(library.GONE)
+        if self.owner != os.getpid():
+            self.leave_parent()
+        with self.lock:
+            self.load()
+            if self.spare:
+                return self.spare.pop()
             made = self.first.share()
             self.handles.add(made)
             return made

@@ -5,6 +5,7 @@ piece, and as long as the call is told; what is written to may be written to; an
 """
 import ctypes
 import functools
+import glob
 import os
 import threading
 import weakref
@@ -18,9 +19,11 @@ from chtab.errors import ChtabError, ProgramFault
 VERSION = 1_001_000
 NAME = "libchtab.so.1"
 # What the calls answer, as `chtab_status` of the header has it.
-OK, NO_MEMORY, CLOSED, IS_OPEN, NODE_RANGE, LENGTHS, TOO_LARGE, TOO_SHORT, BAD_GRAPH, BAD_SAVED, WRONG_SAVED = range(11)
-# The limit that leaves out no cell, and the distance where there is no walk, which is -1 as a number of 64 bits with a sign.
+OK, NO_MEMORY, CLOSED, IS_OPEN, NODE_RANGE, LENGTHS, TOO_LARGE, TOO_SHORT, BAD_GRAPH, BAD_SAVED, WRONG_SAVED, NO_PLACES = range(12)
+# The limit that leaves out no distance, and the distance where there is no walk, which is -1 as a number of 64 bits with a sign.
 NO_LIMIT = NO_DISTANCE = 2**64 - 1
+# The number of places of a near row that leaves none out.
+ALL = 2**32 - 1
 # What is wrong with a file, by the number of `chtab_fault_kind`, in the words of the program.
 KINDS = (
     "", "unknown line", "bad problem line", "second problem line", "no problem line", "bad line", "node out of range", "weight too large",
@@ -60,20 +63,31 @@ CALLS = {
     "chtab_distances": (HANDLE, *ARRAY, *ARRAY, *ARRAY),
     "chtab_table": (HANDLE, *ARRAY, *ARRAY, ctypes.c_uint64, *ARRAY),
     "chtab_route": (HANDLE, ctypes.c_uint32, ctypes.c_uint32, ctypes.POINTER(Found), *ARRAY),
+    "chtab_near_places": (HANDLE, ctypes.c_uint32, *ARRAY, ctypes.c_uint64, ctypes.c_uint32),
+    "chtab_near_sweep": (HANDLE,),
+    "chtab_near_rows": (HANDLE, *ARRAY, ctypes.POINTER(ctypes.c_uint64), *ARRAY, *ARRAY, *ARRAY),
 }
 
 
 def beside(program):
     """The library beside a program, None where there is none.
 
-    It stands in the folder of the program (that of a wheel), where `packaging/library` puts it in a checkout, or where `./install` puts it: in the
-    folder `lib` whose folder `chtab` has the program.
+    It stands in the folder of the program (that of a wheel), where `packaging/library` puts it in a checkout, unless sources of the crates are newer,
+    or where `./install` puts it: in the folder `lib` whose folder `chtab` has the program.
     """
     folder = os.path.dirname(os.path.realpath(program))
-    places = [folder, os.path.join(folder, "out", "library", "lib")]
-    if os.path.basename(folder) == "chtab":
-        places.append(os.path.dirname(folder))
-    return next((path for path in (os.path.join(place, NAME) for place in places) if os.path.isfile(path)), None)
+    places = [folder] if os.path.basename(folder) != "chtab" else [folder, os.path.dirname(folder)]
+    made = os.path.join(folder, "out", "library", "lib", NAME)
+    found = [path for path in (os.path.join(place, NAME) for place in places) if os.path.isfile(path)]
+    return (found + [made] * is_up_to_date(made, folder) + [None])[0]
+
+
+def is_up_to_date(made, checkout):
+    """Whether the library that was made in a checkout is there, and no source of its crates is newer."""
+    if not os.path.isfile(made):
+        return False
+    sources = glob.iglob(os.path.join(glob.escape(checkout), "crates", "*", "src", "**", "*.rt"), recursive=True)
+    return max(map(os.path.getmtime, sources), default=0) <= os.path.getmtime(made)
 
 
 @functools.cache
@@ -212,6 +226,38 @@ class Handle:
         return self.calls.chtab_route(self.at, source, target, ctypes.byref(self.found), at, len(self.room))
 
 
+    def keep_places(self, places, limit=NO_LIMIT, count=ALL, is_from=False):
+        """Searches from places, a column of uint32, nodes from 0 on, and keeps what is found in place of what was kept: for rows of at most
+        `count` of them, of at most `limit`, by the distances to the places or from them."""
+        if not (0 <= limit <= NO_LIMIT and 0 <= count <= ALL):
+            raise ValueError("a limit is a number of 64 bits, and a count one of 32")
+        at = address(places, numpy.uint32)
+        with self.lock:
+            status = self.calls.chtab_near_places(self.at, int(is_from), at, len(places), limit, count)
+        see_that_done(status)
+
+    def sweep(self):
+        """Makes the rows of all nodes to the kept places, and keeps them with these."""
+        with self.lock:
+            status = self.calls.chtab_near_sweep(self.at)
+        see_that_done(status)
+
+    def near_rows(self, sources, pairs):
+        """The rows of the first sources, a column of uint32, nodes from 0 on, to the kept places: of as many sources as there is room for with so
+        many pairs. Where each row ends, its weights and its places, int64."""
+        rows, ends = ctypes.c_uint64(), numpy.empty(len(sources), numpy.int64)
+        weights, places = numpy.empty(pairs, numpy.int64), numpy.empty(pairs, numpy.uint32)
+        given = [address(sources, numpy.uint32), len(sources), ctypes.byref(rows)]
+        for array, kind in (ends, numpy.int64), (weights, numpy.int64), (places, numpy.uint32):
+            given += [address(array, kind, True), len(array)]
+        with self.lock:
+            status = self.calls.chtab_near_rows(self.at, *given)
+        see_that_done(OK if status == TOO_SHORT else status)
+        ends = ends[:rows.value]
+        end = ends[-1] if len(ends) else 0
+        return ends, weights[:end], places[:end].astype(numpy.int64)
+
+
 def see_that_done(status):
     """Tells why a call did nothing."""
     if status == CLOSED:
@@ -223,7 +269,9 @@ def see_that_done(status):
     if status == LENGTHS:
         raise ValueError("the lengths of columns don't fit")
     if status == TOO_LARGE:
-        raise ValueError("a table has at most 65,536 sources and as many targets")
+        raise ValueError("a table has at most 65,536 sources and as many targets, and so many places are kept")
+    if status == NO_PLACES:
+        raise ValueError("no places are kept")
     if status:
         raise ProgramFault(f"chtab's library answered {status}", 0)
 

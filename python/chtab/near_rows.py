@@ -113,7 +113,10 @@ def matched(lines, sources, question, places):
 
 
 def portions(runs, question):
-    """The rows that the program tells for a question, in portions as they come: pairs of the first row's place and the rows."""
+    """The rows for a question, in portions as they come: pairs of the first row's place and the rows. `runs` tells texts, or gives the portions."""
+    if hasattr(runs, "portions"):
+        yield from runs.portions(question)
+        return
     places, start = Places(question.targets, runs.nodes), 0
     for text in runs.texts(question):
         lines = lines_of(text)

@@ -136,6 +136,9 @@ class NearRuns:
         How many nodes the graph has.
     """
 
+    # Whether rows come without a run that reads the network first.
+    is_at_hand = False
+
     def __init__(self, setting, nodes):
         self.setting, self.nodes, self.is_closed = setting, nodes, False
         self.leave_parent()

@@ -12,7 +12,7 @@ import numpy
 from chtab import files, graphs, in_process, making, opening
 from chtab.accessibility import Accessibility
 from chtab.between_places import BetweenPlaces
-from chtab.near_runs import NearRuns
+from chtab.near_in_process import near_of
 from chtab.node_queries import NodeQueries
 from chtab.routes import Routes
 from chtab.trips import Trips
@@ -38,7 +38,7 @@ class Network(BetweenPlaces, Accessibility):
         self.nodes = files.count_nodes(opened.setting.graph)
         layers = self._layers
         self._engine = in_process.engine_of(opened.setting, opened.library, lambda: layers.graph)
-        self._near = NearRuns(opened.setting, self.nodes)
+        self._near = near_of(self._engine)
         self._queries = NodeQueries(self._engine, self._near)
         self._trips = Trips(self._queries, self._layers)
 

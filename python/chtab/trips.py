@@ -69,10 +69,13 @@ class Trips:
         outs = spot.out_nodes[0] > 0
         nodes, added = spot.out_nodes[0][outs], spot.out_weights[0][outs]
         limit = FAR - 1 if within is None else within
-        near = numpy.arange(1, len(self.roads.places) + 1) if within is None else self.roads.nodes_near(nodes, within - added)
-        by = self.by_near if self.queries.is_near_best(len(near)) else self.by_table
-        found = by(nodes, added, near, within)
+        found = self.by_near(nodes, added, within) if self.queries.near.is_at_hand else self.by_either(nodes, added, within)
         return numpy.where(found <= limit, found, NO_WALK)
+
+    def by_either(self, nodes, added, within):
+        """What `by_table` gives: by near rows of all nodes, or by a table with the nodes that may be near."""
+        near = numpy.arange(1, len(self.roads.places) + 1) if within is None else self.roads.nodes_near(nodes, within - added)
+        return self.by_near(nodes, added, within) if self.queries.is_near_best(len(near)) else self.by_table(nodes, added, near, within)
 
     def by_table(self, nodes, added, near, within):
         """The least weights at which all nodes are reached by way of some nodes, with what is added to each of these; `FAR` where one is not.
@@ -82,7 +85,7 @@ class Trips:
         found[near - 1] = numpy.where(table >= 0, table + added[:, None], FAR).min(axis=0, initial=FAR)
         return found
 
-    def by_near(self, nodes, added, near, within):
+    def by_near(self, nodes, added, within):
         """The same by near rows of all nodes."""
         found = numpy.full(len(self.roads.places), FAR)
         own = None if within is None else int(within) - int(added.min(initial=0))
