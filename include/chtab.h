@@ -69,7 +69,7 @@ typedef enum chtab_status {
     CHTAB_NODE_RANGE = 4,   /* a node is not below the number of nodes */
     CHTAB_LENGTHS = 5,      /* the lengths do not fit one another */
     CHTAB_TOO_LARGE = 6,    /* there are more than 65,536 sources or targets of a table, or near places */
-    CHTAB_TOO_SHORT = 7,    /* a route has more nodes, or near rows have more pairs, than there is room for */
+    CHTAB_TOO_SHORT = 7,    /* there is less room than a route has nodes, near rows have pairs, or a text has bytes */
     CHTAB_BAD_GRAPH = 8,    /* the graph's bytes are faulty: see the fault's line and kind */
     CHTAB_BAD_SAVED = 9,    /* the hierarchy's bytes are faulty: see the fault's line and kind */
     CHTAB_WRONG_SAVED = 10, /* the hierarchy is not right for the graph: see the fault's kind and place */
@@ -141,6 +141,11 @@ uint32_t chtab_close(chtab *handle);
 /* Writes the number of nodes.
  * Errors: CHTAB_CLOSED. */
 uint32_t chtab_nodes(chtab *handle, uint32_t *nodes);
+
+/* Writes the hierarchy to `out` as the text that `chtab save` writes for it, and its number of bytes to `size`. Ask for the
+ * size first, with an out_len of 0. Both calls make the text, in memory of its own.
+ * Errors: CHTAB_CLOSED, CHTAB_NO_MEMORY; and CHTAB_TOO_SHORT, with which `size` is written and `out` is not. */
+uint32_t chtab_save(chtab *handle, uint64_t *size, uint8_t *out, size_t out_len);
 
 /* Writes to out[k] the distance from sources[k] to targets[k], or CHTAB_NO_DISTANCE where there is no walk. The three
  * lengths are equal. It takes no memory.

@@ -81,7 +81,7 @@ def calls_are_those_of_the_header():
     one, rows, column = ctypes.POINTER(ctypes.c_uint32), ctypes.POINTER(ctypes.c_uint64), ctypes.c_void_p
     types = {
         "chtab *": {library.HANDLE}, "const uint8_t *": {ctypes.c_char_p}, "size_t ": {ctypes.c_size_t}, "uint64_t ": {ctypes.c_uint64},
-        "uint32_t ": {ctypes.c_uint32}, "const uint32_t *": {column}, "uint64_t *": {column, rows}, "uint32_t *": {column, one},
+        "uint32_t ": {ctypes.c_uint32}, "const uint32_t *": {column}, "uint64_t *": {column, rows}, "uint32_t *": {column, one}, "uint8_t *": {column},
         "chtab_fault *": {ctypes.POINTER(library.Fault)}, "chtab_found *": {ctypes.POINTER(library.Found)},
     }
     assert {*library.CALLS, "chtab_version"} == declared()
@@ -90,7 +90,7 @@ def calls_are_those_of_the_header():
         told = [re.fullmatch(r"(.*?)\w+", " ".join(word.split())).group(1) for word in words.split(",")]
         assert len(told) == len(given) and all(kind in types[word] for word, kind in zip(told, given)), (name, told)
     assert library.CALLS["chtab_nodes"][1] is one and column is library.CALLS["chtab_route"][4]
-    assert library.CALLS["chtab_near_rows"][3] is rows and library.CALLS["chtab_near_rows"][4::2] == (column,) * 3
+    assert library.CALLS["chtab_save"][1] is rows and library.CALLS["chtab_near_rows"][3] is rows and library.CALLS["chtab_near_rows"][4::2] == (column,) * 3
 
 
 # What is refused.
@@ -145,6 +145,7 @@ def what_c_would_misread_is_refused():
     assert [part.tolist() for part in handle.near_rows(nothing, 0)] == [[]] * 3 and [part.tolist() for part in handle.near_rows(right, 2)] == [[2], [0, 4], [0, 1]]
     for words in (None, b""), ("p sp 0 0\n", b""), (b"", bytearray()), (b"", None):
         raises(TypeError, handle_of().open, *words)
+    assert handle.save() == FIRST_SAVED.read_bytes() and handle_of(GRAPH, ways.saved_for(GRAPH)).save() == ways.saved_for(GRAPH).read_bytes()
     assert handle.route(0, 2)[0] == 9 and handle.route(0, 2)[1].tolist() == [0, 1, 2] and handle.route(2, 0)[0] == -1
 
 
@@ -211,7 +212,7 @@ def a_closed_handle_answers_nothing():
     handle.close()
     assert other.distances(one, one).tolist() == [0] and other.route(0, 2)[0] == 9
     for each in closed, handle:
-        for call, words in (each.distances, (one, one)), (each.table, (one, one)), (each.route, (0, 1)), (each.nodes, ()), (each.share, ()), \
+        for call, words in (each.distances, (one, one)), (each.table, (one, one)), (each.route, (0, 1)), (each.nodes, ()), (each.share, ()), (each.save, ()), \
                 (each.keep_places, (one,)), (each.sweep, ()), (each.near_rows, (one, 1)):
             raises(chtab.ChtabError, call, *words, told="the network is closed")
     raises(chtab.ProgramFault, other.open, b"", b"", told="answered 3")

@@ -60,6 +60,7 @@ CALLS = {
     "chtab_share": (HANDLE, HANDLE),
     "chtab_close": (HANDLE,),
     "chtab_nodes": (HANDLE, ctypes.POINTER(ctypes.c_uint32)),
+    "chtab_save": (HANDLE, ctypes.POINTER(ctypes.c_uint64), *ARRAY),
     "chtab_distances": (HANDLE, *ARRAY, *ARRAY, *ARRAY),
     "chtab_table": (HANDLE, *ARRAY, *ARRAY, ctypes.c_uint64, *ARRAY),
     "chtab_route": (HANDLE, ctypes.c_uint32, ctypes.c_uint32, ctypes.POINTER(Found), *ARRAY),
@@ -186,6 +187,20 @@ class Handle:
         with self.lock:
             see_that_done(self.calls.chtab_nodes(self.at, ctypes.byref(count)))
         return count.value
+
+    def save(self):
+        """The hierarchy, the bytes that `chtab save` writes for it."""
+        size, text = ctypes.c_uint64(), numpy.empty(0, numpy.uint8)
+        with self.lock:
+            status = self.write_text(size, text)
+            if status == TOO_SHORT:
+                text = numpy.empty(size.value, numpy.uint8)
+                status = self.write_text(size, text)
+        see_that_done(status)
+        return text.tobytes()
+
+    def write_text(self, size, text):
+        return self.calls.chtab_save(self.at, ctypes.byref(size), address(text, numpy.uint8, True), len(text))
 
     def distances(self, sources, targets):
         """The distances from each source to the target beside it, columns of uint32, nodes from 0 on: int64, -1 where there is no walk."""

@@ -79,6 +79,13 @@ class Library:
         count = ctypes.c_uint32()
         return self.calls.chtab_nodes(ctypes.byref(handle), ctypes.byref(count)), count.value
 
+    def save(self, handle, room):
+        """The status, the size, and the bytes in the room, in which 7 stands where nothing was written."""
+        size, out = ctypes.c_uint64(7), numbers([7] * (room + 1), ctypes.c_uint8)
+        status = self.calls.chtab_save(ctypes.byref(handle), ctypes.byref(size), out, ctypes.c_size_t(room))
+        assert out[room] == 7, "a byte past the room is written"
+        return status, size.value, bytes(out[:room])
+
     def distances(self, handle, sources, targets, room=None):
         """The status and the words, in which 7 stands where nothing was written. One word more than the room is given, and stays."""
         room = len(sources) if room is None else room

@@ -7,6 +7,7 @@
 
 #include <stdio.h>
 #include <stdlib.h>
+#include <string.h>
 
 static int failures = 0;
 
@@ -82,6 +83,17 @@ static void ask_near(chtab *network) {
     expect(begin == 2, "each place has a row of one pair");
 }
 
+/* The text of the hierarchy is that of its file. */
+static void save(chtab *network, const uint8_t *saved, size_t saved_len) {
+    uint64_t size = 0;
+    uint8_t *text, none = 7;
+    expect(chtab_save(network, &size, &none, 0) == CHTAB_TOO_SHORT && size == saved_len && none == 7, "the size of the text");
+    text = (uint8_t *)malloc((size_t)size);
+    if (!text) exit(2);
+    expect(chtab_save(network, &size, text, (size_t)size) == CHTAB_OK && !memcmp(text, saved, saved_len), "the text");
+    free(text);
+}
+
 static void ask_wrongly(chtab *network) {
     uint32_t node = 0, past = 0, nodes[1] = {7};
     uint64_t out[2] = {5, 5};
@@ -106,18 +118,22 @@ int main(int count, char **words) {
     size_t graph_len, saved_len;
     uint8_t *graph, *saved;
     uint32_t nodes = 6;
+    uint64_t ends[1] = {5};
+    uint8_t byte = 7;
     if (count != 3) return 2;
     graph = bytes_of(words[1], &graph_len);
     saved = bytes_of(words[2], &saved_len);
     expect(chtab_version() == CHTAB_VERSION, "the version");
     expect(chtab_nodes(&network, &nodes) == CHTAB_CLOSED && nodes == 6, "a closed handle");
     expect(chtab_close(&network) == CHTAB_CLOSED, "a closed handle closed");
+    expect(chtab_save(&network, ends, &byte, 1) == CHTAB_CLOSED && ends[0] == 5 && byte == 7, "a closed handle saved");
     expect(chtab_share(&network, &other) == CHTAB_CLOSED, "a closed handle shared");
     expect(chtab_open(&network, saved, saved_len, saved, saved_len, &fault) == CHTAB_BAD_GRAPH, "no graph");
     expect(fault.line == 1 && fault.kind == CHTAB_FAULT_BAD_PROBLEM && fault.place == 0, "the fault of a graph");
     expect(chtab_open(&network, graph, graph_len, graph, graph_len, &fault) == CHTAB_BAD_SAVED, "no hierarchy");
     expect(chtab_open(&network, graph, graph_len, saved, saved_len, &fault) == CHTAB_OK, "open");
     expect(chtab_open(&network, graph, graph_len, saved, saved_len, &fault) == CHTAB_IS_OPEN, "open again");
+    save(&network, saved, saved_len);
     free(graph);
     free(saved);
     expect(chtab_share(&network, &other) == CHTAB_OK, "share");

@@ -95,6 +95,14 @@ class Caller:
         handle = self.draw.choice(self.handles)
         self.expect(self.library.nodes(handle) == ((STATUS["OK"], self.count) if handle.is_open else (STATUS["CLOSED"], 0)), "nodes")
 
+    def save(self):
+        handle, length = self.draw.choice(self.handles), len(self.saved)
+        room = self.draw.choice((0, 1, length - 1, length, length, length + 3))
+        wanted = (STATUS["CLOSED"], 7, b"\7" * room)
+        if handle.is_open:
+            wanted = (STATUS["TOO_SHORT"], length, b"\7" * room) if room < length else (STATUS["OK"], length, self.saved + b"\7" * (room - length))
+        self.expect(self.library.save(handle, room) == wanted, "save", room, wanted[0])
+
     def ask_distances(self):
         handle, sources, targets = self.draw.choice(self.handles), self.nodes(), self.nodes()
         if self.draw.random() < 0.7:
@@ -198,9 +206,9 @@ class Caller:
     def call(self):
         calls = (
             self.open_changed, self.open_or_close, self.share, self.ask_nodes, self.ask_distances, self.ask_table, self.ask_route,
-            self.keep_places, self.sweep, self.ask_near,
+            self.keep_places, self.sweep, self.ask_near, self.save,
         )
-        self.draw.choices(calls, (20, 5, 3, 2, 20, 15, 15, 10, 3, 20))[0]()
+        self.draw.choices(calls, (20, 5, 3, 2, 20, 15, 15, 10, 3, 20, 5))[0]()
 
 
 def memory():

@@ -46,7 +46,7 @@ static void expect(int holds, const char *told) {
 
 /* What the calls are given, and what they write. */
 static struct {
-    uint8_t *graph, *saved;
+    uint8_t *graph, *saved, *text;
     size_t graph_len, saved_len;
     chtab network, other;
     chtab_found found;
@@ -86,6 +86,15 @@ static uint32_t find_route(void) {
     g.nodes[0] = 7;
     status = chtab_route(&g.network, g.ends[0], g.ends[7], &g.found, g.nodes, MOST_NODES);
     if (status) expect(g.found.weight == 3 && g.nodes[0] == 7, "a route stays");
+    return status;
+}
+
+static uint32_t save_text(void) {
+    uint64_t size = 9;
+    uint32_t status;
+    memset(g.text, 7, g.saved_len);
+    status = chtab_save(&g.network, &size, g.text, g.saved_len);
+    expect(status ? size == 9 && g.text[0] == 7 : size == g.saved_len && !memcmp(g.text, g.saved, g.saved_len), "a text, or nothing of it");
     return status;
 }
 
@@ -178,6 +187,9 @@ int main(int count, char **words) {
     expect(open_network() == CHTAB_OK && chtab_nodes(&g.network, &nodes) == CHTAB_OK, "open");
     for (k = 0; k < 8; k++) g.ends[k] = k * (nodes - 1) / 7;
     refuse_each(share_network, close_other, "share");
+    g.text = (uint8_t *)malloc(g.saved_len);
+    refuse_each(save_text, NULL, "save");
+    free(g.text);
     refuse_each(make_table, NULL, "table");
     refuse_each(find_route, NULL, "route");
     keep_one_place();

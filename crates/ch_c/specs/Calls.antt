@@ -1,5 +1,5 @@
 -- What the calls for C answer, and what then is so.
-use Rattle.std.specs.Prelude.{◌≡◌, ◌⊎◌, ℕ, zero, suc, IsSome, ◌+◌, ◌<◌, ◌≤◌, List, length, slice_index, slice_index_or, Option, Some, None}
+use Rattle.std.specs.Prelude.{◌≡◌, ◌⊎◌, ℕ, zero, suc, IsSome, ◌+◌, ◌<◌, ◌≤◌, List, length, take, slice_index, slice_index_or, Option, Some, None}
 use Rattle.ch_graph.specs.declared.arc.InArc.{InArc}
 use Rattle.ch_graph.specs.Graph.{Network}
 use Rattle.ch_hierarchy.specs.declared.fault.CheckFault.{CheckFault}
@@ -9,6 +9,7 @@ use Rattle.ch_read.specs.declared.fault.FaultKind.{FaultKind}
 use Rattle.ch_read.specs.Names.{NamesGraph}
 use Rattle.ch_query.specs.declared.routes.Route.{Route}
 use Rattle.ch_query.specs.Routes.{IsRouteBy}
+use Rattle.ch_text.specs.SaveText.{IsHierarchyText}
 use Rattle.ch_engine.specs.declared.fault.OpenError.{OpenError}
 use Rattle.ch_engine.specs.declared.fault.Refusal.{Refusal}
 use Rattle.ch_near.specs.declared.direction.Direction.{Direction}
@@ -103,6 +104,17 @@ abbrev pub IsRouteAnswered : LevelsAndLegs → ℕ → ℕ → Found → Found �
 IsRouteAnswered H s t found_before found before after status =
     ((answer : Option Route) × IsRouteBy H s t answer × (found.nodes ≤ nodes_of H) × IsRouteTold s answer found before after status)
     ⊎ ((refusal : Refusal) × (status ≡ refusal_status refusal) × (found ≡ found_before) × (after ≡ before) × IsRefusalOfRoute (nodes_of H) s t refusal)
+
+-- the length of the hierarchy's text is told, and it is written where there is room
+abbrev pub IsTextTold : LevelsAndLegs → ℕ → List ℕ → List ℕ → ℕ → Type 0
+IsTextTold H size before after status =
+    (text : List ℕ) × IsHierarchyText H text × (size ≡ length text)
+    × (((status ≡ OK) × (length text ≤ length after) × (take (length text) after ≡ text)) ⊎ ((status ≡ TOO_SHORT) × (length before < length text) × (after ≡ before)))
+
+-- the text is told, or there is no memory for it
+abbrev pub IsSaved : LevelsAndLegs → ℕ → ℕ → List ℕ → List ℕ → ℕ → Type 0
+IsSaved H size_before size before after status =
+    IsTextTold H size before after status ⊎ ((status ≡ NO_MEMORY) × (size ≡ size_before) × (after ≡ before))
 
 -- an open handle stays; a closed one opens with a hierarchy that is right for the graph, or stays closed and tells an error that is so
 abbrev pub IsOpening : List ℕ → List ℕ → Option Held → Option Held → Fault → Fault → ℕ → Type 0

@@ -5,9 +5,9 @@ ghost use Rattle.ch_hierarchy.specs.Kept.{IsKept};
 ghost use Rattle.ch_read.specs.Names.{NamesGraph};
 ghost use Rattle.ch_engine.specs.Held.{only};
 ghost use Rattle.ch_engine.specs.Refusals.{IsOpenError};
-ghost use Rattle.ch_c.specs.Calls.{ArePairsAnswered, AreRouteNodes, IsRouteAnswered, IsRouteTold, IsTableAnswered};
+ghost use Rattle.ch_c.specs.Calls.{ArePairsAnswered, AreRouteNodes, IsRouteAnswered, IsRouteTold, IsSaved, IsTableAnswered};
 
-use crate::status::{OK, TOO_SHORT, status_of};
+use crate::status::{NO_MEMORY, OK, TOO_SHORT, status_of};
 use ch_engine::{Engine, NO_DISTANCE, OpenError};
 use ch_graph::InArc;
 use ch_query::Route;
@@ -134,4 +134,19 @@ fn write_nodes(source: u32, arcs: &[InArc], nodes: &mut [u32])
     for i in 0..arcs.len() {
         nodes[i + 1] = arcs[i].to;
     }
+}
+
+/// Writes the text of the hierarchy where there is room for it, and its length; and answers a status.
+pub(crate) fn write_saved(alloc: Global, engine: &Engine, size: &mut u64, out: &mut [u8]) -> u32
+    ensures { IsSaved engine.now.hierarchy size.old size.new out.old out.new result }
+{
+    let Ok(text) = engine.save(alloc) else {
+        return NO_MEMORY;
+    };
+    *size = text.len() as u64;
+    if text.len() > out.len() {
+        return TOO_SHORT;
+    }
+    out[..text.len()].copy_from_slice(&text);
+    OK
 }

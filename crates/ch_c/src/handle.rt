@@ -1,11 +1,11 @@
 //! What C holds, and what it calls.
 ghost use Rattle.std.specs.Prelude.{◌≡◌, ◌↔◌, IsSome, MatchOption, None, Some, ⊤};
 ghost use Rattle.ch_hierarchy.specs.Hierarchy.{nodes_of};
-ghost use Rattle.ch_c.specs.Calls.{ArePairsAnswered, ArePlacesKept, AreRowsAnswered, IsOpening, IsRouteAnswered, IsSharing, IsSwept, IsTableAnswered, OfNetwork};
+ghost use Rattle.ch_c.specs.Calls.{ArePairsAnswered, ArePlacesKept, AreRowsAnswered, IsOpening, IsRouteAnswered, IsSaved, IsSharing, IsSwept, IsTableAnswered, OfNetwork};
 ghost use Rattle.ch_c.specs.declared.status.TheConstants.{OK};
 
 pub use crate::answers::Found;
-use crate::answers::{opened, shared, write_distances, write_route, write_table};
+use crate::answers::{opened, shared, write_distances, write_route, write_saved, write_table};
 use crate::erased::ErasedEngine;
 use crate::faults::{Fault, fault_of, status_of_error};
 use crate::near::{keep_places, sweep, write_rows};
@@ -145,6 +145,25 @@ pub extern "C" fn chtab_nodes(alloc: Global, handle: &mut Handle, nodes: &mut u3
     *nodes = engine.nodes();
     handle.put(engine);
     OK
+}
+
+/// Writes the text of the hierarchy where there is room for it, and its length.
+#[unsafe(no_mangle)]
+pub extern "C" fn chtab_save(
+    alloc: Global,
+    handle: &mut Handle,
+    size: &mut u64,
+    out: &mut [u8],
+) -> u32
+    ensures answered { OfNetwork handle.old.engine.network result ((size.new ≡ size.old) × (out.new ≡ out.old)) (λ held. IsSaved held.hierarchy size.old size.new out.old out.new result) }
+    ensures same { handle.new.engine.network ≡ handle.old.engine.network }
+{
+    let Some(engine) = handle.take(alloc) else {
+        return CLOSED;
+    };
+    let status = write_saved(alloc, &engine, size, out);
+    handle.put(engine);
+    status
 }
 
 /// Writes the distance from each source to the target at the same place.

@@ -25,7 +25,7 @@ pub(crate) const LENGTHS: u32 = 5;
 /// There are more sources, targets or places than a list takes.
 pub(crate) const TOO_LARGE: u32 = 6;
 
-/// There is less room than the route has nodes, or than the rows have pairs.
+/// There is less room than a route has nodes, rows have pairs or a text has bytes.
 pub(crate) const TOO_SHORT: u32 = 7;
 
 /// The bytes of the graph are faulty.

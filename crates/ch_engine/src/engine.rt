@@ -6,6 +6,7 @@ ghost use Rattle.ch_hierarchy.specs.Kept.{IsKept};
 ghost use Rattle.ch_query.specs.Distance.{IsKeptForSome};
 ghost use Rattle.ch_query.specs.Routes.{IsRouteBy};
 ghost use Rattle.ch_read.specs.Names.{NamesGraph};
+ghost use Rattle.ch_text.specs.SaveText.{IsHierarchyText};
 ghost use Rattle.ch_engine.specs.Held.{only};
 ghost use Rattle.ch_engine.specs.Cells.{ArePairCells, AreTableCells, IsCell};
 ghost use Rattle.ch_engine.specs.Refusals.{AreNodes, IsOpenError, IsRefusalOfPairs, IsRefusalOfRoute, IsRefusalOfTable};
@@ -19,6 +20,7 @@ use ch_hierarchy::Hierarchy;
 use ch_near::KeptTargets;
 use ch_query::{Route, Scratch, distance, route};
 use ch_table::table_alone;
+use ch_text::save_text;
 use std::alloc::{AllocError, Global};
 use std::marker::Model;
 use std::sync::Arc;
@@ -95,6 +97,16 @@ impl Engine {
         ensures { result ≡ nodes_of self.now.hierarchy }
     {
         self.network.hierarchy().nodes()
+    }
+
+    /// The text of the hierarchy, as `chtab save` writes it.
+    ///
+    /// # Errors
+    /// `AllocError` where there is no memory.
+    pub fn save(&self, alloc: Global) -> Result<Vec<u8>, AllocError>
+        ensures { IfOk result (λ text. IsHierarchyText self.now.hierarchy text.items) }
+    {
+        save_text(alloc, self.network.hierarchy())
     }
 
     /// Writes the distance from each source to the target at the same place, as a word:
