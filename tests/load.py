@@ -26,7 +26,7 @@ from helpers import running
 from helpers.moods import STANDIN, mood
 from helpers.packages import PYTHON, run_checks
 from helpers.running import PROGRAM, ROOT
-from helpers.serving import COUNTRY, SERVICE, ask, faulty_service, send, service
+from helpers.serving import COUNTRY, SERVICE, ask, by_both, faulty_service, send, service
 
 sys.path.insert(0, str(ROOT / "python"))
 
@@ -333,7 +333,8 @@ def the_unit_is_one_of_systemd():
 
 GROUPS = (
     (SERVICE, [
-        fifty_clients_while_runs_are_killed, also_by_several_processes, an_address_takes_its_share, it_ends_once_it_has_answered, processes_are_begun_anew,
+        *by_both(fifty_clients_while_runs_are_killed, also_by_several_processes, processes_are_begun_anew), an_address_takes_its_share,
+        it_ends_once_it_has_answered,
     ]),
     ((*SERVICE, "python3-prometheus-client"), [requests_are_counted_and_logged]),
     ((*SERVICE, "nginx", "openssl", "curl"), [nginx_stands_before_it]),

@@ -22,7 +22,7 @@ import urllib.parse
 from helpers import running
 from helpers.packages import run_checks
 from helpers.running import PROGRAM, ROOT, run
-from helpers.serving import BROWSER, COUNTRY, SERVICE, send, service, shown_page
+from helpers.serving import BROWSER, COUNTRY, SERVICE, by_both, send, service, shown_page
 
 sys.path.insert(0, str(ROOT / "python"))
 
@@ -405,8 +405,8 @@ def another_site():
 MORE = *SERVICE, "python3-polyline"
 GROUPS = (
     (MORE, [
-        durations_are_those_of_the_program, routes_have_lines, steps_and_annotations, tables_have_rows_of_sources, nearest_roads, addresses_are_read,
-        what_is_refused, places_without_a_way,
+        *by_both(durations_are_those_of_the_program, routes_have_lines, steps_and_annotations, tables_have_rows_of_sources),
+        nearest_roads, addresses_are_read, what_is_refused, *by_both(places_without_a_way),
     ]),
     (BROWSER, [other_sites_and_the_page]),
 )

@@ -19,19 +19,22 @@ from helpers.maps import COUNTRY
 
 from helpers import running
 from helpers.commands import command
+from helpers.in_process import make
 from helpers.moods import STANDIN, mood
 from helpers.packages import PYTHON, run_checks
 from helpers.running import PROGRAM, ROOT
+from helpers.serving import by_both, words_of_library
 import chtab
 from chtab import places
 
+FIRST_SAVED = ROOT / "examples" / "first.ch"
 VADUZ, ESCHEN, SEA = [9.5209, 47.1410], [9.5450, 47.2200], [9.5, 46.0]
 
 
 @contextlib.contextmanager
 def service(*words, out=COUNTRY, program=PROGRAM):
     """The address of a service on a free port. It ends well and tells nothing."""
-    line = [PYTHON, ROOT / "tools" / "page.py", "--port", 0, "--program", program, *words, out]
+    line = [PYTHON, ROOT / "tools" / "page.py", "--port", 0, "--program", program, *words_of_library(out, program), *words, out]
     child = subprocess.Popen(list(map(str, line)), stdout=subprocess.PIPE, stderr=subprocess.PIPE, text=True)
     try:
         yield urllib.parse.urlsplit(child.stdout.readline().strip())
@@ -194,11 +197,22 @@ def many_clients_get_their_own_answers():
             assert sum(clients.map(work, range(50))) == 0
 
 
+def what_the_library_lacks_is_told():
+    """A service that is to answer routes by the library for C, and can't: it ends with status 1 and a line."""
+    for words, told in (
+        (["--library"], "saved hierarchy"), (["--library", "none.so", "--saved", FIRST_SAVED], "is not chtab's library for C"),
+        (["--library", make(), "--saved", FIRST_SAVED], "saved"), (["--library", "--saved", FIRST_SAVED], "`packaging/library` makes it"),
+    ):
+        line = [PYTHON, ROOT / "tools" / "page.py", "--port", 0, "--program", PROGRAM, COUNTRY, *words]
+        done = subprocess.run(list(map(str, line)), capture_output=True, text=True, timeout=60)
+        assert done.returncode == 1 and told in done.stderr and "Traceback" not in done.stderr and not done.stdout, (words, done)
+
+
 SERVICE = "python3-aiohttp", "python3-numpy", "python3-scipy", "python3-shapely", "libjs-leaflet"
 GROUPS = (
     (SERVICE, [
-        places_that_are_too_far, health_is_told_at_once, pages_of_other_sites_may_ask, clients_that_do_nothing_are_dropped, ports_that_are_none,
-        many_clients_get_their_own_answers,
+        health_is_told_at_once, pages_of_other_sites_may_ask, clients_that_do_nothing_are_dropped, ports_that_are_none, what_the_library_lacks_is_told,
+        *by_both(places_that_are_too_far, many_clients_get_their_own_answers),
     ]),
 )
 

@@ -6,55 +6,14 @@ import weakref
 
 import numpy
 
-from chtab import answers, engine, files, forks, library
+from chtab import engine, files, forks, library
 from chtab.errors import ChtabError, ProgramFault
 from chtab.walks import Walks
 
-AUTO = "auto"
 # What one call of the library answers at most: distances, and targets of a table. So no call takes much more than a second, and Ctrl-C is heard.
 TOGETHER, WIDTH = 1 << 13, 1 << 13
 # What frees the places of a handle: none are kept in place of them.
 NO_PLACES = numpy.zeros(0, numpy.uint32)
-
-
-def engine_of(setting, choice, graph):
-    """The engine of a setting: the library in this process where it is chosen and fits, and else runs of the program.
-
-    Parameters
-    ----------
-    setting : engine.Setting
-        The files, and how the program would run.
-    choice : bool or str
-        True, or the path of the library: the library, and an error where it doesn't fit. False: the program. "auto": whichever fits.
-    graph : call
-        What `files.read_graph` gives of the graph, when it is first needed.
-    """
-    if choice is False:
-        return engine.Engine(setting)
-    path = library.beside(setting.program) if choice in (AUTO, True) else choice
-    lack = lack_of(setting, path)
-    if lack is None:
-        return InProcess(setting, library.loaded(path), graph)
-    if choice == AUTO:
-        return engine.Engine(setting)
-    raise ChtabError(f"the library can't answer: {lack}")
-
-
-def lack_of(setting, path):
-    """Why the library does not fit a setting, None where it does."""
-    if path is None:
-        return f"there is no {library.NAME} beside the program {setting.program}, or it is older than the sources; `packaging/library` makes it"
-    if setting.saved is None:
-        return "it opens a graph by its saved hierarchy; give `saved`, which `chtab save` writes"
-    if setting.timeout is not None:
-        return "its calls can't be broken off after a time; leave `timeout` out"
-    if setting.workers != 1:
-        return "it starts no threads, and a call has one worker; leave `workers` out, and ask from threads of your own"
-    try:
-        library.loaded(path)
-    except ChtabError as fault:
-        return str(fault)
-    return None
 
 
 class InProcess:

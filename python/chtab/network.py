@@ -9,7 +9,7 @@ arrays of int64, as numpy, pandas and `blocks.py` have them, which a masked arra
 """
 import numpy
 
-from chtab import files, graphs, in_process, making, opening
+from chtab import choosing, files, graphs, making, opening
 from chtab.accessibility import Accessibility
 from chtab.between_places import BetweenPlaces
 from chtab.near_in_process import near_of
@@ -37,7 +37,7 @@ class Network(BetweenPlaces, Accessibility):
         self._layers = opened.layers(known)
         self.nodes = files.count_nodes(opened.setting.graph)
         layers = self._layers
-        self._engine = in_process.engine_of(opened.setting, opened.library, lambda: layers.graph)
+        self._engine = choosing.engine_of(opened.setting, opened.library, lambda: layers.graph)
         self._near = near_of(self._engine)
         self._queries = NodeQueries(self._engine, self._near)
         self._trips = Trips(self._queries, self._layers)

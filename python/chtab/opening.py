@@ -4,6 +4,7 @@ from dataclasses import dataclass
 
 from chtab import engine, making
 from chtab.child import see_to
+from chtab.choosing import Short
 from chtab.layers import Layers
 from chtab.program import program_of
 
@@ -23,7 +24,7 @@ class Running:
     def __post_init__(self):
         if self.runs < 1:
             raise ValueError("there is at least one run")
-        if self.library not in ("auto", True, False):
+        if self.library not in ("auto", True, False) and not isinstance(self.library, Short):
             object.__setattr__(self, "library", os.path.abspath(self.library))
 
     def setting(self, graph, saved):

@@ -1,5 +1,6 @@
 """The service of a network, as a process of its own, what it answers, and its page in a browser."""
 import contextlib
+import functools
 import http.client
 import json
 import pathlib
@@ -7,10 +8,12 @@ import signal
 import subprocess
 import urllib.parse
 
+from helpers.in_process import make
 from helpers.maps import COUNTRY
 from helpers.moods import STANDIN, mood
 from helpers.packages import PYTHON
 from helpers.running import PROGRAM, ROOT
+from helpers.ways import saved_for
 
 # Debian's packages that the service needs, and a browser for its page.
 SERVICE = "python3-aiohttp", "python3-numpy", "python3-scipy", "python3-shapely", "libjs-leaflet"
@@ -24,10 +27,38 @@ class Keys:
     ARROW_LEFT, ARROW_UP, ARROW_RIGHT, ARROW_DOWN = "\ue012", "\ue013", "\ue014", "\ue015"
 
 
+# Whether services with the built program answer routes by the library for C.
+IS_BY_LIBRARY = False
+
+
+def words_of_library(out, program):
+    """The words that let a service answer routes by the library for C, where that is asked for."""
+    saved = saved_for(f"{out}.gr") if IS_BY_LIBRARY and program == PROGRAM else None
+    return [] if saved is None else ["--library", make(), "--saved", saved]
+
+
+def by_both(*checks):
+    """These checks with services that ask the program alone, and with services that answer routes by the library for C."""
+    def other(check):
+        @functools.wraps(check)
+        def by():
+            global IS_BY_LIBRARY
+            IS_BY_LIBRARY = True
+            try:
+                check()
+            finally:
+                IS_BY_LIBRARY = False
+
+        by.__name__ = f"{check.__name__}_by_the_library"
+        return by
+
+    return [*checks, *map(other, checks)]
+
+
 @contextlib.contextmanager
 def service(out=COUNTRY, *words, program=PROGRAM):
     """A service on a free port: its process, host and port. It ends well."""
-    command = [PYTHON, ROOT / "tools" / "page.py", "--port", 0, "--program", program, *words, out]
+    command = [PYTHON, ROOT / "tools" / "page.py", "--port", 0, "--program", program, *words_of_library(out, program), *words, out]
     child = subprocess.Popen(list(map(str, command)), stdout=subprocess.PIPE, stderr=open("told", "w"), text=True)
     try:
         address = urllib.parse.urlsplit(child.stdout.readline().strip())

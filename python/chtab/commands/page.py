@@ -57,6 +57,10 @@ def words_of(words):
     parser.add_argument(
         "--processes", type=processes_of, default=1, metavar="N", help="how many processes answer, 1 to 64 (1); each holds the network in memory"
     )
+    parser.add_argument(
+        "--library", nargs="?", const="", metavar="FILE",
+        help="answer routes by the library for C in each process (FILE, or libchtab.so.1 beside the program), and all else by the program; it needs --saved",
+    )
     parser.add_argument("--log", metavar="FILE", help="write a line for each request to the end of FILE; '-' is standard output")
     parser.add_argument(
         "--proxy", metavar="ADDRESS", help="the address of your proxy, such as 127.0.0.1; its header X-Forwarded-For names the client that asks"
@@ -73,6 +77,7 @@ def main(words):
     """Serves the page that the words ask for, until a signal ends it."""
     import asyncio
 
+    from chtab.choosing import Short
     from chtab.metrics import Metrics
     from chtab.network import Network
     from chtab.recording import log_to
@@ -92,7 +97,8 @@ def main(words):
     metrics = Metrics(words.processes)
     sys.setswitchinterval(TURN)
     more = {"program": words.program, "workers": words.workers, "timeout": words.timeout, "load": words.processes == 1}
-    with Network.open(words.out + ".gr", words.saved, routes=True, **more) as network:
+    chosen = False if words.library is None else Short(words.library or None)
+    with Network.open(words.out + ".gr", words.saved, routes=True, library=chosen, **more) as network:
         def service(row):
             network._engine.load(with_routes=True)
             return Service(network, title, places, words.tiles, limits, words.cors, words.profile, words.proxy, metrics, row)
