@@ -20,3 +20,8 @@ pub mod TakenOut
 pub mod Neighbours
 pub mod KeptPriorities
 pub mod ConstructionCalls
+pub mod SetEach
+pub mod RoundChoice
+pub mod NearRound
+pub mod RoundLists
+pub mod RoundCalls

@@ -10,9 +10,9 @@ pub mod OpeningLegs
 pub mod StepLegs
 pub mod KeptCosts
 pub mod BuiltLegs
-pub mod BuiltKept
+pub mod EnoughKept
 pub mod UpAndDown
-pub mod OneOrder
+pub mod OneInTurn
 pub mod Levelled
 pub mod Enough
 pub mod ReferenceSearch
@@ -28,6 +28,8 @@ pub mod Turns
 pub mod RoundNodes
 pub mod RoundOrders
 pub mod OneRounds
+pub mod OneOrder
+pub mod BuiltKept
 pub mod RoundSteps
 pub mod RoundFirst
 pub mod RoundsMade

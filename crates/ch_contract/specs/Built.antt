@@ -4,10 +4,11 @@ use Rattle.ch_graph.specs.Graph.{Network}
 use Rattle.ch_hierarchy.specs.Hierarchy.{LevelsAndLegs}
 use Rattle.ch_hierarchy.specs.Rows.{row}
 use Rattle.ch_contract.specs.declared.measure.OrderBy.{OrderBy}
-use Rattle.ch_contract.specs.declared.measure.OrderBy.TheVariants.{Difference}
+use Rattle.ch_contract.specs.declared.measure.OrderBy.TheVariants.{Difference, Depth, Rounds}
 use Rattle.ch_contract.specs.Legs.{Legs}
 use Rattle.ch_contract.specs.Contraction.{Contracts}
 use Rattle.ch_contract.specs.Order.{AreTaken, TakesFirst}
+use Rattle.ch_contract.specs.RoundOrder.{IsHierarchyByRounds}
 use Rattle.ch_contract.specs.LegRows.{AreLegsFrom, AreLegsTo}
 
 -- nodes are taken in any order: order[i] has level i + 1; its up legs are those from it just before it was taken, its down legs those to it
@@ -22,9 +23,15 @@ pub record IsHierarchyIn (IsStep : Legs → ℕ → Legs → Type 0) (g : Networ
 abbrev pub IsHierarchyOf : Network → ℕ → LevelsAndLegs → List ℕ → (ℕ → Legs) → Type 0
 IsHierarchyOf g h H order L = IsHierarchyIn (Contracts g.nodes h) g H order L
 
+-- the contraction hierarchy of nodes that are contracted one after the other, each time the first in this order
+abbrev pub IsHierarchyInTurn : OrderBy → Network → ℕ → LevelsAndLegs → Type 0
+IsHierarchyInTurn by g h H = (order : List ℕ) × (L : ℕ → Legs) × IsHierarchyOf g h H order L × TakesFirst by g h order L
+
 -- the contraction hierarchy of a graph in this order, where a witness has at most h legs
 abbrev pub IsHierarchyBy : OrderBy → Network → ℕ → LevelsAndLegs → Type 0
-IsHierarchyBy by g h H = (order : List ℕ) × (L : ℕ → Legs) × IsHierarchyOf g h H order L × TakesFirst by g h order L
+IsHierarchyBy Difference g h H = IsHierarchyInTurn Difference g h H
+IsHierarchyBy Depth g h H = IsHierarchyInTurn Depth g h H
+IsHierarchyBy Rounds g h H = IsHierarchyByRounds g h H
 
 -- the one in the order by the number of shortcuts less that of legs
 abbrev pub IsHierarchy : Network → ℕ → LevelsAndLegs → Type 0

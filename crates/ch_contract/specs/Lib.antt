@@ -29,6 +29,10 @@ pub mod RoundLaws
 pub mod RoundReference
 pub mod RoundProgress
 pub mod FirstAround
+pub mod SetEach
+pub mod RoundChoice
+pub mod RoundCounts
+pub mod RoundConstruction
 pub mod TakenOut
 pub mod HeldCosts
 pub mod KnownCosts

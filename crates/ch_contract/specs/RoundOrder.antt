@@ -4,7 +4,7 @@ use Rattle.std.specs.List.{list_any, concat}
 use Rattle.ch_graph.specs.Graph.{Network}
 use Rattle.ch_hierarchy.specs.Hierarchy.{LevelsAndLegs}
 use Rattle.ch_hierarchy.specs.Rows.{row}
-use Rattle.ch_contract.specs.declared.measure.OrderBy.TheVariants.{Depth}
+use Rattle.ch_contract.specs.declared.measure.OrderBy.TheVariants.{Rounds}
 use Rattle.ch_contract.specs.declared.shortcut.Shortcut.{Shortcut}
 use Rattle.ch_contract.specs.Legs.{Legs, SameLegs, opening}
 use Rattle.ch_contract.specs.LegRows.{AreLegsFrom, AreLegsTo}
@@ -46,7 +46,7 @@ IsCountAfter n h rounds L r x c = (j : ℕ) × (list : List Shortcut) × IsLastC
 
 -- p is the key of x after the first r rounds: its last count of shortcuts, its present legs and its present depth
 abbrev pub IsKeyAfter : ℕ → ℕ → List (List ℕ) → (ℕ → Legs) → ℕ → ℕ → ℤ → Type 0
-IsKeyAfter n h rounds L r x p = (c : ℕ) × IsCountAfter n h rounds L r x c × (p ≡ key_by Depth c (count_touching n (L r) x) (depth_before rounds L r x))
+IsKeyAfter n h rounds L r x p = (c : ℕ) × IsCountAfter n h rounds L r x c × (p ≡ key_by Rounds c (count_touching n (L r) x) (depth_before rounds L r x))
 
 -- x is one of the n nodes, and in none of the first r rounds
 abbrev pub IsLeftAfter : ℕ → List (List ℕ) → ℕ → ℕ → Type 0

@@ -5,7 +5,7 @@ use Rattle.ch_graph.specs.Graph.{Network}
 use Rattle.ch_hierarchy.specs.declared.leg.Leg.{Leg}
 use Rattle.ch_hierarchy.specs.Hierarchy.{LevelsAndLegs}
 use Rattle.ch_hierarchy.specs.Rows.{row}
-use Rattle.ch_contract.specs.declared.measure.OrderBy.TheVariants.{Depth}
+use Rattle.ch_contract.specs.declared.measure.OrderBy.TheVariants.{Rounds}
 use Rattle.ch_contract.specs.declared.shortcut.Shortcut.{Shortcut}
 use Rattle.ch_contract.specs.Legs.{Legs, SameLegs, opening}
 use Rattle.ch_contract.specs.LegRows.{AreLegsFrom, AreLegsTo}
@@ -30,7 +30,7 @@ IsCount n h L x c = (list : List Shortcut) × AreShortcuts n h L x list × (c �
 
 -- k is the key of the remaining node x
 abbrev pub IsKeyNow : ℕ → RoundProgress → ℕ → ℤ → Type 0
-IsKeyNow n p x k = Contains p.left x × (k ≡ key_by Depth (p.counts x) (count_touching n p.legs x) (p.depth x))
+IsKeyNow n p x k = Contains p.left x × (k ≡ key_by Rounds (p.counts x) (count_touching n p.legs x) (p.depth x))
 
 -- whether the shortcuts of x are counted after a round of these nodes
 abbrev pub is_due : ℕ → RoundProgress → List ℕ → ℕ → Bool

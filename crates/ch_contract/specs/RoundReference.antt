@@ -3,7 +3,7 @@ use Rattle.std.specs.Prelude.{ℕ, zero, suc, ◌+◌, ◌*◌, ◌==◌, ◌&&�
 use Rattle.std.specs.List.{range_with_len, list_any, list_all}
 use Rattle.ch_graph.specs.Graph.{Network}
 use Rattle.ch_hierarchy.specs.Hierarchy.{LevelsAndLegs}
-use Rattle.ch_contract.specs.declared.measure.OrderBy.TheVariants.{Depth}
+use Rattle.ch_contract.specs.declared.measure.OrderBy.TheVariants.{Rounds}
 use Rattle.ch_contract.specs.declared.shortcut.Shortcut.{Shortcut}
 use Rattle.ch_contract.specs.Legs.{Label, Legs, opening}
 use Rattle.ch_contract.specs.Contraction.{count_touching, key_by}
@@ -54,7 +54,7 @@ counted_after n h done before after nodes list =
     map (λ e. if late && (first || list_any (λ v. are_neighbours before v e.1) nodes) then counted_of n h after e.1 else e) (filter (λ e. not (is_one_of nodes e.1)) list)
 
 abbrev pub keyed_of : ℕ → Legs → (ℕ → ℕ) → Counted → List (ℤ × ℕ)
-keyed_of n L depth list = map (λ e. (key_by Depth e.0 (count_touching n L e.1) (depth e.1), e.1)) list
+keyed_of n L depth list = map (λ e. (key_by Rounds e.0 (count_touching n L e.1) (depth e.1), e.1)) list
 
 abbrev pub rounds_from : ℕ → ℕ → ℕ → ℕ → List (List (Option Label)) → (ℕ → ℕ) → Counted → List (List ContractedNode)
 rounds_from zero n h done rows depth list = []

@@ -1,8 +1,10 @@
--- Nodes that are taken out together.
-use Rattle.std.specs.Prelude.{◌≡◌, ℕ, List, length, Contains}
+-- Nodes that are taken out together, and shortcuts that are put in for them.
+use Rattle.std.specs.Prelude.{◌≡◌, ℕ, List, length, All, AllPairs, Contains}
 use Rattle.ch_hierarchy.specs.declared.leg.Leg.{Leg}
 use Rattle.ch_hierarchy.specs.Rows.{row}
-use Rattle.ch_contract.specs.Legs.{Legs, SameLegs, turned_legs}
+use Rattle.ch_contract.specs.declared.shortcut.Shortcut.{Shortcut}
+use Rattle.ch_contract.specs.Legs.{Legs, SameLegs, IsLegWithin, turned_legs}
+use Rattle.ch_contract.specs.Contraction.{IsPairBefore, shortcut_label}
 use Rattle.ch_contract.specs.LegRows.{AreLegsFrom}
 use Rattle.ch_contract.specs.Rounds.{legs_away}
 use Rattle.ch_contract.specs.Remaining.{RemainingLegs, legs_of}
@@ -19,3 +21,7 @@ pub record AreTakenOut (nodes : List ℕ) (before after : RemainingLegs) : Type 
   pub legs : SameLegs (legs_of after) (legs_away nodes (legs_of before))
   pub up : AreSetAside (legs_of before) nodes before.ups after.ups
   pub down : AreSetAside (turned_legs (legs_of before)) nodes before.downs after.downs
+
+-- shortcuts of v may be put in among n nodes: they are in order, and each keeps the limits
+abbrev pub ArePutIn : ℕ → ℕ → List Shortcut → Type 0
+ArePutIn n v list = AllPairs IsPairBefore list × All (λ s. IsLegWithin n s.from s.to (shortcut_label v s)) list

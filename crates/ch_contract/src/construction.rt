@@ -1,8 +1,8 @@
-//! The hierarchy of a graph, made by contracting one node after the other.
+//! The hierarchy of a graph in each order, and its construction by contracting one node after the other.
 ghost use Rattle.std.specs.Prelude.{◌≡◌, ◌<◌, ◌≤◌, ◌++◌, IfOk, OnOk, map};
 ghost use Rattle.ch_graph.specs.Graph.{IsWithinLimits};
 ghost use Rattle.ch_contract.specs.Legs.{IsHopBound};
-ghost use Rattle.ch_contract.specs.Built.{IsHierarchy, IsHierarchyBy};
+ghost use Rattle.ch_contract.specs.Built.{IsHierarchy, IsHierarchyBy, IsHierarchyInTurn};
 ghost use Rattle.ch_hierarchy.specs.Kept.{IsKept};
 
 use crate::measure::OrderBy;
@@ -10,6 +10,7 @@ use crate::order::{deepen, neighbours};
 use crate::priority::{PriorityJob, opening_queue};
 use crate::remaining::{BothRows, Remaining};
 use crate::room::Room;
+use crate::rounds::contract_by_rounds;
 use ch_graph::Graph;
 use ch_hierarchy::Hierarchy;
 use ch_queue::KeyQueue;
@@ -44,6 +45,10 @@ pub fn build<R: Threads + Sync, G: Gate>(
 
 /// The contraction hierarchy of a graph in this order, where a witness has at most `hops` legs. In each order it
 /// is kept for the graph, so distances are the same. For workers and errors see [`build`].
+///
+/// By [`OrderBy::Rounds`] workers share each round in jobs over nodes: the keys of the nodes that are left, the choice
+/// among these, the shortcuts of the round, and counts. The caller does a job of fewer than `crew.plan.wide()` nodes
+/// alone. The gate is told how many nodes are contracted before each round.
 pub fn build_by<R: Threads + Sync, G: Gate>(
     crew: &Crew<'_, R, G>,
     graph: &Graph,
@@ -56,6 +61,23 @@ pub fn build_by<R: Threads + Sync, G: Gate>(
     ensures limits { IsWithinLimits graph.now }
 {
     ask_ahead(crew.alloc, graph)?;
+    match by {
+        OrderBy::Difference => contract_in_turn(crew, graph, hops, OrderBy::Difference),
+        OrderBy::Depth => contract_in_turn(crew, graph, hops, OrderBy::Depth),
+        OrderBy::Rounds => contract_by_rounds(crew, graph, hops),
+    }
+}
+
+/// The contraction hierarchy of a graph, one node after the other in this order.
+fn contract_in_turn<R: Threads + Sync, G: Gate>(
+    crew: &Crew<'_, R, G>,
+    graph: &Graph,
+    hops: u32,
+    by: OrderBy,
+) -> Result<Hierarchy, AllocError>
+    requires { IsHopBound hops }
+    ensures { IfOk result (IsHierarchyInTurn by graph.now hops) }
+{
     let mut construction = Construction::open(crew, graph, hops, by)?;
     while let Some(node) = construction.next() {
         crew.gate

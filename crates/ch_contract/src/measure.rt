@@ -12,6 +12,10 @@ pub enum OrderBy {
     /// Twice the number of a node's shortcuts less the number of legs that touch it, plus its depth: 0 at
     /// first, and at least one more than that of each neighbour once this one is contracted.
     Depth,
+    /// In rounds, by the key of [`OrderBy::Depth`]. A round contracts all nodes together that come before every other node
+    /// within two legs, so workers share it. Of equal keys, and before the numbers, mixed numbers decide. Shortcuts are
+    /// counted anew only once seven tenths of the nodes are contracted.
+    Rounds,
 }
 
 /// How many shortcuts a node has, and how many legs touch it.
@@ -31,7 +35,7 @@ impl OrderBy {
         let legs = measure.legs as i64;
         match self {
             OrderBy::Difference => shortcuts - legs,
-            OrderBy::Depth => 2 * shortcuts + i64::from(depth) - legs,
+            OrderBy::Depth | OrderBy::Rounds => 2 * shortcuts + i64::from(depth) - legs,
         }
     }
 }

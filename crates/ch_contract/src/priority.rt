@@ -46,7 +46,7 @@ pub(crate) fn opening_queue<R: Threads + Sync, G: Gate>(
 }
 
 /// The nodes in order.
-fn all_nodes(alloc: Global, nodes: u32) -> Result<Vec<u32>, AllocError>
+pub(crate) fn all_nodes(alloc: Global, nodes: u32) -> Result<Vec<u32>, AllocError>
     ensures { IfOk result (λ list. list.items ≡ range_with_len 0 nodes) }
 {
     (0..nodes).collect(alloc)

@@ -26,7 +26,7 @@ use Rattle.ch_contract.specs.Progress.{IsNext, IsOpen, IsStep, AreAll}
 use Rattle.ch_contract.specs.Priorities.{ArePriorities, AreRefreshed, has_node, neighbours_in}
 use Rattle.ch_contract.specs.Measures.{IsPriorityIn, AreDeepened}
 use Rattle.ch_contract.specs.Construction.{progress_of, IsSized}
-use Rattle.ch_contract.proofs.theory.OneOrder.{one_map}
+use Rattle.ch_contract.proofs.theory.OneInTurn.{one_map}
 use Rattle.ch_contract.proofs.theory.Counts.{rows_touching, count_most}
 use Rattle.ch_contract.proofs.code.Neighbours.{neighbour_listed, not_listed, neighbour_within}
 
@@ -86,7 +86,7 @@ not_own n L v within = at (L v v) refl
     at (Some l) e = absurd ((within v v l e).ends.2 refl)
 
 -- the depths of the neighbours alone grow
-deeper_by : (L : Legs) (v : ℕ) (up down : List Leg) (before after : List ℕ) → AreLegsFrom L v up → AreLegsTo L v down → AreDeepened (neighbours_in up down) (slice_index before v + 1) before after →
+pub deeper_by : (L : Legs) (v : ℕ) (up down : List Leg) (before after : List ℕ) → AreLegsFrom L v up → AreLegsTo L v down → AreDeepened (neighbours_in up down) (slice_index before v + 1) before after →
     (x : ℕ) → slice_index after x ≡ next_depth L v (λ y. slice_index before y) x
 deeper_by L v up down before after from to d x = at (are_neighbours L v x) refl
   where

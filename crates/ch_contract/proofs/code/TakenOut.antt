@@ -13,7 +13,7 @@ use Rattle.ch_contract.specs.Contraction.{legs_after_contraction}
 use Rattle.ch_contract.specs.Rounds.{legs_away, AreApart}
 use Rattle.ch_contract.specs.Remaining.{RemainingLegs, IsSetAside, legs_of}
 use Rattle.ch_contract.specs.TakenOut.{AreSetAside, AreTakenOut}
-use Rattle.ch_contract.proofs.theory.OneOrder.{one_map, not_before}
+use Rattle.ch_contract.proofs.theory.OneInTurn.{one_map, not_before}
 use Rattle.ch_contract.proofs.theory.RoundPuts.{away_more}
 use Rattle.ch_contract.proofs.theory.RoundLegs.{one_of, none_of, away_leg, no_leg}
 use Rattle.ch_contract.proofs.code.Meetings.{one_more_taken}

@@ -1,5 +1,5 @@
 -- The legs that touch a node, as two rows have them.
-use Rattle.std.proofs.Common.{◌≡◌, ℕ, Bool, true, false, cond, List, Option, Some, None, Contains, refl, sym, ◌∙◌, ap, subst}
+use Rattle.std.proofs.Common.{◌≡◌, ℕ, Bool, true, false, cond, List, Some, None, refl, sym, ◌∙◌, ap}
 use Rattle.std.specs.Prelude.{All, ◌≤◌, ◌==◌, if◌then◌else◌}
 use Rattle.std.proofs.lemmas.List.Elements.{All-contains}
 use Rattle.ch_contract.proofs.theory.RowLegs.{row_member, leg_at}
@@ -13,7 +13,7 @@ use Rattle.ch_contract.specs.LegRows.{row_leg, AreLegsFrom, AreLegsTo}
 use Rattle.ch_contract.specs.KnownCosts.{AreLegsUpTo}
 use Rattle.ch_contract.specs.Enough.{IsPairThrough}
 use Rattle.ch_contract.specs.Contraction.{AreShortcuts}
-use Rattle.ch_contract.specs.Rounds.{IsShortcutAmong, AreShortcutsAmong}
+use Rattle.ch_contract.specs.Rounds.{AreShortcutsAmong}
 use Rattle.ch_contract.specs.ShortcutLists.{legs_touching, AreTouching}
 use Rattle.ch_contract.proofs.theory.Contracting.{pair_of_shortcut}
 

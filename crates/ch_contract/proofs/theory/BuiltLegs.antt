@@ -10,7 +10,7 @@ use Rattle.ch_contract.specs.LegRows.{label_of}
 use Rattle.ch_hierarchy.specs.Hierarchy.{LevelsAndLegs}
 use Rattle.ch_contract.specs.Enough.{ContractsWithEnough}
 use Rattle.ch_contract.specs.Built.{IsHierarchyIn}
-use Rattle.ch_contract.proofs.theory.OneOrder.{taken_at}
+use Rattle.ch_contract.proofs.theory.OneInTurn.{taken_at}
 use Rattle.ch_hierarchy.proofs.theory.SavedLevels.{in_row_below}
 use Rattle.ch_contract.proofs.theory.RowLegs.{leg_at, row_has, row_member}
 use Rattle.ch_contract.proofs.theory.StepLegs.{IsContraction, IsStepLeg, step_leg}

@@ -3,7 +3,7 @@ use Rattle.std.proofs.Common.{◌≡◌, ℕ, zero, suc, ◌+◌, ◌≤◌, Boo
 use Rattle.std.specs.Prelude.{if◌then◌else◌, slice_index}
 use Rattle.ch_contract.specs.Legs.{Legs}
 use Rattle.ch_contract.specs.Order.{are_neighbours, next_depth, depth_after}
-use Rattle.ch_contract.proofs.theory.OneOrder.{depth_along}
+use Rattle.ch_contract.proofs.theory.OneInTurn.{depth_along}
 use Rattle.ch_contract.proofs.theory.OrderSteps.{more, legs_more, here, agree, now}
 
 -- a node lies no deeper than there were steps

@@ -13,7 +13,7 @@ use Rattle.ch_contract.specs.Enough.{AreEnough, ContractsWithEnough}
 use Rattle.ch_contract.specs.Order.{AreTaken, AreContracted}
 use Rattle.ch_contract.specs.Built.{IsHierarchyIn, IsHierarchyOf}
 use Rattle.ch_contract.proofs.theory.OpeningLegs.{opening_within}
-use Rattle.ch_contract.proofs.theory.OneOrder.{one_map}
+use Rattle.ch_contract.proofs.theory.OneInTurn.{one_map}
 use Rattle.ch_contract.proofs.theory.Chains.{chain_cost-one}
 use Rattle.ch_contract.proofs.theory.Contracting.{ContractsWithPairs, pairs_of_shortcuts, pairs_by_needed, off}
 use Rattle.ch_contract.proofs.theory.Levelled.{within_steps}

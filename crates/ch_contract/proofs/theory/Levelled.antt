@@ -17,7 +17,7 @@ use Rattle.ch_contract.specs.LegRows.{label_of, AreLegsFrom}
 use Rattle.ch_hierarchy.specs.Hierarchy.{LevelsAndLegs, IsLegUp, AreLegsUp, IsLevelled}
 use Rattle.ch_contract.specs.Built.{IsHierarchyIn}
 use Rattle.ch_contract.proofs.theory.Contracting.{ContractsWithPairs, override_cases, contracted_within}
-use Rattle.ch_contract.proofs.theory.OneOrder.{taken_at, one_map}
+use Rattle.ch_contract.proofs.theory.OneInTurn.{taken_at, one_map}
 use Rattle.ch_hierarchy.specs.Saved.{IsOrderOf, AreLevelsOf}
 use Rattle.ch_contract.proofs.theory.RowLegs.{none_unless}
 use Rattle.ch_contract.proofs.theory.RowLemmas.{leg_from_at}

@@ -11,7 +11,7 @@ use Rattle.ch_hierarchy.specs.declared.leg.Leg.{Leg}
 use Rattle.ch_hierarchy.specs.Hierarchy.{LevelsAndLegs}
 use Rattle.ch_hierarchy.specs.Rows.{row}
 use Rattle.ch_hierarchy.proofs.theory.Ordered.{ordered_same}
-use Rattle.ch_contract.specs.declared.measure.OrderBy.TheVariants.{Depth}
+use Rattle.ch_contract.specs.declared.measure.OrderBy.TheVariants.{Rounds}
 use Rattle.ch_contract.specs.declared.shortcut.Shortcut.{Shortcut}
 use Rattle.ch_contract.specs.Legs.{Legs, turned_legs}
 use Rattle.ch_contract.specs.LegRows.{AreLegsFrom}
@@ -21,7 +21,7 @@ use Rattle.ch_contract.specs.Rounds.{IsRound, AreShortcutsAmong, legs_away, legs
 use Rattle.ch_contract.specs.RoundOrder.{round_at, nodes_before, depth_before, is_early, is_counted, IsCountAfter, IsKeyAfter, IsLeftAfter, AreRounds, IsHierarchyOfRounds}
 use Rattle.ch_contract.specs.OneOrder.{RoundsNameOneHierarchy}
 use Rattle.ch_contract.proofs.theory.RowLegs.{one_row}
-use Rattle.ch_contract.proofs.theory.OneOrder.{one_map, taken_at, same_rows}
+use Rattle.ch_contract.proofs.theory.OneInTurn.{one_map, taken_at, same_rows}
 use Rattle.ch_contract.proofs.theory.RoundNodes.{begun_of, before_next, before_all, in_round, left, nodes_once}
 
 -- the shortcuts of a node in a round are one list
@@ -110,7 +110,7 @@ module _ (n h r : ℕ) (rounds : List (List ℕ)) (L : ℕ → Legs) (other : Li
   key_along x p b =
       let deep = depth_along r (omega arith) in
       let legs = a.legs r (omega arith) in
-      let value : key_by Depth b.0 (count_touching n (L r) x) (depth_before rounds L r x) ≡ key_by Depth b.0 (count_touching n (M r) x) (depth_before other M r x) = λ t. key_by Depth b.0 (count_touching n (legs t) x) (deep t x) in
+      let value : key_by Rounds b.0 (count_touching n (L r) x) (depth_before rounds L r x) ≡ key_by Rounds b.0 (count_touching n (M r) x) (depth_before other M r x) = λ t. key_by Rounds b.0 (count_touching n (legs t) x) (deep t x) in
       (b.0, count_along x b.0 b.1, b.2 ∙ value)
 
   -- and so are the nodes that are left

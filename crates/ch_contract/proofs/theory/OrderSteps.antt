@@ -11,7 +11,7 @@ use Rattle.ch_contract.specs.Legs.{Legs, SameLegs, opening}
 use Rattle.ch_contract.specs.Contraction.{Contracts}
 use Rattle.ch_contract.specs.Order.{are_neighbours, IsLastTouch, IsPriorityAfter, IsContractedBefore, IsOrderBy}
 use Rattle.ch_hierarchy.proofs.theory.Ordered.{distinct_most, whole_least, pairs_push}
-use Rattle.ch_contract.proofs.theory.OneOrder.{Agree, priority_along}
+use Rattle.ch_contract.proofs.theory.OneInTurn.{Agree, priority_along}
 
 -- after the first i steps v comes before x
 abbrev pub ComesBefore : OrderBy → ℕ → ℕ → List ℕ → (ℕ → Legs) → ℕ → ℕ → ℕ → Type 0

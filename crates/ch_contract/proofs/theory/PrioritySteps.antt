@@ -12,7 +12,7 @@ use Rattle.ch_contract.specs.Contraction.{IsPriorityBy}
 use Rattle.ch_contract.specs.Order.{are_neighbours, depth_after, IsPriorityAfter}
 use Rattle.ch_contract.specs.Progress.{HasPriority, IsNext}
 use Rattle.ch_hierarchy.proofs.theory.Ordered.{contains_or_not}
-use Rattle.ch_contract.proofs.theory.OneOrder.{priority_along}
+use Rattle.ch_contract.proofs.theory.OneInTurn.{priority_along}
 use Rattle.ch_contract.proofs.theory.OrderSteps.{ComesBefore, then_legs, untouched_more, touched_more, more, legs_more, here, agree, now, next}
 
 -- the key of each node that is left is its priority after these steps, and no contracted node has one

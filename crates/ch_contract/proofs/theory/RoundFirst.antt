@@ -47,7 +47,7 @@ before_trans p q r a v b x c y h k =
     )
 
 -- each comes before itself
-before_self : (p : ℤ) (a v : ℕ) → IsBeforeBy p a v p a v
+pub before_self : (p : ℤ) (a v : ℕ) → IsBeforeBy p a v p a v
 before_self p a v = (omega (arith, ints), λ back. (omega arith, λ tie. omega arith))
 
 module _ (IsKey : ℕ → ℤ → Type 0) (IsLeft : ℕ → Type 0) (one : (x : ℕ) (p q : ℤ) → IsKey x p → IsKey x q → p ≡ q) (key : (x : ℕ) → IsLeft x → (p : ℤ) × IsKey x p) (left_or_not : (x : ℕ) → IsLeft x ⊎ (IsLeft x → ⊥)) where

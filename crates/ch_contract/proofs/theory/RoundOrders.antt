@@ -8,7 +8,7 @@ use Rattle.ch_graph.specs.Graph.{Network, IsWithinLimits}
 use Rattle.ch_graph.proofs.Lists.{contains_none}
 use Rattle.ch_hierarchy.specs.Hierarchy.{LevelsAndLegs}
 use Rattle.ch_hierarchy.specs.Rows.{row}
-use Rattle.ch_contract.specs.declared.measure.OrderBy.TheVariants.{Depth}
+use Rattle.ch_contract.specs.declared.measure.OrderBy.TheVariants.{Rounds}
 use Rattle.ch_contract.specs.Legs.{Legs, SameLegs, AreLegsWithin, IsHopBound, opening}
 use Rattle.ch_contract.specs.LegRows.{AreLegsFrom, AreLegsTo}
 use Rattle.ch_contract.specs.Contraction.{AreShortcuts, key_by, count_touching}
@@ -19,13 +19,13 @@ use Rattle.ch_contract.specs.Rounds.{ComesBefore, IsWithinTwoLegs, IsRound, AreA
 use Rattle.ch_contract.specs.RoundOrder.{round_at, nodes_before, depth_before, IsLastCount, IsCountAfter, IsKeyAfter, IsHierarchyOfRounds}
 use Rattle.ch_contract.specs.RoundLaws.{HierarchiesByRoundsAreKept}
 use Rattle.ch_contract.proofs.theory.OpeningLegs.{opening_within}
-use Rattle.ch_contract.proofs.theory.OneOrder.{one_map, one_list}
+use Rattle.ch_contract.proofs.theory.OneInTurn.{one_map, one_list}
 use Rattle.ch_contract.proofs.theory.Contracting.{pairs_by_enough}
 use Rattle.ch_contract.proofs.theory.Levelled.{IsGone}
 use Rattle.ch_contract.proofs.theory.Rounds.{rounds_are_contractions}
 use Rattle.ch_contract.proofs.theory.RoundNodes.{AreBegun, begun_of, before_next, before_all, nodes_once}
 use Rattle.ch_contract.proofs.theory.Turns.{turns_map, turns_append, turns_within, turns_gone, legs_at, legs_first, step_of}
-use Rattle.ch_contract.proofs.theory.BuiltKept.{hierarchies_with_enough_kept}
+use Rattle.ch_contract.proofs.theory.EnoughKept.{hierarchies_with_enough_kept}
 
 -- the shortcuts of a node were counted last at one time
 not_counted_later : (n : ℕ) (rounds : List (List ℕ)) (L : ℕ → Legs) (r x j k : ℕ) → IsLastCount n rounds L r x j → IsLastCount n rounds L r x k → k ≤ j
@@ -45,7 +45,7 @@ one_count n h rounds L r x c d a b =
 
 -- and a node has one key
 pub one_key : (n h : ℕ) (rounds : List (List ℕ)) (L : ℕ → Legs) (r x : ℕ) (p q : ℤ) → IsKeyAfter n h rounds L r x p → IsKeyAfter n h rounds L r x q → p ≡ q
-one_key n h rounds L r x p q a b = a.2 ∙ ap (λ c. key_by Depth c (count_touching n (L r) x) (depth_before rounds L r x)) (one_count n h rounds L r x a.0 b.0 a.1 b.1) ∙ sym b.2
+one_key n h rounds L r x p q a b = a.2 ∙ ap (λ c. key_by Rounds c (count_touching n (L r) x) (depth_before rounds L r x)) (one_count n h rounds L r x a.0 b.0 a.1 b.1) ∙ sym b.2
 
 -- of two numbers that come before each other, in an order by three
 pub both_before : (p q : ℤ) (a b v x : ℕ) → (p ≤ℤ q) × (q ≤ℤ p → (a ≤ b) × (b ≤ a → v ≤ x)) → (q ≤ℤ p) × (p ≤ℤ q → (b ≤ a) × (a ≤ b → x ≤ v)) → v ≡ x
@@ -57,7 +57,7 @@ both_before p q a b v x h k =
     omega arith
 
 -- neighbours are so of each other
-neighbours_flip : (L : Legs) (v x : ℕ) → are_neighbours L v x ≡ are_neighbours L x v
+pub neighbours_flip : (L : Legs) (v x : ℕ) → are_neighbours L v x ≡ are_neighbours L x v
 neighbours_flip L v x = at (is_some (L v x)) (is_some (L x v))
   where
     at : (a b : Bool) → (a || b) ≡ (b || a)
@@ -67,7 +67,7 @@ neighbours_flip L v x = at (is_some (L v x)) (is_some (L x v))
     at false false = refl
 
 -- and so are nodes within two legs
-within_flip : (L : Legs) (v x : ℕ) → IsWithinTwoLegs L v x → IsWithinTwoLegs L x v
+pub within_flip : (L : Legs) (v x : ℕ) → IsWithinTwoLegs L v x → IsWithinTwoLegs L x v
 within_flip L v x near = elim near [
   | inl one ↦ inl (neighbours_flip L x v ∙ one)
   | inr two ↦ inr (two.0, neighbours_flip L x two.0 ∙ two.2, neighbours_flip L two.0 v ∙ two.1)

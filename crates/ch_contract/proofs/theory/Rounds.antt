@@ -14,7 +14,7 @@ use Rattle.ch_contract.specs.RoundLaws.{RoundsAreContractions}
 use Rattle.ch_contract.proofs.theory.RowLegs.{none_unless}
 use Rattle.ch_contract.proofs.theory.Contracting.{override_cases, pair_of_shortcut, pairs_by_enough}
 use Rattle.ch_contract.proofs.theory.OneContraction.{leg_kept}
-use Rattle.ch_contract.proofs.theory.OneOrder.{one_map}
+use Rattle.ch_contract.proofs.theory.OneInTurn.{one_map}
 use Rattle.ch_contract.proofs.theory.Levelled.{IsGone, gone_next, within_more}
 use Rattle.ch_contract.proofs.theory.Enough.{own_witness}
 use Rattle.ch_contract.proofs.theory.RoundLegs.{found, away_leg, StandIn, away_witness, no_leg, no_fork}

@@ -8,7 +8,7 @@ use Rattle.ch_graph.specs.Graph.{Network, IsWithinLimits}
 use Rattle.ch_hierarchy.specs.declared.leg.Leg.{Leg}
 use Rattle.ch_hierarchy.specs.Hierarchy.{LevelsAndLegs}
 use Rattle.ch_hierarchy.proofs.theory.Ordered.{contains_or_not, distinct_most, every_number}
-use Rattle.ch_contract.specs.declared.measure.OrderBy.TheVariants.{Depth}
+use Rattle.ch_contract.specs.declared.measure.OrderBy.TheVariants.{Rounds}
 use Rattle.ch_contract.specs.Legs.{Label, Legs, AreLegsWithin, IsHopBound, opening, turned_legs}
 use Rattle.ch_contract.specs.LegRows.{AreLegsFrom}
 use Rattle.ch_contract.specs.Laws.{LeadsWithin}
@@ -18,7 +18,7 @@ use Rattle.ch_contract.specs.Rounds.{ComesBefore, IsWithinTwoLegs, IsFirstAround
 use Rattle.ch_contract.specs.RoundOrder.{round_at, nodes_before, depth_before, is_counted, IsLastCount, IsKeyAfter, IsLeftAfter, AreRounds, IsHierarchyOfRounds}
 use Rattle.ch_contract.specs.RoundLaws.{GraphsHaveHierarchiesByRounds}
 use Rattle.ch_contract.proofs.theory.ReferenceSearch.{some_of}
-use Rattle.ch_contract.proofs.theory.OneOrder.{taken_at}
+use Rattle.ch_contract.proofs.theory.OneInTurn.{taken_at}
 use Rattle.ch_contract.proofs.theory.Levelled.{turned_within}
 use Rattle.ch_contract.proofs.theory.OrderSteps.{then_legs}
 use Rattle.ch_contract.proofs.theory.RoundLegs.{away_ends}
@@ -38,7 +38,7 @@ neighbours_or_not L v x = at (are_neighbours L v x)
     at false = inr (λ e. true≢false (sym e))
 
 -- neighbours are below n
-neighbour_below : (n : ℕ) (L : Legs) (v x : ℕ) → AreLegsWithin n L → are_neighbours L v x ≡ true → x < n
+pub neighbour_below : (n : ℕ) (L : Legs) (v x : ℕ) → AreLegsWithin n L → are_neighbours L v x ≡ true → x < n
 neighbour_below n L v x limits near = at (L v x) (L x v) refl refl near
   where
     at : (a b : Option Label) → L v x ≡ a → L x v ≡ b → (is_some a || is_some b) ≡ true → x < n
@@ -156,7 +156,7 @@ key_exists n h rounds L r limits x =
     let last = last_count n rounds L r x in
     let its = limits last.0 last.1.within in
     let list = shortcuts_listed n h (L last.0) x its (leads n (L last.0) its) in
-    (key_by Depth (length list.0) (count_touching n (L r) x) (depth_before rounds L r x), (length list.0, (last.0, list.0, last.1, list.1, refl), refl))
+    (key_by Rounds (length list.0) (count_touching n (L r) x) (depth_before rounds L r x), (length list.0, (last.0, list.0, last.1, list.1, refl), refl))
 
 -- a round leaves legs
 legs_exist : (n h : ℕ) (L : Legs) (nodes : List ℕ) → AreLegsWithin n L → (M : Legs) × ContractsRound n h L nodes M

@@ -1,29 +1,36 @@
 -- What the contraction of one round after the other keeps, from the first to the last.
 use Rattle.std.proofs.Common.{◌≡◌, ℕ, suc, ◌+◌, ◌-◌, ◌<◌, Bool, true, false, List, [], ◌∷◌, ◌++◌, length, Contains, length-append, refl, sym, ◌∙◌, ap, subst, arith, inl, inr}
-use Rattle.std.specs.Prelude.{◌*◌, ◌&&◌, ◌||◌, not, nat_lt, is_some, Option, Some, None, slice_index, ℤ}
+use Rattle.std.specs.Prelude.{◌≤◌, ◌*◌, ◌&&◌, ◌||◌, not, nat_lt, is_some, Option, Some, None, slice_index, ℤ}
 use Rattle.std.specs.List.{concat, list_any}
 use Rattle.std.proofs.lemmas.Bool.{cases_eq, cases_lt, true≢false}
 use Rattle.std.proofs.lemmas.List.{length_push, get_or_append_left, get_or-append_right}
 use Rattle.std.proofs.lemmas.List.Elements.{Contains-get_or, Contains-append_left, Contains-append_right, Contains-append_cases}
+use Rattle.ch_graph.specs.declared.limits.TheConstants.{MOST_NODES}
 use Rattle.ch_graph.specs.Graph.{Network, IsWithinLimits}
 use Rattle.ch_graph.proofs.Lists.{contains_none}
 use Rattle.ch_hierarchy.specs.declared.leg.Leg.{Leg}
-use Rattle.ch_hierarchy.specs.Hierarchy.{LevelsAndLegs}
+use Rattle.ch_hierarchy.specs.Hierarchy.{LevelsAndLegs, IsLevelled}
 use Rattle.ch_hierarchy.proofs.theory.Ordered.{contains_or_not}
-use Rattle.ch_contract.specs.declared.measure.OrderBy.TheVariants.{Depth}
+use Rattle.ch_contract.specs.declared.measure.OrderBy.TheVariants.{Rounds}
 use Rattle.ch_contract.specs.Legs.{Label, Legs, SameLegs, AreLegsWithin, IsHopBound, opening}
 use Rattle.ch_contract.specs.LegRows.{AreLegsFrom, AreLegsTo}
 use Rattle.ch_contract.specs.Contraction.{AreShortcuts, key_by, count_touching}
+use Rattle.ch_contract.specs.Enough.{ContractsWithEnough}
 use Rattle.ch_contract.specs.Order.{are_neighbours}
 use Rattle.ch_contract.specs.Rounds.{IsWithinTwoLegs, IsRound, ContractsRound, depth_after_round}
 use Rattle.ch_contract.specs.RoundOrder.{round_at, nodes_before, depth_before, is_counted, IsCountAfter, IsKeyAfter, IsLeftAfter, IsHierarchyByRounds}
 use Rattle.ch_contract.specs.RoundProgress.{RoundProgress, IsKeyNow, is_due, IsRoundsOpen, IsRoundStep, IsRoundsEnd}
-use Rattle.ch_contract.proofs.theory.OneOrder.{one_map}
+use Rattle.ch_contract.proofs.theory.OpeningLegs.{opening_within}
+use Rattle.ch_contract.proofs.theory.Counts.{shortcuts_most}
+use Rattle.ch_contract.proofs.theory.Contracting.{ContractsWithPairs, pairs_by_enough}
+use Rattle.ch_contract.proofs.theory.Levelled.{levelled}
+use Rattle.ch_contract.proofs.theory.Enough.{hierarchy_by}
+use Rattle.ch_contract.proofs.theory.OneInTurn.{one_map}
 use Rattle.ch_contract.proofs.theory.RowSteps.{AreLevels}
 use Rattle.ch_contract.proofs.theory.OrderSteps.{then_legs}
-use Rattle.ch_contract.proofs.theory.RoundNodes.{AreBegun, begun_all, before_all, concat_push, round_before, left, nodes_once}
-use Rattle.ch_contract.proofs.theory.RoundOrders.{one_key, within_rounds, gone_rounds}
-use Rattle.ch_contract.proofs.theory.RoundSteps.{more, legs_more, here, agree, now, next, before, depth_more, before_more, counted_next, count_anew, count_kept, begun_none, begun_more}
+use Rattle.ch_contract.proofs.theory.RoundNodes.{AreBegun, begun_all, begun_of, before_all, concat_push, round_before, left, nodes_once}
+use Rattle.ch_contract.proofs.theory.RoundOrders.{one_key, within_rounds, gone_rounds, by_steps}
+use Rattle.ch_contract.proofs.theory.RoundSteps.{depth_most, more, legs_more, here, agree, now, next, before, depth_more, before_more, counted_next, count_anew, count_kept, begun_none, begun_more}
 use Rattle.ch_contract.proofs.theory.RoundFirst.{round_some}
 
 -- what is kept after these rounds
@@ -66,7 +73,7 @@ module _ {g : Network} {h : ℕ} {rounds : List (List ℕ)} {L : ℕ → Legs} {
   left_within = subst (AreLegsWithin g.nodes) (sym same) (within_rounds limits hops u.begun (length rounds) (omega arith))
 
   -- a node with a neighbour is left
-  neighbour_left : (v x : ℕ) → are_neighbours p.legs v x ≡ true → Contains p.left x
+  pub neighbour_left : (v x : ℕ) → are_neighbours p.legs v x ≡ true → Contains p.left x
   neighbour_left v x near = u.all_left x (at (p.legs v x) (p.legs x v) refl refl near, λ past. let gone = gone_rounds limits hops u.begun (length rounds) (omega arith) x past v in no_neighbour gone near)
     where
       no_neighbour : (L (length rounds) x v ≡ None) × (L (length rounds) v x ≡ None) → are_neighbours p.legs v x ≡ true → ⊥
@@ -89,12 +96,12 @@ module _ {g : Network} {h : ℕ} {rounds : List (List ℕ)} {L : ℕ → Legs} {
   key_now x k is =
       let legs = same in
       let deep = u.depths x in
-      (p.counts x, u.counts x is.0, is.1 ∙ (λ t. key_by Depth (p.counts x) (count_touching g.nodes (legs t) x) (deep t)))
+      (p.counts x, u.counts x is.0, is.1 ∙ (λ t. key_by Rounds (p.counts x) (count_touching g.nodes (legs t) x) (deep t)))
 
   -- and it is the only one
   key_then : (x : ℕ) (k : ℤ) → Contains p.left x → IsKeyAfter g.nodes h rounds L (length rounds) x k → IsKeyNow g.nodes p x k
   key_then x k c is =
-      let k' : ℤ = key_by Depth (p.counts x) (count_touching g.nodes p.legs x) (p.depth x) in
+      let k' : ℤ = key_by Rounds (p.counts x) (count_touching g.nodes p.legs x) (p.depth x) in
       (c, one_key g.nodes h rounds L (length rounds) x k k' is (key_now x k' (c, refl)))
 
   -- a round by the keys of now is one by those after these rounds
@@ -108,7 +115,7 @@ module _ {g : Network} {h : ℕ} {rounds : List (List ℕ)} {L : ℕ → Legs} {
   -- while a node is left, a round has a node
   pub rounds_some : (nodes : List ℕ) → IsRound (IsKeyNow g.nodes p) (Contains p.left) p.legs nodes → (x : ℕ) → Contains p.left x → 0 < length nodes
   rounds_some nodes r x c =
-      round_some (IsKeyNow g.nodes p) (Contains p.left) (λ y k k' a b. a.1 ∙ sym b.1) (λ y has. (key_by Depth (p.counts y) (count_touching g.nodes p.legs y) (p.depth y), (has, refl))) (contains_or_not p.left)
+      round_some (IsKeyNow g.nodes p) (Contains p.left) (λ y k k' a b. a.1 ∙ sym b.1) (λ y has. (key_by Rounds (p.counts y) (count_touching g.nodes p.legs y) (p.depth y), (has, refl))) (contains_or_not p.left)
       g.nodes p.legs nodes (λ y has. (u.left y has).0) near_left r x c
 
 module _ {g : Network} {h : ℕ} {rounds : List (List ℕ)} {L : ℕ → Legs} {p q : RoundProgress} {nodes : List ℕ} (limits : IsWithinLimits g) (hops : IsHopBound h) (u : IsAfterRounds g h rounds L p) (some : 0 < length nodes) (step : IsRoundStep g.nodes h p nodes q) where
@@ -248,3 +255,26 @@ rounds_at_end g h rounds L p H u e =
         down = λ r v lt c. subst (AreLegsTo (L r) v) (sym (e.rows v (left u.begun r v lt c).0).1) (u.down r v lt c);
       },
     )
+
+-- a node lies no deeper than nodes are contracted
+pub rounds_depth : {g : Network} {h : ℕ} {rounds : List (List ℕ)} {L : ℕ → Legs} {p : RoundProgress} → IsAfterRounds g h rounds L p → (x : ℕ) → p.depth x ≤ p.contracted
+rounds_depth {rounds = rounds} {L = L} u x =
+    let deep = u.depths x in
+    let most = depth_most rounds L (length rounds) x in
+    let all = ap length (before_all rounds) in
+    let count = u.contracted in
+    omega arith
+
+-- a node that is left has at most a shortcut for each two nodes
+pub rounds_counts : {g : Network} {h : ℕ} {rounds : List (List ℕ)} {L : ℕ → Legs} {p : RoundProgress} → IsWithinLimits g → IsHopBound h → IsAfterRounds g h rounds L p → (x : ℕ) → Contains p.left x → p.counts x ≤ g.nodes * g.nodes
+rounds_counts {g = g} {h = h} {L = L} limits hops u x c =
+    let count = u.counts x c in
+    let most = shortcuts_most g.nodes h (L count.0) x count.1 (within_rounds limits hops u.begun count.0 count.2.within) count.3 in
+    omega (arith, most, count.4)
+
+-- once no node is left, the hierarchy is levelled
+pub rounds_levelled : (g : Network) (h : ℕ) (rounds : List (List ℕ)) (L : ℕ → Legs) (p : RoundProgress) (H : LevelsAndLegs) → IsWithinLimits g → IsHopBound h → g.nodes ≤ MOST_NODES → IsAfterRounds g h rounds L p → IsRoundsEnd g.nodes p H → IsLevelled H
+rounds_levelled g h rounds L p H limits hops small u e =
+    let is = rounds_at_end g h rounds L p H u e in
+    let by = by_steps limits hops (begun_of is.2) (nodes_once is.2) is.3 in
+    levelled g H (concat is.0) by.0 (hierarchy_by (ContractsWithEnough g.nodes h) (ContractsWithPairs g.nodes) g H (concat is.0) by.0 by.1 (λ i lt. pairs_by_enough g.nodes h _ _ _)) small (opening_within g limits)

@@ -11,12 +11,12 @@ use Rattle.ch_contract.specs.Contraction.{Contracts, IsPriorityBy}
 use Rattle.ch_contract.specs.Order.{are_neighbours, next_depth, depth_after, IsOrderBy}
 use Rattle.ch_contract.specs.LegRows.{AreLegsFrom, AreLegsTo}
 use Rattle.ch_hierarchy.specs.Hierarchy.{LevelsAndLegs, IsLevelled}
-use Rattle.ch_contract.specs.Built.{IsHierarchyOf, IsHierarchyBy}
+use Rattle.ch_contract.specs.Built.{IsHierarchyOf, IsHierarchyInTurn}
 use Rattle.ch_contract.specs.Progress.{Progress, HasPriority, IsNext, IsOpen, IsStep, AreAll}
 use Rattle.ch_contract.proofs.theory.Contracting.{pairs_by_needed}
 use Rattle.ch_contract.proofs.theory.Levelled.{within_steps, gone_steps, levelled}
 use Rattle.ch_contract.proofs.theory.Enough.{hierarchy_with_pairs}
-use Rattle.ch_contract.proofs.theory.OneOrder.{one_map}
+use Rattle.ch_contract.proofs.theory.OneInTurn.{one_map}
 use Rattle.ch_contract.proofs.theory.OrderSteps.{IsBegun, then_legs, next, begun_fewer, begun_more, begun_none, begun_all}
 use Rattle.ch_contract.proofs.theory.Depths.{depth_most, depth_more}
 use Rattle.ch_contract.proofs.theory.PrioritySteps.{AreKept, all_taken, next_within, next_left, next_first, kept_more}
@@ -154,7 +154,7 @@ steps_within by g h p u =
     subst (AreLegsWithin g.nodes) (one_map (u.L n) p.legs a.legs) (within_steps g.nodes n u.order u.L start (λ i lt. pairs_by_needed g.nodes h _ _ _ (a.begun.step i lt)) n (omega arith))
 
 -- once no node is left, the levels and rows are the hierarchy
-pub steps_at_end : (by : OrderBy) (g : Network) (h : ℕ) (p : Progress) → IsAfterSomeSteps by g h p → HasNone p.keys → (H : LevelsAndLegs) → AreAll g.nodes p H → IsHierarchyBy by g h H
+pub steps_at_end : (by : OrderBy) (g : Network) (h : ℕ) (p : Progress) → IsAfterSomeSteps by g h p → HasNone p.keys → (H : LevelsAndLegs) → AreAll g.nodes p H → IsHierarchyInTurn by g h H
 steps_at_end by g h p u none H all = (u.order, u.L, after_all by g h u.order u.L p u.after none H all, (order_of by g h u.order u.L p u.after none).least)
 
 pub steps_levelled : (by : OrderBy) (g : Network) (h : ℕ) (p : Progress) → IsAfterSomeSteps by g h p → HasNone p.keys → g.nodes ≤ MOST_NODES → (H : LevelsAndLegs) → AreAll g.nodes p H → IsLevelled H

@@ -1,11 +1,11 @@
 -- Nodes that are taken one after the other, and the legs between their steps.
-use Rattle.std.proofs.Common.{◌≡◌, ℕ, zero, suc, ◌+◌, ◌<◌, List, [], ◌∷◌, ◌++◌, length, Contains, refl, sym, subst, arith, inl, inr}
+use Rattle.std.proofs.Common.{◌≡◌, ℕ, zero, suc, ◌<◌, List, [], ◌∷◌, ◌++◌, length, Contains, refl, sym, subst, arith, inl, inr}
 use Rattle.std.specs.Prelude.{◌⊎◌, slice_index}
 use Rattle.ch_graph.proofs.Lists.{contains_head, contains_tail, contains_cons, contains_none}
 use Rattle.ch_contract.specs.Legs.{Legs, AreLegsWithin}
 use Rattle.ch_contract.specs.Rounds.{TakesInTurn}
 use Rattle.ch_contract.proofs.theory.Contracting.{ContractsWithPairs}
-use Rattle.ch_contract.proofs.theory.OneOrder.{one_map}
+use Rattle.ch_contract.proofs.theory.OneInTurn.{one_map}
 use Rattle.ch_contract.proofs.theory.Levelled.{IsGone, gone_next, gone_more, within_more}
 
 -- steps of one kind that are steps of another

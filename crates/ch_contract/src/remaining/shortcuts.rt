@@ -1,9 +1,9 @@
 //! The shortcuts that the contraction of a node would leave, and its priority.
-ghost use Rattle.std.specs.Prelude.{◌≡◌, ◌+◌, ◌<◌, ◌≤◌, All, IfOk, IsTrue, OnOk, Some};
+ghost use Rattle.std.specs.Prelude.{◌≡◌, ◌+◌, ◌<◌, ◌≤◌, ◌^◌, All, IfOk, IsTrue, OnOk, Some};
 ghost use Rattle.ch_contract.specs.declared.held_cost.TheConstants.{MOST_LIGHT};
 ghost use Rattle.ch_hierarchy.specs.Rows.{row};
 ghost use Rattle.ch_contract.specs.Legs.{Legs, IsHopBound, IsLegWithin};
-ghost use Rattle.ch_contract.specs.Contraction.{AreShortcuts, IsPriority};
+ghost use Rattle.ch_contract.specs.Contraction.{AreShortcuts, IsPriority, count_touching};
 ghost use Rattle.ch_contract.specs.LegRows.{AreLegsFrom, AreLegsTo, label_of};
 ghost use Rattle.ch_contract.specs.Rounds.{AreShortcutsAmong};
 ghost use Rattle.ch_contract.specs.Measures.{IsMeasure};
@@ -83,6 +83,18 @@ impl Remaining {
             shortcuts: list.len() as u64,
             legs: legs as u64,
         })
+    }
+
+    /// How many legs touch a node now.
+    pub(crate) fn count_touching(&self, node: u32) -> u64
+        requires { node < self.now.nodes }
+        ensures count { result ≡ count_touching self.now.nodes (legs_of self.now) node }
+        ensures small { result ≤ 2 ^ 26 }
+    {
+        // The proof learns from this call that the legs keep the limits.
+        let _ = self.nodes();
+        let legs = self.out_legs(node).len() + self.in_legs(node).len();
+        legs as u64
     }
 
     /// A node with the legs that touch it now.

@@ -1,4 +1,4 @@
-use Rattle.ch_contract.proofs.theory.BuiltKept.{least_costs_kept}
+use Rattle.ch_contract.proofs.theory.EnoughKept.{least_costs_kept}
 use Rattle.ch_contract.proofs.laws.keeping.contraction_keeps_least_costs.Goals as goal
 
 pub returns : goal.returns

@@ -1,4 +1,4 @@
-use Rattle.ch_contract.proofs.theory.BuiltKept.{enough_keeps_least_costs}
+use Rattle.ch_contract.proofs.theory.EnoughKept.{enough_keeps_least_costs}
 use Rattle.ch_contract.proofs.laws.keeping.enough_keeps_least_costs.Goals as goal
 
 pub returns : goal.returns

@@ -1,4 +1,4 @@
-use Rattle.ch_contract.proofs.theory.BuiltKept.{hierarchies_with_enough_kept}
+use Rattle.ch_contract.proofs.theory.EnoughKept.{hierarchies_with_enough_kept}
 use Rattle.ch_contract.proofs.laws.keeping.hierarchies_with_enough_are_kept.Goals as goal
 
 pub returns : goal.returns

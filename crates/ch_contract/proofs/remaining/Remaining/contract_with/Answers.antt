@@ -1,4 +1,4 @@
-use Rattle.std.proofs.Common.{◌≡◌, sym, ◌∙◌, ap, subst, All}
+use Rattle.std.proofs.Common.{sym, ◌∙◌, subst, All}
 use Rattle.std.proofs.lemmas.Result.{IfOk-weaker}
 use Rattle.std.proofs.lemmas.List.Elements.{All-from_get_or, Contains-get_or}
 use Rattle.ch_contract.specs.declared.shortcut.Shortcut.{Shortcut}

@@ -1,7 +1,6 @@
-use Rattle.std.proofs.Common.{◌*◌, ◌≤◌, ◌^◌, ℕ, List, ap, arith, subst}
+use Rattle.std.proofs.Common.{◌*◌, ◌≤◌, ◌^◌, ap, arith, subst}
 use Rattle.std.proofs.Math.Nat.{mul-le-mul}
 use Rattle.ch_graph.specs.declared.limits.TheConstants.{MOST_NODES}
-use Rattle.ch_contract.specs.declared.shortcut.Shortcut.{Shortcut}
 use Rattle.ch_contract.specs.Contraction.{AreShortcuts, count_touching}
 use Rattle.ch_contract.specs.Remaining.{legs_of}
 use Rattle.ch_contract.proofs.theory.Counts.{rows_touching, touching_most, shortcuts_most}

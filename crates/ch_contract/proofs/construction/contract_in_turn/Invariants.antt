@@ -1,7 +1,7 @@
 use Rattle.std.proofs.Common.{◌≡◌, ◌-◌}
 use Rattle.ch_contract.specs.Construction.{IsSized, IsJudging, progress_of}
 use Rattle.ch_contract.proofs.theory.StepsMade.{IsAfterSomeSteps}
-use Rattle.ch_contract.proofs.construction.build_by.Given as goal
+use Rattle.ch_contract.proofs.construction.contract_in_turn.Given as goal
 
 abbrev pub invariant-loop-node : goal.invariant-loop-node
 invariant-loop-node g l = IsSized l.construction × (l.construction.remaining.nodes ≡ l.graph.nodes) × IsAfterSomeSteps l.by l.graph l.hops (progress_of l.construction) × IsJudging l.hops l.construction

@@ -1,0 +1,161 @@
+use Rattle.std.proofs.Common.{◌≡◌, ◌+◌, ◌<◌, ◌≤◌, ◌^◌, ℕ, List, refl, sym, ◌∙◌, ap, subst, length, get_or, arith}
+use Rattle.std.specs.Prelude.{All, AllPairs, Contains, slice_index, slice_index_or, pos}
+use Rattle.std.specs.Vec.{with_items}
+use Rattle.std.proofs.lemmas.List.{with_items_is}
+use Rattle.ch_contract.specs.Rounds.{AreApart, depth_after_round}
+use Rattle.ch_contract.specs.SetEach.{AreRanked}
+use Rattle.ch_contract.specs.RoundCounts.{AreCounted, due_of}
+use Rattle.ch_contract.specs.declared.rounds.ConstructionByRounds.{ConstructionByRounds}
+use Rattle.ch_contract.specs.Remaining.{legs_of}
+use Rattle.ch_contract.specs.FirstAround.{IsFirstBy}
+use Rattle.ch_contract.specs.RoundChoice.{IsKeyIn, IsSplit}
+use Rattle.ch_contract.proofs.code.RoundCalls.{IsSteppedByRound, split_apart, split_left, split_rest, near_below, due_below, stepped_by_round, sized_by_round}
+use Rattle.ch_contract.proofs.rounds.ConstructionByRounds.contract.Goals.{In_ok-round, In_ok-count}
+use Rattle.ch_contract.proofs.rounds.ConstructionByRounds.contract.Goals as goal
+
+pub choose-requires-clause-nodes : goal.choose-requires-clause-nodes
+choose-requires-clause-nodes g c lifetimes bounds =
+    subst (All (λ x. (x < c.args.self.remaining.nodes) × (slice_index c.as_slice.result.now x ≤ 2 ^ 50))) (sym c.as_slice-3.ensures.value)
+    (λ k d lt. (c.requires.sizes.left k d lt, subst (λ (l : List ℕ). slice_index l (get_or c.args.self.left.items k d) ≤ 2 ^ 50) (sym c.as_slice.ensures.value) (c.requires.counts k d lt)))
+
+pub choose-requires-clause-count : goal.choose-requires-clause-count
+choose-requires-clause-count g c lifetimes bounds = omega (arith, ap length c.as_slice-3.ensures.value, c.requires.sizes.count, c.requires.sizes.nodes)
+
+pub choose-requires-clause-ordered : goal.choose-requires-clause-ordered
+choose-requires-clause-ordered g c lifetimes bounds = subst (AllPairs ◌<◌) (sym c.as_slice-3.ensures.value) c.requires.sizes.ordered
+
+-- what the keys split
+split : (g : _) (c : In_ok-round g) → IsSplit (IsFirstBy c.choose.new.keys (legs_of c.args.self.remaining)) c.args.self.left.items c.in_ok-round.field-0.round.items c.in_ok-round.field-0.rest.items
+split g c =
+    subst (λ (l : List ℕ). IsSplit (IsFirstBy c.choose.new.keys (legs_of c.args.self.remaining)) l c.in_ok-round.field-0.round.items c.in_ok-round.field-0.rest.items) c.as_slice-3.ensures.value c.in_ok-round.ensures.split
+
+-- the nodes of the round are nodes
+below : (g : _) (c : In_ok-round g) → All (λ x. x < c.args.self.remaining.nodes) c.in_ok-round.field-0.round.items
+below g c = split_left (IsFirstBy c.choose.new.keys (legs_of c.args.self.remaining)) c.args.self.remaining.nodes c.args.self.left.items c.in_ok-round.field-0.round.items c.in_ok-round.field-0.rest.items c.requires.sizes.left (split g c)
+
+-- and apart
+apart : (g : _) (c : In_ok-round g) → AreApart (legs_of c.args.self.remaining) c.in_ok-round.field-0.round.items
+apart g c = split_apart c.choose.new.keys (legs_of c.args.self.remaining) c.args.self.left.items c.in_ok-round.field-0.round.items c.in_ok-round.field-0.rest.items (split g c)
+
+pub deepen_around-requires-clause-nodes : goal.deepen_around-requires-clause-nodes
+deepen_around-requires-clause-nodes g c =
+    subst (All (λ x. x < c.args.self.remaining.nodes)) (sym c.as_slice-nodes.ensures.value) (below g (goal.at.deepen_around-requires-clause-nodes g c).In_ok-round)
+
+pub deepen_around-requires-clause-apart : goal.deepen_around-requires-clause-apart
+deepen_around-requires-clause-apart g c =
+    subst (AreApart (legs_of c.args.self.remaining)) (sym c.as_slice-nodes.ensures.value) (apart g (goal.at.deepen_around-requires-clause-apart g c).In_ok-round)
+
+pub deepen_around-requires-clause-depths : goal.deepen_around-requires-clause-depths
+deepen_around-requires-clause-depths g c =
+    let count = c.in_ok-round.ensures.split.count in (
+      c.args.self.contracted,
+      λ x. subst (λ (l : List ℕ). slice_index l x ≤ c.args.self.contracted) (sym c.deref_mut-2.ensures.value) (c.requires.depths x),
+      omega (arith, count, ap length c.as_slice-nodes.ensures.value, ap length c.as_slice-3.ensures.value, c.requires.sizes.count, c.requires.sizes.nodes),
+    )
+
+pub contract_round-requires-clause-nodes : goal.contract_round-requires-clause-nodes
+contract_round-requires-clause-nodes g c lifetimes bounds =
+    subst (All (λ x. x < c.args.self.remaining.nodes)) (sym c.as_slice-nodes.ensures.value) (below g (goal.at.contract_round-requires-clause-nodes g c).In_ok-round)
+
+pub contract_round-requires-clause-apart : goal.contract_round-requires-clause-apart
+contract_round-requires-clause-apart g c lifetimes bounds =
+    subst (AreApart (legs_of c.args.self.remaining)) (sym c.as_slice-nodes.ensures.value) (apart g (goal.at.contract_round-requires-clause-apart g c).In_ok-round)
+
+pub rank-requires-clause-nodes : goal.rank-requires-clause-nodes
+rank-requires-clause-nodes g c =
+    let nodes = subst (All (λ x. x < c.args.self.remaining.nodes)) (sym c.as_slice-nodes.ensures.value) (below g (goal.at.rank-requires-clause-nodes g c).In_ok-round) in
+    subst (λ m. All (λ x. x < m) c.as_slice-nodes.result.now) (sym (ap length c.deref_mut-3.ensures.value ∙ c.requires.sizes.levels)) nodes
+
+pub rank-requires-clause-ordered : goal.rank-requires-clause-ordered
+rank-requires-clause-ordered g c = subst (AllPairs ◌<◌) (sym c.as_slice-nodes.ensures.value) c.in_ok-round.ensures.split.ordered.0
+
+pub count-requires-clause-nodes : goal.count-requires-clause-nodes
+count-requires-clause-nodes g c lifetimes bounds =
+    let n = c.args.self.remaining.nodes in
+    let L = legs_of c.args.self.remaining in
+    let at = goal.at.count-requires-clause-nodes g c in
+    let near = near_below n L c.as_slice-nodes.result.now c.in_ok-near.near.items c.requires.limits c.in_ok-near.ensures.near in
+    let rest = split_rest (IsFirstBy c.choose.new.keys L) n c.args.self.left.items c.in_ok-round.field-0.round.items c.in_ok-round.field-0.rest.items c.requires.sizes.left (split g at.In_ok-round) in
+    let lent = subst (All (λ x. x < n)) (sym c.due-due.ensures)
+    (due_below c.nodes.result n c.args.self.contracted (c.args.self.contracted + length c.as_slice-nodes.result.now) c.as_slice-4.result.now c.as_slice-5.result.now
+    (subst (All (λ x. x < n)) (sym c.as_slice-4.ensures.value) near) (subst (All (λ x. x < n)) (sym c.as_slice-5.ensures.value) rest)) in
+    subst (λ m. All (λ x. x < m) c.due-due.result.now) (sym c.in_ok-self.ensures.nodes) lent
+
+-- what it is after the round
+abbrev after : (g : _) (c : In_ok-count g) → ConstructionByRounds
+after g c = record {
+  remaining = c.in_ok-self.field-0;
+  rooms = c.count.new.rooms;
+  left = c.in_ok-round.field-0.rest;
+  counts = with_items c.args.self.counts c.count.new.counts;
+  depths = with_items c.args.self.depths c.deepen_around.new.depths;
+  keys = with_items c.args.self.keys c.choose.new.keys;
+  levels = with_items c.args.self.levels c.rank.new.levels;
+  contracted = c.args.self.contracted + length c.as_slice-nodes.result.now;
+}
+
+-- its counts
+counted : (g : _) (c : In_ok-count g) → AreCounted c.args.self.remaining.nodes c.args.hops (legs_of c.in_ok-self.field-0)
+    (due_of c.args.self.remaining.nodes c.args.self.contracted (c.args.self.contracted + length c.as_slice-nodes.result.now) c.in_ok-near.near.items c.in_ok-round.field-0.rest.items) c.args.self.counts.items c.count.new.counts
+counted g c =
+    let n = c.args.self.remaining.nodes in
+    let M = legs_of c.in_ok-self.field-0 in
+    let before = c.args.self.contracted in
+    let now = c.args.self.contracted + length c.as_slice-nodes.result.now in
+    let near = c.in_ok-near.near.items in
+    let size = c.nodes.ensures.nodes ∙ c.in_ok-self.ensures.nodes in
+    let due = c.due-due.ensures
+    ∙ ap (λ m. due_of m before now c.as_slice-4.result.now c.as_slice-5.result.now) size
+    ∙ ap (λ (l : List ℕ). due_of n before now l c.as_slice-5.result.now) c.as_slice-4.ensures.value
+    ∙ ap (λ (l : List ℕ). due_of n before now near l) c.as_slice-5.ensures.value in
+    let first = subst (λ m. AreCounted m c.args.hops M c.due-due.result.now c.deref_mut-4.result.now c.count.new.counts) c.in_ok-self.ensures.nodes c.in_ok-count.ensures.counts in
+    let second = subst (λ (l : List ℕ). AreCounted n c.args.hops M l c.deref_mut-4.result.now c.count.new.counts) due first in
+    subst (λ (l : List ℕ). AreCounted n c.args.hops M (due_of n before now near c.in_ok-round.field-0.rest.items) l c.count.new.counts) c.deref_mut-4.ensures.value second
+
+-- its parts
+stepped : (g : _) (c : In_ok-count g) → IsSteppedByRound c.args.hops c.args.self (after g c) c.as_slice-nodes.result.now c.in_ok-near.near.items c.choose.new.keys
+stepped g c =
+    let n = c.args.self.remaining.nodes in
+    let L = legs_of c.args.self.remaining in
+    let nodes = c.as_slice-nodes.result.now in
+    let rest = c.in_ok-round.field-0.rest.items in
+    let keys = c.choose.new.keys in
+    let deep = c.in_ok-near.ensures.size in
+    let deepened = with_items_is c.args.self.depths c.deepen_around.new.depths (deep ∙ c.deref_mut-2.ensures.len) in
+    let keyed = with_items_is c.args.self.keys keys (c.in_ok-round.ensures.size ∙ c.deref_mut.ensures.len) in
+    let ranked = with_items_is c.args.self.levels c.rank.new.levels (c.rank.ensures.size ∙ c.deref_mut-3.ensures.len) in
+    let recounted = with_items_is c.args.self.counts c.count.new.counts (c.in_ok-count.ensures.counts.size ∙ c.deref_mut-4.ensures.len) in
+    record {
+      count = c.in_ok-self.ensures.nodes;
+      keyed = λ x here.
+          let k = slice_index_or keys x (pos 0) in
+          let own = c.in_ok-round.ensures.keys x (subst (λ (l : List ℕ). Contains l x) (sym c.as_slice-3.ensures.value) here) in
+          subst (λ (l : List ℕ). IsKeyIn c.args.self.remaining c.args.self.counts.items l x k) c.as_slice-2.ensures.value
+          (subst (λ (l : List ℕ). IsKeyIn c.args.self.remaining l c.as_slice-2.result.now x k) c.as_slice.ensures.value own);
+      split = subst (λ (l : List ℕ). IsSplit (IsFirstBy keys L) c.args.self.left.items l rest) (sym c.as_slice-nodes.ensures.value) (split g (goal.at.In_ok-count g c).In_ok-round);
+      legs = c.in_ok-self.ensures.legs;
+      up = c.in_ok-self.ensures.up;
+      down = c.in_ok-self.ensures.down;
+      depths = λ x.
+          subst (λ (l : List ℕ). slice_index l x ≡ depth_after_round L nodes (λ y. slice_index c.args.self.depths.items y) x) (sym deepened)
+          (subst (λ (l : List ℕ). slice_index c.deepen_around.new.depths x ≡ depth_after_round L nodes (λ y. slice_index l y) x) c.deref_mut-2.ensures.value (c.in_ok-near.ensures.depths x));
+      deep = ap length deepened ∙ deep ∙ ap length c.deref_mut-2.ensures.value;
+      around = c.in_ok-near.ensures.near;
+      counted =
+          subst (λ (l : List ℕ). AreCounted n c.args.hops (legs_of c.in_ok-self.field-0) (due_of n c.args.self.contracted (c.args.self.contracted + length nodes) c.in_ok-near.near.items rest) c.args.self.counts.items l) (sym recounted) (counted g c);
+      ranked =
+          subst (λ (l : List ℕ). AreRanked nodes c.args.self.contracted c.args.self.levels.items l) (sym ranked)
+          (subst (λ (l : List ℕ). AreRanked nodes c.args.self.contracted l c.rank.new.levels) c.deref_mut-3.ensures.value c.rank.ensures);
+      contracted = refl;
+      keys_size = ap length keyed ∙ c.in_ok-round.ensures.size ∙ ap length c.deref_mut.ensures.value;
+    }
+
+pub returns-clause-sizes : goal.returns-clause-sizes
+returns-clause-sizes g c =
+    let at = (goal.at.returns-clause-sizes g c).In_ok-count in
+    sized_by_round c.args.hops c.args.self (after g at) c.as_slice-nodes.result.now c.in_ok-near.near.items c.choose.new.keys c.requires.near (stepped g at) c.requires.sizes
+
+pub returns-clause-step : goal.returns-clause-step
+returns-clause-step g c =
+    let at = (goal.at.returns-clause-step g c).In_ok-count in
+    (c.as_slice-nodes.result.now, stepped_by_round c.args.hops c.args.self (after g at) c.as_slice-nodes.result.now c.in_ok-near.near.items c.choose.new.keys c.requires.near (stepped g at))

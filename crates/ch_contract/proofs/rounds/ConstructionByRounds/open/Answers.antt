@@ -1,0 +1,69 @@
+use Rattle.std.proofs.Common.{◌∙◌, ℕ, List, [], refl, sym, ap, subst, length, arith}
+use Rattle.std.specs.Prelude.{◌<◌, All, ℤ, pos, slice_index}
+use Rattle.std.specs.List.{range_with_len}
+use Rattle.std.specs.Vec.{with_items}
+use Rattle.std.proofs.lemmas.List.{with_items_is, length-replicate}
+use Rattle.std.proofs.lemmas.List.FromFn.{length-range_with_len}
+use Rattle.ch_hierarchy.specs.declared.leg.Leg.{Leg}
+use Rattle.ch_contract.specs.Remaining.{legs_of}
+use Rattle.ch_contract.specs.RoundCounts.{AreCounted}
+use Rattle.ch_contract.specs.declared.rounds.ConstructionByRounds.{ConstructionByRounds}
+use Rattle.ch_contract.proofs.code.ConstructionCalls.{zeros}
+use Rattle.ch_contract.proofs.code.KeptPriorities.{numbers_below}
+use Rattle.ch_contract.proofs.code.RoundCalls.{rounds_open, sized_open}
+use Rattle.ch_contract.proofs.rounds.ConstructionByRounds.open.Goals as goal
+
+pub count-requires-clause-nodes : goal.count-requires-clause-nodes
+count-requires-clause-nodes g c lifetimes bounds =
+    subst (All (λ x. x < c.in_ok-remaining.remaining.nodes)) (sym (c.as_slice.ensures.value ∙ c.in_ok-left.ensures ∙ ap (range_with_len 0) c.nodes-nodes.ensures.nodes)) (numbers_below c.in_ok-remaining.remaining.nodes)
+
+pub count-requires-clause-count : goal.count-requires-clause-count
+count-requires-clause-count g c lifetimes bounds =
+    omega (arith, ap length (c.as_slice.ensures.value ∙ c.in_ok-left.ensures), length-range_with_len 0 c.nodes-nodes.result, c.nodes-nodes.ensures.nodes, c.nodes-nodes.ensures.count)
+
+pub returns-clause-sizes : goal.returns-clause-sizes
+returns-clause-sizes g c =
+    let same = c.nodes-nodes.ensures.nodes in
+    let left = c.in_ok-left.ensures ∙ ap (range_with_len 0) same in
+    let written = with_items_is c.in_ok-counts.counts c.count.new.counts (c.in_ok-count.ensures.counts.size ∙ c.deref_mut.ensures.len) in
+    let aside = c.in_ok-remaining.ensures.aside in
+    let all = length-replicate {A = List Leg} c.args.graph.now.nodes [] ∙ sym c.in_ok-remaining.ensures.nodes in
+    sized_open (record {
+      remaining = c.in_ok-remaining.remaining;
+      rooms = c.count.new.rooms;
+      left = c.in_ok-left.left;
+      counts = with_items c.in_ok-counts.counts c.count.new.counts;
+      depths = c.in_ok-depths.depths;
+      keys = c.in_ok-keys.keys;
+      levels = c.in_ok-levels.levels;
+      contracted = 0;
+    }) c.nodes-nodes.ensures.count left
+    (ap length written ∙ c.in_ok-count.ensures.counts.size ∙ ap length c.deref_mut.ensures.value ∙ ap length (c.in_ok-counts.ensures.items_if_clones_equal (λ y p. p)) ∙ length-replicate {A = ℕ} c.nodes-nodes.result 0 ∙ same)
+    (ap length (c.in_ok-depths.ensures.items_if_clones_equal (λ y p. p)) ∙ length-replicate {A = ℕ} c.nodes-nodes.result 0 ∙ same)
+    (ap length (c.in_ok-keys.ensures.items_if_clones_equal (λ y p. p)) ∙ length-replicate {A = ℤ} c.nodes-nodes.result (pos 0) ∙ same)
+    (ap length (c.in_ok-levels.ensures.items_if_clones_equal (λ y p. p)) ∙ length-replicate {A = ℕ} c.nodes-nodes.result 0 ∙ same)
+    (ap length aside.0 ∙ all)
+    (ap length aside.1 ∙ all)
+    refl
+
+pub returns-clause-begun : goal.returns-clause-begun
+returns-clause-begun g c =
+    let first : ConstructionByRounds = record {
+      remaining = c.in_ok-remaining.remaining;
+      rooms = c.count.new.rooms;
+      left = c.in_ok-left.left;
+      counts = with_items c.in_ok-counts.counts c.count.new.counts;
+      depths = c.in_ok-depths.depths;
+      keys = c.in_ok-keys.keys;
+      levels = c.in_ok-levels.levels;
+      contracted = 0;
+    } in
+    let n = c.in_ok-remaining.remaining.nodes in
+    let L = legs_of c.in_ok-remaining.remaining in
+    let left = c.in_ok-left.ensures ∙ ap (range_with_len 0) c.nodes-nodes.ensures.nodes in
+    let written = with_items_is c.in_ok-counts.counts c.count.new.counts (c.in_ok-count.ensures.counts.size ∙ c.deref_mut.ensures.len) in
+    let lent = subst (λ (l : List ℕ). AreCounted n c.args.hops L l c.deref_mut.result.now c.count.new.counts) c.as_slice.ensures.value c.in_ok-count.ensures.counts in
+    let counted = subst (λ (l : List ℕ). AreCounted n c.args.hops L c.in_ok-left.left.items c.deref_mut.result.now l) (sym written) lent in
+    rounds_open c.args.graph.now c.args.hops first c.deref_mut.result.now c.in_ok-remaining.ensures.legs c.in_ok-remaining.ensures.nodes left counted
+    (λ x. ap (λ (l : List ℕ). slice_index l x) (c.in_ok-depths.ensures.items_if_clones_equal (λ y p. p)) ∙ zeros c.nodes-nodes.result x)
+    (ap length (c.in_ok-levels.ensures.items_if_clones_equal (λ y p. p)) ∙ length-replicate {A = ℕ} c.nodes-nodes.result 0 ∙ c.nodes-nodes.ensures.nodes) refl

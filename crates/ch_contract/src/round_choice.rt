@@ -1,0 +1,136 @@
+//! The choice of a round: the keys of the nodes that are left, and their split into the round and the rest.
+ghost use Rattle.std.specs.Prelude.{◌≡◌, ℕ, ◌^◌, ◌<◌, ◌≤◌, ◌↔◌, ◌++◌, ◌∷◌, [], if◌then◌else◌, All, AllPairs, Contains, IfOk, IsTrue, OnOk, length, pos, slice_index, slice_index_or};
+ghost use Rattle.std.specs.List.{AllZip};
+ghost use Rattle.ch_contract.specs.FirstAround.{IsFirstBy};
+ghost use Rattle.ch_contract.specs.Remaining.{legs_of};
+ghost use Rattle.ch_contract.specs.RoundChoice.{IsKeyIn, IsSplit};
+
+use crate::first_around::FirstJob;
+use crate::measure::{Measure, OrderBy};
+use crate::remaining::Remaining;
+use crate::set_each::set_each;
+use ch_work::{Crew, Gate, ListJob, run_list};
+use std::alloc::{AllocError, Global};
+use std::thread::Threads;
+
+/// The nodes that are left, each list in order of number.
+#[derive(Drop)]
+pub(crate) struct Split {
+    /// Those of the next round.
+    pub(crate) round: Vec<u32>,
+    /// Those that wait for a later one.
+    pub(crate) rest: Vec<u32>,
+}
+
+impl Split {
+    /// Puts a node at the end of the round or of the rest.
+    #[inline]
+    fn push(&mut self, node: u32, is_first: bool) -> Result<(), AllocError>
+        ensures round { OnOk result (self.new.round.items ≡ (if is_first then self.old.round.items ++ node ∷ [] else self.old.round.items)) }
+        ensures rest { OnOk result (self.new.rest.items ≡ (if is_first then self.old.rest.items else self.old.rest.items ++ node ∷ [])) }
+    {
+        if is_first {
+            self.round.push(node)?;
+            return Ok(());
+        }
+        self.rest.push(node)?;
+        Ok(())
+    }
+}
+
+/// The keys of nodes, by which a round is chosen: twice the last count of a node's shortcuts, less the number of legs
+/// that touch it now, plus its depth.
+#[derive(Drop)]
+pub(crate) struct KeyJob<'a> {
+    pub(crate) remaining: &'a Remaining,
+    /// By node: how many shortcuts it had when these were counted last.
+    pub(crate) counts: &'a [u64],
+    /// By node: how deep it lies.
+    pub(crate) depths: &'a [u32],
+    ghost counted: { length counts.now ≡ remaining.now.nodes },
+    ghost deep: { length depths.now ≡ remaining.now.nodes },
+}
+
+impl ListJob for KeyJob<'_> {
+    type Item = u32;
+
+    type Room = ();
+
+    type Out = i64;
+
+    ghost takes = { λ job x. (x < job.remaining.now.nodes) × (slice_index job.counts.now x ≤ 2 ^ 50) };
+
+    ghost meaning = { λ job x k. IsKeyIn job.remaining.now job.counts.now job.depths.now x k };
+
+    ghost clean = { λ job room. Unit {0} };
+
+    fn room(&self, _alloc: Global) -> Result<(), AllocError> {
+        Ok(())
+    }
+
+    fn value(&self, _alloc: Global, _room: &mut (), item: &u32) -> Result<i64, AllocError> {
+        Ok(self.key(*item))
+    }
+}
+
+impl KeyJob<'_> {
+    /// The key of a node.
+    fn key(&self, node: u32) -> i64
+        requires node { node < self.now.remaining.now.nodes }
+        requires count { slice_index self.now.counts.now node ≤ 2 ^ 50 }
+        ensures { IsKeyIn self.now.remaining.now self.now.counts.now self.now.depths.now node result }
+    {
+        let place = node as usize;
+        let measure = Measure {
+            shortcuts: self.counts[place],
+            legs: self.remaining.count_touching(node),
+        };
+        OrderBy::Rounds.key(measure, self.depths[place])
+    }
+
+    /// Writes the keys of the nodes that are left, and splits these nodes into those of the next round, which come before
+    /// all others within two legs, and the rest.
+    pub(crate) fn choose<R: Threads + Sync, G: Gate>(
+        &self,
+        crew: &Crew<'_, R, G>,
+        left: &[u32],
+        keys: &mut [i64],
+    ) -> Result<Split, AllocError>
+        requires nodes { All (λ x. (x < self.now.remaining.now.nodes) × (slice_index self.now.counts.now x ≤ 2 ^ 50)) left.now }
+        requires count { length left.now < 2 ^ 32 }
+        requires ordered { AllPairs ◌<◌ left.now }
+        requires size { length keys.old ≡ self.now.remaining.now.nodes }
+        ensures size { length keys.new ≡ length keys.old }
+        ensures keys { IfOk result (λ s. (x : ℕ) → Contains left.now x →
+            IsKeyIn self.now.remaining.now self.now.counts.now self.now.depths.now x (slice_index_or keys.new x (pos 0))) }
+        ensures split { IfOk result (λ s. IsSplit (IsFirstBy keys.new (legs_of self.now.remaining.now)) left.now s.round.items s.rest.items) }
+    {
+        let values = run_list(crew, left, self)?;
+        set_each(keys, left, values.as_slice());
+        let job = FirstJob {
+            remaining: self.remaining,
+            keys: &*keys,
+        };
+        let firsts = run_list(crew, left, &job)?;
+        job.split(crew.alloc, left, firsts.as_slice())
+    }
+}
+
+impl FirstJob<'_> {
+    /// Splits nodes into those that come before all others within two legs, and the rest. The flags at the same places say
+    /// which do.
+    fn split(&self, alloc: Global, nodes: &[u32], firsts: &[bool]) -> Result<Split, AllocError>
+        requires firsts { AllZip (λ x b. IsTrue b ↔ IsFirstBy self.now.keys.now (legs_of self.now.remaining.now) x) nodes.now firsts.now }
+        requires ordered { AllPairs ◌<◌ nodes.now }
+        ensures { IfOk result (λ s. IsSplit (IsFirstBy self.now.keys.now (legs_of self.now.remaining.now)) nodes.now s.round.items s.rest.items) }
+    {
+        let mut split = Split {
+            round: Vec::new(alloc),
+            rest: Vec::with_capacity(alloc, nodes.len())?,
+        };
+        for (place, node) in nodes.iter().enumerate() {
+            split.push(*node, firsts[place])?;
+        }
+        Ok(split)
+    }
+}

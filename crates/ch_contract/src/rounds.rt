@@ -1,0 +1,309 @@
+//! The hierarchy of a graph by rounds: nodes that lie more than two legs apart are contracted together.
+ghost use Rattle.std.specs.Prelude.{◌≡◌, ℕ, ◌+◌, ◌*◌, ◌<◌, nat_lt, ◌≤◌, ◌^◌, ◌↔◌, All, AllPairs, Contains, IfOk, List, OnOk, length, slice_index, true};
+ghost use Rattle.std.specs.List.{list_any};
+ghost use Rattle.ch_graph.specs.Graph.{IsWithinLimits};
+ghost use Rattle.ch_contract.specs.Legs.{AreLegsWithin, IsHopBound, turned_legs};
+ghost use Rattle.ch_contract.specs.Order.{are_neighbours};
+ghost use Rattle.ch_contract.specs.Rounds.{AreApart, ContractsRound, depth_after_round};
+ghost use Rattle.ch_contract.specs.RoundOrder.{IsHierarchyByRounds};
+ghost use Rattle.ch_contract.specs.RoundCounts.{AreCounted, due_of};
+ghost use Rattle.ch_contract.specs.Remaining.{legs_of};
+ghost use Rattle.ch_contract.specs.TakenOut.{AreSetAside};
+ghost use Rattle.ch_contract.specs.Rooms.{IsIdleRoom};
+
+use crate::order::{deepen, neighbours};
+use crate::priority::all_nodes;
+use crate::remaining::{BothRows, Remaining};
+use crate::room::Room;
+use crate::round_choice::{KeyJob, Split};
+use crate::round_jobs::{CountJob, ShortcutJob};
+use crate::set_each::{rank, set_each};
+use ch_graph::Graph;
+use ch_hierarchy::Hierarchy;
+use ch_work::{Crew, Gate, Plan, Stage, run_list_in};
+use std::alloc::{AllocError, Global};
+use std::thread::Threads;
+
+/// The contraction hierarchy of a graph by rounds, where a witness has at most `hops` legs. Workers share each round.
+/// They change nothing of the hierarchy.
+pub(crate) fn contract_by_rounds<R: Threads + Sync, G: Gate>(
+    crew: &Crew<'_, R, G>,
+    graph: &Graph,
+    hops: u32,
+) -> Result<Hierarchy, AllocError>
+    requires hops { IsHopBound hops }
+    requires limits { IsWithinLimits graph.now }
+    ensures { IfOk result (IsHierarchyByRounds graph.now hops) }
+{
+    let nodes = graph.nodes();
+    let mut construction = ConstructionByRounds::open(crew, graph, hops)?;
+    while !construction.left.is_empty() {
+        crew.gate
+            .watch(Stage::Building, construction.contracted, nodes);
+        construction = construction.contract(crew, hops)?;
+    }
+    construction.finish()
+}
+
+/// A hierarchy of which some rounds are contracted.
+#[derive(Drop)]
+struct ConstructionByRounds {
+    remaining: Remaining,
+    /// Those of the workers.
+    rooms: Vec<Room>,
+    /// The nodes that are left, in order of number.
+    left: Vec<u32>,
+    /// By node: how many shortcuts it had when these were counted last.
+    counts: Vec<u64>,
+    /// By node: how deep it lies.
+    depths: Vec<u32>,
+    /// By node: the key that it had when it was left last.
+    keys: Vec<i64>,
+    /// The level of each contracted node.
+    levels: Vec<u32>,
+    /// How many nodes are contracted.
+    contracted: u32,
+}
+
+impl ConstructionByRounds {
+    ghost use Rattle.ch_hierarchy.specs.Hierarchy.{LevelsAndLegs, IsLevelled};
+    ghost use Rattle.ch_contract.specs.RoundProgress.{IsRoundsOpen, IsRoundStep, IsRoundsEnd};
+    ghost use Rattle.ch_contract.specs.RoundConstruction.{IsSizedByRounds, round_progress_of};
+
+    /// No node is contracted yet.
+    fn open<R: Threads + Sync, G: Gate>(
+        crew: &Crew<'_, R, G>,
+        graph: &Graph,
+        hops: u32,
+    ) -> Result<ConstructionByRounds, AllocError>
+        requires { IsHopBound hops }
+        ensures sizes { IfOk result IsSizedByRounds }
+        ensures nodes { IfOk result (λ c. c.remaining.nodes ≡ graph.now.nodes) }
+        ensures begun { IfOk result (λ c. IsRoundsOpen graph.now hops (round_progress_of c)) }
+        ensures rooms { IfOk result (λ c. All IsIdleRoom c.rooms.items) }
+    {
+        let remaining = Remaining::open(crew.alloc, graph)?;
+        let nodes = remaining.nodes();
+        let left = all_nodes(crew.alloc, nodes)?;
+        let mut rooms = Vec::new(crew.alloc);
+        let mut counts = vec![in crew.alloc; 0u64; nodes as usize]?;
+        crew.gate.watch(Stage::Ranking, 0, crew.plan.pieces(nodes));
+        count(
+            crew,
+            &remaining,
+            left.as_slice(),
+            hops,
+            &mut rooms,
+            &mut counts,
+        )?;
+        let depths = vec![in crew.alloc; 0u32; nodes as usize]?;
+        let keys = vec![in crew.alloc; 0i64; nodes as usize]?;
+        let levels = vec![in crew.alloc; 0u32; nodes as usize]?;
+        Ok(ConstructionByRounds {
+            remaining,
+            rooms,
+            left,
+            counts,
+            depths,
+            keys,
+            levels,
+            contracted: 0,
+        })
+    }
+
+    /// Contracts the nodes of the next round, and keeps their levels and their legs.
+    fn contract<R: Threads + Sync, G: Gate>(
+        mut self,
+        crew: &Crew<'_, R, G>,
+        hops: u32,
+    ) -> Result<ConstructionByRounds, AllocError>
+        requires hops { IsHopBound hops }
+        requires sizes { IsSizedByRounds self }
+        requires limits { AreLegsWithin self.remaining.nodes (legs_of self.remaining) }
+        requires near { (v x : ℕ) → are_neighbours (legs_of self.remaining) v x ≡ true → Contains self.left.items x }
+        requires counts { All (λ x. slice_index self.counts.items x ≤ 2 ^ 50) self.left.items }
+        requires depths { (x : ℕ) → slice_index self.depths.items x ≤ self.contracted }
+        requires rooms { All IsIdleRoom self.rooms.items }
+        ensures sizes { IfOk result IsSizedByRounds }
+        ensures nodes { IfOk result (λ c. c.remaining.nodes ≡ self.remaining.nodes) }
+        ensures step { IfOk result (λ c. (nodes : List ℕ) × IsRoundStep self.remaining.nodes hops (round_progress_of self) nodes (round_progress_of c)) }
+        ensures rooms { IfOk result (λ c. All IsIdleRoom c.rooms.items) }
+    {
+        let job = KeyJob {
+            remaining: &self.remaining,
+            counts: self.counts.as_slice(),
+            depths: self.depths.as_slice(),
+        };
+        let crew_of_left = crew_for(crew, self.left.len());
+        let Split { round, rest } = job.choose(
+            &crew_of_left,
+            self.left.as_slice(),
+            &mut self.keys,
+        )?;
+        let nodes = round.as_slice();
+        let near = deepen_around(crew.alloc, &self.remaining, nodes, &mut self.depths)?;
+        let remaining = self.remaining;
+        self.remaining = contract_round(crew, remaining, nodes, hops, &mut self.rooms)?;
+        rank(&mut self.levels, nodes, self.contracted);
+        let before = self.contracted;
+        self.contracted += nodes.len() as u32;
+        let due = due(
+            self.remaining.nodes(),
+            before,
+            self.contracted,
+            near.as_slice(),
+            rest.as_slice(),
+        );
+        count(
+            crew,
+            &self.remaining,
+            due,
+            hops,
+            &mut self.rooms,
+            &mut self.counts,
+        )?;
+        self.left = rest;
+        Ok(self)
+    }
+
+    /// The hierarchy, once every node is contracted. What it doesn't need is freed first.
+    fn finish(self) -> Result<Hierarchy, AllocError>
+        requires sizes { IsSizedByRounds self }
+        requires none { length self.left.items ≡ 0 }
+        requires levelled { (H : LevelsAndLegs) → IsRoundsEnd self.remaining.nodes (round_progress_of self) H → IsLevelled H }
+        ensures { IfOk result (IsRoundsEnd self.remaining.nodes (round_progress_of self)) }
+    {
+        let ConstructionByRounds {
+            remaining,
+            rooms,
+            left,
+            counts,
+            depths,
+            keys,
+            levels,
+            contracted: _,
+        } = self;
+        drop(rooms);
+        drop(left);
+        drop(counts);
+        drop(depths);
+        drop(keys);
+        let BothRows { ups, downs } = remaining.into_rows()?;
+        Hierarchy::from_rows(*levels.allocator(), levels, ups, downs)
+    }
+}
+
+/// The crew for a job over so many nodes: the caller alone where these are few, and else all workers.
+fn crew_for<'a, R, G>(crew: &Crew<'a, R, G>, nodes: usize) -> Crew<'a, R, G> {
+    let plan = if nodes < crew.plan.wide() as usize {
+        Plan::new(1, crew.plan.piece(), crew.plan.wide())
+    } else {
+        crew.plan
+    };
+    Crew {
+        rt: crew.rt,
+        alloc: crew.alloc,
+        plan,
+        gate: crew.gate,
+    }
+}
+
+/// Lays the neighbours of the nodes of a round at least one deeper than these. The answer is these neighbours.
+fn deepen_around(
+    alloc: Global,
+    remaining: &Remaining,
+    nodes: &[u32],
+    depths: &mut [u32],
+) -> Result<Vec<u32>, AllocError>
+    requires nodes { All (λ v. v < remaining.now.nodes) nodes.now }
+    requires apart { AreApart (legs_of remaining.now) nodes.now }
+    requires size { length depths.old ≡ remaining.now.nodes }
+    requires depths { (m : ℕ) × ((x : ℕ) → slice_index depths.old x ≤ m) × (m + length nodes.now < 2 ^ 32) }
+    ensures size { OnOk result (length depths.new ≡ length depths.old) }
+    ensures depths { OnOk result ((x : ℕ) → slice_index depths.new x ≡ depth_after_round (legs_of remaining.now) nodes.now (λ y. slice_index depths.old y) x) }
+    ensures near { IfOk result (λ near. (x : ℕ) → Contains near.items x ↔ (list_any (λ v. are_neighbours (legs_of remaining.now) v x) nodes.now ≡ true)) }
+    ensures few { IfOk result (λ near. length near.items ≤ remaining.now.nodes) }
+{
+    // The proof learns from this call that the legs keep the limits.
+    let _ = remaining.nodes();
+    let mut near = Vec::new(alloc);
+    for node in nodes {
+        let mut around = neighbours(alloc, remaining.out_legs(*node), remaining.in_legs(*node))?;
+        deepen(depths, around.as_slice(), *node);
+        near.append(&mut around)?;
+    }
+    Ok(near)
+}
+
+/// Contracts the nodes of a round: all are taken out, workers look for their shortcuts, and these are put in.
+fn contract_round<R: Threads + Sync, G: Gate>(
+    crew: &Crew<'_, R, G>,
+    remaining: Remaining,
+    nodes: &[u32],
+    hops: u32,
+    rooms: &mut Vec<Room>,
+) -> Result<Remaining, AllocError>
+    requires hops { IsHopBound hops }
+    requires nodes { All (λ v. v < remaining.nodes) nodes.now }
+    requires count { length nodes.now < 2 ^ 32 }
+    requires limits { AreLegsWithin remaining.nodes (legs_of remaining) }
+    requires apart { AreApart (legs_of remaining) nodes.now }
+    requires rooms { All IsIdleRoom rooms.old.items }
+    ensures nodes { IfOk result (λ r. r.nodes ≡ remaining.nodes) }
+    ensures legs { IfOk result (λ r. ContractsRound remaining.nodes hops (legs_of remaining) nodes.now (legs_of r)) }
+    ensures up { IfOk result (λ r. AreSetAside (legs_of remaining) nodes.now remaining.ups r.ups) }
+    ensures down { IfOk result (λ r. AreSetAside (turned_legs (legs_of remaining)) nodes.now remaining.downs r.downs) }
+    ensures rooms { All IsIdleRoom rooms.new.items }
+{
+    let away = remaining.take_all_out(nodes);
+    let job = ShortcutJob {
+        remaining: &away,
+        hops,
+    };
+    let lists = run_list_in(&crew_for(crew, nodes.len()), nodes, rooms, &job)?;
+    away.put_all(nodes, lists.as_slice())
+}
+
+/// The nodes whose shortcuts are counted after a round, of those near it and those that are left: none while fewer than
+/// seven tenths of the nodes are contracted, then once all that are left, and from then on those near it.
+fn due<'a>(nodes: u32, before: u32, after: u32, near: &'a [u32], rest: &'a [u32]) -> &'a [u32]
+    ensures { result.now ≡ due_of nodes before after near.now rest.now }
+{
+    if is_early(after, nodes) {
+        return &rest[0..0];
+    }
+    if is_early(before, nodes) {
+        return rest;
+    }
+    near
+}
+
+/// Whether fewer than seven tenths of the nodes are contracted.
+fn is_early(contracted: u32, nodes: u32) -> bool
+    ensures { result ≡ nat_lt (10 * contracted) (7 * nodes) }
+{
+    10 * u64::from(contracted) < 7 * u64::from(nodes)
+}
+
+/// Counts the shortcuts of these nodes with the legs that are left.
+fn count<R: Threads + Sync, G: Gate>(
+    crew: &Crew<'_, R, G>,
+    remaining: &Remaining,
+    nodes: &[u32],
+    hops: u32,
+    rooms: &mut Vec<Room>,
+    counts: &mut [u64],
+) -> Result<(), AllocError>
+    requires hops { IsHopBound hops }
+    requires nodes { All (λ x. x < remaining.now.nodes) nodes.now }
+    requires count { length nodes.now < 2 ^ 32 }
+    requires size { length counts.old ≡ remaining.now.nodes }
+    requires rooms { All IsIdleRoom rooms.old.items }
+    ensures counts { OnOk result (AreCounted remaining.now.nodes hops (legs_of remaining.now) nodes.now counts.old counts.new) }
+    ensures rooms { All IsIdleRoom rooms.new.items }
+{
+    let job = CountJob { remaining, hops };
+    let values = run_list_in(&crew_for(crew, nodes.len()), nodes, rooms, &job)?;
+    set_each(counts, nodes, values.as_slice());
+    Ok(())
+}
