@@ -7,7 +7,7 @@ use Rattle.std.proofs.lemmas.List.{take-append-drop, take_all, take_min, drop-dr
 use Rattle.std.proofs.lemmas.Slice.Zip.{length-zip, get_or-zip}
 use Rattle.std.proofs.lemmas.Grind.{flat_map-append}
 use Rattle.ch_work.specs.Pieces.{pieces_of, MeanEach, AreValues}
-use Rattle.ch_work.proofs.PieceLists.{covers}
+use Rattle.ch_work.proofs.PieceLists.{covers, piece_split}
 use Rattle.ch_text.proofs.Growing.{grown}
 
 -- the range of all items
@@ -31,12 +31,6 @@ row_of_range_grown f xs ys from i d e before after le within same so_far more =
     let inside : i < length ys = omega arith in
     let long : i < length (zip xs ys) = let l = length-zip xs ys in omega arith in
     range_grown f (zip xs ys) from i (d, e) before after le long so_far (more ∙ ap (λ p. before ++ f p) (sym (get_or-zip xs ys i (d, e) within inside)))
-
--- the items of one piece, and those after it
-piece_split : {A : Type 0} (items : List A) (a p : ℕ) → slice_range items a (min (a + p) (length items)) ++ drop (a + p) items ≡ drop a items
-piece_split items a p =
-    let count : min (a + p) (length items) - a ≡ min p (length (drop a items)) = omega (arith, length-drop a items) in
-    rw (count, take_min p (drop a items), sym (drop-drop p a items)) (take-append-drop p (drop a items))
 
 module _ {X : Type 0} (f : X → List ℕ) (items : List X) (p : ℕ) where
   -- this is the text of the range
