@@ -7,9 +7,9 @@
   through a pipe, each made of the answer to the one before.
 - Each fault of each line, and of the end; it ends the run though more could come. Numbers, lines and tables at their limits.
 - The roads of Liechtenstein: 100,000 queries, and tables among queries, with routes, within a limit, by a saved hierarchy and by any number
-  of workers, have the answers of `dist` and `table`.
+  of workers, have the answers of `dist` and `table`. So have 10,000 near rows those of `near`.
 - STREAMS streams (1,000) on random graphs, drawn from the seed and cut at random; half of them are mutated, and some of the others are also
-  compared with runs of `dist` and `table` request by request.
+  compared with runs of `dist`, `table` and `near` request by request.
 - Where the graph or the saved hierarchy is refused the requests are left to the next reader.
 - A run holds no more memory for 300,000 requests than for 10,000.
 - A reader that goes away ends each kind of run silently.
@@ -26,17 +26,21 @@ from pathlib import Path
 
 from helpers.asking import Conversation, apart, run_before_leaving, run_by_parts
 from helpers.running import ROOT, Answer, Count, agrees, build, run, side_by_side
-from helpers.streams import FOR_QUERIES, FOR_TABLES, Drawn, drawn_requests, stream_of, words_of
+from helpers.streams import FOR_ALL, FOR_QUERIES, FOR_TABLES, Drawn, drawn_requests, stream_of, words_of
 from helpers.writing import write_graph, write_list, write_queries
 from oracles.reading import graph_of
-from oracles.requesting import Answers, Query, Table, told
+from oracles.requesting import MOST_LINE, Answers, Near, Places, Query, Route, Table, told
 
 GRAPH = ROOT / "examples" / "liechtenstein.gr"
 
 # Three nodes on a line; and a line of many nodes, whose ends are nearly as far from each other as may be.
 LINE = 3, [(1, 2, 4), (2, 3, 5)]
+LINE_HIERARCHY = [1, 2, 3], [[1, 2, 4, 1, 0], [2, 3, 5, 1, 0]]
 WIDE = 1024, [(node, node + 1, 2**50) for node in range(1, 1024)]
 WIDEST = 1023 * 2**50
+
+# The options of `near`.
+FOR_NEAR = "--within", "--count", *FOR_ALL
 
 FILES = {
     "line.ch": "p ch 3 2\no 1\no 2\no 3\nl 1 2 4 1 0\nl 2 3 5 1 0\n",
@@ -47,8 +51,9 @@ FILES = {
 
 # Requests on the line: queries and tables, lines that are skipped, blanks, and no line feed after the last.
 MIXED = (b"q 1 3\nc q 1 1\n\nt 3 2\ns 1\ns 1\n c\ns 3\r\ns 3\n\ts  002\nq 3 1 \n \t\r\nt 0 2\ns 1\ns 2\nt 2 0\ns 1\ns 3\ncomment\nt 0 0\n"
-         b"q 2 3")
-MIXED_ANSWERS = b"d 1 3 9\nt 1 9 4\nt 1 9 4\nt 3 0 -\nd 3 1 -\nt 1\nt 3\nd 2 3 5\n"
+         b"r 1 2\np 2 1\ns 3\ns 2\nn 1 4\nn 1\nt 1 1 8\ns 1\ns 3\nq 2 3")
+MIXED_ANSWERS = (b"d 1 3 9\nt 1 9 4\nt 1 9 4\nt 3 0 -\nd 3 1 -\nt 1\nt 3\nd 1 2 4\nr 1\na 1 2 4\nn 1 1 2 4\nn 1 1 2 4\nt 1 -\n"
+                 b"d 2 3 5\n")
 
 
 def write_files(folder):
@@ -58,6 +63,10 @@ def write_files(folder):
     for name, text in FILES.items():
         (folder / name).write_text(text)
     (folder / "roads.ch").write_bytes(run(["save", "--deep", GRAPH], folder).out)
+
+
+def on_the_line():
+    return Answers(*LINE, hierarchy=LINE_HIERARCHY, tells_routes=False)
 
 
 # Answers that come at once.
@@ -80,7 +89,7 @@ def is_answered_in_turn(words, folder, answers, parts):
 
 def check_cuts(tally, folder):
     """Requests that are cut in two at each byte, and that come one byte a read."""
-    answers = Answers(*LINE)
+    answers = on_the_line()
     tally.expect(answers.owed(MIXED) == (0, MIXED_ANSWERS, b""), "the independent reading of the requests that are cut")
     cuts = [[MIXED[:place], MIXED[place:]] for place in range(1, len(MIXED))]
     for words in ["ask", "line.gr"], ["ask", "--saved", "line.ch", "line.gr"]:
@@ -123,7 +132,7 @@ def check_questions(tally, folder):
 
 # Requests on the line, what is written for them, and the line of the fault.
 FAULTS = [
-    (b"p aux sp p2p 1\nq 1 3\n", b"", b"request line 1: unknown line"),
+    (b"p aux sp p2p 1\nq 1 3\n", b"", b"request line 1: bad line"),
     (b"q 1 3\nqq 1 3\n", b"d 1 3 9\n", b"request line 2: unknown line"),
     (b"\xef\xbb\xbfq 1 3\n", b"", b"request line 1: unknown line"),
     (b"q\x0b1 3\n", b"", b"request line 1: unknown line"),
@@ -139,16 +148,40 @@ FAULTS = [
     (b"t 1 1\ns 1\nq 1 3\n", b"", b"request line 3: too few lines"),
     (b"t 1 1\ns 1\nq 9\n", b"", b"request line 3: too few lines"),
     (b"t 1\n", b"", b"request line 1: bad line"),
-    (b"t 1 1 1\n", b"", b"request line 1: bad line"),
+    (b"t 1 1 1 1\n", b"", b"request line 1: bad line"),
     (b"t 65537 x\n", b"", b"request line 1: bad line"),
     (b"t 1 1\ns 1\nt 1 1\n", b"", b"request line 3: too few lines"),
     (b"t 1 1\ns 1\nt 4096 1025\n", b"", b"request line 3: too few lines"),
     (b"q 1 3\nt 65537 0\n", b"d 1 3 9\n", b"request line 2: size too large"),
     (b"t 0 65537\n", b"", b"request line 1: size too large"),
     (b"t 65537 65537\n", b"", b"request line 1: size too large"),
-    (b"q 1 3\nt 4096 1025\ns 1\n", b"d 1 3 9\n", b"too many cells"),
-    (b"q 1 3\nq 3 1\nt 65 65536\n", b"d 1 3 9\nd 3 1 -\n", b"too many cells"),
-    (b"t 65536 65536\n", b"", b"too many cells"),
+    (b"q 1 3\nt 4096 1025\ns 1\n", b"d 1 3 9\n", b"request line 2: too many cells"),
+    (b"q 1 3\nq 3 1\nt 65 65536\n", b"d 1 3 9\nd 3 1 -\n", b"request line 3: too many cells"),
+    (b"t 65536 65536\n", b"", b"request line 1: too many cells"),
+    (b"c\nt 4096 1025 1\n", b"", b"request line 2: too many cells"),
+    (b"t 4096 1025 %d\n" % (2**60 + 1), b"", b"request line 1: weight too large"),
+    (b"t 1 1 %d\n" % (2**60 + 1), b"", b"request line 1: weight too large"),
+    (b"t 1 1 -1\n", b"", b"request line 1: bad line"),
+    (b"r 1 3\nr 1\n", b"d 1 3 9\nr 2\na 1 2 4\na 2 3 5\n", b"request line 2: bad line"),
+    (b"r 1 3 9\n", b"", b"request line 1: bad line"),
+    (b"r 1 4\n", b"", b"request line 1: node out of range"),
+    (b"p 1 1\ns 1\nr 1 3\np 1 1\nr 1 3\n", b"d 1 3 9\nr 2\na 1 2 4\na 2 3 5\n", b"request line 5: too few lines"),
+    (b"p 1\n", b"", b"request line 1: bad line"),
+    (b"p 1 2 3\n", b"", b"request line 1: bad line"),
+    (b"p 65537 1\n", b"", b"request line 1: size too large"),
+    (b"p 1 65537\n", b"", b"request line 1: size too large"),
+    (b"p 1 0\ns 4\n", b"", b"request line 2: node out of range"),
+    (b"p 1 0\ns 1\ns 1\n", b"", b"request line 3: too many lines"),
+    (b"p 2 0\ns 1\nn 1\n", b"", b"request line 3: too few lines"),
+    (b"p 1 1\ns 1\nn 1\nn 4\n", b"n 1 1 1 0\n", b"request line 4: node out of range"),
+    (b"n\n", b"", b"request line 1: bad line"),
+    (b"n 1 2 3\n", b"", b"request line 1: bad line"),
+    (b"n 0\n", b"", b"request line 1: node out of range"),
+    (b"n 4 %d\n" % (2**60 + 1), b"", b"request line 1: node out of range"),
+    (b"n 1 %d\n" % (2**60 + 1), b"", b"request line 1: weight too large"),
+    ((MOST_LINE + 1) * b"c", b"", b"request line 1: bad line"),
+    (b"q 1 3\n" + (MOST_LINE + 1) * b" " + b"\n", b"d 1 3 9\n", b"request line 2: bad line"),
+    (b"q 1 3\nq 1 3" + (MOST_LINE - 4) * b" " + b"\n", b"d 1 3 9\n", b"request line 2: bad line"),
     (b"q 1 3\ns 1\n", b"d 1 3 9\n", b"request line 2: too many lines"),
     (b"t 1 0\ns 2\ns 9\n", b"t 2\n", b"request line 3: too many lines"),
     (b"t 0 0\ns 1\n", b"", b"request line 2: too many lines"),
@@ -168,7 +201,8 @@ FAULTS_OF_THE_END = [
     (b"q 1 3\nq 1", b"d 1 3 9\n", b"request line 2: bad line"),
     (b"q 1 3\nq 1 4", b"d 1 3 9\n", b"request line 2: node out of range"),
     (b"t 1 2\ns 1\ns", b"", b"request line 3: bad line"),
-    (b"q 1 3\nt 4096 1025", b"d 1 3 9\n", b"too many cells"),
+    (b"q 1 3\nt 4096 1025", b"d 1 3 9\n", b"request line 2: too many cells"),
+    (b"n 1\np 1 0", b"n 1 0\n", b"request line 3: too few lines"),
     (b"q 1 3\ns", b"d 1 3 9\n", b"request line 2: bad line"),
 ]
 
@@ -186,7 +220,14 @@ SOUND = [
     (b"t 65536 0\n" + 65_536 * b"s 2\n", 65_536 * b"t 2\n"),
     (b"t 65536 64\n" + 65_600 * b"s 3\n" + b"q 1 3\n", 65_536 * (b"t 3" + 64 * b" 0" + b"\n") + b"d 1 3 9\n"),
     (b"t 64 65536\n" + 64 * b"s 1\n" + 65_536 * b"s 3\n", 64 * (b"t 1" + 65_536 * b" 9" + b"\n")),
-    (b"q " + 200_000 * b"0" + b"1 " + 200_000 * b"0" + b"3\nq 3 1\n", b"d 1 3 9\nd 3 1 -\n"),
+    (b"q " + 32_765 * b"0" + b"1 " + 32_766 * b"0" + b"3\nq 3 1\n", b"d 1 3 9\nd 3 1 -\n"),
+    (MOST_LINE * b"c" + b"\nq 1 3\n" + MOST_LINE * b" ", b"d 1 3 9\n"),
+    (b"r 1 3\nq 1 3\nr 3 1\nr 2 2\n", b"d 1 3 9\nr 2\na 1 2 4\na 2 3 5\nd 1 3 9\nd 3 1 -\nd 2 2 0\nr 0\n"),
+    (b"n 2\np 3 2\ns 3\ns 1\ns 3\nn 1\nn 1 9\nn 1 8\nn 3 0\np 0 0\nn 1\n",
+     b"n 2 0\nn 1 2 1 0 3 9\nn 1 2 1 0 3 9\nn 1 1 1 0\nn 3 2 3 0 3 0\nn 1 0\n"),
+    (b"p 2 0\ns 3\ns 2\nn 1\nn 1\np 1 65536\ns 1\nn 1\nn 2\n", b"n 1 2 2 4 3 9\nn 1 2 2 4 3 9\nn 1 1 1 0\nn 2 0\n"),
+    (b"p 1 0\ns 3\nn 1 8\nn 1\nt 1 1 8\ns 1\ns 3\nt 1 1\ns 1\ns 3\n", b"n 1 0\nn 1 1 3 9\nt 1 -\nt 1 9\n"),
+    (b"p 1 0\ns 3\n" + 5000 * b"n 1\n", 5000 * b"n 1 1 3 9\n"),
     (b"t " + 1000 * b"0" + b"1 1\ns 1\ns " + 100_000 * b"0" + b"3", b"t 1 9\n"),
     (b"c" + 1_000_000 * b"x" + b"\n" + 100_000 * b" " + b"\nq 1 3\n", b"d 1 3 9\n"),
 ]
@@ -197,7 +238,7 @@ HUGE = [4, 2**16 + 1, 2**24 + 1, 2**25, 2**25 + 1, 2**32 - 1, 2**32 + 1, 2**60 +
 
 def check_stream(tally, folder, requests, wanted):
     """One stream on the line, by a run and by the independent reading."""
-    read = Answers(*LINE).owed(requests)
+    read = on_the_line().owed(requests)
     tally.expect(read == wanted, f"the independent reading of {requests[:60]}: {read}")
     answer = run(["ask", "line.gr"], folder, requests=requests)
     tally.expect(answer == wanted, f"{requests[:60]}: {answer.status}, {answer.out[:200]}, {answer.err}")
@@ -240,7 +281,46 @@ def check_widest(tally, folder):
         tally.expect(answer == wanted == Answers(*WIDE, within).owed(requests), f"within {within}: {answer}")
 
 
-# What `dist` and `table` answer.
+# What `dist`, `table` and `near` answer.
+
+
+def text_of_request(folder, graph, options, request, places):
+    """What a run over one request writes, where these places were given last before it. A route that the run's options don't ask for goes by
+    the order of depth, or by the saved hierarchy."""
+    match request:
+        case Places():
+            return b""
+        case Route(start, end):
+            routed = {} if "--routes" in options else {"--routes": None, "--deep": None}
+            return text_of_run(folder, graph, options | routed, [Query(start, end)])
+        case Near(source, within):
+            return text_of_near(folder, graph, options | own_limit(within), [source], places)
+        case Table(sources, targets, within):
+            return text_of_run(folder, graph, options | own_limit(within), [Table(sources, targets)])
+    return text_of_run(folder, graph, options, [request])
+
+
+def own_limit(within):
+    return {} if within is None else {"--within": within}
+
+
+def text_of_near(folder, graph, options, sources, places):
+    """What `near` writes for these sources."""
+    write_list(folder / "from.ss", sources)
+    write_list(folder / "to.ss", places.nodes)
+    count = {"--count": places.count} if places.count else {}
+    answer = run(["near", *words_of(options | count, FOR_NEAR), graph, "from.ss", "to.ss"], folder)
+    assert (answer.status, answer.err) == (0, b""), answer
+    return answer.out
+
+
+def texts_singly(folder, graph, options, requests):
+    """What runs over one request each write, in order."""
+    places, texts = Places([], 0), []
+    for request in requests:
+        texts.append(text_of_request(folder, graph, options, request, places))
+        places = request if isinstance(request, Places) else places
+    return b"".join(texts)
 
 
 def text_of_run(folder, graph, options, requests):
@@ -304,6 +384,25 @@ def check_roads(tally, folder):
             tally.expect(answer == Answer(0, wanted, b""), told_of)
 
 
+# How many sources ask for their near rows on the roads, and among how many places.
+SOURCES, PLACES = 10_000, 300
+
+
+def check_near_rows(tally, folder):
+    """Near rows on real roads that come together, as runs of `near` make them, by any number of workers."""
+    nodes, _ = graph_of(GRAPH)
+    draw = random.Random("near rows")
+    sources = [draw.randint(1, nodes) for _ in range(SOURCES)]
+    for count, within in (3, None), (0, 60_000), (5, 120_000):
+        places = Places([draw.randint(1, nodes) for _ in range(PLACES)], count)
+        wanted = text_of_near(folder, GRAPH, {"--saved": "roads.ch"} | own_limit(within), sources, places)
+        stream = stream_of([places, *(Near(source, within) for source in sources)])
+        for shared in SHARED:
+            answer = run(["ask", "--saved", "roads.ch", *words_of(shared), GRAPH], folder, requests=stream)
+            told_of = f"{count} places within {within}, {shared}: {answer.status}, {len(answer.out)} bytes, {answer.err}"
+            tally.expect(answer == Answer(0, wanted, b""), told_of)
+
+
 # Random streams.
 
 
@@ -320,13 +419,13 @@ def check_drawn(name, is_singly):
             return kind, f"{drawn.options} on {drawn.parts}\n  wanted: {wanted}\n  came:   {answer}"
         if is_singly and not drawn.is_mutated:
             given, _ = told(drawn.stream, drawn.case.nodes)
-            if b"".join(text_of_run(folder, "graph.gr", drawn.options, [request]) for request in given) != answer.out:
+            if texts_singly(folder, "graph.gr", drawn.options, given) != answer.out:
                 return kind, f"{drawn.options} on {drawn.parts}: other answers by single runs"
     return kind, None
 
 
 # The faults of streams, and that none is found.
-HOW_MANY_FAULTS = 7 + 1
+HOW_MANY_FAULTS = 8 + 1
 
 
 def check_streams(tally, how_many, seed):
@@ -385,9 +484,9 @@ MORE_BYTES = 2**20
 
 
 def held_for(folder, how_many):
-    """The most bytes that a run has held when it had answered so many requests, of which one of a thousand is a table; None where an answer is
-    not what it must be."""
-    requests = (TOGETHER - 1) * REQUEST + b"t 1 2\ns 1\ns 1023\ns 1024\n"
+    """The most bytes that a run has held when it had answered so many requests, of which one of a thousand is a table, one gives places and
+    two ask for near rows; None where an answer is not what it must be."""
+    requests = (TOGETHER - 4) * REQUEST + b"t 1 2\ns 1\ns 1023\ns 1024\np 2 1\ns 1\ns 1024\nn 1\nn 2 0\n"
     text = Answers(*WIDE).owed_so_far(requests)
     with Conversation(["ask", "wide.gr"], folder) as talk:
         for _ in range(how_many // TOGETHER):
@@ -435,7 +534,7 @@ def main():
     with tempfile.TemporaryDirectory() as place:
         folder = Path(place)
         write_files(folder)
-        for check in (check_cuts, check_questions, check_lines, check_going_on, check_widest, check_many, check_roads, check_unread,
+        for check in (check_cuts, check_questions, check_lines, check_going_on, check_widest, check_many, check_roads, check_near_rows, check_unread,
                       check_memory, check_leaving):
             check(tally, folder)
     check_streams(tally, how_many, seed)

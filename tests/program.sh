@@ -390,10 +390,11 @@ printf 'q 1 3\nt 1 2\ns 2\ns 3\ns 1\n' >requests.txt
 expect "requests" 0 $'d 1 3 9\nt 2 5 -' "" ask --saved "$ch" "$g" <requests.txt
 expect "requests, by a hierarchy that is built" 0 $'d 1 3 9\nt 2 5 -' "" ask "$g" <requests.txt
 expect "requests, with routes and a limit" 0 $'d 1 3 9\nr 2\na 1 2 4\na 2 3 5\nt 2 - -' "" ask --routes --deep --within 4 "$g" <requests.txt
+expect "requests with options of their own" 0 $'d 1 3 9\nr 2\na 1 2 4\na 2 3 5\nd 1 3 9\nt 1 -\nn 1 1 2 4\nn 1 2 2 4 3 9' "" ask "$g" < <(printf 'r 1 3\nq 1 3\nt 1 1 8\ns 1\ns 3\np 2 0\ns 3\ns 2\nn 1 8\nn 1\n')
 expect "no request" 0 "" "" ask "$g" </dev/null
 expect "a faulty request" 1 "d 1 3 9" "chtab: request line 3: node out of range" ask "$g" < <(printf 'q 1 3\n\nq 1 4\nq 1 3\n')
 expect "a table that is cut short" 1 "" "chtab: request line 4: too few lines" ask "$g" < <(printf 't 1 2\ns 2\ns 3\n')
-expect "requests for too many cells" 1 "d 1 3 9" "chtab: too many cells" ask "$g" < <(printf 'q 1 3\nt 4096 1025\n')
+expect "requests for too many cells" 1 "d 1 3 9" "chtab: request line 2: too many cells" ask "$g" < <(printf 'q 1 3\nt 4096 1025\n')
 expect "a folder as requests" 3 "" "chtab: cannot read requests" ask "$g" <"$root"
 expect "a missing graph, and requests" 3 "" "chtab: missing.gr: there is no such file
 chtab: cannot read graph" ask missing.gr <requests.txt

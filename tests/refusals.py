@@ -35,7 +35,8 @@ from helpers.running import PROGRAM, ROOT, SECONDS, Answer, Count, agrees, build
 
 # Requests on a line and on a star, each with its answer.
 LINE_ASKED = [(b"q 1 3\n", b"d 1 3 9\n"), (b"q 3 1\n", b"d 3 1 -\n"), (b"c\nt 2 2\ns 1\ns 3\n\ns 3\ns 2\n", b"t 1 9 4\nt 3 0 -\n"),
-              (b"t 0 1\ns 1\n", b""), (b"q 2 3\n", b"d 2 3 5\n"), (b"t 1 1\ns 2\ns 1\n", b"t 2 -\n")]
+              (b"t 0 1\ns 1\n", b""), (b"q 2 3\n", b"d 2 3 5\n"), (b"t 1 1\ns 2\ns 1\n", b"t 2 -\n"), (b"p 2 1\ns 3\ns 2\n", b""),
+              (b"n 1\n", b"n 1 1 2 4\n"), (b"r 1 2\n", b"d 1 2 4\nr 1\na 1 2 4\n"), (b"n 3 0\n", b"n 3 1 3 0\n"), (b"t 1 1 8\ns 1\ns 3\n", b"t 1 -\n")]
 STAR_ASKED = [(b"q 3 4\n", b"d 3 4 2\nr 2\na 3 1 1\na 1 4 1\n"), (b"t 1 2\ns 3\ns 2\ns 1\n", b"t 3 2 1\n"),
               (b"q 4 2\n", b"d 4 2 2\nr 2\na 4 1 1\na 1 2 1\n")]
 

@@ -7,7 +7,7 @@ from helpers.mutating import MUTATIONS, with_lines
 from helpers.writing import write_graph
 from oracles.contracting import contract_in_order, text_of
 from oracles.reading import read
-from oracles.requesting import Answers, Query, Table
+from oracles.requesting import Answers, Near, Places, Query, Route, Table
 from oracles.rules import hierarchy_text
 
 # The options of a run that `dist` knows, and those that `table` does. Each is a word and its value, or None.
@@ -23,13 +23,27 @@ def words_of(options, known=(*FOR_QUERIES, *FOR_TABLES)):
 
 def stream_of(requests):
     """The bytes that ask for these."""
-    lines = []
-    for request in requests:
-        if isinstance(request, Query):
-            lines.append("q %d %d" % request)
-        else:
-            lines += [f"t {len(request.sources)} {len(request.targets)}", *(f"s {node}" for node in request.sources + request.targets)]
+    lines = [line for request in requests for line in lines_of_request(request)]
     return "".join(f"{line}\n" for line in lines).encode()
+
+
+def lines_of_request(request):
+    match request:
+        case Query(start, end):
+            return [f"q {start} {end}"]
+        case Route(start, end):
+            return [f"r {start} {end}"]
+        case Near(source, within):
+            return [" ".join(["n", str(source), *limit_words(within)])]
+        case Table(sources, targets, within):
+            head = " ".join(["t", str(len(sources)), str(len(targets)), *limit_words(within)])
+            return [head, *(f"s {node}" for node in sources + targets)]
+        case Places(nodes, count):
+            return [f"p {len(nodes)} {count}", *(f"s {node}" for node in nodes)]
+
+
+def limit_words(within):
+    return [] if within is None else [str(within)]
 
 
 def drawn_requests(draw, nodes, how_many, sizes):
@@ -38,6 +52,25 @@ def drawn_requests(draw, nodes, how_many, sizes):
         return [draw.randint(1, nodes) for _ in range(count)]
 
     return [Table(drawn(draw.choice(sizes)), drawn(draw.choice(sizes))) if draw.random() < 0.2 else Query(*drawn(2)) for _ in range(how_many)]
+
+
+def drawn_of_all_kinds(draw, nodes, how_many, sizes, limits):
+    """So many requests of all kinds, with lists of these sizes; half of those that may have a limit of their own have one of these."""
+    def drawn(count):
+        return [draw.randint(1, nodes) for _ in range(count)]
+
+    def limit():
+        return draw.choice([None, draw.choice(limits)])
+
+    def drawn_request():
+        kind = draw.choice("qqrrtpnnnn")
+        if kind == "t":
+            return Table(drawn(draw.choice(sizes)), drawn(draw.choice(sizes)), limit())
+        if kind == "p":
+            return Places(drawn(draw.choice(sizes)), draw.choice([0, 1, 2, 3, 65_536]))
+        return Near(*drawn(1), limit()) if kind == "n" else (Query if kind == "q" else Route)(*drawn(2))
+
+    return [drawn_request() for _ in range(how_many)]
 
 
 def with_skipped(draw, stream):
@@ -50,12 +83,26 @@ def with_skipped(draw, stream):
 
 def resize_table(draw, lines):
     """Gives a table other sizes, small ones and those at the limits."""
-    tables = [place for place, line in enumerate(lines) if line.startswith(b"t ")]
+    tables = [place for place, line in enumerate(lines) if line.startswith((b"t ", b"p "))]
     if tables:
-        lines[draw.choice(tables)] = b"t %d %d" % tuple(draw.choice([0, 2, 65, 65_536, 65_537]) for _ in range(2))
+        place = draw.choice(tables)
+        lines[place] = lines[place][:2] + b"%d %d" % tuple(draw.choice([0, 2, 65, 65_536, 65_537]) for _ in range(2))
 
 
-SIZE_MUTATIONS = 6 * [with_lines(resize_table)]
+def limit_request(draw, lines):
+    """Gives a request a limit, a small one or one at the greatest."""
+    limited = [place for place, line in enumerate(lines) if line.startswith((b"t ", b"n ", b"q ", b"p "))]
+    if limited:
+        lines[draw.choice(limited)] += b" %d" % draw.choice([0, 5, 2**60, 2**60 + 1, 2**64, 10**30])
+
+
+def lengthen_line(draw, lines):
+    """Makes a line as long as one may be, or a byte longer."""
+    place = draw.randrange(len(lines))
+    lines[place] = lines[place].ljust(draw.choice([65_535, 65_536, 65_537, 200_000]))
+
+
+SIZE_MUTATIONS = 6 * [with_lines(resize_table)] + 6 * [with_lines(limit_request)] + 3 * [with_lines(lengthen_line)]
 
 
 def cut_at_random(draw, stream):
@@ -72,7 +119,8 @@ class Drawn:
         draw = random.Random(f"stream {seed}")
         self.case = Case(seed)
         self.is_mutated = draw.random() < 0.5
-        self.stream = with_skipped(draw, stream_of(drawn_requests(draw, self.case.nodes, draw.randint(0, 12), (0, 1, 2, 5))))
+        limits = [0, self.case.limit, 2 * self.case.limit, 2**60]
+        self.stream = with_skipped(draw, stream_of(drawn_of_all_kinds(draw, self.case.nodes, draw.randint(0, 16), (0, 1, 2, 5), limits)))
         if self.is_mutated:
             for _ in range(draw.choice([1, 1, 2])):
                 self.stream = draw.choice([*MUTATIONS, *SIZE_MUTATIONS])(draw, self.stream)
@@ -91,17 +139,15 @@ class Drawn:
         (folder / "own.ch").write_text(text_of(case.nodes, case.order, contract_in_order(case.nodes, case.arcs, case.order)))
 
     def hierarchy(self, folder):
-        """The order and the legs by which routes are told, where they are."""
-        if "--routes" not in self.options:
-            return None
+        """The order and the legs by which routes are told: those of the saved hierarchy, or of the one that the run builds."""
         case = self.case
         if "--saved" in self.options:
             text = (folder / "own.ch").read_text()
         else:
-            text = hierarchy_text(case.nodes, case.arcs, case.hops[0], "--deep" in self.options)
+            text = hierarchy_text(case.nodes, case.arcs, case.hops[0], "--deep" in self.options or "--routes" not in self.options)
         _, (order, legs) = read("saved", text.encode(), case.nodes)
         return [node for node, in order], legs
 
     def owed(self, folder):
         within = self.options.get("--within", 2**60)
-        return Answers(self.case.nodes, self.case.arcs, within, self.hierarchy(folder)).owed(self.stream)
+        return Answers(self.case.nodes, self.case.arcs, within, self.hierarchy(folder), "--routes" in self.options).owed(self.stream)

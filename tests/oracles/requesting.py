@@ -12,28 +12,34 @@ from oracles.rules import routes_text
 MOST_LISTED = FORMS["sources"].parts[0].most
 MOST_CELLS = 2**22
 
+MOST_LINE = 65_536
+
 Query = namedtuple("Query", "start end")
-Table = namedtuple("Table", "sources targets")
+Route = namedtuple("Route", "start end")
+Table = namedtuple("Table", "sources targets within", defaults=[None])
+Places = namedtuple("Places", "nodes count")
+Near = namedtuple("Near", "source within", defaults=[None])
 
 
 class Reader:
-    """Judges the lines of a stream on a graph of so many nodes. Between lines it knows the table that is begun: how many sources it has, how
-    many nodes it wants, and those that were listed; none is begun where none is wanted."""
+    """Judges the lines of a stream on a graph of so many nodes. Between lines it knows the request that is begun: what is made of its nodes,
+    how many it wants, and those that were listed; none is begun where none is wanted."""
 
     def __init__(self, nodes):
         self.nodes, self.line = nodes, 0
-        self.begin(0, 0)
+        self.begin(0, None)
 
-    def begin(self, sources, targets):
-        self.sources, self.wanted, self.listed = sources, sources + targets, []
+    def begin(self, wanted, make):
+        self.wanted, self.make, self.listed = wanted, make, []
 
     def take(self, line):
         """The requests that are whole with this line: one or none. Raises its fault."""
         self.line += 1
+        self.expect(len(line) <= MOST_LINE, "bad line")
         words = words_of(line)
         if not words or words[0].startswith(b"c"):
             return []
-        kinds = {b"q": self.query, b"t": self.table, b"s": self.node}
+        kinds = {b"q": self.query, b"r": self.route, b"t": self.table, b"p": self.places, b"n": self.near, b"s": self.node}
         self.expect(words[0] in kinds, "unknown line")
         return kinds[words[0]](words)
 
@@ -49,12 +55,31 @@ class Reader:
         self.expect_node(end)
         return [Query(start, end)]
 
+    def route(self, words):
+        (start, end), = self.query(words)
+        return [Route(start, end)]
+
+    def near(self, words):
+        self.expect_whole()
+        (source,), within = self.numbers_and_limit(words, 1)
+        self.expect_node(source)
+        self.expect_limit(within)
+        return [Near(source, within)]
+
     def table(self, words):
         self.expect_whole()
-        sources, targets = self.numbers(words, 2)
+        (sources, targets), within = self.numbers_and_limit(words, 2)
         self.expect(max(sources, targets) <= MOST_LISTED, "size too large")
+        self.expect_limit(within)
         self.expect(sources * targets <= MOST_CELLS, "too many cells")
-        self.begin(sources, targets)
+        self.begin(sources + targets, lambda listed: Table(listed[:sources], listed[sources:], within))
+        return self.finished()
+
+    def places(self, words):
+        self.expect_whole()
+        places, count = self.numbers(words, 2)
+        self.expect(max(places, count) <= MOST_LISTED, "size too large")
+        self.begin(places, lambda listed: Places(listed, count))
         return self.finished()
 
     def node(self, words):
@@ -65,12 +90,19 @@ class Reader:
         return self.finished()
 
     def finished(self):
-        """The table that was begun, where it has its nodes."""
+        """The request that was begun, where it has its nodes."""
         if len(self.listed) < self.wanted:
             return []
-        table = Table(self.listed[:self.sources], self.listed[self.sources:])
-        self.begin(0, 0)
-        return [table]
+        request = self.make(self.listed)
+        self.begin(0, None)
+        return [request]
+
+    def numbers_and_limit(self, words, size):
+        """So many numbers, and the limit that may follow them, or None."""
+        if len(words) == size + 2:
+            *numbers, within = self.numbers(words, size + 1)
+            return numbers, within
+        return self.numbers(words, size), None
 
     def numbers(self, words, size):
         numbers = numbers_after(words[:1], size, words)
@@ -79,6 +111,9 @@ class Reader:
 
     def expect_whole(self):
         self.expect(len(self.listed) == self.wanted, "too few lines")
+
+    def expect_limit(self, within):
+        self.expect(within is None or within <= MOST_WEIGHT, "weight too large")
 
     def expect_node(self, node):
         self.expect(1 <= node <= self.nodes, "node out of range")
@@ -106,35 +141,57 @@ def whole_in(data, nodes):
 
 
 def fault_line(fault):
-    """What the program writes to standard error for a fault. Of too many cells it tells no line."""
-    return b"chtab: too many cells\n" if fault.endswith(": too many cells") else f"chtab: request {fault}\n".encode()
+    """What the program writes to standard error for a fault."""
+    return f"chtab: request {fault}\n".encode()
 
 
 class Answers:
-    """The answers on a graph: cells of tables where they are at most `within`, and routes where the order and the legs of a hierarchy are given
-    for them."""
+    """The answers on a graph: cells of tables and near rows where they are at most `within`, where the request has no limit of its own; and
+    routes by the order and the legs of a hierarchy, of each query where the run `tells_routes`."""
 
-    def __init__(self, nodes, arcs, within=MOST_WEIGHT, hierarchy=None):
-        self.nodes, self.within, self.hierarchy = nodes, within, hierarchy
+    def __init__(self, nodes, arcs, within=MOST_WEIGHT, hierarchy=None, tells_routes=True):
+        self.nodes, self.within, self.hierarchy, self.tells_routes = nodes, within, hierarchy, tells_routes
         ahead = arcs_ahead(arcs)
         self.distances = cache(lambda source: distances_from(source, ahead))
 
-    def answer(self, request):
-        """The text of a request."""
-        if isinstance(request, Table):
-            return "".join(self.row(source, request.targets) for source in request.sources)
-        if self.hierarchy:
+    def answer(self, request, places):
+        """The text of a request, where these places were given last before it."""
+        match request:
+            case Places():
+                return ""
+            case Table(sources, targets, within):
+                return "".join(self.row(source, targets, self.limit(within)) for source in sources)
+            case Near(source, within):
+                return self.near_row(source, places, self.limit(within))
+            case Route():
+                return routes_text(*self.hierarchy, [Query(*request)])
+        if self.hierarchy and self.tells_routes:
             return routes_text(*self.hierarchy, [request])
         return f"d {request.start} {request.end} {self.distances(request.start).get(request.end, '-')}\n"
 
-    def row(self, source, targets):
+    def limit(self, within):
+        return self.within if within is None else within
+
+    def row(self, source, targets, within):
         found = self.distances(source)
         cells = (found.get(target, MOST_WEIGHT + 1) for target in targets)
-        return " ".join(["t", str(source), *(str(cell) if cell <= self.within else "-" for cell in cells)]) + "\n"
+        return " ".join(["t", str(source), *(str(cell) if cell <= within else "-" for cell in cells)]) + "\n"
+
+    def near_row(self, source, places, within):
+        """The places that are nearest, those that are equally near in the order in which they were given."""
+        found = self.distances(source)
+        reached = [(found[node], place) for place, node in enumerate(places.nodes) if node in found and found[node] <= within]
+        nearest = sorted(reached)[:places.count or None]
+        return " ".join(["n", str(source), str(len(nearest)), *(f"{places.nodes[place]} {weight}" for weight, place in nearest)]) + "\n"
 
     def text(self, requests):
         """The text of these requests, in order."""
-        return "".join(map(self.answer, requests)).encode()
+        places, texts = Places([], 0), []
+        for request in requests:
+            texts.append(self.answer(request, places))
+            if isinstance(request, Places):
+                places = request
+        return "".join(texts).encode()
 
     def owed(self, data):
         """Status, output and errors of a run over a stream."""

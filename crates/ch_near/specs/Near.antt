@@ -36,3 +36,7 @@ pub record Wanted : Type 0 where
   pub targets : List ℕ
   pub limit : Option ℕ
   pub count : Option ℕ
+
+-- the same within another limit
+abbrev pub wanted_within : Wanted → Option ℕ → Wanted
+wanted_within wanted limit = record { hierarchy = wanted.hierarchy; targets = wanted.targets; limit = limit; count = wanted.count }

@@ -7,7 +7,7 @@ ghost use Rattle.ch_near.specs.Kept.{AreKeptIn, IsRowOf, asked_by};
 ghost use Rattle.ch_query.specs.Distance.{IsKeptForSome};
 
 use crate::direction::Direction;
-use crate::rows::{Nearest, Room};
+use crate::rows::{Nearest, NearestWithin, Room};
 use crate::searched::Searched;
 use crate::spaces::spaces_alone;
 use ch_graph::Rows;
@@ -117,11 +117,16 @@ impl KeptTargets {
             hierarchy,
             searched: &self.searched,
         };
+        let within = self.searched.within;
+        let job = NearestWithin {
+            nearest: &nearest,
+            within,
+        };
         let mut room = match self.room.take() {
             Some(room) => room,
-            None => nearest.room(alloc)?,
+            None => job.room(alloc)?,
         };
-        nearest.fill_by_guess(alloc, &mut room, source)?;
+        nearest.fill_by_guess(alloc, &mut room, source, within)?;
         row.clear();
         row.extend_from_slice(&room.row)?;
         room.guess_by(self.searched.count);

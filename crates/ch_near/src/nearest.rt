@@ -6,9 +6,10 @@ ghost use Rattle.ch_hierarchy.specs.Hierarchy.{nodes_of};
 ghost use Rattle.ch_near.specs.Direction.{facing};
 ghost use Rattle.ch_near.specs.Near.{IsNearRow};
 ghost use Rattle.ch_query.specs.Distance.{IsKeptForSome};
+ghost use Rattle.ch_query.specs.Limits.{IsWithin};
 
 use crate::direction::Direction;
-use crate::rows::{Nearest, Room};
+use crate::rows::{Nearest, NearestWithin, Room};
 use crate::searched::Searched;
 use crate::spaces::search_targets;
 use ch_hierarchy::Hierarchy;
@@ -96,7 +97,15 @@ impl<'a> NearTargets<'a> {
         })
     }
 
-    /// Returns the row of each source, in order. The workers share the sources.
+    /// Returns the targets, in order.
+    pub fn targets(&self) -> &[u32]
+        ensures { result.now ≡ self.now.targets }
+    {
+        &self.searched.targets
+    }
+
+    /// Returns the row of each source, in order, within the limit of the search. The workers share the
+    /// sources.
     ///
     /// # Errors
     /// `AllocError` if there is no memory. Later calls return the same rows as before.
@@ -110,12 +119,44 @@ impl<'a> NearTargets<'a> {
         ensures rows { IfOk result (λ rows. AllZip (λ s row. IsNearRow self.old.hierarchy self.old.limit self.old.count self.old.targets s row.items) sources.now rows.items) }
         ensures same { self.new ≡ self.old }
     {
+        let within = self.limit();
+        self.rows_within(crew, sources, within)
+    }
+
+    /// Returns the limit of the search.
+    fn limit(&self) -> Option<u64>
+        ensures { result ≡ self.now.limit }
+    {
+        self.searched.within
+    }
+
+    /// Like [`NearTargets::rows`], within a limit that is at most the one of the search. It holds for this call
+    /// alone.
+    ///
+    /// # Errors
+    /// `AllocError` if there is no memory. Later calls return the same rows as before.
+    pub fn rows_within<R: Threads + Sync, G: Gate>(
+        &mut self,
+        crew: &Crew<'_, R, G>,
+        sources: &[u32],
+        within: Option<u64>,
+    ) -> Result<Vec<Vec<(u64, u32)>>, AllocError>
+        requires sources { All (λ s. s < nodes_of self.old.hierarchy) sources.now }
+        requires listed { length sources.now ≤ MOST_LISTED }
+        requires within { (x : ℕ) → IsWithin within x → IsWithin self.old.limit x }
+        ensures rows { IfOk result (λ rows. AllZip (λ s row. IsNearRow self.old.hierarchy within self.old.count self.old.targets s row.items) sources.now rows.items) }
+        ensures same { self.new ≡ self.old }
+    {
         crew.gate.watch(Stage::Answering, 0, crew.plan.pieces(sources.len() as u32));
         let nearest = Nearest {
             hierarchy: self.hierarchy,
             searched: &self.searched,
         };
-        run_list_in(crew, sources, &mut self.rooms, &nearest)
+        let job = NearestWithin {
+            nearest: &nearest,
+            within,
+        };
+        run_list_in(crew, sources, &mut self.rooms, &job)
     }
 
     /// What makes the rows.

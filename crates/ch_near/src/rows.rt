@@ -72,30 +72,51 @@ impl<'a> Nearest<'a> {
         Ok(())
     }
 
-    /// Makes the row of a source. If the guess is less than the limit, it tries the guess as the bound
-    /// first. If the row is not full then, it makes the row within the limit.
+    /// Makes the row of a source within a limit of its own. If the guess is less than this limit, it tries the
+    /// guess as the bound first. If the row is not full then, it makes the row within the limit.
     pub(crate) fn fill_by_guess(
         &self,
         alloc: Global,
         room: &mut Room,
         source: u32,
+        within: Option<u64>,
     ) -> Result<(), AllocError>
         requires source { source < nodes_of self.now.hierarchy }
+        requires within { (x : ℕ) → IsWithin within x → IsWithin self.now.limit x }
         requires scratch { room.old.scratch ≡ nodes_of self.now.hierarchy }
         requires offers { AreUnoffered (length self.now.targets) room.old.offers }
-        ensures row { OnOk result (IsNearRow self.now.hierarchy self.now.limit self.now.count self.now.targets source room.new.row.items) }
+        ensures row { OnOk result (IsNearRow self.now.hierarchy within self.now.count self.now.targets source room.new.row.items) }
         ensures scratch { OnOk result (room.new.scratch ≡ nodes_of self.now.hierarchy) }
         ensures offers { OnOk result (AreUnoffered (length self.now.targets) room.new.offers) }
     {
         let guess = room.guess;
-        if is_lesser(guess, self.searched.within) {
+        if is_lesser(guess, within) {
             self.fill(alloc, room, source, Some(guess))?;
             if room.is_full(self.searched.count) {
                 return Ok(());
             }
         }
-        self.fill(alloc, room, source, self.searched.within)
+        self.fill(alloc, room, source, within)
     }
+}
+
+/// The rows of sources within a limit that is at most the one of the search from the targets.
+#[derive(Drop)]
+pub(crate) struct NearestWithin<'n, 'a> {
+    pub(crate) nearest: &'n Nearest<'a>,
+    pub(crate) within: Option<u64>,
+}
+
+impl<'n, 'a> Model for NearestWithin<'n, 'a> {
+    ghost use Rattle.std.specs.Prelude.{ℕ};
+    ghost use Rattle.ch_near.specs.Near.{Wanted, wanted_within};
+    ghost use Rattle.ch_query.specs.Limits.{IsWithin};
+
+    ghost Value = { Wanted };
+
+    ghost view = { λ job. wanted_within job.nearest.now job.within };
+
+    ghost invariant = { λ job. (x : ℕ) → IsWithin job.within x → IsWithin job.nearest.now.limit x };
 }
 
 /// What a worker has for the rows of sources. It serves one row after the other.
@@ -148,7 +169,7 @@ fn is_lesser(guess: u64, within: Option<u64>) -> bool
     }
 }
 
-impl<'a> ListJob for Nearest<'a> {
+impl<'n, 'a> ListJob for NearestWithin<'n, 'a> {
     ghost use Rattle.std.specs.Prelude.{◌≡◌, ◌<◌, length};
     ghost use Rattle.ch_hierarchy.specs.Hierarchy.{nodes_of};
     ghost use Rattle.ch_near.specs.Near.{IsNearRow};
@@ -167,8 +188,9 @@ impl<'a> ListJob for Nearest<'a> {
     ghost clean = { λ wanted room. (room.scratch ≡ nodes_of wanted.hierarchy) × AreUnoffered (length wanted.targets) room.offers };
 
     fn room(&self, alloc: Global) -> Result<Room, AllocError> {
-        let scratch = Scratch::new(alloc, self.hierarchy.nodes())?;
-        let offers = Offers::new(alloc, self.searched.targets.len() as u32)?;
+        let nearest = self.nearest;
+        let scratch = Scratch::new(alloc, nearest.hierarchy.nodes())?;
+        let offers = Offers::new(alloc, nearest.searched.targets.len() as u32)?;
         Ok(Room {
             scratch,
             offers,
@@ -183,9 +205,10 @@ impl<'a> ListJob for Nearest<'a> {
         room: &mut Room,
         item: &u32,
     ) -> Result<Vec<(u64, u32)>, AllocError> {
-        self.fill_by_guess(alloc, room, *item)?;
+        let nearest = self.nearest;
+        nearest.fill_by_guess(alloc, room, *item, self.within)?;
         let row = Vec::from_slice(alloc, &room.row)?;
-        room.guess_by(self.searched.count);
+        room.guess_by(nearest.searched.count);
         Ok(row)
     }
 }

@@ -8,6 +8,7 @@ pub mod Limits
 pub mod WrittenLines
 pub mod WrittenSaved
 pub mod SavedReadBack
+pub mod RequestNumbers
 pub mod Requests
 pub mod RequestLaws
 pub mod RequestTurns

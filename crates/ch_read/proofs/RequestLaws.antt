@@ -7,7 +7,7 @@ use Rattle.std.proofs.lemmas.List.Splits.{length-slice_split}
 use Rattle.ch_read.specs.declared.request.Request.{Request}
 use Rattle.ch_read.specs.declared.request_fault.RequestFault.{RequestFault}
 use Rattle.ch_read.specs.Words.{lines, words, without_empty_last}
-use Rattle.ch_read.specs.Requests.{Begun, Told, after_these, line_after, made, nothing, request_fault, stopping, told}
+use Rattle.ch_read.specs.Requests.{Begun, Told, after_these, line_after, made, nothing, stopping, text_fault, told}
 use Rattle.ch_read.specs.RequestLaws.{Went, went_on, went, and_then, without_last, last_of, ended_lines, unended, AreToldByParts}
 use Rattle.ch_read.proofs.Splits.{line_before}
 
@@ -25,7 +25,7 @@ more_given n xs w more = at (is_none w.told.fault) refl
 
 pub told_append : (n line : ℕ) (begun : Begun) (xs ys : List (List ℕ)) → told n line begun (xs ++ ys) ≡ and_then n (went n line begun xs) ys
 told_append n line begun [] ys = refl
-told_append n line begun (text ∷ xs) ys = at (request_fault n (line_after line) begun (words text)) refl (told_append n (line_after line) (made n begun (words text)).begun xs ys)
+told_append n line begun (text ∷ xs) ys = at (text_fault n (line_after line) begun text) refl (told_append n (line_after line) (made n begun (words text)).begun xs ys)
   where
     rest : Told
     rest = told n (line_after line) (made n begun (words text)).begun (xs ++ ys)
@@ -42,7 +42,7 @@ told_append n line begun (text ∷ xs) ys = at (request_fault n (line_after line
     parts : Option RequestFault → Told
     parts o = and_then n (if is_none o then went_on given left else record { told = stopping o; line = line; begun = begun }) ys
 
-    at : (o : Option RequestFault) → request_fault n (line_after line) begun (words text) ≡ o → rest ≡ and_then n left ys → told n line begun (text ∷ (xs ++ ys)) ≡ and_then n (went n line begun (text ∷ xs)) ys
+    at : (o : Option RequestFault) → text_fault n (line_after line) begun text ≡ o → rest ≡ and_then n left ys → told n line begun (text ∷ (xs ++ ys)) ≡ and_then n (went n line begun (text ∷ xs)) ys
     at None e others = ap whole e ∙ ap (after_these given) others ∙ more_given n given left ys ∙ sym (ap parts e)
     at (Some fault) e others = ap whole e ∙ sym (ap parts e)
 

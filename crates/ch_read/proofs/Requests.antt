@@ -1,28 +1,34 @@
 -- Requests as their bytes come.
-use Rattle.std.proofs.Common.{subst, ◌≡◌, ℕ, suc, ◌+◌, ◌-◌, ◌<◌, ◌≤◌, Bool, true, false, eqb, ltb, if◌then◌else◌, List, [], ◌∷◌, ◌++◌, length, take, drop, Option, Some, None, refl, sym, ◌∙◌, ap, arith, length-take, length-drop}
-use Rattle.std.specs.Prelude.{All, is_none}
+use Rattle.std.proofs.Common.{subst, ◌≡◌, ℕ, suc, ◌+◌, ◌-◌, ◌<◌, ◌≤◌, Bool, true, false, eqb, leb, ltb, get_or, if◌then◌else◌, List, [], ◌∷◌, ◌++◌, length, take, drop, Option, Some, None, refl, sym, ◌∙◌, ap, arith, length-take, length-drop}
+use Rattle.std.specs.Prelude.{All, IfErr, IsErrAnd, Result, Ok, Err, is_none}
 use Rattle.std.specs.List.{position, position_or_len}
 use Rattle.std.proofs.lemmas.Bool.Decides.{nat_tests}
 use Rattle.std.proofs.lemmas.Option.{cond_some}
-use Rattle.std.proofs.lemmas.List.{append-nil, append_assoc, length_push, length-append, take_rest, take-append-le, drop-append-le, drop_all}
+use Rattle.std.proofs.lemmas.List.{get_or_append_left, append-nil, append_assoc, length_push, length-append, take_rest, take-append-le, drop-append-le, drop_all}
 use Rattle.std.proofs.lemmas.List.Elements.{All-append, All-take, All-drop}
+use Rattle.ch_read.specs.declared.begun.Purpose.{Purpose}
+use Rattle.ch_read.specs.declared.begun.Purpose.TheVariants.{Table as ForTable, Places as ForPlaces}
+use Rattle.ch_read.specs.declared.request.TheConstants.{MOST_LINE}
 use Rattle.ch_read.specs.declared.request.Request.{Request}
+use Rattle.ch_read.specs.declared.fault.FaultKind.TheVariants.{BadLine}
 use Rattle.ch_read.specs.declared.request_fault.RequestFault.{RequestFault}
 use Rattle.ch_read.specs.declared.request_fault.RequestError.{RequestError}
 use Rattle.ch_read.specs.declared.request_fault.RequestError.TheVariants.{Fault, NoMemory}
 use Rattle.ch_read.specs.Words.{lines, words}
-use Rattle.ch_read.specs.Requests.{Begun, Made, Told, Standing, wanted, is_whole, nothing, settled, with_node, table_of, none_made, at_most_one, made, told, ahead, after_these, stopping, line_after, request_fault, Gives, IsErrorAhead, IsGiven, IsRequest, AreTwoLists}
-use Rattle.ch_read.specs.RequestSteps.{IsBegun, IsLineAhead, IsLineError, Makes, advanced}
-use Rattle.ch_read.proofs.Splits.{line_to_feed, line_to_end}
+use Rattle.ch_read.specs.Requests.{Begun, Made, Told, Standing, wanted, is_whole, nothing, settled, with_node, request_for, request_of, none_made, at_most_one, made, told, ahead, after_these, stopping, line_after, text_fault, Gives, IsErrorAhead, IsGiven, IsRequest, IsStopped, AreTwoLists}
+use Rattle.ch_read.specs.RequestSteps.{HasNoLine, IsBegun, IsOf, IsLineAhead, IsLineError, Makes, advanced}
+use Rattle.std.proofs.lemmas.List.Sums.{fails_before_first}
+use Rattle.ch_read.proofs.Splits.{line_to_feed, line_to_end, none_passes, split_at}
 use Rattle.ch_read.proofs.Reading.{one}
 
--- one more node of a table that wants more
+-- one more node of a request that wants more
 pub node_added : (n : ℕ) (begun : Begun) (node : ℕ) → IsBegun n begun → node < n → length begun.listed < wanted begun → IsBegun n (with_node begun node)
 node_added n begun node is below room = record {
   listed = All-append (λ v. v < n) begun.listed (node ∷ []) is.listed (one (λ v. v < n) node below);
   few = omega (arith, length_push begun.listed node);
   sizes = is.sizes;
   cells = is.cells;
+  purpose = is.purpose;
 }
 
 nothing_begun : (n : ℕ) → IsBegun n nothing
@@ -31,11 +37,12 @@ nothing_begun n = record {
   few = omega arith;
   sizes = (omega arith, omega arith);
   cells = omega arith;
+  purpose = tt;
 }
 
-whole_lists : (n : ℕ) (begun : Begun) → IsBegun n begun → wanted begun ≤ length begun.listed →
-    AreTwoLists n (record { sources = take begun.sources begun.listed; targets = drop begun.sources begun.listed })
-whole_lists n begun is whole =
+whole_lists : (n : ℕ) (begun : Begun) → IsBegun n begun → wanted begun ≤ length begun.listed → (within : Option ℕ) →
+    AreTwoLists n (record { sources = take begun.sources begun.listed; targets = drop begun.sources begun.listed; within = within })
+whole_lists n begun is whole within =
     let few = is.few in
     let sources : length (take begun.sources begun.listed) ≡ begun.sources = omega (arith, length-take begun.sources begun.listed) in
     let targets : length (drop begun.sources begun.listed) ≡ begun.targets = omega (arith, length-drop begun.sources begun.listed) in
@@ -46,21 +53,29 @@ whole_lists n begun is whole =
       cells = rw (sources, targets) is.cells;
     }
 
--- a table that was settled is given with its lists, or wants more
+-- a request that is whole is one on the graph
+whole_request : (n : ℕ) (begun : Begun) → IsBegun n begun → wanted begun ≤ length begun.listed → IsRequest n (request_of begun)
+whole_request n begun is whole = at begun.purpose is.purpose
+  where
+    at : (purpose : Purpose) → IsOf purpose begun.sources → IsRequest n (request_for purpose begun.sources begun.listed)
+    at (ForTable within) of = whole_lists n begun is whole within
+    at (ForPlaces count) of = let few = is.few in let size = is.sizes.1 in record { each = is.listed; size = omega arith }
+
+-- a request that was settled is given with its lists, or wants more
 pub settled_within : (n : ℕ) (begun new : Begun) (given : Option Request) → IsBegun n begun → settled begun ≡ record { given = at_most_one given; begun = new } → IsGiven n given × IsBegun n new
 settled_within n begun new given is e = at (is_whole begun) refl (sym e)
   where
     at : (t : Bool) → is_whole begun ≡ t → record { given = at_most_one given; begun = new } ≡ settled begun → IsGiven n given × IsBegun n new
     at true whole made_is =
         let long : wanted begun ≤ length begun.listed = grind (arith, nat_tests) in
-        let same : record { given = at_most_one given; begun = new } ≡ record { given = table_of begun ∷ []; begun = nothing } = rw whole at made_is in (
+        let same : record { given = at_most_one given; begun = new } ≡ record { given = request_of begun ∷ []; begun = nothing } = rw whole at made_is in (
           given_is given (ap (λ (m : Made). m.given) same) long,
           subst (IsBegun n) (sym (ap (λ (m : Made). m.begun) same)) (nothing_begun n),
         )
       where
-        given_is : (o : Option Request) → at_most_one o ≡ table_of begun ∷ [] → wanted begun ≤ length begun.listed → IsGiven n o
+        given_is : (o : Option Request) → at_most_one o ≡ request_of begun ∷ [] → wanted begun ≤ length begun.listed → IsGiven n o
         given_is None f long = absurd (omega (arith, ap length f))
-        given_is (Some r) f long = subst (IsRequest n) (sym (ap (λ (rs : List Request). Rattle.std.specs.Prelude.slice_index_or rs 0 r) f)) (whole_lists n begun is long)
+        given_is (Some r) f long = subst (IsRequest n) (sym (ap (λ (rs : List Request). Rattle.std.specs.Prelude.slice_index_or rs 0 r) f)) (whole_request n begun is long)
     at false short made_is =
         let same : record { given = at_most_one given; begun = new } ≡ none_made begun = rw short at made_is in (
           given_none given (ap (λ (m : Made). m.given) same),
@@ -118,11 +133,11 @@ module _ (n line : ℕ) (begun : Begun) (text : List ℕ) (more : List (List ℕ
   after_line fault =
       if is_none fault then after_these (made n begun (words text)).given (told n (line_after line) (made n begun (words text)).begun more) else stopping fault
 
-  pub line_made : (new : Begun) (given : Option Request) → Makes n (line_after line) begun new (words text) given →
+  pub line_made : (new : Begun) (given : Option Request) → Makes n (line_after line) begun new text given →
       told n line begun (text ∷ more) ≡ after_these (at_most_one given) (told n (line_after line) new more)
   line_made new given makes = ap after_line makes.0 ∙ ap (λ (m : Made). after_these m.given (told n (line_after line) m.begun more)) makes.1
 
-  pub line_faulty : (fault : RequestFault) → request_fault n (line_after line) begun (words text) ≡ Some fault → told n line begun (text ∷ more) ≡ stopping (Some fault)
+  pub line_faulty : (fault : RequestFault) → text_fault n (line_after line) begun text ≡ Some fault → told n line begun (text ∷ more) ≡ stopping (Some fault)
   line_faulty fault e = ap after_line e
 
 -- what was given and what is given next
@@ -133,14 +148,66 @@ gives_more ended a b c xs ys first next more comes =
 pub feed_within : (xs : List ℕ) (i : ℕ) → position (λ b. eqb b 10) xs ≡ Some i → i < length xs
 feed_within xs i e = (found_and_more (λ b. eqb b 10) xs [] i e).0
 
+-- where bytes have no line feed, the first stands past them
+feed_past : (xs more : List ℕ) (i : ℕ) → position (λ b. eqb b 10) xs ≡ None → position (λ b. eqb b 10) (xs ++ more) ≡ Some i → length xs ≤ i
+feed_past xs more i none e = at (ltb i (length xs)) refl
+  where
+    never : {X : Type 0} → i < length xs → X
+    never within =
+        let past = none_passes (λ b. eqb b 10) xs none in
+        let inside : i < position_or_len (λ b. eqb b 10) xs = omega arith in
+        let fails : eqb (get_or xs i 0) 10 ≡ false = fails_before_first (λ b. eqb b 10) xs i 0 inside in
+        let passes : eqb (get_or (xs ++ more) i 0) 10 ≡ true = (split_at (λ b. eqb b 10) (xs ++ more) i e).1 in
+        let same : get_or (xs ++ more) i 0 ≡ get_or xs i 0 = get_or_append_left xs more 0 i within in
+        cc
+
+    at : (t : Bool) → ltb i (length xs) ≡ t → length xs ≤ i
+    at true lt = let within : i < length xs = grind (arith, nat_tests) in never within
+    at false lt = grind (arith, nat_tests)
+
+-- a line that has no line feed yet begins with all of its bytes, whatever comes after
+begins_long : (xs more : List ℕ) → position (λ b. eqb b 10) xs ≡ None → 0 < length xs → (line : List ℕ) × (rest : List (List ℕ)) × (lines (xs ++ more) ≡ line ∷ rest) × (length xs ≤ length line)
+begins_long xs more none some = at (position (λ b. eqb b 10) (xs ++ more)) refl
+  where
+    long : length (xs ++ more) ≡ length xs + length more
+    long = length-append xs more
+
+    at : (o : Option ℕ) → position (λ b. eqb b 10) (xs ++ more) ≡ o → (line : List ℕ) × (rest : List (List ℕ)) × (lines (xs ++ more) ≡ line ∷ rest) × (length xs ≤ length line)
+    at None e = (xs ++ more, [], line_to_end (xs ++ more) e (let size = long in omega arith), let size = long in omega arith)
+    at (Some i) e =
+        let past = feed_past xs more i none e in
+        let within : i < length (xs ++ more) = feed_within (xs ++ more) i e in
+        (take i (xs ++ more), _, line_to_feed (xs ++ more) i e, omega (arith, length-take i (xs ++ more)))
+
 -- a line that makes something, and one that is faulty, as what is ahead sees them
 module _ (ended : Bool) (s : Standing) (text : List ℕ) (taken : ℕ) (is : IsLineAhead ended s.pending text taken) where
-  pub step_given : (new : Begun) (given : Option Request) → Makes s.nodes (line_after s.line) s.begun new (words text) given → Gives ended s (advanced s new taken) (at_most_one given)
+  pub step_given : (new : Begun) (given : Option Request) → Makes s.nodes (line_after s.line) s.begun new text given → Gives ended s (advanced s new taken) (at_most_one given)
   step_given new given makes more comes = ap (told s.nodes s.line s.begun) (is.0 more comes) ∙ line_made s.nodes s.line s.begun text (lines (drop taken s.pending ++ more)) new given makes
 
   pub step_shorter : (new : Begun) → length (advanced s new taken).pending < length s.pending
   step_shorter new = let some = is.1 in let within = is.2 in omega (arith, length-drop taken s.pending)
 
-  pub step_faulty : (error : RequestError) → IsLineError (request_fault s.nodes (line_after s.line) s.begun (words text)) error → IsErrorAhead ended s error
+  pub step_faulty : (error : RequestError) → IsLineError (text_fault s.nodes (line_after s.line) s.begun text) error → IsErrorAhead ended s error
   step_faulty (Fault fault) e = λ more comes. ap (told s.nodes s.line s.begun) (is.0 more comes) ∙ line_faulty s.nodes s.line s.begun text (lines (drop taken s.pending ++ more)) fault e
   step_faulty NoMemory e = tt
+
+-- a line that is too long already is told as a bad one, whatever comes
+pub step_long : (ended : Bool) (s : Standing) → position (λ b. eqb b 10) s.pending ≡ None → MOST_LINE < length s.pending →
+    IsStopped ended s (RequestFault.Line (record { line = line_after s.line; kind = BadLine }))
+step_long ended s none long more comes =
+    let begins = begins_long s.pending more none (omega arith) in
+    let text = begins.0 in
+    let size = begins.3 in
+    let past : leb (length text) MOST_LINE ≡ false = grind (arith, nat_tests) in
+    let bad : text_fault s.nodes (line_after s.line) s.begun text ≡ Some (RequestFault.Line (record { line = line_after s.line; kind = BadLine })) = rw past refl in
+    ap (told s.nodes s.line s.begun) begins.2 ∙ line_faulty s.nodes s.line s.begun text begins.1 (RequestFault.Line (record { line = line_after s.line; kind = BadLine })) bad
+
+-- where no line is ahead, no line feed is
+pub no_feed : (ended : Bool) (bytes : List ℕ) → HasNoLine ended bytes → position (λ b. eqb b 10) bytes ≡ None
+no_feed false bytes none = none
+no_feed true bytes none = rw none refl
+
+-- an error that is passed on
+pub error_passed : {T : Type 0} (P : RequestError → Type 0) (r : Result T RequestError) (e : RequestError) → IsErrAnd r (λ y. y ≡ e) → P e → IfErr r P
+error_passed P (Ok x) e is holds = tt
+error_passed P (Err y) e is holds = subst P (sym is) holds

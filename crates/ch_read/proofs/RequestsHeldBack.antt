@@ -1,5 +1,5 @@
 -- A reader that has no whole line left has given all that the whole lines tell.
-use Rattle.std.proofs.Common.{◌≡◌, ℕ, suc, Bool, true, false, cond, eqb, ◌&&◌, if◌then◌else◌, List, [], ◌∷◌, ◌++◌, length, Option, Some, None, refl, sym, ◌∙◌, ap, arith}
+use Rattle.std.proofs.Common.{◌≡◌, ℕ, suc, ◌+◌, Bool, true, false, cond, eqb, ◌&&◌, if◌then◌else◌, List, [], ◌∷◌, ◌++◌, length, Option, Some, None, refl, sym, ◌∙◌, ap, arith}
 use Rattle.std.specs.Prelude.{All, codes, is_none, filter, position}
 use Rattle.std.specs.List.{slice_split, onto_first}
 use Rattle.std.specs.Option.{option_map, option_and_then}
@@ -17,7 +17,7 @@ use Rattle.ch_read.specs.declared.form.Part.TheVariants.{First}
 use Rattle.ch_read.specs.Words.{lines, words, number, is_word, is_blank, without_empty_last}
 use Rattle.ch_read.specs.Forms.{numbers, numbers_after, item}
 use Rattle.ch_read.specs.Checks.{is_skipped, begins_with}
-use Rattle.ch_read.specs.Requests.{Begun, Made, Told, after_these, table_numbers, line_after, made, none_made, request_fault, stopping, told}
+use Rattle.ch_read.specs.Requests.{Begun, Made, Told, after_these, line_after, made, near_numbers, none_made, numbers_and_limit, places_numbers, route_numbers, stopping, table_numbers, text_fault, told}
 use Rattle.ch_read.specs.RequestLaws.{Went, bytes_of, given_by, went_by, and_then, unended, AreNotHeldBack}
 use Rattle.ch_read.proofs.Splits.{none_passes}
 use Rattle.ch_read.proofs.RequestLaws.{told_by_parts, unended_clear}
@@ -90,21 +90,32 @@ x_no_item letter count (w ∷ front) word = at (bytes_eq w letter) (eqb (length 
     at true false = refl
     at false u = refl
 
+-- nor those of a request that may have a limit
+x_no_limited : (letter : List ℕ) (count : ℕ) (front : List (List ℕ)) (word : List ℕ) → numbers_and_limit (letter ∷ []) (suc count) (front ++ (word ++ 120 ∷ []) ∷ []) ≡ None
+x_no_limited letter count front word = let next : suc count + 1 ≡ suc (suc count) = omega arith in rw (x_no_item letter count front word, next) (x_no_item letter (suc count) front word)
+
 -- without numbers a line makes nothing
 module _ (n : ℕ) (begun : Begun) (ws : List (List ℕ)) where
-  made_nothing : item (Queries n) First ws ≡ None → table_numbers ws ≡ None → item (Nodes n) First ws ≡ None → (made n begun ws).given ≡ []
-  made_nothing query table listed = rw (query, table, listed) (at (is_skipped ws) (begins_with ws (codes "q")) (begins_with ws (codes "t")))
+  made_nothing : item (Queries n) First ws ≡ None → route_numbers ws ≡ None → near_numbers ws ≡ None → table_numbers ws ≡ None → places_numbers ws ≡ None → item (Nodes n) First ws ≡ None →
+      (made n begun ws).given ≡ []
+  made_nothing query route near table places listed =
+      rw (query, route, near, table, places, listed) (at (is_skipped ws) (begins_with ws (codes "q")) (begins_with ws (codes "r")) (begins_with ws (codes "n")) (begins_with ws (codes "t")) (begins_with ws (codes "p")))
     where
-      at : (t u v : Bool) → (if t then none_made begun else if u then none_made begun else if v then none_made begun else none_made begun).given ≡ []
-      at true u v = refl
-      at false true v = refl
-      at false false true = refl
-      at false false false = refl
+      at : (t u v w x y : Bool) →
+          (if t then none_made begun else if u then none_made begun else if v then none_made begun else if w then none_made begun else if x then none_made begun else if y then none_made begun else none_made begun).given ≡ []
+      at true u v w x y = refl
+      at false true v w x y = refl
+      at false false true w x y = refl
+      at false false false true x y = refl
+      at false false false false true y = refl
+      at false false false false false true = refl
+      at false false false false false false = refl
 
 x_made_nothing : (n : ℕ) (begun : Begun) (bytes : List ℕ) → (made n begun (words (bytes ++ 120 ∷ []))).given ≡ []
 x_made_nothing n begun bytes =
     let ws = words_x bytes in
-    rw (ws.2) (made_nothing n begun (ws.0 ++ (ws.1 ++ 120 ∷ []) ∷ []) (x_no_item (codes "q") 1 ws.0 ws.1) (x_no_item (codes "t") 1 ws.0 ws.1) (x_no_item (codes "s") 0 ws.0 ws.1))
+    rw (ws.2) (made_nothing n begun (ws.0 ++ (ws.1 ++ 120 ∷ []) ∷ []) (x_no_item (codes "q") 1 ws.0 ws.1) (x_no_item (codes "r") 1 ws.0 ws.1) (x_no_limited (codes "n") 0 ws.0 ws.1) (x_no_limited (codes "t") 1 ws.0 ws.1)
+    (x_no_item (codes "p") 1 ws.0 ws.1) (x_no_item (codes "s") 0 ws.0 ws.1))
 
 -- an x ends what stands there, and the next line is unknown
 abbrev x_lines : List ℕ
@@ -122,7 +133,7 @@ x_lines_are bytes clear =
 -- so no request comes of these
 x_told_nothing : (n line : ℕ) (begun : Begun) (bytes : List ℕ) → IsOneLine bytes → (told n line begun (lines (bytes ++ x_lines))).given ≡ []
 x_told_nothing n line begun bytes clear =
-    ap (λ (all : List (List ℕ)). (told n line begun all).given) (x_lines_are bytes clear) ∙ at (request_fault n (line_after line) begun (words (bytes ++ 120 ∷ []))) refl
+    ap (λ (all : List (List ℕ)). (told n line begun all).given) (x_lines_are bytes clear) ∙ at (text_fault n (line_after line) begun (bytes ++ 120 ∷ [])) refl
   where
     here : Made
     here = made n begun (words (bytes ++ 120 ∷ []))
@@ -130,7 +141,7 @@ x_told_nothing n line begun bytes clear =
     after : Option RequestFault → Told
     after o = if is_none o then after_these here.given (told n (line_after line) here.begun ((120 ∷ []) ∷ [])) else stopping o
 
-    at : (o : Option RequestFault) → request_fault n (line_after line) begun (words (bytes ++ 120 ∷ [])) ≡ o → (after (request_fault n (line_after line) begun (words (bytes ++ 120 ∷ [])))).given ≡ []
+    at : (o : Option RequestFault) → text_fault n (line_after line) begun (bytes ++ 120 ∷ []) ≡ o → (after (text_fault n (line_after line) begun (bytes ++ 120 ∷ []))).given ≡ []
     at None e = ap (λ o. (after o).given) e ∙ append-nil here.given ∙ x_made_nothing n begun bytes
     at (Some fault) e = ap (λ o. (after o).given) e
 
@@ -139,7 +150,7 @@ one_line bytes e = let past = none_passes (λ b. eqb b 10) bytes e in λ k d lt.
 
 pub not_held_back : AreNotHeldBack
 not_held_back n turns s goes none =
-    sym (append-nil (given_by turns)) ∙ ap (λ (all : List Request). given_by turns ++ all) (sym (x_told_nothing s.nodes s.line s.begun s.pending (one_line s.pending none)))
+    sym (append-nil (given_by turns)) ∙ ap (λ (all : List Request). given_by turns ++ all) (sym (x_told_nothing s.nodes s.line s.begun s.pending (one_line s.pending none.0)))
     ∙ ap (λ (t : Told). t.given) (sym (given_in_turn n turns s goes x_lines (may_come x_lines)) ∙ told_by_parts n (bytes_of turns) x_lines) ∙ ended (is_none (went_by n (bytes_of turns)).told.fault) refl
   where
     w : Went

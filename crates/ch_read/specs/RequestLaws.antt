@@ -4,7 +4,7 @@ use Rattle.std.specs.List.{slice_split, flat_map}
 use Rattle.ch_read.specs.declared.request.Request.{Request}
 use Rattle.ch_read.specs.declared.request_fault.RequestFault.{RequestFault}
 use Rattle.ch_read.specs.Words.{lines, words}
-use Rattle.ch_read.specs.Requests.{Begun, Told, Standing, after_these, line_after, made, nothing, request_fault, stopping, told, told_by, starting, fed, MayCome, Gives, HasGiven, IsUsedUp, IsStopped}
+use Rattle.ch_read.specs.Requests.{Begun, Told, Standing, after_these, line_after, made, nothing, stopping, text_fault, told, told_by, starting, fed, MayCome, Gives, HasGiven, IsUsedUp, IsStopped}
 
 -- where some lines leave a reader: what they told, and the state for the next line
 pub record Went : Type 0 where
@@ -18,9 +18,9 @@ went_on given w = record { told = after_these given w.told; line = w.line; begun
 abbrev pub went : ℕ → ℕ → Begun → List (List ℕ) → Went
 went n line begun [] = record { told = stopping None; line = line; begun = begun }
 went n line begun (text ∷ more) =
-    if is_none (request_fault n (line_after line) begun (words text))
+    if is_none (text_fault n (line_after line) begun text)
     then went_on (made n begun (words text)).given (went n (line_after line) (made n begun (words text)).begun more)
-    else record { told = stopping (request_fault n (line_after line) begun (words text)); line = line; begun = begun }
+    else record { told = stopping (text_fault n (line_after line) begun text); line = line; begun = begun }
 
 -- what these lines tell after that: nothing where there was a fault
 abbrev pub and_then : ℕ → Went → List (List ℕ) → Told

@@ -1,22 +1,38 @@
 -- What the reader of requests knows of one line.
-use Rattle.std.specs.Prelude.{◌≡◌, ℕ, ◌*◌, ◌<◌, ◌≤◌, Bool, true, false, List, [], ◌∷◌, ◌++◌, length, drop, Option, Some, None, position, ◌==◌, All, ⊤}
+use Rattle.std.specs.Prelude.{◌≡◌, ℕ, ◌*◌, ◌<◌, ◌≤◌, Bool, true, false, List, [], ◌∷◌, ◌++◌, length, drop, slice_get, slice_index, Option, Some, None, option_map, position, ◌==◌, All, ⊤}
 use Rattle.ch_graph.specs.declared.limits.TheConstants.{MOST_LISTED}
 use Rattle.ch_work.specs.declared.limits.TheConstants.{MOST_CELLS}
+use Rattle.ch_read.specs.declared.begun.Purpose.{Purpose}
+use Rattle.ch_read.specs.declared.begun.Purpose.TheVariants.{Table as ForTable, Places as ForPlaces}
 use Rattle.ch_read.specs.declared.request.Request.{Request}
+use Rattle.ch_read.specs.declared.request_line.Limited.{Limited}
 use Rattle.ch_read.specs.declared.request_fault.RequestFault.{RequestFault}
 use Rattle.ch_read.specs.declared.request_fault.RequestError.{RequestError}
 use Rattle.ch_read.specs.declared.request_fault.RequestError.TheVariants.{Fault, NoMemory}
 use Rattle.ch_read.specs.declared.request_reader.Step.{Step}
 use Rattle.ch_read.specs.declared.request_reader.Step.TheVariants.{Quiet, Given, UsedUp}
-use Rattle.ch_read.specs.Words.{lines}
-use Rattle.ch_read.specs.Requests.{Begun, Standing, wanted, made, at_most_one, request_fault, line_after, MayCome, Gives, IsUsedUp, IsRequest}
+use Rattle.ch_read.specs.Words.{lines, words}
+use Rattle.ch_read.specs.Reading.{capped_number}
+use Rattle.ch_read.specs.Requests.{Begun, Standing, wanted, made, at_most_one, text_fault, line_after, MayCome, Gives, IsUsedUp, IsRequest}
 
--- a table that is begun on a graph of n nodes: no more nodes than it wants, and lists within the limits
+-- places have no sources
+abbrev pub IsOf : Purpose → ℕ → Type 0
+IsOf (ForTable within) sources = ⊤
+IsOf (ForPlaces count) sources = sources ≡ 0
+
+-- a request that is begun on a graph of n nodes: no more nodes than it wants, and lists within the limits
 pub record IsBegun (n : ℕ) (begun : Begun) : Type 0 where
   pub listed : All (λ v. v < n) begun.listed
   pub few : length begun.listed ≤ wanted begun
   pub sizes : (begun.sources ≤ MOST_LISTED) × (begun.targets ≤ MOST_LISTED)
   pub cells : begun.sources * begun.targets ≤ MOST_CELLS
+  pub purpose : IsOf begun.purpose begun.sources
+
+-- the first two of the numbers, and the one at this place as a limit, where one stands there; each capped
+abbrev pub IsLimited : ℕ → Option (List ℕ) → Limited → Type 0
+IsLimited place numbers limited =
+    (ns : List ℕ) × (numbers ≡ Some ns) × (limited.first ≡ capped_number (slice_index ns 0)) × (limited.second ≡ capped_number (slice_index ns 1))
+    × (limited.within ≡ option_map capped_number (slice_get ns place))
 
 -- there is no fault, and of the numbers this value is made
 abbrev pub PassesAs : {A : Type 0} → Option RequestFault → Option (List ℕ) → (List ℕ → A) → A → Type 0
@@ -26,10 +42,10 @@ PassesAs fault numbers from value = (fault ≡ None) × (ns : List ℕ) × (numb
 abbrev pub FailsAs : Option RequestFault → RequestFault → Type 0
 FailsAs fault is = fault ≡ Some is
 
--- a line of these words has no fault, and makes this request or none
-abbrev pub Makes : ℕ → ℕ → Begun → Begun → List (List ℕ) → Option Request → Type 0
-Makes n line old new ws given =
-    (request_fault n line old ws ≡ None) × (made n old ws ≡ record { given = at_most_one given; begun = new })
+-- a line has no fault, and makes this request or none
+abbrev pub Makes : ℕ → ℕ → Begun → Begun → List ℕ → Option Request → Type 0
+Makes n line old new text given =
+    (text_fault n line old text ≡ None) × (made n old (words text) ≡ record { given = at_most_one given; begun = new })
 
 -- the error is this fault, or want of memory
 abbrev pub IsLineError : Option RequestFault → RequestError → Type 0

@@ -1,36 +1,41 @@
--- The requests of a stream: queries, and tables with their lists, each as soon as it is whole.
-use Rattle.std.specs.Prelude.{◌≡◌, ℕ, ◌+◌, ◌*◌, ◌<◌, ◌≤◌, nat_le, Bool, true, false, ◌&&◌, if◌then◌else◌, List, [], ◌∷◌, ◌++◌, length, take, drop, slice_index, Option, Some, None, is_some, is_none, option_map, codes, All, position, ◌==◌, ⊤}
+-- The requests of a stream: queries, tables with their lists, places and near rows, each as soon as it is whole.
+use Rattle.std.specs.Prelude.{◌≡◌, ℕ, ◌+◌, ◌*◌, ◌<◌, ◌≤◌, nat_le, Bool, true, false, ◌&&◌, if◌then◌else◌, List, [], ◌∷◌, ◌++◌, length, take, drop, slice_index, slice_get, ◌==◌, Option, Some, None, is_some, is_none, option_map, codes, All, position, ⊤}
 use Rattle.std.specs.Option.{option_map_or, option_or}
-use Rattle.ch_graph.specs.declared.limits.TheConstants.{MOST_LISTED}
+use Rattle.ch_graph.specs.declared.limits.TheConstants.{MOST_LISTED, MOST_WEIGHT}
 use Rattle.ch_work.specs.declared.limits.TheConstants.{MOST_CELLS}
-use Rattle.ch_read.specs.declared.fault.FaultKind.TheVariants.{UnknownLine, BadLine, Size, TooFew}
+use Rattle.ch_read.specs.declared.fault.FaultKind.TheVariants.{UnknownLine, BadLine, NodeRange, Sum, Size, TooFew}
 use Rattle.ch_read.specs.declared.form.Form.TheVariants.{Queries, Nodes}
 use Rattle.ch_read.specs.declared.form.Part.TheVariants.{First}
 use Rattle.ch_read.specs.declared.form.Heading.{Heading}
+use Rattle.ch_read.specs.declared.begun.Purpose.{Purpose}
+use Rattle.ch_read.specs.declared.begun.Purpose.TheVariants.{Table as ForTable, Places as ForPlaces}
+use Rattle.ch_read.specs.declared.request.TheConstants.{MOST_LINE}
 use Rattle.ch_read.specs.declared.request.Request.{Request}
-use Rattle.ch_read.specs.declared.request.Request.TheVariants.{Query, Table}
+use Rattle.ch_read.specs.declared.request.Request.TheVariants.{Query, Route, Table, Places, Near}
 use Rattle.ch_read.specs.declared.request_fault.RequestFault.{RequestFault}
 use Rattle.ch_read.specs.declared.request_fault.RequestFault.TheVariants.{Line, Cells}
 use Rattle.ch_read.specs.declared.request_fault.RequestError.{RequestError}
 use Rattle.ch_read.specs.declared.request_fault.RequestError.TheVariants.{Fault, NoMemory}
-use Rattle.ch_read.specs.RequestLists.{TwoLists}
+use Rattle.ch_read.specs.RequestLists.{TwoLists, PlaceList}
 use Rattle.ch_read.specs.Words.{words, lines}
 use Rattle.ch_read.specs.Forms.{numbers_after, item}
-use Rattle.ch_read.specs.Checks.{Check, passes, is_skipped, begins_with, item_checks, first_failing}
+use Rattle.ch_read.specs.Checks.{Check, passes, is_node, is_skipped, begins_with, item_checks, first_failing}
 use Rattle.ch_read.specs.Names.{pair_from, node_from}
 use Rattle.ch_read.specs.Reading.{capped_number}
 
--- a table whose lists are read: how many sources and targets it has, and the nodes listed so far, sources first
+-- a request whose lists are read: what they are for, how many sources and targets it has, and the nodes listed so far, sources
+-- first. Places are targets without sources
 pub record Begun : Type 0 where
+  pub purpose : Purpose
   pub sources : ℕ
   pub targets : ℕ
   pub listed : List ℕ
 
--- no table is begun
+-- no request is begun
 abbrev pub nothing : Begun
-nothing = record { sources = 0; targets = 0; listed = [] }
+nothing = record { purpose = ForTable None; sources = 0; targets = 0; listed = [] }
 
--- how many nodes a table's lists have
+-- how many nodes its lists have
 abbrev pub wanted : Begun → ℕ
 wanted begun = begun.sources + begun.targets
 
@@ -38,11 +43,32 @@ wanted begun = begun.sources + begun.targets
 abbrev pub is_whole : Begun → Bool
 is_whole begun = nat_le (wanted begun) (length begun.listed)
 
--- the numbers of a line `t K L`
-abbrev pub table_numbers : List (List ℕ) → Option (List ℕ)
-table_numbers ws = numbers_after (codes "t" ∷ []) 2 ws
+-- the numbers of a line of exactly these words and so many numbers, after which a limit may stand
+abbrev pub numbers_and_limit : List (List ℕ) → ℕ → List (List ℕ) → Option (List ℕ)
+numbers_and_limit front count ws = option_or (numbers_after front count ws) (numbers_after front (count + 1) ws)
 
--- lists within the limit of a list
+-- the numbers of a line `r S T`
+abbrev pub route_numbers : List (List ℕ) → Option (List ℕ)
+route_numbers ws = numbers_after (codes "r" ∷ []) 2 ws
+
+-- the numbers of a line `t K L` or `t K L R`
+abbrev pub table_numbers : List (List ℕ) → Option (List ℕ)
+table_numbers ws = numbers_and_limit (codes "t" ∷ []) 2 ws
+
+-- the numbers of a line `p L K`
+abbrev pub places_numbers : List (List ℕ) → Option (List ℕ)
+places_numbers ws = numbers_after (codes "p" ∷ []) 2 ws
+
+-- the numbers of a line `n S` or `n S R`
+abbrev pub near_numbers : List (List ℕ) → Option (List ℕ)
+near_numbers ws = numbers_and_limit (codes "n" ∷ []) 1 ws
+
+-- a limit that is not past the greatest distance, where there is one
+abbrev pub is_limit : Option ℕ → Bool
+is_limit None = true
+is_limit (Some most) = nat_le most MOST_WEIGHT
+
+-- two numbers within the limit of a list: the sizes of two lists, or the size of a list and how many of it are told
 abbrev pub are_listable : List ℕ → Bool
 are_listable ns = nat_le (slice_index ns 0) MOST_LISTED && nat_le (slice_index ns 1) MOST_LISTED
 
@@ -54,14 +80,26 @@ are_few ns = nat_le (slice_index ns 0 * slice_index ns 1) MOST_CELLS
 abbrev pub declaring : ℕ → ℕ → Option Heading
 declaring n count = Some (record { nodes = n; items = record { first = count; second = 0 } })
 
--- a query or a table begins where all that was begun has its nodes; the query is judged as the one item of a query file
+-- a request begins where all that was begun has its nodes; a query, with its route or without, is judged as the one item of a query file
 abbrev pub query_checks : ℕ → Begun → Option (List ℕ) → List Check
 query_checks n begun numbers = (is_whole begun, TooFew) ∷ item_checks (Queries n) First (declaring n 1) 0 numbers
 
 abbrev pub table_checks : Begun → Option (List ℕ) → List Check
-table_checks begun numbers = (is_whole begun, TooFew) ∷ (is_some numbers, BadLine) ∷ (passes are_listable numbers, Size) ∷ []
+table_checks begun numbers =
+    (is_whole begun, TooFew) ∷ (is_some numbers, BadLine) ∷ (passes are_listable numbers, Size) ∷ (passes (λ ns. is_limit (slice_get ns 2)) numbers, Sum) ∷ []
 
--- a listed node is judged as the next item of a list of as many as the table wants
+abbrev pub places_checks : Begun → Option (List ℕ) → List Check
+places_checks begun numbers = (is_whole begun, TooFew) ∷ (is_some numbers, BadLine) ∷ (passes are_listable numbers, Size) ∷ []
+
+abbrev pub near_checks : ℕ → Begun → Option (List ℕ) → List Check
+near_checks n begun numbers =
+    (is_whole begun, TooFew)
+    ∷ (is_some numbers, BadLine)
+    ∷ (passes (λ ns. is_node n (slice_index ns 0)) numbers, NodeRange)
+    ∷ (passes (λ ns. is_limit (slice_get ns 1)) numbers, Sum)
+    ∷ []
+
+-- a listed node is judged as the next item of a list of as many as are wanted
 abbrev pub listed_checks : ℕ → Begun → Option (List ℕ) → List Check
 listed_checks n begun numbers = item_checks (Nodes n) First (declaring n (wanted begun)) (length begun.listed) numbers
 
@@ -78,11 +116,19 @@ abbrev pub request_fault : ℕ → ℕ → Begun → List (List ℕ) → Option 
 request_fault n line begun ws =
     if is_skipped ws then None
     else if begins_with ws (codes "q") then failing_at line (query_checks n begun (item (Queries n) First ws))
+    else if begins_with ws (codes "r") then failing_at line (query_checks n begun (route_numbers ws))
+    else if begins_with ws (codes "n") then failing_at line (near_checks n begun (near_numbers ws))
     else if begins_with ws (codes "t") then table_fault line begun (table_numbers ws)
+    else if begins_with ws (codes "p") then failing_at line (places_checks begun (places_numbers ws))
     else if begins_with ws (codes "s") then failing_at line (listed_checks n begun (item (Nodes n) First ws))
     else failing_at line ((false, UnknownLine) ∷ [])
 
--- the fault of the end, counted as one more line: a table that is not whole has too few
+-- the fault of this line, comments included: one of more bytes than a line may have is bad whatever its words are
+abbrev pub text_fault : ℕ → ℕ → Begun → List ℕ → Option RequestFault
+text_fault n line begun text =
+    if nat_le (length text) MOST_LINE then request_fault n line begun (words text) else failing_at line ((false, BadLine) ∷ [])
+
+-- the fault of the end, counted as one more line: what was begun and is not whole has too few
 abbrev pub end_of_requests : ℕ → Begun → Option RequestFault
 end_of_requests line begun = failing_at line ((is_whole begun, TooFew) ∷ [])
 
@@ -94,28 +140,55 @@ pub record Made : Type 0 where
 abbrev pub none_made : Begun → Made
 none_made begun = record { given = []; begun = begun }
 
--- a table is given as soon as it has its nodes
-abbrev pub table_of : Begun → Request
-table_of begun = Table (record { sources = take begun.sources begun.listed; targets = drop begun.sources begun.listed })
+-- the request of these lists
+abbrev pub request_for : Purpose → ℕ → List ℕ → Request
+request_for (ForTable within) sources listed = Table (record { sources = take sources listed; targets = drop sources listed; within = within })
+request_for (ForPlaces count) sources listed = Places (record { nodes = listed; count = count })
+
+-- what was begun is given as soon as it has its nodes
+abbrev pub request_of : Begun → Request
+request_of begun = request_for begun.purpose begun.sources begun.listed
 
 abbrev pub settled : Begun → Made
-settled begun = if is_whole begun then record { given = table_of begun ∷ []; begun = nothing } else none_made begun
+settled begun = if is_whole begun then record { given = request_of begun ∷ []; begun = nothing } else none_made begun
 
 abbrev pub query_from : ℕ × ℕ → Request
 query_from pair = Query pair.0 pair.1
 
-abbrev pub beginning : List ℕ → Begun
-beginning ns = record { sources = slice_index ns 0; targets = slice_index ns 1; listed = [] }
+abbrev pub route_from : ℕ × ℕ → Request
+route_from pair = Route pair.0 pair.1
+
+-- the node S and the limit R, if there is one
+abbrev pub near_from : List ℕ → ℕ × Option ℕ
+near_from ns = (node_from ns, slice_get ns 1)
+
+abbrev pub row_from : ℕ × Option ℕ → Request
+row_from near = Near near.0 near.1
+
+-- a table of K sources and L targets, within R, if that is there
+abbrev pub table_from : List ℕ → Begun
+table_from ns = record { purpose = ForTable (slice_get ns 2); sources = slice_index ns 0; targets = slice_index ns 1; listed = [] }
+
+-- a number of targets, where 0 stands for all
+abbrev pub count_or_all : ℕ → Option ℕ
+count_or_all k = if k == 0 then None else Some k
+
+-- L places, of which K are told
+abbrev pub places_from : List ℕ → Begun
+places_from ns = record { purpose = ForPlaces (count_or_all (slice_index ns 1)); sources = 0; targets = slice_index ns 0; listed = [] }
 
 abbrev pub with_node : Begun → ℕ → Begun
-with_node begun node = record { sources = begun.sources; targets = begun.targets; listed = begun.listed ++ node ∷ [] }
+with_node begun node = record { purpose = begun.purpose; sources = begun.sources; targets = begun.targets; listed = begun.listed ++ node ∷ [] }
 
 -- what a line of these words makes, where it has no fault
 abbrev pub made : ℕ → Begun → List (List ℕ) → Made
 made n begun ws =
     if is_skipped ws then none_made begun
     else if begins_with ws (codes "q") then option_map_or (λ ns. record { given = query_from (pair_from ns) ∷ []; begun = begun }) (item (Queries n) First ws) (none_made begun)
-    else if begins_with ws (codes "t") then option_map_or (λ ns. settled (beginning ns)) (table_numbers ws) (none_made begun)
+    else if begins_with ws (codes "r") then option_map_or (λ ns. record { given = route_from (pair_from ns) ∷ []; begun = begun }) (route_numbers ws) (none_made begun)
+    else if begins_with ws (codes "n") then option_map_or (λ ns. record { given = row_from (near_from ns) ∷ []; begun = begun }) (near_numbers ws) (none_made begun)
+    else if begins_with ws (codes "t") then option_map_or (λ ns. settled (table_from ns)) (table_numbers ws) (none_made begun)
+    else if begins_with ws (codes "p") then option_map_or (λ ns. settled (places_from ns)) (places_numbers ws) (none_made begun)
     else option_map_or (λ ns. settled (with_node begun (node_from ns))) (item (Nodes n) First ws) (none_made begun)
 
 -- what bytes tell: the requests that are whole before the first fault, and that fault, if there is one
@@ -137,9 +210,9 @@ line_after line = capped_number (line + 1)
 abbrev pub told : ℕ → ℕ → Begun → List (List ℕ) → Told
 told n line begun [] = stopping (end_of_requests (line_after line) begun)
 told n line begun (text ∷ more) =
-    if is_none (request_fault n (line_after line) begun (words text))
+    if is_none (text_fault n (line_after line) begun text)
     then after_these (made n begun (words text)).given (told n (line_after line) (made n begun (words text)).begun more)
-    else stopping (request_fault n (line_after line) begun (words text))
+    else stopping (text_fault n (line_after line) begun text)
 
 -- the requests of a stream on a graph of n nodes, and its fault
 abbrev pub told_by : ℕ → List ℕ → Told
@@ -176,9 +249,9 @@ Gives ended old new given = (more : List ℕ) → MayCome ended more → ahead o
 abbrev pub HasGiven : Bool → ℕ → List ℕ → Standing → List Request → Type 0
 HasGiven ended n bytes s given = (more : List ℕ) → MayCome ended more → told_by n (bytes ++ more) ≡ after_these given (ahead s more)
 
--- no line is whole in these bytes; at the end no byte is left, and nothing is begun
+-- no line is whole in these bytes, which are no more than those of a line; at the end no byte is left, and nothing is begun
 abbrev pub IsUsedUp : Bool → Standing → Type 0
-IsUsedUp false s = position (λ b. b == 10) s.pending ≡ None
+IsUsedUp false s = (position (λ b. b == 10) s.pending ≡ None) × (length s.pending ≤ MOST_LINE)
 IsUsedUp true s = (s.pending ≡ []) × (end_of_requests (line_after s.line) s.begun ≡ None)
 
 -- this fault comes next, and no request before it
@@ -197,10 +270,18 @@ pub record AreTwoLists (n : ℕ) (lists : TwoLists) : Type 0 where
   pub sizes : (length lists.sources ≤ MOST_LISTED) × (length lists.targets ≤ MOST_LISTED)
   pub cells : length lists.sources * length lists.targets ≤ MOST_CELLS
 
+-- places of the nodes, within the limit of a list
+pub record ArePlaces (n : ℕ) (places : PlaceList) : Type 0 where
+  pub each : All (λ v. v < n) places.nodes
+  pub size : length places.nodes ≤ MOST_LISTED
+
 -- a request on a graph of n nodes
 abbrev pub IsRequest : ℕ → Request → Type 0
 IsRequest n (Query s t) = (s < n) × (t < n)
+IsRequest n (Route s t) = (s < n) × (t < n)
 IsRequest n (Table lists) = AreTwoLists n lists
+IsRequest n (Places places) = ArePlaces n places
+IsRequest n (Near s within) = s < n
 
 -- the one request or none
 abbrev pub at_most_one : Option Request → List Request

@@ -1,39 +1,50 @@
-//! The table that is begun.
-ghost use Rattle.std.specs.Prelude.{◌≡◌, ◌≤◌, [], length, OnErr, OnOk};
+//! The request that is begun.
+ghost use Rattle.std.specs.Prelude.{◌≡◌, ◌≤◌, [], None, length, OnErr, OnOk};
 ghost use Rattle.ch_graph.specs.declared.limits.TheConstants.{MOST_LISTED};
-ghost use Rattle.ch_read.specs.Requests.{at_most_one, is_whole, nothing, settled, wanted, with_node};
+ghost use Rattle.ch_read.specs.Requests.{at_most_one, is_whole, nothing, request_for, settled, wanted, with_node};
 
-use crate::request::{Request, TableLists};
+use crate::request::{NearPlaces, Request, TableLists};
 use std::alloc::{AllocFailed, Global};
 use std::marker::Model;
 use std::mem;
 
-/// A table whose lists are read, or none. Contracts see its sizes and the nodes listed so far.
+/// What lists are read for.
+#[derive(Clone, Copy, Debug, PartialEq, Eq)]
+pub(crate) enum Purpose {
+    /// A table, within a limit of its own, if it has one.
+    Table(Option<u64>),
+    /// Places, of which near rows tell at most so many, or all.
+    Places(Option<u32>),
+}
+
+/// A request whose lists are read, or none. Contracts see what they are for, their sizes and the nodes listed so far.
 #[derive(Drop)]
-pub(crate) struct BegunTable {
+pub(crate) struct BegunLists {
+    purpose: Purpose,
     sources: u64,
     targets: u64,
     listed: Vec<u32>,
 }
 
-impl Model for BegunTable {
+impl Model for BegunLists {
     ghost use Rattle.std.specs.Prelude.{◌≤◌};
     ghost use Rattle.ch_graph.specs.declared.limits.TheConstants.{MOST_LISTED};
     ghost use Rattle.ch_read.specs.Requests.{Begun};
 
     ghost Value = { Begun };
 
-    ghost view = { λ t. record { sources = t.sources; targets = t.targets; listed = t.listed.items } };
+    ghost view = { λ t. record { purpose = t.purpose; sources = t.sources; targets = t.targets; listed = t.listed.items } };
 
     ghost invariant = { λ t. (t.sources ≤ MOST_LISTED) × (t.targets ≤ MOST_LISTED) };
 }
 
-impl BegunTable {
-    /// No table.
-    pub(crate) fn none(alloc: Global) -> BegunTable
+impl BegunLists {
+    /// No request.
+    pub(crate) fn none(alloc: Global) -> BegunLists
         ensures { result ≡ nothing }
     {
-        BegunTable {
+        BegunLists {
+            purpose: Purpose::Table(None),
             sources: 0,
             targets: 0,
             listed: Vec::new(alloc),
@@ -61,11 +72,12 @@ impl BegunTable {
         self.wanted() <= self.count()
     }
 
-    /// Begins a table of so many sources and targets, where none is begun.
-    pub(crate) fn begin(&mut self, sources: u64, targets: u64)
+    /// Begins a request of so many sources and targets, where none is begun.
+    pub(crate) fn begin(&mut self, purpose: Purpose, sources: u64, targets: u64)
         requires { (sources ≤ MOST_LISTED) × (targets ≤ MOST_LISTED) }
-        ensures { self.new ≡ record { sources = sources; targets = targets; listed = [] } }
+        ensures { self.new ≡ record { purpose = purpose; sources = sources; targets = targets; listed = [] } }
     {
+        self.purpose = purpose;
         self.sources = sources;
         self.targets = targets;
         self.listed.clear();
@@ -79,7 +91,7 @@ impl BegunTable {
         self.listed.push(node)
     }
 
-    /// The table, where it has its nodes: none is begun then.
+    /// The request, where it has its nodes: none is begun then.
     pub(crate) fn settle(&mut self, alloc: Global) -> Option<Request>
         requires { length self.old.listed ≤ wanted self.old }
         ensures { settled self.old ≡ record { given = at_most_one result; begun = self.new } }
@@ -87,10 +99,23 @@ impl BegunTable {
         if !self.is_whole() {
             return None;
         }
+        let purpose = self.purpose;
         let sources = self.sources as usize;
         let listed = mem::replace(&mut self.listed, Vec::new(alloc));
+        self.purpose = Purpose::Table(None);
         self.sources = 0;
         self.targets = 0;
-        Some(Request::Table(TableLists::new(listed, sources)))
+        Some(request_for(purpose, sources, listed))
+    }
+}
+
+/// The request of these lists.
+fn request_for(purpose: Purpose, sources: usize, listed: Vec<u32>) -> Request
+    requires { sources ≤ length listed.items }
+    ensures { result ≡ request_for purpose sources listed.items }
+{
+    match purpose {
+        Purpose::Table(within) => Request::Table(TableLists::new(listed, sources, within)),
+        Purpose::Places(count) => Request::Places(NearPlaces::new(listed, count)),
     }
 }

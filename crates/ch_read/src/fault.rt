@@ -22,8 +22,8 @@ pub enum FaultKind {
     BadLine,
     /// A node is not from 1 to the number of nodes, or a middle is past it.
     NodeRange,
-    /// The number of nodes times the weight is more than 2^60, or a leg weighs more or has more than 2^25
-    /// arcs.
+    /// The number of nodes times the weight is more than 2^60, a leg weighs more or has more than 2^25
+    /// arcs, or the limit of a request is more than 2^60.
     Sum,
     /// A declared number is past its limit, or a hierarchy's nodes are not as many as its graph's.
     Size,

@@ -30,19 +30,29 @@
 //!
 //! # Requests
 //!
-//! A stream of requests has lines `q S T`, a query, and `t K L`, a table of K sources and L targets, which are the
-//! nodes of the next K + L lines `s V`, sources first. Lines are skipped as in files, and the others are judged in
-//! order:
+//! A stream of requests has these lines. Nodes are listed by lines `s V`, which follow the line that counts them.
+//!
+//! | line | what it asks for |
+//! |---|---|
+//! | `q S T` | a query |
+//! | `r S T` | a query with its route |
+//! | `t K L`, `t K L R` | a table of the next K listed nodes and then L, sources first; its own limit is R |
+//! | `p L K` | nothing: the next L listed nodes are the places of later near rows, of which K are told, or all where K is 0 |
+//! | `n S`, `n S R` | the near row of S among the places that were given last; its own limit is R |
+//!
+//! Lines are skipped as in files, but none has more than [`MOST_LINE`] bytes. The others are judged in order:
 //!
 //! | line | check | where it fails |
 //! |---|---|---|
-//! | any | its first word is `q`, `t` or `s` | `UnknownLine` |
-//! | `q`, `t`, after the last | no table that was begun wants a node | `TooFew` |
+//! | any, also a comment | it has at most [`MOST_LINE`] bytes | `BadLine` |
+//! | any | its first word is `q`, `r`, `t`, `p`, `n` or `s` | `UnknownLine` |
+//! | all but `s`, after the last | nothing that was begun wants a node | `TooFew` |
 //! | any | it has numbers in their places, and no other words | `BadLine` |
-//! | `t` | K and L are at most [`MOST_LISTED`](ch_graph::limits::MOST_LISTED) | `Size` |
+//! | `t`, `p` | K and L are at most [`MOST_LISTED`](ch_graph::limits::MOST_LISTED) | `Size` |
+//! | `s` | what was begun wants a node | `TooMany` |
+//! | `q`, `r`, `n`, `s` | each node is from 1 to the number of nodes | `NodeRange` |
+//! | `t`, `n` | R is at most [`MOST_WEIGHT`](ch_graph::limits::MOST_WEIGHT) | `Sum` |
 //! | `t` | K times L is at most [`MOST_CELLS`](ch_work::limits::MOST_CELLS) | [`Cells`](RequestFault::Cells) |
-//! | `s` | a table that was begun wants a node | `TooMany` |
-//! | `q`, `s` | each node is from 1 to the number of nodes | `NodeRange` |
 #![tactic(auto)]
 
 mod begun;
@@ -70,7 +80,7 @@ pub use graph::{read_graph, read_graph_by, read_graph_in_sections};
 pub use laws::{one_answer, requests_by_parts, requests_whole_in_turn};
 pub use nodes::read_nodes;
 pub use queries::read_queries;
-pub use request::{Request, TableLists};
+pub use request::{MOST_LINE, NearPlaces, Request, TableLists};
 pub use request_fault::{RequestError, RequestFault};
 pub use request_reader::RequestReader;
 pub use saved::{read_saved, read_saved_by, read_saved_in_sections};

@@ -1,8 +1,9 @@
 //! The bytes of a stream that were not read yet.
-ghost use Rattle.std.specs.Prelude.{◌≡◌, ◌≤◌, ◌*◌, ◌++◌, [], None, ◌==◌, length, take, drop, position, vec_len, MatchOption, OnErr, OnOk};
+ghost use Rattle.std.specs.Prelude.{◌≡◌, ◌<◌, ◌≤◌, ◌↔◌, ◌*◌, ◌++◌, [], None, ◌==◌, length, take, drop, position, vec_len, IsTrue, MatchOption, OnErr, OnOk};
 ghost use Rattle.ch_read.specs.RequestSteps.{HasNoLine, IsLineAhead};
 
 use crate::lines::line_ahead;
+use crate::request::MOST_LINE;
 use std::alloc::{AllocError, Global};
 use std::marker::Model;
 
@@ -53,6 +54,13 @@ impl Pending {
         ensures { MatchOption result (HasNoLine ended self.now) (λ (text, taken). IsLineAhead ended self.now text.now taken) }
     {
         line_ahead(&self.bytes[self.start..], self.searched, ended)
+    }
+
+    /// Whether there are more bytes than a line may have.
+    pub(crate) fn is_long(&self) -> bool
+        ensures { IsTrue result ↔ (MOST_LINE < length self.now) }
+    {
+        self.bytes.len() - self.start > MOST_LINE
     }
 
     /// Remembers that no line feed is here, so that these bytes are not searched again when more have come.

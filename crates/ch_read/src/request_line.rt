@@ -1,21 +1,21 @@
 //! The checks of a line of a stream of requests, and what it makes.
-ghost use Rattle.std.specs.Prelude.{◌≡◌, ◌<◌, ◌≤◌, ◌*◌, [], length, IfOk, OnErr, MatchResult};
+ghost use Rattle.std.specs.Prelude.{◌≡◌, ◌<◌, ◌≤◌, ◌+◌, ◌*◌, ℕ, [], None, length, IfOk, MatchOption, OnErr, MatchResult};
 ghost use Rattle.ch_read.specs.declared.request_fault.RequestFault.TheVariants as RequestFault;
 ghost use Rattle.ch_read.specs.Words.{words};
 ghost use Rattle.ch_read.specs.Forms.{numbers_after};
 ghost use Rattle.ch_read.specs.Names.{node_from, pair_from};
-ghost use Rattle.ch_read.specs.Requests.{IsGiven, beginning, failing_at, listed_checks, query_checks, request_fault, table_fault, wanted};
-ghost use Rattle.ch_read.specs.RequestSteps.{FailsAs, IsBegun, IsLineError, Makes, PassesAs};
+ghost use Rattle.ch_read.specs.Requests.{IsGiven, count_or_all, failing_at, is_limit, listed_checks, near_checks, near_from, numbers_and_limit, places_checks, places_from, query_checks, table_fault, table_from, text_fault, wanted};
+ghost use Rattle.ch_read.specs.RequestSteps.{FailsAs, IsBegun, IsLimited, IsLineError, Makes, PassesAs};
 
-use crate::begun::BegunTable;
+use crate::begun::{BegunLists, Purpose};
 use crate::check::{check_item, is_letter};
 use crate::fault::{FaultKind, ReadFault};
 use crate::form::{Form, Heading, Part};
 use crate::lines::split_word;
 use crate::number::numbers_of;
-use crate::request::Request;
+use crate::request::{MOST_LINE, Request};
 use crate::request_fault::{RequestError, RequestFault};
-use ch_graph::limits::MOST_LISTED;
+use ch_graph::limits::{MOST_LISTED, MOST_WEIGHT};
 use ch_work::limits::MOST_CELLS;
 use std::alloc::Global;
 
@@ -24,15 +24,17 @@ pub(crate) fn read_line(
     alloc: Global,
     nodes: u32,
     line: u64,
-    begun: &mut BegunTable,
+    begun: &mut BegunLists,
     text: &[u8],
 ) -> Result<Option<Request>, RequestError>
     requires { IsBegun nodes begun.old }
-    ensures value { let ws = words text.now in
-        MatchResult result (Makes nodes line begun.old begun.new ws) (IsLineError (request_fault nodes line begun.old ws)) }
+    ensures value { MatchResult result (Makes nodes line begun.old begun.new text.now) (IsLineError (text_fault nodes line begun.old text.now)) }
     ensures within { IfOk result (λ given. IsGiven nodes given × IsBegun nodes begun.new) }
     ensures same { OnErr result (begun.new ≡ begun.old) }
 {
+    if text.len() > MOST_LINE {
+        return Err(RequestError::Fault(fault_at(line, FaultKind::BadLine)));
+    }
     let Some((first, rest)) = split_word(text) else {
         return Ok(None);
     };
@@ -43,17 +45,25 @@ pub(crate) fn read_line(
         let (from, to) = check_query(nodes, line, begun, rest)?;
         return Ok(Some(Request::Query(from, to)));
     }
-    if is_letter(first, b't') {
-        let (sources, targets) = check_table(line, begun, rest)?;
-        begun.begin(sources, targets);
-        return Ok(begun.settle(alloc));
+    if is_letter(first, b'r') {
+        let (from, to) = check_query(nodes, line, begun, rest)?;
+        return Ok(Some(Request::Route(from, to)));
     }
-    if is_letter(first, b's') {
+    if is_letter(first, b'n') {
+        let (node, within) = check_near(nodes, line, begun, rest)?;
+        return Ok(Some(Request::Near(node, within)));
+    }
+    if is_letter(first, b't') {
+        begin_table(line, begun, rest)?;
+    } else if is_letter(first, b'p') {
+        begin_places(line, begun, rest)?;
+    } else if is_letter(first, b's') {
         let node = check_listed(nodes, line, begun, rest)?;
         begun.push(node)?;
-        return Ok(begun.settle(alloc));
+    } else {
+        return Err(RequestError::Fault(fault_at(line, FaultKind::UnknownLine)));
     }
-    Err(RequestError::Fault(fault_at(line, FaultKind::UnknownLine)))
+    Ok(begun.settle(alloc))
 }
 
 /// A fault of this kind at a line.
@@ -63,11 +73,11 @@ pub(crate) fn fault_at(line: u64, kind: FaultKind) -> RequestFault
     RequestFault::Line(ReadFault { line, kind })
 }
 
-/// Judges the rest of a line after its `q`.
+/// Judges the rest of a line after its `q` or `r`.
 fn check_query(
     nodes: u32,
     line: u64,
-    begun: &BegunTable,
+    begun: &BegunLists,
     rest: &[u8],
 ) -> Result<(u32, u32), RequestFault>
     ensures value { let numbers = numbers_after [] 2 (words rest.now) in
@@ -85,12 +95,67 @@ fn check_query(
     }
 }
 
-/// Judges the rest of a line after its `t`.
-fn check_table(line: u64, begun: &BegunTable, rest: &[u8]) -> Result<(u64, u64), RequestFault>
+/// Judges the rest of a line after its `n`: the node, and the limit, if there is one.
+fn check_near(
+    nodes: u32,
+    line: u64,
+    begun: &BegunLists,
+    rest: &[u8],
+) -> Result<(u32, Option<u64>), RequestFault>
+    ensures value { let numbers = numbers_and_limit [] 1 (words rest.now) in
+        let fault = failing_at line (near_checks nodes begun.now numbers) in
+        MatchResult result (PassesAs fault numbers near_from) (FailsAs fault) }
+    ensures within { IfOk result (λ near. near.0 < nodes) }
+{
+    if !begun.is_whole() {
+        return Err(fault_at(line, FaultKind::TooFew));
+    }
+    let Some(near) = read_limited(rest, 1) else {
+        return Err(fault_at(line, FaultKind::BadLine));
+    };
+    if near.first < 1 || near.first > u64::from(nodes) {
+        return Err(fault_at(line, FaultKind::NodeRange));
+    }
+    if !is_limit(near.within) {
+        return Err(fault_at(line, FaultKind::Sum));
+    }
+    Ok(((near.first - 1) as u32, near.within))
+}
+
+/// Judges the rest of a line after its `t`, and begins its table.
+fn begin_table(line: u64, begun: &mut BegunLists, rest: &[u8]) -> Result<(), RequestFault>
+    ensures value { let numbers = numbers_and_limit [] 2 (words rest.now) in
+        let fault = table_fault line begun.old numbers in
+        MatchResult result (λ _. PassesAs fault numbers table_from begun.new) (FailsAs fault) }
+    ensures within { IfOk result (λ _. (nodes : ℕ) → IsBegun nodes begun.new) }
+    ensures same { OnErr result (begun.new ≡ begun.old) }
+{
+    if !begun.is_whole() {
+        return Err(fault_at(line, FaultKind::TooFew));
+    }
+    let Some(table) = read_limited(rest, 2) else {
+        return Err(fault_at(line, FaultKind::BadLine));
+    };
+    if table.first > MOST_LISTED || table.second > MOST_LISTED {
+        return Err(fault_at(line, FaultKind::Size));
+    }
+    if !is_limit(table.within) {
+        return Err(fault_at(line, FaultKind::Sum));
+    }
+    if table.first * table.second > u64::from(MOST_CELLS) {
+        return Err(RequestFault::Cells(line));
+    }
+    begun.begin(Purpose::Table(table.within), table.first, table.second);
+    Ok(())
+}
+
+/// Judges the rest of a line after its `p`, and begins its places.
+fn begin_places(line: u64, begun: &mut BegunLists, rest: &[u8]) -> Result<(), RequestFault>
     ensures value { let numbers = numbers_after [] 2 (words rest.now) in
-        let fault = table_fault line begun.now numbers in
-        MatchResult result (λ sizes. PassesAs fault numbers beginning (record { sources = sizes.0; targets = sizes.1; listed = [] })) (FailsAs fault) }
-    ensures within { IfOk result (λ sizes. (sizes.0 ≤ MOST_LISTED) × (sizes.1 ≤ MOST_LISTED) × (sizes.0 * sizes.1 ≤ MOST_CELLS)) }
+        let fault = failing_at line (places_checks begun.old numbers) in
+        MatchResult result (λ _. PassesAs fault numbers places_from begun.new) (FailsAs fault) }
+    ensures within { IfOk result (λ _. (nodes : ℕ) → IsBegun nodes begun.new) }
+    ensures same { OnErr result (begun.new ≡ begun.old) }
 {
     if !begun.is_whole() {
         return Err(fault_at(line, FaultKind::TooFew));
@@ -98,19 +163,24 @@ fn check_table(line: u64, begun: &BegunTable, rest: &[u8]) -> Result<(u64, u64),
     let Some(values) = numbers_of(rest, 2) else {
         return Err(fault_at(line, FaultKind::BadLine));
     };
-    let sources = values[0];
-    let targets = values[1];
-    if sources > MOST_LISTED || targets > MOST_LISTED {
+    let places = values[0];
+    let count = values[1];
+    if places > MOST_LISTED || count > MOST_LISTED {
         return Err(fault_at(line, FaultKind::Size));
     }
-    if sources * targets > u64::from(MOST_CELLS) {
-        return Err(RequestFault::Cells(line));
-    }
-    Ok((sources, targets))
+    begun.begin(Purpose::Places(count_or_all(count as u32)), 0, places);
+    Ok(())
+}
+
+/// How many places are told at most, where 0 stands for all.
+fn count_or_all(count: u32) -> Option<u32>
+    ensures { result ≡ count_or_all count }
+{
+    if count == 0 { None } else { Some(count) }
 }
 
 /// Judges the rest of a line after its `s`.
-fn check_listed(nodes: u32, line: u64, begun: &BegunTable, rest: &[u8]) -> Result<u32, RequestFault>
+fn check_listed(nodes: u32, line: u64, begun: &BegunLists, rest: &[u8]) -> Result<u32, RequestFault>
     ensures value { let numbers = numbers_after [] 1 (words rest.now) in
         let fault = failing_at line (listed_checks nodes begun.now numbers) in
         MatchResult result (PassesAs fault numbers node_from) (FailsAs fault) }
@@ -120,5 +190,49 @@ fn check_listed(nodes: u32, line: u64, begun: &BegunTable, rest: &[u8]) -> Resul
     match check_item(Form::Nodes(nodes), Part::First, all, begun.count(), rest) {
         Ok(item) => Ok(item.first),
         Err(kind) => Err(fault_at(line, kind)),
+    }
+}
+
+/// One number or two of a line, and the limit that stands after them, if there is one.
+#[derive(Clone, Copy, Debug, PartialEq, Eq)]
+struct Limited {
+    first: u64,
+    /// The second, or what stands in its place: the limit or 0.
+    second: u64,
+    within: Option<u64>,
+}
+
+/// The numbers of the words, where there are exactly `count`, or one more, which is the limit.
+fn read_limited(rest: &[u8], count: usize) -> Option<Limited>
+    requires { count ≤ 2 }
+    ensures { let numbers = numbers_and_limit [] count (words rest.now) in MatchOption result (numbers ≡ None) (IsLimited count numbers) }
+{
+    if let Some(values) = numbers_of(rest, count) {
+        let first = values[0];
+        let second = values[1];
+        return Some(Limited {
+            first,
+            second,
+            within: None,
+        });
+    }
+    let values = numbers_of(rest, count + 1)?;
+    let first = values[0];
+    let second = values[1];
+    let most = values[count];
+    Some(Limited {
+        first,
+        second,
+        within: Some(most),
+    })
+}
+
+/// Whether a limit is not past the greatest distance, where there is one.
+fn is_limit(within: Option<u64>) -> bool
+    ensures { result ≡ is_limit within }
+{
+    match within {
+        Some(most) => most <= MOST_WEIGHT,
+        None => true,
     }
 }

@@ -3,7 +3,7 @@ ghost use Rattle.std.specs.Prelude.{◌≡◌, [], None, IfErr, IfOk, OnErr, OnO
 ghost use Rattle.ch_read.specs.Requests.{Gives, IsErrorAhead, IsGiven, IsUsedUp, at_most_one, fed, starting};
 ghost use Rattle.ch_read.specs.RequestSteps.{IsGivenBy, IsStep};
 
-use crate::begun::BegunTable;
+use crate::begun::BegunLists;
 use crate::fault::FaultKind;
 use crate::pending::Pending;
 use crate::request::Request;
@@ -28,7 +28,7 @@ enum Step {
 pub struct RequestReader {
     nodes: u32,
     line: u64,
-    begun: BegunTable,
+    begun: BegunLists,
     pending: Pending,
 }
 
@@ -51,7 +51,7 @@ impl RequestReader {
         RequestReader {
             nodes,
             line: 0,
-            begun: BegunTable::none(alloc),
+            begun: BegunLists::none(alloc),
             pending: Pending::new(alloc),
         }
     }
@@ -100,6 +100,9 @@ impl RequestReader {
     {
         let line = self.line.saturating_add(1);
         let Some((text, taken)) = self.pending.line(ended) else {
+            if self.pending.is_long() {
+                return Err(RequestError::Fault(fault_at(line, FaultKind::BadLine)));
+            }
             self.pending.note_searched();
             if ended && !self.begun.is_whole() {
                 return Err(RequestError::Fault(fault_at(line, FaultKind::TooFew)));

@@ -4,11 +4,11 @@ use Rattle.std.specs.Prelude.{◌↔◌, ◌⊎◌, IsErrAnd}
 use Rattle.std.proofs.lemmas.Bool.{cases_lt}
 use Rattle.ch_run.specs.declared.fault.RunFault.{RunFault}
 use Rattle.ch_run.specs.declared.run.batch.Then.{Then}
-use Rattle.ch_run.specs.declared.run.batch.Then.TheVariants.{Table, More, Nothing, Stop}
+use Rattle.ch_run.specs.declared.run.batch.Then.TheVariants.{More, Nothing, Stop}
 use Rattle.ch_run.specs.declared.fault.Which.{Which}
 use Rattle.ch_text.specs.Device.{CountsAtMostOneOf}
 use Rattle.ch_run.specs.Run.{IsWrite}
-use Rattle.ch_run.specs.Serving.{CountsWrites, IsWithin, end_of, refused_writes}
+use Rattle.ch_run.specs.Serving.{CountsWrites, IsAfter, end_of, refused_writes}
 
 -- a result tells of one refused write, or of none
 told : {T : Type 0} (r : Result T RunFault) → (IsErrAnd r IsWrite × (refused_writes r ≡ 1)) ⊎ ((IsErrAnd r IsWrite → ⊥) × (refused_writes r ≡ 0))
@@ -16,6 +16,7 @@ told (Ok x) = inr (λ h. h, refl)
 told (Err (RunFault.Write count)) = inl (tt, refl)
 told (Err RunFault.Memory) = inr (λ h. h, refl)
 told (Err RunFault.Cells) = inr (λ h. h, refl)
+told (Err (RunFault.CellsAt line)) = inr (λ h. h, refl)
 told (Err (RunFault.Read which f)) = inr (λ h. h, refl)
 told (Err (RunFault.Check f)) = inr (λ h. h, refl)
 told (Err (RunFault.Device which)) = inr (λ h. h, refl)
@@ -54,27 +55,27 @@ pub counted_well : (failed failed' idle idle' : ℕ) → CountsWrites {T = Unit}
 counted_well failed failed' idle idle' h = let a = h.failed_grows in let b = h.idle_grows in let c = h.together in (omega arith, omega arith)
 
 -- what a batch ends in is no refused write
-pub end_unrefused : (n : ℕ) (ends : Then) → IsWithin n ends → refused_writes (end_of ends) ≡ 0
-end_unrefused n (Table lists) is = refl
-end_unrefused n More is = refl
-end_unrefused n Nothing is = refl
-end_unrefused n (Stop RunFault.Memory) is = refl
-end_unrefused n (Stop RunFault.Cells) is = refl
-end_unrefused n (Stop (RunFault.Read Which.Requests f)) is = refl
-end_unrefused n (Stop (RunFault.Write count)) is = absurd is
-end_unrefused n (Stop (RunFault.Read Which.Graph f)) is = absurd is
-end_unrefused n (Stop (RunFault.Read Which.Queries f)) is = absurd is
-end_unrefused n (Stop (RunFault.Read Which.Sources f)) is = absurd is
-end_unrefused n (Stop (RunFault.Read Which.Targets f)) is = absurd is
-end_unrefused n (Stop (RunFault.Read Which.Saved f)) is = absurd is
-end_unrefused n (Stop (RunFault.Check f)) is = absurd is
-end_unrefused n (Stop (RunFault.Device which)) is = absurd is
+pub end_unrefused : (ends : Then) → IsAfter ends → refused_writes (end_of ends) ≡ 0
+end_unrefused More is = refl
+end_unrefused Nothing is = refl
+end_unrefused (Stop RunFault.Memory) is = refl
+end_unrefused (Stop (RunFault.CellsAt line)) is = refl
+end_unrefused (Stop RunFault.Cells) is = absurd is
+end_unrefused (Stop (RunFault.Read Which.Requests f)) is = refl
+end_unrefused (Stop (RunFault.Write count)) is = absurd is
+end_unrefused (Stop (RunFault.Read Which.Graph f)) is = absurd is
+end_unrefused (Stop (RunFault.Read Which.Queries f)) is = absurd is
+end_unrefused (Stop (RunFault.Read Which.Sources f)) is = absurd is
+end_unrefused (Stop (RunFault.Read Which.Targets f)) is = absurd is
+end_unrefused (Stop (RunFault.Read Which.Saved f)) is = absurd is
+end_unrefused (Stop (RunFault.Check f)) is = absurd is
+end_unrefused (Stop (RunFault.Device which)) is = absurd is
 
 -- what was counted until a batch was answered is what was counted in the end
-pub counted_batch : (n : ℕ) (start failed failed' first idle idle' : ℕ) (ends : Then) (end : Result Unit RunFault) → IsWithin n ends → failed ≡ start → idle ≡ first → CountsWrites {T = Unit} failed failed' idle idle' (Ok tt) →
+pub counted_batch : (start failed failed' first idle idle' : ℕ) (ends : Then) (end : Result Unit RunFault) → IsAfter ends → failed ≡ start → idle ≡ first → CountsWrites {T = Unit} failed failed' idle idle' (Ok tt) →
     end ≡ end_of ends → CountsWrites start failed' first idle' end
-counted_batch n start failed failed' first idle idle' ends end is e f h same =
-    let none : refused_writes end ≡ 0 = rw same (end_unrefused n ends is) in
+counted_batch start failed failed' first idle idle' ends end is e f h same =
+    let none : refused_writes end ≡ 0 = rw same (end_unrefused ends is) in
     let a = h.failed_grows in
     let b = h.idle_grows in
     let c = h.together in

@@ -26,6 +26,7 @@ unread_is_of which (RunFault.Device input) h = h
 unread_is_of which RunFault.Memory h = tt
 unread_is_of which (RunFault.Read input f) h = absurd h
 unread_is_of which RunFault.Cells h = absurd h
+unread_is_of which (RunFault.CellsAt line) h = absurd h
 unread_is_of which (RunFault.Write count) h = absurd h
 unread_is_of which (RunFault.Check f) h = absurd h
 
@@ -35,6 +36,7 @@ of_one which other (RunFault.Read input f) h k = k.0 ∙ sym h
 of_one which other RunFault.Memory h k = absurd (k.1 refl)
 of_one which other (RunFault.Device input) h k = k.0 ∙ sym h
 of_one which other RunFault.Cells h k = absurd h
+of_one which other (RunFault.CellsAt line) h k = k.0 ∙ sym h
 of_one which other (RunFault.Write count) h k = absurd h
 of_one which other (RunFault.Check f) h k = k.0 ∙ sym h
 

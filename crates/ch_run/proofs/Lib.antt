@@ -6,6 +6,7 @@ pub mod OneSavedText
 pub mod Writes
 pub mod ReadBack
 pub mod Answered
+pub mod Gathered
 pub mod Served
 pub mod Counted
 pub mod Nears

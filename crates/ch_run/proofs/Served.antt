@@ -1,33 +1,54 @@
 -- Requests that are read and answered as they come.
-use Rattle.std.proofs.Common.{◌≡◌, ℕ, ◌<◌, ◌==◌, Bool, true, false, not, ◌&&◌, List, [], ◌∷◌, ◌++◌, length, take, Option, Some, None, Result, Ok, Err, inl, inr, refl, sym, ap, ◌∙◌, subst, append_assoc}
-use Rattle.std.specs.Prelude.{IfErr, IsErrAnd, IsNone, map, is_ok, is_err, if◌then◌else◌}
+use Rattle.std.proofs.Common.{◌≡◌, ℕ, ◌<◌, ◌==◌, Bool, true, false, not, ◌&&◌, List, [], ◌∷◌, ◌++◌, length, take, Option, Some, None, Result, Ok, Err, inl, inr, refl, sym, ap, ◌∙◌, subst, arith, append_assoc}
+use Rattle.std.specs.Prelude.{IfErr, IsErrAnd, IsNone, OnOk, is_ok, is_err, if◌then◌else◌}
 use Rattle.std.proofs.lemmas.Bool.{eqb-true}
 use Rattle.std.proofs.lemmas.List.{append-nil}
 use Rattle.ch_read.specs.declared.request.Request.{Request}
-use Rattle.ch_read.specs.declared.request.Request.TheVariants.{Query, Table as TableOf}
-use Rattle.ch_read.specs.RequestLists.{TwoLists}
+use Rattle.ch_read.specs.declared.request.Request.TheVariants.{Query, Route, Table as TableOf, Places as PlacesOf, Near}
+use Rattle.ch_read.specs.RequestLists.{PlaceList}
 use Rattle.ch_read.specs.declared.request_fault.RequestFault.{RequestFault}
 use Rattle.ch_read.specs.declared.request_fault.RequestFault.TheVariants.{Line, Cells}
 use Rattle.ch_read.specs.declared.request_fault.RequestError.{RequestError}
 use Rattle.ch_read.specs.declared.request_fault.RequestError.TheVariants.{Fault, NoMemory}
 use Rattle.ch_read.specs.Words.{lines}
-use Rattle.ch_read.specs.Requests.{Gives, IsErrorAhead, IsUsedUp, MayCome, Standing, Told, after_these, ahead, fed, query_from, starting, stopping, told, told_by}
+use Rattle.ch_read.specs.Requests.{Gives, IsErrorAhead, IsUsedUp, MayCome, Standing, Told, after_these, ahead, fed, starting, stopping, told, told_by}
 use Rattle.ch_read.proofs.RequestsHeldBack.{not_held_back}
 use Rattle.ch_run.specs.declared.fault.RunFault.{RunFault}
 use Rattle.ch_run.specs.declared.fault.Which.{Which}
 use Rattle.ch_text.specs.Device.{GivesBytes, HasGiven, HasRead}
 use Rattle.ch_run.specs.Run.{Reading, IsWrite}
-use Rattle.ch_run.specs.Ask.{IsOfServing, IsRequestText, Serves, TellsThen, TookAnswers, whole_in}
-use Rattle.ch_run.specs.declared.run.batch.Then.TheVariants.{Table, More, Nothing, Stop}
-use Rattle.ch_run.specs.Serving.{Answers, GivesUntil, IsOfAnswering, IsToldAfter, end_of, request_refusal, requests_of}
+use Rattle.ch_run.specs.Ask.{AreAnswered, IsOfServing, IsRequestText, IsTextOfRequest, Serves, TellsThen, TextOf, TookAnswers, no_places, order_built, places_after, places_then, whole_in}
+use Rattle.ch_run.specs.declared.run.batch.Then.TheVariants.{More, Nothing, Stop}
+use Rattle.ch_run.specs.Serving.{Answers, GivesUntil, IsOfAnswering, IsToldAfter, end_of, request_refusal}
 use Rattle.ch_graph.specs.Graph.{Network}
 use Rattle.ch_hierarchy.specs.Hierarchy.{LevelsAndLegs}
 use Rattle.ch_contract.specs.Built.{IsHierarchyBy}
 use Rattle.ch_contract.specs.declared.measure.OrderBy.{OrderBy}
 use Rattle.ch_run.specs.declared.options.Options.{Options}
-use Rattle.ch_run.specs.Text.{IsTextBy}
-use Rattle.ch_run.proofs.Texts.{each_weaker, text_in}
+use Rattle.ch_run.specs.Text.{writes_routes}
+use Rattle.ch_run.proofs.Texts.{text_in}
 use Rattle.ch_run.proofs.Answered.{answered_none, answers_more, taken_none}
+
+-- the places after requests, and more requests
+pub places_append : (places : PlaceList) (xs ys : List Request) → places_after places (xs ++ ys) ≡ places_after (places_after places xs) ys
+places_append places [] ys = refl
+places_append places (x ∷ xs) ys = places_append (places_then places x) xs ys
+
+-- requests that were answered, and then more by the places that were given last
+pub answers_on : (IsTextOf : TextOf) {T : Type 0} (places held : PlaceList) (old mid new : Option (List ℕ)) (before between after : ℕ) (xs ys : List Request) (r : Result T RunFault) →
+    Answers {T = Unit} IsTextOf places old mid before between xs (Ok tt) → held ≡ places_after places xs → Answers IsTextOf held mid new between after ys r → Answers IsTextOf places old new before after (xs ++ ys) r
+answers_on IsTextOf places held old mid new before between after xs ys r h is k =
+    answers_more IsTextOf places old mid new before between after xs ys r h (subst (λ (p : PlaceList). Answers IsTextOf p mid new between after ys r) is k)
+
+-- nothing is owed of a call that ended well where a fault was passed on
+pub passed_err : (X : Type 0) (r : Result Unit RunFault) (e : RunFault) → IsErrAnd r (λ y. y ≡ e) → OnOk r X
+passed_err X (Ok x) e is = absurd is
+passed_err X (Err y) e is = tt
+
+-- what holds is so of a call that ended well
+pub of_value : (X : Type 0) (r : Result Unit RunFault) → X → OnOk r X
+of_value X (Ok x) is = is
+of_value X (Err e) is = tt
 
 -- what readers give
 
@@ -64,27 +85,23 @@ refused_next : (ended : Bool) (old mid new : Standing) (xs : List Request) (erro
 refused_next ended old mid new xs (Fault (Line fault)) h stops = λ more may.
     (record { given = []; fault = Some (Line fault) }, h more may ∙ ap (after_these xs) (stops more may), refl)
 refused_next ended old mid new xs (Fault (Cells line)) h stops = λ more may.
-    (record { given = []; fault = Some (Cells line) }, h more may ∙ ap (after_these xs) (stops more may), (line, refl))
+    (record { given = []; fault = Some (Cells line) }, h more may ∙ ap (after_these xs) (stops more may), refl)
 refused_next ended old mid new xs NoMemory h stops = λ more may. (ahead mid more, h more may, tt)
 
--- what comes after the queries of a batch
+-- what comes after the requests of a batch
 
-module _ (ended : Bool) (old mid new : Standing) (queries : List (ℕ × ℕ)) where
-  pub batch_more : Gives ended old new (map query_from queries) → GivesUntil ended old new (requests_of queries More) (end_of More)
-  batch_more h = well_given ended old new (map query_from queries ++ []) (rw append-nil h)
+module _ (ended : Bool) (old mid new : Standing) (requests : List Request) where
+  pub batch_more : Gives ended old new requests → GivesUntil ended old new requests (end_of More)
+  batch_more h = well_given ended old new requests h
 
-  pub batch_table : (lists : TwoLists) → Gives ended old mid (map query_from queries) → Gives ended mid new (TableOf lists ∷ []) → GivesUntil ended old new (requests_of queries (Table lists)) (end_of (Table lists))
-  batch_table lists h k = well_given ended old new (map query_from queries ++ TableOf lists ∷ []) (gives_more ended old mid new (map query_from queries) (TableOf lists ∷ []) h k)
+  pub batch_nothing : Gives ended old mid requests → Gives ended mid new [] → GivesUntil ended old new requests (end_of Nothing)
+  batch_nothing h k = well_given ended old new requests (subst (Gives ended old new) (append-nil requests) (gives_more ended old mid new requests [] h k))
 
-  pub batch_nothing : Gives ended old mid (map query_from queries) → Gives ended mid new [] → GivesUntil ended old new (requests_of queries Nothing) (end_of Nothing)
-  batch_nothing h k = well_given ended old new (map query_from queries ++ []) (gives_more ended old mid new (map query_from queries) [] h k)
+  pub batch_refused : Gives ended old mid requests → GivesUntil ended old new requests (end_of (Stop RunFault.Memory))
+  batch_refused h = given_without ended old mid new requests RunFault.Memory h (λ next rest. tt)
 
-  pub batch_refused : Gives ended old mid (map query_from queries) → GivesUntil ended old new (requests_of queries (Stop RunFault.Memory)) (end_of (Stop RunFault.Memory))
-  batch_refused h = given_without ended old mid new (map query_from queries ++ []) RunFault.Memory (rw append-nil h) (λ next rest. tt)
-
-  pub batch_stopped : (error : RequestError) → Gives ended old mid (map query_from queries) → IsErrorAhead ended mid error →
-      GivesUntil ended old new (requests_of queries (Stop (request_refusal error))) (end_of (Stop (request_refusal error)))
-  batch_stopped error h stops = refused_next ended old mid new (map query_from queries ++ []) error (rw append-nil h) stops
+  pub batch_stopped : (error : RequestError) → Gives ended old mid requests → IsErrorAhead ended mid error → GivesUntil ended old new requests (end_of (Stop (request_refusal error)))
+  batch_stopped error h stops = refused_next ended old mid new requests error h stops
 
 -- nothing was pushed where memory was refused
 pub not_pushed : {T E A : Type 0} (r : Result T E) (xs more all : List A) → is_err r ≡ true → all ≡ (if is_ok r then more else xs) → all ≡ xs
@@ -96,6 +113,7 @@ told_write : (e : RunFault) → IsWrite e → (next rest : Told) → IsToldAfter
 told_write (RunFault.Write count) is next rest = tt
 told_write RunFault.Memory is next rest = absurd is
 told_write RunFault.Cells is next rest = absurd is
+told_write (RunFault.CellsAt line) is next rest = absurd is
 told_write (RunFault.Read which f) is next rest = absurd is
 told_write (RunFault.Check f) is next rest = absurd is
 told_write (RunFault.Device which) is next rest = absurd is
@@ -118,9 +136,10 @@ own_fault ended old new xs e h = let step = h [] (λ is. refl) in at e (ahead ne
   where
     at : (e : RunFault) (next rest : Told) → IsToldAfter {T = Unit} (Err e) next rest → IsOfServing e
     at (RunFault.Read Which.Requests f) next rest is = inl refl
-    at RunFault.Cells next rest is = inr (inl refl)
+    at (RunFault.CellsAt line) next rest is = inl refl
+    at RunFault.Cells next rest is = absurd is
     at RunFault.Memory next rest is = inl tt
-    at (RunFault.Write count) next rest is = inr (inr tt)
+    at (RunFault.Write count) next rest is = inr tt
     at (RunFault.Read Which.Graph f) next rest is = absurd is
     at (RunFault.Read Which.Queries f) next rest is = absurd is
     at (RunFault.Read Which.Sources f) next rest is = absurd is
@@ -176,9 +195,9 @@ whole_given : (n : ℕ) (bytes : List ℕ) (s : Standing) (given : List Request)
 whole_given n bytes s given h none =
     sym (append-nil given) ∙ not_held_back n ((bytes, given) ∷ []) s (s, (λ more may. h more), refl) none ∙ ap (whole_in n) (append-nil bytes)
 
-module _ (IsTextOf : Request → List ℕ → Type 0) (n : ℕ) where
+module _ (IsTextOf : TextOf) (n : ℕ) where
   -- these bytes were read and all that is whole in them is answered, the reader stands so, and the output took so many bytes
-  pub record HasServed (requests : Reading) (old new : Option (List ℕ)) (written : ℕ) (s : Standing) : Type 0 where
+  pub record HasServed (requests : Reading) (old new : Option (List ℕ)) (written : ℕ) (s : Standing) (held : PlaceList) : Type 0 where
     pub read : List ℕ
     pub left : List ℕ
     pub given : List Request
@@ -186,10 +205,11 @@ module _ (IsTextOf : Request → List ℕ → Type 0) (n : ℕ) where
     pub nodes : s.nodes ≡ n
     pub ahead_is : (more : List ℕ) → told_by n (read ++ more) ≡ after_these given (ahead s more)
     pub used_up : IsUsedUp false s
-    pub answered : Answers {T = Unit} IsTextOf old new 0 written given (Ok tt)
+    pub answered : Answers {T = Unit} IsTextOf no_places old new 0 written given (Ok tt)
+    pub held_is : held ≡ places_after no_places given
 
   -- bytes were read, and fed to the reader; at the end none is left
-  pub record HasFed (ended : Bool) (requests : Reading) (old new : Option (List ℕ)) (written : ℕ) (s : Standing) : Type 0 where
+  pub record HasFed (ended : Bool) (requests : Reading) (old new : Option (List ℕ)) (written : ℕ) (s : Standing) (held : PlaceList) : Type 0 where
     pub read : List ℕ
     pub left : List ℕ
     pub given : List Request
@@ -197,9 +217,10 @@ module _ (IsTextOf : Request → List ℕ → Type 0) (n : ℕ) where
     pub ends : MayCome ended left
     pub nodes : s.nodes ≡ n
     pub ahead_is : (more : List ℕ) → told_by n (read ++ more) ≡ after_these given (ahead s more)
-    pub answered : Answers {T = Unit} IsTextOf old new 0 written given (Ok tt)
+    pub answered : Answers {T = Unit} IsTextOf no_places old new 0 written given (Ok tt)
+    pub held_is : held ≡ places_after no_places given
 
-  pub served_none : (input : Option (List ℕ)) (output : Option (List ℕ)) → HasServed (record { before = input; after = input }) output output 0 (starting n)
+  pub served_none : (input : Option (List ℕ)) (output : Option (List ℕ)) → HasServed (record { before = input; after = input }) output output 0 (starting n) no_places
   served_none input output =
       let none = read_none input [] in
       record {
@@ -209,15 +230,16 @@ module _ (IsTextOf : Request → List ℕ → Type 0) (n : ℕ) where
         input = none.1;
         nodes = refl;
         ahead_is = λ more. refl;
-        used_up = refl;
-        answered = ([], answered_none IsTextOf, taken_none output, refl);
+        used_up = (refl, omega arith);
+        answered = ([], answered_none IsTextOf no_places, taken_none output, refl);
+        held_is = refl;
       }
 
   -- one more read is fed
-  pub served_fed : (E : Type 0) (before mid after old new : Option (List ℕ)) (written : ℕ) (s : Standing) (buffer : List ℕ) (count : ℕ) →
-      HasServed (record { before = before; after = mid }) old new written s → GivesBytes {E = E} mid after (Ok count) buffer → 0 < length buffer →
-      HasFed (count == 0) (record { before = before; after = after }) old new written (fed s (take count buffer))
-  served_fed E before mid after old new written s buffer count h gives room =
+  pub served_fed : (E : Type 0) (before mid after old new : Option (List ℕ)) (written : ℕ) (s : Standing) (held : PlaceList) (buffer : List ℕ) (count : ℕ) →
+      HasServed (record { before = before; after = mid }) old new written s held → GivesBytes {E = E} mid after (Ok count) buffer → 0 < length buffer →
+      HasFed (count == 0) (record { before = before; after = after }) old new written (fed s (take count buffer)) held
+  served_fed E before mid after old new written s held buffer count h gives room =
       let on = read_on E before mid after h.read h.left buffer count h.input gives room in
       record {
         read = h.read ++ take count buffer;
@@ -229,21 +251,27 @@ module _ (IsTextOf : Request → List ℕ → Type 0) (n : ℕ) where
         ahead_is = λ more.
             ap (told_by n) (append_assoc h.read (take count buffer) more) ∙ h.ahead_is (take count buffer ++ more) ∙ ap (after_these h.given) (fed_ahead s (take count buffer) more);
         answered = h.answered;
+        held_is = h.held_is;
       }
 
   -- the reader is fed what was read
-  pub fed_more : (E : Type 0) (before mid after old new : Option (List ℕ)) (written : ℕ) (s next : Standing) (buffer slice : List ℕ) (count : ℕ) → next ≡ fed s slice → slice ≡ take count buffer →
-      HasServed (record { before = before; after = mid }) old new written s → GivesBytes {E = E} mid after (Ok count) buffer → 0 < length buffer →
-      HasFed (count == 0) (record { before = before; after = after }) old new written next
-  fed_more E before mid after old new written s next buffer slice count is same h gives room =
-      subst (HasFed (count == 0) (record { before = before; after = after }) old new written) (sym (is ∙ ap (fed s) same)) (served_fed E before mid after old new written s buffer count h gives room)
+  pub fed_more : (E : Type 0) (before mid after old new : Option (List ℕ)) (written : ℕ) (s next : Standing) (held : PlaceList) (buffer slice : List ℕ) (count : ℕ) → next ≡ fed s slice → slice ≡ take count buffer →
+      HasServed (record { before = before; after = mid }) old new written s held → GivesBytes {E = E} mid after (Ok count) buffer → 0 < length buffer →
+      HasFed (count == 0) (record { before = before; after = after }) old new written next held
+  fed_more E before mid after old new written s next held buffer slice count is same h gives room =
+      subst (λ (t : Standing). HasFed (count == 0) (record { before = before; after = after }) old new written t held) (sym (is ∙ ap (fed s) same)) (served_fed E before mid after old new written s held buffer count h gives room)
 
-  module _ (requests : Reading) (old mid new : Option (List ℕ)) (before after : ℕ) (s next : Standing) (given : List Request) where
+  module _ (requests : Reading) (old mid new : Option (List ℕ)) (before after : ℕ) (s next : Standing) (held : PlaceList) (given : List Request) where
+    -- what is answered next is answered by the places that were given last
+    held_next : {T : Type 0} (ended : Bool) (h : HasFed ended requests old mid before s held) (r : Result T RunFault) → Answers IsTextOf held mid new before after given r →
+        Answers IsTextOf (places_after no_places h.given) mid new before after given r
+    held_next ended h r answers = subst (λ (p : PlaceList). Answers IsTextOf p mid new before after given r) h.held_is answers
+
     -- what was whole is answered, and there may be more
-    pub fed_served : (ended : Bool) → ended ≡ false → HasFed ended requests old mid before s → GivesUntil {T = Unit} ended s next given (Ok tt) → Answers {T = Unit} IsTextOf mid new before after given (Ok tt) →
-        IsUsedUp ended next → next.nodes ≡ s.nodes → HasServed requests old new after next
-    fed_served true is h gives answers used_up same = cc
-    fed_served false is h gives answers used_up same = record {
+    pub fed_served : (ended : Bool) → ended ≡ false → HasFed ended requests old mid before s held → GivesUntil {T = Unit} ended s next given (Ok tt) → Answers {T = Unit} IsTextOf held mid new before after given (Ok tt) →
+        IsUsedUp ended next → next.nodes ≡ s.nodes → (new_held : PlaceList) → new_held ≡ places_after held given → HasServed requests old new after next new_held
+    fed_served true is h gives answers used_up same new_held held_is = cc
+    fed_served false is h gives answers used_up same new_held held_is = record {
       read = h.read;
       left = h.left;
       given = h.given ++ given;
@@ -251,11 +279,12 @@ module _ (IsTextOf : Request → List ℕ → Type 0) (n : ℕ) where
       nodes = same ∙ h.nodes;
       ahead_is = λ more. h.ahead_is more ∙ ap (after_these h.given) (given_well false s next given gives more (λ e. cc)) ∙ after_both h.given given (ahead next more);
       used_up = used_up;
-      answered = answers_more IsTextOf {T = Unit} old mid new 0 before after h.given given (Ok tt) h.answered answers;
+      answered = answers_more IsTextOf {T = Unit} no_places old mid new 0 before after h.given given (Ok tt) h.answered (held_next {T = Unit} false h (Ok tt) answers);
+      held_is = held_is ∙ ap (λ (p : PlaceList). places_after p given) h.held_is ∙ sym (places_append no_places h.given given);
     }
 
     -- all is answered at the end
-    pub fed_done : (ended : Bool) → ended ≡ true → HasFed ended requests old mid before s → GivesUntil {T = Unit} ended s next given (Ok tt) → Answers {T = Unit} IsTextOf mid new before after given (Ok tt) →
+    pub fed_done : (ended : Bool) → ended ≡ true → HasFed ended requests old mid before s held → GivesUntil {T = Unit} ended s next given (Ok tt) → Answers {T = Unit} IsTextOf held mid new before after given (Ok tt) →
         IsUsedUp ended next → Serves {T = Unit} IsTextOf n requests old new (Ok tt)
     fed_done false is h gives answers used_up = cc
     fed_done true is h gives answers used_up =
@@ -264,47 +293,48 @@ module _ (IsTextOf : Request → List ℕ → Type 0) (n : ℕ) where
         let all : told_by n (h.read ++ []) ≡ after_these (h.given ++ given) (stopping None) =
         h.ahead_is [] ∙ ap (after_these h.given) (given_well true s next given gives [] (λ e. refl)) ∙ after_both h.given given (ahead next []) ∙ ap (after_these (h.given ++ given)) nothing_ahead in
         let whole : told_by n h.read ≡ after_these (h.given ++ given) (stopping None) = ap (told_by n) (sym (append-nil h.read)) ∙ all in
-        let took = answers_more IsTextOf {T = Unit} old mid new 0 before after h.given given (Ok tt) h.answered answers in
+        let took = answers_more IsTextOf {T = Unit} no_places old mid new 0 before after h.given given (Ok tt) h.answered (held_next {T = Unit} true h (Ok tt) answers) in
         let given_is : (told_by n h.read).given ≡ h.given ++ given = ap (λ t. t.given) whole ∙ append-nil (h.given ++ given) in
-        (h.read, all_given requests.before requests.after h.read h.left h.input (h.ends refl), (ap (λ t. t.fault) whole, subst (TookAnswers IsTextOf old new) (sym given_is) (took.0, took.1, took.2)))
+        (h.read, all_given requests.before requests.after h.read h.left h.input (h.ends refl), (ap (λ t. t.fault) whole, subst (TookAnswers IsTextOf no_places old new) (sym given_is) (took.0, took.1, took.2)))
 
     -- what is told of the whole input
-    fed_told : (ended : Bool) (h : HasFed ended requests old mid before s) (rest : Told) → ahead s h.left ≡ after_these given rest → told_by n (h.read ++ h.left) ≡ after_these (h.given ++ given) rest
+    fed_told : (ended : Bool) (h : HasFed ended requests old mid before s held) (rest : Told) → ahead s h.left ≡ after_these given rest → told_by n (h.read ++ h.left) ≡ after_these (h.given ++ given) rest
     fed_told ended h rest is = h.ahead_is h.left ∙ ap (after_these h.given) is ∙ after_both h.given given rest
 
     -- the first of what was given is the first of what is told
-    first_told : (ended : Bool) (h : HasFed ended requests old mid before s) (rest : Told) (first later : List Request) → ahead s h.left ≡ after_these given rest → h.given ++ given ≡ first ++ later →
+    first_told : (ended : Bool) (h : HasFed ended requests old mid before s held) (rest : Told) (first later : List Request) → ahead s h.left ≡ after_these given rest → h.given ++ given ≡ first ++ later →
         (told_by n (h.read ++ h.left)).given ≡ first ++ (later ++ rest.given)
     first_told ended h rest first later is same =
         ap (λ t. t.given) (fed_told ended h rest is) ∙ ap (λ xs. xs ++ rest.given) same ∙ append_assoc first later rest.given
 
     -- a fault comes after all that was given, and all of it is answered
-    told_fault : (ended : Bool) (h : HasFed ended requests old mid before s) (rest : Told) (fault : RequestFault) → ahead s h.left ≡ after_these given rest → rest ≡ record { given = []; fault = Some fault } →
-        TookAnswers IsTextOf old new (h.given ++ given) → TellsThen n (Some fault) (TookAnswers IsTextOf old new) (h.read ++ h.left)
+    told_fault : (ended : Bool) (h : HasFed ended requests old mid before s held) (rest : Told) (fault : RequestFault) → ahead s h.left ≡ after_these given rest → rest ≡ record { given = []; fault = Some fault } →
+        TookAnswers IsTextOf no_places old new (h.given ++ given) → TellsThen n (Some fault) (TookAnswers IsTextOf no_places old new) (h.read ++ h.left)
     told_fault ended h rest fault is rest_is took =
         let whole = fed_told ended h rest is in
         let given_is : (told_by n (h.read ++ h.left)).given ≡ h.given ++ given =
         ap (λ t. t.given) whole ∙ ap (λ (t : Told). (h.given ++ given) ++ t.given) rest_is ∙ append-nil (h.given ++ given) in
-        (ap (λ t. t.fault) whole ∙ ap (λ (t : Told). t.fault) rest_is, subst (TookAnswers IsTextOf old new) (sym given_is) took)
+        (ap (λ t. t.fault) whole ∙ ap (λ (t : Told). t.fault) rest_is, subst (TookAnswers IsTextOf no_places old new) (sym given_is) took)
 
     -- the run ends in the fault that answering ended in
-    pub fed_refused : (ended : Bool) (fault : RunFault) → HasFed ended requests old mid before s → GivesUntil {T = Unit} ended s next given (Err fault) →
-        Answers {T = Unit} IsTextOf mid new before after given (Err fault) → Serves {T = Unit} IsTextOf n requests old new (Err fault)
+    pub fed_refused : (ended : Bool) (fault : RunFault) → HasFed ended requests old mid before s held → GivesUntil {T = Unit} ended s next given (Err fault) →
+        Answers {T = Unit} IsTextOf held mid new before after given (Err fault) → Serves {T = Unit} IsTextOf n requests old new (Err fault)
     fed_refused ended (RunFault.Read Which.Requests fault) h gives answers =
         let step = gives h.left h.ends in
-        let took = answers_more IsTextOf {T = Unit} old mid new 0 before after h.given given (Err (RunFault.Read Which.Requests fault)) h.answered answers in
+        let took = answers_more IsTextOf {T = Unit} no_places old mid new 0 before after h.given given (Err (RunFault.Read Which.Requests fault)) h.answered (held_next {T = Unit} ended h (Err (RunFault.Read Which.Requests fault)) answers) in
         (h.read, h.left, h.input, told_fault ended h step.0 (Line fault) step.1 step.2 took)
-    fed_refused ended RunFault.Cells h gives answers =
+    fed_refused ended (RunFault.CellsAt line) h gives answers =
         let step = gives h.left h.ends in
-        let took = answers_more IsTextOf {T = Unit} old mid new 0 before after h.given given (Err RunFault.Cells) h.answered answers in
-        (h.read, h.left, h.input, (step.2.0, told_fault ended h step.0 (Cells step.2.0) step.1 step.2.1 took))
+        let took = answers_more IsTextOf {T = Unit} no_places old mid new 0 before after h.given given (Err (RunFault.CellsAt line)) h.answered (held_next {T = Unit} ended h (Err (RunFault.CellsAt line)) answers) in
+        (h.read, h.left, h.input, told_fault ended h step.0 (Cells line) step.1 step.2 took)
+    fed_refused ended RunFault.Cells h gives answers = absurd (gives h.left h.ends).2
     fed_refused ended RunFault.Memory h gives answers =
         let step = gives h.left h.ends in
-        let took = answers_more IsTextOf {T = Unit} old mid new 0 before after h.given given (Err RunFault.Memory) h.answered answers in
+        let took = answers_more IsTextOf {T = Unit} no_places old mid new 0 before after h.given given (Err RunFault.Memory) h.answered (held_next {T = Unit} ended h (Err RunFault.Memory) answers) in
         (h.read, h.left, h.input, (took.0, took.1 ++ step.0.given, first_told ended h step.0 took.0 took.1 step.1 took.2, took.3))
     fed_refused ended (RunFault.Write count) h gives answers =
         let step = gives h.left h.ends in
-        let took = answers_more IsTextOf {T = Unit} old mid new 0 before after h.given given (Err (RunFault.Write count)) h.answered answers in (
+        let took = answers_more IsTextOf {T = Unit} no_places old mid new 0 before after h.given given (Err (RunFault.Write count)) h.answered (held_next {T = Unit} ended h (Err (RunFault.Write count)) answers) in (
           h.read,
           h.left,
           h.input,
@@ -319,20 +349,20 @@ module _ (IsTextOf : Request → List ℕ → Type 0) (n : ℕ) where
     fed_refused ended (RunFault.Check f) h gives answers = absurd (gives h.left h.ends).2
 
   -- a read that is refused finds all answered that was whole
-  pub served_refused : (E : Type 0) (before mid after old new : Option (List ℕ)) (written : ℕ) (s : Standing) (buffer : List ℕ) (e : E) →
-      HasServed (record { before = before; after = mid }) old new written s → GivesBytes mid after (Err e) buffer →
+  pub served_refused : (E : Type 0) (before mid after old new : Option (List ℕ)) (written : ℕ) (s : Standing) (held : PlaceList) (buffer : List ℕ) (e : E) →
+      HasServed (record { before = before; after = mid }) old new written s held → GivesBytes mid after (Err e) buffer →
       Serves {T = Unit} IsTextOf n (record { before = before; after = after }) old new (Err (RunFault.Device Which.Requests))
-  served_refused E before mid after old new written s buffer e h gives =
+  served_refused E before mid after old new written s held buffer e h gives =
       let took = h.answered in
       let whole : h.given ≡ whole_in n h.read = whole_given n h.read s h.given h.ahead_is h.used_up in
-      (refl, (h.read, h.left, read_refused E before mid after h.read h.left buffer e h.input gives, subst (TookAnswers IsTextOf old new) whole (took.0, took.1, took.2)))
+      (refl, (h.read, h.left, read_refused E before mid after h.read h.left buffer e h.input gives, subst (TookAnswers IsTextOf no_places old new) whole (took.0, took.1, took.2)))
 
   -- there is no memory for what was read
-  pub served_unfed : (E : Type 0) (before mid after old new : Option (List ℕ)) (written : ℕ) (s : Standing) (buffer : List ℕ) (count : ℕ) →
-      HasServed (record { before = before; after = mid }) old new written s → GivesBytes {E = E} mid after (Ok count) buffer → 0 < length buffer →
+  pub served_unfed : (E : Type 0) (before mid after old new : Option (List ℕ)) (written : ℕ) (s : Standing) (held : PlaceList) (buffer : List ℕ) (count : ℕ) →
+      HasServed (record { before = before; after = mid }) old new written s held → GivesBytes {E = E} mid after (Ok count) buffer → 0 < length buffer →
       Serves {T = Unit} IsTextOf n (record { before = before; after = after }) old new (Err RunFault.Memory)
-  served_unfed E before mid after old new written s buffer count h gives room =
-      let fed = served_fed E before mid after old new written s buffer count h gives room in
+  served_unfed E before mid after old new written s held buffer count h gives room =
+      let fed = served_fed E before mid after old new written s held buffer count h gives room in
       let took = fed.answered in (
         fed.read,
         fed.left,
@@ -341,36 +371,41 @@ module _ (IsTextOf : Request → List ℕ → Type 0) (n : ℕ) where
       )
 
   -- there were more reads than are counted
-  pub served_long : (requests : Reading) (old new : Option (List ℕ)) (written : ℕ) (s : Standing) → HasServed requests old new written s → Serves {T = Unit} IsTextOf n requests old new (Err RunFault.Memory)
-  served_long requests old new written s h =
+  pub served_long : (requests : Reading) (old new : Option (List ℕ)) (written : ℕ) (s : Standing) (held : PlaceList) → HasServed requests old new written s held → Serves {T = Unit} IsTextOf n requests old new (Err RunFault.Memory)
+  served_long requests old new written s held h =
       let took = h.answered in
       (h.read, h.left, h.input, (h.given, (ahead s h.left).given, ap (λ t. t.given) (h.ahead_is h.left), (took.0, took.1, took.2)))
 
   -- nothing was read and nothing was written
   pub served_unread : (input output : Option (List ℕ)) → Serves {T = Unit} IsTextOf n (record { before = input; after = input }) output output (Err RunFault.Memory)
-  served_unread input output = served_long (record { before = input; after = input }) output output 0 (starting n) (served_none input output)
+  served_unread input output = served_long (record { before = input; after = input }) output output 0 (starting n) no_places (served_none input output)
 
 -- a fault that is passed on ends the run as the one that was met
-pub passes_end : (IsTextOf : Request → List ℕ → Type 0) (n : ℕ) (requests : Reading) (old new : Option (List ℕ)) (r : Result Unit RunFault) (e : RunFault) → IsErrAnd r (λ y. y ≡ e) →
+pub passes_end : (IsTextOf : TextOf) (n : ℕ) (requests : Reading) (old new : Option (List ℕ)) (r : Result Unit RunFault) (e : RunFault) → IsErrAnd r (λ y. y ≡ e) →
     Serves {T = Unit} IsTextOf n requests old new (Err e) → Serves IsTextOf n requests old new r
 passes_end IsTextOf n requests old new (Ok x) e is h = absurd is
 passes_end IsTextOf n requests old new (Err y) e is h = subst (λ (f : RunFault). Serves {T = Unit} IsTextOf n requests old new (Err f)) (sym is) h
 
 -- answers by one hierarchy are answers by any way that holds of it
 
-module _ (P Q : Request → List ℕ → Type 0) (so : (request : Request) (text : List ℕ) → P request text → Q request text) where
-  took_weaker : (old new : Option (List ℕ)) (requests : List Request) → TookAnswers P old new requests → TookAnswers Q old new requests
-  took_weaker old new requests h = (h.0, (h.1.0, each_weaker P Q so requests h.1.0 h.1.1, h.1.2), h.2)
+module _ (P Q : TextOf) (so : (places : PlaceList) (request : Request) (text : List ℕ) → P places request text → Q places request text) where
+  answered_weaker : (places : PlaceList) (requests : List Request) (text : List ℕ) → AreAnswered P places requests text → AreAnswered Q places requests text
+  answered_weaker places [] text h = h
+  answered_weaker places (r ∷ requests) text h = (h.0, h.1, h.2, so places r h.0 h.3, answered_weaker (places_then places r) requests h.1 h.4)
+
+  took_weaker : (old new : Option (List ℕ)) (requests : List Request) → TookAnswers P no_places old new requests → TookAnswers Q no_places old new requests
+  took_weaker old new requests h = (h.0, answered_weaker no_places requests h.0 h.1, h.2)
 
   pub served_weaker : (n : ℕ) (requests : Reading) (old new : Option (List ℕ)) (r : Result Unit RunFault) → Serves P n requests old new r → Serves Q n requests old new r
   served_weaker n requests old new (Ok x) h = (h.0, h.1, (h.2.0, took_weaker old new (told_by n h.0).given h.2.1))
   served_weaker n requests old new (Err (RunFault.Read Which.Requests fault)) h = (h.0, h.1, h.2, (h.3.0, took_weaker old new (told_by n (h.0 ++ h.1)).given h.3.1))
-  served_weaker n requests old new (Err RunFault.Cells) h = (h.0, h.1, h.2, (h.3.0, (h.3.1.0, took_weaker old new (told_by n (h.0 ++ h.1)).given h.3.1.1)))
+  served_weaker n requests old new (Err (RunFault.CellsAt line)) h = (h.0, h.1, h.2, (h.3.0, took_weaker old new (told_by n (h.0 ++ h.1)).given h.3.1))
   served_weaker n requests old new (Err RunFault.Memory) h = (h.0, h.1, h.2, (h.3.0, h.3.1, h.3.2, took_weaker old new h.3.0 h.3.3))
   served_weaker n requests old new (Err (RunFault.Device which)) h = (h.0, (h.1.0, h.1.1, h.1.2, took_weaker old new (whole_in n h.1.0) h.1.3))
   served_weaker n requests old new (Err (RunFault.Write count)) h =
       let took = h.3 in
-      (h.0, h.1, h.2, (took.0, took.1, took.2, took.3, took.4, (took.5.0, each_weaker P Q so took.0 took.5.0 took.5.1, took.5.2), took.6, took.7, took.8))
+      (h.0, h.1, h.2, (took.0, took.1, took.2, took.3, took.4, answered_weaker no_places took.0 took.2 took.5, took.6, took.7, took.8))
+  served_weaker n requests old new (Err RunFault.Cells) h = absurd h
   served_weaker n requests old new (Err (RunFault.Read Which.Graph f)) h = absurd h
   served_weaker n requests old new (Err (RunFault.Read Which.Queries f)) h = absurd h
   served_weaker n requests old new (Err (RunFault.Read Which.Sources f)) h = absurd h
@@ -378,12 +413,15 @@ module _ (P Q : Request → List ℕ → Type 0) (so : (request : Request) (text
   served_weaker n requests old new (Err (RunFault.Read Which.Saved f)) h = absurd h
   served_weaker n requests old new (Err (RunFault.Check f)) h = absurd h
 
--- the answer to a request by the hierarchy in one order is one by that in the order that is wanted, where routes are written in it
-pub asked_in : (options : Options) (by_order : OrderBy) (g : Network) (H : LevelsAndLegs) → (options.routes ≡ true → by_order ≡ options.order) → IsHierarchyBy by_order g options.hops H →
-    (request : Request) (text : List ℕ) → IsRequestText options g (λ K. K ≡ H) request text → IsRequestText options g (IsHierarchyBy options.order g options.hops) request text
-asked_in options by_order g H same is (Query s t) text h = at options.plain options.routes same h
-  where
-    at : (plain routes : Bool) → (routes ≡ true → by_order ≡ options.order) → IsTextBy (not plain && routes) g (λ K. K ≡ H) ((s, t) ∷ []) text → IsTextBy (not plain && routes) g (IsHierarchyBy options.order g options.hops) ((s, t) ∷ []) text
-    at true routes same h = h
-    at false routes same h = text_in routes options.order by_order g options.hops H same is ((s, t) ∷ []) text h
-asked_in options by_order g H same is (TableOf lists) text h = h
+-- the hierarchy by which each query is told with its route is built in the order that is wanted
+pub built_wanted : (options : Options) → options.routes ≡ true → order_built options ≡ options.order
+built_wanted options e = rw e refl
+
+-- the answer to a request by the hierarchy that was built is one by such a hierarchy
+pub asked_in : (options : Options) (order : OrderBy) (g : Network) (H : LevelsAndLegs) → IsHierarchyBy order g options.hops H → (places : PlaceList) (request : Request) (text : List ℕ) →
+    IsTextOfRequest options g H places request text → IsRequestText options g (IsHierarchyBy order g options.hops) places request text
+asked_in options order g H is places (Query s t) text h = text_in (writes_routes options) order order g options.hops H (λ e. refl) is ((s, t) ∷ []) text h
+asked_in options order g H is places (Route s t) text h = text_in true order order g options.hops H (λ e. refl) is ((s, t) ∷ []) text h
+asked_in options order g H is places (TableOf lists) text h = h
+asked_in options order g H is places (PlacesOf given) text h = h
+asked_in options order g H is places (Near s within) text h = h

@@ -30,6 +30,7 @@ past_inputs : (which : Which) (fault : RunFault) → IsWrite fault → StopsAt w
 past_inputs which (RunFault.Write count) h k = k.0
 past_inputs which (RunFault.Read input f) h k = h
 past_inputs which RunFault.Cells h k = h
+past_inputs which (RunFault.CellsAt line) h k = h
 past_inputs which RunFault.Memory h k = h
 past_inputs which (RunFault.Device input) h k = h
 past_inputs which (RunFault.Check f) h k = h

@@ -1,13 +1,15 @@
 -- What a run that answers requests as they come owes.
-use Rattle.std.specs.Prelude.{◌≡◌, ◌⊎◌, ℕ, ◌+◌, ◌<◌, List, [], ◌∷◌, ◌++◌, length, take, Option, Some, None, Result, Ok, Err}
-use Rattle.std.specs.List.{AllZip, concat}
+use Rattle.std.specs.Prelude.{◌≡◌, ◌⊎◌, ℕ, ◌+◌, ◌<◌, if◌then◌else◌, true, List, [], ◌∷◌, ◌++◌, length, take, Option, Some, None, Result, Ok, Err}
 use Rattle.ch_graph.specs.Graph.{Network, IsWithinLimits}
 use Rattle.ch_hierarchy.specs.Hierarchy.{LevelsAndLegs}
 use Rattle.ch_contract.specs.Built.{IsHierarchyBy}
+use Rattle.ch_contract.specs.declared.measure.OrderBy.{OrderBy}
+use Rattle.ch_contract.specs.declared.measure.OrderBy.TheVariants.{Depth}
 use Rattle.ch_read.specs.declared.request.Request.{Request}
-use Rattle.ch_read.specs.declared.request.Request.TheVariants.{Query, Table}
+use Rattle.ch_read.specs.declared.request.Request.TheVariants.{Query, Route, Table, Places, Near}
 use Rattle.ch_read.specs.declared.request_fault.RequestFault.{RequestFault}
 use Rattle.ch_read.specs.declared.request_fault.RequestFault.TheVariants.{Line, Cells}
+use Rattle.ch_read.specs.RequestLists.{PlaceList}
 use Rattle.ch_read.specs.Reading.{capped_number}
 use Rattle.ch_read.specs.Requests.{told_by}
 use Rattle.ch_read.specs.RequestLaws.{went_by}
@@ -17,31 +19,68 @@ use Rattle.ch_run.specs.declared.options.Options.{Options}
 use Rattle.ch_text.specs.Device.{HasRead, HasTaken}
 use Rattle.ch_run.specs.Run.{Reading, ReadsAll, ReadsGraph, IsOf, IsWrite}
 use Rattle.ch_run.specs.SavedRun.{WithChecked, IsOfChecked}
+use Rattle.ch_text.specs.NearText.{IsNearText}
 use Rattle.ch_text.specs.TableText.{IsTableText}
 use Rattle.ch_run.specs.Text.{IsTextBy, writes_routes}
 
--- the text of a request: of its query, as a run over this one query writes it, or of the table of its lists
-abbrev pub IsRequestText : Options → Network → (LevelsAndLegs → Type 0) → Request → List ℕ → Type 0
-IsRequestText options g From (Query s t) text = IsTextBy (writes_routes options) g From ((s, t) ∷ []) text
-IsRequestText options g From (Table lists) text = IsTableText g options.within lists.sources lists.targets text
+-- before any places are given there are none
+abbrev pub no_places : PlaceList
+no_places = record { nodes = []; count = None }
 
--- a text of each of these requests, one after the other
-abbrev pub AreAnswered : (IsTextOf : Request → List ℕ → Type 0) → List Request → List ℕ → Type 0
-AreAnswered IsTextOf requests text = (texts : List (List ℕ)) × AllZip IsTextOf requests texts × (text ≡ concat texts)
+-- a request gives places, or leaves those that were given last
+abbrev pub places_then : PlaceList → Request → PlaceList
+places_then places (Query s t) = places
+places_then places (Route s t) = places
+places_then places (Table lists) = places
+places_then places (Places given) = given
+places_then places (Near s within) = places
+
+-- the places after these requests, where these were given last before them
+abbrev pub places_after : PlaceList → List Request → PlaceList
+places_after places [] = places
+places_after places (request ∷ requests) = places_after (places_then places request) requests
+
+-- the limit of a request: its own, or the run's where it has none
+abbrev pub limit_of : Options → Option ℕ → Option ℕ
+limit_of options (Some most) = Some most
+limit_of options None = options.within
+
+-- the text of a request, where these places were given last before it: of its query, as a run over this one query writes it, the same
+-- with its route, the table of its lists, nothing, or the near row of its node
+abbrev pub IsRequestText : Options → Network → (LevelsAndLegs → Type 0) → PlaceList → Request → List ℕ → Type 0
+IsRequestText options g From places (Query s t) text = IsTextBy (writes_routes options) g From ((s, t) ∷ []) text
+IsRequestText options g From places (Route s t) text = IsTextBy true g From ((s, t) ∷ []) text
+IsRequestText options g From places (Table lists) text = IsTableText g (limit_of options lists.within) lists.sources lists.targets text
+IsRequestText options g From places (Places given) text = text ≡ []
+IsRequestText options g From places (Near s within) text = IsNearText g options.direction (limit_of options within) places.count (s ∷ []) places.nodes text
+
+-- the same by one hierarchy
+abbrev pub IsTextOfRequest : Options → Network → LevelsAndLegs → PlaceList → Request → List ℕ → Type 0
+IsTextOfRequest options g H = IsRequestText options g (λ K. K ≡ H)
+
+-- what the text of a request is, by the places that were given last before it
+abbrev pub TextOf : Type 1
+TextOf = PlaceList → Request → List ℕ → Type 0
+
+-- a text of each of these requests, one after the other, where these places were given last before them
+abbrev pub AreAnswered : TextOf → PlaceList → List Request → List ℕ → Type 0
+AreAnswered IsTextOf places [] text = text ≡ []
+AreAnswered IsTextOf places (request ∷ requests) text =
+    (first rest : List ℕ) × (text ≡ first ++ rest) × IsTextOf places request first × AreAnswered IsTextOf (places_then places request) requests rest
 
 -- the output took the answers to these requests
-abbrev pub TookAnswers : (IsTextOf : Request → List ℕ → Type 0) → (old new : Option (List ℕ)) → List Request → Type 0
-TookAnswers IsTextOf old new requests = (text : List ℕ) × AreAnswered IsTextOf requests text × HasTaken old new text
+abbrev pub TookAnswers : TextOf → PlaceList → (old new : Option (List ℕ)) → List Request → Type 0
+TookAnswers IsTextOf places old new requests = (text : List ℕ) × AreAnswered IsTextOf places requests text × HasTaken old new text
 
 -- the output took the answers to the first of these requests, however many they are
-abbrev pub TookFirstAnswers : (IsTextOf : Request → List ℕ → Type 0) → (old new : Option (List ℕ)) → List Request → Type 0
-TookFirstAnswers IsTextOf old new requests = (first later : List Request) × (requests ≡ first ++ later) × TookAnswers IsTextOf old new first
+abbrev pub TookFirstAnswers : TextOf → PlaceList → (old new : Option (List ℕ)) → List Request → Type 0
+TookFirstAnswers IsTextOf places old new requests = (first later : List Request) × (requests ≡ first ++ later) × TookAnswers IsTextOf places old new first
 
 -- the output took a beginning of the answers to the first of these requests, and not all of it: so many bytes, with those
 -- that it took before, as far as 64 bits go
-abbrev pub TookBeginning : (IsTextOf : Request → List ℕ → Type 0) → (old new : Option (List ℕ)) → (before count : ℕ) → List Request → Type 0
-TookBeginning IsTextOf old new before count requests =
-    (first later : List Request) × (text : List ℕ) × (bytes : ℕ) × (requests ≡ first ++ later) × AreAnswered IsTextOf first text
+abbrev pub TookBeginning : TextOf → PlaceList → (old new : Option (List ℕ)) → (before count : ℕ) → List Request → Type 0
+TookBeginning IsTextOf places old new before count requests =
+    (first later : List Request) × (text : List ℕ) × (bytes : ℕ) × (requests ≡ first ++ later) × AreAnswered IsTextOf places first text
     × (bytes < length text) × HasTaken old new (take bytes text) × (count ≡ capped_number (before + bytes))
 
 -- P holds of the bytes that were read of an input, and of those that are left
@@ -58,18 +97,18 @@ whole_in n bytes = (went_by n bytes).told.given
 
 -- how a run over requests on a graph of n nodes ends, and what the output took. A read that is refused finds all answered that
 -- was whole before it, and no run can know which read will be: so what is whole is answered before each read
-abbrev pub Serves : {T : Type 0} → (IsTextOf : Request → List ℕ → Type 0) → ℕ → Reading → (old new : Option (List ℕ)) → Result T RunFault → Type 0
-Serves IsTextOf n requests old new (Ok _) = ReadsAll requests (TellsThen n None (TookAnswers IsTextOf old new))
+abbrev pub Serves : {T : Type 0} → TextOf → ℕ → Reading → (old new : Option (List ℕ)) → Result T RunFault → Type 0
+Serves IsTextOf n requests old new (Ok _) = ReadsAll requests (TellsThen n None (TookAnswers IsTextOf no_places old new))
 Serves IsTextOf n requests old new (Err (RunFault.Read Which.Requests fault)) =
-    ReadsSome requests (λ read left. TellsThen n (Some (Line fault)) (TookAnswers IsTextOf old new) (read ++ left))
-Serves IsTextOf n requests old new (Err RunFault.Cells) =
-    ReadsSome requests (λ read left. (line : ℕ) × TellsThen n (Some (Cells line)) (TookAnswers IsTextOf old new) (read ++ left))
+    ReadsSome requests (λ read left. TellsThen n (Some (Line fault)) (TookAnswers IsTextOf no_places old new) (read ++ left))
+Serves IsTextOf n requests old new (Err (RunFault.CellsAt line)) =
+    ReadsSome requests (λ read left. TellsThen n (Some (Cells line)) (TookAnswers IsTextOf no_places old new) (read ++ left))
 Serves IsTextOf n requests old new (Err RunFault.Memory) =
-    ReadsSome requests (λ read left. TookFirstAnswers IsTextOf old new (told_by n (read ++ left)).given)
+    ReadsSome requests (λ read left. TookFirstAnswers IsTextOf no_places old new (told_by n (read ++ left)).given)
 Serves IsTextOf n requests old new (Err (RunFault.Device which)) =
-    (which ≡ Which.Requests) × ReadsSome requests (λ read left. TookAnswers IsTextOf old new (whole_in n read))
+    (which ≡ Which.Requests) × ReadsSome requests (λ read left. TookAnswers IsTextOf no_places old new (whole_in n read))
 Serves IsTextOf n requests old new (Err (RunFault.Write count)) =
-    ReadsSome requests (λ read left. TookBeginning IsTextOf old new 0 count (told_by n (read ++ left)).given)
+    ReadsSome requests (λ read left. TookBeginning IsTextOf no_places old new 0 count (told_by n (read ++ left)).given)
 Serves IsTextOf n requests old new (Err _) = ⊥
 
 -- the graph and the saved hierarchy were accepted, and by them the run answered the requests
@@ -77,15 +116,19 @@ abbrev pub ServesFrom : {T : Type 0} → Options → Reading → Reading → Rea
 ServesFrom options graph saved requests old new result =
     WithChecked graph saved (λ g H. Serves (IsRequestText options g (λ K. K ≡ H)) g.nodes requests old new result)
 
+-- the order of the hierarchy that a run over requests builds: that of the options where each query is answered with its route, and
+-- else by depth, which answers sooner
+abbrev pub order_built : Options → OrderBy
+order_built options = if options.routes then options.order else Depth
+
 -- the graph was accepted, and by its contraction hierarchy the run answered the requests
 abbrev pub ServesBy : {T : Type 0} → Options → Reading → Reading → (old new : Option (List ℕ)) → Result T RunFault → Type 0
 ServesBy options graph requests old new result =
-    (g : Network) × IsWithinLimits g × ReadsGraph graph g × Serves (IsRequestText options g (IsHierarchyBy options.order g options.hops)) g.nodes requests old new result
+    (g : Network) × IsWithinLimits g × ReadsGraph graph g × Serves (IsRequestText options g (IsHierarchyBy (order_built options) g options.hops)) g.nodes requests old new result
 
--- what answering requests may end in: they are refused or can't be read, one has too many cells, there is no memory, or the
--- output refuses a write
+-- what answering requests may end in: they are refused or can't be read, there is no memory, or the output refuses a write
 abbrev pub IsOfServing : RunFault → Type 0
-IsOfServing fault = IsOf Which.Requests fault ⊎ (fault ≡ RunFault.Cells) ⊎ IsWrite fault
+IsOfServing fault = IsOf Which.Requests fault ⊎ IsWrite fault
 
 -- what a run that answers requests may end in
 abbrev pub IsOfAsk : RunFault → Type 0

@@ -105,6 +105,7 @@ IsUnread which (RunFault.Device input) = which ≡ input
 IsUnread which RunFault.Memory = ⊤
 IsUnread which (RunFault.Read input fault) = ⊥
 IsUnread which RunFault.Cells = ⊥
+IsUnread which (RunFault.CellsAt line) = ⊥
 IsUnread which (RunFault.Write count) = ⊥
 IsUnread which (RunFault.Check fault) = ⊥
 
@@ -112,6 +113,7 @@ IsUnread which (RunFault.Check fault) = ⊥
 abbrev pub IsOf : Which → RunFault → Type 0
 IsOf which (RunFault.Read input fault) = which ≡ input
 IsOf which RunFault.Cells = ⊥
+IsOf which (RunFault.CellsAt line) = which ≡ Which.Requests
 IsOf which RunFault.Memory = ⊤
 IsOf which (RunFault.Device input) = which ≡ input
 IsOf which (RunFault.Write count) = ⊥
@@ -122,6 +124,7 @@ abbrev pub IsWrite : RunFault → Type 0
 IsWrite (RunFault.Write count) = ⊤
 IsWrite (RunFault.Read which fault) = ⊥
 IsWrite RunFault.Cells = ⊥
+IsWrite (RunFault.CellsAt line) = ⊥
 IsWrite RunFault.Memory = ⊥
 IsWrite (RunFault.Device which) = ⊥
 IsWrite (RunFault.Check fault) = ⊥

@@ -1,32 +1,40 @@
 -- What the parts of a run over requests owe to it.
-use Rattle.std.specs.Prelude.{◌≡◌, ℕ, ◌+◌, ◌<◌, ◌≤◌, ◌⊎◌, Bool, List, [], ◌∷◌, ◌++◌, length, take, map, Option, Some, Result, Ok, Err, OnOk, ⊤}
-use Rattle.ch_graph.specs.declared.limits.TheConstants.{MOST_QUERIES}
-use Rattle.ch_query.specs.Answers.{AreQueries}
+use Rattle.std.specs.Prelude.{◌≡◌, ℕ, ◌+◌, ◌<◌, ◌≤◌, ◌⊎◌, Bool, true, false, if◌then◌else◌, List, [], ◌++◌, length, take, map, All, Option, Some, None, Result, Ok, Err, OnOk, ⊤}
+use Rattle.ch_graph.specs.declared.limits.TheConstants.{MOST_LISTED}
+use Rattle.ch_hierarchy.specs.Hierarchy.{LevelsAndLegs, nodes_of}
+use Rattle.ch_near.specs.declared.direction.Direction.{Direction}
+use Rattle.ch_near.specs.Direction.{facing}
+use Rattle.ch_near.specs.Near.{Wanted}
 use Rattle.ch_read.specs.declared.request.Request.{Request}
-use Rattle.ch_read.specs.declared.request.Request.TheVariants.{Table as TableOf}
+use Rattle.ch_read.specs.declared.request.Request.TheVariants.{Near}
+use Rattle.ch_read.specs.RequestLists.{PlaceList}
 use Rattle.ch_read.specs.declared.request_fault.RequestFault.TheVariants.{Line, Cells}
 use Rattle.ch_read.specs.declared.request_fault.RequestError.{RequestError}
 use Rattle.ch_read.specs.declared.request_fault.RequestError.TheVariants.{Fault, NoMemory}
 use Rattle.ch_read.specs.Reading.{capped_number}
-use Rattle.ch_read.specs.Requests.{AreTwoLists, MayCome, Standing, Told, after_these, ahead, query_from}
+use Rattle.ch_read.specs.Requests.{IsRequest, MayCome, Standing, Told, after_these, ahead, query_from, route_from}
 use Rattle.ch_run.specs.declared.fault.RunFault.{RunFault}
 use Rattle.ch_run.specs.declared.run.batch.Then.{Then}
-use Rattle.ch_run.specs.declared.run.batch.Then.TheVariants.{Table, More, Nothing, Stop}
+use Rattle.ch_run.specs.declared.run.batch.Then.TheVariants.{More, Nothing, Stop}
+use Rattle.ch_run.specs.declared.run.answering.Room.{Room}
 use Rattle.ch_run.specs.declared.fault.Which.{Which}
-use Rattle.ch_run.specs.Ask.{AreAnswered, TookAnswers, TookFirstAnswers, TookBeginning}
+use Rattle.ch_run.specs.Ask.{AreAnswered, TextOf, TookAnswers, TookFirstAnswers, TookBeginning, no_places, places_after}
 use Rattle.ch_text.specs.Device.{HasTaken}
+use Rattle.ch_run.specs.declared.options.Options.{Options}
 use Rattle.ch_run.specs.Run.{IsWrite}
+use Rattle.ch_run.specs.Text.{writes_routes}
 
--- how a call that was to answer these requests ended: all were answered, or the first of them, each whole, or a write was refused.
+-- how a call that was to answer these requests ended, where these places were given last before them: all were answered, or the first
+-- of them, each whole, or a write was refused.
 -- Before it the output had taken so many bytes, and has taken so many after it
-abbrev pub Answers : {T : Type 0} → (IsTextOf : Request → List ℕ → Type 0) → (old new : Option (List ℕ)) → (before after : ℕ) → List Request → Result T RunFault → Type 0
-Answers IsTextOf old new before after requests (Ok _) =
-    (text : List ℕ) × AreAnswered IsTextOf requests text × HasTaken old new text × (after ≡ capped_number (before + length text))
-Answers IsTextOf old new before after requests (Err RunFault.Memory) = TookFirstAnswers IsTextOf old new requests
-Answers IsTextOf old new before after requests (Err (RunFault.Write count)) = TookBeginning IsTextOf old new before count requests
-Answers IsTextOf old new before after requests (Err (RunFault.Read Which.Requests fault)) = TookAnswers IsTextOf old new requests
-Answers IsTextOf old new before after requests (Err RunFault.Cells) = TookAnswers IsTextOf old new requests
-Answers IsTextOf old new before after requests (Err _) = ⊥
+abbrev pub Answers : {T : Type 0} → TextOf → PlaceList → (old new : Option (List ℕ)) → (before after : ℕ) → List Request → Result T RunFault → Type 0
+Answers IsTextOf places old new before after requests (Ok _) =
+    (text : List ℕ) × AreAnswered IsTextOf places requests text × HasTaken old new text × (after ≡ capped_number (before + length text))
+Answers IsTextOf places old new before after requests (Err RunFault.Memory) = TookFirstAnswers IsTextOf places old new requests
+Answers IsTextOf places old new before after requests (Err (RunFault.Write count)) = TookBeginning IsTextOf places old new before count requests
+Answers IsTextOf places old new before after requests (Err (RunFault.Read Which.Requests fault)) = TookAnswers IsTextOf places old new requests
+Answers IsTextOf places old new before after requests (Err (RunFault.CellsAt line)) = TookAnswers IsTextOf places old new requests
+Answers IsTextOf places old new before after requests (Err _) = ⊥
 
 -- the output took this text after so many bytes, or a beginning of it and not all
 abbrev pub WritesMore : {T : Type 0} → (old new : Option (List ℕ)) → (before after : ℕ) → (text : List ℕ) → Result T RunFault → Type 0
@@ -54,14 +62,14 @@ IsOfAnswering fault = IsWrite fault ⊎ (fault ≡ RunFault.Memory)
 -- the fault of a run whose reader of requests answers this error
 abbrev pub request_refusal : RequestError → RunFault
 request_refusal (Fault (Line fault)) = RunFault.Read Which.Requests fault
-request_refusal (Fault (Cells line)) = RunFault.Cells
+request_refusal (Fault (Cells line)) = RunFault.CellsAt line
 request_refusal NoMemory = RunFault.Memory
 
 -- what is told after the requests that a call was given: what is ahead where it ended well, and else its fault
 abbrev pub IsToldAfter : {T : Type 0} → Result T RunFault → (next rest : Told) → Type 0
 IsToldAfter (Ok _) next rest = rest ≡ next
 IsToldAfter (Err (RunFault.Read Which.Requests fault)) next rest = rest ≡ record { given = []; fault = Some (Line fault) }
-IsToldAfter (Err RunFault.Cells) next rest = (line : ℕ) × (rest ≡ record { given = []; fault = Some (Cells line) })
+IsToldAfter (Err (RunFault.CellsAt line)) next rest = rest ≡ record { given = []; fault = Some (Cells line) }
 IsToldAfter (Err RunFault.Memory) next rest = ⊤
 IsToldAfter (Err (RunFault.Write count)) next rest = ⊤
 IsToldAfter (Err _) next rest = ⊥
@@ -71,19 +79,8 @@ abbrev pub GivesUntil : {T : Type 0} → Bool → (old new : Standing) → List 
 GivesUntil ended old new given result =
     (more : List ℕ) → MayCome ended more → (rest : Told) × (ahead old more ≡ after_these given rest) × IsToldAfter result (ahead new more) rest
 
--- the requests of a batch: its queries, and the table after them
-abbrev pub table_in : Then → List Request
-table_in (Table lists) = TableOf lists ∷ []
-table_in More = []
-table_in Nothing = []
-table_in (Stop fault) = []
-
-abbrev pub requests_of : List (ℕ × ℕ) → Then → List Request
-requests_of queries then = map query_from queries ++ table_in then
-
 -- what a batch ends in
 abbrev pub end_of : Then → Result Unit RunFault
-end_of (Table lists) = Ok tt
 end_of More = Ok tt
 end_of Nothing = Ok tt
 end_of (Stop fault) = Err fault
@@ -91,26 +88,66 @@ end_of (Stop fault) = Err fault
 -- a reader of requests stopped for this
 abbrev pub IsStop : RunFault → Type 0
 IsStop (RunFault.Read Which.Requests fault) = ⊤
-IsStop RunFault.Cells = ⊤
+IsStop (RunFault.CellsAt line) = ⊤
 IsStop RunFault.Memory = ⊤
 IsStop _ = ⊥
 
 -- the run goes on after a batch, or so it ends
 abbrev pub GoesOn : Then → Type 0
-GoesOn then = end_of then ≡ Ok tt
+GoesOn after = end_of after ≡ Ok tt
 
 abbrev pub EndsSo : Then → Result Unit RunFault → Type 0
-EndsSo then end = (end ≡ end_of then) × OnOk end (then ≡ Nothing)
+EndsSo after end = (end ≡ end_of after) × OnOk end (after ≡ Nothing)
 
--- the lists of a table are within the limits, and a fault is one of a reader's
-abbrev pub IsWithin : ℕ → Then → Type 0
-IsWithin n (Table lists) = AreTwoLists n lists
-IsWithin n More = ⊤
-IsWithin n Nothing = ⊤
-IsWithin n (Stop fault) = IsStop fault
+-- a fault after a batch is one of a reader's
+abbrev pub IsAfter : Then → Type 0
+IsAfter More = ⊤
+IsAfter Nothing = ⊤
+IsAfter (Stop fault) = IsStop fault
 
 -- a batch of requests on a graph of n nodes, within the limits
-pub record IsBatch (n : ℕ) (asked : List (ℕ × ℕ)) (then : Then) : Type 0 where
-  pub queries : AreQueries n asked
-  pub few : length asked ≤ MOST_QUERIES
-  pub within : IsWithin n then
+pub record IsBatch (n : ℕ) (asked : List Request) (next : Then) : Type 0 where
+  pub each : All (IsRequest n) asked
+  pub few : length asked ≤ MOST_LISTED
+  pub after : IsAfter next
+
+-- a query of these nodes, with its route or as the run answers queries
+abbrev pub asked_for : Bool → ℕ × ℕ → Request
+asked_for routed pair = if routed then route_from pair else query_from pair
+
+-- whether routes are written: for queries that ask for them, or that the run answers
+abbrev pub routes_for : Options → Bool → Bool
+routes_for options true = true
+routes_for options false = writes_routes options
+
+-- a near row of this node within this limit
+abbrev pub near_row_of : Option ℕ → ℕ → Request
+near_row_of within s = Near s within
+
+-- these values make the first of the requests, at least one
+pub record AreFirstOf {A : Type 0} (from : A → Request) (requests : List Request) (values : List A) : Type 0 where
+  pub some : 0 < length values
+  pub few : length values ≤ length requests
+  pub are : map from values ≡ take (length values) requests
+
+-- the text answers the first of the requests, at least one and as many as are counted, and they lead from some places to others
+pub record AnswersFirst (IsTextOf : TextOf) (before after : PlaceList) (requests : List Request) (text : List ℕ) (count : ℕ) : Type 0 where
+  pub some : 0 < count
+  pub few : count ≤ length requests
+  pub answers : AreAnswered IsTextOf before (take count requests) text
+  pub places : after ≡ places_after before (take count requests)
+
+-- the places that were given last, of which near rows are asked for, or none
+abbrev pub places_of : Option Wanted → PlaceList
+places_of None = no_places
+places_of (Some near) = record { nodes = near.targets; count = near.count }
+
+-- they were searched from in this hierarchy, without a limit
+abbrev pub IsSearched : LevelsAndLegs → Option Wanted → Type 0
+IsSearched H None = ⊤
+IsSearched H (Some near) = (near.hierarchy ≡ H) × (near.limit ≡ None)
+
+-- a room serves a hierarchy, with distances of near rows in this direction
+pub record IsRoomFor (direction : Direction) (H : LevelsAndLegs) (room : Room) : Type 0 where
+  pub scratches : All (λ scratch. scratch ≡ nodes_of H) room.scratches.items
+  pub near : IsSearched (facing direction H) room.near

@@ -54,8 +54,10 @@ impl fmt::Display for Which {
 pub enum RunFault {
     /// This input has this fault: the file, or a line of the requests or their end.
     Read(Which, ReadFault),
-    /// The sources times the targets are more than 2^22, of two files or of a request.
+    /// The sources times the targets are more than 2^22, of two files.
     Cells,
+    /// So are those of the table that this line of the requests begins.
+    CellsAt(u64),
     /// There was no memory.
     Memory,
     /// This input couldn't be opened or read.
@@ -80,6 +82,7 @@ impl fmt::Display for RunFault {
                 Which::Requests => write!(f, "chtab: request {fault}"),
             },
             RunFault::Cells => f.write_str("chtab: too many cells"),
+            RunFault::CellsAt(line) => write!(f, "chtab: request line {line}: too many cells"),
             RunFault::Memory => f.write_str("chtab: out of memory"),
             RunFault::Device(which) => write!(f, "chtab: cannot read {which}"),
             RunFault::Write(count) => write!(f, "chtab: cannot write after {count} bytes"),
@@ -117,7 +120,7 @@ pub fn status(fault: &RunFault) -> u8
     ensures { result ≡ status_of fault.now }
 {
     match fault {
-        RunFault::Read(..) | RunFault::Check(_) | RunFault::Cells => 1,
+        RunFault::Read(..) | RunFault::Check(_) | RunFault::Cells | RunFault::CellsAt(_) => 1,
         RunFault::Memory | RunFault::Device(_) | RunFault::Write(_) => 3,
     }
 }

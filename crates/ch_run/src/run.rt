@@ -1,9 +1,11 @@
 //! Runs: from the bytes of the inputs to the bytes of the output.
 
+mod answering;
 mod ask;
 mod batch;
 mod dist;
 mod dist_saved;
+mod first;
 mod inputs;
 mod lists;
 mod near;

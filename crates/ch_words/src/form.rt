@@ -316,7 +316,11 @@ fn ask_command<'a>(alloc: Global) -> Result<Command<'a>, AllocError>
     let command = Command::new(alloc, "ask")
         .about(
             "Loads the graph once, and answers requests from standard input as they come. `q S T` asks for a \
-            distance. `t K L` asks for a table: then come K lines `s V`, the sources, and L lines `s V`, the targets",
+            distance, and `r S T` for its route too. `t K L` asks for a table: then come K lines `s V`, the sources, \
+            and L lines `s V`, the targets. `p L K` gives places by L lines `s V`. After it `n S` asks for the K \
+            places that are nearest to S, or for all where K is 0. `t K L R` and `n S R` leave out what is farther \
+            than R. A route goes by the saved hierarchy, or by the one that the run builds. That one is in depth \
+            order, unless --routes is given without --deep",
         )
         .after_help("Example: chtab ask --saved roads.ch roads.gr <requests.txt")
         .arg(routes(alloc))?

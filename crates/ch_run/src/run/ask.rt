@@ -8,7 +8,7 @@ ghost use Rattle.ch_text.specs.Device.{CanCountOneMore, CountsAtMostOne, CountsA
 ghost use Rattle.ch_run.specs.Run.{AcceptsGraph, GoesPast, IsGraphRefused, IsOf, IsWrite, reading};
 ghost use Rattle.ch_run.specs.SavedRun.{HasCheckRefused, HasSavedRefused, IsOfChecked};
 
-use super::batch::Answering;
+use super::answering::Answering;
 use super::dist::order_for;
 use super::inputs::graph_from;
 use super::saved::{Checked, checked_from};

@@ -1,22 +1,23 @@
 //! Runs that answer queries.
-ghost use Rattle.std.specs.Prelude.{true, ◌≡◌, ◌<◌, ◌≤◌, ◌↔◌, ◌⊎◌, length, IfOk, IfErr, IsErrAnd};
+ghost use Rattle.std.specs.Prelude.{◌≡◌, ◌<◌, ◌≤◌, ◌↔◌, ◌⊎◌, length, IfOk, IfErr, IsErrAnd};
 ghost use Rattle.ch_graph.specs.declared.limits.TheConstants.{MOST_QUERIES};
 ghost use Rattle.ch_read.specs.declared.fault.ReadFault.{ReadFault as FaultAt};
 ghost use Rattle.ch_contract.specs.Legs.{IsHopBound};
 ghost use Rattle.ch_query.specs.Answers.{AreQueries};
 ghost use Rattle.ch_text.specs.Device.{CanCountOneMore, CountsAtMostOne, CountsAtMostOneOf};
+ghost use Rattle.ch_run.specs.Ask.{order_built};
 ghost use Rattle.ch_run.specs.Text.{IsText};
 ghost use Rattle.ch_run.specs.Run.{AcceptsGraph, AcceptsQueries, Delivers, GoesPast, HasQueriesRefused, IsAnsweredBy, IsGraphRefused, IsOfDist, IsWrite, reading};
 
 use super::inputs::{graph_from, queries_from};
 use super::output::write_text;
 use super::texts::{answers_by, plain_text};
+use ch_text::{Input, Output};
 use crate::fault::{RunFault, Which};
 use crate::options::{Options, OrderBy};
 use crate::plan::{Crew, Gate, Stage};
 use ch_contract::build_by;
 use ch_graph::Graph;
-use ch_text::{Input, Output};
 use std::alloc::AllocError;
 use std::thread::Threads;
 
@@ -100,7 +101,7 @@ fn text_of<R: Threads + Sync, G: Gate>(
 /// The order of the hierarchy by which queries are answered: for routes the one that is wanted, and for distances, which
 /// are the same in each order, the one that is quick.
 pub(super) fn order_for(options: &Options) -> OrderBy
-    ensures { options.now.routes ≡ true → result ≡ options.now.order }
+    ensures { result ≡ order_built options.now }
 {
     if options.routes {
         options.order

@@ -1,21 +1,20 @@
 //! Requests, read and answered as they come.
-ghost use Rattle.std.specs.Prelude.{◌≡◌, ◌+◌, ◌^◌, ◌<◌, ◌≤◌, ◌↔◌, length, List, All, IfErr, IfOk, OnOk};
+ghost use Rattle.std.specs.Prelude.{◌≡◌, ◌+◌, ◌^◌, ◌<◌, ◌≤◌, ◌↔◌, length, List, None, IfErr, IfOk, OnOk};
 ghost use Rattle.ch_graph.specs.Graph.{IsWithinLimits};
-ghost use Rattle.ch_hierarchy.specs.Hierarchy.{nodes_of};
 ghost use Rattle.ch_hierarchy.specs.Kept.{IsKept};
 ghost use Rattle.ch_read.specs.Requests.{IsUsedUp};
 ghost use Rattle.ch_read.specs.declared.request.Request.{Request as RequestOf};
-ghost use Rattle.ch_run.specs.Ask.{IsOfServing, IsRequestText, Serves};
+ghost use Rattle.ch_run.specs.Ask.{IsOfServing, IsTextOfRequest, Serves, places_after};
 ghost use Rattle.ch_text.specs.Device.{CanCountOneMore, CountsAtMostOne, GivesBytes, failures_in};
 ghost use Rattle.ch_run.specs.Run.{reading};
-ghost use Rattle.ch_run.specs.Serving.{Answers, CountsWrites, GivesUntil};
+ghost use Rattle.ch_run.specs.Serving.{Answers, CountsWrites, GivesUntil, IsRoomFor, places_of};
 
-use super::batch::{Answering, answer_batch, gather};
+use super::answering::{Answering, Room, answer_requests};
+use super::batch::gather;
+use ch_text::{Input, Output};
 use crate::fault::{RunFault, Which};
 use crate::plan::{Crew, Gate};
-use ch_query::Scratch;
 use ch_read::RequestReader;
-use ch_text::{Input, Output};
 use std::thread::Threads;
 
 /// How many bytes of requests are read at once.
@@ -33,7 +32,7 @@ pub(crate) fn serve<R: Threads + Sync, J: Input, O: Output, G: Gate>(
     requires requests { CanCountOneMore (J.failed requests.old) }
     requires failures { CanCountOneMore (O.failed output.old) }
     requires zeros { CanCountOneMore (O.idle output.old) }
-    ensures served { Serves (IsRequestText by.now.options.now by.now.checked.now.graph (λ H. H ≡ by.now.checked.now.hierarchy)) by.now.checked.now.graph.nodes
+    ensures served { Serves (IsTextOfRequest by.now.options.now by.now.checked.now.graph by.now.checked.now.hierarchy) by.now.checked.now.graph.nodes
         (reading J.left requests.old requests.new) (O.taken output.old) (O.taken output.new) result }
     ensures own { IfErr result IsOfServing }
     ensures device { (result ≡ Err (RunFault.Device Which.Requests)) ↔ (J.failed requests.old < J.failed requests.new) }
@@ -41,27 +40,28 @@ pub(crate) fn serve<R: Threads + Sync, J: Input, O: Output, G: Gate>(
     ensures counts { CountsWrites (O.failed output.old) (O.failed output.new) (O.idle output.old) (O.idle output.new) result }
 {
     let mut buffer = Vec::from_elem(crew.alloc, 0, ROOM)?;
-    let mut scratches = Vec::new(crew.alloc);
-    serve_in(crew, by, &mut buffer, &mut scratches, requests, output)
+    let mut room = Room::new(crew.alloc);
+    serve_in(crew, by, &mut buffer, &mut room, requests, output)
 }
 
-/// The same in the room that the caller made: for what is read at once, and for the workers who answer queries.
-fn serve_in<R: Threads + Sync, J: Input, O: Output, G: Gate>(
+/// The same in the room that the caller made: for what is read at once, and for what is kept from one request to the next.
+fn serve_in<'a, R: Threads + Sync, J: Input, O: Output, G: Gate>(
     crew: &Crew<'_, R, G>,
-    by: &Answering<'_>,
+    by: &Answering<'a>,
     buffer: &mut [u8],
-    scratches: &mut Vec<Scratch>,
+    room: &mut Room<'a>,
     requests: &mut J,
     output: &mut O,
 ) -> Result<(), RunFault>
     requires limits { IsWithinLimits by.now.checked.now.graph }
     requires kept { IsKept by.now.checked.now.graph by.now.checked.now.hierarchy }
     requires buffer { 0 < length buffer.old }
-    requires scratches { All (λ scratch. scratch ≡ nodes_of by.now.checked.now.hierarchy) scratches.old.items }
+    requires room { IsRoomFor by.now.options.now.direction by.now.checked.now.hierarchy room.old }
+    requires none { room.old.near ≡ None }
     requires requests { CanCountOneMore (J.failed requests.old) }
     requires failures { CanCountOneMore (O.failed output.old) }
     requires zeros { CanCountOneMore (O.idle output.old) }
-    ensures served { Serves (IsRequestText by.now.options.now by.now.checked.now.graph (λ H. H ≡ by.now.checked.now.hierarchy)) by.now.checked.now.graph.nodes
+    ensures served { Serves (IsTextOfRequest by.now.options.now by.now.checked.now.graph by.now.checked.now.hierarchy) by.now.checked.now.graph.nodes
         (reading J.left requests.old requests.new) (O.taken output.old) (O.taken output.new) result }
     ensures own { IfErr result IsOfServing }
     ensures device { (result ≡ Err (RunFault.Device Which.Requests)) ↔ (J.failed requests.old < J.failed requests.new) }
@@ -74,15 +74,7 @@ fn serve_in<R: Threads + Sync, J: Input, O: Output, G: Gate>(
         let count = read_once(requests, buffer)?;
         let ended = count == 0;
         reader.feed(&buffer[..count])?;
-        answer_whole(
-            crew,
-            by,
-            scratches,
-            &mut reader,
-            ended,
-            output,
-            &mut written,
-        )?;
+        answer_whole(crew, by, room, &mut reader, ended, output, &mut written)?;
         if ended {
             return Ok(());
         }
@@ -105,10 +97,10 @@ fn read_once<J: Input>(requests: &mut J, buffer: &mut [u8]) -> Result<usize, Run
 }
 
 /// Answers all requests that are whole.
-fn answer_whole<R: Threads + Sync, O: Output, G: Gate>(
+fn answer_whole<'a, R: Threads + Sync, O: Output, G: Gate>(
     crew: &Crew<'_, R, G>,
-    by: &Answering<'_>,
-    scratches: &mut Vec<Scratch>,
+    by: &Answering<'a>,
+    room: &mut Room<'a>,
     reader: &mut RequestReader,
     ended: bool,
     output: &mut O,
@@ -116,22 +108,23 @@ fn answer_whole<R: Threads + Sync, O: Output, G: Gate>(
 ) -> Result<(), RunFault>
     requires limits { IsWithinLimits by.now.checked.now.graph }
     requires kept { IsKept by.now.checked.now.graph by.now.checked.now.hierarchy }
-    requires scratches { All (λ scratch. scratch ≡ nodes_of by.now.checked.now.hierarchy) scratches.old.items }
+    requires room { IsRoomFor by.now.options.now.direction by.now.checked.now.hierarchy room.old }
     requires nodes { reader.old.nodes ≡ by.now.checked.now.graph.nodes }
     requires counted { written.old < 2 ^ 64 }
     requires failures { CanCountOneMore (O.failed output.old) }
     requires zeros { CanCountOneMore (O.idle output.old) }
     ensures answered { (given : List RequestOf) × GivesUntil ended reader.old reader.new given result
-        × Answers (IsRequestText by.now.options.now by.now.checked.now.graph (λ H. H ≡ by.now.checked.now.hierarchy)) (O.taken output.old) (O.taken output.new)
-        written.old written.new given result }
+        × Answers (IsTextOfRequest by.now.options.now by.now.checked.now.graph by.now.checked.now.hierarchy) (places_of room.old.near) (O.taken output.old) (O.taken output.new)
+        written.old written.new given result
+        × OnOk result (places_of room.new.near ≡ places_after (places_of room.old.near) given) }
     ensures used_up { OnOk result (IsUsedUp ended reader.new) }
     ensures nodes { reader.new.nodes ≡ reader.old.nodes }
-    ensures scratches { All (λ scratch. scratch ≡ nodes_of by.now.checked.now.hierarchy) scratches.new.items }
+    ensures room { OnOk result (IsRoomFor by.now.options.now.direction by.now.checked.now.hierarchy room.new) }
     ensures counts { CountsWrites (O.failed output.old) (O.failed output.new) (O.idle output.old) (O.idle output.new) result }
 {
     for _ in 0..u64::MAX {
         let batch = gather(crew.alloc, reader, ended);
-        answer_batch(crew, by, scratches, &batch, output, written)?;
+        answer_requests(crew, by, room, &batch.requests, output, written)?;
         if let Some(end) = batch.then.end() {
             return end;
         }

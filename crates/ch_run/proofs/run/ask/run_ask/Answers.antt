@@ -1,6 +1,6 @@
 use Rattle.std.proofs.Common.{◌≡◌, inr}
 use Rattle.ch_contract.specs.Built.{IsHierarchyBy}
-use Rattle.ch_run.specs.Ask.{IsRequestText}
+use Rattle.ch_run.specs.Ask.{IsRequestText, IsTextOfRequest, order_built}
 use Rattle.ch_run.proofs.Counted.{counted_once, told_counted}
 use Rattle.ch_run.proofs.Served.{asked_in, served_weaker}
 use Rattle.ch_run.proofs.run.ask.run_ask.Goals as goal
@@ -14,8 +14,8 @@ returns-clause-served g c =
       network,
       c.build_by.ensures.limits,
       c.in_ok-graph.ensures.value,
-      served_weaker (IsRequestText options network (λ K. K ≡ H)) (IsRequestText options network (IsHierarchyBy options.order network options.hops))
-          (asked_in options c.order_for-order.result network H c.order_for-order.ensures c.in_ok-hierarchy.ensures.hierarchy) network.nodes _ _ _ c.serve.result c.serve.ensures.served,
+      served_weaker (IsTextOfRequest options network H) (IsRequestText options network (IsHierarchyBy (order_built options) network options.hops))
+          (asked_in options (order_built options) network H (rw c.order_for-order.ensures at c.in_ok-hierarchy.ensures.hierarchy)) network.nodes _ _ _ c.serve.result c.serve.ensures.served,
     )
 
 pub returns-clause-output_device : goal.returns-clause-output_device

@@ -1,13 +1,26 @@
-use Rattle.std.proofs.Common.{◌≡◌}
-use Rattle.ch_run.specs.Ask.{IsRequestText}
+use Rattle.std.proofs.Common.{◌≡◌, ℕ, sym, subst, arith}
+use Rattle.std.specs.Prelude.{All}
+use Rattle.ch_hierarchy.specs.Hierarchy.{nodes_of}
+use Rattle.ch_near.specs.Direction.{facing}
+use Rattle.ch_run.specs.Ask.{IsTextOfRequest}
 use Rattle.ch_run.specs.Run.{reading}
+use Rattle.ch_run.specs.Serving.{IsSearched}
 use Rattle.ch_run.specs.declared.fault.RunFault.TheVariants.{Memory}
 use Rattle.ch_run.proofs.Served.{passes_end, served_unread}
 use Rattle.ch_run.proofs.run.serving.serve.Goals as goal
 
 pub returns-in_err-buffer-clause-served : goal.returns-in_err-buffer-clause-served
 returns-in_err-buffer-clause-served g c =
-    let P = IsRequestText c.args.by.now.options.now c.args.by.now.checked.now.graph (λ H. H ≡ c.args.by.now.checked.now.hierarchy) in
+    let P = IsTextOfRequest c.args.by.now.options.now c.args.by.now.checked.now.graph c.args.by.now.checked.now.hierarchy in
     let n = c.args.by.now.checked.now.graph.nodes in
     passes_end P n (reading g.J.Input.left c.args.requests.now c.args.requests.now) _ _ c.from_residual.result Memory c.from_residual.ensures.1
     (served_unread P n (g.J.Input.left c.args.requests.now) (g.O.Output.taken c.args.output.now))
+
+pub serve_in-requires-clause-room : goal.serve_in-requires-clause-room
+serve_in-requires-clause-room g c = λ kept within.
+    let options = c.args.by.now.options.now in
+    let H = c.args.by.now.checked.now.hierarchy in
+    record {
+      scratches = subst (All (λ (scratch : ℕ). scratch ≡ nodes_of H)) (sym c.new-room.ensures.scratches) (λ k d lt. absurd (omega arith));
+      near = subst (IsSearched (facing options.direction H)) (sym c.new-room.ensures.near) tt;
+    }

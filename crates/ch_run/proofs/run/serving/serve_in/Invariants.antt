@@ -1,7 +1,7 @@
-use Rattle.std.proofs.Common.{◌≡◌, ◌<◌, All, length}
-use Rattle.ch_hierarchy.specs.Hierarchy.{nodes_of}
-use Rattle.ch_run.specs.Ask.{IsRequestText}
+use Rattle.std.proofs.Common.{◌≡◌, ◌<◌, length}
+use Rattle.ch_run.specs.Ask.{IsTextOfRequest}
 use Rattle.ch_run.specs.Run.{reading}
+use Rattle.ch_run.specs.Serving.{IsRoomFor, places_of}
 use Rattle.ch_run.proofs.Served.{HasServed}
 use Rattle.ch_run.proofs.run.serving.serve_in.Given as goal
 
@@ -9,9 +9,9 @@ use Rattle.ch_run.proofs.run.serving.serve_in.Given as goal
 abbrev pub invariant-loop : goal.invariant-loop
 invariant-loop g l = record {
   room : 0 < length l.buffer;
-  scratches : All (λ scratch. scratch ≡ nodes_of l.by.checked.now.hierarchy) l.scratches.items;
-  served : HasServed (IsRequestText l.by.options.now l.by.checked.now.graph (λ H. H ≡ l.by.checked.now.hierarchy)) l.by.checked.now.graph.nodes
-      (reading g.J.Input.left l.initial.requests l.requests) (g.O.Output.taken l.initial.output) (g.O.Output.taken l.output) l.written l.reader;
+  kept : IsRoomFor l.by.options.now.direction l.by.checked.now.hierarchy l.room;
+  served : HasServed (IsTextOfRequest l.by.options.now l.by.checked.now.graph l.by.checked.now.hierarchy) l.by.checked.now.graph.nodes
+      (reading g.J.Input.left l.initial.requests l.requests) (g.O.Output.taken l.initial.output) (g.O.Output.taken l.output) l.written l.reader (places_of l.room.near);
   reads : g.J.Input.failed l.requests ≡ g.J.Input.failed l.initial.requests;
   failed : g.O.Output.failed l.output ≡ g.O.Output.failed l.initial.output;
   idle : g.O.Output.idle l.output ≡ g.O.Output.idle l.initial.output;

@@ -1,0 +1,24 @@
+use Rattle.std.proofs.Common.{◌≡◌, ◌≤◌, ◌++◌, All, List, Ok, length}
+use Rattle.ch_graph.specs.declared.limits.TheConstants.{MOST_LISTED}
+use Rattle.ch_read.specs.declared.request.Request.{Request}
+use Rattle.ch_read.specs.Requests.{IsRequest}
+use Rattle.ch_run.specs.Ask.{IsTextOfRequest, places_after}
+use Rattle.ch_run.specs.Serving.{Answers, IsRoomFor, places_of}
+use Rattle.ch_run.proofs.run.answering.answer_requests.Given as goal
+
+-- the first of the requests are answered, and the rest is left
+abbrev pub invariant-loop-rest : goal.invariant-loop-rest
+invariant-loop-rest g l = record {
+  room : IsRoomFor l.by.options.now.direction l.by.checked.now.hierarchy l.room;
+  each : All (IsRequest l.by.checked.now.graph.nodes) l.rest;
+  few : length l.rest ≤ MOST_LISTED;
+  answered : (done : List Request) × (l.requests ≡ done ++ l.rest)
+      × Answers {T = Unit} (IsTextOfRequest l.by.options.now l.by.checked.now.graph l.by.checked.now.hierarchy) (places_of l.initial.room.near) (g.O.Output.taken l.initial.output) (g.O.Output.taken l.output)
+      l.initial.written l.written done (Ok tt)
+      × (places_of l.room.near ≡ places_after (places_of l.initial.room.near) done);
+  failed : g.O.Output.failed l.output ≡ g.O.Output.failed l.initial.output;
+  idle : g.O.Output.idle l.output ≡ g.O.Output.idle l.initial.output;
+}
+
+abbrev pub decreases-loop-rest : goal.decreases-loop-rest
+decreases-loop-rest g l = length l.rest

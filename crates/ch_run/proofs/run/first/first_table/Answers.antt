@@ -1,0 +1,10 @@
+use Rattle.ch_read.specs.declared.request.Request.TheVariants.{Table}
+use Rattle.ch_run.specs.Ask.{IsTextOfRequest}
+use Rattle.ch_run.proofs.Gathered.{one_answered}
+use Rattle.ch_run.proofs.run.first.first_table.Goals as goal
+
+pub returns : goal.returns
+returns g c = λ places rest.
+    let network = c.args.by.now.checked.now.graph in
+    let made = rw (c.sources-sources.ensures, c.targets-targets.ensures, c.limit_of-within.ensures, c.within.ensures) at (c.in_ok-text.ensures network c.requires.limits c.requires.kept) in
+    one_answered (IsTextOfRequest c.args.by.now.options.now network c.args.by.now.checked.now.hierarchy) places (Table c.args.lists.now) rest c.in_ok-text.text.items made

@@ -1,0 +1,99 @@
+//! Requests that came together, answered in order.
+ghost use Rattle.std.specs.Prelude.{◌≡◌, ◌<◌, ◌≤◌, ◌^◌, [], None, length, All, IfErr, OnOk};
+ghost use Rattle.ch_graph.specs.declared.limits.TheConstants.{MOST_LISTED};
+ghost use Rattle.ch_graph.specs.Graph.{IsWithinLimits};
+ghost use Rattle.ch_hierarchy.specs.Kept.{IsKept};
+ghost use Rattle.ch_read.specs.Requests.{IsRequest};
+ghost use Rattle.ch_run.specs.Ask.{IsTextOfRequest, places_after};
+ghost use Rattle.ch_text.specs.Device.{CanCountOneMore};
+ghost use Rattle.ch_run.specs.Serving.{Answers, CountsWrites, IsOfAnswering, IsRoomFor, WritesMore, places_of};
+
+use super::first::answer_first;
+use super::saved::Checked;
+use ch_text::{Output, write_all};
+use crate::fault::RunFault;
+use crate::options::Options;
+use crate::plan::{Crew, Gate};
+use ch_near::NearTargets;
+use ch_query::Scratch;
+use ch_read::Request;
+use std::alloc::Global;
+use std::thread::Threads;
+
+/// By what requests are answered: a graph with a hierarchy that is right for it, and the options.
+#[derive(Drop)]
+pub(crate) struct Answering<'a> {
+    pub(crate) checked: &'a Checked,
+    pub(crate) options: &'a Options,
+}
+
+/// What a run over requests keeps from one request to the next.
+#[derive(Drop)]
+pub(crate) struct Room<'a> {
+    /// In which workers answer queries.
+    pub(crate) scratches: Vec<Scratch>,
+    /// The places that were given last, if any were, with the searches from them.
+    pub(crate) near: Option<NearTargets<'a>>,
+}
+
+impl<'a> Room<'a> {
+    /// Nothing is kept yet.
+    pub(crate) fn new(alloc: Global) -> Room<'a>
+        ensures scratches { result.scratches.items ≡ [] }
+        ensures near { result.near ≡ None }
+    {
+        Room {
+            scratches: Vec::new(alloc),
+            near: None,
+        }
+    }
+}
+
+/// Answers requests, each group of like ones by one text. `written` counts the bytes that the output took, as far as 64 bits go.
+pub(crate) fn answer_requests<'a, R: Threads + Sync, O: Output, G: Gate>(
+    crew: &Crew<'_, R, G>,
+    by: &Answering<'a>,
+    room: &mut Room<'a>,
+    requests: &[Request],
+    output: &mut O,
+    written: &mut u64,
+) -> Result<(), RunFault>
+    requires limits { IsWithinLimits by.now.checked.now.graph }
+    requires kept { IsKept by.now.checked.now.graph by.now.checked.now.hierarchy }
+    requires room { IsRoomFor by.now.options.now.direction by.now.checked.now.hierarchy room.old }
+    requires each { All (IsRequest by.now.checked.now.graph.nodes) requests.now }
+    requires few { length requests.now ≤ MOST_LISTED }
+    requires counted { written.old < 2 ^ 64 }
+    requires failures { CanCountOneMore (O.failed output.old) }
+    requires zeros { CanCountOneMore (O.idle output.old) }
+    ensures answers { Answers (IsTextOfRequest by.now.options.now by.now.checked.now.graph by.now.checked.now.hierarchy) (places_of room.old.near) (O.taken output.old) (O.taken output.new)
+        written.old written.new requests.now result }
+    ensures places { OnOk result (places_of room.new.near ≡ places_after (places_of room.old.near) requests.now) }
+    ensures room { OnOk result (IsRoomFor by.now.options.now.direction by.now.checked.now.hierarchy room.new) }
+    ensures own { IfErr result IsOfAnswering }
+    ensures counts { CountsWrites (O.failed output.old) (O.failed output.new) (O.idle output.old) (O.idle output.new) result }
+{
+    let mut rest = requests;
+    while !rest.is_empty() {
+        let first = answer_first(crew, by, room, rest)?;
+        write_more(output, &first.text, written)?;
+        rest = &rest[first.count..];
+    }
+    Ok(())
+}
+
+/// Writes more, and counts it.
+fn write_more<O: Output>(output: &mut O, text: &[u8], written: &mut u64) -> Result<(), RunFault>
+    requires failures { CanCountOneMore (O.failed output.old) }
+    requires zeros { CanCountOneMore (O.idle output.old) }
+    ensures more { WritesMore (O.taken output.old) (O.taken output.new) written.old written.new text.now result }
+    ensures counts { CountsWrites (O.failed output.old) (O.failed output.new) (O.idle output.old) (O.idle output.new) result }
+{
+    match write_all(output, text) {
+        Ok(()) => {
+            *written = written.saturating_add(text.len() as u64);
+            Ok(())
+        }
+        Err(count) => Err(RunFault::Write(written.saturating_add(count))),
+    }
+}

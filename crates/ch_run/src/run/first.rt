@@ -1,0 +1,294 @@
+//! The first of requests that came together, and the text that answers them.
+ghost use Rattle.std.specs.Prelude.{◌≡◌, ◌<◌, ◌≤◌, true, false, ⊤, ◌∷◌, List, None, length, map, All, IfOk, MatchOption};
+ghost use Rattle.ch_graph.specs.declared.limits.TheConstants.{MOST_LISTED, MOST_QUERIES};
+ghost use Rattle.ch_graph.specs.Graph.{IsWithinLimits};
+ghost use Rattle.ch_hierarchy.specs.Hierarchy.{nodes_of};
+ghost use Rattle.ch_hierarchy.specs.Kept.{IsKept};
+ghost use Rattle.ch_near.specs.Near.{wanted_within};
+ghost use Rattle.ch_query.specs.Answers.{AreQueries};
+ghost use Rattle.ch_read.specs.Requests.{ArePlaces, AreTwoLists, IsRequest};
+ghost use Rattle.ch_read.specs.RequestLists.{PlaceList};
+ghost use Rattle.ch_read.specs.declared.request.Request.{Request as RequestKind};
+ghost use Rattle.ch_read.specs.declared.request.Request.TheVariants as RequestOf;
+ghost use Rattle.ch_run.specs.Ask.{AreAnswered, IsTextOfRequest, limit_of};
+ghost use Rattle.ch_run.specs.NearRows.{HasNearRows};
+ghost use Rattle.ch_run.specs.Serving.{AnswersFirst, AreFirstOf, IsRoomFor, asked_for, near_row_of, places_of, routes_for};
+
+use super::answering::{Answering, Room};
+use super::texts::{answers_in, plain_text, table_by};
+use ch_text::{push_near_row, push_near_rows};
+use crate::options::Options;
+use crate::plan::{Crew, Gate};
+use ch_near::NearTargets;
+use ch_query::Scratch;
+use ch_read::{NearPlaces, Request, TableLists};
+use std::alloc::{AllocError, Global};
+use std::thread::Threads;
+
+/// How many near rows are made together at most. The pairs of so many stand beside their text.
+const ROWS_TOGETHER: usize = 4096;
+
+/// The text that answers the first of some requests, and how many these are.
+#[derive(Drop)]
+pub(crate) struct FirstAnswers {
+    pub(crate) text: Vec<u8>,
+    pub(crate) count: usize,
+}
+
+/// Answers the first request, and with it those of its kind that come right after it.
+pub(crate) fn answer_first<'a, R: Threads + Sync, G: Gate>(
+    crew: &Crew<'_, R, G>,
+    by: &Answering<'a>,
+    room: &mut Room<'a>,
+    requests: &[Request],
+) -> Result<FirstAnswers, AllocError>
+    requires limits { IsWithinLimits by.now.checked.now.graph }
+    requires kept { IsKept by.now.checked.now.graph by.now.checked.now.hierarchy }
+    requires room { IsRoomFor by.now.options.now.direction by.now.checked.now.hierarchy room.old }
+    requires some { 0 < length requests.now }
+    requires each { All (IsRequest by.now.checked.now.graph.nodes) requests.now }
+    requires few { length requests.now ≤ MOST_LISTED }
+    ensures first { IfOk result (λ first. AnswersFirst (IsTextOfRequest by.now.options.now by.now.checked.now.graph by.now.checked.now.hierarchy) (places_of room.old.near) (places_of room.new.near) requests.now first.text.items first.count) }
+    ensures room { IfOk result (λ _. IsRoomFor by.now.options.now.direction by.now.checked.now.hierarchy room.new) }
+{
+    let rest = &requests[1..];
+    match &requests[0] {
+        Request::Query(from, to) => first_pairs(crew, by, room, (*from, *to), rest, false),
+        Request::Route(from, to) => first_pairs(crew, by, room, (*from, *to), rest, true),
+        Request::Near(source, within) => first_rows(crew, by, room, *source, *within, rest),
+        Request::Table(lists) => first_table(crew, by, lists),
+        Request::Places(places) => take_places(crew, by, room, places),
+    }
+}
+
+/// Answers a query, and with it the queries that come right after it: all with their routes, or as the run answers queries.
+fn first_pairs<R: Threads + Sync, G: Gate>(
+    crew: &Crew<'_, R, G>,
+    by: &Answering<'_>,
+    room: &mut Room<'_>,
+    first: (u32, u32),
+    rest: &[Request],
+    routed: bool,
+) -> Result<FirstAnswers, AllocError>
+    requires limits { IsWithinLimits by.now.checked.now.graph }
+    requires kept { IsKept by.now.checked.now.graph by.now.checked.now.hierarchy }
+    requires room { IsRoomFor by.now.options.now.direction by.now.checked.now.hierarchy room.old }
+    requires each { All (IsRequest by.now.checked.now.graph.nodes) (asked_for routed first ∷ rest.now) }
+    requires few { length rest.now < MOST_LISTED }
+    ensures first { IfOk result (λ answers. AnswersFirst (IsTextOfRequest by.now.options.now by.now.checked.now.graph by.now.checked.now.hierarchy) (places_of room.old.near) (places_of room.new.near) (asked_for routed first ∷ rest.now) answers.text.items answers.count) }
+    ensures room { IfOk result (λ _. IsRoomFor by.now.options.now.direction by.now.checked.now.hierarchy room.new) }
+{
+    let pairs = pairs_in_front(crew.alloc, first, rest, routed)?;
+    let count = pairs.len();
+    let text = pairs_text(crew, by, &mut room.scratches, &pairs, routed)?;
+    Ok(FirstAnswers { text, count })
+}
+
+/// The nodes of the queries in front, of which this is the first.
+fn pairs_in_front(
+    alloc: Global,
+    first: (u32, u32),
+    rest: &[Request],
+    routed: bool,
+) -> Result<Vec<(u32, u32)>, AllocError>
+    ensures { IfOk result (λ pairs. AreFirstOf (asked_for routed) (asked_for routed first ∷ rest.now) pairs.items) }
+{
+    let mut pairs = Vec::new(alloc);
+    pairs.push(first)?;
+    for request in rest {
+        let Some(pair) = pair_of(request, routed) else {
+            return Ok(pairs);
+        };
+        pairs.push(pair)?;
+    }
+    Ok(pairs)
+}
+
+/// The nodes of a query, where it asks for its route, or where it does not.
+fn pair_of(request: &Request, routed: bool) -> Option<(u32, u32)>
+    ensures { MatchOption result ⊤ (λ pair. request.now ≡ asked_for routed pair) }
+{
+    match request {
+        Request::Query(from, to) if !routed => Some((*from, *to)),
+        Request::Route(from, to) if routed => Some((*from, *to)),
+        _ => None,
+    }
+}
+
+/// The text of queries, all with their routes, or as the run answers queries.
+fn pairs_text<R: Threads + Sync, G: Gate>(
+    crew: &Crew<'_, R, G>,
+    by: &Answering<'_>,
+    scratches: &mut Vec<Scratch>,
+    pairs: &[(u32, u32)],
+    routed: bool,
+) -> Result<Vec<u8>, AllocError>
+    requires limits { IsWithinLimits by.now.checked.now.graph }
+    requires kept { IsKept by.now.checked.now.graph by.now.checked.now.hierarchy }
+    requires scratches { All (λ scratch. scratch ≡ nodes_of by.now.checked.now.hierarchy) scratches.old.items }
+    requires pairs { AreQueries by.now.checked.now.graph.nodes pairs.now }
+    requires count { length pairs.now ≤ MOST_QUERIES }
+    ensures text { (places : PlaceList) → IfOk result (λ text. AreAnswered (IsTextOfRequest by.now.options.now by.now.checked.now.graph by.now.checked.now.hierarchy) places (map (asked_for routed) pairs.now) text.items) }
+    ensures scratches { All (λ scratch. scratch ≡ nodes_of by.now.checked.now.hierarchy) scratches.new.items }
+{
+    if is_plain(by.options, routed) {
+        return plain_text(crew.alloc, &by.checked.graph, pairs, crew.gate);
+    }
+    let routes = tells_routes(by.options, routed);
+    answers_in(crew, &by.checked.hierarchy, scratches, pairs, routes)
+}
+
+/// Whether queries are answered by rounds over all arcs, which tell no route.
+fn is_plain(options: &Options, routed: bool) -> bool
+    ensures { result ≡ true → routes_for options.now routed ≡ false }
+{
+    options.plain && !routed
+}
+
+/// Whether routes are written: for queries that ask for them, or that the run answers.
+fn tells_routes(options: &Options, routed: bool) -> bool
+    ensures { result ≡ routes_for options.now routed }
+{
+    routed || (!options.plain && options.routes)
+}
+
+/// Answers a near row, and with it those within the same limit that come right after it.
+fn first_rows<R: Threads + Sync, G: Gate>(
+    crew: &Crew<'_, R, G>,
+    by: &Answering<'_>,
+    room: &mut Room<'_>,
+    source: u32,
+    within: Option<u64>,
+    rest: &[Request],
+) -> Result<FirstAnswers, AllocError>
+    requires limits { IsWithinLimits by.now.checked.now.graph }
+    requires kept { IsKept by.now.checked.now.graph by.now.checked.now.hierarchy }
+    requires room { IsRoomFor by.now.options.now.direction by.now.checked.now.hierarchy room.old }
+    requires each { All (IsRequest by.now.checked.now.graph.nodes) (near_row_of within source ∷ rest.now) }
+    requires few { length rest.now < MOST_LISTED }
+    ensures first { IfOk result (λ answers. AnswersFirst (IsTextOfRequest by.now.options.now by.now.checked.now.graph by.now.checked.now.hierarchy) (places_of room.old.near) (places_of room.new.near) (near_row_of within source ∷ rest.now) answers.text.items answers.count) }
+    ensures room { IfOk result (λ _. IsRoomFor by.now.options.now.direction by.now.checked.now.hierarchy room.new) }
+{
+    let Some(near) = &mut room.near else {
+        let mut text = Vec::new(crew.alloc);
+        push_near_row(&mut text, source, &[], &[])?;
+        return Ok(FirstAnswers { text, count: 1 });
+    };
+    let sources = sources_in_front(crew.alloc, source, within, rest)?;
+    let count = sources.len();
+    let text = rows_text(crew, near, &sources, limit_of(by.options, within))?;
+    Ok(FirstAnswers { text, count })
+}
+
+/// The text of near rows within a limit.
+fn rows_text<R: Threads + Sync, G: Gate>(
+    crew: &Crew<'_, R, G>,
+    near: &mut NearTargets<'_>,
+    sources: &[u32],
+    within: Option<u64>,
+) -> Result<Vec<u8>, AllocError>
+    requires sources { All (λ s. s < nodes_of near.old.hierarchy) sources.now }
+    requires few { length sources.now ≤ MOST_LISTED }
+    requires limit { near.old.limit ≡ None }
+    ensures text { IfOk result (λ text. HasNearRows (wanted_within near.old within) sources.now text.items) }
+    ensures same { near.new ≡ near.old }
+{
+    let rows = near.rows_within(crew, sources, within)?;
+    let mut text = Vec::new(crew.alloc);
+    push_near_rows(&mut text, sources, near.targets(), &rows)?;
+    Ok(text)
+}
+
+/// The sources of the near rows in front, of which this is the first.
+fn sources_in_front(
+    alloc: Global,
+    first: u32,
+    within: Option<u64>,
+    rest: &[Request],
+) -> Result<Vec<u32>, AllocError>
+    ensures { IfOk result (λ sources. AreFirstOf (near_row_of within) (near_row_of within first ∷ rest.now) sources.items) }
+{
+    let mut sources = Vec::new(alloc);
+    sources.push(first)?;
+    for request in rest {
+        let Some(source) = source_of(request, within) else {
+            return Ok(sources);
+        };
+        if sources.len() >= ROWS_TOGETHER {
+            return Ok(sources);
+        }
+        sources.push(source)?;
+    }
+    Ok(sources)
+}
+
+/// The source of a near row within this limit.
+fn source_of(request: &Request, within: Option<u64>) -> Option<u32>
+    ensures { MatchOption result ⊤ (λ source. request.now ≡ near_row_of within source) }
+{
+    match request {
+        Request::Near(source, other) if *other == within => Some(*source),
+        _ => None,
+    }
+}
+
+/// The limit of a request: its own, or the run's where it has none.
+fn limit_of(options: &Options, within: Option<u64>) -> Option<u64>
+    ensures { result ≡ limit_of options.now within }
+{
+    match within {
+        Some(most) => Some(most),
+        None => options.within,
+    }
+}
+
+/// Answers a table.
+fn first_table<R: Threads + Sync, G: Gate>(
+    crew: &Crew<'_, R, G>,
+    by: &Answering<'_>,
+    lists: &TableLists,
+) -> Result<FirstAnswers, AllocError>
+    requires limits { IsWithinLimits by.now.checked.now.graph }
+    requires kept { IsKept by.now.checked.now.graph by.now.checked.now.hierarchy }
+    requires lists { AreTwoLists by.now.checked.now.graph.nodes lists.now }
+    ensures { (places : PlaceList) (rest : List RequestKind) → IfOk result (λ answers. AnswersFirst (IsTextOfRequest by.now.options.now by.now.checked.now.graph by.now.checked.now.hierarchy) places places (RequestOf.Table lists.now ∷ rest) answers.text.items answers.count) }
+{
+    let within = limit_of(by.options, lists.within());
+    let sources = lists.sources();
+    let targets = lists.targets();
+    let text = table_by(crew, &by.checked.hierarchy, sources, targets, within)?;
+    Ok(FirstAnswers { text, count: 1 })
+}
+
+/// Takes places in place of those that were given last, and searches from each.
+fn take_places<'a, R: Threads + Sync, G: Gate>(
+    crew: &Crew<'_, R, G>,
+    by: &Answering<'a>,
+    room: &mut Room<'a>,
+    places: &NearPlaces,
+) -> Result<FirstAnswers, AllocError>
+    requires kept { IsKept by.now.checked.now.graph by.now.checked.now.hierarchy }
+    requires room { IsRoomFor by.now.options.now.direction by.now.checked.now.hierarchy room.old }
+    requires limits { IsWithinLimits by.now.checked.now.graph }
+    requires places { ArePlaces by.now.checked.now.graph.nodes places.now }
+    ensures first { (rest : List RequestKind) → IfOk result (λ answers. AnswersFirst (IsTextOfRequest by.now.options.now by.now.checked.now.graph by.now.checked.now.hierarchy) (places_of room.old.near) (places_of room.new.near) (RequestOf.Places places.now ∷ rest) answers.text.items answers.count) }
+    ensures room { IfOk result (λ _. IsRoomFor by.now.options.now.direction by.now.checked.now.hierarchy room.new) }
+{
+    // The memory of the searches before serves these.
+    room.near = None;
+    let direction = by.options.direction;
+    let count = places.count();
+    let near = NearTargets::search(
+        crew,
+        &by.checked.hierarchy,
+        direction,
+        places.nodes(),
+        None,
+        count,
+    )?;
+    room.near = Some(near);
+    Ok(FirstAnswers {
+        text: Vec::new(crew.alloc),
+        count: 1,
+    })
+}
