@@ -32,7 +32,7 @@ use Rattle.ch_run.proofs.Texts.{each_weaker}
 
 -- the text of each answer by itself is a text of its query
 module _ (written : Answer → List ℕ) (IsTextOf : TextOf) (from : ℕ × ℕ → Request) (Of : ℕ × ℕ → List ℕ → Type 0)
-  (so : (places : PlaceList) (query : ℕ × ℕ) (text : List ℕ) → Of query text → IsTextOf places (from query) text) (stay : (places : PlaceList) (query : ℕ × ℕ) → places_then places (from query) ≡ places) where
+    (so : (places : PlaceList) (query : ℕ × ℕ) (text : List ℕ) → Of query text → IsTextOf places (from query) text) (stay : (places : PlaceList) (query : ℕ × ℕ) → places_then places (from query) ≡ places) where
   each_answered : (places : PlaceList) (queries : List (ℕ × ℕ)) (answers : List Answer) → AllZip (λ query answer. Of query (written answer)) queries answers →
       AreAnswered IsTextOf places (map from queries) (flat_map written answers)
   each_answered places [] [] h = refl
@@ -93,12 +93,11 @@ rows_answered options g From within places (s ∷ sources) (row ∷ rows) h = (
 -- what an output took, and then more
 
 pub taken_none : (old : Option (List ℕ)) → HasTaken old old []
-taken_none None = refl
+taken_none None = tt
 taken_none (Some old) = ap (λ (t : List ℕ). Some t) (sym (append-nil old))
 
 pub taken_append : (old mid new : Option (List ℕ)) (text more : List ℕ) → HasTaken old mid text → HasTaken mid new more → HasTaken old new (text ++ more)
-taken_append None None new text more h k = k
-taken_append None (Some mid) new text more h k = cc
+taken_append None mid new text more h k = tt
 taken_append (Some old) None new text more h k = cc
 taken_append (Some old) (Some mid) new text more h k =
     let joined : (old ++ text) ++ more ≡ old ++ (text ++ more) = append_assoc old text more in

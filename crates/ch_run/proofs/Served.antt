@@ -1,6 +1,6 @@
 -- Requests that are read and answered as they come.
 use Rattle.std.proofs.Common.{◌≡◌, ℕ, ◌<◌, ◌==◌, Bool, true, false, not, ◌&&◌, List, [], ◌∷◌, ◌++◌, length, take, Option, Some, None, Result, Ok, Err, inl, inr, refl, sym, ap, ◌∙◌, subst, arith, append_assoc}
-use Rattle.std.specs.Prelude.{IfErr, IsErrAnd, IsNone, OnOk, is_ok, is_err, if◌then◌else◌}
+use Rattle.std.specs.Prelude.{IfErr, IsErrAnd, IsNone, OnOk, map, is_ok, is_err, if◌then◌else◌}
 use Rattle.std.proofs.lemmas.Bool.{eqb-true}
 use Rattle.std.proofs.lemmas.List.{append-nil}
 use Rattle.ch_read.specs.declared.request.Request.{Request}
@@ -155,14 +155,13 @@ own_passed (Err y) e is own = subst IsOfServing (sym is) own
 -- inputs that are read
 
 pub read_none : (old : Option (List ℕ)) (all : List ℕ) → (left : List ℕ) × HasRead old old [] left
-read_none None all = ([], refl)
+read_none None all = ([], tt)
 read_none (Some old) all = (old, (refl, refl))
 
 -- one more read
 pub read_on : (E : Type 0) (start old new : Option (List ℕ)) (read left buffer : List ℕ) (n : ℕ) → HasRead start old read left → GivesBytes {E = E} old new (Ok n) buffer → 0 < length buffer →
     (left' : List ℕ) × HasRead start new (read ++ take n buffer) left' × (n ≡ 0 → left' ≡ [])
-read_on E None None new read left buffer n h k room = ([], k, λ e. refl)
-read_on E None (Some old) new read left buffer n h k room = cc
+read_on E None old new read left buffer n h k room = ([], tt, λ e. refl)
 read_on E (Some start) None new read left buffer n h k room = cc
 read_on E (Some start) (Some old) None read left buffer n h k room = absurd k
 read_on E (Some start) (Some old) (Some new) read left buffer n h k room =
@@ -173,17 +172,13 @@ read_on E (Some start) (Some old) (Some new) read left buffer n h k room =
 
 -- a read that is refused
 pub read_refused : (E : Type 0) (start old new : Option (List ℕ)) (read left buffer : List ℕ) (e : E) → HasRead start old read left → GivesBytes old new (Err e) buffer → HasRead start new read left
-read_refused E None old new read left buffer e h k = at old h k
-  where
-    at : (old : Option (List ℕ)) → IsNone old → GivesBytes {E = E} old new (Err e) buffer → IsNone new
-    at None h k = k
-    at (Some old) h k = cc
+read_refused E None old new read left buffer e h k = tt
 read_refused E (Some start) None new read left buffer e h k = cc
 read_refused E (Some start) (Some old) None read left buffer e h k = absurd k
 read_refused E (Some start) (Some old) (Some new) read left buffer e h k = (h.0, ap (λ (xs : List ℕ). Some xs) k ∙ h.1)
 
 all_given : (old new : Option (List ℕ)) (read left : List ℕ) → HasRead old new read left → left ≡ [] → HasGiven old new read
-all_given None new read left h none = h
+all_given None new read left h none = tt
 all_given (Some old) new read left h none = (h.0 ∙ ap (λ xs. read ++ xs) none ∙ append-nil read, h.1 ∙ ap (λ (xs : List ℕ). Some xs) none)
 
 -- bytes that are fed come first

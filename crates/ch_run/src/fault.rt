@@ -1,10 +1,13 @@
 //! Why a run gave no answer.
 
-ghost use Rattle.std.specs.Prelude.{◌≡◌, Some};
-ghost use Rattle.ch_run.specs.Fault.{fault_text, input_name, input_fault, status_of};
+ghost use Rattle.std.specs.Prelude.{◌≡◌, ◌≤◌, ◌++◌, Some, codes, length};
+ghost use Rattle.ch_hierarchy.specs.FaultText.{fault_text as check_fault_text};
+ghost use Rattle.ch_read.specs.Text.{kind_text};
+ghost use Rattle.ch_run.specs.Fault.{fault_text, input_name, input_fault, read_heading, status_of};
 
 use ch_contract::CheckFault;
-use ch_read::{ReadError, ReadFault};
+use ch_read::{FaultKind, ReadError, ReadFault};
+use ch_text::ShortText;
 use std::alloc::{AllocError, AllocFailed};
 use std::error::Error;
 use std::fmt;
@@ -30,20 +33,43 @@ impl Which {
             ReadError::NoMemory => RunFault::Memory,
         }
     }
+
+    /// The word for this input.
+    fn name(self) -> &'static str
+        ensures text { result.now ≡ input_name self }
+        ensures short { length result.now ≤ 8 }
+    {
+        match self {
+            Which::Graph => "graph",
+            Which::Saved => "saved",
+            Which::Queries => "queries",
+            Which::Sources => "sources",
+            Which::Targets => "targets",
+            Which::Requests => "requests",
+        }
+    }
+
+    /// What the line of a fault begins with, where this input has it.
+    fn heading(self) -> &'static str
+        ensures text { result.now ≡ read_heading self }
+        ensures short { length result.now ≤ 15 }
+    {
+        match self {
+            Which::Graph => "chtab: graph ",
+            Which::Saved => "chtab: saved ",
+            Which::Queries => "chtab: queries ",
+            Which::Sources => "chtab: sources ",
+            Which::Targets => "chtab: targets ",
+            Which::Requests => "chtab: request ",
+        }
+    }
 }
 
 impl fmt::Display for Which {
     ghost output = { λ which. Some (input_name which) };
 
     fn fmt<W: fmt::Write>(&self, f: &mut fmt::Formatter<W>) -> fmt::Result {
-        match self {
-            Which::Graph => f.write_str("graph"),
-            Which::Saved => f.write_str("saved"),
-            Which::Queries => f.write_str("queries"),
-            Which::Sources => f.write_str("sources"),
-            Which::Targets => f.write_str("targets"),
-            Which::Requests => f.write_str("requests"),
-        }
+        f.write_str(self.name())
     }
 }
 
@@ -62,7 +88,7 @@ pub enum RunFault {
     Memory,
     /// This input couldn't be opened or read.
     Device(Which),
-    /// A write failed, or took no byte, after so many bytes had been written and flushed.
+    /// A write failed, or took no byte, after so many bytes had been written.
     Write(u64),
     /// The saved hierarchy isn't right for the graph, for this fault.
     Check(CheckFault),
@@ -73,14 +99,10 @@ impl fmt::Display for RunFault {
 
     fn fmt<W: fmt::Write>(&self, f: &mut fmt::Formatter<W>) -> fmt::Result {
         match self {
-            RunFault::Read(which, fault) => match which {
-                Which::Graph => write!(f, "chtab: graph {fault}"),
-                Which::Saved => write!(f, "chtab: saved {fault}"),
-                Which::Queries => write!(f, "chtab: queries {fault}"),
-                Which::Sources => write!(f, "chtab: sources {fault}"),
-                Which::Targets => write!(f, "chtab: targets {fault}"),
-                Which::Requests => write!(f, "chtab: request {fault}"),
-            },
+            RunFault::Read(which, fault) => {
+                let heading = which.heading();
+                write!(f, "{heading}{fault}")
+            }
             RunFault::Cells => f.write_str("chtab: too many cells"),
             RunFault::CellsAt(line) => write!(f, "chtab: request line {line}: too many cells"),
             RunFault::Memory => f.write_str("chtab: out of memory"),
@@ -92,6 +114,74 @@ impl fmt::Display for RunFault {
 }
 
 impl Error for RunFault {}
+
+/// The words for what is wrong with a file.
+fn kind_words(kind: FaultKind) -> &'static str
+    ensures text { result.now ≡ kind_text kind }
+    ensures short { length result.now ≤ 19 }
+{
+    match kind {
+        FaultKind::UnknownLine => "unknown line",
+        FaultKind::BadProblem => "bad problem line",
+        FaultKind::SecondProblem => "second problem line",
+        FaultKind::NoProblem => "no problem line",
+        FaultKind::BadLine => "bad line",
+        FaultKind::NodeRange => "node out of range",
+        FaultKind::Sum => "weight too large",
+        FaultKind::Size => "size too large",
+        FaultKind::TooMany => "too many lines",
+        FaultKind::TooFew => "too few lines",
+    }
+}
+
+/// The word for what is wrong with a saved hierarchy.
+fn check_word(fault: CheckFault) -> &'static str
+    ensures text { result.now ≡ check_fault_text fault }
+    ensures short { length result.now ≤ 6 }
+{
+    match fault {
+        CheckFault::Order => "order",
+        CheckFault::Pair(_) => "pair",
+        CheckFault::Bound(_) => "bound",
+        CheckFault::Base(_) => "base",
+        CheckFault::Middle(_) => "middle",
+        CheckFault::Arc(_) => "arc",
+        CheckFault::Lower(_) => "lower",
+    }
+}
+
+/// The line of a fault, with its line feed. It takes no memory, so it can be told where memory has run out.
+pub fn fault_line(fault: &RunFault) -> ShortText
+    ensures { result ≡ fault_text fault.now ++ codes "\n" }
+{
+    let mut line = ShortText::new();
+    line.prepend(b'\n');
+    match *fault {
+        RunFault::Read(which, fault) => {
+            line.prepend_slice(kind_words(fault.kind).as_bytes());
+            line.prepend_slice(b": ");
+            line.prepend_number(fault.line);
+            line.prepend_slice(b"line ");
+            line.prepend_slice(which.heading().as_bytes());
+        }
+        RunFault::Cells => line.prepend_slice(b"chtab: too many cells"),
+        RunFault::Memory => line.prepend_slice(b"chtab: out of memory"),
+        RunFault::Device(which) => {
+            line.prepend_slice(which.name().as_bytes());
+            line.prepend_slice(b"chtab: cannot read ");
+        }
+        RunFault::Write(count) => {
+            line.prepend_slice(b" bytes");
+            line.prepend_number(count);
+            line.prepend_slice(b"chtab: cannot write after ");
+        }
+        RunFault::Check(fault) => {
+            line.prepend_slice(check_word(fault).as_bytes());
+            line.prepend_slice(b"chtab: saved hierarchy refused: ");
+        }
+    }
+    line
+}
 
 impl From<AllocError> for RunFault {
     ghost use Rattle.ch_run.specs.declared.fault.RunFault.TheVariants.{Memory};

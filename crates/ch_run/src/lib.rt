@@ -19,10 +19,10 @@ mod plan;
 mod run;
 
 pub use ch_text::{
-    DeviceFault, Input, MemoryInput, MemoryOutput, Output, ReadAllFault, ReaderInput, WriterOutput,
-    read_all, write_all,
+    DeviceFault, Input, MemoryInput, MemoryOutput, Output, ReadAllFault, ReadOnce, ReaderInput,
+    WriteOnce, WriterOutput, read_all, write_all,
 };
-pub use fault::{RunFault, Which, status};
+pub use fault::{RunFault, Which, fault_line, status};
 pub use options::{Direction, MOST_COUNT, MOST_HOPS, MOST_WITHIN, Options, OrderBy};
 pub use plan::{Crew, Gate, Open, Plan, Stage};
 pub use run::{

@@ -3,19 +3,18 @@ use Rattle.std.proofs.Common.{◌≡◌, ℕ, ◌<◌, ◌+◌, ◌-◌, ◌++�
 use Rattle.std.proofs.lemmas.Bool.Decides.{nat_tests}
 use Rattle.std.proofs.lemmas.List.{append-nil, length-drop, take_all}
 use Rattle.std.proofs.Math.Seq.{take-add}
-use Rattle.std.specs.Prelude.{IsNone}
+use Rattle.std.specs.Prelude.{⊤}
 use Rattle.ch_text.specs.Device.{GivesBytes, HasGiven, HasTaken, TakesBytes, idle_writes}
 
 -- of the bytes that an input told, these were given so far, and the others are left
 abbrev pub GivenSoFar : Option (List ℕ) → Option (List ℕ) → List ℕ → Type 0
-GivenSoFar None left bytes = IsNone left
+GivenSoFar None left bytes = ⊤
 GivenSoFar (Some told) None bytes = ⊥
 GivenSoFar (Some told) (Some left) bytes = told ≡ bytes ++ left
 
 -- a read that gives none into some room is at the end
 pub given-all : (E : Type 0) (told left left' : Option (List ℕ)) (bytes buffer : List ℕ) (n : ℕ) → n ≡ 0 → 0 < length buffer → GivenSoFar told left bytes → GivesBytes {E = E} left left' (Ok n) buffer → HasGiven told left' bytes
-given-all E None None left' bytes buffer n none room before read = read
-given-all E None (Some left) left' bytes buffer n none room before read = cc
+given-all E None left left' bytes buffer n none room before read = tt
 given-all E (Some told) None left' bytes buffer n none room before read = absurd before
 given-all E (Some told) (Some left) None bytes buffer n none room before read = absurd read
 given-all E (Some told) (Some left) (Some left') bytes buffer n none room before read =
@@ -26,8 +25,7 @@ given-all E (Some told) (Some left) (Some left') bytes buffer n none room before
 
 -- a write takes some more
 pub taken-more : (E : Type 0) (old taken taken' : Option (List ℕ)) (bytes : List ℕ) (count n : ℕ) → HasTaken old taken (take count bytes) → TakesBytes {E = E} taken taken' (Ok n) (take (length bytes - count) (drop count bytes)) → HasTaken old taken' (take (count + n) bytes)
-taken-more E None None taken' bytes count n before write = write
-taken-more E None (Some taken) taken' bytes count n before write = cc
+taken-more E None taken taken' bytes count n before write = tt
 taken-more E (Some old) None taken' bytes count n before write = cc
 taken-more E (Some old) (Some taken) None bytes count n before write = absurd write
 taken-more E (Some old) (Some taken) (Some taken') bytes count n before write =

@@ -1,4 +1,5 @@
 pub mod Bytes
+pub mod Calls
 pub mod Growing
 pub mod Ranges
 pub mod Saving

@@ -1,5 +1,5 @@
 -- What devices give, take and count.
-use Rattle.std.specs.Prelude.{◌≡◌, ℕ, zero, suc, ◌+◌, ◌-◌, ◌^◌, ◌<◌, ◌++◌, ◌==◌, ◌&&◌, ◌⊎◌, if◌then◌else◌, nat_lt, Bool, true, List, [], Option, Some, None, IsNone, Result, Ok, Err, IsErr, length, take, MatchResult}
+use Rattle.std.specs.Prelude.{◌≡◌, ℕ, zero, suc, ◌+◌, ◌-◌, ◌^◌, ◌<◌, ◌++◌, ◌==◌, ◌&&◌, ◌⊎◌, if◌then◌else◌, nat_lt, Bool, true, List, [], Option, Some, None, ⊤, Result, Ok, Err, IsErr, length, take, MatchResult}
 use Rattle.ch_text.specs.declared.device.ReadAllFault.{ReadAllFault}
 use Rattle.ch_text.specs.declared.device.ReadAllFault.TheVariants.{Device, Memory}
 
@@ -31,33 +31,33 @@ failed_reads (Ok _) = 0
 failed_reads (Err Device) = 1
 failed_reads (Err Memory) = 0
 
--- an input that tells its bytes goes on telling them, and one that doesn't doesn't begin to:
+-- an input that tells its bytes goes on telling them, and of one that doesn't nothing is said:
 -- a read takes the bytes that it gives from the front of those left, none only at the end or into
 -- no room; a read that fails takes none
 abbrev pub GivesBytes : {E : Type 0} → Option (List ℕ) → Option (List ℕ) → Result ℕ E → List ℕ → Type 0
-GivesBytes None new result buffer = IsNone new
+GivesBytes None new result buffer = ⊤
 GivesBytes (Some old) None result buffer = ⊥
 GivesBytes (Some old) (Some new) result buffer = MatchResult result (λ n. (old ≡ take n buffer ++ new) × (n ≡ 0 → 0 < length buffer → old ≡ [])) (λ _. new ≡ old)
 
 -- the same for an output: a write puts the front of these bytes after those that were taken
 abbrev pub TakesBytes : {E : Type 0} → Option (List ℕ) → Option (List ℕ) → Result ℕ E → List ℕ → Type 0
-TakesBytes None new result bytes = IsNone new
+TakesBytes None new result bytes = ⊤
 TakesBytes (Some old) None result bytes = ⊥
 TakesBytes (Some old) (Some new) result bytes = MatchResult result (λ n. new ≡ old ++ take n bytes) (λ _. new ≡ old)
 
 -- an input that tells its bytes had these left, and now none
 abbrev pub HasGiven : Option (List ℕ) → Option (List ℕ) → List ℕ → Type 0
-HasGiven None new bytes = IsNone new
+HasGiven None new bytes = ⊤
 HasGiven (Some old) new bytes = (old ≡ bytes) × (new ≡ Some [])
 
 -- of an input that tells its bytes these were read, and these are left
 abbrev pub HasRead : (old new : Option (List ℕ)) → (read left : List ℕ) → Type 0
-HasRead None new read left = IsNone new
+HasRead None new read left = ⊤
 HasRead (Some old) new read left = (old ≡ read ++ left) × (new ≡ Some left)
 
 -- an output that tells the bytes that it took has taken these after the earlier ones
 abbrev pub HasTaken : Option (List ℕ) → Option (List ℕ) → List ℕ → Type 0
-HasTaken None new bytes = IsNone new
+HasTaken None new bytes = ⊤
 HasTaken (Some old) new bytes = new ≡ Some (old ++ bytes)
 
 -- both counts stay at an `Ok`; at an error just one of them grows, by one

@@ -6,7 +6,7 @@ ghost use Rattle.ch_text.specs.Device.{CanCountOneMore, ClosesAtFault, GivesByte
 mod file;
 mod memory;
 
-pub use file::{ReaderInput, WriterOutput};
+pub use file::{ReadOnce, ReaderInput, WriteOnce, WriterOutput};
 pub use memory::{MemoryInput, MemoryOutput};
 use std::alloc::{AllocError, Global};
 use std::error::Error;

@@ -16,10 +16,11 @@ mod text;
 mod workers;
 
 pub use device::{
-    DeviceFault, Input, MemoryInput, MemoryOutput, Output, ReadAllFault, ReaderInput, WriterOutput,
-    read_all, write_all,
+    DeviceFault, Input, MemoryInput, MemoryOutput, Output, ReadAllFault, ReadOnce, ReaderInput,
+    WriteOnce, WriterOutput, read_all, write_all,
 };
 pub use hierarchy_text::save_text;
 pub use near_text::{push_near_row, push_near_rows};
+pub use short_text::ShortText;
 pub use text::answers_text;
 pub use workers::{answers_text_by, table_text};

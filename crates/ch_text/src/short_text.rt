@@ -7,12 +7,12 @@ use itoa::write_digits;
 use std::marker::Model;
 
 /// The most bytes of a short text: those of the line of a leg in which each number has 20 digits, and some more.
-pub(crate) const ROOM: usize = 112;
+pub const ROOM: usize = 112;
 
 /// A text that is written from its end to its front, since the digits of a number are found from the last one on. So a line
 /// is one slice when it is added to others. Contracts see its bytes.
 #[derive(Drop)]
-pub(crate) struct ShortText {
+pub struct ShortText {
     bytes: [u8; ROOM],
     start: usize,
 }
@@ -31,7 +31,7 @@ impl Model for ShortText {
 impl ShortText {
     /// No bytes.
     #[inline]
-    pub(crate) fn new() -> ShortText
+    pub fn new() -> ShortText
         ensures { result ≡ [] }
     {
         ShortText {
@@ -50,7 +50,7 @@ impl ShortText {
 
     /// Puts a byte in front.
     #[inline]
-    pub(crate) fn prepend(&mut self, byte: u8)
+    pub fn prepend(&mut self, byte: u8)
         requires { length self.old < ROOM }
         ensures text { self.new ≡ byte ∷ self.old }
         ensures length { length self.new ≡ length self.old + 1 }
@@ -59,9 +59,20 @@ impl ShortText {
         self.bytes[self.start] = byte;
     }
 
+    /// Puts bytes in front.
+    pub fn prepend_slice(&mut self, bytes: &[u8])
+        requires { length self.old + length bytes.now ≤ ROOM }
+        ensures text { self.new ≡ bytes.now ++ self.old }
+        ensures length { length self.new ≡ length self.old + length bytes.now }
+    {
+        let start = self.start - bytes.len();
+        self.bytes[start..self.start].copy_from_slice(bytes);
+        self.start = start;
+    }
+
     /// Puts a number in front, in decimal.
     #[inline]
-    pub(crate) fn prepend_number(&mut self, number: u64)
+    pub fn prepend_number(&mut self, number: u64)
         requires { length self.old + 20 ≤ ROOM }
         ensures text { self.new ≡ decimal number ++ self.old }
         ensures length { length self.new ≤ length self.old + 20 }
@@ -109,7 +120,7 @@ impl ShortText {
 
     /// The bytes.
     #[inline]
-    pub(crate) fn as_slice(&self) -> &[u8]
+    pub fn as_slice(&self) -> &[u8]
         ensures { result.now ≡ self.now }
     {
         &self.bytes[self.start..]

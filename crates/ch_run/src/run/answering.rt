@@ -10,13 +10,13 @@ ghost use Rattle.ch_run.specs.Serving.{Answers, CountsWrites, IsOfAnswering, IsR
 
 use super::first::answer_first;
 use super::saved::Checked;
-use ch_text::{Output, write_all};
 use crate::fault::RunFault;
 use crate::options::Options;
 use crate::plan::{Crew, Gate};
 use ch_near::NearTargets;
 use ch_query::Scratch;
 use ch_read::Request;
+use ch_text::{Output, write_all};
 use std::alloc::Global;
 use std::thread::Threads;
 

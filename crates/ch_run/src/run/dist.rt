@@ -12,12 +12,12 @@ ghost use Rattle.ch_run.specs.Run.{AcceptsGraph, AcceptsQueries, Delivers, GoesP
 use super::inputs::{graph_from, queries_from};
 use super::output::write_text;
 use super::texts::{answers_by, plain_text};
-use ch_text::{Input, Output};
 use crate::fault::{RunFault, Which};
 use crate::options::{Options, OrderBy};
 use crate::plan::{Crew, Gate, Stage};
 use ch_contract::build_by;
 use ch_graph::Graph;
+use ch_text::{Input, Output};
 use std::alloc::AllocError;
 use std::thread::Threads;
 

@@ -16,12 +16,12 @@ ghost use Rattle.ch_run.specs.Serving.{AnswersFirst, AreFirstOf, IsRoomFor, aske
 
 use super::answering::{Answering, Room};
 use super::texts::{answers_in, plain_text, table_by};
-use ch_text::{push_near_row, push_near_rows};
 use crate::options::Options;
 use crate::plan::{Crew, Gate};
 use ch_near::NearTargets;
 use ch_query::Scratch;
 use ch_read::{NearPlaces, Request, TableLists};
+use ch_text::{push_near_row, push_near_rows};
 use std::alloc::{AllocError, Global};
 use std::thread::Threads;
 

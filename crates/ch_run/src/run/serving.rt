@@ -11,10 +11,10 @@ ghost use Rattle.ch_run.specs.Serving.{Answers, CountsWrites, GivesUntil, IsRoom
 
 use super::answering::{Answering, Room, answer_requests};
 use super::batch::gather;
-use ch_text::{Input, Output};
 use crate::fault::{RunFault, Which};
 use crate::plan::{Crew, Gate};
 use ch_read::RequestReader;
+use ch_text::{Input, Output};
 use std::thread::Threads;
 
 /// How many bytes of requests are read at once.

@@ -1,26 +1,79 @@
-//! Devices over the readers and writers of `std`, as files and standard output, which don't tell
-//! their bytes.
+//! Devices over the readers and writers of `std`, which tell their bytes where these do.
+//!
+//! A stream in memory does, and a file or a stream of the system doesn't.
 
-ghost use Rattle.std.specs.Prelude.{◌≡◌, ◌+◌, ◌≤◌, ◌↔◌, false, None, IfOk, length, take};
-ghost use Rattle.std.specs.Io.KnownBytes.{Appends, Keeps, ReadConsumes, WriteAppends};
-ghost use Rattle.std.specs.IoError.{error_kind};
-ghost use Rattle.std.specs.declared.io.ErrorKind.TheVariants.{BrokenPipe};
-ghost use Rattle.ch_text.specs.Device.{CanCountOneMore, ClosesAtFault, idle_writes, failures_in};
+ghost use Rattle.std.specs.Prelude.{◌≡◌, ◌+◌, ◌≤◌, ℕ, false, List, Option, Result, IfOk, length};
+ghost use Rattle.std.specs.Io.{ReadsAtMost, WritesAtMost};
+ghost use Rattle.std.specs.Io.KnownBytes.{ReadConsumes, WriteAppends};
+ghost use Rattle.std.specs.declared.io.Error.{Error as IoError};
+ghost use Rattle.ch_text.specs.Calls.{IsClosedBy, IsReadOf, IsWriteOf, device_answer};
+ghost use Rattle.ch_text.specs.Device.{CanCountOneMore, ClosesAtFault, GivesBytes, TakesBytes, idle_writes, failures_in};
 
 use super::{DeviceFault, Input, Output};
 use std::io::{self, ErrorKind, Read, Write};
 
+/// What is read by one call at a time: any reader of `std`.
+///
+/// What a call may do has a name here and no meaning, so a clause over any source tells which calls were made.
+pub trait ReadOnce {
+    // the bytes that are left, where they are known
+    ghost remaining: { Self → Option (List ℕ) };
+    // what one read may do: the source before, the buffer after, the answer, and the source after
+    ghost read_gives: { Self → List ℕ → Result ℕ IoError → Self → Type 0 };
+
+    /// Makes one read of `std`.
+    fn read_once(&mut self, buffer: &mut [u8]) -> io::Result<usize>
+        ensures bound { ReadsAtMost result buffer.new }
+        ensures bytes { ReadConsumes (remaining self.old) (remaining self.new) result buffer.new }
+        ensures made { read_gives self.old buffer.new result self.new };
+}
+
+impl<D: Read> ReadOnce for D {
+    ghost remaining = { D.Read.remaining };
+
+    ghost read_gives = { λ old buffer result new. ReadsAtMost result buffer × ReadConsumes (D.Read.remaining old) (D.Read.remaining new) result buffer };
+
+    fn read_once(&mut self, buffer: &mut [u8]) -> io::Result<usize> {
+        self.read(buffer)
+    }
+}
+
+/// What is written to by one call at a time, as [`ReadOnce`]: any writer of `std`.
+pub trait WriteOnce {
+    // the bytes that it holds, where they are known
+    ghost contents: { Self → Option (List ℕ) };
+    // what one write may do: the sink before, the bytes, the answer, and the sink after
+    ghost write_gives: { Self → List ℕ → Result ℕ IoError → Self → Type 0 };
+
+    /// Makes one write of `std`.
+    fn write_once(&mut self, bytes: &[u8]) -> io::Result<usize>
+        ensures bound { WritesAtMost result bytes.now }
+        ensures bytes { WriteAppends (contents self.old) (contents self.new) result bytes.now }
+        ensures made { write_gives self.old bytes.now result self.new };
+}
+
+impl<D: Write> WriteOnce for D {
+    ghost contents = { D.Write.contents };
+
+    ghost write_gives = { λ old bytes result new. WritesAtMost result bytes × WriteAppends (D.Write.contents old) (D.Write.contents new) result bytes };
+
+    fn write_once(&mut self, bytes: &[u8]) -> io::Result<usize> {
+        self.write(bytes)
+    }
+}
+
 /// An input from a reader. An interrupted read is made again.
 #[derive(Drop)]
-pub struct ReaderInput<D: Read + Drop> {
+pub struct ReaderInput<D: ReadOnce + Drop> {
     reader: D,
     failures: u64,
 }
 
-impl<D: Read + Drop> ReaderInput<D> {
+impl<D: ReadOnce + Drop> ReaderInput<D> {
     /// An input of what the reader reads, of which nothing is read yet.
     pub fn new(reader: D) -> Self
         ensures reader { result.reader ≡ reader }
+        ensures left { ⟦<ReaderInput<D> as Input>⟧.left result ≡ D.remaining reader }
         ensures failed { ⟦<ReaderInput<D> as Input>⟧.failed result ≡ 0 }
     {
         ReaderInput {
@@ -31,37 +84,40 @@ impl<D: Read + Drop> ReaderInput<D> {
 }
 
 /// Reads once, and again after each read that was interrupted.
-fn read_uninterrupted<D: Read>(reader: &mut D, buffer: &mut [u8]) -> Result<usize, DeviceFault>
+fn read_uninterrupted<D: ReadOnce>(reader: &mut D, buffer: &mut [u8]) -> io::Result<usize>
     ensures fits { IfOk result (λ count. count ≤ length buffer.new) }
     ensures given { ReadConsumes (D.remaining reader.old) (D.remaining reader.new) result buffer.new }
+    ensures made { IsReadOf D.read_gives reader.old buffer.old result reader.new buffer.new }
 {
     for _ in 0..u64::MAX {
-        match reader.read(buffer) {
-            Ok(count) => return Ok(count),
+        match reader.read_once(buffer) {
             Err(error) if error.kind() == ErrorKind::Interrupted => {}
-            Err(_) => break,
+            answer => return answer,
         }
     }
-    Err(DeviceFault)
+    reader.read_once(buffer)
 }
 
-impl<D: Read + Drop> Input for ReaderInput<D> {
+impl<D: ReadOnce + Drop> Input for ReaderInput<D> {
     ghost failed = { λ d. d.failures };
 
-    ghost left = { λ _. None };
+    ghost left = { λ d. D.remaining d.reader };
 
-    // What it gives is what the reader tells that it gave.
+    // What it gives is what the reader gave, and it fails where the reader did.
     fn read(&mut self, buffer: &mut [u8]) -> Result<usize, DeviceFault>
         requires { CanCountOneMore self.old.failures }
         ensures fits { IfOk result (λ count. count ≤ length buffer.new) }
         ensures failures { self.new.failures ≡ self.old.failures + failures_in result }
-        ensures given { ReadConsumes (D.remaining self.old.reader) (D.remaining self.new.reader) result buffer.new }
+        ensures bytes { GivesBytes (D.remaining self.old.reader) (D.remaining self.new.reader) result buffer.new }
+        ensures made { (answer : Result ℕ IoError) × IsReadOf D.read_gives self.old.reader buffer.old answer self.new.reader buffer.new × (result ≡ device_answer answer) }
     {
-        let answer = read_uninterrupted(&mut self.reader, buffer);
-        if answer.is_err() {
-            self.failures += 1;
+        match read_uninterrupted(&mut self.reader, buffer) {
+            Ok(count) => Ok(count),
+            Err(_) => {
+                self.failures += 1;
+                Err(DeviceFault)
+            }
         }
-        answer
     }
 
     fn failures(&self) -> u64 {
@@ -69,23 +125,23 @@ impl<D: Read + Drop> Input for ReaderInput<D> {
     }
 }
 
-/// An output to a writer, which is flushed within each write. An interrupted write or flush is
-/// made again.
+/// An output to a writer. An interrupted write is made again.
 ///
-/// Where a flush fails, the write does: what the system took of its bytes is unknown then, and none
-/// of them are counted.
+/// A writer may keep bytes in a buffer of its own, as none of the system's streams does. What is in there
+/// counts as written, and is not flushed.
 #[derive(Drop)]
-pub struct WriterOutput<D: Write + Drop> {
+pub struct WriterOutput<D: WriteOnce + Drop> {
     writer: D,
     failures: u64,
     zeros: u64,
     is_closed: bool,
 }
 
-impl<D: Write + Drop> WriterOutput<D> {
+impl<D: WriteOnce + Drop> WriterOutput<D> {
     /// An output to the writer, to which nothing is written yet.
     pub fn new(writer: D) -> Self
         ensures writer { result.writer ≡ writer }
+        ensures taken { ⟦<WriterOutput<D> as Output>⟧.taken result ≡ D.contents writer }
         ensures failed { ⟦<WriterOutput<D> as Output>⟧.failed result ≡ 0 }
         ensures idle { ⟦<WriterOutput<D> as Output>⟧.idle result ≡ 0 }
         ensures closed { ⟦<WriterOutput<D> as Output>⟧.closed result ≡ false }
@@ -99,94 +155,52 @@ impl<D: Write + Drop> WriterOutput<D> {
     }
 }
 
-/// Why a write or a flush failed.
-#[derive(Clone, Copy, Debug, PartialEq, Eq)]
-enum WriteFault {
-    /// No one reads what is written any more.
-    Closed,
-    /// Any other fault.
-    Refused,
-}
-
-/// The fault that an error of a writer tells.
-fn write_fault(error: &io::Error) -> WriteFault
-    ensures { (result ≡ WriteFault.Closed) ↔ (error_kind error.now ≡ BrokenPipe) }
-{
-    if error.kind() == ErrorKind::BrokenPipe {
-        WriteFault::Closed
-    } else {
-        WriteFault::Refused
-    }
-}
-
 /// Writes once, and again after each write that was interrupted.
-fn write_uninterrupted<D: Write>(writer: &mut D, bytes: &[u8]) -> Result<usize, WriteFault>
+fn write_uninterrupted<D: WriteOnce>(writer: &mut D, bytes: &[u8]) -> io::Result<usize>
     ensures fits { IfOk result (λ count. count ≤ length bytes.now) }
     ensures taken { WriteAppends (D.contents writer.old) (D.contents writer.new) result bytes.now }
+    ensures made { IsWriteOf D.write_gives writer.old bytes.now result writer.new }
 {
     for _ in 0..u64::MAX {
-        match writer.write(bytes) {
-            Ok(count) => return Ok(count),
+        match writer.write_once(bytes) {
             Err(error) if error.kind() == ErrorKind::Interrupted => {}
-            Err(error) => return Err(write_fault(&error)),
+            answer => return answer,
         }
     }
-    Err(WriteFault::Refused)
+    writer.write_once(bytes)
 }
 
-/// Flushes once, and again after each flush that was interrupted.
-fn flush_uninterrupted<D: Write>(writer: &mut D) -> Result<(), WriteFault>
-    ensures { Keeps (D.contents writer.old) (D.contents writer.new) }
-{
-    for _ in 0..u64::MAX {
-        match writer.flush() {
-            Ok(()) => return Ok(()),
-            Err(error) if error.kind() == ErrorKind::Interrupted => {}
-            Err(error) => return Err(write_fault(&error)),
-        }
-    }
-    Err(WriteFault::Refused)
-}
-
-/// Writes once and then flushes. Where the flush fails, no byte of the write is counted.
-fn write_and_flush<D: Write>(writer: &mut D, bytes: &[u8]) -> Result<usize, WriteFault>
-    ensures fits { IfOk result (λ count. count ≤ length bytes.now) }
-    ensures taken { IfOk result (λ count. Appends (D.contents writer.old) (D.contents writer.new) (take count bytes.now)) }
-{
-    let count = write_uninterrupted(writer, bytes)?;
-    flush_uninterrupted(writer)?;
-    Ok(count)
-}
-
-impl<D: Write + Drop> Output for WriterOutput<D> {
+impl<D: WriteOnce + Drop> Output for WriterOutput<D> {
     ghost failed = { λ d. d.failures };
 
     ghost idle = { λ d. d.zeros };
 
-    ghost taken = { λ _. None };
+    ghost taken = { λ d. D.contents d.writer };
 
     ghost closed = { λ d. d.is_closed };
 
-    // What it took is what the writer tells that it took.
+    // What it took is what the writer took, it fails where the writer did, and a broken pipe alone closes it.
     fn write(&mut self, bytes: &[u8]) -> Result<usize, DeviceFault>
         requires failures { CanCountOneMore self.old.failures }
         requires zeros { CanCountOneMore self.old.zeros }
         ensures fits { IfOk result (λ count. count ≤ length bytes.now) }
         ensures failures { self.new.failures ≡ self.old.failures + failures_in result }
         ensures zeros { self.new.zeros ≡ self.old.zeros + idle_writes result bytes.now }
-        ensures taken { IfOk result (λ count. Appends (D.contents self.old.writer) (D.contents self.new.writer) (take count bytes.now)) }
+        ensures bytes { TakesBytes (D.contents self.old.writer) (D.contents self.new.writer) result bytes.now }
+        ensures made { (answer : Result ℕ IoError) × IsWriteOf D.write_gives self.old.writer bytes.now answer self.new.writer × (result ≡ device_answer answer)
+            × IsClosedBy self.old.is_closed self.new.is_closed answer }
         ensures closes { ClosesAtFault self.old.is_closed self.new.is_closed result }
     {
-        match write_and_flush(&mut self.writer, bytes) {
+        match write_uninterrupted(&mut self.writer, bytes) {
             Ok(count) => {
                 if count == 0 && !bytes.is_empty() {
                     self.zeros += 1;
                 }
                 Ok(count)
             }
-            Err(fault) => {
+            Err(error) => {
                 self.failures += 1;
-                if fault == WriteFault::Closed {
+                if error.kind() == ErrorKind::BrokenPipe {
                     self.is_closed = true;
                 }
                 Err(DeviceFault)

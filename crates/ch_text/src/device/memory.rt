@@ -1,6 +1,6 @@
 //! Devices over memory, which tell their bytes and fail where they are told to: for tests.
 
-ghost use Rattle.std.specs.Prelude.{◌≡◌, ◌+◌, ◌<◌, ◌≤◌, ◌↔◌, ◌||◌, [], true, false, Some, IfOk, IsErr, IsTrue, OnErr, OnOk, length};
+ghost use Rattle.std.specs.Prelude.{◌≡◌, ◌+◌, ◌-◌, ◌<◌, ◌≤◌, ◌↔◌, ◌||◌, [], true, false, None, Some, IfOk, IsErr, IsTrue, OnErr, OnOk, length, min, vec_capacity, vec_len};
 ghost use Rattle.ch_text.specs.Device.{CanCountOneMore, ClosesAtFault, GivesBytes, TakesBytes, idle_writes, failures_in, turns_after};
 
 use super::{DeviceFault, Input, Output};
@@ -49,6 +49,8 @@ impl<'a> MemoryInput<'a> {
     pub fn new(bytes: &'a [u8], most: usize) -> Self
         requires { 0 < most }
         ensures left { ⟦<MemoryInput<'a> as Input>⟧.left result ≡ Some bytes.now }
+        ensures most { result.most ≡ most }
+        ensures turn { result.fault.before ≡ None }
         ensures failed { ⟦<MemoryInput<'a> as Input>⟧.failed result ≡ 0 }
     {
         MemoryInput {
@@ -62,6 +64,7 @@ impl<'a> MemoryInput<'a> {
     /// The same input, whose read after `reads` others fails.
     pub fn failing_after(self, reads: u64) -> Self
         ensures turn { result.fault.before ≡ Some reads }
+        ensures most { result.most ≡ self.entry.most }
         ensures left { ⟦<MemoryInput<'a> as Input>⟧.left result ≡ ⟦<MemoryInput<'a> as Input>⟧.left self.entry }
         ensures failed { ⟦<MemoryInput<'a> as Input>⟧.failed result ≡ ⟦<MemoryInput<'a> as Input>⟧.failed self.entry }
     {
@@ -87,8 +90,10 @@ impl Input for MemoryInput<'_> {
         ensures fits { IfOk result (λ count. count ≤ length buffer.new) }
         ensures failures { self.new.failures ≡ self.old.failures + failures_in result }
         ensures bytes { GivesBytes (Some self.old.left.now) (Some self.new.left.now) result buffer.new }
+        ensures gives { IfOk result (λ count. count ≡ min (min (length self.old.left.now) (length buffer.old)) self.old.most) }
         ensures turn { IsErr result ↔ (self.old.fault.before ≡ Some 0) }
         ensures turns { self.new.fault.before ≡ turns_after self.old.fault.before }
+        ensures most { self.new.most ≡ self.old.most }
     {
         if self.fault.has_come() {
             self.failures += 1;
@@ -110,6 +115,7 @@ impl Input for MemoryInput<'_> {
 #[derive(Debug, Drop)]
 pub struct MemoryOutput {
     taken: Vec<u8>,
+    room: usize,
     most: usize,
     fault: Turn,
     pause: Turn,
@@ -117,6 +123,8 @@ pub struct MemoryOutput {
     zeros: u64,
     closes: bool,
     is_closed: bool,
+    ghost fits: { vec_len taken ≤ room },
+    ghost is_reserved: { room ≤ vec_capacity taken },
 }
 
 impl MemoryOutput {
@@ -124,12 +132,18 @@ impl MemoryOutput {
     /// once it is full, and never fails.
     pub fn new(alloc: Global, room: usize, most: usize) -> Result<Self, AllocError>
         ensures taken { IfOk result (λ output. ⟦<MemoryOutput as Output>⟧.taken output ≡ Some []) }
+        ensures room { IfOk result (λ output. output.room ≡ room) }
+        ensures most { IfOk result (λ output. output.most ≡ most) }
+        ensures turn { IfOk result (λ output. output.fault.before ≡ None) }
+        ensures pause { IfOk result (λ output. output.pause.before ≡ None) }
+        ensures closes { IfOk result (λ output. output.closes ≡ false) }
         ensures failed { IfOk result (λ output. ⟦<MemoryOutput as Output>⟧.failed output ≡ 0) }
         ensures idle { IfOk result (λ output. ⟦<MemoryOutput as Output>⟧.idle output ≡ 0) }
         ensures closed { IfOk result (λ output. ⟦<MemoryOutput as Output>⟧.closed output ≡ false) }
     {
         Ok(MemoryOutput {
             taken: Vec::with_capacity(alloc, room)?,
+            room,
             most,
             fault: Turn::NEVER,
             pause: Turn::NEVER,
@@ -143,6 +157,10 @@ impl MemoryOutput {
     /// The same output, whose write after `writes` others fails.
     pub fn failing_after(mut self, writes: u64) -> Self
         ensures turn { result.fault.before ≡ Some writes }
+        ensures pause { result.pause.before ≡ self.pause.before }
+        ensures closes { result.closes ≡ self.closes }
+        ensures room { result.room ≡ self.room }
+        ensures most { result.most ≡ self.most }
         ensures taken { ⟦<MemoryOutput as Output>⟧.taken result ≡ ⟦<MemoryOutput as Output>⟧.taken self }
         ensures failed { ⟦<MemoryOutput as Output>⟧.failed result ≡ ⟦<MemoryOutput as Output>⟧.failed self }
         ensures idle { ⟦<MemoryOutput as Output>⟧.idle result ≡ ⟦<MemoryOutput as Output>⟧.idle self }
@@ -156,7 +174,11 @@ impl MemoryOutput {
 
     /// The same output, whose write after `writes` others takes no byte.
     pub fn idle_after(mut self, writes: u64) -> Self
-        ensures turn { result.pause.before ≡ Some writes }
+        ensures pause { result.pause.before ≡ Some writes }
+        ensures turn { result.fault.before ≡ self.fault.before }
+        ensures closes { result.closes ≡ self.closes }
+        ensures room { result.room ≡ self.room }
+        ensures most { result.most ≡ self.most }
         ensures taken { ⟦<MemoryOutput as Output>⟧.taken result ≡ ⟦<MemoryOutput as Output>⟧.taken self }
         ensures failed { ⟦<MemoryOutput as Output>⟧.failed result ≡ ⟦<MemoryOutput as Output>⟧.failed self }
         ensures idle { ⟦<MemoryOutput as Output>⟧.idle result ≡ ⟦<MemoryOutput as Output>⟧.idle self }
@@ -172,6 +194,9 @@ impl MemoryOutput {
     pub fn closing(mut self) -> Self
         ensures closes { result.closes ≡ true }
         ensures turn { result.fault.before ≡ self.fault.before }
+        ensures pause { result.pause.before ≡ self.pause.before }
+        ensures room { result.room ≡ self.room }
+        ensures most { result.most ≡ self.most }
         ensures taken { ⟦<MemoryOutput as Output>⟧.taken result ≡ ⟦<MemoryOutput as Output>⟧.taken self }
         ensures failed { ⟦<MemoryOutput as Output>⟧.failed result ≡ ⟦<MemoryOutput as Output>⟧.failed self }
         ensures idle { ⟦<MemoryOutput as Output>⟧.idle result ≡ ⟦<MemoryOutput as Output>⟧.idle self }
@@ -210,6 +235,10 @@ impl Output for MemoryOutput {
         ensures turn { IsErr result ↔ (self.old.fault.before ≡ Some 0) }
         ensures turns { self.new.fault.before ≡ turns_after self.old.fault.before }
         ensures pause { self.old.pause.before ≡ Some 0 → IfOk result (λ count. count ≡ 0) }
+        ensures takes { (self.old.pause.before ≡ Some 0 → ⊥) → IfOk result (λ count. count
+            ≡ min (min (length bytes.now) self.old.most) (self.old.room - vec_len self.old.taken)) }
+        ensures room { self.new.room ≡ self.old.room }
+        ensures most { self.new.most ≡ self.old.most }
         ensures pauses { OnOk result (self.new.pause.before ≡ turns_after self.old.pause.before) }
         ensures no_pause { OnErr result (self.new.pause.before ≡ self.old.pause.before) }
         ensures closes { ClosesAtFault self.old.is_closed self.new.is_closed result }
@@ -221,7 +250,7 @@ impl Output for MemoryOutput {
             self.is_closed = self.is_closed || self.closes;
             return Err(DeviceFault);
         }
-        let room = self.taken.capacity() - self.taken.len();
+        let room = self.room - self.taken.len();
         let count = if self.pause.has_come() {
             0
         } else {
