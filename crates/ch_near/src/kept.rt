@@ -113,11 +113,12 @@ impl KeptTargets {
         ensures kept { AreKeptIn hierarchy.now self.new }
         ensures asked { asked_by self.new ≡ asked_by self.old }
     {
+        let within = self.searched.within;
+        let count = self.searched.count;
         let nearest = Nearest {
             hierarchy,
             searched: &self.searched,
         };
-        let within = self.searched.within;
         let job = NearestWithin {
             nearest: &nearest,
             within,
@@ -129,7 +130,7 @@ impl KeptTargets {
         nearest.fill_by_guess(alloc, &mut room, source, within)?;
         row.clear();
         row.extend_from_slice(&room.row)?;
-        room.guess_by(self.searched.count);
+        room.guess_by(count);
         self.room = Some(room);
         Ok(())
     }

@@ -1,5 +1,4 @@
-use Rattle.std.proofs.Common.{◌≡◌, ℕ, ◌≤◌, Some, length, refl, sym, ap, ◌∙◌, subst}
-use Rattle.ch_query.specs.Limits.{IsWithin}
+use Rattle.std.proofs.Common.{◌≡◌, Some, length, refl, sym, ap, ◌∙◌, subst}
 use Rattle.ch_near.specs.Near.{IsNearRow, Wanted}
 use Rattle.ch_near.proofs.GraphRows.{full_row}
 use Rattle.ch_near.proofs.rows.Nearest.fill_by_guess.Goals as goal
