@@ -14,7 +14,6 @@ import os
 import pathlib
 import pickle
 import re
-import resource
 import shutil
 import signal
 import subprocess
@@ -26,7 +25,8 @@ from helpers.maps import COUNTRY
 
 from helpers import running, ways
 from helpers.commands import raises
-from helpers.in_process import HEADER, declared, make, statuses
+from helpers.in_process import HEADER, declared, growth, make, statuses
+from helpers.nearness import dense, small_portions
 from helpers.packages import PYTHON, run_checks
 from helpers.running import PROGRAM, ROOT
 import chtab
@@ -138,8 +138,7 @@ def what_c_would_misread_is_refused():
     raises(ValueError, handle.keep_places, many, told="65,536")
     handle.keep_places(right)
     raises(ValueError, handle.near_rows, outside, 9, told="not one of the network")
-    for pairs in -1, -9:
-        raises(ValueError, handle.near_rows, right, pairs)
+    raises(ValueError, handle.near_rows, right, -1)
     nothing = numpy.zeros(0, numpy.uint32)
     assert handle.distances(nothing, nothing).tolist() == [] and handle.table(nothing, right).shape == (0, 2) and handle.table(right, nothing).shape == (2, 0)
     assert [part.tolist() for part in handle.near_rows(nothing, 0)] == [[]] * 3 and [part.tolist() for part in handle.near_rows(right, 2)] == [[2], [0, 4], [0, 1]]
@@ -271,31 +270,6 @@ def near_rows_of_threads_have_handles_of_their_own():
         assert 1 <= len(network._engine.spare) <= 4 and len(network._engine.handles) == 1 + len(network._engine.spare)
 
 
-def dense(near):
-    """Near rows as a table, -1 where a place is not near."""
-    import numpy
-
-    table = numpy.full((len(near), len(near.targets)), -1)
-    table[near.owners(), near.places] = near.weights
-    return table
-
-
-@contextlib.contextmanager
-def small_portions(pairs, swept, together):
-    """Calls of the library that give so few pairs, sweeps of so few, and so few sources of a call."""
-    from chtab import near_in_process
-
-    names, numbers = ("PAIRS", "SWEPT", "FEW", "TOGETHER"), (pairs, swept, 0, together)
-    before = [getattr(near_in_process, name) for name in names]
-    for name, number in zip(names, numbers):
-        setattr(near_in_process, name, number)
-    try:
-        yield
-    finally:
-        for name, number in zip(names, before):
-            setattr(near_in_process, name, number)
-
-
 def near_rows_come_in_portions():
     """By sweeps and by searches, whatever room one call has: the same rows."""
     import numpy
@@ -375,17 +349,6 @@ def the_end_of_the_interpreter_waits_for_nothing():
     for _ in range(3):
         done = subprocess.run(words, capture_output=True, text=True, timeout=PATIENCE)
         assert (done.returncode, done.stdout, done.stderr) == (0, "ends\n", ""), done
-
-
-def growth(work, times):
-    """The kilobytes by which memory grows in the second half of so many repetitions."""
-    for _ in range(times // 2):
-        work()
-    gc.collect()
-    before = resource.getrusage(resource.RUSAGE_SELF).ru_maxrss
-    for _ in range(times - times // 2):
-        work()
-    return resource.getrusage(resource.RUSAGE_SELF).ru_maxrss - before
 
 
 def what_is_dropped_is_freed():

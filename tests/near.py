@@ -463,6 +463,8 @@ def reach_goes_by_near_rows():
         for place in range(3):
             for within, owed in zip(limits, wanted[place]):
                 assert numpy.array_equal(network.reach(spots[place:place + 1], within), owed), (place, within)
+        for within in -1, 2**60 + 1, float("nan"):
+            raises(ValueError, network.reach, spots[:1], within, told="from 0 to 2^60")
         assert network.isochrones(spots[:1], [120_000, 300_000]) == polygons
     with mood():
         for more in {"load": False}, {"saved": "saved.ch", "load": False}, {"saved": "saved.ch"}:

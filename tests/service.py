@@ -200,7 +200,7 @@ def many_clients_get_their_own_answers():
 def what_the_library_lacks_is_told():
     """A service that is to answer routes by the library for C, and can't: it ends with status 1 and a line."""
     for words, told in (
-        (["--library"], "saved hierarchy"), (["--library", "none.so", "--saved", FIRST_SAVED], "is not chtab's library for C"),
+        (["--library", make()], "saved hierarchy"), (["--library", "none.so", "--saved", FIRST_SAVED], "is not chtab's library for C"),
         (["--library", make(), "--saved", FIRST_SAVED], "saved"), (["--library", "--saved", FIRST_SAVED], "`packaging/library` makes it"),
     ):
         line = [PYTHON, ROOT / "tools" / "page.py", "--port", 0, "--program", PROGRAM, COUNTRY, *words]

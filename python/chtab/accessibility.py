@@ -122,8 +122,8 @@ class Accessibility:
         direction : {"to", "from"}
             Whether weights are those from the source to the target, or from the target to the source.
         workers : int or distributed.Client
-            How many runs of the program make blocks at a time, 1 where it is not given; or a client of Dask, whose workers do. All machines
-            need the files and the program at the same paths.
+            How many runs of the program, or threads of this process, make blocks at a time, 1 where it is not given; or a client of Dask, whose
+            workers run the program. All machines need the files and the program at the same paths.
 
         Returns
         -------
@@ -141,8 +141,11 @@ class Accessibility:
 
         Notes
         -----
-        Each call runs the program anew, which reads the network. Without `saved=` of `Network.open` it also builds the hierarchy. `timeout`
-        counts from the beginning of a run.
+        Where the library for C answers (`library` of `Network.open`), rows come from this process, and `workers` are threads. All nodes go by
+        one sweep, unless that would take more than 256 MB and 64 bytes a node; then they go by searches, as other sources do.
+
+        Otherwise each call runs the program anew, which reads the network. Without `saved=` of `Network.open` it also builds the hierarchy.
+        `timeout` counts from the beginning of a run.
 
         One run answers for all nodes, unless they may have more than 2^26 targets in all. Then, or with several workers, the sources go in
         blocks, each by a run: of at most 65,536 sources, as many targets, and 2^26 targets of sources.

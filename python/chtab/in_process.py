@@ -92,8 +92,10 @@ class InProcess:
         """A handle for one question on near rows, which no other question has meanwhile. Afterwards its places are freed."""
         handle = self.spare_handle()
         yield handle
-        handle.keep_places(NO_PLACES)
-        self.spare.append(handle)
+        # A network that was closed meanwhile has answered this question.
+        with contextlib.suppress(ChtabError):
+            handle.keep_places(NO_PLACES)
+            self.spare.append(handle)
 
     def spare_handle(self):
         if self.is_closed:

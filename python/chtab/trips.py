@@ -7,6 +7,7 @@ import numpy
 from chtab import near_rows
 from chtab.legs import FAR, legs_between, table_ways, totals, ways_between
 from chtab.near_runs import NearQuestion
+from chtab.node_queries import MOST
 from chtab.routes import NO_WALK, Trip
 
 # Trips whose routes are asked for together.
@@ -66,6 +67,8 @@ class Trips:
     def reach(self, spot, within=None):
         """What `Network.reach` answers."""
         see_that_one(spot)
+        if within is not None and not 0 <= within <= MOST:
+            raise ValueError("a limit is from 0 to 2^60")
         outs = spot.out_nodes[0] > 0
         nodes, added = spot.out_nodes[0][outs], spot.out_weights[0][outs]
         limit = FAR - 1 if within is None else within

@@ -1,7 +1,9 @@
 """The library for C, called by ctypes: its header's names and numbers, and handles."""
 import ctypes
 import functools
+import gc
 import re
+import resource
 import subprocess
 
 from helpers.running import ROOT
@@ -126,3 +128,14 @@ class Library:
         status = self.calls.chtab_near_rows(ctypes.byref(handle), numbers(sources), ctypes.c_size_t(len(sources)), ctypes.byref(rows), *given)
         assert all(array[length] == 7 for array, length in zip(arrays, rooms)), "a word past the room is written"
         return status, rows.value, *(list(array)[:length] for array, length in zip(arrays, rooms))
+
+
+def growth(work, times):
+    """The kilobytes by which memory grows in the second half of so many repetitions."""
+    for _ in range(times // 2):
+        work()
+    gc.collect()
+    before = resource.getrusage(resource.RUSAGE_SELF).ru_maxrss
+    for _ in range(times - times // 2):
+        work()
+    return resource.getrusage(resource.RUSAGE_SELF).ru_maxrss - before

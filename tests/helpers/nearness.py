@@ -1,4 +1,5 @@
 """For the test of near rows: what is owed for a question, from all distances."""
+import contextlib
 
 
 def rows_owed(least, sources, targets, count=None, within=None):
@@ -25,3 +26,28 @@ def dense_owed(rows, count):
     """The places and the weights of rows in columns, -1 where there is none."""
     filled = [row[:count] + [(-1, -1)] * (count - len(row)) for row in rows]
     return [[[pair[part] for pair in row] for row in filled] for part in range(2)]
+
+
+def dense(near):
+    """Near rows as a table, -1 where a place is not near."""
+    import numpy
+
+    table = numpy.full((len(near), len(near.targets)), -1)
+    table[near.owners(), near.places] = near.weights
+    return table
+
+
+@contextlib.contextmanager
+def small_portions(pairs, swept, together):
+    """Calls of the library that give so few pairs, sweeps of so few, and so few sources of a call."""
+    from chtab import near_in_process
+
+    names, numbers = ("PAIRS", "SWEPT", "FEW", "TOGETHER"), (pairs, swept, 0, together)
+    before = [getattr(near_in_process, name) for name in names]
+    for name, number in zip(names, numbers):
+        setattr(near_in_process, name, number)
+    try:
+        yield
+    finally:
+        for name, number in zip(names, before):
+            setattr(near_in_process, name, number)
