@@ -16,7 +16,7 @@ use Rattle.ch_line.specs.Inputs.{whole_of}
 
 -- an input that was read to its end gave the whole of its bytes
 pub to-whole : (before after : Option (List ℕ)) (P : List ℕ → Type 0) → ReadsAll (record { before = before; after = after }) P → ReadsAll (whole_of before) P
-to-whole None after P reads = (reads.0, refl, reads.2)
+to-whole None after P reads = (reads.0, tt, reads.2)
 to-whole (Some bytes) after P reads = (reads.0, (reads.1.0, refl), reads.2)
 
 -- a text that was delivered is one of which Q holds where P gives Q
