@@ -64,9 +64,14 @@ const TABLE_ASKED: &[u8] = b"t 3 2\ns 1\ns 1\ns 3\ns 3\ns 2";
 
 const QUERY_ASKED: &[u8] = b"q 3 4";
 
+/// The near row of a node among two places, and its text.
+const NEAR_ASKED: &[u8] = b"p 2 0\ns 3\ns 2\nn 1";
+
+const NEAR_ROW: &[u8] = b"n 1 2 2 4 3 9\n";
+
 /// Runs of each kind, with routes, and their texts. Each run over requests has one answer, which is written
 /// at its end.
-const EACH_RUN: [(Files<'static>, &[u8]); 11] = [
+const EACH_RUN: [(Files<'static>, &[u8]); 12] = [
     (
         Files {
             graph: STAR,
@@ -154,6 +159,14 @@ const EACH_RUN: [(Files<'static>, &[u8]); 11] = [
             asked: Asked::Requests(TABLE_ASKED),
         },
         TABLE,
+    ),
+    (
+        Files {
+            graph: LINE,
+            saved: Some(LINE_SAVED),
+            asked: Asked::Requests(NEAR_ASKED),
+        },
+        NEAR_ROW,
     ),
 ];
 
