@@ -228,8 +228,8 @@ SOUND = [
     (b"p 2 0\ns 3\ns 2\nn 1\nn 1\np 1 65536\ns 1\nn 1\nn 2\n", b"n 1 2 2 4 3 9\nn 1 2 2 4 3 9\nn 1 1 1 0\nn 2 0\n"),
     (b"p 1 0\ns 3\nn 1 8\nn 1\nt 1 1 8\ns 1\ns 3\nt 1 1\ns 1\ns 3\n", b"n 1 0\nn 1 1 3 9\nt 1 -\nt 1 9\n"),
     (b"p 1 0\ns 3\n" + 5000 * b"n 1\n", 5000 * b"n 1 1 3 9\n"),
-    (b"t " + 1000 * b"0" + b"1 1\ns 1\ns " + 100_000 * b"0" + b"3", b"t 1 9\n"),
-    (b"c" + 1_000_000 * b"x" + b"\n" + 100_000 * b" " + b"\nq 1 3\n", b"d 1 3 9\n"),
+    (b"t " + 1000 * b"0" + b"1 1\ns 1\ns " + 65_000 * b"0" + b"3", b"t 1 9\n"),
+    (b"c" + 60_000 * b"x" + b"\n" + 60_000 * b" " + b"\nq 1 3\n", b"d 1 3 9\n"),
 ]
 
 # Numbers past the greatest node and the greatest size, some of which would be 1 if they were cut to 25, 32 or 64 bits.

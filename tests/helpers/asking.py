@@ -12,6 +12,10 @@ from pathlib import Path
 from helpers.running import PROGRAM, SECONDS, Answer
 
 
+# The most bytes that the program reads at once. Ends that are apart lose what one write sends beyond what one read takes.
+READ = 65_536
+
+
 def apart():
     """A reader and a writer, as of a pipe, where each read gives what one write has sent, and no more."""
     reader, writer = socket.socketpair(socket.AF_UNIX, socket.SOCK_SEQPACKET)
@@ -39,9 +43,10 @@ class Conversation:
             self.process.kill()
 
     def say(self, part):
-        """Sends these bytes. A program that has ended takes none."""
+        """Sends these bytes, at most as many in one write as one read takes. A program that has ended takes none."""
         with contextlib.suppress(ConnectionError):
-            os.write(self.writer, part)
+            for place in range(0, len(part), READ):
+                os.write(self.writer, part[place:place + READ])
 
     def stop(self):
         """Ends the requests."""
