@@ -165,6 +165,12 @@ pub fn fault_line(fault: &RunFault) -> ShortText
             line.prepend_slice(which.heading().as_bytes());
         }
         RunFault::Cells => line.prepend_slice(b"chtab: too many cells"),
+        RunFault::CellsAt(place) => {
+            line.prepend_slice(b": too many cells");
+            line.prepend_number(place);
+            line.prepend_slice(b"line ");
+            line.prepend_slice(Which::Requests.heading().as_bytes());
+        }
         RunFault::Memory => line.prepend_slice(b"chtab: out of memory"),
         RunFault::Device(which) => {
             line.prepend_slice(which.name().as_bytes());

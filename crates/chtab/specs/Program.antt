@@ -10,7 +10,6 @@ use Rattle.ch_line.specs.Files.{FileState}
 use Rattle.ch_line.specs.Line.{IsRunOf}
 use Rattle.ch_words.specs.declared.fault.LineFault.{LineFault}
 use Rattle.chtab.specs.declared.program.ProgramFault.{ProgramFault}
-use Rattle.chtab.specs.declared.program.TheConstants.{CLOSED_PIPE}
 use Rattle.ch_words.specs.Line.{IsFaultOf, IsReadFrom, line_status_of}
 
 -- the exit status of a fault, of the words or of the run
@@ -67,10 +66,6 @@ IsTold taken failed idle text old new = (written : Result Unit ℕ) × IsWritten
 abbrev pub EndsIn : {E : Type 0} → (E → Option (List ℕ)) → (E → ℕ) → (E → ℕ) → ProgramFault → E → E → ℕ → Type 0
 EndsIn taken failed idle fault old new status = IsTold taken failed idle (fault_text fault) old new × (status ≡ exit_status_of fault)
 
--- it ends in this fault, or in want of memory where there is none for the line of the fault
-abbrev pub IsFaultEnd : {E : Type 0} → (E → Option (List ℕ)) → (E → ℕ) → (E → ℕ) → ProgramFault → E → E → ℕ → Type 0
-IsFaultEnd taken failed idle fault old new status = EndsIn taken failed idle fault old new status ⊎ EndsIn taken failed idle (ProgramFault.Line LineFault.NoMemory) old new status
-
 -- nobody hears the fault: a write was refused, and the reader of the output has gone away
 abbrev pub IsUnheard : Bool → ProgramFault → Type 0
 IsUnheard closed (ProgramFault.Line fault) = ⊥
@@ -81,5 +76,5 @@ IsUnheard closed (ProgramFault.Run fault) = IsTrue closed × IsWrite fault
 abbrev pub IsEnd : {E : Type 0} → (E → Option (List ℕ)) → (E → ℕ) → (E → ℕ) → Bool → Result Unit ProgramFault → E → E → ℕ → Type 0
 IsEnd taken failed idle closed (Ok done) old new status = (status ≡ 0) × (new ≡ old)
 IsEnd taken failed idle closed (Err fault) old new status =
-    (IsUnheard closed fault × (status ≡ CLOSED_PIPE) × (new ≡ old))
-    ⊎ ((IsUnheard closed fault → ⊥) × IsFaultEnd taken failed idle fault old new status)
+    (IsUnheard closed fault × (status ≡ 141) × (new ≡ old))
+    ⊎ ((IsUnheard closed fault → ⊥) × EndsIn taken failed idle fault old new status)

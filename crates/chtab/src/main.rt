@@ -1,8 +1,9 @@
 //! `chtab`: exact least distances on directed graphs, from files to text.
 //!
-//! It stands on ch_line, ch_run, ch_text and ch_words.
+//! It stands on ch_graph, ch_line, ch_run, ch_text, ch_words and ch_work.
 #![tactic(auto)]
 
+mod numbers;
 mod program;
 mod system;
 mod watcher;
@@ -14,8 +15,16 @@ pub use ch_run::{
     run_near_saved, run_save, run_table, run_table_saved, status, write_all,
 };
 pub use ch_words::{Choices, Line, LineFault, Tool, line_status, read_words};
+pub use numbers::numbers;
 use std::process::ExitCode;
 
 fn main(rt: HostRuntime) -> ExitCode {
-    ExitCode::from(system::run(&rt, rt.stdin(), rt.stdout(), rt.stderr()))
+    ExitCode::from(system::run(
+        &rt,
+        system::words_of(&rt),
+        &mut ReaderInput::new(rt.stdin()),
+        &mut WriterOutput::new(rt.stdout()),
+        &mut WriterOutput::new(rt.stderr()),
+        &rt.stderr(),
+    ))
 }

@@ -1,21 +1,18 @@
 //! The program, over whatever opens its files and takes its texts: words in, text, fault line and exit status out.
 
-ghost use Rattle.std.specs.Prelude.{◌≡◌, ◌↔◌, [], IfErr, IfOk, IsTrue, MatchResult, Result, map};
+ghost use Rattle.std.specs.Prelude.{◌≡◌, ◌↔◌, IfErr, IfOk, IsTrue, MatchResult, Result, map};
 ghost use Rattle.std.specs.String.{string_bytes};
 ghost use Rattle.ch_text.specs.Device.{CanCountOneMore};
 ghost use Rattle.ch_words.specs.Line.{IsAllowed, IsFaultOf, IsReadFrom, line_status_of};
-ghost use Rattle.chtab.specs.Program.{AnswersFault, IsAnswer, IsEnd, IsFaultEnd, IsTold, IsUnheard, answer_of, line_fault_text};
+ghost use Rattle.chtab.specs.Program.{AnswersFault, EndsIn, IsAnswer, IsEnd, IsTold, IsUnheard, answer_of, line_fault_text};
 ghost use Rattle.chtab.specs.declared.program.ProgramFault.{ProgramFault as FaultOf};
 
 use crate::watcher::Watch;
 use ch_line::{Files, run_line};
-use ch_run::{Input, Output, RunFault, status, write_all};
+use ch_run::{Input, Output, RunFault, fault_line, status, write_all};
 use ch_words::{Line, LineFault, line_status, read_words};
 use std::alloc::{AllocError, Global};
 use std::thread::Threads;
-
-/// Room in bytes for the line of a run's fault. It is taken before all else, so that a fault can be told where memory has run out.
-const ROOM: usize = 128;
 
 /// The exit status where the reader of the output has gone away, which shells give a program that the signal of a closed pipe has ended.
 pub const CLOSED_PIPE: u8 = 141;
@@ -61,19 +58,8 @@ pub fn run<R: Threads + Sync, F: Files, J: Input, O: Output, E: Output, G: Watch
         (λ fault. (requests.new ≡ requests.old) × AnswersFault O.taken O.failed O.idle fault output.old output.new answer)
         × IsEnd E.taken E.failed E.idle (O.closed output.new) answer errors.old errors.new result }
 {
-    let room = room_of(system.alloc);
     let answer = answer_to(system, requests, output, words, gate);
-    end(errors, room, &answer, output.is_closed())
-}
-
-/// Room for the line of a fault, where there is memory for it.
-fn room_of(alloc: Global) -> String
-    ensures { string_bytes result ≡ [] }
-{
-    match String::with_capacity(alloc, ROOM) {
-        Ok(room) => room,
-        Err(_) => String::new(alloc),
-    }
+    end(errors, &answer, output.is_closed())
 }
 
 /// Does what the words say, or answers why there are none.
@@ -169,21 +155,15 @@ fn answer_fault<O: Output>(output: &mut O, fault: LineFault) -> Result<(), Progr
 }
 
 /// Tells the fault of an answer, if it has one and the output is not closed to it, and gives the exit status.
-fn end<E: Output>(
-    errors: &mut E,
-    room: String,
-    answer: &Result<(), ProgramFault>,
-    is_closed: bool,
-) -> u8
+fn end<E: Output>(errors: &mut E, answer: &Result<(), ProgramFault>, is_closed: bool) -> u8
     requires failures { CanCountOneMore (E.failed errors.old) }
     requires zeros { CanCountOneMore (E.idle errors.old) }
-    requires room { string_bytes room ≡ [] }
     ensures { IsEnd E.taken E.failed E.idle is_closed answer.now errors.old errors.new result }
 {
     match answer {
         Ok(()) => 0,
         Err(fault) if is_unheard(fault, is_closed) => CLOSED_PIPE,
-        Err(fault) => tell_fault(errors, room, fault),
+        Err(fault) => tell_fault(errors, fault),
     }
 }
 
@@ -194,16 +174,15 @@ fn is_unheard(fault: &ProgramFault, is_closed: bool) -> bool
     is_closed && matches!(fault, ProgramFault::Run(RunFault::Write(_)))
 }
 
-/// Tells a fault, in this room, and gives the exit status. Where there is no memory for its line, that is the fault told.
-fn tell_fault<E: Output>(errors: &mut E, room: String, fault: &ProgramFault) -> u8
+/// Tells a fault, and gives the exit status.
+fn tell_fault<E: Output>(errors: &mut E, fault: &ProgramFault) -> u8
     requires failures { CanCountOneMore (E.failed errors.old) }
     requires zeros { CanCountOneMore (E.idle errors.old) }
-    requires room { string_bytes room ≡ [] }
-    ensures { IsFaultEnd E.taken E.failed E.idle fault.now errors.old errors.new result }
+    ensures { EndsIn E.taken E.failed E.idle fault.now errors.old errors.new result }
 {
     match fault {
         ProgramFault::Line(fault) => tell_line_fault(errors, fault),
-        ProgramFault::Run(fault) => tell_run_fault(errors, room, fault),
+        ProgramFault::Run(fault) => tell_run_fault(errors, fault),
     }
 }
 
@@ -221,21 +200,14 @@ fn tell_line_fault<E: Output>(errors: &mut E, fault: &LineFault) -> u8
     line_status(fault)
 }
 
-/// Tells the fault of a run, in this room, and gives the exit status.
-fn tell_run_fault<E: Output>(errors: &mut E, room: String, fault: &RunFault) -> u8
+/// Tells the fault of a run, and gives the exit status.
+fn tell_run_fault<E: Output>(errors: &mut E, fault: &RunFault) -> u8
     requires failures { CanCountOneMore (E.failed errors.old) }
     requires zeros { CanCountOneMore (E.idle errors.old) }
-    requires room { string_bytes room ≡ [] }
-    ensures { IsFaultEnd E.taken E.failed E.idle (FaultOf.Run fault.now) errors.old errors.new result }
+    ensures { EndsIn E.taken E.failed E.idle (FaultOf.Run fault.now) errors.old errors.new result }
 {
-    let mut line = room;
-    match writeln!(line, "{fault}") {
-        Ok(()) => {
-            tell(errors, line.as_bytes());
-            status(fault)
-        }
-        Err(AllocError) => tell_line_fault(errors, &LineFault::NoMemory),
-    }
+    tell(errors, fault_line(fault).as_slice());
+    status(fault)
 }
 
 /// Writes a text to the errors. Where that fails, nobody can be told.

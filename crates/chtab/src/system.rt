@@ -1,11 +1,19 @@
-//! The system's side of the program: its words, its files and its streams, of which no contract can tell anything.
+//! The system's side of the program: its words, its files and its streams.
+//!
+//! What is proved of [`run`] holds over any reader and any writers. It has content where these tell their bytes, as streams of
+//! `std` in memory do. No contract of `std` tells which words there are, and which bytes a file has.
 
+ghost use Rattle.std.specs.Prelude.{◌≡◌, None, MatchResult, Result, map};
+ghost use Rattle.std.specs.String.{string_bytes};
 ghost use Rattle.ch_line.specs.Files.{FileState};
+ghost use Rattle.ch_text.specs.Device.{CanCountOneMore};
+ghost use Rattle.chtab.specs.Program.{AnswersFault, IsAnswer, IsEnd};
+ghost use Rattle.chtab.specs.declared.program.ProgramFault.{ProgramFault as FaultOf};
 
 use crate::program::{self, System};
 use crate::watcher::{Lines, Timer, Watcher};
 use ch_line::{Files, OpenFault};
-use ch_run::{ReaderInput, WriterOutput};
+use ch_run::{DeviceFault, Input, Output, ReaderInput, WriterOutput};
 use ch_words::{LineFault, refused};
 use std::io::{ErrorKind, IsTerminal, Read, Stderr, Write};
 use std::rt::Env;
@@ -19,14 +27,36 @@ struct SystemFiles<'a, R: rt::Files> {
     rt: &'a R,
 }
 
+/// A file of the system, of whose bytes nothing is told.
+#[derive(Drop)]
+pub struct SystemFile<D: Read + Drop> {
+    input: ReaderInput<D>,
+}
+
+impl<D: Read + Drop> Input for SystemFile<D> {
+    ghost failed = { λ file. ⟦<ReaderInput<D> as Input>⟧.failed file.input };
+
+    ghost left = { λ _. None };
+
+    fn read(&mut self, buffer: &mut [u8]) -> Result<usize, DeviceFault> {
+        self.input.read(buffer)
+    }
+
+    fn failures(&self) -> u64 {
+        self.input.failures()
+    }
+}
+
 impl<'a, R: rt::Files> Files for SystemFiles<'a, R> {
-    type Input = ReaderInput<R::File>;
+    type Input = SystemFile<R::File>;
 
     ghost known = { λ _ _. FileState.Untold };
 
-    fn open(&self, name: &str) -> Result<ReaderInput<R::File>, OpenFault> {
+    fn open(&self, name: &str) -> Result<SystemFile<R::File>, OpenFault> {
         match fs::open(self.rt, name) {
-            Ok(file) => Ok(ReaderInput::new(file)),
+            Ok(file) => Ok(SystemFile {
+                input: ReaderInput::new(file),
+            }),
             Err(error) if error.kind() == ErrorKind::OutOfMemory => Err(OpenFault::Memory),
             Err(_) => Err(OpenFault::Refused),
         }
@@ -48,7 +78,7 @@ impl Lines for Stderr {
 }
 
 /// The words after the program's name.
-fn words_of<R: Env + AllocGlobal>(rt: &R) -> Result<Vec<String>, LineFault> {
+pub fn words_of<R: Env + AllocGlobal>(rt: &R) -> Result<Vec<String>, LineFault> {
     match env::args(rt) {
         Ok(words) => Ok(words.skip(1).collect(rt.alloc())?),
         Err(error) if error.kind() == ErrorKind::OutOfMemory => Err(LineFault::NoMemory),
@@ -56,27 +86,43 @@ fn words_of<R: Env + AllocGlobal>(rt: &R) -> Result<Vec<String>, LineFault> {
     }
 }
 
-/// Runs the program over the system's words and files and these three streams, and gives its exit status. The errors are also
-/// told how far a long run is, where they are a terminal.
-pub fn run<R, J, O, E>(rt: &R, requests: J, output: O, errors: E) -> u8
+/// Runs the program over these words, the system's files and these streams, and gives its exit status. The terminal is also
+/// told how far a long run is, where it is one.
+pub fn run<R, J, O, E, T>(
+    rt: &R,
+    words: Result<Vec<String>, LineFault>,
+    requests: &mut ReaderInput<J>,
+    output: &mut WriterOutput<O>,
+    errors: &mut WriterOutput<E>,
+    terminal: &T,
+) -> u8
 where
-    R: Env + rt::Files + Threads + Timer + AllocGlobal,
+    R: rt::Files + Threads + Timer + AllocGlobal,
     J: Read + Drop,
     O: Write + Drop,
-    E: Write + IsTerminal + Lines + Copy + Drop,
+    E: Write + Drop,
+    T: IsTerminal + Lines,
+    requires requests { CanCountOneMore (⟦<ReaderInput<J> as Input>⟧.failed requests.old) }
+    requires output_failures { CanCountOneMore (⟦<WriterOutput<O> as Output>⟧.failed output.old) }
+    requires output_zeros { CanCountOneMore (⟦<WriterOutput<O> as Output>⟧.idle output.old) }
+    requires error_failures { CanCountOneMore (⟦<WriterOutput<E> as Output>⟧.failed errors.old) }
+    requires error_zeros { CanCountOneMore (⟦<WriterOutput<E> as Output>⟧.idle errors.old) }
+    ensures { (answer : Result Unit FaultOf)
+        × MatchResult words
+        (λ list. IsAnswer ⟦<SystemFile<R::File> as Input>⟧.left ⟦<SystemFile<R::File> as Input>⟧.failed (λ _. FileState.Untold)
+        ⟦<ReaderInput<J> as Input>⟧.left ⟦<ReaderInput<J> as Input>⟧.failed
+        ⟦<WriterOutput<O> as Output>⟧.taken ⟦<WriterOutput<O> as Output>⟧.failed ⟦<WriterOutput<O> as Output>⟧.idle
+        (map string_bytes list.items) requests.old requests.new output.old output.new answer)
+        (λ fault. (requests.new ≡ requests.old)
+        × AnswersFault ⟦<WriterOutput<O> as Output>⟧.taken ⟦<WriterOutput<O> as Output>⟧.failed ⟦<WriterOutput<O> as Output>⟧.idle fault output.old output.new answer)
+        × IsEnd ⟦<WriterOutput<E> as Output>⟧.taken ⟦<WriterOutput<E> as Output>⟧.failed ⟦<WriterOutput<E> as Output>⟧.idle
+        (⟦<WriterOutput<O> as Output>⟧.closed output.new) answer errors.old errors.new result }
 {
-    let watcher = Watcher::new(rt, &errors, rt.alloc(), errors.is_terminal());
+    let watcher = Watcher::new(rt, terminal, rt.alloc(), terminal.is_terminal());
     let system = System {
         rt,
         alloc: rt.alloc(),
         files: &SystemFiles { rt },
     };
-    program::run(
-        &system,
-        &mut ReaderInput::new(requests),
-        &mut WriterOutput::new(output),
-        &mut WriterOutput::new(errors),
-        words_of(rt),
-        &watcher,
-    )
+    program::run(&system, requests, output, errors, words, &watcher)
 }
