@@ -5,6 +5,7 @@ ghost use Rattle.ch_hierarchy.specs.Hierarchy.{nodes_of};
 
 mod long_shortcut;
 mod remaining;
+mod rounds;
 mod workers;
 
 use crate::again::again;
