@@ -5,7 +5,8 @@
   believe.py --table   prints what the page has to list: files with definitions, types of the code, and words of std
 
 The clause `written` of `run_dist` is where the list begins. A definition of `crates/*/specs` belongs to it if the clause, or a definition
-of the list, mentions its name. The names of ROUTES are left out: they count only where routes are written.
+of the list, mentions its name. The names of ROUTES are left out: they count only where routes are written. Those of SAVED count only where
+a hierarchy was saved.
 
 It only reads files, and needs no built program. The last line is 'N passed, N failed'.
 """
@@ -16,7 +17,8 @@ from helpers.running import ROOT, Count
 
 PAGE = ROOT / "docs" / "BELIEVE.md"
 CONTRACT = ROOT / "crates/ch_run/src/run/dist.rt"
-ROUTES = {"IsRouteText", "IsHierarchyBy", "LevelsAndLegs"}
+ROUTES = {"IsRouteText", "IsOfRoutes", "LevelsAndLegs"}
+SAVED = {"AreChecked", "OrderAndLegs"}
 IMPORT = re.compile(r"^(?:ghost )?use Rattle\.([\w.]+)\.\{([^}]*)\};?$", re.MULTILINE)
 MODULE = re.compile(r"^use Rattle\.([\w.]+) as (\w+)$", re.MULTILINE)
 HEAD = re.compile(r"(?:unfoldable )?(?:abbrev )?pub (?:(?:record|data) )?(\w+)")
@@ -65,7 +67,7 @@ class Closure:
 
     def follow(self, source, text):
         """Adds what a text of this file mentions."""
-        for word in words(text) - ROUTES:
+        for word in words(text) - ROUTES - SAVED:
             module, name = source.imports.get(word, (None, word))
             if module is None and name in source.definitions:
                 self.add(source, name)

@@ -131,6 +131,7 @@ class Crate:
         specs = "\n".join(path.read_text() for path in (folder / "specs").glob("**/*.antt"))
         self.defined = set(re.findall(r"^(?:abbrev )?pub (\w+)", specs, re.MULTILINE))
         self.defined |= set(re.findall(r"^abbrev (?:pub )?(\w+)", specs, re.MULTILINE))
+        self.defined |= set(re.findall(r"^(?:pub record|  pub) (\w+)", specs, re.MULTILINE))
         self.words = set(re.findall(r"\w+", "\n".join([*self.files.values(), specs])))
 
     def read(self, path, text):

@@ -1,10 +1,11 @@
 -- Where the opening of files ends.
-use Rattle.std.proofs.Common.{◌≡◌, ℕ, List, [], ◌∷◌, inl, inr}
+use Rattle.std.proofs.Common.{◌≡◌, ◌⊎◌, ℕ, List, [], ◌∷◌, ◌++◌, Option, Some, None, inl, inr, refl, ◌∙◌, subst}
 use Rattle.std.specs.Prelude.{Result, Ok, Err, IsErrAnd}
 use Rattle.ch_run.specs.declared.fault.RunFault.{RunFault}
 use Rattle.ch_run.specs.declared.fault.Which.{Which}
 use Rattle.ch_line.specs.Files.{FileState}
-use Rattle.ch_line.specs.Line.{AtMissing, EndsAtMissing, File, MayAllBeThere, MayBeThere}
+use Rattle.ch_line.specs.Inputs.{Task}
+use Rattle.ch_line.specs.Line.{AtMissing, EndsAtMissing, File, IsNotOpened, IsUnopened, MayAllBeThere, MayBeRefused, MayBeThere, saved_files}
 
 -- a file that may be there doesn't end it
 past : {T : Type 0} (state : FileState) (which : Which) (rest : Type 0) (r : Result T RunFault) → MayBeThere state → rest → AtMissing state which rest r
@@ -38,3 +39,59 @@ pub passed-on : {S T : Type 0} (known : List ℕ → FileState) (files : List Fi
     → met ≡ Err fault → IsErrAnd r (λ other. other ≡ fault) → EndsAtMissing known files met → EndsAtMissing known files r
 passed-on known files met (Ok x) fault same is ends = absurd is
 passed-on {S} {T} known files met (Err other) fault same is ends = rw is (same-ends S T known files fault (rw same at ends))
+
+-- want of memory ends all
+ended : {T : Type 0} (r : Result T RunFault) (which : Which) (e : RunFault) → IsErrAnd r (λ fault. fault ≡ e) → (e ≡ RunFault.Device which) ⊎ (e ≡ RunFault.Memory) → IsErrAnd r (λ fault. (fault ≡ RunFault.Device which) ⊎ (fault ≡ RunFault.Memory))
+ended (Ok x) which e is one = absurd is
+ended (Err fault) which e is (inl device) = inl (is ∙ device)
+ended (Err fault) which e is (inr memory) = inr (is ∙ memory)
+
+at-memory : {T : Type 0} (state : FileState) (which : Which) (rest : Type 0) (r : Result T RunFault) → IsErrAnd r (λ fault. fault ≡ RunFault.Memory) → rest → AtMissing state which rest r
+at-memory FileState.Untold which rest r is goes = inr goes
+at-memory FileState.Missing which rest r is goes = ended r which RunFault.Memory is (inr refl)
+at-memory (FileState.Holds bytes) which rest r is goes = goes
+
+memory-ends : {T : Type 0} (known : List ℕ → FileState) (files : List File) (r : Result T RunFault) → IsErrAnd r (λ fault. fault ≡ RunFault.Memory) → EndsAtMissing known files r
+memory-ends known [] r is = tt
+memory-ends known (file ∷ files) r is = at-memory (known file.1) file.0 (EndsAtMissing known files r) r is (memory-ends known files r is)
+
+-- a file that isn't opened ends it
+at-refused : {T : Type 0} (state : FileState) (which : Which) (rest : Type 0) (r : Result T RunFault) → IsErrAnd r (λ fault. fault ≡ RunFault.Device which) → MayBeRefused state → AtMissing state which rest r
+at-refused FileState.Untold which rest r is may = inl is
+at-refused FileState.Missing which rest r is may = ended r which (RunFault.Device which) is (inl refl)
+at-refused (FileState.Holds bytes) which rest r is may = absurd may
+
+pub not-opened : {T : Type 0} (known : List ℕ → FileState) (file : File) (files : List File) (r : Result T RunFault) (e : RunFault) → IsErrAnd r (λ fault. fault ≡ e) → IsNotOpened (known file.1) file.0 e → EndsAtMissing known (file ∷ files) r
+not-opened known file files r e is (inl memory) = memory-ends known (file ∷ files) r (subst (λ (f : RunFault). IsErrAnd r (λ fault. fault ≡ f)) memory is)
+not-opened known file files r e is (inr refused) = at-refused (known file.1) file.0 (EndsAtMissing known files r) r (subst (λ (f : RunFault). IsErrAnd r (λ fault. fault ≡ f)) refused.0 is) refused.1
+
+-- after files that may all be there
+pub later : {T : Type 0} (known : List ℕ → FileState) (files more : List File) (r : Result T RunFault) → MayAllBeThere known files → EndsAtMissing known more r → EndsAtMissing known (files ++ more) r
+later known [] more r there ends = ends
+later known (file ∷ files) more r there ends = past (known file.1) file.0 (EndsAtMissing known (files ++ more) r) r there.0 (later known files more r there.1 ends)
+
+-- where a saved hierarchy isn't opened
+pub saved-not-opened : {T : Type 0} (known : List ℕ → FileState) (saved : Option (List ℕ)) (more : List File) (r : Result T RunFault) (e : RunFault) → IsErrAnd r (λ fault. fault ≡ e) → IsUnopened known (saved_files saved) e →
+    EndsAtMissing known (saved_files saved ++ more) r
+saved-not-opened known None more r e is un = absurd un
+saved-not-opened known (Some name) more r e is (inl un) = not-opened known (Which.Saved, name) more r e is un
+saved-not-opened known (Some name) more r e is (inr un) = absurd un
+
+-- files that may all be there, and more
+pub all-there : (known : List ℕ → FileState) (files more : List File) → MayAllBeThere known files → MayAllBeThere known more → MayAllBeThere known (files ++ more)
+all-there known [] more there also = also
+all-there known (file ∷ files) more there also = (there.0, all-there known files more there.1 also)
+
+-- the fault of one of the first files, or of one of those after them
+pub of-first : (known : List ℕ → FileState) (files more : List File) (e : RunFault) → IsUnopened known files e → IsUnopened known (files ++ more) e
+of-first known [] more e un = absurd un
+of-first known (file ∷ files) more e (inl un) = inl un
+of-first known (file ∷ files) more e (inr un) = inr (of-first known files more e un)
+
+pub of-later : (known : List ℕ → FileState) (files more : List File) (e : RunFault) → IsUnopened known more e → IsUnopened known (files ++ more) e
+of-later known [] more e un = un
+of-later known (file ∷ files) more e un = inr (of-later known files more e un)
+
+-- tasks with equal parts are equal
+pub same-task : (a b : Task) → a.graph ≡ b.graph → a.saved ≡ b.saved → a.question ≡ b.question → a ≡ b
+same-task a b graph saved question = λ i. record { graph = graph i; saved = saved i; question = question i }

@@ -1,18 +1,26 @@
 -- From inputs that were read to what the bytes that they told are.
-use Rattle.std.proofs.Common.{ℕ, List, Option, Some, None, refl}
-use Rattle.std.specs.Prelude.{Result, Ok, Err}
-use Rattle.ch_run.specs.declared.fault.RunFault.{RunFault}
-use Rattle.ch_run.specs.Run.{Delivers, Reading, ReadsAll}
+use Rattle.std.proofs.Common.{◌≡◌, ℕ, List, Option, Some, None, refl, sym, subst, inl, inr}
+use Rattle.std.specs.Prelude.{Result, Ok, Err, IfErr, IsErrAnd, ⊤, option_map}
 use Rattle.ch_graph.specs.Graph.{Network}
 use Rattle.ch_graph.specs.Saved.{OrderAndLegs}
 use Rattle.ch_hierarchy.specs.Hierarchy.{LevelsAndLegs}
+use Rattle.ch_hierarchy.specs.declared.fault.CheckFault.{CheckFault}
+use Rattle.ch_read.specs.declared.fault.ReadFault.{ReadFault}
+use Rattle.ch_run.specs.declared.fault.RunFault.{RunFault}
+use Rattle.ch_run.specs.declared.fault.Which.{Which}
 use Rattle.ch_run.specs.declared.options.Options.{Options}
-use Rattle.ch_run.specs.Run.{IsAnsweredBy, IsTabledBy}
+use Rattle.ch_run.specs.declared.source.Source.{Source}
+use Rattle.ch_run.specs.declared.sources.Sources.{Sources}
+use Rattle.ch_run.specs.Ask.{ServesBy}
+use Rattle.ch_run.specs.DistRun.{HasQueriesRefused, IsAnsweredBy}
 use Rattle.ch_run.specs.Lists.{ReadsLists}
-use Rattle.ch_run.specs.NearRun.{IsNearAllBy, IsNearAllFrom, IsNearBy, IsNearFrom}
-use Rattle.ch_run.specs.SavedRun.{AreChecked, IsAnsweredFrom, IsSavedBy, IsTabledFrom}
-use Rattle.ch_run.specs.Ask.{ServesBy, ServesFrom}
-use Rattle.ch_line.specs.Inputs.{whole_of}
+use Rattle.ch_run.specs.NearRun.{AreSources, HasNearTargetsRefused, IsNearBy, IsOfNodeLists, ReadsSources, listed_in, sources_reading}
+use Rattle.ch_run.specs.Run.{Delivers, Reading, ReadsAll}
+use Rattle.ch_run.specs.SaveRun.{IsOfSave, IsSavedBy}
+use Rattle.ch_run.specs.Source.{AreChecked, AreLoaded, IsOfLoading, ReadsSource, saved_in, source_reading}
+use Rattle.ch_run.specs.TableRun.{HasCellsRefused, HasSourcesRefused, HasTargetsRefused, IsTabledBy}
+use Rattle.ch_run.proofs.Writes.{ends_in}
+use Rattle.ch_line.specs.Inputs.{RefusesSaved, RefusesSources, whole_of}
 
 -- an input that was read to its end gave the whole of its bytes
 pub to-whole : (before after : Option (List ℕ)) (P : List ℕ → Type 0) → ReadsAll (record { before = before; after = after }) P → ReadsAll (whole_of before) P
@@ -28,56 +36,139 @@ delivers-weaker (Err fault) old new P Q to h = λ count same. let d = h count sa
 abbrev read_from : Option (List ℕ) → Option (List ℕ) → Reading
 read_from before after = record { before = before; after = after }
 
+-- so it is of an input that may be left out
+abbrev pub IsWhole : Option Reading → Option Reading → Type 0
+IsWhole None None = ⊤
+IsWhole None (Some whole) = ⊥
+IsWhole (Some input) None = ⊥
+IsWhole (Some input) (Some whole) = whole ≡ whole_of input.before
+
+-- a saved hierarchy, where there is one
+pub source-whole : {T I : Type 0} (graph : Reading) (r : Result T RunFault) (left : I → Option (List ℕ)) (failed : I → ℕ) (old new : Source I) → ReadsSource graph r left failed old new →
+    IsWhole (source_reading left old new) (option_map (λ input. whole_of (left input)) (saved_in old))
+source-whole graph r left failed Source.Built new reads = tt
+source-whole graph r left failed (Source.Saved old) Source.Built reads = absurd reads
+source-whole graph r left failed (Source.Saved old) (Source.Saved new) reads = refl
+
+-- a list of sources, where there is one
+pub sources-whole : {T I : Type 0} (earlier : List Which) (accepted : Type 0) (r : Result T RunFault) (left : I → Option (List ℕ)) (failed : I → ℕ) (P : Reading → ReadFault → Type 0) (old new : Sources I) →
+    ReadsSources earlier accepted r left failed old new P → IsWhole (sources_reading left old new) (option_map (λ input. whole_of (left input)) (listed_in old))
+sources-whole earlier accepted r left failed P Sources.All new reads = tt
+sources-whole earlier accepted r left failed P (Sources.Listed old) Sources.All reads = absurd reads
+sources-whole earlier accepted r left failed P (Sources.Listed old) (Sources.Listed new) reads = refl
+
 -- inputs that were checked for one another are so as a whole
-pub checked-whole : (gb ga sb sa : Option (List ℕ)) (g : Network) (s : OrderAndLegs) (H : LevelsAndLegs) → AreChecked (read_from gb ga) (read_from sb sa) g s H → AreChecked (whole_of gb) (whole_of sb) g s H
+checked-whole : (gb ga sb sa : Option (List ℕ)) (g : Network) (s : OrderAndLegs) (H : LevelsAndLegs) → AreChecked (read_from gb ga) (read_from sb sa) g s H → AreChecked (whole_of gb) (whole_of sb) g s H
 checked-whole gb ga sb sa g s H k = record { reads_graph = to-whole gb ga _ k.reads_graph; limits = k.limits; reads_saved = to-whole sb sa _ k.reads_saved; names = k.names }
+
+loaded-whole : (gb ga : Option (List ℕ)) (saved whole : Option Reading) → IsWhole saved whole → (g : Network) (h : Option LevelsAndLegs) → AreLoaded (read_from gb ga) saved g h → AreLoaded (whole_of gb) whole g h
+loaded-whole gb ga None None is g h l = (l.0, to-whole gb ga _ l.1, l.2)
+loaded-whole gb ga None (Some whole) is g h l = absurd is
+loaded-whole gb ga (Some saved) None is g h l = absurd is
+loaded-whole gb ga (Some saved) (Some whole) is g None l = absurd l
+loaded-whole gb ga (Some saved) (Some whole) is g (Some H) l =
+    (l.0, subst (λ (w : Reading). AreChecked (whole_of gb) w g l.0 H) (sym is) (checked-whole gb ga saved.before saved.after g l.0 H l.1))
+
+-- what loading may end in is the same
+pub loading-whole : (saved whole : Option Reading) → IsWhole saved whole → (fault : RunFault) → IsOfLoading saved fault → IsOfLoading whole fault
+loading-whole None None is fault own = own
+loading-whole None (Some whole) is fault own = absurd is
+loading-whole (Some saved) None is fault own = absurd is
+loading-whole (Some saved) (Some whole) is fault own = own
+
+-- and what reading the lists of near rows may end in
+pub node-lists-whole : (sources whole : Option Reading) → IsWhole sources whole → (fault : RunFault) → IsOfNodeLists sources fault → IsOfNodeLists whole fault
+node-lists-whole None None is fault own = own
+node-lists-whole None (Some whole) is fault own = absurd is
+node-lists-whole (Some sources) None is fault own = absurd is
+node-lists-whole (Some sources) (Some whole) is fault own = own
 
 -- lists that were read are so as a whole
 pub lists-whole : (jb ja lb la : Option (List ℕ)) (nodes : ℕ) (from to : List ℕ) → ReadsLists (read_from jb ja) (read_from lb la) nodes from to → ReadsLists (whole_of jb) (whole_of lb) nodes from to
 lists-whole jb ja lb la nodes from to k = (to-whole jb ja _ k.0, to-whole lb la _ k.1, k.2)
 
--- so what was made of inputs that were read was made of the whole of their bytes: answers to queries
-pub answered-whole : (options : Options) (gb ga qb qa : Option (List ℕ)) (text : List ℕ) → IsAnsweredBy options (read_from gb ga) (read_from qb qa) text → IsAnsweredBy options (whole_of gb) (whole_of qb) text
-answered-whole options gb ga qb qa text t = (t.0, t.1, t.2, to-whole gb ga _ t.3, to-whole qb qa _ t.4, t.5)
+-- so are sources
+pub are-whole : (sources whole : Option Reading) → IsWhole sources whole → (nodes : ℕ) (from : List ℕ) → AreSources sources nodes from → AreSources whole nodes from
+are-whole None None is nodes from are = are
+are-whole None (Some whole) is nodes from are = absurd is
+are-whole (Some sources) None is nodes from are = absurd is
+are-whole (Some sources) (Some whole) is nodes from are = subst (λ (w : Reading). AreSources (Some w) nodes from) (sym is) (to-whole sources.before sources.after _ are)
+
+-- so what was made of inputs that were read was made of the whole of their bytes
+
+module _ (gb ga : Option (List ℕ)) (saved whole : Option Reading) (is : IsWhole saved whole) where
+  -- answers to queries, and the refusal of these
+  pub answered-whole : (options : Options) (qb qa : Option (List ℕ)) (text : List ℕ) → IsAnsweredBy options (read_from gb ga) saved (read_from qb qa) text → IsAnsweredBy options (whole_of gb) whole (whole_of qb) text
+  answered-whole options qb qa text t = (t.0, t.1, loaded-whole gb ga saved whole is t.0 t.1 t.2, (t.3.0, to-whole qb qa _ t.3.1, t.3.2))
+
+  pub queries-refused : (qb qa : Option (List ℕ)) (fault : ReadFault) → HasQueriesRefused (read_from gb ga) saved (read_from qb qa) fault → HasQueriesRefused (whole_of gb) whole (whole_of qb) fault
+  queries-refused qb qa fault t = (t.0, t.1, loaded-whole gb ga saved whole is t.0 t.1 t.2, to-whole qb qa _ t.3)
+
+  -- a table, and the refusal of its lists
+  pub tabled-whole : (options : Options) (jb ja lb la : Option (List ℕ)) (text : List ℕ) → IsTabledBy options (read_from gb ga) saved (read_from jb ja) (read_from lb la) text → IsTabledBy options (whole_of gb) whole (whole_of jb) (whole_of lb) text
+  tabled-whole options jb ja lb la text t = (t.0, t.1, loaded-whole gb ga saved whole is t.0 t.1 t.2, (t.3.0, t.3.1, lists-whole jb ja lb la _ _ _ t.3.2, t.3.3))
+
+  pub sources-refused : (jb ja : Option (List ℕ)) (fault : ReadFault) → HasSourcesRefused (read_from gb ga) saved (read_from jb ja) fault → HasSourcesRefused (whole_of gb) whole (whole_of jb) fault
+  sources-refused jb ja fault t = (t.0, t.1, loaded-whole gb ga saved whole is t.0 t.1 t.2, to-whole jb ja _ t.3)
+
+  pub targets-refused : (jb ja lb la : Option (List ℕ)) (fault : ReadFault) → HasTargetsRefused (read_from gb ga) saved (read_from jb ja) (read_from lb la) fault → HasTargetsRefused (whole_of gb) whole (whole_of jb) (whole_of lb) fault
+  targets-refused jb ja lb la fault t = (t.0, t.1, loaded-whole gb ga saved whole is t.0 t.1 t.2, ((t.3.0.0, to-whole jb ja _ t.3.0.1), to-whole lb la _ t.3.1))
+
+  pub cells-refused : (jb ja lb la : Option (List ℕ)) → HasCellsRefused (read_from gb ga) saved (read_from jb ja) (read_from lb la) → HasCellsRefused (whole_of gb) whole (whole_of jb) (whole_of lb)
+  cells-refused jb ja lb la t = (t.0, t.1, loaded-whole gb ga saved whole is t.0 t.1 t.2, (t.3.0, t.3.1, to-whole jb ja _ t.3.2, to-whole lb la _ t.3.3, t.3.4))
+
+  -- near rows, and the refusal of their targets
+  pub near-whole : (options : Options) (sources all : Option Reading) → IsWhole sources all → (lb la : Option (List ℕ)) (text : List ℕ) → IsNearBy options (read_from gb ga) saved sources (read_from lb la) text → IsNearBy options (whole_of gb) whole all (whole_of lb) text
+  near-whole options sources all are lb la text t =
+      (t.0, t.1, loaded-whole gb ga saved whole is t.0 t.1 t.2, (t.3.0, t.3.1, (are-whole sources all are _ _ t.3.2.0, to-whole lb la _ t.3.2.1), t.3.3))
+
+  pub near-refused : (sources all : Option Reading) → IsWhole sources all → (lb la : Option (List ℕ)) (fault : ReadFault) → HasNearTargetsRefused (read_from gb ga) saved sources (read_from lb la) fault → HasNearTargetsRefused (whole_of gb) whole all (whole_of lb) fault
+  near-refused sources all are lb la fault t =
+      (t.0, t.1, loaded-whole gb ga saved whole is t.0 t.1 t.2, ((t.3.0.0, are-whole sources all are _ _ t.3.0.1), to-whole lb la _ t.3.1))
+
+  -- answers to requests
+  pub served-whole : {T : Type 0} (options : Options) (requests : Reading) (old new : Option (List ℕ)) (r : Result T RunFault) → ServesBy options (read_from gb ga) saved requests old new r → ServesBy options (whole_of gb) whole requests old new r
+  served-whole options requests old new r t = (t.0, t.1, loaded-whole gb ga saved whole is t.0 t.1 t.2, t.3)
 
 -- a hierarchy
 pub saved-whole : (options : Options) (gb ga : Option (List ℕ)) (text : List ℕ) → IsSavedBy options (read_from gb ga) text → IsSavedBy options (whole_of gb) text
 saved-whole options gb ga text t = (t.0, t.1, to-whole gb ga _ t.2, t.3)
 
--- answers by a saved hierarchy
-pub answered-by-whole : (options : Options) (gb ga sb sa qb qa : Option (List ℕ)) (text : List ℕ) → IsAnsweredFrom options (read_from gb ga) (read_from sb sa) (read_from qb qa) text → IsAnsweredFrom options (whole_of gb) (whole_of sb) (whole_of qb) text
-answered-by-whole options gb ga sb sa qb qa text t = (t.0, t.1, t.2, checked-whole gb ga sb sa _ _ _ t.3, (t.4.0, to-whole qb qa _ t.4.1, t.4.2))
+-- the refusal of a saved hierarchy, where there is one
+pub saved-refused : {I : Type 0} (gb ga : Option (List ℕ)) (r : Result Unit RunFault) (left : I → Option (List ℕ)) (failed : I → ℕ) (old new : Source I) → ReadsSource (read_from gb ga) r left failed old new →
+    RefusesSaved (whole_of gb) (option_map (λ input. whole_of (left input)) (saved_in old)) r
+saved-refused gb ga r left failed Source.Built new reads = tt
+saved-refused gb ga r left failed (Source.Saved old) Source.Built reads = absurd reads
+saved-refused gb ga r left failed (Source.Saved old) (Source.Saved new) reads = record {
+  lines = λ fault same. let h = reads.lines.reads.refused fault same in (h.0, to-whole gb ga _ h.1, to-whole (left old) (left new) _ h.2);
+  check = λ fault same. let h = reads.check fault same in (h.0, h.1, to-whole gb ga _ h.2, to-whole (left old) (left new) _ h.3, h.4);
+}
 
--- a table
-pub tabled-whole : (options : Options) (gb ga jb ja lb la : Option (List ℕ)) (text : List ℕ) → IsTabledBy options (read_from gb ga) (read_from jb ja) (read_from lb la) text → IsTabledBy options (whole_of gb) (whole_of jb) (whole_of lb) text
-tabled-whole options gb ga jb ja lb la text t = (t.0, t.1, t.2, to-whole gb ga _ t.3, to-whole jb ja _ t.4, to-whole lb la _ t.5, t.6, t.7)
+-- the refusal of a list of sources, where there is one
+pub list-refused : {I : Type 0} (gb ga : Option (List ℕ)) (saved whole : Option Reading) → IsWhole saved whole → (earlier : List Which) (accepted : Type 0) (r : Result Unit RunFault) (left : I → Option (List ℕ)) (failed : I → ℕ) (old new : Sources I) →
+    ReadsSources earlier accepted r left failed old new (HasSourcesRefused (read_from gb ga) saved) → RefusesSources (whole_of gb) whole (option_map (λ input. whole_of (left input)) (listed_in old)) r
+list-refused gb ga saved whole is earlier accepted r left failed Sources.All new reads = tt
+list-refused gb ga saved whole is earlier accepted r left failed (Sources.Listed old) Sources.All reads = absurd reads
+list-refused gb ga saved whole is earlier accepted r left failed (Sources.Listed old) (Sources.Listed new) reads =
+    λ fault same. sources-refused gb ga saved whole is (left old) (left new) fault (reads.reads.refused fault same)
 
--- a table by a saved hierarchy
-pub tabled-by-whole : (options : Options) (gb ga sb sa jb ja lb la : Option (List ℕ)) (text : List ℕ) → IsTabledFrom options (read_from gb ga) (read_from sb sa) (read_from jb ja) (read_from lb la) text → IsTabledFrom options (whole_of gb) (whole_of sb) (whole_of jb) (whole_of lb) text
-tabled-by-whole options gb ga sb sa jb ja lb la text t = (t.0, t.1, t.2, checked-whole gb ga sb sa _ _ _ t.3, (t.4.0, t.4.1, lists-whole jb ja lb la _ _ _ t.4.2, t.4.3))
+-- a fault of which P holds is one of which Q holds where P gives Q
+pub err-weaker : {T : Type 0} (r : Result T RunFault) (P Q : RunFault → Type 0) → ((fault : RunFault) → P fault → Q fault) → IsErrAnd r P → IsErrAnd r Q
+err-weaker (Ok x) P Q to is = absurd is
+err-weaker (Err fault) P Q to is = to fault is
 
--- near rows
-pub near-whole : (options : Options) (gb ga jb ja lb la : Option (List ℕ)) (text : List ℕ) → IsNearBy options (read_from gb ga) (read_from jb ja) (read_from lb la) text → IsNearBy options (whole_of gb) (whole_of jb) (whole_of lb) text
-near-whole options gb ga jb ja lb la text t = (t.0, t.1, t.2, to-whole gb ga _ t.3, (to-whole jb ja _ t.4.0, to-whole lb la _ t.4.1), t.5)
+-- a run that saves a hierarchy refuses no saved one
+no-lines : (fault : ReadFault) → IsOfSave (RunFault.Read Which.Saved fault) → ⊥
+no-lines fault (inl own) = cc
+no-lines fault (inr write) = write
 
--- near rows by a saved hierarchy
-pub near-by-whole : (options : Options) (gb ga sb sa jb ja lb la : Option (List ℕ)) (text : List ℕ) → IsNearFrom options (read_from gb ga) (read_from sb sa) (read_from jb ja) (read_from lb la) text → IsNearFrom options (whole_of gb) (whole_of sb) (whole_of jb) (whole_of lb) text
-near-by-whole options gb ga sb sa jb ja lb la text t = (t.0, t.1, t.2, checked-whole gb ga sb sa _ _ _ t.3, (t.4.0, t.4.1, (to-whole jb ja _ t.4.2.0, to-whole lb la _ t.4.2.1), t.4.3))
+no-check : (fault : CheckFault) → IsOfSave (RunFault.Check fault) → ⊥
+no-check fault (inl own) = cc
+no-check fault (inr write) = write
 
--- near rows of all nodes
-pub near-all-whole : (options : Options) (gb ga lb la : Option (List ℕ)) (text : List ℕ) → IsNearAllBy options (read_from gb ga) (read_from lb la) text → IsNearAllBy options (whole_of gb) (whole_of lb) text
-near-all-whole options gb ga lb la text t = (t.0, t.1, to-whole gb ga _ t.2, to-whole lb la _ t.3, t.4)
-
--- and near rows of all nodes by a saved hierarchy
-pub near-all-by-whole : (options : Options) (gb ga sb sa lb la : Option (List ℕ)) (text : List ℕ) → IsNearAllFrom options (read_from gb ga) (read_from sb sa) (read_from lb la) text → IsNearAllFrom options (whole_of gb) (whole_of sb) (whole_of lb) text
-near-all-by-whole options gb ga sb sa lb la text t = (t.0, t.1, t.2, checked-whole gb ga sb sa _ _ _ t.3, (t.4.0, to-whole lb la _ t.4.1, t.4.2))
-
--- answers to requests
-pub served-whole : {T : Type 0} (options : Options) (gb ga : Option (List ℕ)) (requests : Reading) (old new : Option (List ℕ)) (r : Result T RunFault)
-    → ServesBy options (read_from gb ga) requests old new r → ServesBy options (whole_of gb) requests old new r
-served-whole options gb ga requests old new r t = (t.0, t.1, to-whole gb ga _ t.2, t.3)
-
--- and answers to requests by a saved hierarchy
-pub served-by-whole : {T : Type 0} (options : Options) (gb ga sb sa : Option (List ℕ)) (requests : Reading) (old new : Option (List ℕ)) (r : Result T RunFault)
-    → ServesFrom options (read_from gb ga) (read_from sb sa) requests old new r → ServesFrom options (whole_of gb) (whole_of sb) requests old new r
-served-by-whole options gb ga sb sa requests old new r t = (t.0, t.1, t.2, checked-whole gb ga sb sa _ _ _ t.3, t.4)
+pub none-refused : (graph : Reading) (saved : Option Reading) (r : Result Unit RunFault) → IfErr r IsOfSave → RefusesSaved graph saved r
+none-refused graph None r own = tt
+none-refused graph (Some saved) r own = record {
+  lines = λ fault same. absurd (no-lines fault (ends_in r IsOfSave (RunFault.Read Which.Saved fault) own same));
+  check = λ fault same. absurd (no-check fault (ends_in r IsOfSave (RunFault.Check fault) own same));
+}

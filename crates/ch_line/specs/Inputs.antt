@@ -1,47 +1,52 @@
 -- What is asked of inputs, and how a run over them ends.
-use Rattle.std.specs.Prelude.{◌≡◌, ◌⊎◌, ◌↔◌, ◌<◌, ℕ, [], List, Option, Result, Err, IfErr, IsErrAnd, option_map}
+use Rattle.std.specs.Prelude.{◌≡◌, ◌⊎◌, ◌↔◌, ◌<◌, ℕ, [], List, Option, Some, None, Result, Err, IfErr, IsErrAnd, ⊤, option_map}
 use Rattle.ch_read.specs.declared.fault.ReadFault.{ReadFault}
 use Rattle.ch_hierarchy.specs.declared.fault.CheckFault.{CheckFault}
 use Rattle.ch_run.specs.declared.fault.Which.{Which}
 use Rattle.ch_run.specs.declared.fault.RunFault.{RunFault}
 use Rattle.ch_run.specs.declared.options.Options.{Options}
-use Rattle.ch_run.specs.NearRun.{HasTargetsRefusedNext, HasTargetsRefusedNextFrom, IsNearAllBy, IsNearAllFrom, IsNearBy, IsNearFrom, IsOfNear, IsOfNearAll, IsOfNearAllSaved, IsOfNearSaved}
-use Rattle.ch_run.specs.Run.{Delivers, HasCellsRefused, HasQueriesRefused, HasSourcesRefused, HasTargetsRefused, IsAnsweredBy, IsGraphRefused, IsOf, IsOfDist, IsOfTable, IsTabledBy, IsWrite, Reading, reading}
-use Rattle.ch_run.specs.SavedRun.{HasCellsRefusedFrom, HasCheckRefused, HasQueriesRefusedFrom, HasSavedRefused, HasSourcesRefusedFrom, HasTargetsRefusedFrom, IsAnsweredFrom, IsOfChecked, IsOfDistSaved, IsOfSave, IsOfTableSaved, IsSavedBy, IsTabledFrom}
-use Rattle.ch_run.specs.Ask.{IsOfAsk, IsOfAskSaved, ServesBy, ServesFrom}
+use Rattle.ch_run.specs.Ask.{IsOfAsk, ServesBy}
+use Rattle.ch_run.specs.DistRun.{HasQueriesRefused, IsAnsweredBy, IsOfDist}
+use Rattle.ch_run.specs.NearRun.{HasNearTargetsRefused, IsNearBy, IsOfNear, listed_in, sources_failures}
+use Rattle.ch_run.specs.Run.{Delivers, IsGraphRefused, IsWrite, Reading, reading}
+use Rattle.ch_run.specs.SaveRun.{IsOfSave, IsSavedBy}
+use Rattle.ch_run.specs.Source.{HasCheckRefused, HasSavedRefused, IsOfLoading, saved_in, source_failures}
+use Rattle.ch_run.specs.TableRun.{HasCellsRefused, HasSourcesRefused, HasTargetsRefused, IsOfTable, IsTabledBy}
+use Rattle.ch_line.specs.declared.inputs.Asked.{Asked}
 use Rattle.ch_line.specs.declared.inputs.Inputs.{Inputs}
 
 -- these bytes, where they are told, read to their end
 abbrev pub whole_of : Option (List ℕ) → Reading
 whole_of bytes = record { before = bytes; after = option_map (λ _. []) bytes }
 
--- what is asked of which bytes
-pub data Task : Type 0 where
-  Answers : (graph queries : Reading) → Task
-  AnswersBy : (graph saved queries : Reading) → Task
-  Table : (graph sources targets : Reading) → Task
-  TableBy : (graph saved sources targets : Reading) → Task
-  Near : (graph sources targets : Reading) → Task
-  NearBy : (graph saved sources targets : Reading) → Task
-  NearAll : (graph targets : Reading) → Task
-  NearAllBy : (graph saved targets : Reading) → Task
-  Hierarchy : (graph : Reading) → Task
-  Requests : (graph : Reading) → Task
-  RequestsBy : (graph saved : Reading) → Task
+-- what is asked of a graph, and of which bytes. Where sources are left out, they are all nodes
+pub data Question : Type 0 where
+  Answers : (queries : Reading) → Question
+  Table : (sources targets : Reading) → Question
+  Near : (sources : Option Reading) (targets : Reading) → Question
+  Hierarchy : Question
+  Requests : Question
+
+-- what is asked of the bytes of a graph, and of a saved hierarchy, where there is one
+pub record Task : Type 0 where
+  pub graph : Reading
+  pub saved : Option Reading
+  pub question : Question
 
 -- what is asked of the bytes that the inputs tell
+abbrev pub question_of : {I : Type 0} → (I → Option (List ℕ)) → Asked I → Question
+question_of left (Asked.Queries queries) = Answers (whole_of (left queries))
+question_of left (Asked.Table sources targets) = Table (whole_of (left sources)) (whole_of (left targets))
+question_of left (Asked.Near sources targets) = Near (option_map (λ input. whole_of (left input)) (listed_in sources)) (whole_of (left targets))
+question_of left Asked.Hierarchy = Hierarchy
+question_of left Asked.Requests = Requests
+
 abbrev pub task_of : {I : Type 0} → (I → Option (List ℕ)) → Inputs I → Task
-task_of left (Inputs.Queries graph queries) = Answers (whole_of (left graph)) (whole_of (left queries))
-task_of left (Inputs.QueriesBy graph saved queries) = AnswersBy (whole_of (left graph)) (whole_of (left saved)) (whole_of (left queries))
-task_of left (Inputs.Lists graph sources targets) = Table (whole_of (left graph)) (whole_of (left sources)) (whole_of (left targets))
-task_of left (Inputs.ListsBy graph saved sources targets) = TableBy (whole_of (left graph)) (whole_of (left saved)) (whole_of (left sources)) (whole_of (left targets))
-task_of left (Inputs.Near graph sources targets) = Near (whole_of (left graph)) (whole_of (left sources)) (whole_of (left targets))
-task_of left (Inputs.NearBy graph saved sources targets) = NearBy (whole_of (left graph)) (whole_of (left saved)) (whole_of (left sources)) (whole_of (left targets))
-task_of left (Inputs.NearAll graph targets) = NearAll (whole_of (left graph)) (whole_of (left targets))
-task_of left (Inputs.NearAllBy graph saved targets) = NearAllBy (whole_of (left graph)) (whole_of (left saved)) (whole_of (left targets))
-task_of left (Inputs.Hierarchy graph) = Hierarchy (whole_of (left graph))
-task_of left (Inputs.Requests graph) = Requests (whole_of (left graph))
-task_of left (Inputs.RequestsBy graph saved) = RequestsBy (whole_of (left graph)) (whole_of (left saved))
+task_of left inputs = record {
+  graph = whole_of (left inputs.graph);
+  saved = option_map (λ input. whole_of (left input)) (saved_in inputs.source);
+  question = question_of left inputs.asked;
+}
 
 -- a run that asks for no requests leaves them alone, and the output takes a text of which P holds: all of it where the run is done,
 -- its first bytes where a write was refused, and else none
@@ -58,148 +63,100 @@ pub record WritesAnswers {J O : Type 0} (IsBefore : RunFault → Type 0) (Serves
   pub device : (result ≡ Err (RunFault.Device Which.Requests)) ↔ (failed requests < failed requests')
 
 -- what a run reads of the requests and writes for what is asked, as the options say
+abbrev pub WritesFor : {J O : Type 0} → Options → Reading → Option Reading → Question → (left : J → Option (List ℕ)) → (failed : J → ℕ) → (taken : O → Option (List ℕ)) → (requests requests' : J) → (old new : O) → Result Unit RunFault → Type 0
+WritesFor options graph saved (Answers queries) left failed = WritesText (IsAnsweredBy options graph saved queries)
+WritesFor options graph saved (Table sources targets) left failed = WritesText (IsTabledBy options graph saved sources targets)
+WritesFor options graph saved (Near sources targets) left failed = WritesText (IsNearBy options graph saved sources targets)
+WritesFor options graph saved Hierarchy left failed = WritesText (IsSavedBy options graph)
+WritesFor options graph saved Requests left failed = WritesAnswers (IsOfLoading saved) (ServesBy options graph saved) left failed
+
 abbrev pub Writes : {J O : Type 0} → Options → Task → (left : J → Option (List ℕ)) → (failed : J → ℕ) → (taken : O → Option (List ℕ)) → (requests requests' : J) → (old new : O) → Result Unit RunFault → Type 0
-Writes options (Answers graph queries) left failed = WritesText (IsAnsweredBy options graph queries)
-Writes options (AnswersBy graph saved queries) left failed = WritesText (IsAnsweredFrom options graph saved queries)
-Writes options (Table graph sources targets) left failed = WritesText (IsTabledBy options graph sources targets)
-Writes options (TableBy graph saved sources targets) left failed = WritesText (IsTabledFrom options graph saved sources targets)
-Writes options (Near graph sources targets) left failed = WritesText (IsNearBy options graph sources targets)
-Writes options (NearBy graph saved sources targets) left failed = WritesText (IsNearFrom options graph saved sources targets)
-Writes options (NearAll graph targets) left failed = WritesText (IsNearAllBy options graph targets)
-Writes options (NearAllBy graph saved targets) left failed = WritesText (IsNearAllFrom options graph saved targets)
-Writes options (Hierarchy graph) left failed = WritesText (IsSavedBy options graph)
-Writes options (Requests graph) left failed = WritesAnswers (IsOf Which.Graph) (ServesBy options graph) left failed
-Writes options (RequestsBy graph saved) left failed = WritesAnswers IsOfChecked (ServesFrom options graph saved) left failed
+Writes options task left failed = WritesFor options task.graph task.saved task.question left failed
 
--- a run that answers queries ends in a fault of its own, and refuses a file for what it holds
-pub record EndsAnswers (graph queries : Reading) (result : Result Unit RunFault) : Type 0 where
-  pub own : IfErr result IsOfDist
-  pub graph_refused : (fault : ReadFault) → result ≡ Err (RunFault.Read Which.Graph fault) → IsGraphRefused graph fault
-  pub queries_refused : (fault : ReadFault) → result ≡ Err (RunFault.Read Which.Queries fault) → HasQueriesRefused graph queries fault
+-- the faults of a run's own
+abbrev pub IsOwn : Option Reading → Question → RunFault → Type 0
+IsOwn saved (Answers queries) = IsOfDist saved
+IsOwn saved (Table sources targets) = IsOfTable saved
+IsOwn saved (Near sources targets) = IsOfNear saved sources
+IsOwn saved Hierarchy = IsOfSave
+IsOwn saved Requests = IsOfAsk saved
 
--- so does one that answers queries by a saved hierarchy
-pub record EndsAnswersBy (graph saved queries : Reading) (result : Result Unit RunFault) : Type 0 where
-  pub own : IfErr result IsOfDistSaved
-  pub graph_refused : (fault : ReadFault) → result ≡ Err (RunFault.Read Which.Graph fault) → IsGraphRefused graph fault
-  pub saved_refused : (fault : ReadFault) → result ≡ Err (RunFault.Read Which.Saved fault) → HasSavedRefused graph saved fault
-  pub check_refused : (fault : CheckFault) → result ≡ Err (RunFault.Check fault) → HasCheckRefused graph saved fault
-  pub queries_refused : (fault : ReadFault) → result ≡ Err (RunFault.Read Which.Queries fault) → HasQueriesRefusedFrom graph saved queries fault
+-- a saved hierarchy is refused for what its lines are, or for its first fault on the graph
+pub record RefusesHierarchy (graph saved : Reading) (result : Result Unit RunFault) : Type 0 where
+  pub lines : (fault : ReadFault) → result ≡ Err (RunFault.Read Which.Saved fault) → HasSavedRefused graph saved fault
+  pub check : (fault : CheckFault) → result ≡ Err (RunFault.Check fault) → HasCheckRefused graph saved fault
 
--- and one that makes a table
-pub record EndsTable (graph sources targets : Reading) (result : Result Unit RunFault) : Type 0 where
-  pub own : IfErr result IsOfTable
-  pub graph_refused : (fault : ReadFault) → result ≡ Err (RunFault.Read Which.Graph fault) → IsGraphRefused graph fault
-  pub sources_refused : (fault : ReadFault) → result ≡ Err (RunFault.Read Which.Sources fault) → HasSourcesRefused graph sources fault
-  pub targets_refused : (fault : ReadFault) → result ≡ Err (RunFault.Read Which.Targets fault) → HasTargetsRefused graph sources targets fault
-  pub cells_refused : result ≡ Err RunFault.Cells → HasCellsRefused graph sources targets
+-- where there is one
+abbrev pub RefusesSaved : Reading → Option Reading → Result Unit RunFault → Type 0
+RefusesSaved graph None result = ⊤
+RefusesSaved graph (Some saved) result = RefusesHierarchy graph saved result
 
--- and one that makes a table by a saved hierarchy
-pub record EndsTableBy (graph saved sources targets : Reading) (result : Result Unit RunFault) : Type 0 where
-  pub own : IfErr result IsOfTableSaved
-  pub graph_refused : (fault : ReadFault) → result ≡ Err (RunFault.Read Which.Graph fault) → IsGraphRefused graph fault
-  pub saved_refused : (fault : ReadFault) → result ≡ Err (RunFault.Read Which.Saved fault) → HasSavedRefused graph saved fault
-  pub check_refused : (fault : CheckFault) → result ≡ Err (RunFault.Check fault) → HasCheckRefused graph saved fault
-  pub sources_refused : (fault : ReadFault) → result ≡ Err (RunFault.Read Which.Sources fault) → HasSourcesRefusedFrom graph saved sources fault
-  pub targets_refused : (fault : ReadFault) → result ≡ Err (RunFault.Read Which.Targets fault) → HasTargetsRefusedFrom graph saved sources targets fault
-  pub cells_refused : result ≡ Err RunFault.Cells → HasCellsRefusedFrom graph saved sources targets
+-- the lists of a table are refused for what they hold
+pub record RefusesTable (graph : Reading) (saved : Option Reading) (sources targets : Reading) (result : Result Unit RunFault) : Type 0 where
+  pub sources_refused : (fault : ReadFault) → result ≡ Err (RunFault.Read Which.Sources fault) → HasSourcesRefused graph saved sources fault
+  pub targets_refused : (fault : ReadFault) → result ≡ Err (RunFault.Read Which.Targets fault) → HasTargetsRefused graph saved sources targets fault
+  pub cells_refused : result ≡ Err RunFault.Cells → HasCellsRefused graph saved sources targets
 
--- and one that makes near rows
-pub record EndsNear (graph sources targets : Reading) (result : Result Unit RunFault) : Type 0 where
-  pub own : IfErr result IsOfNear
-  pub graph_refused : (fault : ReadFault) → result ≡ Err (RunFault.Read Which.Graph fault) → IsGraphRefused graph fault
-  pub sources_refused : (fault : ReadFault) → result ≡ Err (RunFault.Read Which.Sources fault) → HasSourcesRefused graph sources fault
-  pub targets_refused : (fault : ReadFault) → result ≡ Err (RunFault.Read Which.Targets fault) → HasTargetsRefused graph sources targets fault
+-- a list of sources is, where one is read
+abbrev pub RefusesSources : Reading → Option Reading → Option Reading → Result Unit RunFault → Type 0
+RefusesSources graph saved None result = ⊤
+RefusesSources graph saved (Some sources) result = (fault : ReadFault) → result ≡ Err (RunFault.Read Which.Sources fault) → HasSourcesRefused graph saved sources fault
 
--- and one that makes near rows by a saved hierarchy
-pub record EndsNearBy (graph saved sources targets : Reading) (result : Result Unit RunFault) : Type 0 where
-  pub own : IfErr result IsOfNearSaved
-  pub graph_refused : (fault : ReadFault) → result ≡ Err (RunFault.Read Which.Graph fault) → IsGraphRefused graph fault
-  pub saved_refused : (fault : ReadFault) → result ≡ Err (RunFault.Read Which.Saved fault) → HasSavedRefused graph saved fault
-  pub check_refused : (fault : CheckFault) → result ≡ Err (RunFault.Check fault) → HasCheckRefused graph saved fault
-  pub sources_refused : (fault : ReadFault) → result ≡ Err (RunFault.Read Which.Sources fault) → HasSourcesRefusedFrom graph saved sources fault
-  pub targets_refused : (fault : ReadFault) → result ≡ Err (RunFault.Read Which.Targets fault) → HasTargetsRefusedFrom graph saved sources targets fault
+-- and so are the lists of near rows
+pub record RefusesNear (graph : Reading) (saved sources : Option Reading) (targets : Reading) (result : Result Unit RunFault) : Type 0 where
+  pub sources_refused : RefusesSources graph saved sources result
+  pub targets_refused : (fault : ReadFault) → result ≡ Err (RunFault.Read Which.Targets fault) → HasNearTargetsRefused graph saved sources targets fault
 
--- and one that makes near rows of all nodes
-pub record EndsNearAll (graph targets : Reading) (result : Result Unit RunFault) : Type 0 where
-  pub own : IfErr result IsOfNearAll
-  pub graph_refused : (fault : ReadFault) → result ≡ Err (RunFault.Read Which.Graph fault) → IsGraphRefused graph fault
-  pub targets_refused : (fault : ReadFault) → result ≡ Err (RunFault.Read Which.Targets fault) → HasTargetsRefusedNext graph targets fault
-
--- and one that makes near rows of all nodes by a saved hierarchy
-pub record EndsNearAllBy (graph saved targets : Reading) (result : Result Unit RunFault) : Type 0 where
-  pub own : IfErr result IsOfNearAllSaved
-  pub graph_refused : (fault : ReadFault) → result ≡ Err (RunFault.Read Which.Graph fault) → IsGraphRefused graph fault
-  pub saved_refused : (fault : ReadFault) → result ≡ Err (RunFault.Read Which.Saved fault) → HasSavedRefused graph saved fault
-  pub check_refused : (fault : CheckFault) → result ≡ Err (RunFault.Check fault) → HasCheckRefused graph saved fault
-  pub targets_refused : (fault : ReadFault) → result ≡ Err (RunFault.Read Which.Targets fault) → HasTargetsRefusedNextFrom graph saved targets fault
-
--- and one that saves a hierarchy
-pub record EndsHierarchy (graph : Reading) (result : Result Unit RunFault) : Type 0 where
-  pub own : IfErr result IsOfSave
-  pub graph_refused : (fault : ReadFault) → result ≡ Err (RunFault.Read Which.Graph fault) → IsGraphRefused graph fault
-
--- and one that answers requests, of whose own faults `Serves` speaks
-pub record EndsRequests (graph : Reading) (result : Result Unit RunFault) : Type 0 where
-  pub own : IfErr result IsOfAsk
-  pub graph_refused : (fault : ReadFault) → result ≡ Err (RunFault.Read Which.Graph fault) → IsGraphRefused graph fault
-
--- and one that answers requests by a saved hierarchy
-pub record EndsRequestsBy (graph saved : Reading) (result : Result Unit RunFault) : Type 0 where
-  pub own : IfErr result IsOfAskSaved
-  pub graph_refused : (fault : ReadFault) → result ≡ Err (RunFault.Read Which.Graph fault) → IsGraphRefused graph fault
-  pub saved_refused : (fault : ReadFault) → result ≡ Err (RunFault.Read Which.Saved fault) → HasSavedRefused graph saved fault
-  pub check_refused : (fault : CheckFault) → result ≡ Err (RunFault.Check fault) → HasCheckRefused graph saved fault
+-- what is asked is refused for what it holds; of refused requests `Serves` speaks
+abbrev pub RefusesAsked : Reading → Option Reading → Question → Result Unit RunFault → Type 0
+RefusesAsked graph saved (Answers queries) result = (fault : ReadFault) → result ≡ Err (RunFault.Read Which.Queries fault) → HasQueriesRefused graph saved queries fault
+RefusesAsked graph saved (Table sources targets) result = RefusesTable graph saved sources targets result
+RefusesAsked graph saved (Near sources targets) result = RefusesNear graph saved sources targets result
+RefusesAsked graph saved Hierarchy result = ⊤
+RefusesAsked graph saved Requests result = ⊤
 
 -- the run for what is asked ends in a fault of its own, and refuses a file for what it holds
-abbrev pub EndsFor : Task → Result Unit RunFault → Type 0
-EndsFor (Answers graph queries) = EndsAnswers graph queries
-EndsFor (AnswersBy graph saved queries) = EndsAnswersBy graph saved queries
-EndsFor (Table graph sources targets) = EndsTable graph sources targets
-EndsFor (TableBy graph saved sources targets) = EndsTableBy graph saved sources targets
-EndsFor (Near graph sources targets) = EndsNear graph sources targets
-EndsFor (NearBy graph saved sources targets) = EndsNearBy graph saved sources targets
-EndsFor (NearAll graph targets) = EndsNearAll graph targets
-EndsFor (NearAllBy graph saved targets) = EndsNearAllBy graph saved targets
-EndsFor (Hierarchy graph) = EndsHierarchy graph
-EndsFor (Requests graph) = EndsRequests graph
-EndsFor (RequestsBy graph saved) = EndsRequestsBy graph saved
+pub record EndsFor (task : Task) (result : Result Unit RunFault) : Type 0 where
+  pub own : IfErr result (IsOwn task.saved task.question)
+  pub graph_refused : (fault : ReadFault) → result ≡ Err (RunFault.Read Which.Graph fault) → IsGraphRefused task.graph fault
+  pub saved_refused : RefusesSaved task.graph task.saved result
+  pub asked_refused : RefusesAsked task.graph task.saved task.question result
 
--- P holds of each input
-abbrev pub AllInputs : {I : Type 0} → (Which → I → Type 0) → Inputs I → Type 0
-AllInputs P (Inputs.Queries graph queries) = P Which.Graph graph × P Which.Queries queries
-AllInputs P (Inputs.QueriesBy graph saved queries) = P Which.Graph graph × P Which.Saved saved × P Which.Queries queries
-AllInputs P (Inputs.Lists graph sources targets) = P Which.Graph graph × P Which.Sources sources × P Which.Targets targets
-AllInputs P (Inputs.ListsBy graph saved sources targets) = P Which.Graph graph × P Which.Saved saved × P Which.Sources sources × P Which.Targets targets
-AllInputs P (Inputs.Near graph sources targets) = P Which.Graph graph × P Which.Sources sources × P Which.Targets targets
-AllInputs P (Inputs.NearBy graph saved sources targets) = P Which.Graph graph × P Which.Saved saved × P Which.Sources sources × P Which.Targets targets
-AllInputs P (Inputs.NearAll graph targets) = P Which.Graph graph × P Which.Targets targets
-AllInputs P (Inputs.NearAllBy graph saved targets) = P Which.Graph graph × P Which.Saved saved × P Which.Targets targets
-AllInputs P (Inputs.Hierarchy graph) = P Which.Graph graph
-AllInputs P (Inputs.Requests graph) = P Which.Graph graph
-AllInputs P (Inputs.RequestsBy graph saved) = P Which.Graph graph × P Which.Saved saved
+-- no read of what is asked has failed
+abbrev pub AreFreshAsked : {I : Type 0} → (I → ℕ) → Asked I → Type 0
+AreFreshAsked failed (Asked.Queries queries) = failed queries ≡ 0
+AreFreshAsked failed (Asked.Table sources targets) = (failed sources ≡ 0) × (failed targets ≡ 0)
+AreFreshAsked failed (Asked.Near sources targets) = (sources_failures failed sources ≡ 0) × (failed targets ≡ 0)
+AreFreshAsked failed Asked.Hierarchy = ⊤
+AreFreshAsked failed Asked.Requests = ⊤
 
 -- no read of an input has failed
-abbrev pub AreFresh : {I : Type 0} → (I → ℕ) → Inputs I → Type 0
-AreFresh failed = AllInputs (λ _ input. failed input ≡ 0)
+pub record AreFresh {I : Type 0} (failed : I → ℕ) (inputs : Inputs I) : Type 0 where
+  pub graph : failed inputs.graph ≡ 0
+  pub source : source_failures failed inputs.source ≡ 0
+  pub asked : AreFreshAsked failed inputs.asked
 
 -- a read of this input failed since
 abbrev pub HasFailed : {I : Type 0} → (I → ℕ) → I → Type 0
 HasFailed {I} failed old = (new : I) × (failed old < failed new)
 
--- P holds of one of the inputs
-abbrev pub SomeInput : {I : Type 0} → (Which → I → Type 0) → Inputs I → Type 0
-SomeInput P (Inputs.Queries graph queries) = P Which.Graph graph ⊎ P Which.Queries queries
-SomeInput P (Inputs.QueriesBy graph saved queries) = P Which.Graph graph ⊎ P Which.Saved saved ⊎ P Which.Queries queries
-SomeInput P (Inputs.Lists graph sources targets) = P Which.Graph graph ⊎ P Which.Sources sources ⊎ P Which.Targets targets
-SomeInput P (Inputs.ListsBy graph saved sources targets) = P Which.Graph graph ⊎ P Which.Saved saved ⊎ P Which.Sources sources ⊎ P Which.Targets targets
-SomeInput P (Inputs.Near graph sources targets) = P Which.Graph graph ⊎ P Which.Sources sources ⊎ P Which.Targets targets
-SomeInput P (Inputs.NearBy graph saved sources targets) = P Which.Graph graph ⊎ P Which.Saved saved ⊎ P Which.Sources sources ⊎ P Which.Targets targets
-SomeInput P (Inputs.NearAll graph targets) = P Which.Graph graph ⊎ P Which.Targets targets
-SomeInput P (Inputs.NearAllBy graph saved targets) = P Which.Graph graph ⊎ P Which.Saved saved ⊎ P Which.Targets targets
-SomeInput P (Inputs.Hierarchy graph) = P Which.Graph graph
-SomeInput P (Inputs.Requests graph) = P Which.Graph graph
-SomeInput P (Inputs.RequestsBy graph saved) = P Which.Graph graph ⊎ P Which.Saved saved
+-- this one is the input, and a read of it failed since
+abbrev pub IsFailed : {I : Type 0} → (I → ℕ) → Which → I → Which → Type 0
+IsFailed failed is input which = (is ≡ which) × HasFailed failed input
+
+-- so is this one, where there is one
+abbrev pub IsFailedIf : {I : Type 0} → (I → ℕ) → Which → Option I → Which → Type 0
+IsFailedIf failed is None which = ⊥
+IsFailedIf failed is (Some input) which = IsFailed failed is input which
+
+-- or one of what is asked
+abbrev pub IsFailedAsked : {I : Type 0} → (I → ℕ) → Asked I → Which → Type 0
+IsFailedAsked failed (Asked.Queries queries) which = IsFailed failed Which.Queries queries which
+IsFailedAsked failed (Asked.Table sources targets) which = IsFailed failed Which.Sources sources which ⊎ IsFailed failed Which.Targets targets which
+IsFailedAsked failed (Asked.Near sources targets) which = IsFailedIf failed Which.Sources (listed_in sources) which ⊎ IsFailed failed Which.Targets targets which
+IsFailedAsked failed Asked.Hierarchy which = ⊥
+IsFailedAsked failed Asked.Requests which = ⊥
 
 -- a read of this one of the inputs failed since
 abbrev pub HasFailedRead : {I : Type 0} → (I → ℕ) → Inputs I → Which → Type 0
-HasFailedRead failed inputs which = SomeInput (λ other input. (other ≡ which) × HasFailed failed input) inputs
+HasFailedRead failed inputs which = IsFailed failed Which.Graph inputs.graph which ⊎ IsFailedIf failed Which.Saved (saved_in inputs.source) which ⊎ IsFailedAsked failed inputs.asked which

@@ -1,19 +1,19 @@
 -- What a line asks for, of which files, and how its run ends.
-use Rattle.std.specs.Prelude.{◌≡◌, ◌⊎◌, ◌↔◌, ◌<◌, ◌≤◌, ℕ, [], ◌∷◌, List, Option, Some, None, Result, Err, IsErrAnd, ⊤, option_map, if◌then◌else◌}
+use Rattle.std.specs.Prelude.{◌≡◌, ◌⊎◌, ℕ, [], ◌∷◌, ◌++◌, List, Option, Some, None, Result, Err, IsErrAnd, ⊤, option_map, if◌then◌else◌}
 use Rattle.std.specs.String.{string_bytes}
 use Rattle.ch_contract.specs.declared.measure.OrderBy.TheVariants.{Difference, Depth}
 use Rattle.ch_near.specs.declared.direction.Direction.TheVariants.{To, From}
 use Rattle.ch_run.specs.declared.options.Options.{Options}
 use Rattle.ch_run.specs.declared.fault.Which.{Which}
 use Rattle.ch_run.specs.declared.fault.RunFault.{RunFault}
-use Rattle.ch_text.specs.Device.{CountsAtMostOne, CountsAtMostOneOf}
-use Rattle.ch_run.specs.Run.{IsWrite, Reading}
+use Rattle.ch_text.specs.Device.{CountsAtMostOne}
+use Rattle.ch_run.specs.Run.{Reading, WritesOnce}
 use Rattle.ch_words.specs.declared.line.Choices.{Choices}
 use Rattle.ch_words.specs.declared.line.Line.{Line}
 use Rattle.ch_words.specs.declared.line.Tool.{Tool}
 use Rattle.ch_line.specs.declared.inputs.Inputs.{Inputs}
 use Rattle.ch_line.specs.Files.{FileState, bytes_of}
-use Rattle.ch_line.specs.Inputs.{Task, EndsFor, HasFailedRead, Writes, task_of, whole_of}
+use Rattle.ch_line.specs.Inputs.{Question, Task, EndsFor, HasFailedRead, Writes, task_of, whole_of}
 
 -- the options of a run, as the words choose them: the order is that of depth and distances are those from the targets where they ask for it
 abbrev pub options_for : Choices → Options
@@ -35,39 +35,36 @@ saved_name line = option_map string_bytes line.saved
 abbrev pub file_reading : (List ℕ → FileState) → List ℕ → Reading
 file_reading known name = whole_of (bytes_of (known name))
 
--- what is asked of a graph, a saved hierarchy, if there is one, and queries
-abbrev pub queries_task : Reading → Option Reading → Reading → Task
-queries_task graph None queries = Task.Answers graph queries
-queries_task graph (Some saved) queries = Task.AnswersBy graph saved queries
+-- the graph of a tool
+abbrev pub graph_name : Tool → List ℕ
+graph_name (Tool.Dist graph queries) = string_bytes graph
+graph_name (Tool.Table graph sources targets) = string_bytes graph
+graph_name (Tool.Near graph sources targets) = string_bytes graph
+graph_name (Tool.NearAll graph targets) = string_bytes graph
+graph_name (Tool.Save graph) = string_bytes graph
+graph_name (Tool.Ask graph) = string_bytes graph
 
--- what is asked of a graph, a saved hierarchy, if there is one, sources and targets
-abbrev pub lists_task : Reading → Option Reading → Reading → Reading → Task
-lists_task graph None sources targets = Task.Table graph sources targets
-lists_task graph (Some saved) sources targets = Task.TableBy graph saved sources targets
+-- the saved hierarchy that a tool reads: one that is named, but by no tool that saves one
+abbrev pub saved_for : Tool → Option (List ℕ) → Option (List ℕ)
+saved_for (Tool.Dist graph queries) saved = saved
+saved_for (Tool.Table graph sources targets) saved = saved
+saved_for (Tool.Near graph sources targets) saved = saved
+saved_for (Tool.NearAll graph targets) saved = saved
+saved_for (Tool.Save graph) saved = None
+saved_for (Tool.Ask graph) saved = saved
 
--- what is asked for near rows of a graph, a saved hierarchy, if there is one, sources and targets
-abbrev pub near_task : Reading → Option Reading → Reading → Reading → Task
-near_task graph None sources targets = Task.Near graph sources targets
-near_task graph (Some saved) sources targets = Task.NearBy graph saved sources targets
+-- what a tool asks of its files, which are read by their names
+abbrev pub tool_question : (List ℕ → Reading) → Tool → Question
+tool_question read (Tool.Dist graph queries) = Question.Answers (read (string_bytes queries))
+tool_question read (Tool.Table graph sources targets) = Question.Table (read (string_bytes sources)) (read (string_bytes targets))
+tool_question read (Tool.Near graph sources targets) = Question.Near (Some (read (string_bytes sources))) (read (string_bytes targets))
+tool_question read (Tool.NearAll graph targets) = Question.Near None (read (string_bytes targets))
+tool_question read (Tool.Save graph) = Question.Hierarchy
+tool_question read (Tool.Ask graph) = Question.Requests
 
--- what is asked for near rows of all nodes of a graph, a saved hierarchy, if there is one, and targets
-abbrev pub near_all_task : Reading → Option Reading → Reading → Task
-near_all_task graph None targets = Task.NearAll graph targets
-near_all_task graph (Some saved) targets = Task.NearAllBy graph saved targets
-
--- what is asked of a graph and a saved hierarchy, if there is one, by which requests are answered
-abbrev pub requests_task : Reading → Option Reading → Task
-requests_task graph None = Task.Requests graph
-requests_task graph (Some saved) = Task.RequestsBy graph saved
-
--- what a tool asks of its files, which are read by their names, and of a saved hierarchy, or none
+-- of a graph and of a saved hierarchy, if one is named
 abbrev pub tool_task : (List ℕ → Reading) → Tool → Option (List ℕ) → Task
-tool_task read (Tool.Dist graph queries) saved = queries_task (read (string_bytes graph)) (option_map read saved) (read (string_bytes queries))
-tool_task read (Tool.Table graph sources targets) saved = lists_task (read (string_bytes graph)) (option_map read saved) (read (string_bytes sources)) (read (string_bytes targets))
-tool_task read (Tool.Near graph sources targets) saved = near_task (read (string_bytes graph)) (option_map read saved) (read (string_bytes sources)) (read (string_bytes targets))
-tool_task read (Tool.NearAll graph targets) saved = near_all_task (read (string_bytes graph)) (option_map read saved) (read (string_bytes targets))
-tool_task read (Tool.Save graph) saved = Task.Hierarchy (read (string_bytes graph))
-tool_task read (Tool.Ask graph) saved = requests_task (read (string_bytes graph)) (option_map read saved)
+tool_task read tool saved = record { graph = read (graph_name tool); saved = option_map read (saved_for tool saved); question = tool_question read tool }
 
 -- what a line asks for of the bytes that are known of its files
 abbrev pub line_task : (List ℕ → FileState) → Line → Task
@@ -77,34 +74,23 @@ line_task known line = tool_task (file_reading known) line.tool (saved_name line
 abbrev pub File : Type 0
 File = Which × List ℕ
 
--- the files of a run that answers queries, in the order in which they are opened
-abbrev pub queries_files : List ℕ → Option (List ℕ) → List ℕ → List File
-queries_files graph None queries = (Which.Graph, graph) ∷ (Which.Queries, queries) ∷ []
-queries_files graph (Some saved) queries = (Which.Graph, graph) ∷ (Which.Saved, saved) ∷ (Which.Queries, queries) ∷ []
+-- the file of a saved hierarchy, if there is one
+abbrev pub saved_files : Option (List ℕ) → List File
+saved_files None = []
+saved_files (Some saved) = (Which.Saved, saved) ∷ []
 
--- the files of a run that makes a table or near rows
-abbrev pub lists_files : List ℕ → Option (List ℕ) → List ℕ → List ℕ → List File
-lists_files graph None sources targets = (Which.Graph, graph) ∷ (Which.Sources, sources) ∷ (Which.Targets, targets) ∷ []
-lists_files graph (Some saved) sources targets = (Which.Graph, graph) ∷ (Which.Saved, saved) ∷ (Which.Sources, sources) ∷ (Which.Targets, targets) ∷ []
+-- the files that ask something, in the order in which they are opened
+abbrev pub asked_files : Tool → List File
+asked_files (Tool.Dist graph queries) = (Which.Queries, string_bytes queries) ∷ []
+asked_files (Tool.Table graph sources targets) = (Which.Sources, string_bytes sources) ∷ (Which.Targets, string_bytes targets) ∷ []
+asked_files (Tool.Near graph sources targets) = (Which.Sources, string_bytes sources) ∷ (Which.Targets, string_bytes targets) ∷ []
+asked_files (Tool.NearAll graph targets) = (Which.Targets, string_bytes targets) ∷ []
+asked_files (Tool.Save graph) = []
+asked_files (Tool.Ask graph) = []
 
--- the files of a run that makes near rows of all nodes
-abbrev pub targets_files : List ℕ → Option (List ℕ) → List ℕ → List File
-targets_files graph None targets = (Which.Graph, graph) ∷ (Which.Targets, targets) ∷ []
-targets_files graph (Some saved) targets = (Which.Graph, graph) ∷ (Which.Saved, saved) ∷ (Which.Targets, targets) ∷ []
-
--- the files of a run that answers requests
-abbrev pub hierarchy_files : List ℕ → Option (List ℕ) → List File
-hierarchy_files graph None = (Which.Graph, graph) ∷ []
-hierarchy_files graph (Some saved) = (Which.Graph, graph) ∷ (Which.Saved, saved) ∷ []
-
--- the files that a tool opens, in order
+-- the files that a tool opens, in order: the graph, a saved hierarchy, if it reads one, and what asks something
 abbrev pub tool_files : Tool → Option (List ℕ) → List File
-tool_files (Tool.Dist graph queries) saved = queries_files (string_bytes graph) saved (string_bytes queries)
-tool_files (Tool.Table graph sources targets) saved = lists_files (string_bytes graph) saved (string_bytes sources) (string_bytes targets)
-tool_files (Tool.Near graph sources targets) saved = lists_files (string_bytes graph) saved (string_bytes sources) (string_bytes targets)
-tool_files (Tool.NearAll graph targets) saved = targets_files (string_bytes graph) saved (string_bytes targets)
-tool_files (Tool.Save graph) saved = (Which.Graph, string_bytes graph) ∷ []
-tool_files (Tool.Ask graph) saved = hierarchy_files (string_bytes graph) saved
+tool_files tool saved = ((Which.Graph, graph_name tool) ∷ saved_files (saved_for tool saved)) ++ asked_files tool
 
 -- the files that the run of a line opens, in order
 abbrev pub line_files : Line → List File
@@ -166,5 +152,4 @@ pub record IsRunOf {I J O : Type 0} (left : I → Option (List ℕ)) (failures :
   pub ends : EndsFor (line_task known line) result ⊎ IsErrAnd result (IsUnopened known (line_files line))
   pub unread : (which : Which) → result ≡ Err (RunFault.Device which) → IsUnopened known (line_files line) (RunFault.Device which) ⊎ (which ≡ Which.Requests) ⊎ HasReadFailed left failures known line which
   pub requests_once : CountsAtMostOne (failed_requests requests) (failed_requests requests')
-  pub output_device : IsErrAnd result IsWrite ↔ ((failed old < failed new) ⊎ (idle old < idle new))
-  pub output_once : CountsAtMostOneOf (failed old) (failed new) (idle old) (idle new)
+  pub output : WritesOnce result failed idle old new

@@ -1,72 +1,39 @@
 //! The opened files of a line, and the run over them.
 
-ghost use Rattle.std.specs.Prelude.{◌≡◌, ◌<◌, ◌↔◌, ◌⊎◌, Err, IsErrAnd};
+ghost use Rattle.std.specs.Prelude.{◌≡◌, ◌⊎◌, Err};
 ghost use Rattle.ch_contract.specs.Legs.{IsHopBound};
-ghost use Rattle.ch_text.specs.Device.{CanCountOneMore, CountsAtMostOne, CountsAtMostOneOf};
-ghost use Rattle.ch_run.specs.Run.{IsWrite};
+ghost use Rattle.ch_text.specs.Device.{CanCountOneMore, CountsAtMostOne};
+ghost use Rattle.ch_run.specs.Run.{WritesOnce};
 ghost use Rattle.ch_run.specs.declared.fault.Which.{Which as WhichInput};
 ghost use Rattle.ch_line.specs.Inputs.{AreFresh, EndsFor, HasFailedRead, Writes, task_of};
 
 use ch_run::{
-    Crew, Gate, Input, Options, Output, RunFault, Which, run_ask, run_ask_saved, run_dist,
-    run_dist_saved, run_near, run_near_all, run_near_all_saved, run_near_saved, run_save,
-    run_table, run_table_saved,
+    Crew, Gate, Input, Options, Output, RunFault, Source, Sources, Which, run_ask, run_dist,
+    run_near, run_save, run_table,
 };
 use std::thread::Threads;
 
 /// The opened files of a line, by what is asked of them.
 #[derive(Drop)]
-pub enum Inputs<I: Drop> {
-    Queries {
-        graph: I,
-        queries: I,
-    },
-    QueriesBy {
-        graph: I,
-        saved: I,
-        queries: I,
-    },
-    Lists {
-        graph: I,
-        sources: I,
-        targets: I,
-    },
-    ListsBy {
-        graph: I,
-        saved: I,
-        sources: I,
-        targets: I,
-    },
-    Near {
-        graph: I,
-        sources: I,
-        targets: I,
-    },
-    NearBy {
-        graph: I,
-        saved: I,
-        sources: I,
-        targets: I,
-    },
-    NearAll {
-        graph: I,
-        targets: I,
-    },
-    NearAllBy {
-        graph: I,
-        saved: I,
-        targets: I,
-    },
-    Hierarchy {
-        graph: I,
-    },
-    Requests {
-        graph: I,
-    },
-    RequestsBy {
-        graph: I,
-        saved: I,
-    },
+pub struct Inputs<I: Drop> {
+    pub graph: I,
+    pub source: Source<I>,
+    pub asked: Asked<I>,
+}
+
+/// What is asked of a graph, with the files that ask it.
+#[derive(Drop)]
+pub enum Asked<I: Drop> {
+    /// The answers to these queries.
+    Queries(I),
+    /// The table of these lists.
+    Table { sources: I, targets: I },
+    /// The near rows of these lists.
+    Near { sources: Sources<I>, targets: I },
+    /// Its hierarchy. That is built, wherever another might come from.
+    Hierarchy,
+    /// The answers to the requests.
+    Requests,
 }
 
 /// Makes the run that these inputs are for. The requests are read where it is one that answers them, and else left alone.
@@ -95,72 +62,26 @@ pub fn run_inputs<R: Threads + Sync, I: Input + Drop, J: Input, O: Output, G: Ga
 
     // A read or a write that was refused isn't tried again, and a refused write is told.
     ensures requests_once { CountsAtMostOne (J.failed requests.old) (J.failed requests.new) }
-    ensures output_device { IsErrAnd result IsWrite ↔ ((O.failed output.old < O.failed output.new) ⊎ (O.idle output.old < O.idle output.new)) }
-    ensures output_once { CountsAtMostOneOf (O.failed output.old) (O.failed output.new) (O.idle output.old) (O.idle output.new) }
+    ensures output { WritesOnce result O.failed O.idle output.old output.new }
 {
-    macro_rules! over {
-        ($run:ident, $($input:expr),+) => {
-            $run(crew, $($input,)+ output, options)
-        };
-    }
-    match inputs {
-        Inputs::Queries {
-            mut graph,
-            mut queries,
-        } => over!(run_dist, &mut graph, &mut queries),
-        Inputs::QueriesBy {
-            mut graph,
-            mut saved,
-            mut queries,
-        } => over!(run_dist_saved, &mut graph, &mut saved, &mut queries),
-        Inputs::Lists {
-            mut graph,
-            mut sources,
-            mut targets,
-        } => over!(run_table, &mut graph, &mut sources, &mut targets),
-        Inputs::ListsBy {
-            mut graph,
-            mut saved,
-            mut sources,
-            mut targets,
-        } => over!(
-            run_table_saved,
-            &mut graph,
-            &mut saved,
-            &mut sources,
-            &mut targets
-        ),
-        Inputs::Near {
-            mut graph,
-            mut sources,
-            mut targets,
-        } => over!(run_near, &mut graph, &mut sources, &mut targets),
-        Inputs::NearBy {
-            mut graph,
-            mut saved,
-            mut sources,
-            mut targets,
-        } => over!(
-            run_near_saved,
-            &mut graph,
-            &mut saved,
-            &mut sources,
-            &mut targets
-        ),
-        Inputs::NearAll {
-            mut graph,
-            mut targets,
-        } => over!(run_near_all, &mut graph, &mut targets),
-        Inputs::NearAllBy {
-            mut graph,
-            mut saved,
-            mut targets,
-        } => over!(run_near_all_saved, &mut graph, &mut saved, &mut targets),
-        Inputs::Hierarchy { mut graph } => over!(run_save, &mut graph),
-        Inputs::Requests { mut graph } => over!(run_ask, &mut graph, requests),
-        Inputs::RequestsBy {
-            mut graph,
-            mut saved,
-        } => over!(run_ask_saved, &mut graph, &mut saved, requests),
+    let Inputs {
+        mut graph,
+        mut source,
+        asked,
+    } = inputs;
+    let graph = &mut graph;
+    let source = &mut source;
+    match asked {
+        Asked::Queries(mut queries) => run_dist(crew, graph, source, &mut queries, output, options),
+        Asked::Table {
+            sources: mut from,
+            targets: mut to,
+        } => run_table(crew, graph, source, &mut from, &mut to, output, options),
+        Asked::Near {
+            sources: mut from,
+            targets: mut to,
+        } => run_near(crew, graph, source, &mut from, &mut to, output, options),
+        Asked::Hierarchy => run_save(crew, graph, output, options),
+        Asked::Requests => run_ask(crew, graph, source, requests, output, options),
     }
 }

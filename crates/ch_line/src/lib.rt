@@ -10,5 +10,5 @@ mod inputs;
 mod run;
 
 pub use files::{Files, MemoryFile, MemoryFiles, OpenFault};
-pub use inputs::{Inputs, run_inputs};
+pub use inputs::{Asked, Inputs, run_inputs};
 pub use run::{open_inputs, options_of, run_line};

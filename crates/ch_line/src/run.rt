@@ -1,17 +1,20 @@
 //! The run that a line asks for, over files that are opened by their names.
 
-ghost use Rattle.std.specs.Prelude.{◌≡◌, ◌<◌, ◌↔◌, ◌⊎◌, Err, IfErr, IfOk, IsErrAnd, option_map};
-ghost use Rattle.ch_text.specs.Device.{CanCountOneMore, CountsAtMostOne, CountsAtMostOneOf};
-ghost use Rattle.ch_run.specs.Run.{IsWrite};
+ghost use Rattle.std.specs.Prelude.{◌≡◌, ◌⊎◌, Err, IfErr, IfOk, IsErrAnd, option_map};
+ghost use Rattle.ch_text.specs.Device.{CanCountOneMore, CountsAtMostOne};
+ghost use Rattle.ch_run.specs.Run.{WritesOnce};
+ghost use Rattle.ch_run.specs.Source.{saved_in, source_failures};
 ghost use Rattle.ch_run.specs.declared.fault.Which.{Which as WhichInput};
 ghost use Rattle.ch_words.specs.Line.{IsAllowed};
 ghost use Rattle.ch_line.specs.Files.{bytes_of};
-ghost use Rattle.ch_line.specs.Inputs.{AreFresh, EndsFor, Writes, task_of};
-ghost use Rattle.ch_line.specs.Line.{EndsAtMissing, HasReadFailed, IsNotBegun, IsNotOpened, IsUnopened, MayAllBeThere, MayBeThere, file_reading, hierarchy_files, line_files, line_task, lists_files, lists_task, near_all_task, near_task, options_for, queries_files, queries_task, requests_task, saved_name, targets_files};
+ghost use Rattle.ch_line.specs.Inputs.{AreFresh, AreFreshAsked, EndsFor, Writes, question_of, task_of, whole_of};
+ghost use Rattle.ch_line.specs.Line.{EndsAtMissing, HasReadFailed, IsNotBegun, IsNotOpened, IsUnopened, MayAllBeThere, MayBeThere, asked_files, file_reading, graph_name, line_files, line_task, options_for, saved_files, saved_for, saved_name, tool_question};
 
 use crate::files::{Files, OpenFault};
-use crate::inputs::{Inputs, run_inputs};
-use ch_run::{Crew, Direction, Gate, Input, Options, OrderBy, Output, RunFault, Which};
+use crate::inputs::{Asked, Inputs, run_inputs};
+use ch_run::{
+    Crew, Direction, Gate, Input, Options, OrderBy, Output, RunFault, Source, Sources, Which,
+};
 use ch_words::{Choices, Line, Tool};
 use std::alloc::Global;
 use std::thread::Threads;
@@ -48,8 +51,7 @@ pub fn run_line<R: Threads + Sync, F: Files, J: Input, O: Output, G: Gate>(
 
     // A read or a write that was refused isn't tried again, and a refused write is told.
     ensures requests_once { CountsAtMostOne (J.failed requests.old) (J.failed requests.new) }
-    ensures output_device { IsErrAnd result IsWrite ↔ ((O.failed output.old < O.failed output.new) ⊎ (O.idle output.old < O.idle output.new)) }
-    ensures output_once { CountsAtMostOneOf (O.failed output.old) (O.failed output.new) (O.idle output.old) (O.idle output.new) }
+    ensures output { WritesOnce result O.failed O.idle output.old output.new }
 {
     let inputs = open_inputs(files, line)?;
     let crew = Crew {
@@ -95,199 +97,94 @@ pub fn open_inputs<F: Files>(files: &F, line: &Line) -> Result<Inputs<F::Input>,
     ensures missing { EndsAtMissing (F.known files.now) (line_files line.now) result }
     ensures unopened { IfErr result (IsUnopened (F.known files.now) (line_files line.now)) }
 {
-    let saved = saved_of(line);
-    match &line.tool {
-        Tool::Dist { graph, queries } => {
-            open_queries(files, graph.as_str(), saved, queries.as_str())
-        }
-        Tool::Table {
-            graph,
-            sources,
-            targets,
-        } => open_lists(
-            files,
-            graph.as_str(),
-            saved,
-            sources.as_str(),
-            targets.as_str(),
-        ),
-        Tool::Near {
-            graph,
-            sources,
-            targets,
-        } => open_near(
-            files,
-            graph.as_str(),
-            saved,
-            sources.as_str(),
-            targets.as_str(),
-        ),
-        Tool::NearAll { graph, targets } => {
-            open_near_all(files, graph.as_str(), saved, targets.as_str())
-        }
-        Tool::Save { graph } => Ok(Inputs::Hierarchy {
-            graph: open_input(files, graph.as_str(), Which::Graph)?,
-        }),
-        Tool::Ask { graph } => open_hierarchy(files, graph.as_str(), saved),
+    let graph = open_input(files, graph_of(&line.tool), Which::Graph)?;
+    let source = open_source(files, saved_of(line))?;
+    let asked = open_asked(files, &line.tool)?;
+    Ok(Inputs {
+        graph,
+        source,
+        asked,
+    })
+}
+
+/// The name of the graph of a tool.
+fn graph_of(tool: &Tool) -> &str
+    ensures { result.now ≡ graph_name tool.now }
+{
+    match tool {
+        Tool::Dist { graph, .. }
+        | Tool::Table { graph, .. }
+        | Tool::Near { graph, .. }
+        | Tool::NearAll { graph, .. }
+        | Tool::Save { graph }
+        | Tool::Ask { graph } => graph.as_str(),
     }
-}
-
-/// Opens a graph, a saved hierarchy, if one is named, and queries.
-fn open_queries<F: Files>(
-    files: &F,
-    graph: &str,
-    saved: Option<&str>,
-    queries: &str,
-) -> Result<Inputs<F::Input>, RunFault>
-    ensures fresh { IfOk result (AreFresh F.Input.failed) }
-    ensures asked { IfOk result (λ inputs. task_of F.Input.left inputs
-        ≡ queries_task (file_reading (F.known files.now) graph.now) (option_map (file_reading (F.known files.now)) (option_map (λ name. name.now) saved.entry)) (file_reading (F.known files.now) queries.now)) }
-    ensures there { IfOk result (λ _. MayAllBeThere (F.known files.now) (queries_files graph.now (option_map (λ name. name.now) saved.entry) queries.now)) }
-    ensures missing { EndsAtMissing (F.known files.now) (queries_files graph.now (option_map (λ name. name.now) saved.entry) queries.now) result }
-    ensures unopened { IfErr result (IsUnopened (F.known files.now) (queries_files graph.now (option_map (λ name. name.now) saved.entry) queries.now)) }
-{
-    let graph = open_input(files, graph, Which::Graph)?;
-    let Some(saved) = saved else {
-        let queries = open_input(files, queries, Which::Queries)?;
-        return Ok(Inputs::Queries { graph, queries });
-    };
-    let saved = open_input(files, saved, Which::Saved)?;
-    let queries = open_input(files, queries, Which::Queries)?;
-    Ok(Inputs::QueriesBy {
-        graph,
-        saved,
-        queries,
-    })
-}
-
-/// Opens a graph, a saved hierarchy, if one is named, sources and targets, for a table.
-fn open_lists<F: Files>(
-    files: &F,
-    graph: &str,
-    saved: Option<&str>,
-    sources: &str,
-    targets: &str,
-) -> Result<Inputs<F::Input>, RunFault>
-    ensures fresh { IfOk result (AreFresh F.Input.failed) }
-    ensures asked { IfOk result (λ inputs. task_of F.Input.left inputs
-        ≡ lists_task (file_reading (F.known files.now) graph.now) (option_map (file_reading (F.known files.now)) (option_map (λ name. name.now) saved.entry)) (file_reading (F.known files.now) sources.now) (file_reading (F.known files.now) targets.now)) }
-    ensures there { IfOk result (λ _. MayAllBeThere (F.known files.now) (lists_files graph.now (option_map (λ name. name.now) saved.entry) sources.now targets.now)) }
-    ensures missing { EndsAtMissing (F.known files.now) (lists_files graph.now (option_map (λ name. name.now) saved.entry) sources.now targets.now) result }
-    ensures unopened { IfErr result (IsUnopened (F.known files.now) (lists_files graph.now (option_map (λ name. name.now) saved.entry) sources.now targets.now)) }
-{
-    let graph = open_input(files, graph, Which::Graph)?;
-    let Some(saved) = saved else {
-        let sources = open_input(files, sources, Which::Sources)?;
-        let targets = open_input(files, targets, Which::Targets)?;
-        return Ok(Inputs::Lists {
-            graph,
-            sources,
-            targets,
-        });
-    };
-    let saved = open_input(files, saved, Which::Saved)?;
-    let sources = open_input(files, sources, Which::Sources)?;
-    let targets = open_input(files, targets, Which::Targets)?;
-    Ok(Inputs::ListsBy {
-        graph,
-        saved,
-        sources,
-        targets,
-    })
-}
-
-/// Opens a graph, a saved hierarchy, if one is named, sources and targets, for near rows.
-fn open_near<F: Files>(
-    files: &F,
-    graph: &str,
-    saved: Option<&str>,
-    sources: &str,
-    targets: &str,
-) -> Result<Inputs<F::Input>, RunFault>
-    ensures fresh { IfOk result (AreFresh F.Input.failed) }
-    ensures asked { IfOk result (λ inputs. task_of F.Input.left inputs
-        ≡ near_task (file_reading (F.known files.now) graph.now) (option_map (file_reading (F.known files.now)) (option_map (λ name. name.now) saved.entry)) (file_reading (F.known files.now) sources.now) (file_reading (F.known files.now) targets.now)) }
-    ensures there { IfOk result (λ _. MayAllBeThere (F.known files.now) (lists_files graph.now (option_map (λ name. name.now) saved.entry) sources.now targets.now)) }
-    ensures missing { EndsAtMissing (F.known files.now) (lists_files graph.now (option_map (λ name. name.now) saved.entry) sources.now targets.now) result }
-    ensures unopened { IfErr result (IsUnopened (F.known files.now) (lists_files graph.now (option_map (λ name. name.now) saved.entry) sources.now targets.now)) }
-{
-    let graph = open_input(files, graph, Which::Graph)?;
-    let Some(saved) = saved else {
-        let sources = open_input(files, sources, Which::Sources)?;
-        let targets = open_input(files, targets, Which::Targets)?;
-        return Ok(Inputs::Near {
-            graph,
-            sources,
-            targets,
-        });
-    };
-    let saved = open_input(files, saved, Which::Saved)?;
-    let sources = open_input(files, sources, Which::Sources)?;
-    let targets = open_input(files, targets, Which::Targets)?;
-    Ok(Inputs::NearBy {
-        graph,
-        saved,
-        sources,
-        targets,
-    })
-}
-
-/// Opens a graph, a saved hierarchy, if one is named, and targets, for near rows of all nodes.
-fn open_near_all<F: Files>(
-    files: &F,
-    graph: &str,
-    saved: Option<&str>,
-    targets: &str,
-) -> Result<Inputs<F::Input>, RunFault>
-    ensures fresh { IfOk result (AreFresh F.Input.failed) }
-    ensures asked { IfOk result (λ inputs. task_of F.Input.left inputs
-        ≡ near_all_task (file_reading (F.known files.now) graph.now) (option_map (file_reading (F.known files.now)) (option_map (λ name. name.now) saved.entry)) (file_reading (F.known files.now) targets.now)) }
-    ensures there { IfOk result (λ _. MayAllBeThere (F.known files.now) (targets_files graph.now (option_map (λ name. name.now) saved.entry) targets.now)) }
-    ensures missing { EndsAtMissing (F.known files.now) (targets_files graph.now (option_map (λ name. name.now) saved.entry) targets.now) result }
-    ensures unopened { IfErr result (IsUnopened (F.known files.now) (targets_files graph.now (option_map (λ name. name.now) saved.entry) targets.now)) }
-{
-    let graph = open_input(files, graph, Which::Graph)?;
-    let Some(saved) = saved else {
-        let targets = open_input(files, targets, Which::Targets)?;
-        return Ok(Inputs::NearAll { graph, targets });
-    };
-    let saved = open_input(files, saved, Which::Saved)?;
-    let targets = open_input(files, targets, Which::Targets)?;
-    Ok(Inputs::NearAllBy {
-        graph,
-        saved,
-        targets,
-    })
-}
-
-/// Opens a graph and a saved hierarchy, if one is named, by which requests are answered.
-fn open_hierarchy<F: Files>(
-    files: &F,
-    graph: &str,
-    saved: Option<&str>,
-) -> Result<Inputs<F::Input>, RunFault>
-    ensures fresh { IfOk result (AreFresh F.Input.failed) }
-    ensures asked { IfOk result (λ inputs. task_of F.Input.left inputs
-        ≡ requests_task (file_reading (F.known files.now) graph.now) (option_map (file_reading (F.known files.now)) (option_map (λ name. name.now) saved.entry))) }
-    ensures there { IfOk result (λ _. MayAllBeThere (F.known files.now) (hierarchy_files graph.now (option_map (λ name. name.now) saved.entry))) }
-    ensures missing { EndsAtMissing (F.known files.now) (hierarchy_files graph.now (option_map (λ name. name.now) saved.entry)) result }
-    ensures unopened { IfErr result (IsUnopened (F.known files.now) (hierarchy_files graph.now (option_map (λ name. name.now) saved.entry))) }
-{
-    let graph = open_input(files, graph, Which::Graph)?;
-    let Some(saved) = saved else {
-        return Ok(Inputs::Requests { graph });
-    };
-    let saved = open_input(files, saved, Which::Saved)?;
-    Ok(Inputs::RequestsBy { graph, saved })
 }
 
 /// The name of the saved hierarchy that the run of a line reads.
 fn saved_of(line: &Line) -> Option<&str>
-    ensures { option_map (λ name. name.now) result ≡ saved_name line.now }
+    ensures { option_map (λ name. name.now) result ≡ saved_for line.now.tool (saved_name line.now) }
 {
-    match &line.saved {
-        Some(name) => Some(name.as_str()),
-        None => None,
+    match (&line.tool, &line.saved) {
+        (Tool::Save { .. }, _) | (_, None) => None,
+        (_, Some(name)) => Some(name.as_str()),
+    }
+}
+
+/// Opens a saved hierarchy, if one is named.
+fn open_source<F: Files>(files: &F, saved: Option<&str>) -> Result<Source<F::Input>, RunFault>
+    ensures fresh { IfOk result (λ source. source_failures F.Input.failed source ≡ 0) }
+    ensures bytes { IfOk result (λ source. option_map (λ input. whole_of (F.Input.left input)) (saved_in source)
+        ≡ option_map (file_reading (F.known files.now)) (option_map (λ name. name.now) saved.entry)) }
+    ensures there { IfOk result (λ _. MayAllBeThere (F.known files.now) (saved_files (option_map (λ name. name.now) saved.entry))) }
+    ensures missing { EndsAtMissing (F.known files.now) (saved_files (option_map (λ name. name.now) saved.entry)) result }
+    ensures unopened { IfErr result (IsUnopened (F.known files.now) (saved_files (option_map (λ name. name.now) saved.entry))) }
+{
+    match saved {
+        Some(name) => Ok(Source::Saved(open_input(files, name, Which::Saved)?)),
+        None => Ok(Source::Built),
+    }
+}
+
+/// Opens the files that ask something, in the order of the arguments.
+fn open_asked<F: Files>(files: &F, tool: &Tool) -> Result<Asked<F::Input>, RunFault>
+    ensures fresh { IfOk result (AreFreshAsked F.Input.failed) }
+    ensures asked { IfOk result (λ asked. question_of F.Input.left asked ≡ tool_question (file_reading (F.known files.now)) tool.now) }
+    ensures there { IfOk result (λ _. MayAllBeThere (F.known files.now) (asked_files tool.now)) }
+    ensures missing { EndsAtMissing (F.known files.now) (asked_files tool.now) result }
+    ensures unopened { IfErr result (IsUnopened (F.known files.now) (asked_files tool.now)) }
+{
+    match tool {
+        Tool::Dist { queries, .. } => Ok(Asked::Queries(open_input(
+            files,
+            queries.as_str(),
+            Which::Queries,
+        )?)),
+        Tool::Table {
+            sources,
+            targets,
+            ..
+        } => {
+            let sources = open_input(files, sources.as_str(), Which::Sources)?;
+            let targets = open_input(files, targets.as_str(), Which::Targets)?;
+            Ok(Asked::Table { sources, targets })
+        }
+        Tool::Near {
+            sources,
+            targets,
+            ..
+        } => {
+            let sources = Sources::Listed(open_input(files, sources.as_str(), Which::Sources)?);
+            let targets = open_input(files, targets.as_str(), Which::Targets)?;
+            Ok(Asked::Near { sources, targets })
+        }
+        Tool::NearAll { targets, .. } => {
+            let sources = Sources::All;
+            let targets = open_input(files, targets.as_str(), Which::Targets)?;
+            Ok(Asked::Near { sources, targets })
+        }
+        Tool::Save { .. } => Ok(Asked::Hierarchy),
+        Tool::Ask { .. } => Ok(Asked::Requests),
     }
 }
 

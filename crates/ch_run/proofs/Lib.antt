@@ -4,6 +4,7 @@ pub mod OneText
 pub mod Tables
 pub mod OneSavedText
 pub mod Writes
+pub mod Owed
 pub mod ReadBack
 pub mod Answered
 pub mod Gathered
@@ -11,3 +12,4 @@ pub mod Served
 pub mod Counted
 pub mod Nears
 pub mod OneNearText
+pub mod Loading

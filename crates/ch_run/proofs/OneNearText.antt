@@ -1,5 +1,5 @@
 -- The definitions name one text of near rows.
-use Rattle.std.proofs.Common.{◌≡◌, ℕ, List, sym, ap, ◌∙◌, subst}
+use Rattle.std.proofs.Common.{◌≡◌, ℕ, List, None, refl, sym, ap, ◌∙◌, subst}
 use Rattle.std.specs.List.{flat_map, zip}
 use Rattle.ch_graph.specs.Graph.{Network}
 use Rattle.ch_near.specs.Near.{IsNearestRow, IsWalkTo}
@@ -9,6 +9,7 @@ use Rattle.ch_run.specs.Text.{IsNearTextFor}
 use Rattle.ch_text.specs.NearText.{near_row_text, nodes_in_order}
 use Rattle.ch_run.specs.NearTextLaws.{AllNearRowsHaveOneText, NearRowsHaveOneText, SavedAllNearRowsAreThoseOfTheGraph, SavedNearRowsAreThoseOfTheGraph}
 use Rattle.ch_run.specs.Run.{ReadsNodes}
+use Rattle.ch_run.proofs.Loading.{built, checked}
 use Rattle.ch_run.proofs.OneText.{one_list, same_graph, same_nodes}
 
 -- near rows have one text
@@ -20,25 +21,35 @@ one_rows_text options g sources targets text other h k =
 
 -- inputs that tell their bytes have one text of near rows
 pub one_near_text : NearRowsHaveOneText
-one_near_text options graph sources targets graph_bytes source_bytes target_bytes text other told_graph told_sources told_targets h k =
-    let same : h.0 ≡ k.0 = same_graph graph graph_bytes h.0 k.0 told_graph h.3 k.3 in
-    let from : h.1 ≡ k.1 = same_nodes sources source_bytes h.0.nodes h.1 k.1 told_sources h.4.0 (subst (λ (g : Network). ReadsNodes sources g.nodes k.1) (sym same) k.4.0) in
-    let to : h.2 ≡ k.2 = same_nodes targets target_bytes h.0.nodes h.2 k.2 told_targets h.4.1 (subst (λ (g : Network). ReadsNodes targets g.nodes k.2) (sym same) k.4.1) in
-    let first : IsNearTextFor options h.0 k.1 k.2 other = subst (λ (g : Network). IsNearTextFor options g k.1 k.2 other) (sym same) k.5 in
-    let second : IsNearTextFor options h.0 h.1 k.2 other = subst (λ xs. IsNearTextFor options h.0 xs k.2 other) (sym from) first in
-    one_rows_text options h.0 h.1 h.2 text other h.5 (subst (λ xs. IsNearTextFor options h.0 h.1 xs other) (sym to) second)
+one_near_text options graph sources targets graph_bytes source_bytes target_bytes text other told_graph told_sources told_targets t u =
+    let h = built graph _ t in
+    let k = built graph _ u in
+    let same : h.0 ≡ k.0 = same_graph graph graph_bytes h.0 k.0 told_graph h.2 k.2 in
+    let from : h.3.0 ≡ k.3.0 = same_nodes sources source_bytes h.0.nodes h.3.0 k.3.0 told_sources h.3.2.0 (subst (λ (g : Network). ReadsNodes sources g.nodes k.3.0) (sym same) k.3.2.0) in
+    let to : h.3.1 ≡ k.3.1 = same_nodes targets target_bytes h.0.nodes h.3.1 k.3.1 told_targets h.3.2.1 (subst (λ (g : Network). ReadsNodes targets g.nodes k.3.1) (sym same) k.3.2.1) in
+    let first : IsNearTextFor options h.0 k.3.0 k.3.1 other = subst (λ (g : Network). IsNearTextFor options g k.3.0 k.3.1 other) (sym same) k.3.3 in
+    let second : IsNearTextFor options h.0 h.3.0 k.3.1 other = subst (λ xs. IsNearTextFor options h.0 xs k.3.1 other) (sym from) first in
+    one_rows_text options h.0 h.3.0 h.3.1 text other h.3.3 (subst (λ xs. IsNearTextFor options h.0 h.3.0 xs other) (sym to) second)
 
 -- and one of the near rows of all nodes
 pub one_near_all_text : AllNearRowsHaveOneText
-one_near_all_text options graph targets graph_bytes target_bytes text other told_graph told_targets h k =
+one_near_all_text options graph targets graph_bytes target_bytes text other told_graph told_targets t u =
+    let h = built graph _ t in
+    let k = built graph _ u in
     let same : h.0 ≡ k.0 = same_graph graph graph_bytes h.0 k.0 told_graph h.2 k.2 in
-    let to : h.1 ≡ k.1 = same_nodes targets target_bytes h.0.nodes h.1 k.1 told_targets h.3 (subst (λ (g : Network). ReadsNodes targets g.nodes k.1) (sym same) k.3) in
-    let first : IsNearTextFor options h.0 (nodes_in_order h.0.nodes) k.1 other = subst (λ (g : Network). IsNearTextFor options g (nodes_in_order g.nodes) k.1 other) (sym same) k.4 in
-    one_rows_text options h.0 (nodes_in_order h.0.nodes) h.1 text other h.4 (subst (λ xs. IsNearTextFor options h.0 (nodes_in_order h.0.nodes) xs other) (sym to) first)
+    let from : h.3.0 ≡ k.3.0 = h.3.2.0 ∙ ap (λ (g : Network). nodes_in_order g.nodes) same ∙ sym k.3.2.0 in
+    let to : h.3.1 ≡ k.3.1 = same_nodes targets target_bytes h.0.nodes h.3.1 k.3.1 told_targets h.3.2.1 (subst (λ (g : Network). ReadsNodes targets g.nodes k.3.1) (sym same) k.3.2.1) in
+    let first : IsNearTextFor options h.0 k.3.0 k.3.1 other = subst (λ (g : Network). IsNearTextFor options g k.3.0 k.3.1 other) (sym same) k.3.3 in
+    let second : IsNearTextFor options h.0 h.3.0 k.3.1 other = subst (λ xs. IsNearTextFor options h.0 xs k.3.1 other) (sym from) first in
+    one_rows_text options h.0 h.3.0 h.3.1 text other h.3.3 (subst (λ xs. IsNearTextFor options h.0 h.3.0 xs other) (sym to) second)
 
 -- near rows by a saved hierarchy are those of the graph
 pub near_of_graph : SavedNearRowsAreThoseOfTheGraph
-near_of_graph options graph saved sources targets text h = (h.0, h.4.0, h.4.1, h.3.reads_graph, h.4.2, h.4.3)
+near_of_graph options graph saved sources targets text t =
+    let h = checked graph saved _ t in
+    (h.0, None, (h.3.limits, h.3.reads_graph, refl), h.4)
 
 pub near_all_of_graph : SavedAllNearRowsAreThoseOfTheGraph
-near_all_of_graph options graph saved targets text h = (h.0, h.4.0, h.3.reads_graph, h.4.1, h.4.2)
+near_all_of_graph options graph saved targets text t =
+    let h = checked graph saved _ t in
+    (h.0, None, (h.3.limits, h.3.reads_graph, refl), h.4)

@@ -13,12 +13,13 @@ use Rattle.ch_contract.proofs.theory.OneOrder.{one_hierarchy}
 use Rattle.ch_hierarchy.proofs.theory.OneSaved.{one_saved}
 use Rattle.ch_hierarchy.proofs.theory.LevelOrder.{one_level_order}
 use Rattle.ch_run.specs.Run.{Reading, ReadsNodes, ReadsQueries}
-use Rattle.ch_run.specs.SavedRun.{AreChecked, ReadsSaved}
+use Rattle.ch_run.specs.Source.{AreChecked, ReadsSaved}
 use Rattle.ch_run.specs.SavedTextLaws.{SavedAnswersHaveOneText, SavedTablesHaveOneText, HierarchiesHaveOneText}
 use Rattle.ch_hierarchy.specs.Written.{written}
 use Rattle.ch_text.specs.SaveText.{IsHierarchyText, saved_text}
 use Rattle.ch_text.specs.TableText.{IsTableText}
 use Rattle.ch_run.specs.Text.{IsTextBy}
+use Rattle.ch_run.proofs.Loading.{checked}
 use Rattle.ch_run.proofs.OneText.{given_bytes, one_table_text, one_text_by, same_graph, same_nodes, same_queries}
 
 -- a saved hierarchy is named by its bytes
@@ -39,7 +40,9 @@ module _ (graph saved : Reading) (graph_bytes saved_bytes : List ℕ) (told_grap
 
 -- inputs that tell their bytes are answered by one text
 pub one_saved_text : SavedAnswersHaveOneText
-one_saved_text options graph saved queries graph_bytes saved_bytes query_bytes text other told_graph told_saved told_queries h k =
+one_saved_text options graph saved queries graph_bytes saved_bytes query_bytes text other told_graph told_saved told_queries t u =
+    let h = checked graph saved _ t in
+    let k = checked graph saved _ u in
     let same : h.0 ≡ k.0 = one_graph graph saved graph_bytes saved_bytes told_graph told_saved h.0 k.0 h.1 k.1 h.2 k.2 h.3 k.3 in
     let hierarchy : h.2 ≡ k.2 = one_checked graph saved graph_bytes saved_bytes told_graph told_saved h.0 k.0 h.1 k.1 h.2 k.2 h.3 k.3 in
     let pairs : h.4.0 ≡ k.4.0 = same_queries queries query_bytes h.0.nodes h.4.0 k.4.0 told_queries h.4.1 (subst (λ (g : Network). ReadsQueries queries g.nodes k.4.0) (sym same) k.4.1) in
@@ -53,7 +56,9 @@ one_saved_text options graph saved queries graph_bytes saved_bytes query_bytes t
 
 -- inputs that tell their bytes have one table
 pub one_saved_table : SavedTablesHaveOneText
-one_saved_table options graph saved sources targets graph_bytes saved_bytes source_bytes target_bytes text other told_graph told_saved told_sources told_targets h k =
+one_saved_table options graph saved sources targets graph_bytes saved_bytes source_bytes target_bytes text other told_graph told_saved told_sources told_targets t u =
+    let h = checked graph saved _ t in
+    let k = checked graph saved _ u in
     let same : h.0 ≡ k.0 = one_graph graph saved graph_bytes saved_bytes told_graph told_saved h.0 k.0 h.1 k.1 h.2 k.2 h.3 k.3 in
     let from : h.4.0 ≡ k.4.0 = same_nodes sources source_bytes h.0.nodes h.4.0 k.4.0 told_sources h.4.2.0 (subst (λ (g : Network). ReadsNodes sources g.nodes k.4.0) (sym same) k.4.2.0) in
     let to : h.4.1 ≡ k.4.1 = same_nodes targets target_bytes h.0.nodes h.4.1 k.4.1 told_targets h.4.2.1 (subst (λ (g : Network). ReadsNodes targets g.nodes k.4.1) (sym same) k.4.2.1) in

@@ -18,12 +18,13 @@ use Rattle.ch_query.specs.Answers.{HasArcs}
 use Rattle.ch_query.proofs.routing.RouteWalks.{route_one}
 use Rattle.ch_text.specs.Distances.{AnswersShortly, HasText, distance_text}
 use Rattle.ch_text.specs.Routes.{AnswersWithRoute, answer_text}
-use Rattle.ch_run.specs.Text.{IsText, IsTextBy}
+use Rattle.ch_run.specs.Text.{IsTextBy}
 use Rattle.ch_query.specs.Limits.{IsCut}
 use Rattle.ch_text.specs.TableText.{IsCell, IsTableRow, IsTableText, row_text}
 use Rattle.ch_text.specs.Device.{HasGiven}
 use Rattle.ch_run.specs.Run.{Reading, ReadsGraph, ReadsNodes, ReadsQueries}
 use Rattle.ch_run.specs.TextLaws.{AnswersHaveOneText, TablesHaveOneText}
+use Rattle.ch_run.proofs.Loading.{built}
 use Rattle.ch_read.specs.Names.{NamesGraph, NamesNodes, NamesQueries}
 use Rattle.ch_read.proofs.OneAnswer.{graph_answer, nodes_answer, queries_answer}
 
@@ -134,19 +135,25 @@ one_table_text g limit sources targets text other h k =
 
 -- inputs that tell their bytes are answered by one text
 pub one_text : AnswersHaveOneText
-one_text options graph queries graph_bytes query_bytes text other hops told_graph told_queries h k =
-    let same : h.0 ≡ k.0 = same_graph graph graph_bytes h.0 k.0 told_graph h.3 k.3 in
-    let pairs : h.1 ≡ k.1 = same_queries queries query_bytes h.0.nodes h.1 k.1 told_queries h.4 (subst (λ (g : Network). ReadsQueries queries g.nodes k.1) (sym same) k.4) in
-    let here : IsText options h.0 h.1 other = subst (λ p. IsText options h.0 p other) (sym pairs) (subst (λ (g : Network). IsText options g k.1 other) (sym same) k.5) in
-    let kept : (H : LevelsAndLegs) → IsHierarchyBy options.order h.0 options.hops H → IsKept h.0 H = λ H is. hierarchies_kept options.order h.0 options.hops H h.2 hops is in
-    one_text_by (not options.plain && options.routes) h.0 (IsHierarchyBy options.order h.0 options.hops) (one_hierarchy options.order h.0 options.hops) kept h.1 text other h.5 here
+one_text options graph queries graph_bytes query_bytes text other hops told_graph told_queries t u =
+    let h = built graph _ t in
+    let k = built graph _ u in
+    let same : h.0 ≡ k.0 = same_graph graph graph_bytes h.0 k.0 told_graph h.2 k.2 in
+    let pairs : h.3.0 ≡ k.3.0 = same_queries queries query_bytes h.0.nodes h.3.0 k.3.0 told_queries h.3.1 (subst (λ (g : Network). ReadsQueries queries g.nodes k.3.0) (sym same) k.3.1) in
+    let routes = not options.plain && options.routes in
+    let on_graph : IsTextBy routes h.0 (IsHierarchyBy options.order h.0 options.hops) k.3.0 other = subst (λ (g : Network). IsTextBy routes g (IsHierarchyBy options.order g options.hops) k.3.0 other) (sym same) k.3.2 in
+    let here : IsTextBy routes h.0 (IsHierarchyBy options.order h.0 options.hops) h.3.0 other = subst (λ p. IsTextBy routes h.0 (IsHierarchyBy options.order h.0 options.hops) p other) (sym pairs) on_graph in
+    let kept : (H : LevelsAndLegs) → IsHierarchyBy options.order h.0 options.hops H → IsKept h.0 H = λ H is. hierarchies_kept options.order h.0 options.hops H h.1 hops is in
+    one_text_by routes h.0 (IsHierarchyBy options.order h.0 options.hops) (one_hierarchy options.order h.0 options.hops) kept h.3.0 text other h.3.2 here
 
 -- inputs that tell their bytes have one table
 pub one_table : TablesHaveOneText
-one_table options graph sources targets graph_bytes source_bytes target_bytes text other told_graph told_sources told_targets h k =
-    let same : h.0 ≡ k.0 = same_graph graph graph_bytes h.0 k.0 told_graph h.3 k.3 in
-    let from : h.1 ≡ k.1 = same_nodes sources source_bytes h.0.nodes h.1 k.1 told_sources h.4 (subst (λ (g : Network). ReadsNodes sources g.nodes k.1) (sym same) k.4) in
-    let to : h.2 ≡ k.2 = same_nodes targets target_bytes h.0.nodes h.2 k.2 told_targets h.5 (subst (λ (g : Network). ReadsNodes targets g.nodes k.2) (sym same) k.5) in
-    let first : IsTableText h.0 options.within k.1 k.2 other = subst (λ (g : Network). IsTableText g options.within k.1 k.2 other) (sym same) k.7 in
-    let second : IsTableText h.0 options.within h.1 k.2 other = subst (λ xs. IsTableText h.0 options.within xs k.2 other) (sym from) first in
-    one_table_text h.0 options.within h.1 h.2 text other h.7 (subst (λ xs. IsTableText h.0 options.within h.1 xs other) (sym to) second)
+one_table options graph sources targets graph_bytes source_bytes target_bytes text other told_graph told_sources told_targets t u =
+    let h = built graph _ t in
+    let k = built graph _ u in
+    let same : h.0 ≡ k.0 = same_graph graph graph_bytes h.0 k.0 told_graph h.2 k.2 in
+    let from : h.3.0 ≡ k.3.0 = same_nodes sources source_bytes h.0.nodes h.3.0 k.3.0 told_sources h.3.2.0 (subst (λ (g : Network). ReadsNodes sources g.nodes k.3.0) (sym same) k.3.2.0) in
+    let to : h.3.1 ≡ k.3.1 = same_nodes targets target_bytes h.0.nodes h.3.1 k.3.1 told_targets h.3.2.1 (subst (λ (g : Network). ReadsNodes targets g.nodes k.3.1) (sym same) k.3.2.1) in
+    let first : IsTableText h.0 options.within k.3.0 k.3.1 other = subst (λ (g : Network). IsTableText g options.within k.3.0 k.3.1 other) (sym same) k.3.3 in
+    let second : IsTableText h.0 options.within h.3.0 k.3.1 other = subst (λ xs. IsTableText h.0 options.within xs k.3.1 other) (sym from) first in
+    one_table_text h.0 options.within h.3.0 h.3.1 text other h.3.3 (subst (λ xs. IsTableText h.0 options.within h.3.0 xs other) (sym to) second)

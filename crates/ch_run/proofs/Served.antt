@@ -16,17 +16,19 @@ use Rattle.ch_read.proofs.RequestsHeldBack.{not_held_back}
 use Rattle.ch_run.specs.declared.fault.RunFault.{RunFault}
 use Rattle.ch_run.specs.declared.fault.Which.{Which}
 use Rattle.ch_text.specs.Device.{GivesBytes, HasGiven, HasRead}
-use Rattle.ch_run.specs.Run.{Reading, IsWrite}
-use Rattle.ch_run.specs.Ask.{AreAnswered, IsOfServing, IsRequestText, IsTextOfRequest, Serves, TellsThen, TextOf, TookAnswers, no_places, order_built, places_after, places_then, whole_in}
+use Rattle.ch_run.specs.Run.{GoesPast, Reading, IsWrite, StopsAt}
+use Rattle.ch_run.specs.Ask.{AreAnswered, IsOfServing, IsRequestText, IsTextOfRequest, Serves, TellsThen, TextOf, TookAnswers, no_places, places_after, places_then, whole_in}
 use Rattle.ch_run.specs.declared.run.batch.Then.TheVariants.{More, Nothing, Stop}
 use Rattle.ch_run.specs.Serving.{Answers, GivesUntil, IsOfAnswering, IsToldAfter, end_of, request_refusal}
 use Rattle.ch_graph.specs.Graph.{Network}
 use Rattle.ch_hierarchy.specs.Hierarchy.{LevelsAndLegs}
-use Rattle.ch_contract.specs.Built.{IsHierarchyBy}
 use Rattle.ch_contract.specs.declared.measure.OrderBy.{OrderBy}
 use Rattle.ch_run.specs.declared.options.Options.{Options}
+use Rattle.ch_run.specs.Source.{IsServing, order_built}
 use Rattle.ch_run.specs.Text.{writes_routes}
 use Rattle.ch_run.proofs.Texts.{text_in}
+use Rattle.ch_run.proofs.Inputs.{of_one}
+use Rattle.ch_run.proofs.Loading.{of_no_write}
 use Rattle.ch_run.proofs.Answered.{answered_none, answers_more, taken_none}
 
 -- the places after requests, and more requests
@@ -412,11 +414,20 @@ module _ (P Q : TextOf) (so : (places : PlaceList) (request : Request) (text : L
 pub built_wanted : (options : Options) → options.routes ≡ true → order_built options ≡ options.order
 built_wanted options e = rw e refl
 
--- the answer to a request by the hierarchy that was built is one by such a hierarchy
-pub asked_in : (options : Options) (order : OrderBy) (g : Network) (H : LevelsAndLegs) → IsHierarchyBy order g options.hops H → (places : PlaceList) (request : Request) (text : List ℕ) →
-    IsTextOfRequest options g H places request text → IsRequestText options g (IsHierarchyBy order g options.hops) places request text
-asked_in options order g H is places (Query s t) text h = text_in (writes_routes options) order order g options.hops H (λ e. refl) is ((s, t) ∷ []) text h
-asked_in options order g H is places (Route s t) text h = text_in true order order g options.hops H (λ e. refl) is ((s, t) ∷ []) text h
-asked_in options order g H is places (TableOf lists) text h = h
-asked_in options order g H is places (PlacesOf given) text h = h
-asked_in options order g H is places (Near s within) text h = h
+-- the answer to a request by the hierarchy that serves is one by such a hierarchy
+pub asked_in : (options : Options) (g : Network) (h : Option LevelsAndLegs) (H : LevelsAndLegs) → IsServing (order_built options) options.hops g h H → (places : PlaceList) (request : Request) (text : List ℕ) →
+    IsTextOfRequest options g H places request text → IsRequestText options g (IsServing (order_built options) options.hops g h) places request text
+asked_in options g h H is places (Query s t) text told = text_in (writes_routes options) (order_built options) (order_built options) options.hops g h H (λ e. refl) is ((s, t) ∷ []) text told
+asked_in options g h H is places (Route s t) text told = text_in true (order_built options) (order_built options) options.hops g h H (λ e. refl) is ((s, t) ∷ []) text told
+asked_in options g h H is places (TableOf lists) text told = told
+asked_in options g h H is places (PlacesOf given) text told = told
+asked_in options g h H is places (Near s within) text told = told
+
+-- answering requests stops at no other input
+pub serving_past : {T : Type 0} (r : Result T RunFault) (which : Which) → (which ≡ Which.Requests → ⊥) → IfErr r IsOfServing → GoesPast which r
+serving_past (Ok x) which not own = tt
+serving_past (Err e) which not own = at own
+  where
+    at : IsOfServing e → StopsAt which e → ⊥
+    at (inl of) stops = not (of_one Which.Requests which e of stops)
+    at (inr write) stops = of_no_write which e stops.0 write

@@ -1,7 +1,7 @@
 -- The cells of a table.
 use Rattle.std.proofs.Common.{◌≡◌, ℕ, ◌*◌, ◌<◌, List, length, subst}
 use Rattle.ch_work.specs.declared.limits.TheConstants.{MOST_CELLS}
-use Rattle.ch_run.specs.Run.{HasTooManyCells}
+use Rattle.ch_run.specs.Lists.{HasTooManyCells}
 
 -- lists of these sizes make too many cells
 pub too_many : (a b : ℕ) (from to : List ℕ) → a ≡ length from → b ≡ length to → MOST_CELLS < a * b → HasTooManyCells from to

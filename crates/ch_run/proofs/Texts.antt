@@ -6,7 +6,6 @@ use Rattle.std.specs.List.{AllZip, zip, flat_map}
 use Rattle.ch_graph.specs.declared.arc.InArc.{InArc}
 use Rattle.ch_graph.specs.Graph.{Network, IsWithinLimits}
 use Rattle.ch_hierarchy.specs.Hierarchy.{LevelsAndLegs}
-use Rattle.ch_contract.specs.Built.{IsHierarchyBy}
 use Rattle.ch_contract.specs.declared.measure.OrderBy.{OrderBy}
 use Rattle.ch_hierarchy.specs.Kept.{IsKept}
 use Rattle.ch_query.specs.declared.answer.Answer.{Answer}
@@ -18,6 +17,7 @@ use Rattle.ch_query.specs.Limits.{IsDistanceWithin}
 use Rattle.ch_table.specs.Table.{IsRowBy}
 use Rattle.ch_text.specs.Distances.{Answers, AnswersShortly, IsDistanceText, distance_text}
 use Rattle.ch_text.specs.Routes.{AnswersWithRoute, answer_text, route_text}
+use Rattle.ch_run.specs.Source.{IsServing}
 use Rattle.ch_run.specs.Text.{IsTextBy}
 use Rattle.ch_text.specs.TableText.{IsCell, IsTableRow, IsTableText, row_text}
 
@@ -74,10 +74,11 @@ replies_text g H limits kept true queries answers text replies is =
     } in
     (H, refl, (answers, each_weaker (IsReply H true) (AnswersWithRoute g H) routed queries answers replies, is))
 
--- routes are those of the hierarchy in the order that is wanted, and distances those of any
-pub text_in : (routes : Bool) (wanted by : OrderBy) (g : Network) (h : ℕ) (H : LevelsAndLegs) → (routes ≡ true → by ≡ wanted) → IsHierarchyBy by g h H → (queries : List (ℕ × ℕ)) (text : List ℕ) → IsTextBy routes g (λ K. K ≡ H) queries text → IsTextBy routes g (IsHierarchyBy wanted g h) queries text
-text_in false wanted by g h H same is queries text t = t
-text_in true wanted by g h H same is queries text t = (t.0, subst (IsHierarchyBy wanted g h) (sym t.1) (subst (λ o. IsHierarchyBy o g h H) (same refl) is), t.2)
+-- routes are those of the hierarchy that is wanted, and distances those of any
+pub text_in : (routes : Bool) (wanted by : OrderBy) (hops : ℕ) (g : Network) (h : Option LevelsAndLegs) (H : LevelsAndLegs) → (routes ≡ true → by ≡ wanted) → IsServing by hops g h H →
+    (queries : List (ℕ × ℕ)) (text : List ℕ) → IsTextBy routes g (λ K. K ≡ H) queries text → IsTextBy routes g (IsServing wanted hops g h) queries text
+text_in false wanted by hops g h H same is queries text t = t
+text_in true wanted by hops g h H same is queries text t = (t.0, subst (IsServing wanted hops g h) (sym t.1) (subst (λ o. IsServing o hops g h H) (same refl) is), t.2)
 
 -- a table of a hierarchy that is right for a graph, written out, is the table of the graph
 pub cells_text : (g : Network) (H : LevelsAndLegs) → IsWithinLimits g → IsKept g H → (limit : Option ℕ) (sources targets : List ℕ) (rows : List (List (Option ℕ))) (text : List ℕ) →

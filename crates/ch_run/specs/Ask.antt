@@ -1,10 +1,7 @@
 -- What a run that answers requests as they come owes.
-use Rattle.std.specs.Prelude.{◌≡◌, ◌⊎◌, ℕ, ◌+◌, ◌<◌, if◌then◌else◌, true, List, [], ◌∷◌, ◌++◌, length, take, Option, Some, None, Result, Ok, Err}
-use Rattle.ch_graph.specs.Graph.{Network, IsWithinLimits}
+use Rattle.std.specs.Prelude.{◌≡◌, ◌⊎◌, ℕ, ◌+◌, ◌<◌, true, List, [], ◌∷◌, ◌++◌, length, take, Option, Some, None, Result, Ok, Err}
+use Rattle.ch_graph.specs.Graph.{Network}
 use Rattle.ch_hierarchy.specs.Hierarchy.{LevelsAndLegs}
-use Rattle.ch_contract.specs.Built.{IsHierarchyBy}
-use Rattle.ch_contract.specs.declared.measure.OrderBy.{OrderBy}
-use Rattle.ch_contract.specs.declared.measure.OrderBy.TheVariants.{Depth}
 use Rattle.ch_read.specs.declared.request.Request.{Request}
 use Rattle.ch_read.specs.declared.request.Request.TheVariants.{Query, Route, Table, Places, Near}
 use Rattle.ch_read.specs.declared.request_fault.RequestFault.{RequestFault}
@@ -17,8 +14,8 @@ use Rattle.ch_run.specs.declared.fault.Which.{Which}
 use Rattle.ch_run.specs.declared.fault.RunFault.{RunFault}
 use Rattle.ch_run.specs.declared.options.Options.{Options}
 use Rattle.ch_text.specs.Device.{HasRead, HasTaken}
-use Rattle.ch_run.specs.Run.{Reading, ReadsAll, ReadsGraph, IsOf, IsWrite}
-use Rattle.ch_run.specs.SavedRun.{WithChecked, IsOfChecked}
+use Rattle.ch_run.specs.Run.{Reading, ReadsAll, IsOf, IsWrite}
+use Rattle.ch_run.specs.Source.{IsOfLoading, IsServing, WithLoaded, order_built}
 use Rattle.ch_text.specs.NearText.{IsNearText}
 use Rattle.ch_text.specs.TableText.{IsTableText}
 use Rattle.ch_run.specs.Text.{IsTextBy, writes_routes}
@@ -111,29 +108,16 @@ Serves IsTextOf n requests old new (Err (RunFault.Write count)) =
     ReadsSome requests (λ read left. TookBeginning IsTextOf no_places old new 0 count (told_by n (read ++ left)).given)
 Serves IsTextOf n requests old new (Err _) = ⊥
 
--- the graph and the saved hierarchy were accepted, and by them the run answered the requests
-abbrev pub ServesFrom : {T : Type 0} → Options → Reading → Reading → Reading → (old new : Option (List ℕ)) → Result T RunFault → Type 0
-ServesFrom options graph saved requests old new result =
-    WithChecked graph saved (λ g H. Serves (IsRequestText options g (λ K. K ≡ H)) g.nodes requests old new result)
-
--- the order of the hierarchy that a run over requests builds: that of the options where each query is answered with its route, and
--- else by depth, which answers sooner
-abbrev pub order_built : Options → OrderBy
-order_built options = if options.routes then options.order else Depth
-
--- the graph was accepted, and by its contraction hierarchy the run answered the requests
-abbrev pub ServesBy : {T : Type 0} → Options → Reading → Reading → (old new : Option (List ℕ)) → Result T RunFault → Type 0
-ServesBy options graph requests old new result =
-    (g : Network) × IsWithinLimits g × ReadsGraph graph g × Serves (IsRequestText options g (IsHierarchyBy (order_built options) g options.hops)) g.nodes requests old new result
+-- the graph was accepted, and a saved hierarchy, where one is read, and by that or by the contraction hierarchy that is built the run
+-- answered the requests
+abbrev pub ServesBy : {T : Type 0} → Options → Reading → Option Reading → Reading → (old new : Option (List ℕ)) → Result T RunFault → Type 0
+ServesBy options graph saved requests old new result =
+    WithLoaded graph saved (λ g h. Serves (IsRequestText options g (IsServing (order_built options) options.hops g h)) g.nodes requests old new result)
 
 -- what answering requests may end in: they are refused or can't be read, there is no memory, or the output refuses a write
 abbrev pub IsOfServing : RunFault → Type 0
 IsOfServing fault = IsOf Which.Requests fault ⊎ IsWrite fault
 
 -- what a run that answers requests may end in
-abbrev pub IsOfAsk : RunFault → Type 0
-IsOfAsk fault = IsOf Which.Graph fault ⊎ IsOfServing fault
-
--- what a run that answers requests by a saved hierarchy may end in
-abbrev pub IsOfAskSaved : RunFault → Type 0
-IsOfAskSaved fault = IsOfChecked fault ⊎ IsOfServing fault
+abbrev pub IsOfAsk : Option Reading → RunFault → Type 0
+IsOfAsk saved fault = IsOfLoading saved fault ⊎ IsOfServing fault

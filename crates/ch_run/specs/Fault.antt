@@ -29,7 +29,7 @@ read_heading Which.Requests = codes "chtab: request "
 abbrev pub fault_text : RunFault → List ℕ
 fault_text (RunFault.Read which fault) = read_heading which ++ read_fault_text fault
 fault_text RunFault.Cells = codes "chtab: too many cells"
-fault_text (RunFault.CellsAt line) = read_heading Which.Requests ++ codes "line " ++ decimal line ++ codes ": too many cells"
+fault_text (RunFault.CellsAt line) = codes "chtab: request line " ++ decimal line ++ codes ": too many cells"
 fault_text RunFault.Memory = codes "chtab: out of memory"
 fault_text (RunFault.Device which) = codes "chtab: cannot read " ++ input_name which
 fault_text (RunFault.Write count) = codes "chtab: cannot write after " ++ decimal count ++ codes " bytes"

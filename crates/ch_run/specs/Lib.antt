@@ -1,7 +1,7 @@
 pub mod Fault
 pub mod Lists
 pub mod Run
-pub mod SavedRun
+pub mod Source
 pub mod SavedTextLaws
 pub mod TextLaws
 pub mod Text
@@ -10,3 +10,6 @@ pub mod Serving
 pub mod NearTextLaws
 pub mod NearRun
 pub mod NearRows
+pub mod DistRun
+pub mod TableRun
+pub mod SaveRun

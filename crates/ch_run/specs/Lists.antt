@@ -5,7 +5,11 @@ use Rattle.ch_work.specs.declared.limits.TheConstants.{MOST_CELLS}
 use Rattle.ch_read.specs.declared.fault.ReadFault.{ReadFault}
 use Rattle.ch_run.specs.declared.fault.Which.{Which}
 use Rattle.ch_run.specs.declared.fault.RunFault.{RunFault}
-use Rattle.ch_run.specs.Run.{Reading, ReadsNodes, HasTooManyCells, IsListRefused, IsOf}
+use Rattle.ch_run.specs.Run.{Reading, ReadsNodes, IsListRefused, IsOf}
+
+-- these lists make more cells than a table may have
+abbrev pub HasTooManyCells : List ℕ → List ℕ → Type 0
+HasTooManyCells sources targets = MOST_CELLS < length sources * length targets
 
 -- lists of the nodes, within the limits, that don't make too many cells
 pub record AreLists (nodes : ℕ) (from to : List ℕ) : Type 0 where

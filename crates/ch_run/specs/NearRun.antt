@@ -1,16 +1,30 @@
 -- What a run that tells near rows owes.
-use Rattle.std.specs.Prelude.{ℕ, ◌<◌, ◌≤◌, ◌⊎◌, List, length, All}
+use Rattle.std.specs.Prelude.{◌≡◌, ◌⊎◌, ℕ, ◌<◌, ◌≤◌, List, length, All, Option, Some, None, Result}
 use Rattle.ch_graph.specs.declared.limits.TheConstants.{MOST_LISTED}
-use Rattle.ch_graph.specs.Graph.{Network}
 use Rattle.ch_read.specs.declared.fault.ReadFault.{ReadFault}
 use Rattle.ch_run.specs.declared.fault.Which.{Which}
 use Rattle.ch_run.specs.declared.fault.RunFault.{RunFault}
 use Rattle.ch_run.specs.declared.options.Options.{Options}
-use Rattle.ch_run.specs.Lists.{AcceptsList}
+use Rattle.ch_run.specs.declared.sources.Sources.{Sources}
+use Rattle.ch_run.specs.declared.sources.Sources.TheVariants.{All as Each, Listed}
+use Rattle.ch_run.specs.Run.{Reading, ReadsAfter, ReadsNodes, IsListRefused, IsOf, IsWrite, reading_if}
+use Rattle.ch_run.specs.Source.{IsOfLoading, WithLoaded}
 use Rattle.ch_run.specs.Text.{IsNearTextFor}
 use Rattle.ch_text.specs.NearText.{nodes_in_order}
-use Rattle.ch_run.specs.SavedRun.{IsOfChecked, WithChecked}
-use Rattle.ch_run.specs.Run.{Reading, ReadsGraph, ReadsNodes, IsListRefused, IsOf, IsWrite}
+
+-- the input of a list of sources, where one is read
+abbrev pub listed_in : {J : Type 0} → Sources J → Option J
+listed_in Each = None
+listed_in (Listed input) = Some input
+
+-- how many reads of it have failed
+abbrev pub sources_failures : {J : Type 0} → (J → ℕ) → Sources J → ℕ
+sources_failures failed Each = 0
+sources_failures failed (Listed input) = failed input
+
+-- its reading
+abbrev pub sources_reading : {J : Type 0} → (J → Option (List ℕ)) → Sources J → Sources J → Option Reading
+sources_reading left old new = reading_if left (listed_in old) (listed_in new)
 
 -- lists of the nodes, of which the targets are within the limit
 pub record AreNodeLists (nodes : ℕ) (from to : List ℕ) : Type 0 where
@@ -18,70 +32,56 @@ pub record AreNodeLists (nodes : ℕ) (from to : List ℕ) : Type 0 where
   pub targets : All (λ node. node < nodes) to
   pub few : length to ≤ MOST_LISTED
 
--- the inputs were read to their end and name these lists, which may make any number of cells
-abbrev pub ReadsNodeLists : Reading → Reading → ℕ → List ℕ → List ℕ → Type 0
-ReadsNodeLists sources targets nodes from to = ReadsNodes sources nodes from × ReadsNodes targets nodes to
+-- the sources are the nodes of the list that was read, or all nodes in order
+abbrev pub AreSources : Option Reading → ℕ → List ℕ → Type 0
+AreSources None nodes from = from ≡ nodes_in_order nodes
+AreSources (Some sources) nodes from = ReadsNodes sources nodes from
 
--- the inputs were read to their end and name a graph and two lists of its nodes
-abbrev pub AcceptsNodeLists : Reading → Reading → Reading → Type 0
-AcceptsNodeLists graph sources targets = (g : Network) × (from to : List ℕ) × ReadsGraph graph g × ReadsNodeLists sources targets g.nodes from to
+-- a list of sources, where one is read, was accepted
+abbrev pub AcceptsAnySources : Option Reading → ℕ → Type 0
+AcceptsAnySources sources nodes = (from : List ℕ) × AreSources sources nodes from
 
--- the inputs name a graph and two lists of its nodes, and the text has the near rows of these as the options ask
-abbrev pub IsNearBy : Options → Reading → Reading → Reading → List ℕ → Type 0
-IsNearBy options graph sources targets text =
-    (g : Network) × (from to : List ℕ) × ReadsGraph graph g × ReadsNodeLists sources targets g.nodes from to × IsNearTextFor options g from to text
+-- these are the sources, and the other input was read to its end and names these targets
+abbrev pub ReadsNodeLists : Option Reading → Reading → ℕ → List ℕ → List ℕ → Type 0
+ReadsNodeLists sources targets nodes from to = AreSources sources nodes from × ReadsNodes targets nodes to
 
--- the inputs were read to their end and name a graph and a list of targets
-abbrev pub AcceptsTargets : Reading → Reading → Type 0
-AcceptsTargets graph targets = (g : Network) × (to : List ℕ) × ReadsGraph graph g × ReadsNodes targets g.nodes to
+-- a list of sources, where one is read, was accepted, and the targets have this fault
+abbrev pub HaveNearTargetsRefused : Option Reading → Reading → ℕ → ReadFault → Type 0
+HaveNearTargetsRefused sources targets nodes fault = AcceptsAnySources sources nodes × IsListRefused targets nodes fault
 
--- the inputs name a graph and a list of targets, and the text has the near row of each node of the graph, in order
-abbrev pub IsNearAllBy : Options → Reading → Reading → List ℕ → Type 0
-IsNearAllBy options graph targets text =
-    (g : Network) × (to : List ℕ) × ReadsGraph graph g × ReadsNodes targets g.nodes to × IsNearTextFor options g (nodes_in_order g.nodes) to text
+-- the inputs name a graph and the two lists, and the text has the near rows of these as the options ask; a saved hierarchy, where one is
+-- read, is right for the graph
+abbrev pub IsNearBy : Options → Reading → Option Reading → Option Reading → Reading → List ℕ → Type 0
+IsNearBy options graph saved sources targets text =
+    WithLoaded graph saved (λ g _. (from to : List ℕ) × ReadsNodeLists sources targets g.nodes from to × IsNearTextFor options g from to text)
 
--- the graph was accepted, and the targets, which are read next, have this fault
-abbrev pub HasTargetsRefusedNext : Reading → Reading → ReadFault → Type 0
-HasTargetsRefusedNext graph targets fault = (g : Network) × ReadsGraph graph g × IsListRefused targets g.nodes fault
+-- the graph was accepted, and a saved hierarchy, where one is read, and so was a list of sources, where one is read
+abbrev pub AcceptsNearSources : Reading → Option Reading → Option Reading → Type 0
+AcceptsNearSources graph saved sources = WithLoaded graph saved (λ g _. AcceptsAnySources sources g.nodes)
 
--- the graph and the saved hierarchy were accepted, and so were two lists of the graph's nodes
-abbrev pub AcceptsNodeListsFrom : Reading → Reading → Reading → Reading → Type 0
-AcceptsNodeListsFrom graph saved sources targets = WithChecked graph saved (λ g _. (from to : List ℕ) × ReadsNodeLists sources targets g.nodes from to)
+-- and so were the targets
+abbrev pub AcceptsNodeLists : Reading → Option Reading → Option Reading → Reading → Type 0
+AcceptsNodeLists graph saved sources targets = WithLoaded graph saved (λ g _. (from to : List ℕ) × ReadsNodeLists sources targets g.nodes from to)
 
--- they were, and the text has the near rows of these lists as the options ask
-abbrev pub IsNearFrom : Options → Reading → Reading → Reading → Reading → List ℕ → Type 0
-IsNearFrom options graph saved sources targets text =
-    WithChecked graph saved (λ g _. (from to : List ℕ) × ReadsNodeLists sources targets g.nodes from to × IsNearTextFor options g from to text)
+-- all that is read before was accepted, but the targets have this fault
+abbrev pub HasNearTargetsRefused : Reading → Option Reading → Option Reading → Reading → ReadFault → Type 0
+HasNearTargetsRefused graph saved sources targets fault = WithLoaded graph saved (λ g _. HaveNearTargetsRefused sources targets g.nodes fault)
 
--- the graph and the saved hierarchy were accepted, and so was a list of targets
-abbrev pub AcceptsTargetsFrom : Reading → Reading → Reading → Type 0
-AcceptsTargetsFrom graph saved targets = WithChecked graph saved (λ g _. AcceptsList targets g.nodes)
+-- what a run owes to where its sources come from: nothing is read where they are all nodes
+abbrev pub ReadsSources : {T J : Type 0} → (earlier : List Which) → (accepted : Type 0) → Result T RunFault → (J → Option (List ℕ)) → (J → ℕ) → Sources J → Sources J → (Reading → ReadFault → Type 0) → Type 0
+ReadsSources earlier accepted result left failed Each new IsRefused = new ≡ Each
+ReadsSources earlier accepted result left failed (Listed old) Each IsRefused = ⊥
+ReadsSources earlier accepted result left failed (Listed old) (Listed new) IsRefused = ReadsAfter earlier accepted Which.Sources result left failed old new IsRefused
 
--- they were, and the text has the near row of each node of the graph, in order
-abbrev pub IsNearAllFrom : Options → Reading → Reading → Reading → List ℕ → Type 0
-IsNearAllFrom options graph saved targets text =
-    WithChecked graph saved (λ g _. (to : List ℕ) × ReadsNodes targets g.nodes to × IsNearTextFor options g (nodes_in_order g.nodes) to text)
+-- what reading a list of sources may end in, where one is read
+abbrev pub IsOfSources : Option Reading → RunFault → Type 0
+IsOfSources None fault = ⊥
+IsOfSources (Some sources) fault = IsOf Which.Sources fault
 
--- the graph and the saved hierarchy were accepted, and the targets, which are read next, have this fault
-abbrev pub HasTargetsRefusedNextFrom : Reading → Reading → Reading → ReadFault → Type 0
-HasTargetsRefusedNextFrom graph saved targets fault = WithChecked graph saved (λ g _. IsListRefused targets g.nodes fault)
+-- what reading both lists may end in: one of them is refused or can't be read, or there is no memory
+abbrev pub IsOfNodeLists : Option Reading → RunFault → Type 0
+IsOfNodeLists sources fault = IsOfSources sources fault ⊎ IsOf Which.Targets fault
 
--- what reading the two lists may end in: one of them is refused or can't be read, or there is no memory
-abbrev pub IsOfNodeLists : RunFault → Type 0
-IsOfNodeLists fault = IsOf Which.Sources fault ⊎ IsOf Which.Targets fault
-
--- what a run that tells near rows may end in
-abbrev pub IsOfNear : RunFault → Type 0
-IsOfNear fault = IsOf Which.Graph fault ⊎ IsOfNodeLists fault ⊎ IsWrite fault
-
--- what one by a saved hierarchy may end in
-abbrev pub IsOfNearSaved : RunFault → Type 0
-IsOfNearSaved fault = IsOfChecked fault ⊎ IsOfNodeLists fault ⊎ IsWrite fault
-
--- what one that tells the near rows of all nodes may end in
-abbrev pub IsOfNearAll : RunFault → Type 0
-IsOfNearAll fault = IsOf Which.Graph fault ⊎ IsOf Which.Targets fault ⊎ IsWrite fault
-
--- what one of all nodes by a saved hierarchy may end in
-abbrev pub IsOfNearAllSaved : RunFault → Type 0
-IsOfNearAllSaved fault = IsOfChecked fault ⊎ IsOf Which.Targets fault ⊎ IsWrite fault
+-- what the run may end in
+abbrev pub IsOfNear : Option Reading → Option Reading → RunFault → Type 0
+IsOfNear saved sources fault = IsOfLoading saved fault ⊎ IsOfNodeLists sources fault ⊎ IsWrite fault

@@ -1,26 +1,26 @@
 -- The definitions name one text of near rows.
-use Rattle.std.specs.Prelude.{◌≡◌, ℕ, List, Some}
+use Rattle.std.specs.Prelude.{◌≡◌, ℕ, List, Some, None}
 use Rattle.ch_run.specs.declared.options.Options.{Options}
 use Rattle.ch_run.specs.Run.{Reading}
-use Rattle.ch_run.specs.NearRun.{IsNearAllBy, IsNearAllFrom, IsNearBy, IsNearFrom}
+use Rattle.ch_run.specs.NearRun.{IsNearBy}
 
 -- two texts that have the near rows of the same bytes, as the same options ask, are equal
 abbrev pub NearRowsHaveOneText : Type 0
 NearRowsHaveOneText = (options : Options) (graph sources targets : Reading) (graph_bytes source_bytes target_bytes text other : List ℕ) →
     graph.before ≡ Some graph_bytes → sources.before ≡ Some source_bytes → targets.before ≡ Some target_bytes →
-    IsNearBy options graph sources targets text → IsNearBy options graph sources targets other → text ≡ other
+    IsNearBy options graph None (Some sources) targets text → IsNearBy options graph None (Some sources) targets other → text ≡ other
 
 -- so are two that have the near row of each node
 abbrev pub AllNearRowsHaveOneText : Type 0
 AllNearRowsHaveOneText = (options : Options) (graph targets : Reading) (graph_bytes target_bytes text other : List ℕ) →
-    graph.before ≡ Some graph_bytes → targets.before ≡ Some target_bytes → IsNearAllBy options graph targets text → IsNearAllBy options graph targets other → text ≡ other
+    graph.before ≡ Some graph_bytes → targets.before ≡ Some target_bytes → IsNearBy options graph None None targets text → IsNearBy options graph None None targets other → text ≡ other
 
 -- the near rows by a saved hierarchy are those of the graph
 abbrev pub SavedNearRowsAreThoseOfTheGraph : Type 0
 SavedNearRowsAreThoseOfTheGraph = (options : Options) (graph saved sources targets : Reading) (text : List ℕ) →
-    IsNearFrom options graph saved sources targets text → IsNearBy options graph sources targets text
+    IsNearBy options graph (Some saved) (Some sources) targets text → IsNearBy options graph None (Some sources) targets text
 
 -- and so are those of all nodes
 abbrev pub SavedAllNearRowsAreThoseOfTheGraph : Type 0
 SavedAllNearRowsAreThoseOfTheGraph = (options : Options) (graph saved targets : Reading) (text : List ℕ) →
-    IsNearAllFrom options graph saved targets text → IsNearAllBy options graph targets text
+    IsNearBy options graph (Some saved) None targets text → IsNearBy options graph None None targets text

@@ -11,7 +11,9 @@ use Rattle.ch_contract.specs.Legs.{IsHopBound}
 use Rattle.ch_contract.specs.Built.{IsHierarchyBy}
 use Rattle.ch_run.specs.declared.options.Options.{Options}
 use Rattle.ch_run.specs.Run.{Reading}
-use Rattle.ch_run.specs.SavedRun.{IsAnsweredFrom, IsSavedBy, IsTabledFrom}
+use Rattle.ch_run.specs.DistRun.{IsAnsweredBy}
+use Rattle.ch_run.specs.SaveRun.{IsSavedBy}
+use Rattle.ch_run.specs.TableRun.{IsTabledBy}
 use Rattle.ch_text.specs.SaveText.{IsHierarchyText}
 use Rattle.ch_run.specs.Text.{IsSaveText}
 
@@ -19,13 +21,13 @@ use Rattle.ch_run.specs.Text.{IsSaveText}
 abbrev pub SavedAnswersHaveOneText : Type 0
 SavedAnswersHaveOneText = (options : Options) (graph saved queries : Reading) (graph_bytes saved_bytes query_bytes text other : List ℕ) →
     graph.before ≡ Some graph_bytes → saved.before ≡ Some saved_bytes → queries.before ≡ Some query_bytes →
-    IsAnsweredFrom options graph saved queries text → IsAnsweredFrom options graph saved queries other → text ≡ other
+    IsAnsweredBy options graph (Some saved) queries text → IsAnsweredBy options graph (Some saved) queries other → text ≡ other
 
 -- two texts that are the table of the same bytes, within the same options' limit, are equal
 abbrev pub SavedTablesHaveOneText : Type 0
 SavedTablesHaveOneText = (options : Options) (graph saved sources targets : Reading) (graph_bytes saved_bytes source_bytes target_bytes text other : List ℕ) →
     graph.before ≡ Some graph_bytes → saved.before ≡ Some saved_bytes → sources.before ≡ Some source_bytes → targets.before ≡ Some target_bytes →
-    IsTabledFrom options graph saved sources targets text → IsTabledFrom options graph saved sources targets other → text ≡ other
+    IsTabledBy options graph (Some saved) sources targets text → IsTabledBy options graph (Some saved) sources targets other → text ≡ other
 
 -- two texts of the hierarchy of the same bytes are equal
 abbrev pub HierarchiesHaveOneText : Type 0

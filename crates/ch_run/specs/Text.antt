@@ -19,10 +19,6 @@ abbrev pub IsTextBy : Bool → Network → (LevelsAndLegs → Type 0) → List (
 IsTextBy false g From queries text = IsDistanceText g queries text
 IsTextBy true g From queries text = IsRouteText g From queries text
 
--- the text that answers the queries as the options ask, with routes by the contraction hierarchy of the graph in their order
-abbrev pub IsText : Options → Network → List (ℕ × ℕ) → List ℕ → Type 0
-IsText options g queries text = IsTextBy (writes_routes options) g (IsHierarchyBy options.order g options.hops) queries text
-
 -- the near rows in the direction, within the limit and of the number of targets that the options name
 abbrev pub IsNearTextFor : Options → Network → List ℕ → List ℕ → List ℕ → Type 0
 IsNearTextFor options g sources targets text = IsNearText g options.direction options.within options.count sources targets text

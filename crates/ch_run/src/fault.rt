@@ -168,8 +168,7 @@ pub fn fault_line(fault: &RunFault) -> ShortText
         RunFault::CellsAt(place) => {
             line.prepend_slice(b": too many cells");
             line.prepend_number(place);
-            line.prepend_slice(b"line ");
-            line.prepend_slice(Which::Requests.heading().as_bytes());
+            line.prepend_slice(b"chtab: request line ");
         }
         RunFault::Memory => line.prepend_slice(b"chtab: out of memory"),
         RunFault::Device(which) => {

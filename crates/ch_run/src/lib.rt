@@ -4,11 +4,10 @@
 //! Proved of it: what the output took after [`run_dist`] and [`run_table`] is exactly the text that the
 //! definitions name for the bytes that the inputs had, which is one ([`laws::one_text`]), for every plan and
 //! gate; a run ends in no fault but its own, and touches nothing before all that comes earlier was accepted.
-//! The same holds of [`run_save`], which writes the graph's hierarchy, and of [`run_dist_saved`] and
-//! [`run_table_saved`], which go by a saved one, of any origin, after it was found right for the graph.
-//! [`run_near`] and [`run_near_all`] tell the targets that are nearest to each source of a list, or to each node of the graph;
-//! [`run_near_saved`] and [`run_near_all_saved`] do so by a saved hierarchy. What is proved of tables is proved of these.
-//! [`run_ask`] and [`run_ask_saved`] answer requests as they come: what is whole in the bytes that were read is answered before the next read.
+//! A hierarchy is built, or it was saved, by whatever program, and is found right for the graph first ([`Source`]).
+//! The same holds of [`run_save`], which writes the graph's hierarchy, and of [`run_near`], which writes the targets that are
+//! nearest to each source of a list, or to each node of the graph ([`Sources`]).
+//! [`run_ask`] answers requests as they come: what is whole in the bytes that were read is answered before the next read.
 //! It passes on the devices of ch_text, from which the inputs come and to which the text goes.
 #![tactic(auto)]
 
@@ -17,6 +16,8 @@ pub mod laws;
 mod options;
 mod plan;
 mod run;
+mod source;
+mod sources;
 
 pub use ch_text::{
     DeviceFault, Input, MemoryInput, MemoryOutput, Output, ReadAllFault, ReadOnce, ReaderInput,
@@ -25,7 +26,6 @@ pub use ch_text::{
 pub use fault::{RunFault, Which, fault_line, status};
 pub use options::{Direction, MOST_COUNT, MOST_HOPS, MOST_WITHIN, Options, OrderBy};
 pub use plan::{Crew, Gate, Open, Plan, Stage};
-pub use run::{
-    run_ask, run_ask_saved, run_dist, run_dist_saved, run_near, run_near_all, run_near_all_saved,
-    run_near_saved, run_save, run_table, run_table_saved,
-};
+pub use run::{run_ask, run_dist, run_near, run_save, run_table};
+pub use source::Source;
+pub use sources::Sources;

@@ -33,3 +33,20 @@ pub struct Options {
     /// Which way the distances of near rows go.
     pub direction: Direction,
 }
+
+impl Options {
+    ghost use Rattle.std.specs.Prelude.{◌≡◌};
+    ghost use Rattle.ch_run.specs.Source.{order_built};
+
+    /// The order in which a hierarchy is built by which queries are answered: for routes the one that is wanted, and for
+    /// distances, which are the same in each order, the one that is quick.
+    pub(crate) fn building_order(&self) -> OrderBy
+        ensures { result ≡ order_built self.now }
+    {
+        if self.routes {
+            self.order
+        } else {
+            OrderBy::Depth
+        }
+    }
+}

@@ -2,9 +2,8 @@
 ghost use Rattle.ch_contract.specs.Legs.{IsHopBound};
 
 use ch_run::{
-    Crew, MemoryInput, MemoryOutput, Open, Options, Plan, RunFault, run_ask, run_ask_saved,
-    run_dist, run_dist_saved, run_near, run_near_all, run_near_all_saved, run_near_saved, run_save,
-    run_table, run_table_saved,
+    Crew, MemoryInput, MemoryOutput, Open, Options, Plan, RunFault, Source, Sources, run_ask,
+    run_dist, run_near, run_save, run_table,
 };
 use std::alloc::{AllocError, Global};
 use std::thread::Threads;
@@ -51,30 +50,39 @@ pub(crate) fn run<R: Threads + Sync>(
         plan: *plan,
         gate: &Open,
     };
+    let graph = &mut MemoryInput::new(files.graph, MOST);
+    let source = &mut match files.saved {
+        Some(saved) => Source::Saved(MemoryInput::new(saved, MOST)),
+        None => Source::Built,
+    };
     macro_rules! ended {
-        ($run:ident, $($bytes:expr),+) => {
-            $run(&crew, $(&mut MemoryInput::new($bytes, MOST),)+ &mut output, options)
+        ($run:ident, $($input:expr),+) => {
+            $run(&crew, graph, source, $(&mut $input,)+ &mut output, options)
         };
     }
-    let graph = files.graph;
-    let result = match (files.asked, files.saved) {
-        (Asked::Hierarchy, _) => ended!(run_save, graph),
-        (Asked::Answers(queries), None) => ended!(run_dist, graph, queries),
-        (Asked::Answers(queries), Some(saved)) => ended!(run_dist_saved, graph, saved, queries),
-        (Asked::Table(sources, targets), None) => ended!(run_table, graph, sources, targets),
-        (Asked::Table(sources, targets), Some(saved)) => {
-            ended!(run_table_saved, graph, saved, sources, targets)
+    let result = match files.asked {
+        Asked::Hierarchy => run_save(&crew, graph, &mut output, options),
+        Asked::Answers(queries) => ended!(run_dist, MemoryInput::new(queries, MOST)),
+        Asked::Table(sources, targets) => ended!(
+            run_table,
+            MemoryInput::new(sources, MOST),
+            MemoryInput::new(targets, MOST)
+        ),
+        Asked::Near(sources, targets) => {
+            ended!(
+                run_near,
+                Sources::Listed(MemoryInput::new(sources, MOST)),
+                MemoryInput::new(targets, MOST)
+            )
         }
-        (Asked::Near(sources, targets), None) => ended!(run_near, graph, sources, targets),
-        (Asked::Near(sources, targets), Some(saved)) => {
-            ended!(run_near_saved, graph, saved, sources, targets)
+        Asked::NearAll(targets) => {
+            ended!(
+                run_near,
+                Sources::<MemoryInput>::All,
+                MemoryInput::new(targets, MOST)
+            )
         }
-        (Asked::NearAll(targets), None) => ended!(run_near_all, graph, targets),
-        (Asked::NearAll(targets), Some(saved)) => {
-            ended!(run_near_all_saved, graph, saved, targets)
-        }
-        (Asked::Requests(requests), None) => ended!(run_ask, graph, requests),
-        (Asked::Requests(requests), Some(saved)) => ended!(run_ask_saved, graph, saved, requests),
+        Asked::Requests(requests) => ended!(run_ask, MemoryInput::new(requests, MOST)),
     };
     Ok((result, output))
 }

@@ -2,9 +2,7 @@
 ghost use Rattle.ch_contract.specs.Legs.{IsHopBound};
 
 use crate::runs::{ACROSS, BY_HIERARCHY, LINE, LINE_SAVED, PLAIN, SOURCES, STAR, TARGETS};
-use ch_run::{
-    Crew, MemoryInput, MemoryOutput, Options, Plan, run_dist, run_dist_saved, run_table_saved,
-};
+use ch_run::{Crew, MemoryInput, MemoryOutput, Options, Plan, Source, run_dist, run_table};
 use ch_work::{CountingGate, MeetingGate};
 use std::alloc::Global;
 use std::process::Abort;
@@ -30,10 +28,10 @@ fn crew<'a, R, G>(rt: &'a R, alloc: Global, gate: &'a G) -> Crew<'a, R, G> {
 fn two_queries_are_answered_at_once(rt: HostRuntime) -> Result<(), Fail> {
     let gate = MeetingGate::new();
     let mut output = MemoryOutput::new(rt.alloc(), MOST, MOST)?;
-    let result = run_dist_saved(
+    let result = run_dist(
         &crew(&rt, rt.alloc(), &gate),
         &mut MemoryInput::new(LINE, MOST),
-        &mut MemoryInput::new(LINE_SAVED, MOST),
+        &mut Source::Saved(MemoryInput::new(LINE_SAVED, MOST)),
         &mut MemoryInput::new(b"p aux sp p2p 2\nq 1 3\nq 3 1\n", MOST),
         &mut output,
         &BY_HIERARCHY,
@@ -47,10 +45,10 @@ fn two_queries_are_answered_at_once(rt: HostRuntime) -> Result<(), Fail> {
 fn two_nodes_of_a_table_are_searched_at_once(rt: HostRuntime) -> Result<(), Fail> {
     let gate = MeetingGate::new();
     let mut output = MemoryOutput::new(rt.alloc(), MOST, MOST)?;
-    let result = run_table_saved(
+    let result = run_table(
         &crew(&rt, rt.alloc(), &gate),
         &mut MemoryInput::new(LINE, MOST),
-        &mut MemoryInput::new(LINE_SAVED, MOST),
+        &mut Source::Saved(MemoryInput::new(LINE_SAVED, MOST)),
         &mut MemoryInput::new(SOURCES, MOST),
         &mut MemoryInput::new(TARGETS, MOST),
         &mut output,
@@ -76,6 +74,7 @@ fn expect_passes<R: Threads + Abort + Sync>(
     let result = run_dist(
         &crew(rt, alloc, &gate),
         &mut MemoryInput::new(STAR, MOST),
+        &mut Source::<MemoryInput>::Built,
         &mut MemoryInput::new(ACROSS, MOST),
         &mut output,
         options,

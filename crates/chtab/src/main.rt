@@ -10,9 +10,8 @@ mod watcher;
 
 pub use ch_run::{
     Crew, DeviceFault, Direction, Gate, Input, MemoryInput, MemoryOutput, Open, Options, Output,
-    Plan, ReadAllFault, ReaderInput, RunFault, Stage, Which, WriterOutput, laws, read_all, run_ask,
-    run_ask_saved, run_dist, run_dist_saved, run_near, run_near_all, run_near_all_saved,
-    run_near_saved, run_save, run_table, run_table_saved, status, write_all,
+    Plan, ReadAllFault, ReaderInput, RunFault, Source, Sources, Stage, Which, WriterOutput, laws,
+    read_all, run_ask, run_dist, run_near, run_save, run_table, status, write_all,
 };
 pub use ch_words::{Choices, Line, LineFault, Tool, line_status, read_words};
 pub use numbers::numbers;

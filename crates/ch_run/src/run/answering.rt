@@ -6,17 +6,18 @@ ghost use Rattle.ch_hierarchy.specs.Kept.{IsKept};
 ghost use Rattle.ch_read.specs.Requests.{IsRequest};
 ghost use Rattle.ch_run.specs.Ask.{IsTextOfRequest, places_after};
 ghost use Rattle.ch_text.specs.Device.{CanCountOneMore};
-ghost use Rattle.ch_run.specs.Serving.{Answers, CountsWrites, IsOfAnswering, IsRoomFor, WritesMore, places_of};
+ghost use Rattle.ch_run.specs.Serving.{Answers, CountsWrites, IsOfAnswering, IsRoomFor, places_of};
 
 use super::first::answer_first;
-use super::saved::Checked;
+use super::loading::Checked;
+use super::output::write_more;
 use crate::fault::RunFault;
 use crate::options::Options;
 use crate::plan::{Crew, Gate};
 use ch_near::NearTargets;
 use ch_query::Scratch;
 use ch_read::Request;
-use ch_text::{Output, write_all};
+use ch_text::Output;
 use std::alloc::Global;
 use std::thread::Threads;
 
@@ -80,20 +81,4 @@ pub(crate) fn answer_requests<'a, R: Threads + Sync, O: Output, G: Gate>(
         rest = &rest[first.count..];
     }
     Ok(())
-}
-
-/// Writes more, and counts it.
-fn write_more<O: Output>(output: &mut O, text: &[u8], written: &mut u64) -> Result<(), RunFault>
-    requires failures { CanCountOneMore (O.failed output.old) }
-    requires zeros { CanCountOneMore (O.idle output.old) }
-    ensures more { WritesMore (O.taken output.old) (O.taken output.new) written.old written.new text.now result }
-    ensures counts { CountsWrites (O.failed output.old) (O.failed output.new) (O.idle output.old) (O.idle output.new) result }
-{
-    match write_all(output, text) {
-        Ok(()) => {
-            *written = written.saturating_add(text.len() as u64);
-            Ok(())
-        }
-        Err(count) => Err(RunFault::Write(written.saturating_add(count))),
-    }
 }

@@ -1,21 +1,46 @@
 //! The two lists of a run that tells near rows.
-ghost use Rattle.std.specs.Prelude.{◌≡◌, ◌<◌, ◌↔◌, ◌⊎◌, IfOk, IfErr};
+ghost use Rattle.std.specs.Prelude.{◌≡◌, ◌<◌, ◌↔◌, ◌⊎◌, [], ◌∷◌, Some, IfOk, IfErr, ⊤};
 ghost use Rattle.ch_read.specs.declared.fault.ReadFault.{ReadFault as FaultAt};
 ghost use Rattle.ch_text.specs.Device.{CanCountOneMore, CountsAtMostOne};
 ghost use Rattle.ch_run.specs.Lists.{AcceptsList, HaveTargetsRefused};
-ghost use Rattle.ch_run.specs.NearRun.{AreNodeLists, IsOfNodeLists, ReadsNodeLists};
+ghost use Rattle.ch_run.specs.NearRun.{AcceptsAnySources, AreNodeLists, HaveNearTargetsRefused, IsOfNodeLists, ReadsNodeLists, ReadsSources, sources_failures, sources_reading};
 ghost use Rattle.ch_text.specs.NearText.{nodes_in_order};
-ghost use Rattle.ch_run.specs.Run.{GoesPast, IsListRefused, IsOf, ReadsNodes, reading};
+ghost use Rattle.ch_run.specs.Run.{GoesPast, IsListRefused, IsOf, ReadsAfter, ReadsNodes, reading};
 
 use super::inputs::nodes_from;
 use super::lists::Lists;
 use crate::fault::{RunFault, Which};
+use crate::sources::Sources;
 use ch_graph::Graph;
 use ch_text::Input;
 use std::alloc::{AllocError, Global};
 
+/// Reads the sources to their end, where they are those of a list, and then the targets, as lists of nodes of this graph.
+pub(crate) fn node_lists_from<J: Input + Drop, L: Input>(
+    alloc: Global,
+    sources: &mut Sources<J>,
+    targets: &mut L,
+    graph: &Graph,
+) -> Result<Lists, RunFault>
+    requires sources { CanCountOneMore (sources_failures J.failed sources.old) }
+    requires targets { CanCountOneMore (L.failed targets.old) }
+    ensures value { IfOk result (λ lists.
+        ReadsNodeLists (sources_reading J.left sources.old sources.new) (reading L.left targets.old targets.new) graph.now.nodes lists.sources.items lists.targets.items) }
+    ensures within { IfOk result (λ lists. AreNodeLists graph.now.nodes lists.sources.items lists.targets.items) }
+    ensures own { IfErr result (IsOfNodeLists (sources_reading J.left sources.old sources.new)) }
+    ensures sources { ReadsSources [] ⊤ result J.left J.failed sources.old sources.new (λ list. IsListRefused list graph.now.nodes) }
+    ensures targets { ReadsAfter (Which.Sources ∷ []) (AcceptsAnySources (sources_reading J.left sources.old sources.new) graph.now.nodes)
+        Which.Targets result L.left L.failed targets.old targets.new
+        (λ list. HaveNearTargetsRefused (sources_reading J.left sources.old sources.new) list graph.now.nodes) }
+{
+    match sources {
+        Sources::All => all_nodes_and(alloc, targets, graph),
+        Sources::Listed(list) => listed_and(alloc, list, targets, graph),
+    }
+}
+
 /// Reads the sources to their end and then the targets, as lists of nodes of this graph.
-pub(crate) fn node_lists_from<J: Input, L: Input>(
+fn listed_and<J: Input, L: Input>(
     alloc: Global,
     sources: &mut J,
     targets: &mut L,
@@ -25,10 +50,10 @@ pub(crate) fn node_lists_from<J: Input, L: Input>(
     requires targets { CanCountOneMore (L.failed targets.old) }
 
     ensures value { IfOk result (λ lists.
-        ReadsNodeLists (reading J.left sources.old sources.new) (reading L.left targets.old targets.new) graph.now.nodes lists.sources.items lists.targets.items) }
+        ReadsNodeLists (Some (reading J.left sources.old sources.new)) (reading L.left targets.old targets.new) graph.now.nodes lists.sources.items lists.targets.items) }
     ensures within { IfOk result (λ lists. AreNodeLists graph.now.nodes lists.sources.items lists.targets.items) }
 
-    ensures own { IfErr result IsOfNodeLists }
+    ensures own { IfErr result (λ fault. IsOf Which.Sources fault ⊎ IsOf Which.Targets fault) }
     ensures sources_refused { (fault : FaultAt) → result ≡ Err (RunFault.Read Which.Sources fault) →
         IsListRefused (reading J.left sources.old sources.new) graph.now.nodes fault }
     ensures targets_refused { (fault : FaultAt) → result ≡ Err (RunFault.Read Which.Targets fault) →
@@ -47,11 +72,7 @@ pub(crate) fn node_lists_from<J: Input, L: Input>(
 }
 
 /// Reads the targets to their end, as a list of nodes of this graph. The sources are all its nodes, in order.
-pub(crate) fn all_nodes_and<L: Input>(
-    alloc: Global,
-    targets: &mut L,
-    graph: &Graph,
-) -> Result<Lists, RunFault>
+fn all_nodes_and<L: Input>(alloc: Global, targets: &mut L, graph: &Graph) -> Result<Lists, RunFault>
     requires { CanCountOneMore (L.failed targets.old) }
     ensures sources { IfOk result (λ lists. lists.sources.items ≡ nodes_in_order graph.now.nodes) }
     ensures targets { IfOk result (λ lists. ReadsNodes (reading L.left targets.old targets.new) graph.now.nodes lists.targets.items) }

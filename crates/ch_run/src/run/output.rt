@@ -1,7 +1,8 @@
-//! The output, to which a run's text goes last.
+//! The output, to which a run's text goes.
 ghost use Rattle.std.specs.Prelude.{◌≡◌, ◌<◌, ◌↔◌, ◌⊎◌, IfErr, IsErrAnd};
 ghost use Rattle.ch_text.specs.Device.{CanCountOneMore, CountsAtMostOneOf};
 ghost use Rattle.ch_run.specs.Run.{Delivers, IsWrite};
+ghost use Rattle.ch_run.specs.Serving.{CountsWrites, WritesMore};
 
 use crate::fault::RunFault;
 use ch_text::{Output, write_all};
@@ -18,5 +19,25 @@ pub(crate) fn write_text<O: Output>(output: &mut O, text: &[u8]) -> Result<(), R
     match write_all(output, text) {
         Ok(()) => Ok(()),
         Err(count) => Err(RunFault::Write(count)),
+    }
+}
+
+/// Writes more of the answers to requests, and counts it with what was written before.
+pub(crate) fn write_more<O: Output>(
+    output: &mut O,
+    more: &[u8],
+    written: &mut u64,
+) -> Result<(), RunFault>
+    requires failures { CanCountOneMore (O.failed output.old) }
+    requires zeros { CanCountOneMore (O.idle output.old) }
+    ensures more { WritesMore (O.taken output.old) (O.taken output.new) written.old written.new more.now result }
+    ensures counts { CountsWrites (O.failed output.old) (O.failed output.new) (O.idle output.old) (O.idle output.new) result }
+{
+    match write_all(output, more) {
+        Ok(()) => {
+            *written = written.saturating_add(more.len() as u64);
+            Ok(())
+        }
+        Err(count) => Err(RunFault::Write(written.saturating_add(count))),
     }
 }

@@ -1,10 +1,9 @@
 //! Runs that save the hierarchy of a graph.
-ghost use Rattle.std.specs.Prelude.{◌≡◌, ◌<◌, ◌↔◌, ◌⊎◌, IfErr, IsErrAnd};
-ghost use Rattle.ch_read.specs.declared.fault.ReadFault.{ReadFault as FaultAt};
+ghost use Rattle.std.specs.Prelude.{IfErr};
 ghost use Rattle.ch_contract.specs.Legs.{IsHopBound};
-ghost use Rattle.ch_text.specs.Device.{CanCountOneMore, CountsAtMostOne, CountsAtMostOneOf};
-ghost use Rattle.ch_run.specs.Run.{AcceptsGraph, Delivers, IsGraphRefused, IsWrite, reading};
-ghost use Rattle.ch_run.specs.SavedRun.{IsOfSave, IsSavedBy};
+ghost use Rattle.ch_text.specs.Device.{CanCountOneMore};
+ghost use Rattle.ch_run.specs.Run.{AcceptsGraph, Delivers, IsGraphRefused, Reads, WritesAfter, reading};
+ghost use Rattle.ch_run.specs.SaveRun.{IsOfSave, IsSavedBy};
 
 use super::inputs::graph_from;
 use super::output::write_text;
@@ -38,22 +37,10 @@ pub fn run_save<R: Threads + Sync, I: Input, O: Output, G: Gate>(
     ensures written { Delivers result (O.taken output.old) (O.taken output.new)
         (IsSavedBy options.now (reading I.left graph.old graph.new)) }
 
-    // A run ends in a fault of its own, and the file is refused for what it holds.
+    // A run ends in a fault of its own. What each device holds is told as it is, and nothing is written before the graph was accepted.
     ensures own { IfErr result IsOfSave }
-    ensures graph_refused { (fault : FaultAt) → result ≡ Err (RunFault.Read Which.Graph fault) →
-        IsGraphRefused (reading I.left graph.old graph.new) fault }
-
-    // A device's fault is told exactly where the device counted one.
-    ensures graph_device { (result ≡ Err (RunFault.Device Which.Graph)) ↔ (I.failed graph.old < I.failed graph.new) }
-    ensures output_device { IsErrAnd result IsWrite ↔ ((O.failed output.old < O.failed output.new) ⊎ (O.idle output.old < O.idle output.new)) }
-
-    // A read or a write that failed isn't tried again.
-    ensures graph_once { CountsAtMostOne (I.failed graph.old) (I.failed graph.new) }
-    ensures output_once { CountsAtMostOneOf (O.failed output.old) (O.failed output.new) (O.idle output.old) (O.idle output.new) }
-
-    // Nothing is written before the graph was accepted.
-    ensures unwritten { (output.new ≡ output.old)
-        ⊎ (IfErr result IsWrite × AcceptsGraph (reading I.left graph.old graph.new)) }
+    ensures graph { Reads Which.Graph result I.left I.failed graph.old graph.new IsGraphRefused }
+    ensures output { WritesAfter (AcceptsGraph (reading I.left graph.old graph.new)) result O.failed O.idle output.old output.new }
 {
     crew.gate.watch(Stage::Reading, 0, 1);
     let graph = graph_from(crew, graph)?;

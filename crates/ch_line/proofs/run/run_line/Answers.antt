@@ -1,11 +1,17 @@
-use Rattle.std.proofs.Common.{inr, rules}
+use Rattle.std.proofs.Common.{inl, inr, rules, subst}
 use Rattle.std.proofs.Math.Logic.{⊎_map}
 use Rattle.ch_line.proofs.Opening.{goes-on, passed-on}
+use Rattle.ch_line.specs.Inputs.{EndsFor, Task, Writes}
 use Rattle.ch_line.specs.Line.{line_files}
 use Rattle.ch_line.proofs.run.run_line.Goals as goal
 
 pub returns-clause-written : goal.returns-clause-written
-returns-clause-written g c = inr (rw c.options_of.ensures at (rw c.in_ok-inputs.ensures.asked at c.run_inputs.ensures.written))
+returns-clause-written g c =
+    inr (rw c.options_of.ensures at (subst (λ (task : Task). Writes c.options_of.result task g.J.Input.left g.J.Input.failed g.O.Output.taken c.args.requests.now c.run_inputs.new.requests c.args.output.now c.run_inputs.new.output c.run_inputs.result)
+    c.in_ok-inputs.ensures.asked c.run_inputs.ensures.written))
+
+pub returns-clause-ends : goal.returns-clause-ends
+returns-clause-ends g c = inl (subst (λ (task : Task). EndsFor task c.run_inputs.result) c.in_ok-inputs.ensures.asked c.run_inputs.ensures.ends)
 
 pub returns-clause-missing : goal.returns-clause-missing
 returns-clause-missing g c = goes-on (g.F.Files.known c.args.files.now) (line_files c.args.line.now) c.run_inputs.result c.in_ok-inputs.ensures.there

@@ -14,8 +14,7 @@ returns-in-Ok g c =
         ends = run.ends;
         unread = run.unread;
         requests_once = run.requests_once;
-        output_device = run.output_device;
-        output_once = run.output_once;
+        output = run.output;
       },
       c.program_answer.ensures,
     )

@@ -1,0 +1,102 @@
+-- What was loaded: a graph, and where a hierarchy was saved that one too.
+use Rattle.std.proofs.Common.{◌≡◌, ℕ, List, Option, Some, None, refl, subst, inl, inr}
+use Rattle.std.specs.Prelude.{IfSome, IsNone, Result}
+use Rattle.ch_graph.specs.Graph.{Network, IsWithinLimits}
+use Rattle.ch_graph.specs.Saved.{OrderAndLegs}
+use Rattle.ch_hierarchy.specs.Hierarchy.{LevelsAndLegs}
+use Rattle.ch_hierarchy.specs.Kept.{IsKept}
+use Rattle.ch_run.specs.declared.fault.RunFault.{RunFault}
+use Rattle.ch_run.specs.declared.fault.Which.{Which}
+use Rattle.ch_run.specs.declared.source.Source.{Source}
+use Rattle.ch_run.specs.Lists.{IsOfLists}
+use Rattle.ch_run.specs.NearRun.{IsOfNodeLists}
+use Rattle.ch_run.specs.Run.{IsOf, IsWrite, Reading, ReadsGraph, StopsAt}
+use Rattle.ch_run.specs.Source.{AreChecked, AreLoaded, IsOfLoading, ReadsSource, WithLoaded, source_reading}
+use Rattle.ch_run.proofs.Inputs.{of_one}
+
+-- the graph is within the limits
+pub loaded_limits : (graph : Reading) (saved : Option Reading) (g : Network) (h : Option LevelsAndLegs) → AreLoaded graph saved g h → IsWithinLimits g
+loaded_limits graph None g h is = is.0
+loaded_limits graph (Some saved) g None is = absurd is
+loaded_limits graph (Some saved) g (Some H) is = is.1.limits
+
+-- the saved hierarchy, where there is one, is right for it
+pub loaded_kept : (graph : Reading) (saved : Option Reading) (g : Network) (h : Option LevelsAndLegs) → AreLoaded graph saved g h → IfSome h (IsKept g)
+loaded_kept graph None g None is = tt
+loaded_kept graph None g (Some H) is = cc
+loaded_kept graph (Some saved) g None is = absurd is
+loaded_kept graph (Some saved) g (Some H) is = is.1.names.1
+
+-- where there is none, none was to be read
+pub loaded_built : {T S : Type 0} (graph : Reading) (r : Result T RunFault) (left : S → Option (List ℕ)) (failed : S → ℕ) (old new : Source S) (g : Network) (h : Option LevelsAndLegs) →
+    AreLoaded graph (source_reading left old new) g h → ReadsSource graph r left failed old new → IsNone h → old ≡ Source.Built
+loaded_built graph r left failed Source.Built new g h is reads none = refl
+loaded_built graph r left failed (Source.Saved old) Source.Built g h is reads none = absurd reads
+loaded_built graph r left failed (Source.Saved old) (Source.Saved new) g None is reads none = absurd is
+loaded_built graph r left failed (Source.Saved old) (Source.Saved new) g (Some H) is reads none = cc
+
+-- a fault of loading is of the graph or of the saved hierarchy
+pub loading_past : (saved : Option Reading) (e : RunFault) → IsOfLoading saved e → (which : Which) → (which ≡ Which.Graph → ⊥) → (which ≡ Which.Saved → ⊥) → StopsAt which e → ⊥
+loading_past None e own which not_graph not_saved stops = not_graph (of_one Which.Graph which e own stops)
+loading_past (Some saved) e (inl own) which not_graph not_saved stops = not_graph (of_one Which.Graph which e own stops)
+loading_past (Some saved) e (inr own) which not_graph not_saved stops = not_saved (of_one Which.Saved which e own stops)
+
+-- what was loaded without a saved hierarchy
+pub built : (graph : Reading) (P : Network → Option LevelsAndLegs → Type 0) → WithLoaded graph None P → (g : Network) × IsWithinLimits g × ReadsGraph graph g × P g None
+built graph P t = (t.0, t.2.0, t.2.1, subst (P t.0) t.2.2 t.3)
+
+-- and with one
+pub checked : (graph saved : Reading) (P : Network → Option LevelsAndLegs → Type 0) → WithLoaded graph (Some saved) P →
+    (g : Network) × (s : OrderAndLegs) × (H : LevelsAndLegs) × AreChecked graph saved g s H × P g (Some H)
+checked graph saved P t = at t.1 t.2 t.3
+  where
+    at : (h : Option LevelsAndLegs) → AreLoaded graph (Some saved) t.0 h → P t.0 h → (g : Network) × (s : OrderAndLegs) × (H : LevelsAndLegs) × AreChecked graph saved g s H × P g (Some H)
+    at None is p = absurd is
+    at (Some H) is p = (t.0, is.0, H, is.1, p)
+
+-- a fault of an input is no refused write
+pub of_no_write : (which : Which) (e : RunFault) → IsOf which e → IsWrite e → ⊥
+of_no_write which (RunFault.Write count) own write = own
+of_no_write which (RunFault.Read input f) own write = write
+of_no_write which RunFault.Cells own write = write
+of_no_write which (RunFault.CellsAt line) own write = write
+of_no_write which RunFault.Memory own write = write
+of_no_write which (RunFault.Device input) own write = write
+of_no_write which (RunFault.Check f) own write = write
+
+-- so is none of loading
+pub loading_no_write : (saved : Option Reading) (e : RunFault) → IsOfLoading saved e → IsWrite e → ⊥
+loading_no_write None e own = of_no_write Which.Graph e own
+loading_no_write (Some saved) e (inl own) = of_no_write Which.Graph e own
+loading_no_write (Some saved) e (inr own) = of_no_write Which.Saved e own
+
+-- want of memory is one of loading
+pub loading_memory : (saved : Option Reading) → IsOfLoading saved RunFault.Memory
+loading_memory None = tt
+loading_memory (Some saved) = inl tt
+
+-- and so is none of the lists of a table
+pub lists_no_write : (e : RunFault) → IsOfLists e → IsWrite e → ⊥
+lists_no_write e (inl own) write = of_no_write Which.Sources e own write
+lists_no_write e (inr (inl own)) write = of_no_write Which.Targets e own write
+lists_no_write e (inr (inr cells)) write = subst IsWrite cells write
+
+-- nor of the lists of near rows
+pub node_lists_no_write : (sources : Option Reading) (e : RunFault) → IsOfNodeLists sources e → IsWrite e → ⊥
+node_lists_no_write None e (inl own) = absurd own
+node_lists_no_write (Some sources) e (inl own) = of_no_write Which.Sources e own
+node_lists_no_write None e (inr own) = of_no_write Which.Targets e own
+node_lists_no_write (Some sources) e (inr own) = of_no_write Which.Targets e own
+
+-- a fault of these is of no other input
+pub past_node_lists : (sources : Option Reading) (e : RunFault) → IsOfNodeLists sources e → (which : Which) → (which ≡ Which.Sources → ⊥) → (which ≡ Which.Targets → ⊥) → StopsAt which e → ⊥
+past_node_lists None e (inl own) which not_sources not_targets stops = absurd own
+past_node_lists (Some sources) e (inl own) which not_sources not_targets stops = not_sources (of_one Which.Sources which e own stops)
+past_node_lists None e (inr own) which not_sources not_targets stops = not_targets (of_one Which.Targets which e own stops)
+past_node_lists (Some sources) e (inr own) which not_sources not_targets stops = not_targets (of_one Which.Targets which e own stops)
+
+-- loading ends in no fault of cells
+pub loading_no_cells : (saved : Option Reading) → IsOfLoading saved RunFault.Cells → ⊥
+loading_no_cells None own = own
+loading_no_cells (Some saved) (inl own) = own
+loading_no_cells (Some saved) (inr own) = own

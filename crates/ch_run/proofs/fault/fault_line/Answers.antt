@@ -1,0 +1,16 @@
+use Rattle.std.proofs.Common.{[], ◌∷◌, ◌++◌, ap, append_assoc, sym}
+use Rattle.std.specs.Prelude.{codes, decimal}
+use Rattle.ch_run.proofs.fault.fault_line.Goals as goal
+
+-- what is put in front stands in front
+pub returns-in-CellsAt : goal.returns-in-CellsAt
+returns-in-CellsAt c =
+    let together = append_assoc (decimal c.in-CellsAt.place) (codes ": too many cells") (10 ∷ []) in
+    rw (
+      c.in-CellsAt.is,
+      c.prepend_slice-in-CellsAt-2.ensures.text,
+      c.prepend_number-in-CellsAt.ensures.text,
+      c.prepend_slice-in-CellsAt.ensures.text,
+      c.prepend.ensures.text,
+      c.new-line.ensures,
+    ) (ap (λ rest. codes "chtab: request line " ++ rest) (sym together))

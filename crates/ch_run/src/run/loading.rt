@@ -1,0 +1,168 @@
+//! A graph, read to its end and judged, and where a hierarchy was saved that one too, which is checked for the graph.
+ghost use Rattle.std.specs.Prelude.{◌≡◌, ◌<◌, ◌↔◌, ◌⊎◌, IfOk, IfErr, IfSome, IsNone};
+ghost use Rattle.ch_graph.specs.Saved.{OrderAndLegs};
+ghost use Rattle.ch_read.specs.declared.fault.ReadFault.{ReadFault as FaultAt};
+ghost use Rattle.ch_hierarchy.specs.declared.fault.CheckFault.{CheckFault as FaultOf};
+ghost use Rattle.ch_hierarchy.specs.Kept.{IsKept};
+ghost use Rattle.ch_contract.specs.Legs.{IsHopBound};
+ghost use Rattle.ch_text.specs.Device.{CanCountOneMore, CountsAtMostOne};
+ghost use Rattle.ch_run.specs.Run.{AcceptsGraph, GoesPast, IsGraphRefused, IsOf, Reads, reading};
+ghost use Rattle.ch_run.specs.Source.{AreChecked, AreLoaded, HasCheckRefused, HasSavedRefused, IsOfChecked, IsOfLoading, IsSavedRefused, IsServing, ReadsSaved, ReadsSource, source_failures, source_reading};
+
+use super::inputs::{bytes_from, graph_from};
+use crate::fault::{RunFault, Which};
+use crate::plan::{Crew, Gate, Stage};
+use crate::source::Source;
+use ch_contract::{CheckError, Hierarchy, OrderBy, build_by};
+use ch_graph::{Graph, Saved};
+use ch_query::check_watched;
+use ch_read::read_saved_by;
+use ch_text::Input;
+use std::alloc::AllocError;
+use std::thread::Threads;
+
+/// A graph, and the hierarchy that was saved for it, if one was.
+#[derive(Drop)]
+pub(crate) struct Loaded {
+    pub(crate) graph: Graph,
+    pub(crate) saved: Option<Hierarchy>,
+}
+
+/// A graph, and a hierarchy that is right for it.
+#[derive(Drop)]
+pub(crate) struct Checked {
+    pub(crate) graph: Graph,
+    pub(crate) hierarchy: Hierarchy,
+}
+
+/// Reads a graph to its end, and then a saved hierarchy, where the hierarchy comes from one. That is checked for the graph.
+pub(crate) fn loaded_from<R: Threads + Sync, I: Input, S: Input + Drop, G: Gate>(
+    crew: &Crew<'_, R, G>,
+    graph: &mut I,
+    source: &mut Source<S>,
+) -> Result<Loaded, RunFault>
+    requires graph { CanCountOneMore (I.failed graph.old) }
+    requires source { CanCountOneMore (source_failures S.failed source.old) }
+    ensures value { IfOk result (λ loaded. AreLoaded (reading I.left graph.old graph.new) (source_reading S.left source.old source.new) loaded.graph loaded.saved) }
+    ensures own { IfErr result (IsOfLoading (source_reading S.left source.old source.new)) }
+    ensures graph { Reads Which.Graph result I.left I.failed graph.old graph.new IsGraphRefused }
+    ensures source { ReadsSource (reading I.left graph.old graph.new) result S.left S.failed source.old source.new }
+{
+    match source {
+        Source::Built => {
+            crew.gate.watch(Stage::Reading, 0, 1);
+            let graph = graph_from(crew, graph)?;
+            // The proof learns from this call that the graph keeps the limits.
+            let _ = graph.arcs();
+            Ok(Loaded { graph, saved: None })
+        }
+        Source::Saved(saved) => {
+            let Checked { graph, hierarchy } = checked_from(crew, graph, saved)?;
+            Ok(Loaded {
+                graph,
+                saved: Some(hierarchy),
+            })
+        }
+    }
+}
+
+/// Reads a graph to its end, and then a saved hierarchy, which is checked for the graph.
+fn checked_from<R: Threads + Sync, I: Input, S: Input, G: Gate>(
+    crew: &Crew<'_, R, G>,
+    graph: &mut I,
+    saved: &mut S,
+) -> Result<Checked, RunFault>
+    requires graph { CanCountOneMore (I.failed graph.old) }
+    requires saved { CanCountOneMore (S.failed saved.old) }
+
+    ensures value { IfOk result (λ checked. (s : OrderAndLegs) ×
+        AreChecked (reading I.left graph.old graph.new) (reading S.left saved.old saved.new) checked.graph s checked.hierarchy) }
+
+    ensures own { IfErr result IsOfChecked }
+    ensures graph_refused { (fault : FaultAt) → result ≡ Err (RunFault.Read Which.Graph fault) →
+        IsGraphRefused (reading I.left graph.old graph.new) fault }
+    ensures saved_refused { (fault : FaultAt) → result ≡ Err (RunFault.Read Which.Saved fault) →
+        HasSavedRefused (reading I.left graph.old graph.new) (reading S.left saved.old saved.new) fault }
+    ensures check_refused { (fault : FaultOf) → result ≡ Err (RunFault.Check fault) →
+        HasCheckRefused (reading I.left graph.old graph.new) (reading S.left saved.old saved.new) fault }
+
+    ensures graph_device { (result ≡ Err (RunFault.Device Which.Graph)) ↔ (I.failed graph.old < I.failed graph.new) }
+    ensures saved_device { (result ≡ Err (RunFault.Device Which.Saved)) ↔ (S.failed saved.old < S.failed saved.new) }
+    ensures graph_once { CountsAtMostOne (I.failed graph.old) (I.failed graph.new) }
+    ensures saved_once { CountsAtMostOne (S.failed saved.old) (S.failed saved.new) }
+    ensures saved_unread { (saved.new ≡ saved.old)
+        ⊎ (GoesPast Which.Graph result × AcceptsGraph (reading I.left graph.old graph.new)) }
+{
+    crew.gate.watch(Stage::Reading, 0, 2);
+    let graph = graph_from(crew, graph)?;
+    // The proof learns from this call that the graph keeps the limits.
+    let _ = graph.arcs();
+    crew.gate.watch(Stage::Reading, 1, 2);
+    let saved = saved_from(crew, saved, &graph)?;
+    match check_watched(crew, &graph, saved) {
+        Ok(hierarchy) => Ok(Checked { graph, hierarchy }),
+        Err(CheckError::Fault(fault)) => Err(RunFault::Check(fault)),
+        Err(CheckError::NoMemory) => Err(RunFault::Memory),
+    }
+}
+
+impl Loaded {
+    /// The graph with the hierarchy that serves: the saved one, or else one that is built in this order.
+    pub(crate) fn checked<R: Threads + Sync, G: Gate>(
+        self,
+        crew: &Crew<'_, R, G>,
+        hops: u32,
+        order: OrderBy,
+    ) -> Result<Checked, AllocError>
+        requires kept { IfSome self.saved (IsKept self.graph) }
+        requires hops { IsNone self.saved → IsHopBound hops }
+        ensures graph { IfOk result (λ checked. checked.graph ≡ self.graph) }
+        ensures serving { IfOk result (λ checked. IsServing order hops self.graph self.saved checked.hierarchy) }
+        ensures kept { IfOk result (λ checked. IsKept self.graph checked.hierarchy) }
+    {
+        let Loaded { graph, saved } = self;
+        let hierarchy = match saved {
+            Some(hierarchy) => hierarchy,
+            None => build_by(crew, &graph, hops, order)?,
+        };
+        Ok(Checked { graph, hierarchy })
+    }
+
+    /// That hierarchy alone. The graph is dropped, so that its memory serves the answers.
+    pub(crate) fn hierarchy<R: Threads + Sync, G: Gate>(
+        self,
+        crew: &Crew<'_, R, G>,
+        hops: u32,
+        order: OrderBy,
+    ) -> Result<Hierarchy, AllocError>
+        requires kept { IfSome self.saved (IsKept self.graph) }
+        requires hops { IsNone self.saved → IsHopBound hops }
+        ensures serving { IfOk result (IsServing order hops self.graph self.saved) }
+        ensures kept { IfOk result (IsKept self.graph) }
+    {
+        let Checked { graph, hierarchy } = self.checked(crew, hops, order)?;
+        drop(graph);
+        Ok(hierarchy)
+    }
+}
+
+/// Reads an input to its end, as a saved hierarchy on this graph. All workers read its bytes.
+fn saved_from<R: Threads + Sync, S: Input, G: Gate>(
+    crew: &Crew<'_, R, G>,
+    input: &mut S,
+    graph: &Graph,
+) -> Result<Saved, RunFault>
+    requires { CanCountOneMore (S.failed input.old) }
+    ensures value { IfOk result (ReadsSaved (reading S.left input.old input.new) graph.now.nodes) }
+    ensures refused { (fault : FaultAt) → result ≡ Err (RunFault.Read Which.Saved fault) → IsSavedRefused (reading S.left input.old input.new) graph.now.nodes fault }
+    ensures device { (result ≡ Err (RunFault.Device Which.Saved)) ↔ (S.failed input.old < S.failed input.new) }
+    ensures once { CountsAtMostOne (S.failed input.old) (S.failed input.new) }
+    ensures of_input { IfErr result (IsOf Which.Saved) }
+    ensures unchecked { (fault : FaultOf) → result ≡ Err (RunFault.Check fault) → ⊥ }
+{
+    let bytes = bytes_from(crew.alloc, input, Which::Saved)?;
+    match read_saved_by(crew, &bytes, graph.nodes()) {
+        Ok(saved) => Ok(saved),
+        Err(error) => Err(Which::Saved.refusal(error)),
+    }
+}
