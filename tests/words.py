@@ -214,7 +214,7 @@ HELPS = {
         "--progress", "chtab table roads.gr depots.ss shops.ss", "chtab table --within 900000 roads.gr homes.ss doctors.ss",
     ],
     "near --help": [
-        "Usage: chtab near [OPTIONS] <GRAPH> <SOURCES> <TARGETS>\n       chtab near [OPTIONS] --all <GRAPH> <TARGETS>\n", "`n S K T1 X1 ..`",
+        "Usage: chtab near [OPTIONS] <GRAPH> <SOURCES> <TARGETS>\n       chtab near [OPTIONS] --all <GRAPH> <TARGETS>\n", "`n S K T X ..`",
         "--count <K>", "from 1 to 65536 [default: all]", "--within <R>", "from 0 to 1152921504606846976 [default: no limit]", "--from", "--all",
         "Then no SOURCES are given [default: off]", "--saved <FILE>", "--workers <N>", "--piece <K>", "--hops <H>", "--progress",
         "SOURCES and TARGETS, or with --all TARGETS alone", "p aux sp ss K", "chtab near --count 3 roads.gr homes.ss doctors.ss",

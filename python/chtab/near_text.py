@@ -1,4 +1,4 @@
-"""The text of `chtab near` in arrays: for each source a line `n S K T1 X1 .. TK XK`."""
+"""The text of `chtab near` in arrays: for each source a line `n S K T X ..`, with K pairs of T and X."""
 from typing import NamedTuple
 
 import numpy

@@ -131,7 +131,7 @@ class Library:
 
 
 def growth(work, times):
-    """The kilobytes by which memory grows in the second half of so many repetitions."""
+    """How many kilobytes more memory is in use after the second half of the repetitions than before it."""
     for _ in range(times // 2):
         work()
     gc.collect()

@@ -139,7 +139,7 @@ class Drawn:
         (folder / "own.ch").write_text(text_of(case.nodes, case.order, contract_in_order(case.nodes, case.arcs, case.order)))
 
     def hierarchy(self, folder):
-        """The order and the legs by which routes are told: those of the saved hierarchy, or of the one that the run builds."""
+        """The order and the legs of the hierarchy that routes follow: the saved one, or the one that the run builds."""
         case = self.case
         if "--saved" in self.options:
             text = (folder / "own.ch").read_text()

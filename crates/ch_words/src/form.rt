@@ -270,7 +270,7 @@ pub(crate) fn near_command<'a>(alloc: Global) -> Result<Command<'a>, AllocError>
 {
     let command = Command::new(alloc, "near")
         .about(
-            "For each source, writes `n S K T1 X1 ..`: K is how many targets follow, and each T has its distance X \
+            "For each source, writes `n S K T X ..`: K is how many targets follow, and each T has its distance X \
             from S. The nearest comes first, and of equally near ones that which TARGETS names first",
         )
         .override_usage(
