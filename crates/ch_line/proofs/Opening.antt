@@ -1,4 +1,4 @@
--- Where the opening of files ends.
+-- How the opening of files ends.
 use Rattle.std.proofs.Common.{◌≡◌, ◌⊎◌, ℕ, List, [], ◌∷◌, ◌++◌, Option, Some, None, inl, inr, refl, ◌∙◌, subst}
 use Rattle.std.specs.Prelude.{Result, Ok, Err, IsErrAnd}
 use Rattle.ch_run.specs.declared.fault.RunFault.{RunFault}
@@ -7,18 +7,18 @@ use Rattle.ch_line.specs.Files.{FileState}
 use Rattle.ch_line.specs.Inputs.{Task}
 use Rattle.ch_line.specs.Line.{AtMissing, EndsAtMissing, File, IsNotOpened, IsUnopened, MayAllBeThere, MayBeRefused, MayBeThere, saved_files}
 
--- a file that may be there doesn't end it
+-- a file that may exist doesn't end the run
 past : {T : Type 0} (state : FileState) (which : Which) (rest : Type 0) (r : Result T RunFault) → MayBeThere state → rest → AtMissing state which rest r
 past FileState.Untold which rest r there goes = inr goes
 past FileState.Missing which rest r there goes = absurd there
 past (FileState.Holds bytes) which rest r there goes = goes
 
--- files that may all be there end nothing
+-- files that may all exist don't end the run
 pub goes-on : {T : Type 0} (known : List ℕ → FileState) (files : List File) (r : Result T RunFault) → MayAllBeThere known files → EndsAtMissing known files r
 goes-on known [] r there = tt
 goes-on known (file ∷ files) r there = past (known file.1) file.0 (EndsAtMissing known files r) r there.0 (goes-on known files r there.1)
 
--- a file ends a run by a fault, whatever the run would have given
+-- whether a file ends a run in a fault does not depend on the type of the run's result
 same-end : (S T : Type 0) (state : FileState) (which : Which) (before after : Type 0) (fault : RunFault) → (before → after)
     → AtMissing {T = S} state which before (Err fault) → AtMissing {T = T} state which after (Err fault)
 same-end S T FileState.Untold which before after fault goes (inl ends) = inl ends
@@ -26,7 +26,7 @@ same-end S T FileState.Untold which before after fault goes (inr rest) = inr (go
 same-end S T FileState.Missing which before after fault goes ends = ends
 same-end S T (FileState.Holds bytes) which before after fault goes rest = goes rest
 
--- so do files
+-- whether files end a run in a fault does not depend on it either
 same-ends : (S T : Type 0) (known : List ℕ → FileState) (files : List File) (fault : RunFault)
     → EndsAtMissing {T = S} known files (Err fault) → EndsAtMissing {T = T} known files (Err fault)
 same-ends S T known [] fault ends = tt
@@ -34,13 +34,13 @@ same-ends S T known (file ∷ files) fault ends =
     same-end S T (known file.1) file.0 (EndsAtMissing {T = S} known files (Err fault)) (EndsAtMissing {T = T} known files (Err fault)) fault
     (same-ends S T known files fault) ends
 
--- files that end a run at a fault end one to which it was passed on
+-- if files end a run in a fault, they end each run that passes the fault on
 pub passed-on : {S T : Type 0} (known : List ℕ → FileState) (files : List File) (met : Result S RunFault) (r : Result T RunFault) (fault : RunFault)
     → met ≡ Err fault → IsErrAnd r (λ other. other ≡ fault) → EndsAtMissing known files met → EndsAtMissing known files r
 passed-on known files met (Ok x) fault same is ends = absurd is
 passed-on {S} {T} known files met (Err other) fault same is ends = rw is (same-ends S T known files fault (rw same at ends))
 
--- want of memory ends all
+-- a missing file ends a run that ends in its fault or in a lack of memory
 ended : {T : Type 0} (r : Result T RunFault) (which : Which) (e : RunFault) → IsErrAnd r (λ fault. fault ≡ e) → (e ≡ RunFault.Device which) ⊎ (e ≡ RunFault.Memory) → IsErrAnd r (λ fault. (fault ≡ RunFault.Device which) ⊎ (fault ≡ RunFault.Memory))
 ended (Ok x) which e is one = absurd is
 ended (Err fault) which e is (inl device) = inl (is ∙ device)
@@ -55,7 +55,7 @@ memory-ends : {T : Type 0} (known : List ℕ → FileState) (files : List File) 
 memory-ends known [] r is = tt
 memory-ends known (file ∷ files) r is = at-memory (known file.1) file.0 (EndsAtMissing known files r) r is (memory-ends known files r is)
 
--- a file that isn't opened ends it
+-- a file that the system refuses ends the run
 at-refused : {T : Type 0} (state : FileState) (which : Which) (rest : Type 0) (r : Result T RunFault) → IsErrAnd r (λ fault. fault ≡ RunFault.Device which) → MayBeRefused state → AtMissing state which rest r
 at-refused FileState.Untold which rest r is may = inl is
 at-refused FileState.Missing which rest r is may = ended r which (RunFault.Device which) is (inl refl)
@@ -65,24 +65,24 @@ pub not-opened : {T : Type 0} (known : List ℕ → FileState) (file : File) (fi
 not-opened known file files r e is (inl memory) = memory-ends known (file ∷ files) r (subst (λ (f : RunFault). IsErrAnd r (λ fault. fault ≡ f)) memory is)
 not-opened known file files r e is (inr refused) = at-refused (known file.1) file.0 (EndsAtMissing known files r) r (subst (λ (f : RunFault). IsErrAnd r (λ fault. fault ≡ f)) refused.0 is) refused.1
 
--- after files that may all be there
+-- if the first files may all exist, the run ends at the files after them
 pub later : {T : Type 0} (known : List ℕ → FileState) (files more : List File) (r : Result T RunFault) → MayAllBeThere known files → EndsAtMissing known more r → EndsAtMissing known (files ++ more) r
 later known [] more r there ends = ends
 later known (file ∷ files) more r there ends = past (known file.1) file.0 (EndsAtMissing known (files ++ more) r) r there.0 (later known files more r there.1 ends)
 
--- where a saved hierarchy isn't opened
+-- a saved hierarchy that isn't opened ends the run
 pub saved-not-opened : {T : Type 0} (known : List ℕ → FileState) (saved : Option (List ℕ)) (more : List File) (r : Result T RunFault) (e : RunFault) → IsErrAnd r (λ fault. fault ≡ e) → IsUnopened known (saved_files saved) e →
     EndsAtMissing known (saved_files saved ++ more) r
 saved-not-opened known None more r e is un = absurd un
 saved-not-opened known (Some name) more r e is (inl un) = not-opened known (Which.Saved, name) more r e is un
 saved-not-opened known (Some name) more r e is (inr un) = absurd un
 
--- files that may all be there, and more
+-- if the files of two lists may all exist, so may those of both together
 pub all-there : (known : List ℕ → FileState) (files more : List File) → MayAllBeThere known files → MayAllBeThere known more → MayAllBeThere known (files ++ more)
 all-there known [] more there also = also
 all-there known (file ∷ files) more there also = (there.0, all-there known files more there.1 also)
 
--- the fault of one of the first files, or of one of those after them
+-- a fault of one of the first files, or of one of the files after them, is a fault of one of all files
 pub of-first : (known : List ℕ → FileState) (files more : List File) (e : RunFault) → IsUnopened known files e → IsUnopened known (files ++ more) e
 of-first known [] more e un = absurd un
 of-first known (file ∷ files) more e (inl un) = inl un

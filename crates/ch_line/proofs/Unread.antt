@@ -1,4 +1,4 @@
--- Which of a run's inputs couldn't be read.
+-- Which inputs of a run couldn't be read.
 use Rattle.std.proofs.Common.{◌≡◌, ◌⊎◌, ◌<◌, ℕ, List, Option, Some, None, refl, inl, inr}
 use Rattle.std.specs.Prelude.{Result, Err, IfErr}
 use Rattle.ch_read.specs.declared.fault.ReadFault.{ReadFault}
@@ -17,7 +17,7 @@ use Rattle.ch_run.proofs.Writes.{ends_in}
 use Rattle.ch_line.specs.declared.inputs.Asked.{Asked}
 use Rattle.ch_line.specs.Inputs.{HasFailedRead, IsFailedIf}
 
--- loading reads the graph and a saved hierarchy alone
+-- loading reads only the graph and a saved hierarchy
 loading-none : (saved : Option Reading) (which : Which) → (Which.Graph ≡ which → ⊥) → (Which.Saved ≡ which → ⊥) → IsOfLoading saved (RunFault.Device which) → ⊥
 loading-none None which not-graph not-saved own = not-graph own
 loading-none (Some saved) which not-graph not-saved (inl own) = not-graph own
@@ -29,7 +29,7 @@ node-lists-none (Some sources) which not-sources not-targets (inl own) = not-sou
 node-lists-none None which not-sources not-targets (inr own) = not-targets own
 node-lists-none (Some sources) which not-sources not-targets (inr own) = not-targets own
 
--- what each run reads is all that it may be unable to read
+-- a run reports as unread only an input that it reads
 dist-none : (saved : Option Reading) (which : Which) → (Which.Graph ≡ which → ⊥) → (Which.Saved ≡ which → ⊥) → (Which.Queries ≡ which → ⊥) → IsOfDist saved (RunFault.Device which) → ⊥
 dist-none saved which g s q (inl own) = loading-none saved which g s own
 dist-none saved which g s q (inr (inl own)) = q own
@@ -58,7 +58,7 @@ ask-none saved which g s q (inl own) = loading-none saved which g s own
 ask-none saved which g s q (inr (inl own)) = q own
 ask-none saved which g s q (inr (inr write)) = write
 
--- where a hierarchy is built, no run reads a saved one
+-- a run that builds a hierarchy reads no saved one
 dist-built : IsOfDist None (RunFault.Device Which.Saved) → ⊥
 dist-built (inl own) = cc
 dist-built (inr (inl own)) = cc
@@ -87,7 +87,7 @@ save-none which g (inr write) = write
 
 module _ {I : Type 0} (left : I → Option (List ℕ)) (failed : I → ℕ) (r : Result Unit RunFault) (graph : Reading) (before after : I) (read-graph : r ≡ Err (RunFault.Device Which.Graph) → failed before < failed after)
     (old new : Source I) (reads : ReadsSource graph r left failed old new) where
-  -- where a saved hierarchy can't be read, it is one that is read
+  -- if a saved hierarchy can't be read, there is one, and a read of it failed
   saved-unread : (Own : Option Reading → RunFault → Type 0) → (Own None (RunFault.Device Which.Saved) → ⊥) → IfErr r (Own (source_reading left old new)) → r ≡ Err (RunFault.Device Which.Saved) → IsFailedIf failed Which.Saved (saved_in old) Which.Saved
   saved-unread Own none own same = at old new own reads
     where
@@ -96,7 +96,7 @@ module _ {I : Type 0} (left : I → Option (List ℕ)) (failed : I → ℕ) (r :
       at (Source.Saved old) Source.Built own reads = absurd reads
       at (Source.Saved old) (Source.Saved new) own reads = (refl, (new, reads.lines.reads.once.device.0 same))
 
-  -- queries
+  -- if an input of a run over queries can't be read, a read of it failed
   pub queries-unread : (queries queries' : I) → IfErr r (IsOfDist (source_reading left old new)) → (r ≡ Err (RunFault.Device Which.Queries) → failed queries < failed queries') →
       (which : Which) → r ≡ Err (RunFault.Device which) → (which ≡ Which.Requests) ⊎ HasFailedRead failed (record { graph = before; source = old; asked = Asked.Queries queries }) which
   queries-unread queries queries' own read Which.Graph same = inr (inl (refl, (after, read-graph same)))
@@ -106,7 +106,7 @@ module _ {I : Type 0} (left : I → Option (List ℕ)) (failed : I → ℕ) (r :
   queries-unread queries queries' own read Which.Targets same = absurd (dist-none (source_reading left old new) Which.Targets (λ e. cc) (λ e. cc) (λ e. cc) (ends_in r (IsOfDist (source_reading left old new)) (RunFault.Device Which.Targets) own same))
   queries-unread queries queries' own read Which.Requests same = inl refl
 
-  -- the lists of a table
+  -- the same for a table
   pub table-unread : (sources sources' targets targets' : I) → IfErr r (IsOfTable (source_reading left old new)) → (r ≡ Err (RunFault.Device Which.Sources) → failed sources < failed sources') →
       (r ≡ Err (RunFault.Device Which.Targets) → failed targets < failed targets') →
       (which : Which) → r ≡ Err (RunFault.Device which) → (which ≡ Which.Requests) ⊎ HasFailedRead failed (record { graph = before; source = old; asked = Asked.Table sources targets }) which
@@ -118,7 +118,7 @@ module _ {I : Type 0} (left : I → Option (List ℕ)) (failed : I → ℕ) (r :
       absurd (table-none (source_reading left old new) Which.Queries (λ e. cc) (λ e. cc) (λ e. cc) (λ e. cc) (ends_in r (IsOfTable (source_reading left old new)) (RunFault.Device Which.Queries) own same))
   table-unread sources sources' targets targets' own j l Which.Requests same = inl refl
 
-  -- those of near rows
+  -- the same for near rows
   pub near-unread : (earlier : List Which) (accepted : Type 0) (P : Reading → ReadFault → Type 0) (sources sources' : Sources I) (targets targets' : I) →
       IfErr r (IsOfNear (source_reading left old new) (sources_reading left sources sources')) → ReadsSources earlier accepted r left failed sources sources' P → (r ≡ Err (RunFault.Device Which.Targets) → failed targets < failed targets') →
       (which : Which) → r ≡ Err (RunFault.Device which) → (which ≡ Which.Requests) ⊎ HasFailedRead failed (record { graph = before; source = old; asked = Asked.Near sources targets }) which
@@ -137,7 +137,7 @@ module _ {I : Type 0} (left : I → Option (List ℕ)) (failed : I → ℕ) (r :
       (ends_in r (IsOfNear (source_reading left old new) (sources_reading left sources sources')) (RunFault.Device Which.Queries) own same))
   near-unread earlier accepted P sources sources' targets targets' own j l Which.Requests same = inl refl
 
-  -- and requests
+  -- the same for requests
   pub requests-unread : IfErr r (IsOfAsk (source_reading left old new)) → (which : Which) → r ≡ Err (RunFault.Device which) → (which ≡ Which.Requests) ⊎ HasFailedRead failed (record { graph = before; source = old; asked = Asked.Requests }) which
   requests-unread own Which.Graph same = inr (inl (refl, (after, read-graph same)))
   requests-unread own Which.Saved same = inr (inr (inl (saved-unread IsOfAsk ask-built own same)))
@@ -146,7 +146,7 @@ module _ {I : Type 0} (left : I → Option (List ℕ)) (failed : I → ℕ) (r :
   requests-unread own Which.Sources same = absurd (ask-none (source_reading left old new) Which.Sources (λ e. cc) (λ e. cc) (λ e. cc) (ends_in r (IsOfAsk (source_reading left old new)) (RunFault.Device Which.Sources) own same))
   requests-unread own Which.Targets same = absurd (ask-none (source_reading left old new) Which.Targets (λ e. cc) (λ e. cc) (λ e. cc) (ends_in r (IsOfAsk (source_reading left old new)) (RunFault.Device Which.Targets) own same))
 
--- a run that saves a hierarchy reads the graph alone
+-- a run that saves a hierarchy reads only the graph
 pub hierarchy-unread : {I : Type 0} (failed : I → ℕ) (r : Result Unit RunFault) (graph graph' : I) (source : Source I) → IfErr r IsOfSave → (r ≡ Err (RunFault.Device Which.Graph) → failed graph < failed graph') →
     (which : Which) → r ≡ Err (RunFault.Device which) → (which ≡ Which.Requests) ⊎ HasFailedRead failed (record { graph = graph; source = source; asked = Asked.Hierarchy }) which
 hierarchy-unread failed r graph graph' source own read Which.Graph same = inr (inl (refl, (graph', read same)))

@@ -1,4 +1,4 @@
--- What is asked of inputs, and how a run over them ends.
+-- The question that inputs ask, and how a run over them ends.
 use Rattle.std.specs.Prelude.{◌≡◌, ◌⊎◌, ◌↔◌, ◌<◌, ℕ, [], List, Option, Some, None, Result, Err, IfErr, IsErrAnd, ⊤, option_map}
 use Rattle.ch_read.specs.declared.fault.ReadFault.{ReadFault}
 use Rattle.ch_hierarchy.specs.declared.fault.CheckFault.{CheckFault}
@@ -15,11 +15,11 @@ use Rattle.ch_run.specs.TableRun.{HasCellsRefused, HasSourcesRefused, HasTargets
 use Rattle.ch_line.specs.declared.inputs.Asked.{Asked}
 use Rattle.ch_line.specs.declared.inputs.Inputs.{Inputs}
 
--- these bytes, where they are told, read to their end
+-- the reading of these bytes to their end, if they are known
 abbrev pub whole_of : Option (List ℕ) → Reading
 whole_of bytes = record { before = bytes; after = option_map (λ _. []) bytes }
 
--- what is asked of a graph, and of which bytes. Where sources are left out, they are all nodes
+-- a question about a graph, with the readings that it needs. Without a list of sources, each node is a source
 pub data Question : Type 0 where
   Answers : (queries : Reading) → Question
   Table : (sources targets : Reading) → Question
@@ -27,13 +27,13 @@ pub data Question : Type 0 where
   Hierarchy : Question
   Requests : Question
 
--- what is asked of the bytes of a graph, and of a saved hierarchy, where there is one
+-- a question, with the readings of the graph and of a saved hierarchy, if there is one
 pub record Task : Type 0 where
   pub graph : Reading
   pub saved : Option Reading
   pub question : Question
 
--- what is asked of the bytes that the inputs tell
+-- the question that inputs ask, by the bytes that are known of them
 abbrev pub question_of : {I : Type 0} → (I → Option (List ℕ)) → Asked I → Question
 question_of left (Asked.Queries queries) = Answers (whole_of (left queries))
 question_of left (Asked.Table sources targets) = Table (whole_of (left sources)) (whole_of (left targets))
@@ -48,21 +48,21 @@ task_of left inputs = record {
   question = question_of left inputs.asked;
 }
 
--- a run that asks for no requests leaves them alone, and the output takes a text of which P holds: all of it where the run is done,
--- its first bytes where a write was refused, and else none
+-- a run that answers no requests leaves them alone. The output takes a text with P: the whole text if the run succeeds, its first
+-- bytes if a write failed, and otherwise nothing
 pub record WritesText {J O : Type 0} (P : List ℕ → Type 0) (taken : O → Option (List ℕ)) (requests requests' : J) (old new : O) (result : Result Unit RunFault) : Type 0 where
   pub unasked : requests' ≡ requests
   pub delivers : Delivers result (taken old) (taken new) P
   pub unwritten : (new ≡ old) ⊎ IfErr result IsWrite
 
--- a run answers requests as `Serves` says, or ends before in such a fault, and has touched neither them nor the output. A read of
--- them that was refused is told
+-- a run answers requests as `Serves` says, or it ends before that in a fault with `IsBefore` and touches neither them nor the
+-- output. It reports a failed read of the requests exactly if there was one
 pub record WritesAnswers {J O : Type 0} (IsBefore : RunFault → Type 0) (Serves : Reading → (old new : Option (List ℕ)) → Result Unit RunFault → Type 0)
     (left : J → Option (List ℕ)) (failed : J → ℕ) (taken : O → Option (List ℕ)) (requests requests' : J) (old new : O) (result : Result Unit RunFault) : Type 0 where
   pub served : (IsErrAnd result IsBefore × (requests' ≡ requests) × (new ≡ old)) ⊎ Serves (reading left requests requests') (taken old) (taken new) result
   pub device : (result ≡ Err (RunFault.Device Which.Requests)) ↔ (failed requests < failed requests')
 
--- what a run reads of the requests and writes for what is asked, as the options say
+-- what the run for a question reads of the requests, and what it writes, with these options
 abbrev pub WritesFor : {J O : Type 0} → Options → Reading → Option Reading → Question → (left : J → Option (List ℕ)) → (failed : J → ℕ) → (taken : O → Option (List ℕ)) → (requests requests' : J) → (old new : O) → Result Unit RunFault → Type 0
 WritesFor options graph saved (Answers queries) left failed = WritesText (IsAnsweredBy options graph saved queries)
 WritesFor options graph saved (Table sources targets) left failed = WritesText (IsTabledBy options graph saved sources targets)
@@ -73,7 +73,7 @@ WritesFor options graph saved Requests left failed = WritesAnswers (IsOfLoading 
 abbrev pub Writes : {J O : Type 0} → Options → Task → (left : J → Option (List ℕ)) → (failed : J → ℕ) → (taken : O → Option (List ℕ)) → (requests requests' : J) → (old new : O) → Result Unit RunFault → Type 0
 Writes options task left failed = WritesFor options task.graph task.saved task.question left failed
 
--- the faults of a run's own
+-- the faults that the run for a question can end in
 abbrev pub IsOwn : Option Reading → Question → RunFault → Type 0
 IsOwn saved (Answers queries) = IsOfDist saved
 IsOwn saved (Table sources targets) = IsOfTable saved
@@ -81,33 +81,33 @@ IsOwn saved (Near sources targets) = IsOfNear saved sources
 IsOwn saved Hierarchy = IsOfSave
 IsOwn saved Requests = IsOfAsk saved
 
--- a saved hierarchy is refused for what its lines are, or for its first fault on the graph
+-- a saved hierarchy is refused only for a fault of its lines, or for its first fault on the graph
 pub record RefusesHierarchy (graph saved : Reading) (result : Result Unit RunFault) : Type 0 where
   pub lines : (fault : ReadFault) → result ≡ Err (RunFault.Read Which.Saved fault) → HasSavedRefused graph saved fault
   pub check : (fault : CheckFault) → result ≡ Err (RunFault.Check fault) → HasCheckRefused graph saved fault
 
--- where there is one
+-- the same, if there is a saved hierarchy
 abbrev pub RefusesSaved : Reading → Option Reading → Result Unit RunFault → Type 0
 RefusesSaved graph None result = ⊤
 RefusesSaved graph (Some saved) result = RefusesHierarchy graph saved result
 
--- the lists of a table are refused for what they hold
+-- the lists of a table are refused only for faults that they have
 pub record RefusesTable (graph : Reading) (saved : Option Reading) (sources targets : Reading) (result : Result Unit RunFault) : Type 0 where
   pub sources_refused : (fault : ReadFault) → result ≡ Err (RunFault.Read Which.Sources fault) → HasSourcesRefused graph saved sources fault
   pub targets_refused : (fault : ReadFault) → result ≡ Err (RunFault.Read Which.Targets fault) → HasTargetsRefused graph saved sources targets fault
   pub cells_refused : result ≡ Err RunFault.Cells → HasCellsRefused graph saved sources targets
 
--- a list of sources is, where one is read
+-- a list of sources is refused only for a fault that it has, if one is read
 abbrev pub RefusesSources : Reading → Option Reading → Option Reading → Result Unit RunFault → Type 0
 RefusesSources graph saved None result = ⊤
 RefusesSources graph saved (Some sources) result = (fault : ReadFault) → result ≡ Err (RunFault.Read Which.Sources fault) → HasSourcesRefused graph saved sources fault
 
--- and so are the lists of near rows
+-- the lists of near rows are refused only for faults that they have
 pub record RefusesNear (graph : Reading) (saved sources : Option Reading) (targets : Reading) (result : Result Unit RunFault) : Type 0 where
   pub sources_refused : RefusesSources graph saved sources result
   pub targets_refused : (fault : ReadFault) → result ≡ Err (RunFault.Read Which.Targets fault) → HasNearTargetsRefused graph saved sources targets fault
 
--- what is asked is refused for what it holds; of refused requests `Serves` speaks
+-- the files of a question are refused only for faults that they have. For refused requests, see `Serves`
 abbrev pub RefusesAsked : Reading → Option Reading → Question → Result Unit RunFault → Type 0
 RefusesAsked graph saved (Answers queries) result = (fault : ReadFault) → result ≡ Err (RunFault.Read Which.Queries fault) → HasQueriesRefused graph saved queries fault
 RefusesAsked graph saved (Table sources targets) result = RefusesTable graph saved sources targets result
@@ -115,14 +115,14 @@ RefusesAsked graph saved (Near sources targets) result = RefusesNear graph saved
 RefusesAsked graph saved Hierarchy result = ⊤
 RefusesAsked graph saved Requests result = ⊤
 
--- the run for what is asked ends in a fault of its own, and refuses a file for what it holds
+-- the run for a task ends in a fault of its own, and it refuses a file only for a fault that the file has
 pub record EndsFor (task : Task) (result : Result Unit RunFault) : Type 0 where
   pub own : IfErr result (IsOwn task.saved task.question)
   pub graph_refused : (fault : ReadFault) → result ≡ Err (RunFault.Read Which.Graph fault) → IsGraphRefused task.graph fault
   pub saved_refused : RefusesSaved task.graph task.saved result
   pub asked_refused : RefusesAsked task.graph task.saved task.question result
 
--- no read of what is asked has failed
+-- no read of a file of the question has failed
 abbrev pub AreFreshAsked : {I : Type 0} → (I → ℕ) → Asked I → Type 0
 AreFreshAsked failed (Asked.Queries queries) = failed queries ≡ 0
 AreFreshAsked failed (Asked.Table sources targets) = (failed sources ≡ 0) × (failed targets ≡ 0)
@@ -136,20 +136,20 @@ pub record AreFresh {I : Type 0} (failed : I → ℕ) (inputs : Inputs I) : Type
   pub source : source_failures failed inputs.source ≡ 0
   pub asked : AreFreshAsked failed inputs.asked
 
--- a read of this input failed since
+-- this input has a state in which more of its reads have failed
 abbrev pub HasFailed : {I : Type 0} → (I → ℕ) → I → Type 0
 HasFailed {I} failed old = (new : I) × (failed old < failed new)
 
--- this one is the input, and a read of it failed since
+-- `which` names this input, and a read of it failed
 abbrev pub IsFailed : {I : Type 0} → (I → ℕ) → Which → I → Which → Type 0
 IsFailed failed is input which = (is ≡ which) × HasFailed failed input
 
--- so is this one, where there is one
+-- `which` names this input, there is one, and a read of it failed
 abbrev pub IsFailedIf : {I : Type 0} → (I → ℕ) → Which → Option I → Which → Type 0
 IsFailedIf failed is None which = ⊥
 IsFailedIf failed is (Some input) which = IsFailed failed is input which
 
--- or one of what is asked
+-- `which` names a file of the question, and a read of it failed
 abbrev pub IsFailedAsked : {I : Type 0} → (I → ℕ) → Asked I → Which → Type 0
 IsFailedAsked failed (Asked.Queries queries) which = IsFailed failed Which.Queries queries which
 IsFailedAsked failed (Asked.Table sources targets) which = IsFailed failed Which.Sources sources which ⊎ IsFailed failed Which.Targets targets which
@@ -157,6 +157,6 @@ IsFailedAsked failed (Asked.Near sources targets) which = IsFailedIf failed Whic
 IsFailedAsked failed Asked.Hierarchy which = ⊥
 IsFailedAsked failed Asked.Requests which = ⊥
 
--- a read of this one of the inputs failed since
+-- `which` names one of the inputs, and a read of it failed
 abbrev pub HasFailedRead : {I : Type 0} → (I → ℕ) → Inputs I → Which → Type 0
 HasFailedRead failed inputs which = IsFailed failed Which.Graph inputs.graph which ⊎ IsFailedIf failed Which.Saved (saved_in inputs.source) which ⊎ IsFailedAsked failed inputs.asked which

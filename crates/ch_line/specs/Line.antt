@@ -1,4 +1,4 @@
--- What a line asks for, of which files, and how its run ends.
+-- The task of a line, the files that it opens, and how its run ends.
 use Rattle.std.specs.Prelude.{◌≡◌, ◌⊎◌, ℕ, [], ◌∷◌, ◌++◌, List, Option, Some, None, Result, Err, IsErrAnd, ⊤, option_map, if◌then◌else◌}
 use Rattle.std.specs.String.{string_bytes}
 use Rattle.ch_contract.specs.declared.measure.OrderBy.TheVariants.{Difference, Depth}
@@ -15,7 +15,8 @@ use Rattle.ch_line.specs.declared.inputs.Inputs.{Inputs}
 use Rattle.ch_line.specs.Files.{FileState, bytes_of}
 use Rattle.ch_line.specs.Inputs.{Question, Task, EndsFor, HasFailedRead, Writes, task_of, whole_of}
 
--- the options of a run, as the words choose them: the order is that of depth and distances are those from the targets where they ask for it
+-- the options of a run, as the words choose them. `--deep` chooses the order of depth, and `--from` the distances from the
+-- targets
 abbrev pub options_for : Choices → Options
 options_for choices = record {
   plain = choices.plain;
@@ -27,15 +28,15 @@ options_for choices = record {
   direction = if choices.from then From else To;
 }
 
--- the saved hierarchy that is read, if one is
+-- the name of the saved hierarchy, if there is one
 abbrev pub saved_name : Line → Option (List ℕ)
 saved_name line = option_map string_bytes line.saved
 
--- what is known of the bytes of a name's file, read to its end
+-- the reading of the file of a name to its end, if its bytes are known
 abbrev pub file_reading : (List ℕ → FileState) → List ℕ → Reading
 file_reading known name = whole_of (bytes_of (known name))
 
--- the graph of a tool
+-- the name of the graph of a tool
 abbrev pub graph_name : Tool → List ℕ
 graph_name (Tool.Dist graph queries) = string_bytes graph
 graph_name (Tool.Table graph sources targets) = string_bytes graph
@@ -44,7 +45,7 @@ graph_name (Tool.NearAll graph targets) = string_bytes graph
 graph_name (Tool.Save graph) = string_bytes graph
 graph_name (Tool.Ask graph) = string_bytes graph
 
--- the saved hierarchy that a tool reads: one that is named, but by no tool that saves one
+-- the saved hierarchy that a tool reads: the one that is named. `save` reads none
 abbrev pub saved_for : Tool → Option (List ℕ) → Option (List ℕ)
 saved_for (Tool.Dist graph queries) saved = saved
 saved_for (Tool.Table graph sources targets) saved = saved
@@ -53,7 +54,7 @@ saved_for (Tool.NearAll graph targets) saved = saved
 saved_for (Tool.Save graph) saved = None
 saved_for (Tool.Ask graph) saved = saved
 
--- what a tool asks of its files, which are read by their names
+-- the question of a tool, where `read` gives the reading of each name
 abbrev pub tool_question : (List ℕ → Reading) → Tool → Question
 tool_question read (Tool.Dist graph queries) = Question.Answers (read (string_bytes queries))
 tool_question read (Tool.Table graph sources targets) = Question.Table (read (string_bytes sources)) (read (string_bytes targets))
@@ -62,11 +63,11 @@ tool_question read (Tool.NearAll graph targets) = Question.Near None (read (stri
 tool_question read (Tool.Save graph) = Question.Hierarchy
 tool_question read (Tool.Ask graph) = Question.Requests
 
--- of a graph and of a saved hierarchy, if one is named
+-- the task of a tool: its question, with the readings of the graph and of the saved hierarchy, if it reads one
 abbrev pub tool_task : (List ℕ → Reading) → Tool → Option (List ℕ) → Task
 tool_task read tool saved = record { graph = read (graph_name tool); saved = option_map read (saved_for tool saved); question = tool_question read tool }
 
--- what a line asks for of the bytes that are known of its files
+-- the task of a line, by the bytes that are known of its files
 abbrev pub line_task : (List ℕ → FileState) → Line → Task
 line_task known line = tool_task (file_reading known) line.tool (saved_name line)
 
@@ -79,7 +80,7 @@ abbrev pub saved_files : Option (List ℕ) → List File
 saved_files None = []
 saved_files (Some saved) = (Which.Saved, saved) ∷ []
 
--- the files that ask something, in the order in which they are opened
+-- the files of a tool's question, in the order in which they are opened
 abbrev pub asked_files : Tool → List File
 asked_files (Tool.Dist graph queries) = (Which.Queries, string_bytes queries) ∷ []
 asked_files (Tool.Table graph sources targets) = (Which.Sources, string_bytes sources) ∷ (Which.Targets, string_bytes targets) ∷ []
@@ -88,7 +89,7 @@ asked_files (Tool.NearAll graph targets) = (Which.Targets, string_bytes targets)
 asked_files (Tool.Save graph) = []
 asked_files (Tool.Ask graph) = []
 
--- the files that a tool opens, in order: the graph, a saved hierarchy, if it reads one, and what asks something
+-- the files that a tool opens, in order: the graph, the saved hierarchy if it reads one, and the files of its question
 abbrev pub tool_files : Tool → Option (List ℕ) → List File
 tool_files tool saved = ((Which.Graph, graph_name tool) ∷ saved_files (saved_for tool saved)) ++ asked_files tool
 
@@ -96,38 +97,37 @@ tool_files tool saved = ((Which.Graph, graph_name tool) ∷ saved_files (saved_f
 abbrev pub line_files : Line → List File
 line_files line = tool_files line.tool (saved_name line)
 
--- there may be such a file
+-- a file of this state may exist
 abbrev pub MayBeThere : FileState → Type 0
 MayBeThere FileState.Untold = ⊤
 MayBeThere FileState.Missing = ⊥
 MayBeThere (FileState.Holds bytes) = ⊤
 
--- there may be each of these files
+-- each of these files may exist
 abbrev pub MayAllBeThere : (List ℕ → FileState) → List File → Type 0
 MayAllBeThere known [] = ⊤
 MayAllBeThere known (file ∷ files) = MayBeThere (known file.1) × MayAllBeThere known files
 
--- the system may refuse to open it
+-- the system may refuse to open a file of this state
 abbrev pub MayBeRefused : FileState → Type 0
 MayBeRefused FileState.Untold = ⊤
 MayBeRefused FileState.Missing = ⊤
 MayBeRefused (FileState.Holds bytes) = ⊥
 
--- why an input isn't opened: there is no memory, or the system refuses its file
+-- an input isn't opened, for this fault: there is no memory, or the system refuses its file
 abbrev pub IsNotOpened : FileState → Which → RunFault → Type 0
 IsNotOpened known which fault = (fault ≡ RunFault.Memory) ⊎ ((fault ≡ RunFault.Device which) × MayBeRefused known)
 
--- the fault is why one of these files isn't opened
+-- one of these files isn't opened, for this fault
 abbrev pub IsUnopened : (List ℕ → FileState) → List File → RunFault → Type 0
 IsUnopened known [] fault = ⊥
 IsUnopened known (file ∷ files) fault = IsNotOpened (known file.1) file.0 fault ⊎ IsUnopened known files fault
 
--- one of these files isn't opened, and neither requests nor output are touched
+-- one of these files isn't opened, and the run touches neither the requests nor the output
 abbrev pub IsNotBegun : {J O : Type 0} → (List ℕ → FileState) → List File → (requests requests' : J) → (old new : O) → Result Unit RunFault → Type 0
 IsNotBegun known files requests requests' old new result = IsErrAnd result (IsUnopened known files) × (requests' ≡ requests) × (new ≡ old)
 
--- where this file is missing, the run ends at it, or before, for want of memory; and where nothing is known of it,
--- it may end at it, or goes on
+-- if this file is missing, the run ends at it, or in a lack of memory. If nothing is known of it, the run ends at it or goes on
 abbrev pub AtMissing : {T : Type 0} → FileState → Which → Type 0 → Result T RunFault → Type 0
 AtMissing FileState.Untold which rest result = IsErrAnd result (λ fault. fault ≡ RunFault.Device which) ⊎ rest
 AtMissing FileState.Missing which rest result = IsErrAnd result (λ fault. (fault ≡ RunFault.Device which) ⊎ (fault ≡ RunFault.Memory))
@@ -138,12 +138,12 @@ abbrev pub EndsAtMissing : {T : Type 0} → (List ℕ → FileState) → List Fi
 EndsAtMissing known [] result = ⊤
 EndsAtMissing known (file ∷ files) result = AtMissing (known file.1) file.0 (EndsAtMissing known files result) result
 
--- a read failed of an input that was opened for the line
+-- a read of an input that was opened for the line failed
 abbrev pub HasReadFailed : {I : Type 0} → (I → Option (List ℕ)) → (I → ℕ) → (List ℕ → FileState) → Line → Which → Type 0
 HasReadFailed {I} left failed known line which = (inputs : Inputs I) × (task_of left inputs ≡ line_task known line) × HasFailedRead failed inputs which
 
--- the run of a line, as `run_line` owes it: what the output took, where it ends, and which faults were counted. Files and requests
--- tell their bytes and count their failures, each in its own way
+-- the promise of `run_line` on the run of a line: the output, where the run ends, and the failures that were counted.
+-- The files, the requests and the output each have their own functions for known bytes and for counts of failures
 pub record IsRunOf {I J O : Type 0} (left : I → Option (List ℕ)) (failures : I → ℕ) (known : List ℕ → FileState) (left_requests : J → Option (List ℕ)) (failed_requests : J → ℕ)
     (taken : O → Option (List ℕ)) (failed idle : O → ℕ) (line : Line) (requests requests' : J) (old new : O) (result : Result Unit RunFault) : Type 0 where
   pub written : IsNotBegun known (line_files line) requests requests' old new result

@@ -1,4 +1,4 @@
-//! What opens files by their names.
+//! Files that are opened by their names.
 
 ghost use Rattle.std.specs.Prelude.{◌≡◌, ℕ, List, IfOk};
 ghost use Rattle.ch_line.specs.Files.{FileState, Opens};
@@ -13,18 +13,18 @@ pub use memory::{MemoryFile, MemoryFiles};
 pub enum OpenFault {
     /// The system refused it.
     Refused,
-    /// There was no memory.
+    /// There was not enough memory.
     Memory,
 }
 
-/// What opens files by their names.
+/// Opens files by their names.
 ///
-/// Each implementation says what it tells of a name: one over memory tells which names have a file, and its bytes; one
-/// over the system's files tells nothing.
+/// An implementation says what contracts know of each name (`known`). For files in memory they know
+/// which names have a file, and its bytes. For the system's files they know nothing.
 pub trait Files {
     type Input: Input + Drop;
 
-    // what is known of the file of a name
+    // the state of the file of this name, as far as contracts know it
     ghost known: { Self → List ℕ → FileState };
 
     /// Opens the file of this name, at its first byte.

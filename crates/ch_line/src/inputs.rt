@@ -13,7 +13,7 @@ use ch_run::{
 };
 use std::thread::Threads;
 
-/// The opened files of a line, by what is asked of them.
+/// The opened files of a line: the graph, a saved hierarchy if there is one, and the files that ask.
 #[derive(Drop)]
 pub struct Inputs<I: Drop> {
     pub graph: I,
@@ -21,7 +21,7 @@ pub struct Inputs<I: Drop> {
     pub asked: Asked<I>,
 }
 
-/// What is asked of a graph, with the files that ask it.
+/// A question about a graph, with its files.
 #[derive(Drop)]
 pub enum Asked<I: Drop> {
     /// The answers to these queries.
@@ -30,13 +30,14 @@ pub enum Asked<I: Drop> {
     Table { sources: I, targets: I },
     /// The near rows of these lists.
     Near { sources: Sources<I>, targets: I },
-    /// Its hierarchy. That is built, wherever another might come from.
+    /// The hierarchy of the graph. The run builds it, even if a saved one is given.
     Hierarchy,
     /// The answers to the requests.
     Requests,
 }
 
-/// Makes the run that these inputs are for. The requests are read where it is one that answers them, and else left alone.
+/// Makes the run that these inputs are for. It reads the requests only if it answers them, and otherwise
+/// leaves them alone.
 ///
 /// # Errors
 /// The fault of the run.
@@ -53,14 +54,15 @@ pub fn run_inputs<R: Threads + Sync, I: Input + Drop, J: Input, O: Output, G: Ga
     requires zeros { CanCountOneMore (O.idle output.old) }
     requires hops { IsHopBound options.now.hops }
 
-    // What is written is the text that is asked for, all of it or its first bytes, or the answers to requests; nothing else is.
+    // The output takes the text that is asked for, or the answers to requests, and nothing else. A run
+    // that fails may have written only its first bytes.
     ensures written { Writes options.now (task_of I.left inputs) J.left J.failed O.taken requests.old requests.new output.old output.new result }
 
-    // A file is refused for what it holds, and can't be read where a read of it failed.
+    // A file is refused only for a fault that it has. If an input can't be read, a read of it failed.
     ensures ends { EndsFor (task_of I.left inputs) result }
     ensures unread { (which : WhichInput) → result ≡ Err (RunFault.Device which) → (which ≡ Which.Requests) ⊎ HasFailedRead I.failed inputs which }
 
-    // A read or a write that was refused isn't tried again, and a refused write is told.
+    // A read or a write that failed is not tried again. A failed write is reported.
     ensures requests_once { CountsAtMostOne (J.failed requests.old) (J.failed requests.new) }
     ensures output { WritesOnce result O.failed O.idle output.old output.new }
 {

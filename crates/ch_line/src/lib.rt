@@ -1,8 +1,11 @@
-//! Lines: what the program is asked for, and the run that does it over files that are opened by name.
+//! Runs of lines. A line says what the program is asked for. Its run opens files by their names.
 //!
-//! It stands on ch_contract, ch_graph, ch_hierarchy, ch_near, ch_read, ch_run, ch_text, ch_words and ch_work.
-//! Proved of [`run_line`]: where the files tell their bytes, what the output took is the text that the line's tool
-//! makes of the bytes of its files, in the order of its arguments and with its options; and the fault is that of these bytes.
+//! It stands on ch_contract, ch_graph, ch_hierarchy, ch_near, ch_read, ch_run, ch_text, ch_words and
+//! ch_work. Proved of [`run_line`], over files whose bytes are known:
+//!
+//! - The output took the text that the line's tool makes of the bytes of its files. Each file has the
+//!   place of its argument, and the options are those of the line.
+//! - A file is refused only for a fault of its bytes.
 #![tactic(auto)]
 
 mod files;

@@ -19,8 +19,9 @@ use ch_words::{Choices, Line, Tool};
 use std::alloc::Global;
 use std::thread::Threads;
 
-/// Does what a line asks for. All of its files are opened, in the order of the arguments, before one is read. The requests are read
-/// where it asks that they be answered, and else left alone.
+/// Runs a line. It opens the graph first, then the saved hierarchy if there is one, and then the other
+/// files in the order of the arguments. It reads no file before all are open. It reads the requests only
+/// if the line asks for answers to them, and otherwise leaves them alone.
 ///
 /// # Errors
 /// The fault of the first file that can't be opened, or of the run.
@@ -38,18 +39,20 @@ pub fn run_line<R: Threads + Sync, F: Files, J: Input, O: Output, G: Gate>(
     requires failures { CanCountOneMore (O.failed output.old) }
     requires zeros { CanCountOneMore (O.idle output.old) }
 
-    // What is written is what the line asks for, of the files that it names; where one of them isn't opened, nothing is.
+    // The output takes what the line asks for, of the files that it names. If one of them isn't opened,
+    // nothing is read or written.
     ensures written { IsNotBegun (F.known files.now) (line_files line.now) requests.old requests.new output.old output.new result
         ⊎ Writes (options_for line.now.choices) (line_task (F.known files.now) line.now) J.left J.failed O.taken requests.old requests.new output.old output.new result }
 
-    // A missing file ends it before anything is read, and otherwise a fault is of what the files hold.
+    // A missing file ends the run before anything is read. A file is refused only for a fault that it
+    // has. If an input can't be read, it wasn't opened or a read of it failed.
     ensures missing { EndsAtMissing (F.known files.now) (line_files line.now) result }
     ensures ends { EndsFor (line_task (F.known files.now) line.now) result ⊎ IsErrAnd result (IsUnopened (F.known files.now) (line_files line.now)) }
     ensures unread { (which : WhichInput) → result ≡ Err (RunFault.Device which) →
         IsUnopened (F.known files.now) (line_files line.now) (RunFault.Device which) ⊎ (which ≡ Which.Requests)
         ⊎ HasReadFailed F.Input.left F.Input.failed (F.known files.now) line.now which }
 
-    // A read or a write that was refused isn't tried again, and a refused write is told.
+    // A read or a write that failed is not tried again. A failed write is reported.
     ensures requests_once { CountsAtMostOne (J.failed requests.old) (J.failed requests.new) }
     ensures output { WritesOnce result O.failed O.idle output.old output.new }
 {
@@ -63,7 +66,7 @@ pub fn run_line<R: Threads + Sync, F: Files, J: Input, O: Output, G: Gate>(
     run_inputs(&crew, inputs, requests, output, &options_of(&line.choices))
 }
 
-/// The options of a run, as the words choose them.
+/// Returns the options of a run, as the words choose them.
 pub fn options_of(choices: &Choices) -> Options
     ensures { result ≡ options_for choices.now }
 {
@@ -86,10 +89,11 @@ pub fn options_of(choices: &Choices) -> Options
     }
 }
 
-/// Opens the files of a line, in the order of its arguments.
+/// Opens the files of a line: first the graph, then the saved hierarchy if there is one, and then the
+/// other files in the order of the arguments.
 ///
 /// # Errors
-/// `Device` of the first that can't be opened, or `Memory`.
+/// `Device` of the first file that can't be opened, or `Memory`.
 pub fn open_inputs<F: Files>(files: &F, line: &Line) -> Result<Inputs<F::Input>, RunFault>
     ensures fresh { IfOk result (AreFresh F.Input.failed) }
     ensures asked { IfOk result (λ inputs. task_of F.Input.left inputs ≡ line_task (F.known files.now) line.now) }
@@ -107,7 +111,7 @@ pub fn open_inputs<F: Files>(files: &F, line: &Line) -> Result<Inputs<F::Input>,
     })
 }
 
-/// The name of the graph of a tool.
+/// Returns the name of the graph of a tool.
 fn graph_of(tool: &Tool) -> &str
     ensures { result.now ≡ graph_name tool.now }
 {
@@ -121,7 +125,7 @@ fn graph_of(tool: &Tool) -> &str
     }
 }
 
-/// The name of the saved hierarchy that the run of a line reads.
+/// Returns the name of the saved hierarchy that the run of a line reads, if it reads one.
 fn saved_of(line: &Line) -> Option<&str>
     ensures { option_map (λ name. name.now) result ≡ saved_for line.now.tool (saved_name line.now) }
 {
@@ -146,7 +150,7 @@ fn open_source<F: Files>(files: &F, saved: Option<&str>) -> Result<Source<F::Inp
     }
 }
 
-/// Opens the files that ask something, in the order of the arguments.
+/// Opens the files of the tool's question, in the order of the arguments.
 fn open_asked<F: Files>(files: &F, tool: &Tool) -> Result<Asked<F::Input>, RunFault>
     ensures fresh { IfOk result (AreFreshAsked F.Input.failed) }
     ensures asked { IfOk result (λ asked. question_of F.Input.left asked ≡ tool_question (file_reading (F.known files.now)) tool.now) }

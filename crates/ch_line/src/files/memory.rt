@@ -1,4 +1,4 @@
-//! Files in memory, which tell their bytes: for tests.
+//! Files in memory, for tests. Contracts know their bytes.
 
 ghost use Rattle.std.specs.Prelude.{◌≡◌, ◌<◌, ℕ, List};
 ghost use Rattle.ch_line.specs.Files.{state_among};
@@ -13,7 +13,7 @@ pub struct MemoryFile<'a> {
     pub bytes: &'a [u8],
 }
 
-/// Files in memory, the first of each name, which are read at most `most` bytes at a time.
+/// Files in memory, which are read in portions. Of files with one name, the first is opened.
 #[derive(Clone, Copy, Debug)]
 pub struct MemoryFiles<'a> {
     files: &'a [MemoryFile<'a>],
@@ -22,7 +22,8 @@ pub struct MemoryFiles<'a> {
 }
 
 impl<'a> MemoryFiles<'a> {
-    /// These files, whose inputs give at most `most` bytes at a read.
+    /// Makes files of this list. Each read of their inputs gives at most `most` bytes, where `most` is
+    /// at least 1.
     pub fn new(files: &'a [MemoryFile<'a>], most: usize) -> Self
         requires { 0 < most }
         ensures { (name : List ℕ) → ⟦<MemoryFiles<'a> as Files>⟧.known result name ≡ state_among files.now name }

@@ -16,7 +16,7 @@ returns-in_err-graph-clause-missing g c =
 pub returns-in_err-graph-clause-unopened : goal.returns-in_err-graph-clause-unopened
 returns-in_err-graph-clause-unopened g c = own_as _ _ _ c.from_residual.ensures.1 (inl (rw c.graph_of.ensures at c.in_err-graph.ensures.unopened))
 
--- a saved hierarchy isn't
+-- the saved hierarchy isn't opened
 pub returns-in_err-source-clause-missing : goal.returns-in_err-source-clause-missing
 returns-in_err-source-clause-missing g c =
     let known = g.F.Files.known c.args.files.now in
@@ -30,7 +30,7 @@ returns-in_err-source-clause-unopened g c =
     own_as _ _ _ c.from_residual-in_err-source.ensures.1
     (inr (of-first _ (saved_files (saved_for c.args.line.now.tool (saved_name c.args.line.now))) (asked_files c.args.line.now.tool) _ (rw c.saved_of.ensures at c.in_err-source.ensures.unopened)))
 
--- a file that asks something isn't
+-- a file of the question isn't opened
 pub returns-in_err-asked-clause-missing : goal.returns-in_err-asked-clause-missing
 returns-in_err-asked-clause-missing g c =
     let known = g.F.Files.known c.args.files.now in
