@@ -1,4 +1,4 @@
--- From what clap says of its matches to what the words say.
+-- From clap's statements on its matches to the values that the words give.
 use Rattle.std.proofs.Common.{◌≡◌, ◌⊎◌, ◌||◌, ℕ, List, [], Option, Some, None, Result, Ok, refl, ap, ap₂, sym, ◌∙◌, subst, inl, inr, codes, true, false, Bool, map, length, slice_index_or, ◌∷◌, if◌then◌else◌, unwrap_or, Bor, arith}
 use Rattle.std.specs.Box.{box_value}
 use Rattle.std.specs.Prelude.{Box, option_map}
@@ -20,16 +20,16 @@ use Rattle.ch_words.specs.Line.{AreRefusedLists, HasOtherLists, IsFaultOf, IsFla
 use Rattle.ch_words.specs.declared.line.Line.{Line}
 use Rattle.ch_words.specs.declared.fault.LineFault.{LineFault}
 
--- a command with no global argument has none once one that is not global is added
+-- a command without global arguments stays without them if an argument that is not global is added
 pub stays_local : (old : Command) (arg : Arg) (new : Command) → AddsArg old arg new → (out-Command old).has_globals ≡ false → arg.global ≡ false → (out-Command new).has_globals ≡ false
 stays_local old arg new added here there = added.globals ∙ ap₂ ◌||◌ here there
 
--- a flag is read by its text
+-- the text of a flag decides its value
 flag_is : (text : Option Text) (flag : Bool) → (text ≡ None → flag ≡ false) → (text ≡ Some (codes "true") → flag ≡ true) → (text ≡ Some (codes "false") → flag ≡ false) → IsFlag text flag
 flag_is None flag none on off = none refl
 flag_is (Some text) flag none on off = ((λ e. on (ap (λ t. Some t) e)), (λ e. off (ap (λ t. Some t) e)))
 
--- the flag that is read under a name is the one given
+-- the flag that is read under a name is the given one
 pub is_flag : (found : Found) (name : Text) (flag : Bool) → (one_text found name ≡ None → flag ≡ false)
     → (one_text found name ≡ Some (codes "true") → flag ≡ true) → (one_text found name ≡ Some (codes "false") → flag ≡ false)
     → IsFlagIn (rows_of found) name flag
@@ -37,7 +37,7 @@ is_flag found name flag none on off =
     let P : Option Text → Type 0 = λ text. IsFlag text flag in
     subst P (one_text-rows found name) (flag_is _ flag none on off)
 
--- the number that is read of the text given under a name is the one that it writes
+-- the number that is read under a name is the one that the given text writes
 pub is_number : {E : Type 0} (gives : List ℕ → Result ℕ E → Type 0) (found : Found) (name : Text) (read : Option ℕ) (number : ℕ)
     → ((text : List ℕ) (r : Result ℕ E) → gives text r → ParsesUnsigned 32 10 text r) → (one_text found name ≡ None → read ≡ None)
     → ((text : List ℕ) → one_text found name ≡ Some text → ReadsOne gives text read) → read ≡ Some number
@@ -56,7 +56,7 @@ is_number {E} gives found name read number parses none value is =
         let parsed = parses text (Ok number) reads in
         ap (λ n. Some n) parsed.1
 
--- the limit that is read of the text given under a name is the number that it writes, and none where none is given
+-- the limit that is read under a name is the number that the given text writes, or none if no text is given
 pub is_limit : {E : Type 0} (gives : List ℕ → Result ℕ E → Type 0) (found : Found) (name : Text) (read : Result (Option ℕ) E) (limit : Option ℕ)
     → ((text : List ℕ) (r : Result ℕ E) → gives text r → ParsesUnsigned 64 10 text r) → (one_text found name ≡ None → read ≡ Ok None)
     → ((text : List ℕ) → one_text found name ≡ Some text → TriesOne gives text read) → read ≡ Ok limit
@@ -76,13 +76,13 @@ is_limit {E} gives found name read limit parses none value is =
         cc
     at (Some text) none value = written text limit (subst (λ (r : Result (Option ℕ) E). TriesOne gives text r) is (value text refl))
 
--- what clap says of the faults of a command of this form holds of what is wrong with the words
+-- clap's statements on the faults of a command of this form hold of the faults of the words
 pub of-faults : (P : Kinds → Type 0) (form : App) (words : List Text) → form ≡ chtab_form → (is_simple_and_free form ≡ true → P (fault_of form words)) → P (faults_of words)
 of-faults P form words is said =
     let Q : App → Type 0 = λ f. is_simple_and_free f ≡ true → P (fault_of f words) in
     subst Q is said refl
 
--- the name and the rows of the subcommand that was entered
+-- the entered subcommand is the pair of its name and its rows
 entry_of : (entry : Option (Text × List Row)) (name : Text) (given : List Row) → Some name ≡ option_map (λ p. p.0) entry
     → Some given ≡ option_map (λ p. p.1) entry → entry ≡ Some (name, given)
 entry_of None name given is_name is_given = cc
@@ -91,7 +91,7 @@ entry_of (Some entry) name given is_name is_given =
     let same_rows : entry.1 ≡ given = cc in
     ap₂ (λ n rows. Some (n, rows)) same_name same_rows
 
--- the name that the matches tell is the one that stands beside their rows
+-- the name in the matches is the one beside their rows
 name_of_entry : (matches : ArgMatches) → subcommand_name_of matches ≡ option_map (λ p. p.0) (subcommand_rows_of matches)
 name_of_entry matches = go (out-ArgMatches matches).subcommand
   where
@@ -100,7 +100,7 @@ name_of_entry matches = go (out-ArgMatches matches).subcommand
     go None = refl
     go (Some b) = refl
 
--- the matches of a command of this form, with the name that stands beside them, are those given by the words
+-- the matches of a command of this form, with the name beside them, are those that the words give
 pub given-by : (form : App) (words : List Text) (matches : ArgMatches) (name : Text) (given : List Row) → form ≡ chtab_form
     → HasMatchesOf form words matches → Some name ≡ subcommand_name_of matches → Some given ≡ option_map (λ p. p.1) (subcommand_rows_of matches)
     → given_by words ≡ Some (name, given)
@@ -109,7 +109,7 @@ given-by form words matches name given is matched is_name is_given =
     let same = subst P is matched refl in
     sym same.1 ∙ entry_of (subcommand_rows_of matches) name given (is_name ∙ name_of_entry matches) is_given
 
--- what is told of an error tells what is wrong with the words
+-- a fault that is reported for an error of the words is a fault of the words
 pub fault-told : (words : List Text) (kind : ErrorKind) (fault : LineFault) → IsToldOf kind fault → (kind ≡ OutOfMemory) ⊎ IsAmong kind (faults_of words) → IsFaultOf words fault
 fault-told words kind (LineFault.Help text) told (inl memory) = cc
 fault-told words kind (LineFault.Help text) told (inr among) = subst (λ (k : ErrorKind). IsAmong k (faults_of words)) told among
@@ -122,14 +122,14 @@ pub lists-read : (found : Found) (lists : List (Bor Text)) → Some (map (λ (v 
     → lists_in (rows_of found) ≡ map (λ (v : Bor Text). v.now) lists
 lists-read found lists named = sym (ap (λ given. unwrap_or given []) (named ∙ raw_values-rows found (codes "LISTS")))
 
--- other lists than `near` reads, by how many there are
+-- if the lists that are read have a wrong number, `near` is given a wrong number of lists
 pub other-lists : (found : Found) (lists : List (Bor Text)) (all : Bool) → Some (map (λ (v : Bor Text). v.now) lists) ≡ option_map raw_values (matched_of found (codes "LISTS"))
     → IsFlagIn (rows_of found) (codes "all") all → (length lists ≡ (if all then 1 else 2) → ⊥) → HasOtherLists (rows_of found)
 other-lists found lists all named flag other =
     let count : length (lists_in (rows_of found)) ≡ length lists = ap length (lists-read found lists named) ∙ length-map lists (λ (v : Bor Text). v.now) in
     (all, flag, λ same. other (sym count ∙ same))
 
--- a list of one, and of two
+-- a list of one, and then a list of two, by its elements
 pub one-listed : (lists : List (Bor Text)) (d : Bor Text) → length lists ≡ 1 → map (λ (v : Bor Text). v.now) lists ≡ (slice_index_or lists 0 d).now ∷ []
 one-listed [] d one = cc
 one-listed (x ∷ []) d one = refl
@@ -142,20 +142,20 @@ two-listed (x ∷ []) d e two = absurd (omega arith)
 two-listed (x ∷ y ∷ []) d e two = refl
 two-listed (x ∷ y ∷ z ∷ rest) d e two = absurd (omega arith)
 
--- an error of the number of lists that is told refuses other lists
+-- the fault that is reported for a wrong number of lists refuses them
 pub refused-lists : (given : List Row) (fault : LineFault) → IsToldOf WrongNumberOfValues fault → HasOtherLists given → AreRefusedLists (codes "near") given fault
 refused-lists given (LineFault.Help text) told other = cc
 refused-lists given (LineFault.Refused text) told other = (refl, other)
 refused-lists given LineFault.NoMemory told other = tt
 
--- lists that are refused are what is wrong with words in which clap finds nothing wrong
+-- if clap finds nothing wrong with the words, but the lists are refused, that is the fault of the words
 pub lists-fault : (words : List Text) (name : Text) (given : List Row) (fault : LineFault) → faults_of words ≡ []
     → given_by words ≡ Some (name, given) → AreRefusedLists name given fault → IsFaultOf words fault
 lists-fault words name given (LineFault.Help text) right matched refused = absurd refused
 lists-fault words name given (LineFault.Refused text) right matched refused = inr (right, rw matched refused)
 lists-fault words name given LineFault.NoMemory right matched refused = tt
 
--- a line of the tool that the words name, with what they give it, is read from them
+-- a line with the tool and the values that the words give is read from the words
 pub read-from : (line : Line) (words : List Text) (name : Text) (given : List Row) → faults_of words ≡ []
     → given_by words ≡ Some (name, given) → name ≡ name_of line.tool → IsGivenBy given line → IsReadFrom words line
 read-from line words name given right matched is_named read =

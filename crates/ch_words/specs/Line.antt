@@ -1,4 +1,4 @@
--- The words of the command line, and what they say.
+-- The words of the command line, and the line that they give.
 use Rattle.std.specs.Prelude.{◌≡◌, ◌≢◌, ◌≤◌, ◌⊎◌, ℕ, pos, [], ◌∷◌, ◌++◌, Bool, IfSome, List, Option, Some, None, true, false, codes, fold, if◌then◌else◌, length, option_map, unwrap_or, ⊤}
 use Rattle.std.specs.Str.Parse.{digits_value, without_leading_plus}
 use Rattle.std.specs.String.{string_bytes}
@@ -17,7 +17,7 @@ use Rattle.ch_words.specs.declared.line.Line.{Line}
 use Rattle.ch_words.specs.declared.line.Tool.{Tool}
 use Rattle.ch_words.specs.declared.line.Tool.TheVariants.{Ask, Dist, Near, NearAll, Save, Table}
 
--- the most targets of a near row
+-- a near row may have this number as the most targets
 abbrev pub IsCount : ℕ → Type 0
 IsCount most = (1 ≤ most) × (most ≤ MOST_LISTED)
 
@@ -42,15 +42,15 @@ name_of (Ask graph) = codes "ask"
 abbrev pub flag_rule : Text → Rule
 flag_rule name = record (new_rule name) { long = Some name; action = Some SetTrue }
 
--- an option with a value, which may be left out
+-- an option with a value. The words may leave it out
 abbrev pub option_rule : Text → Rule
 option_rule name = record (new_rule name) { long = Some name; action = Some Set; value_names = 1 }
 
--- an option: a number from 1 to the most, and the default where the words give none
+-- an option for a number from 1 to the most. The words may leave it out: then it has the default
 abbrev pub number_rule : Text → ℕ → Text → Rule
 number_rule name most default = record (option_rule name) { parser = Some (parser.Signed (pos 1) (pos most)); defaults = default ∷ [] }
 
--- an option: a number from the least to the most, which may be left out
+-- an option for a number from the least to the most. The words may leave it out
 abbrev pub limit_rule : Text → ℕ → ℕ → Rule
 limit_rule name least most = record (option_rule name) { parser = Some (parser.Unsigned least most) }
 
@@ -90,7 +90,7 @@ number_rules = number_rule (codes "workers") MOST_WORKERS (codes "1") ∷ number
 abbrev pub shared_rules : List Rule
 shared_rules = number_rules ++ progress_rule ∷ []
 
--- the words after this name of a tool: these options of its own, those that each tool reads, and these files
+-- the words after the name of a tool: its own options, the options that each tool reads, and its files
 abbrev pub tool_form : Text → List Rule → List Rule → App
 tool_form name own files = fold with_rule (new_app name) (own ++ shared_rules ++ files)
 
@@ -126,32 +126,32 @@ program_form = on_top (λ s. record s { no_binary_name = true; subcommand_requir
 abbrev pub chtab_form : App
 chtab_form = fold (λ form tool. with_subcommand form tool.top) program_form (dist_form ∷ table_form ∷ near_form ∷ save_form ∷ ask_form ∷ [])
 
--- what is wrong with the words, as clap tells it: nothing, or the kinds of fault that come first
+-- the faults that clap finds in the words: none, or the kinds of those that come first
 abbrev pub faults_of : List Text → Kinds
 faults_of = fault_of chtab_form
 
--- the name of the tool that the words name, and what each argument of it is given, as clap matches them
+-- the tool that the words name, and the values of each of its arguments, as clap matches them
 abbrev pub given_by : List Text → Option (Text × List Row)
 given_by = subcommand_of chtab_form
 
--- a flag is on where its text is `true`, and off where that is `false` or there is none
+-- a flag is on if its text is `true`. It is off if its text is `false`, or if it has none
 abbrev pub IsFlag : Option Text → Bool → Type 0
 IsFlag None flag = flag ≡ false
 IsFlag (Some text) flag = (text ≡ codes "true" → flag ≡ true) × (text ≡ codes "false" → flag ≡ false)
 
--- whether the flag of this name is given
+-- the flag of this name has this value
 abbrev pub IsFlagIn : List Row → Text → Bool → Type 0
 IsFlagIn given name = IsFlag (one_of name given)
 
--- the number that a text writes in decimal digits, which may follow a `+`
+-- the number that a text writes in decimal digits, with or without a `+` before them
 abbrev pub number_of : Text → ℕ
 number_of text = digits_value 10 (without_leading_plus text)
 
--- the number given as the option of this name, or its default where it has one
+-- the number of the option of this name: the given one, or the default if it has one
 abbrev pub number_in : List Row → Text → Option ℕ
 number_in given name = option_map number_of (one_of name given)
 
--- the file given for this name
+-- this file is given for this name
 abbrev pub IsFileIn : List Row → Text → Text → Type 0
 IsFileIn given name file = Some file ≡ first_of name given
 
@@ -159,7 +159,8 @@ IsFileIn given name file = Some file ≡ first_of name given
 abbrev pub lists_in : List Row → List Text
 lists_in given = unwrap_or (all_of (codes "LISTS") given) []
 
--- the files of a tool are those given for their names. `near` is given a list of sources and one of targets, or with `--all` one of targets
+-- the files of a tool are those given for their names. `near` takes a list of sources and one of targets, and with `--all` only
+-- one of targets
 abbrev pub AreFilesIn : List Row → Tool → Type 0
 AreFilesIn given (Dist graph queries) = IsFileIn given (codes "GRAPH") (string_bytes graph) × IsFileIn given (codes "QUERIES") (string_bytes queries)
 AreFilesIn given (Table graph sources targets) = IsFileIn given (codes "GRAPH") (string_bytes graph) × IsFileIn given (codes "SOURCES") (string_bytes sources) × IsFileIn given (codes "TARGETS") (string_bytes targets)
@@ -168,11 +169,11 @@ AreFilesIn given (NearAll graph targets) = IsFileIn given (codes "GRAPH") (strin
 AreFilesIn given (Save graph) = IsFileIn given (codes "GRAPH") (string_bytes graph)
 AreFilesIn given (Ask graph) = IsFileIn given (codes "GRAPH") (string_bytes graph)
 
--- the file given of a saved hierarchy, if there is one: plain distances take none
+-- the file of a saved hierarchy, if one is given. Plain distances take none
 abbrev pub saved_in : List Row → Bool → Option Text
 saved_in given plain = if plain then None else first_of (codes "saved") given
 
--- the flags that a tool has are as given, and the others are off
+-- the flags of the tool are as given, and the others are off
 abbrev pub AreFlagsIn : List Row → Tool → Choices → Type 0
 AreFlagsIn given (Dist graph queries) choices = IsFlagIn given (codes "plain") choices.plain × IsFlagIn given (codes "routes") choices.routes × IsFlagIn given (codes "deep") choices.deep × (choices.from ≡ false)
 AreFlagsIn given (Table graph sources targets) choices = (choices.plain ≡ false) × (choices.routes ≡ false) × (choices.deep ≡ false) × (choices.from ≡ false)
@@ -181,13 +182,13 @@ AreFlagsIn given (NearAll graph targets) choices = (choices.plain ≡ false) × 
 AreFlagsIn given (Save graph) choices = (choices.plain ≡ false) × (choices.routes ≡ false) × IsFlagIn given (codes "deep") choices.deep × (choices.from ≡ false)
 AreFlagsIn given (Ask graph) choices = (choices.plain ≡ false) × IsFlagIn given (codes "routes") choices.routes × IsFlagIn given (codes "deep") choices.deep × (choices.from ≡ false)
 
--- workers and pieces are as given, and a step's work is shared from 64 items on
+-- the workers and the size of pieces are as given. While a hierarchy is built, workers share a job only if it has at least 64 nodes
 pub record IsPlanIn (given : List Row) (plan : Division) : Type 0 where
   pub workers : Some plan.workers ≡ number_in given (codes "workers")
   pub piece : Some plan.piece ≡ number_in given (codes "piece")
   pub wide : plan.wide ≡ 64
 
--- what the line holds is what its tool's arguments are given
+-- the line holds the values that its tool's arguments are given
 pub record IsGivenBy (given : List Row) (line : Line) : Type 0 where
   pub flags : AreFlagsIn given line.tool line.choices
   pub hops : Some line.choices.hops ≡ number_in given (codes "hops")
@@ -198,47 +199,48 @@ pub record IsGivenBy (given : List Row) (line : Line) : Type 0 where
   pub saved : option_map string_bytes line.saved ≡ saved_in given line.choices.plain
   pub named : AreFilesIn given line.tool
 
--- nothing is wrong with the words, and they name the line's tool and give it what the line holds
+-- clap finds nothing wrong with the words. They name the line's tool, and give it the values that the line holds
 pub record IsReadFrom (words : List Text) (line : Line) : Type 0 where
   pub right : faults_of words ≡ []
   pub given : List Row
   pub matched : given_by words ≡ Some (name_of line.tool, given)
   pub read : IsGivenBy given line
 
--- the fault is told for an error of this kind
+-- this fault may be reported for an error of this kind
 abbrev pub IsToldOf : ErrorKind → LineFault → Type 0
 IsToldOf kind (LineFault.Help _) = kind ≡ DisplayHelp
 IsToldOf kind (LineFault.Refused _) = (kind ≢ DisplayHelp) × (kind ≢ OutOfMemory)
 IsToldOf kind LineFault.NoMemory = ⊤
 
--- `near` is given other lists than it reads: with `--all` one, and else two
+-- `near` is given a wrong number of lists. It reads one with `--all`, and otherwise two
 abbrev pub HasOtherLists : List Row → Type 0
 HasOtherLists given = (all : Bool) × IsFlagIn given (codes "all") all × (length (lists_in given) ≢ (if all then 1 else 2))
 
--- the words name `near`, with other lists than it reads
+-- the words name `near`, with a wrong number of lists
 abbrev pub NamesOtherLists : Option (Text × List Row) → Type 0
 NamesOtherLists None = ⊥
 NamesOtherLists (Some (name, given)) = (name ≡ codes "near") × HasOtherLists given
 
--- words after this name, which clap reads, are refused for the lists of `near`, or there is no memory
+-- clap accepts the words after this name. They are refused for the lists of `near`, or there is no memory
 abbrev pub AreRefusedLists : Text → List Row → LineFault → Type 0
 AreRefusedLists name given (LineFault.Help _) = ⊥
 AreRefusedLists name given (LineFault.Refused _) = (name ≡ codes "near") × HasOtherLists given
 AreRefusedLists name given LineFault.NoMemory = ⊤
 
--- help is told where the words ask for it; and words are refused where clap finds something else wrong, or else for the lists of `near`
+-- help is reported only if the words ask for it. Words are refused only if clap finds another fault, or if it finds none and the
+-- lists of `near` are wrong
 abbrev pub IsFaultOf : List Text → LineFault → Type 0
 IsFaultOf words (LineFault.Help _) = IsAmong DisplayHelp (faults_of words)
 IsFaultOf words (LineFault.Refused _) = ((kind : ErrorKind) × (kind ≢ DisplayHelp) × IsAmong kind (faults_of words)) ⊎ ((faults_of words ≡ []) × NamesOtherLists (given_by words))
 IsFaultOf words LineFault.NoMemory = ⊤
 
--- the exit status where no line is read: 0 for help, 2 for words that are refused, 3 for no memory
+-- the exit status if no line is read: 0 for help, 2 for words that are refused, 3 for a lack of memory
 abbrev pub line_status_of : LineFault → ℕ
 line_status_of (LineFault.Help _) = 0
 line_status_of (LineFault.Refused _) = 2
 line_status_of LineFault.NoMemory = 3
 
--- words are refused for the reason that this text gives, or there is no memory for it
+-- words are refused for the reason in this text, or there is no memory for it
 abbrev pub IsRefusedFor : Text → LineFault → Type 0
 IsRefusedFor text (LineFault.Help _) = ⊥
 IsRefusedFor text (LineFault.Refused told) = string_bytes told ≡ text

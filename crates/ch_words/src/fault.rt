@@ -1,4 +1,4 @@
-//! Why the words say nothing to be done.
+//! Why the words give no line.
 
 ghost use Rattle.std.specs.Prelude.{◌≡◌};
 ghost use Rattle.clap.specs.Words.{kind_of};
@@ -9,14 +9,14 @@ use std::alloc::{AllocError, Global};
 use std::error::Error;
 use std::fmt;
 
-/// Why the words say nothing to be done.
+/// Why the words give no line.
 #[derive(Debug, Drop)]
 pub enum LineFault {
-    /// They ask for help, which is this text.
+    /// The words ask for help, and this is the text of it.
     Help(String),
-    /// They are refused, and this text says why.
+    /// The words are refused, and this text says why.
     Refused(String),
-    /// There was no memory.
+    /// There was not enough memory.
     NoMemory,
 }
 
@@ -41,8 +41,8 @@ impl From<AllocError> for LineFault {
 
 impl Error for LineFault {}
 
-/// The program's exit status where no line is read: 0 for help, 2 for words that are refused, 3 for
-/// no memory.
+/// Returns the program's exit status if no line is read: 0 for help, 2 for words that are refused, 3 for
+/// a lack of memory.
 pub fn line_status(fault: &LineFault) -> u8
     ensures { result ≡ line_status_of fault.now }
 {
@@ -53,7 +53,7 @@ pub fn line_status(fault: &LineFault) -> u8
     }
 }
 
-/// Words that are refused for the reason that the text gives.
+/// Returns the fault of words that are refused for the reason in the text, or `NoMemory`.
 pub fn refused(alloc: Global, text: &str) -> LineFault
     ensures { IsRefusedFor text.now result }
 {
@@ -63,7 +63,7 @@ pub fn refused(alloc: Global, text: &str) -> LineFault
     }
 }
 
-/// The fault that is told for an error of clap.
+/// Returns the fault to report for an error of clap.
 pub(crate) fn fault_of(alloc: Global, error: &clap::Error) -> LineFault
     ensures { IsToldOf (kind_of error.now) result }
 {

@@ -11,7 +11,7 @@ use clap::builder::ValueParser;
 use clap::{Arg, ArgAction, Command};
 use std::alloc::{AllocError, Global};
 
-/// A flag.
+/// Makes a flag.
 fn flag<'a>(alloc: Global, name: &'a str, help: &'a str) -> Arg<'a>
     ensures rule { rule_of result ≡ flag_rule name.entry.now }
     ensures local { result.global ≡ false }
@@ -22,7 +22,7 @@ fn flag<'a>(alloc: Global, name: &'a str, help: &'a str) -> Arg<'a>
         .help(help)
 }
 
-/// A file that must be named.
+/// Makes an argument for a file that must be named.
 fn file<'a>(alloc: Global, name: &'a str, help: &'a str) -> Arg<'a>
     ensures rule { rule_of result ≡ file_rule name.entry.now }
     ensures local { result.global ≡ false }
@@ -33,7 +33,7 @@ fn file<'a>(alloc: Global, name: &'a str, help: &'a str) -> Arg<'a>
         .help(help)
 }
 
-/// An option with a value, which may be left out.
+/// Makes an option with a value. The words may leave it out.
 fn option<'a>(alloc: Global, name: &'a str, value: &'a str) -> Arg<'a>
     ensures rule { rule_of result ≡ option_rule name.entry.now }
     ensures local { result.global ≡ false }
@@ -44,7 +44,7 @@ fn option<'a>(alloc: Global, name: &'a str, value: &'a str) -> Arg<'a>
         .value_name(value)
 }
 
-/// An option: a number from 1 to `most`.
+/// Makes an option for a number from 1 to `most`, with a default.
 fn number<'a>(alloc: Global, name: &'a str, value: &'a str, most: u32, default: &'a str) -> Arg<'a>
     ensures rule { rule_of result ≡ number_rule name.entry.now most default.entry.now }
     ensures local { result.global ≡ false }
@@ -54,7 +54,7 @@ fn number<'a>(alloc: Global, name: &'a str, value: &'a str, most: u32, default: 
         .default_value(default)
 }
 
-/// An option that may be left out: a number from `least` to `most`.
+/// Makes an option for a number from `least` to `most`, without a default.
 fn limit<'a>(alloc: Global, name: &'a str, value: &'a str, least: u64, most: u64) -> Arg<'a>
     ensures rule { rule_of result ≡ limit_rule name.entry.now least most }
     ensures local { result.global ≡ false }
@@ -62,7 +62,7 @@ fn limit<'a>(alloc: Global, name: &'a str, value: &'a str, least: u64, most: u64
     option(alloc, name, value).value_parser(ValueParser::unsigned(least, most))
 }
 
-/// Adds the numbers that each tool reads.
+/// Adds the options for numbers that each tool reads.
 fn with_numbers<'a>(alloc: Global, command: Command<'a>) -> Result<Command<'a>, AllocError>
     ensures form { IfOk result (λ c. app_of c ≡ fold with_rule (app_of command.entry) number_rules) }
     ensures local { (fields_of command.entry).has_globals ≡ false → IfOk result (λ c. (fields_of c).has_globals ≡ false) }
@@ -79,7 +79,7 @@ fn with_numbers<'a>(alloc: Global, command: Command<'a>) -> Result<Command<'a>, 
     command.arg(workers)?.arg(piece)?.arg(hops)
 }
 
-/// Whether it is told how far a run is.
+/// Makes the flag that asks for reports of progress.
 fn progress<'a>(alloc: Global) -> Arg<'a>
     ensures rule { rule_of result ≡ progress_rule }
     ensures local { result.global ≡ false }
@@ -100,7 +100,7 @@ fn with_shared<'a>(alloc: Global, command: Command<'a>) -> Result<Command<'a>, A
     with_numbers(alloc, command)?.arg(progress(alloc))
 }
 
-/// Whether routes are written.
+/// Makes the flag that asks for routes.
 fn routes<'a>(alloc: Global) -> Arg<'a>
     ensures rule { rule_of result ≡ routes_rule }
     ensures local { result.global ≡ false }
@@ -112,7 +112,7 @@ fn routes<'a>(alloc: Global) -> Arg<'a>
     )
 }
 
-/// By which order routes are found.
+/// Makes the flag that chooses the order of depth for the hierarchy of routes.
 fn route_order<'a>(alloc: Global) -> Arg<'a>
     ensures rule { rule_of result ≡ deep_rule }
     ensures local { result.global ≡ false }
@@ -125,7 +125,7 @@ fn route_order<'a>(alloc: Global) -> Arg<'a>
     )
 }
 
-/// The limit of distances.
+/// Makes the option for the limit on distances.
 fn limit_of_distances<'a>(alloc: Global, help: &'a str) -> Arg<'a>
     ensures rule { rule_of result ≡ within_rule }
     ensures local { result.global ≡ false }
@@ -133,7 +133,7 @@ fn limit_of_distances<'a>(alloc: Global, help: &'a str) -> Arg<'a>
     limit(alloc, "within", "R", 0, MOST_WEIGHT).help(help)
 }
 
-/// The limit of a table's distances.
+/// Makes the option for the limit on the distances of tables.
 fn within<'a>(alloc: Global) -> Arg<'a>
     ensures rule { rule_of result ≡ within_rule }
     ensures local { result.global ≡ false }
@@ -145,7 +145,7 @@ fn within<'a>(alloc: Global) -> Arg<'a>
     )
 }
 
-/// The file of a saved hierarchy.
+/// Makes the option for the file of a saved hierarchy.
 fn saved<'a>(alloc: Global) -> Arg<'a>
     ensures rule { rule_of result ≡ saved_rule }
     ensures local { result.global ≡ false }
@@ -157,7 +157,7 @@ fn saved<'a>(alloc: Global) -> Arg<'a>
     )
 }
 
-/// The file of the graph.
+/// Makes the argument for the file of the graph.
 fn graph<'a>(alloc: Global) -> Arg<'a>
     ensures rule { rule_of result ≡ file_rule (codes "GRAPH") }
     ensures local { result.global ≡ false }
@@ -170,7 +170,7 @@ fn graph<'a>(alloc: Global) -> Arg<'a>
     )
 }
 
-/// What clap reads after `dist`.
+/// Makes the command `dist` with its options and files.
 fn dist_command<'a>(alloc: Global) -> Result<Command<'a>, AllocError>
     ensures form { IfOk result (λ c. app_of c ≡ dist_form) }
     ensures local { IfOk result (λ c. (fields_of c).has_globals ≡ false) }
@@ -197,7 +197,7 @@ fn dist_command<'a>(alloc: Global) -> Result<Command<'a>, AllocError>
     ))
 }
 
-/// What clap reads after `table`.
+/// Makes the command `table` with its options and files.
 fn table_command<'a>(alloc: Global) -> Result<Command<'a>, AllocError>
     ensures form { IfOk result (λ c. app_of c ≡ table_form) }
     ensures local { IfOk result (λ c. (fields_of c).has_globals ≡ false) }
@@ -224,7 +224,7 @@ fn table_command<'a>(alloc: Global) -> Result<Command<'a>, AllocError>
         .arg(file(alloc, "TARGETS", "A .ss file, as for SOURCES"))
 }
 
-/// What a near row leaves out, and which way its distances go.
+/// Adds the options of near rows: which targets they have, the direction of distances, and the sources.
 fn with_nearness<'a>(alloc: Global, command: Command<'a>) -> Result<Command<'a>, AllocError>
     ensures form { IfOk result (λ c. app_of c ≡ fold with_rule (app_of command.entry) near_rules) }
     ensures local { (fields_of command.entry).has_globals ≡ false → IfOk result (λ c. (fields_of c).has_globals ≡ false) }
@@ -249,7 +249,8 @@ fn with_nearness<'a>(alloc: Global, command: Command<'a>) -> Result<Command<'a>,
     command.arg(count)?.arg(within)?.arg(from)?.arg(all)
 }
 
-/// The lists of `near`. Clap takes one or two of them, since it can't require the first of two only where `--all` is not given.
+/// Makes the argument for the lists of `near`. Clap takes one list or two. It can't require the first of
+/// two only if `--all` is not given.
 fn lists<'a>(alloc: Global) -> Arg<'a>
     ensures rule { rule_of result ≡ lists_rule }
     ensures local { result.global ≡ false }
@@ -263,7 +264,7 @@ fn lists<'a>(alloc: Global) -> Arg<'a>
         )
 }
 
-/// What clap reads after `near`.
+/// Makes the command `near` with its options and files.
 pub(crate) fn near_command<'a>(alloc: Global) -> Result<Command<'a>, AllocError>
     ensures form { IfOk result (λ c. app_of c ≡ near_form) }
     ensures local { IfOk result (λ c. (fields_of c).has_globals ≡ false) }
@@ -288,7 +289,7 @@ pub(crate) fn near_command<'a>(alloc: Global) -> Result<Command<'a>, AllocError>
         .arg(lists(alloc))
 }
 
-/// What clap reads after `save`.
+/// Makes the command `save` with its options and file.
 fn save_command<'a>(alloc: Global) -> Result<Command<'a>, AllocError>
     ensures form { IfOk result (λ c. app_of c ≡ save_form) }
     ensures local { IfOk result (λ c. (fields_of c).has_globals ≡ false) }
@@ -308,7 +309,7 @@ fn save_command<'a>(alloc: Global) -> Result<Command<'a>, AllocError>
     with_shared(alloc, command)?.arg(graph(alloc))
 }
 
-/// What clap reads after `ask`.
+/// Makes the command `ask` with its options and file.
 fn ask_command<'a>(alloc: Global) -> Result<Command<'a>, AllocError>
     ensures form { IfOk result (λ c. app_of c ≡ ask_form) }
     ensures local { IfOk result (λ c. (fields_of c).has_globals ≡ false) }
@@ -330,7 +331,7 @@ fn ask_command<'a>(alloc: Global) -> Result<Command<'a>, AllocError>
     with_shared(alloc, command)?.arg(graph(alloc))
 }
 
-/// What clap reads of the program's own words: `--help` alone. A tool must follow.
+/// Makes the program's own command, without its tools. It has only `--help`, and a tool must follow.
 fn program<'a>(alloc: Global) -> Result<Command<'a>, AllocError>
     ensures { IfOk result (λ c. app_of c ≡ program_form) }
 {
@@ -352,7 +353,7 @@ fn program<'a>(alloc: Global) -> Result<Command<'a>, AllocError>
     Ok(command)
 }
 
-/// What clap reads: the words after the program's name.
+/// Makes the command for all words after the program's name.
 pub fn command<'a>(alloc: Global) -> Result<Command<'a>, AllocError>
     ensures { IfOk result (λ c. app_of c ≡ chtab_form) }
 {

@@ -1,4 +1,4 @@
-//! What the words give the arguments of a tool.
+//! The values that the words give to the arguments of a tool.
 
 ghost use Rattle.std.specs.Prelude.{◌≡◌, ◌≤◌, IfErr, IfOk, IfSome, Some, codes, option_map};
 ghost use Rattle.std.specs.String.{string_bytes};
@@ -18,10 +18,10 @@ use clap::ArgMatches;
 use clap::error::ErrorKind;
 use std::alloc::{AllocError, Global};
 
-/// From how many items on a step's work is shared.
+/// While a hierarchy is built, workers share a job only if it has at least this many nodes.
 const WIDE: u32 = 64;
 
-/// The file of this name, where one is given.
+/// Returns the file of this name, if one is given.
 fn file_given(
     alloc: Global,
     matches: &ArgMatches<'_>,
@@ -35,7 +35,7 @@ fn file_given(
     }
 }
 
-/// The file of this name. Clap has refused words that leave it out.
+/// Returns the file of this name. Clap has refused words without it.
 fn file_of(alloc: Global, matches: &ArgMatches<'_>, name: &str) -> Result<String, AllocError>
     ensures { IfOk result (λ file. Some (string_bytes file) ≡ first_of name.now (rows_of (found_of matches.now))) }
 {
@@ -45,7 +45,8 @@ fn file_of(alloc: Global, matches: &ArgMatches<'_>, name: &str) -> Result<String
     }
 }
 
-/// The tool of this name, with the files that its arguments are given. Clap has refused words that name no tool.
+/// Returns the tool of this name, with the files that its arguments are given. Clap has refused words
+/// that name no tool.
 ///
 /// # Errors
 /// `Refused` for lists that `near` doesn't read; `NoMemory`.
@@ -72,17 +73,18 @@ fn tool_of(alloc: Global, name: &str, matches: &ArgMatches<'_>) -> Result<Tool, 
     }
 }
 
-/// The near rows of this graph that the words ask for: from a list of sources, or with `--all` from each node.
+/// Returns the tool of near rows of this graph: from a list of sources, or with `--all` from each node.
 ///
 /// # Errors
-/// `Refused` where other lists are given than it reads, of which clap only knows that they are one or two; `NoMemory`.
+/// `Refused` for a wrong number of lists: `--all` needs one, and otherwise two are needed. Clap only
+/// knows that there are one or two. `NoMemory`.
 fn near_of(alloc: Global, graph: String, matches: &ArgMatches<'_>) -> Result<Tool, LineFault>
     requires graph { IsFileIn (rows_of (found_of matches.now)) (codes "GRAPH") (string_bytes graph) }
     ensures named { IfOk result (λ tool. codes "near" ≡ name_of tool) }
     ensures files { IfOk result (AreFilesIn (rows_of (found_of matches.now))) }
     ensures refused { IfErr result (AreRefusedLists (codes "near") (rows_of (found_of matches.now))) }
 {
-    // Clap has refused words that give none.
+    // Clap has refused words without lists.
     let Some(lists) = matches.get_strs("LISTS") else {
         return Err(LineFault::NoMemory);
     };
@@ -105,7 +107,7 @@ fn near_of(alloc: Global, graph: String, matches: &ArgMatches<'_>) -> Result<Too
     })
 }
 
-/// Why lists are refused that `near` doesn't read.
+/// Returns the fault for lists that `near` doesn't read.
 fn other_lists(alloc: Global) -> LineFault
     ensures { IsToldOf WrongNumberOfValues result }
 {
@@ -115,7 +117,7 @@ fn other_lists(alloc: Global) -> LineFault
     }
 }
 
-/// The error of lists that `near` doesn't read, as clap tells it.
+/// Makes clap's error for lists that `near` doesn't read.
 fn lists_error(alloc: Global) -> Result<clap::Error, AllocError>
     ensures { IfOk result (λ error. kind_of error ≡ WrongNumberOfValues) }
 {
@@ -125,7 +127,7 @@ fn lists_error(alloc: Global) -> Result<clap::Error, AllocError>
     )
 }
 
-/// The number of this name. Clap has refused words that give none from 1 to `most`.
+/// Returns the number of this name. Clap has refused words that don't give one from 1 to `most`.
 fn number_of(matches: &ArgMatches<'_>, name: &str, most: u32) -> Result<u32, AllocError>
     ensures range { IfOk result (λ number. (1 ≤ number) × (number ≤ most)) }
     ensures given { IfOk result (λ number. Some number ≡ number_in (rows_of (found_of matches.now)) name.now) }
@@ -136,7 +138,7 @@ fn number_of(matches: &ArgMatches<'_>, name: &str, most: u32) -> Result<u32, All
     }
 }
 
-/// The number of this name, where one is given. Clap has refused words that give one above `most`.
+/// Returns the number of this name, if one is given. Clap has refused numbers above `most`.
 fn limit_given(matches: &ArgMatches<'_>, name: &str, most: u64) -> Result<Option<u64>, AllocError>
     ensures range { IfOk result (λ limit. IfSome limit (λ number. number ≤ most)) }
     ensures given { IfOk result (λ limit. limit ≡ number_in (rows_of (found_of matches.now)) name.now) }
@@ -148,7 +150,8 @@ fn limit_given(matches: &ArgMatches<'_>, name: &str, most: u64) -> Result<Option
     }
 }
 
-/// The most targets of a near row, where a number is given. Clap has refused 0 and what is above [`MOST_LISTED`].
+/// Returns the most targets of a near row, if a number is given. Clap has refused 0 and numbers above
+/// [`MOST_LISTED`].
 fn count_given(matches: &ArgMatches<'_>) -> Result<Option<u32>, AllocError>
     ensures range { IfOk result (λ count. IfSome count IsCount) }
     ensures given { IfOk result (λ count. count ≡ number_in (rows_of (found_of matches.now)) (codes "count")) }
@@ -160,14 +163,14 @@ fn count_given(matches: &ArgMatches<'_>) -> Result<Option<u32>, AllocError>
     }
 }
 
-/// Whether the flag of this name is given.
+/// Returns whether the flag of this name is given.
 fn flag_of(matches: &ArgMatches<'_>, name: &str) -> bool
     ensures { IsFlagIn (rows_of (found_of matches.now)) name.now result }
 {
     matches.get_flag(name)
 }
 
-/// The plan that the words give.
+/// Returns the plan that the words give.
 fn plan_of(matches: &ArgMatches<'_>) -> Result<Plan, AllocError>
     ensures limits { IfOk result IsWithinLimits }
     ensures given { IfOk result (IsPlanIn (rows_of (found_of matches.now))) }
@@ -177,7 +180,7 @@ fn plan_of(matches: &ArgMatches<'_>) -> Result<Plan, AllocError>
     Ok(Plan::new(workers, piece, WIDE))
 }
 
-/// What is chosen for a tool. Each has some of the flags, and the others are off.
+/// Returns the choices for a tool. A tool has some of the flags, and the others are off.
 fn choices_of(tool: &Tool, matches: &ArgMatches<'_>) -> Result<Choices, AllocError>
     ensures range { IfOk result (λ choices. (1 ≤ choices.hops) × (choices.hops ≤ MOST_HOPS)) }
     ensures hops { IfOk result (λ choices. Some choices.hops ≡ number_in (rows_of (found_of matches.now)) (codes "hops")) }
@@ -217,7 +220,7 @@ fn choices_of(tool: &Tool, matches: &ArgMatches<'_>) -> Result<Choices, AllocErr
     })
 }
 
-/// The file of a saved hierarchy, where one is given. Plain distances take none.
+/// Returns the file of a saved hierarchy, if one is given. Plain distances take none.
 fn saved_of(
     alloc: Global,
     choices: &Choices,
@@ -231,7 +234,7 @@ fn saved_of(
     file_given(alloc, matches, "saved")
 }
 
-/// The line of the tool of this name, from what its arguments are given.
+/// Returns the line of the tool of this name, with the values of its arguments.
 ///
 /// # Errors
 /// `Refused` for lists that `near` doesn't read; `NoMemory`.

@@ -1,8 +1,11 @@
 //! The words of the command line, and the line that they give: what the program is asked for.
 //!
-//! It stands on ch_graph, ch_work and clap.
-//! Proved of [`read_words`]: a line names the tool that the words name, and holds what clap matches to the tool's arguments, with
-//! each number within its limits. It tells of help where the words ask for it, and refuses words in which something else is wrong.
+//! It stands on ch_graph, ch_work and clap. Proved of [`read_words`]:
+//!
+//! - A line has the tool that the words name, and the values that clap matches to the tool's arguments.
+//!   Each number is within its limits.
+//! - It returns help only if the words ask for it. It refuses words only if something else is wrong with
+//!   them.
 #![tactic(auto)]
 
 mod fault;

@@ -1,11 +1,11 @@
-//! What the program is asked for.
+//! The line: what the program is asked for.
 
 use ch_work::Plan;
 
-/// What the program does, and the names of the files of which it does it.
+/// A tool of the program, and the names of its files.
 #[derive(Debug, Drop)]
 pub enum Tool {
-    /// Answers queries by distances, and by routes where they are asked for.
+    /// Answers queries with distances, and with routes if they are asked for.
     Dist {
         graph: String,
         queries: String,
@@ -16,13 +16,13 @@ pub enum Tool {
         sources: String,
         targets: String,
     },
-    /// Writes for each source the targets that are nearest to it.
+    /// Writes the targets that are nearest to each source.
     Near {
         graph: String,
         sources: String,
         targets: String,
     },
-    /// Writes for each node of the graph the targets that are nearest to it.
+    /// Writes the targets that are nearest to each node of the graph.
     NearAll {
         graph: String,
         targets: String,
@@ -37,33 +37,37 @@ pub enum Tool {
     },
 }
 
-/// What the words choose of how a tool works.
+/// The choices of the words on how a tool works.
 #[derive(Clone, Copy, Debug, PartialEq, Eq)]
 pub struct Choices {
     /// Whether distances come from rounds of relaxation over all arcs, and not from a hierarchy.
     pub plain: bool,
     /// Whether the arcs of a shortest path follow each distance.
     pub routes: bool,
-    /// Whether the hierarchy is built in the order of depth.
+    /// Whether `save`, and `dist` and `ask` with routes, build in the order of depth. All others always
+    /// do.
     pub deep: bool,
     /// The most legs of a witness, from 1 to [`MOST_HOPS`](ch_graph::limits::MOST_HOPS).
     pub hops: u32,
-    /// The greatest distance that a table or a near row tells, if there is one.
+    /// The greatest distance that a table or a near row reports, if there is a limit.
     pub within: Option<u64>,
-    /// The most targets that a near row tells, from 1 to [`MOST_LISTED`](ch_graph::limits::MOST_LISTED), if there is such a number.
+    /// The most targets of a near row, from 1 to [`MOST_LISTED`](ch_graph::limits::MOST_LISTED), if
+    /// there is a limit.
     pub count: Option<u32>,
-    /// Whether the distances of near rows are those from the targets, and not to them.
+    /// Whether the distances of near rows go from the targets to the source. If not, they go to the
+    /// targets.
     pub from: bool,
 }
 
-/// What the words say.
+/// The line that the words give.
 #[derive(Debug, Drop)]
 pub struct Line {
     pub tool: Tool,
-    /// The file of a saved hierarchy, which is read in place of building one. `save` has none, and plain distances take none.
+    /// The file of a saved hierarchy, which the run reads and does not build. It is `None` for `save`
+    /// and for plain distances.
     pub saved: Option<String>,
     pub choices: Choices,
     pub plan: Plan,
-    /// Whether it is to be told how far the run is. It changes nothing of what is written to the output.
+    /// Whether the words ask for reports of progress. These change nothing in the output.
     pub progress: bool,
 }

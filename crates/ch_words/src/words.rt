@@ -1,4 +1,4 @@
-//! The words after the program's name, read.
+//! Reads the words after the program's name.
 
 ghost use Rattle.std.specs.Prelude.{IfErr, IfOk, map};
 ghost use Rattle.ch_words.specs.Line.{IsAllowed, IsFaultOf, IsReadFrom};
@@ -18,7 +18,7 @@ use std::alloc::Global;
 /// `ask [--routes] [--deep] [--within R] [--saved FILE] [--workers N] [--piece K] [--hops H] [--progress] GRAPH`.
 ///
 /// # Errors
-/// `Help` where the words ask for it; `Refused` where they aren't of this form; `NoMemory`.
+/// `Help` if the words ask for it; `Refused` if they don't have one of these forms; `NoMemory`.
 pub fn read_words<'a>(alloc: Global, words: &'a [&'a str]) -> Result<Line, LineFault>
     ensures limits { IfOk result IsAllowed }
     ensures read { IfOk result (IsReadFrom (map (λ word. word.now) words.entry.now)) }
