@@ -3,7 +3,8 @@ ghost use Rattle.std.specs.Prelude.{◌≡◌, ◌^◌};
 ghost use Rattle.ch_graph.specs.declared.limits.TheConstants.{MOST_NODES, MOST_ARCS, MOST_WEIGHT, MOST_SUM, MOST_QUERIES, MOST_LISTED, MOST_LEGS, MOST_PATH_ARCS, MOST_HOPS};
 ghost use Rattle.ch_work.specs.declared.limits.TheConstants.{MOST_WORKERS, MOST_PIECE, MOST_CELLS, MOST_OFFER};
 
-/// What each constant is that a definition takes from the code. The exit statuses stand as numbers in the definitions themselves.
+/// Proves the value of each constant that a definition takes from the code. The definitions themselves
+/// have the exit statuses as numbers.
 pub fn numbers()
     // of a graph
     ensures nodes { MOST_NODES ≡ 2 ^ 25 }

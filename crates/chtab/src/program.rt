@@ -1,4 +1,5 @@
-//! The program, over whatever opens its files and takes its texts: words in, text, fault line and exit status out.
+//! The program over any files, requests and outputs. It takes words, and gives a text, the line of a
+//! fault, and an exit status.
 
 ghost use Rattle.std.specs.Prelude.{◌≡◌, ◌↔◌, IfErr, IfOk, IsTrue, MatchResult, Result, map};
 ghost use Rattle.std.specs.String.{string_bytes};
@@ -14,10 +15,11 @@ use ch_words::{Line, LineFault, line_status, read_words};
 use std::alloc::{AllocError, Global};
 use std::thread::Threads;
 
-/// The exit status where the reader of the output has gone away, which shells give a program that the signal of a closed pipe has ended.
+/// The exit status if the reader of the output has gone away. Shells give the same status to a program
+/// that the signal of a closed pipe has ended.
 pub const CLOSED_PIPE: u8 = 141;
 
-/// What the program runs on: what starts threads, memory, and what opens files by their names.
+/// The system below the program: it starts threads, gives memory, and opens files by their names.
 #[derive(Drop)]
 pub struct System<'r, 'f, R, F> {
     pub rt: &'r R,
@@ -32,12 +34,18 @@ pub enum ProgramFault {
     Run(RunFault),
 }
 
-/// Runs the program on the words after its name, or on why there are none, and gives its exit status: 0 where it is done, 1
-/// where a file or a request was refused, 2 where the words were, 3 where the system refused memory, a file or a write, and
-/// [`CLOSED_PIPE`].
+/// Runs the program on the words after its name, or on the fault of reading them. Returns the exit
+/// status:
 ///
-/// The text of an answer or of help goes to `output`, and the line of a fault to `errors`: none where the reader of the output has
-/// gone away. The requests are read where the words ask that they be answered. The gate is told whether they ask for progress.
+/// - 0 if all is done;
+/// - 1 if a file or a request is refused;
+/// - 2 if the words are refused;
+/// - 3 if the system refuses memory, a file or a write;
+/// - [`CLOSED_PIPE`] if a write fails and the reader of the output has gone away.
+///
+/// It writes the text of an answer or of help to `output`, and the line of a fault to `errors`. With
+/// [`CLOSED_PIPE`] it writes no line. It reads the requests only if the words ask for answers to them.
+/// It tells the gate whether the words ask for progress.
 pub fn run<R: Threads + Sync, F: Files, J: Input, O: Output, E: Output, G: Watch>(
     system: &System<'_, '_, R, F>,
     requests: &mut J,
@@ -62,7 +70,7 @@ pub fn run<R: Threads + Sync, F: Files, J: Input, O: Output, E: Output, G: Watch
     end(errors, &answer, output.is_closed())
 }
 
-/// Does what the words say, or answers why there are none.
+/// Answers the words, or answers why there are none.
 fn answer_to<R: Threads + Sync, F: Files, J: Input, O: Output, G: Watch>(
     system: &System<'_, '_, R, F>,
     requests: &mut J,
@@ -84,7 +92,7 @@ fn answer_to<R: Threads + Sync, F: Files, J: Input, O: Output, G: Watch>(
     }
 }
 
-/// Does what the words say.
+/// Runs the line that the words give, or answers their fault.
 fn answer_words<R: Threads + Sync, F: Files, J: Input, O: Output, G: Watch>(
     system: &System<'_, '_, R, F>,
     requests: &mut J,
@@ -108,7 +116,7 @@ fn answer_words<R: Threads + Sync, F: Files, J: Input, O: Output, G: Watch>(
     }
 }
 
-/// The line that the words say.
+/// Returns the line that the words give, or their fault.
 fn line_of(alloc: Global, words: &[String]) -> Result<Line, LineFault>
     ensures limits { IfOk result IsAllowed }
     ensures read { IfOk result (IsReadFrom (map string_bytes words.now)) }
@@ -118,7 +126,7 @@ fn line_of(alloc: Global, words: &[String]) -> Result<Line, LineFault>
     read_words(alloc, &texts)
 }
 
-/// The words as texts, which clap reads.
+/// Returns the words as texts, which clap reads.
 fn texts_of<'a>(alloc: Global, words: &'a [String]) -> Result<Vec<&'a str>, AllocError>
     ensures { IfOk result (λ texts. map (λ text. text.now) texts.items ≡ map string_bytes words.entry.now) }
 {
@@ -129,7 +137,7 @@ fn texts_of<'a>(alloc: Global, words: &'a [String]) -> Result<Vec<&'a str>, Allo
     Ok(texts)
 }
 
-/// The answer of the program, where this is how the run of its line ended.
+/// Returns the answer of the program for this result of its run.
 fn program_answer(run: Result<(), RunFault>) -> Result<(), ProgramFault>
     ensures { result ≡ answer_of run }
 {
@@ -139,7 +147,7 @@ fn program_answer(run: Result<(), RunFault>) -> Result<(), ProgramFault>
     }
 }
 
-/// Writes the text of help, where that is asked for: it is no fault. Else the fault is the answer.
+/// Writes the text of help if the words ask for it: that is no fault. Any other fault is the answer.
 fn answer_fault<O: Output>(output: &mut O, fault: LineFault) -> Result<(), ProgramFault>
     requires failures { CanCountOneMore (O.failed output.old) }
     requires zeros { CanCountOneMore (O.idle output.old) }
@@ -154,7 +162,8 @@ fn answer_fault<O: Output>(output: &mut O, fault: LineFault) -> Result<(), Progr
     }
 }
 
-/// Tells the fault of an answer, if it has one and the output is not closed to it, and gives the exit status.
+/// Reports the fault of an answer, if it has one, and returns the exit status. A fault is not reported
+/// if [`is_unheard`] says so.
 fn end<E: Output>(errors: &mut E, answer: &Result<(), ProgramFault>, is_closed: bool) -> u8
     requires failures { CanCountOneMore (E.failed errors.old) }
     requires zeros { CanCountOneMore (E.idle errors.old) }
@@ -167,14 +176,14 @@ fn end<E: Output>(errors: &mut E, answer: &Result<(), ProgramFault>, is_closed: 
     }
 }
 
-/// Whether a write was refused since the reader of the output has gone away.
+/// Returns whether a write failed and the reader of the output has gone away.
 fn is_unheard(fault: &ProgramFault, is_closed: bool) -> bool
     ensures { IsTrue result ↔ IsUnheard is_closed fault.now }
 {
     is_closed && matches!(fault, ProgramFault::Run(RunFault::Write(_)))
 }
 
-/// Tells a fault, and gives the exit status.
+/// Reports a fault, and returns the exit status.
 fn tell_fault<E: Output>(errors: &mut E, fault: &ProgramFault) -> u8
     requires failures { CanCountOneMore (E.failed errors.old) }
     requires zeros { CanCountOneMore (E.idle errors.old) }
@@ -186,7 +195,7 @@ fn tell_fault<E: Output>(errors: &mut E, fault: &ProgramFault) -> u8
     }
 }
 
-/// Tells why no line is run, and gives the exit status.
+/// Reports why no line is run, and returns the exit status.
 fn tell_line_fault<E: Output>(errors: &mut E, fault: &LineFault) -> u8
     requires failures { CanCountOneMore (E.failed errors.old) }
     requires zeros { CanCountOneMore (E.idle errors.old) }
@@ -200,7 +209,7 @@ fn tell_line_fault<E: Output>(errors: &mut E, fault: &LineFault) -> u8
     line_status(fault)
 }
 
-/// Tells the fault of a run, and gives the exit status.
+/// Reports the fault of a run, and returns the exit status.
 fn tell_run_fault<E: Output>(errors: &mut E, fault: &RunFault) -> u8
     requires failures { CanCountOneMore (E.failed errors.old) }
     requires zeros { CanCountOneMore (E.idle errors.old) }
@@ -210,7 +219,7 @@ fn tell_run_fault<E: Output>(errors: &mut E, fault: &RunFault) -> u8
     status(fault)
 }
 
-/// Writes a text to the errors. Where that fails, nobody can be told.
+/// Writes a text to the errors. If that fails, nobody can learn of it.
 fn tell<E: Output>(errors: &mut E, text: &[u8])
     requires failures { CanCountOneMore (E.failed errors.old) }
     requires zeros { CanCountOneMore (E.idle errors.old) }

@@ -1,7 +1,8 @@
 //! The system's side of the program: its words, its files and its streams.
 //!
-//! What is proved of [`run`] holds over any reader and any writers. It has content where these tell their bytes, as streams of
-//! `std` in memory do. No contract of `std` tells which words there are, and which bytes a file has.
+//! The contract of [`run`] holds for every reader and all writers. It says something about bytes only if
+//! these are known, as the bytes of `std`'s streams in memory are. No contract of `std` says which words
+//! there are, or which bytes a file has.
 
 ghost use Rattle.std.specs.Prelude.{◌≡◌, None, MatchResult, Result, map};
 ghost use Rattle.std.specs.String.{string_bytes};
@@ -21,13 +22,13 @@ use std::thread::Threads;
 use std::time::Clock;
 use std::{env, fs, rt};
 
-/// The system's files, of which nothing is told.
+/// The system's files. Contracts know nothing of them.
 #[derive(Drop)]
 struct SystemFiles<'a, R: rt::Files> {
     rt: &'a R,
 }
 
-/// A file of the system, of whose bytes nothing is told.
+/// A file of the system. Contracts do not know its bytes.
 #[derive(Drop)]
 pub struct SystemFile<D: Read + Drop> {
     input: ReaderInput<D>,
@@ -77,7 +78,10 @@ impl Lines for Stderr {
     }
 }
 
-/// The words after the program's name.
+/// Returns the words after the program's name.
+///
+/// # Errors
+/// `Refused` for a word that is not UTF-8; `NoMemory`.
 pub fn words_of<R: Env + AllocGlobal>(rt: &R) -> Result<Vec<String>, LineFault> {
     match env::args(rt) {
         Ok(words) => Ok(words.skip(1).collect(rt.alloc())?),
@@ -86,8 +90,9 @@ pub fn words_of<R: Env + AllocGlobal>(rt: &R) -> Result<Vec<String>, LineFault> 
     }
 }
 
-/// Runs the program over these words, the system's files and these streams, and gives its exit status. The terminal is also
-/// told how far a long run is, where it is one.
+/// Runs the program on these words, over the system's files and these streams, and returns its exit
+/// status. Reports of progress go to `terminal`. It gets them if the words ask for them, or if it is a
+/// terminal and a stage takes long.
 pub fn run<R, J, O, E, T>(
     rt: &R,
     words: Result<Vec<String>, LineFault>,

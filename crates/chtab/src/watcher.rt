@@ -1,5 +1,5 @@
-//! Signs of life: lines on standard error that say what a run is doing, while it goes on. No contract speaks of
-//! them, and no answer depends on them.
+//! Reports of progress: lines on standard error that say how far a run is. No contract covers them, and
+//! no answer depends on them.
 
 mod course;
 mod text;
@@ -8,9 +8,9 @@ use ch_run::{Gate, Open, Stage};
 use course::Course;
 use std::alloc::Global;
 
-/// A gate that is told, once the words are read, whether they ask for progress.
+/// A gate that learns whether the words ask for progress.
 pub trait Watch: Gate {
-    /// Called once, before the run of a line.
+    /// Tells the gate whether the words ask for progress. It is called once, before the run of a line.
     fn begin(&self, is_asked: bool);
 }
 
@@ -18,19 +18,20 @@ impl Watch for Open {
     fn begin(&self, _is_asked: bool) {}
 }
 
-/// What tells the time to each thread.
+/// A clock that each thread can read.
 pub trait Timer: Sync {
-    /// The time since some start, in milliseconds, where it can be told.
+    /// Returns the time since a fixed start, in milliseconds, or `None` if the clock can't be read.
     fn milliseconds(&self) -> Option<u64>;
 }
 
-/// What takes lines from each thread.
+/// A writer of lines that each thread can use.
 pub trait Lines: Sync {
-    /// Takes a line, or lets it go where it can't be taken.
+    /// Writes a line, or drops it if it can't be written.
     fn take(&self, line: &str);
 }
 
-/// A gate that writes how far a run is, where that is asked for, or is shown and takes long.
+/// A gate that reports how far a run is, if that is asked for, or if lines are shown and a stage takes
+/// long.
 #[derive(Drop)]
 pub struct Watcher<'a, T, L> {
     timer: &'a T,
@@ -40,7 +41,8 @@ pub struct Watcher<'a, T, L> {
 }
 
 impl<'a, T: Timer, L: Lines> Watcher<'a, T, L> {
-    /// A watcher that gives its lines there, once it is told to begin. What takes long is told unasked where `is_shown`.
+    /// Makes a watcher that writes to `lines` after its `begin`. If `is_shown`, it reports on a stage
+    /// that takes long even if nobody asked.
     pub fn new(timer: &'a T, lines: &'a L, alloc: Global, is_shown: bool) -> Watcher<'a, T, L> {
         Watcher {
             timer,

@@ -1,18 +1,19 @@
-//! What is known of a run that goes on, and when it is told.
+//! The stage of a run, and when the next line on it is due.
 
 use super::text::{Progress, is_cut_in_pieces, number_of, stage_of};
 use ch_run::Stage;
 use std::alloc::Global;
 use std::sync::atomic::{AtomicBool, AtomicU32, AtomicU64, Ordering};
 
-/// How long at least it is between two lines, and until the first line of a stage that nobody asked for, in milliseconds.
+/// The least time between two lines, in milliseconds. In a stage that nobody asked about, it is also the
+/// least time until the first line.
 const INTERVAL: u64 = 1_000;
 
-/// The time at which no line is due.
+/// The value of a due time when no line is due.
 const NEVER: u64 = u64::MAX;
 
-/// A stage is timed after about so many of its steps, and after each of as many at its end: the clock is read in some 50 ns,
-/// so that a stage spends less than a millisecond on it.
+/// The clock is read about this many times in a stage, spread over its steps, and after each of as many
+/// steps at its end. One reading takes about 50 ns, so a stage spends less than a millisecond on it.
 const TIMED: u32 = 4_096;
 
 /// Room for a line, in bytes.
@@ -27,14 +28,14 @@ pub struct Course {
     due: AtomicU64,
     /// The number of the stage.
     stage: AtomicU32,
-    /// How many steps the stage has.
+    /// The number of steps of the stage.
     all: AtomicU32,
     /// When the stage began, in milliseconds.
     begun: AtomicU64,
 }
 
 impl Course {
-    /// No line is due before it begins.
+    /// Makes a course in which no line is due before it begins.
     pub fn new(is_shown: bool) -> Course {
         Course {
             is_shown,
@@ -46,7 +47,7 @@ impl Course {
         }
     }
 
-    /// From now on lines are due, where they are asked for or shown.
+    /// Makes lines due from now on, if they are asked for or shown.
     pub fn begin(&self, is_asked: bool) {
         self.is_asked.store(is_asked, Ordering::SeqCst);
         if is_asked || self.is_shown {
@@ -54,18 +55,19 @@ impl Course {
         }
     }
 
-    /// Whether the clock is read after so many steps of all.
+    /// Returns whether the clock is read after this many steps of all.
     pub fn is_timed_at(&self, done: u32, all: u32) -> bool {
         self.due.load(Ordering::SeqCst) != NEVER && is_among_timed(done, all)
     }
 
-    /// Whether the clock is read before the piece of this number.
+    /// Returns whether the clock is read before the piece of this number.
     pub fn is_timed_at_piece(&self, piece: u32) -> bool {
         is_cut_in_pieces(stage_of(self.stage.load(Ordering::SeqCst)))
             && self.is_timed_at(piece, self.all.load(Ordering::SeqCst))
     }
 
-    /// A stage of so many steps begins. Where nobody asks for its progress no line is due before it has taken long.
+    /// Begins a stage with `all` steps. If nobody asked for progress, no line is due in its first
+    /// second.
     pub fn begin_stage(&self, stage: Stage, all: u32, now: u64) {
         self.stage.store(number_of(stage), Ordering::SeqCst);
         self.all.store(all, Ordering::SeqCst);
@@ -76,7 +78,8 @@ impl Course {
         }
     }
 
-    /// The line that is due after so many steps, where one is, no other thread has it, and there is memory for it.
+    /// Returns the line that is due after this many steps. Returns `None` if no line is due, another
+    /// thread has it, or there is no memory for it.
     pub fn line_at(&self, alloc: Global, done: u32, now: u64) -> Option<String> {
         let due = self.due.load(Ordering::SeqCst);
         if now < due {
@@ -98,7 +101,7 @@ impl Course {
     }
 }
 
-/// Whether a stage is timed after so many steps of all.
+/// Returns whether a stage is timed after this many steps of all.
 pub fn is_among_timed(done: u32, all: u32) -> bool {
     done % (all / TIMED + 1) == 0 || all.saturating_sub(done) <= TIMED
 }

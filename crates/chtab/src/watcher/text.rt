@@ -1,9 +1,9 @@
-//! What is written of a run that goes on.
+//! The text of a line on progress.
 
 use ch_run::Stage;
 use std::fmt;
 
-/// The number of a stage, by which it is kept in an atomic word.
+/// Returns the number of a stage, which an atomic word can hold.
 pub fn number_of(stage: Stage) -> u32 {
     match stage {
         Stage::Reading => 0,
@@ -15,7 +15,7 @@ pub fn number_of(stage: Stage) -> u32 {
     }
 }
 
-/// The stage of a number.
+/// Returns the stage of a number.
 pub fn stage_of(number: u32) -> Stage {
     match number {
         0 => Stage::Reading,
@@ -27,7 +27,7 @@ pub fn stage_of(number: u32) -> Stage {
     }
 }
 
-/// Whether the steps of a stage are pieces, which workers claim in order.
+/// Returns whether the steps of a stage are pieces, which workers claim in order.
 pub fn is_cut_in_pieces(stage: Stage) -> bool {
     match stage {
         Stage::Ranking | Stage::Checking | Stage::Searching | Stage::Answering => true,
@@ -35,7 +35,7 @@ pub fn is_cut_in_pieces(stage: Stage) -> bool {
     }
 }
 
-/// Into how many parts the time of a stage is divided.
+/// The number of parts that the time of a stage is divided into.
 const WHOLE: u64 = 1 << 20;
 
 /// How far a stage is.
@@ -44,13 +44,14 @@ pub struct Progress {
     pub stage: Stage,
     pub done: u32,
     pub all: u32,
-    /// How long it has taken, in milliseconds.
+    /// The time that the stage has taken, in milliseconds.
     pub time: u64,
 }
 
 impl Progress {
-    /// How many of `WHOLE` parts of its time a stage has left, by its steps. Nodes are contracted ever more slowly: on roads the
-    /// time that is left is about as the root of the number of nodes.
+    /// Returns how many of `WHOLE` parts of its time a stage has left, as its steps suggest. Later nodes
+    /// take longer to contract. On roads, the share of the time that is left is about the square root of
+    /// the share of the nodes that are left.
     fn parts_left(&self) -> u64 {
         let steps = u64::from(self.all.saturating_sub(self.done));
         let all = u64::from(self.all.max(1));
@@ -60,7 +61,8 @@ impl Progress {
         }
     }
 
-    /// About how long the rest takes, in seconds, rounded up; none where too little is done to tell.
+    /// Returns about how many seconds the rest takes, rounded up, or `None` if too little is done to
+    /// tell.
     pub fn seconds_left(&self) -> Option<u64> {
         let left = self.parts_left().min(WHOLE);
         let past = WHOLE - left;
@@ -71,7 +73,7 @@ impl Progress {
         Some((time * left / past).div_ceil(1_000))
     }
 
-    /// What is done, in words.
+    /// Returns the words for the work of the stage.
     fn action(&self) -> &'static str {
         match self.stage {
             Stage::Reading => "reading",
@@ -83,7 +85,7 @@ impl Progress {
         }
     }
 
-    /// What the steps are called.
+    /// Returns the word for the steps of the stage.
     fn steps(&self) -> &'static str {
         match self.stage {
             Stage::Reading => "files",
@@ -109,7 +111,7 @@ impl fmt::Display for Progress {
     }
 }
 
-/// A number with a comma after each three digits.
+/// A number, written with a comma between groups of three digits.
 #[derive(Clone, Copy)]
 struct Grouped(u32);
 
@@ -132,7 +134,7 @@ impl fmt::Display for Grouped {
     }
 }
 
-/// Seconds, as hours or minutes where they are many, rounded up.
+/// A time in seconds, written in minutes from 100 s on, and in hours from 6,000 s on, rounded up.
 #[derive(Clone, Copy)]
 struct Rounded(u64);
 
