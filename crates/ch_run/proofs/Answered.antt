@@ -1,4 +1,4 @@
--- Requests that are answered, one after the other.
+-- Requests that are answered one after the other.
 use Rattle.std.proofs.Common.{◌≡◌, ℕ, ◌+◌, ◌^◌, ◌<◌, Bool, true, false, eqb, List, [], ◌∷◌, ◌++◌, length, take, map, Option, Some, None, Result, Ok, Err, inl, inr, refl, sym, ap, ◌∙◌, subst, arith, append_assoc}
 use Rattle.std.proofs.lemmas.List.{append-nil, length-append}
 use Rattle.std.proofs.Math.Seq.{take-append-add}
@@ -30,7 +30,7 @@ use Rattle.ch_run.proofs.Texts.{each_weaker}
 
 -- queries that are answered together are answered one by one
 
--- the text of each answer by itself is a text of its query
+-- the joined texts of the answers answer the queries one by one
 module _ (written : Answer → List ℕ) (IsTextOf : TextOf) (from : ℕ × ℕ → Request) (Of : ℕ × ℕ → List ℕ → Type 0)
     (so : (places : PlaceList) (query : ℕ × ℕ) (text : List ℕ) → Of query text → IsTextOf places (from query) text) (stay : (places : PlaceList) (query : ℕ × ℕ) → places_then places (from query) ≡ places) where
   each_answered : (places : PlaceList) (queries : List (ℕ × ℕ)) (answers : List Answer) → AllZip (λ query answer. Of query (written answer)) queries answers →
@@ -46,7 +46,7 @@ module _ (written : Answer → List ℕ) (IsTextOf : TextOf) (from : ℕ × ℕ 
     subst (λ (p : PlaceList). AreAnswered IsTextOf p (map from queries) (flat_map written answers)) (sym (stay places q)) (each_answered places queries answers h.1),
   )
 
--- a text of one answer
+-- the text of one answer is a text of its query
 one_text : (written : Answer → List ℕ) (P : ℕ × ℕ → Answer → Type 0) (query : ℕ × ℕ) (a : Answer) → P query a → HasText written P (query ∷ []) (written a)
 one_text written P query a is = (a ∷ [], (is, tt), sym (append-nil (written a)))
 
@@ -75,7 +75,7 @@ pub split_answers : (options : Options) (routed : Bool) (g : Network) (From : Le
 split_answers options true g From places queries text h = split_by (IsRequestText options g From) (asked_for true) true g From (λ places query one is. is) (stays true) places queries text h
 split_answers options false g From places queries text h = split_by (IsRequestText options g From) (asked_for false) (writes_routes options) g From (λ places query one is. is) (stays false) places queries text h
 
--- near rows that are made together are told one by one
+-- near rows that are made together answer the requests one by one
 pub rows_answered : (options : Options) (g : Network) (From : LevelsAndLegs → Type 0) (within : Option ℕ) (places : PlaceList) (sources : List ℕ) (rows : List (List (ℕ × ℕ))) →
     AllZip (IsNearestRow g options.direction (limit_of options within) places.count places.nodes) sources rows →
     AreAnswered (IsRequestText options g From) places (map (near_row_of within) sources) (flat_map (near_row_text places.nodes) (zip sources rows))
@@ -90,7 +90,7 @@ rows_answered options g From within places (s ∷ sources) (row ∷ rows) h = (
   rows_answered options g From within places sources rows h.1,
 )
 
--- what an output took, and then more
+-- an output took a text, and then more
 
 pub taken_none : (old : Option (List ℕ)) → HasTaken old old []
 taken_none None = tt
@@ -103,7 +103,7 @@ taken_append (Some old) (Some mid) new text more h k =
     let joined : (old ++ text) ++ more ≡ old ++ (text ++ more) = append_assoc old text more in
     cc
 
--- counts go as far as 64 bits
+-- capping a count early does not change the capped sum
 pub capped_on : (a b c : ℕ) → capped_number (capped_number (a + b) + c) ≡ capped_number (a + (b + c))
 capped_on a b c = omega arith
 
@@ -137,7 +137,7 @@ module _ (IsTextOf : TextOf) where
   written_answers places old new before after requests text (Err (RunFault.Read which f)) is h = absurd h
   written_answers places old new before after requests text (Err (RunFault.Check f)) is h = absurd h
 
-  -- a write that was refused is a fault of answering
+  -- a failed write is a fault of answering
   pub more_own : (T : Type 0) (old new : Option (List ℕ)) (before after : ℕ) (text : List ℕ) (e : RunFault) → WritesMore {T = T} old new before after text (Err e) → IsOfAnswering e
   more_own T old new before after text (RunFault.Write count) h = inl tt
   more_own T old new before after text RunFault.Memory h = absurd h
@@ -147,13 +147,13 @@ module _ (IsTextOf : TextOf) where
   more_own T old new before after text (RunFault.Read which f) h = absurd h
   more_own T old new before after text (RunFault.Check f) h = absurd h
 
-  -- nothing is answered where there is no memory
+  -- nothing is answered without memory
   pub answers_nothing : {T : Type 0} (places : PlaceList) (old : Option (List ℕ)) (before after : ℕ) (requests : List Request) (r : Result T RunFault) → IsErrAnd r (λ y. y ≡ RunFault.Memory) → Answers IsTextOf places old old before after requests r
   answers_nothing places old before after requests (Ok x) is = absurd is
   answers_nothing {T} places old before after requests (Err y) is =
       subst (λ (f : RunFault). Answers {T = T} IsTextOf places old old before after requests (Err f)) (sym is) ([], requests, refl, ([], answered_none places, taken_none old))
 
-  -- where answering ends in want of memory or a refused write, there may have been more to answer
+  -- if answering ends in a lack of memory or a failed write, there may have been more requests
   answers_front : (places : PlaceList) (old new : Option (List ℕ)) (before after : ℕ) (xs ys : List Request) (e : RunFault) → IsOfAnswering e → Answers {T = Unit} IsTextOf places old new before after xs (Err e) →
       Answers {T = Unit} IsTextOf places old new before after (xs ++ ys) (Err e)
   answers_front places old new before after xs ys RunFault.Memory own h =
@@ -179,7 +179,7 @@ module _ (IsTextOf : TextOf) where
   answers_front places old new before after xs ys (RunFault.Read Which.Saved f) own h = absurd h
   answers_front places old new before after xs ys (RunFault.Check f) own h = absurd h
 
-  -- a fault that is passed on tells how many requests were answered
+  -- a fault that is passed on keeps the promise on the answered requests
   pub answers_passed : (places : PlaceList) (old new : Option (List ℕ)) (before after : ℕ) (xs ys : List Request) (e : RunFault) (r : Result Unit RunFault) → IsErrAnd r (λ y. y ≡ e) → IsOfAnswering e →
       Answers {T = Unit} IsTextOf places old new before after xs (Err e) → Answers IsTextOf places old new before after (xs ++ ys) r
   answers_passed places old new before after xs ys e (Ok x) is own h = absurd is
@@ -191,7 +191,7 @@ module _ (IsTextOf : TextOf) where
   took_append places old mid new before after xs ys h k =
       (h.0 ++ k.0, answered_append places xs ys h.0 k.0 h.1 k.1, taken_append old mid new h.0 k.0 h.2 k.2)
 
-  -- requests that were answered, and then more
+  -- requests were answered, and then more
   pub answers_more : {T : Type 0} (places : PlaceList) (old mid new : Option (List ℕ)) (before between after : ℕ) (xs ys : List Request) (r : Result T RunFault) →
       Answers {T = Unit} IsTextOf places old mid before between xs (Ok tt) → Answers IsTextOf (places_after places xs) mid new between after ys r → Answers IsTextOf places old new before after (xs ++ ys) r
   answers_more places old mid new before between after xs ys (Ok x) h k =
@@ -230,17 +230,17 @@ module _ (IsTextOf : TextOf) where
   answers_more places old mid new before between after xs ys (Err (RunFault.Read Which.Saved f)) h k = absurd k
   answers_more places old mid new before between after xs ys (Err (RunFault.Check f)) h k = absurd k
 
-  -- none were asked
+  -- no requests were asked for
   pub answers_none : (places : PlaceList) (old : Option (List ℕ)) (written : ℕ) → written < 2 ^ 64 → Answers {T = Unit} IsTextOf places old old written written [] (Ok tt)
   answers_none places old written fits = ([], answered_none places, taken_none old, omega arith)
 
-  -- a fault that is passed on
+  -- a fault is passed on
   pub answers_err : (places : PlaceList) (old new : Option (List ℕ)) (before after : ℕ) (requests : List Request) (e : RunFault) (r : Result Unit RunFault) → IsErrAnd r (λ y. y ≡ e) →
       Answers {T = Unit} IsTextOf places old new before after requests (Err e) → Answers IsTextOf places old new before after requests r
   answers_err places old new before after requests e (Ok x) is h = absurd is
   answers_err places old new before after requests e (Err y) is h = subst (λ (f : RunFault). Answers {T = Unit} IsTextOf places old new before after requests (Err f)) (sym is) h
 
-  -- a batch that was answered, whatever it ends in
+  -- a batch was answered, with any end
   pub answers_end : (places : PlaceList) (old new : Option (List ℕ)) (before after : ℕ) (requests : List Request) (ends : Then) → IsAfter ends → Answers {T = Unit} IsTextOf places old new before after requests (Ok tt) →
       Answers IsTextOf places old new before after requests (end_of ends)
   answers_end places old new before after requests More is h = h

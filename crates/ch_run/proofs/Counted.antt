@@ -1,4 +1,4 @@
--- Refused writes that are counted.
+-- The counts of failed writes.
 use Rattle.std.proofs.Common.{◌≡◌, ℕ, ◌<◌, ◌≤◌, Result, Ok, Err, inl, inr, refl, ap, arith}
 use Rattle.std.specs.Prelude.{◌↔◌, ◌⊎◌, IsErrAnd}
 use Rattle.std.proofs.lemmas.Bool.{cases_lt}
@@ -10,7 +10,7 @@ use Rattle.ch_text.specs.Device.{CountsAtMostOneOf}
 use Rattle.ch_run.specs.Run.{IsWrite}
 use Rattle.ch_run.specs.Serving.{CountsWrites, IsAfter, end_of, refused_writes}
 
--- a result tells of one refused write, or of none
+-- a result reports one failed write, or none
 told : {T : Type 0} (r : Result T RunFault) → (IsErrAnd r IsWrite × (refused_writes r ≡ 1)) ⊎ ((IsErrAnd r IsWrite → ⊥) × (refused_writes r ≡ 0))
 told (Ok x) = inr (λ h. h, refl)
 told (Err (RunFault.Write count)) = inl (tt, refl)
@@ -34,7 +34,7 @@ module _ {T : Type 0} (failed failed' idle idle' : ℕ) (r : Result T RunFault) 
   counted (inl one) = (λ is. grown one.1 (cases_lt failed failed'), λ any. one.0)
   counted (inr none) = (λ is. absurd (none.0 is), λ any. absurd (not_grown none.1 any))
 
-  -- a refused write is told exactly where one was counted
+  -- a failed write is reported exactly if one was counted
   pub told_counted : IsErrAnd r IsWrite ↔ ((failed < failed') ⊎ (idle < idle'))
   told_counted = counted (told r)
 
@@ -54,7 +54,7 @@ module _ {T : Type 0} (failed failed' idle idle' : ℕ) (r : Result T RunFault) 
 pub counted_well : (failed failed' idle idle' : ℕ) → CountsWrites {T = Unit} failed failed' idle idle' (Ok tt) → (failed' ≡ failed) × (idle' ≡ idle)
 counted_well failed failed' idle idle' h = let a = h.failed_grows in let b = h.idle_grows in let c = h.together in (omega arith, omega arith)
 
--- what a batch ends in is no refused write
+-- a batch does not end in a failed write
 pub end_unrefused : (ends : Then) → IsAfter ends → refused_writes (end_of ends) ≡ 0
 end_unrefused More is = refl
 end_unrefused Nothing is = refl
@@ -71,7 +71,7 @@ end_unrefused (Stop (RunFault.Read Which.Saved f)) is = absurd is
 end_unrefused (Stop (RunFault.Check f)) is = absurd is
 end_unrefused (Stop (RunFault.Device which)) is = absurd is
 
--- what was counted until a batch was answered is what was counted in the end
+-- if a batch was answered without a failed write, the counts of its end are those of the whole call
 pub counted_batch : (start failed failed' first idle idle' : ℕ) (ends : Then) (end : Result Unit RunFault) → IsAfter ends → failed ≡ start → idle ≡ first → CountsWrites {T = Unit} failed failed' idle idle' (Ok tt) →
     end ≡ end_of ends → CountsWrites start failed' first idle' end
 counted_batch start failed failed' first idle idle' ends end is e f h same =
@@ -81,7 +81,7 @@ counted_batch start failed failed' first idle idle' ends end is e f h same =
     let c = h.together in
     record { failed_grows = omega arith; idle_grows = omega arith; together = omega arith }
 
--- and what was counted until a call that was refused is what was counted in the end, where its fault was passed on
+-- if a call failed and its fault is passed on, its counts are those of the whole call
 pub counted_passed : (start failed failed' first idle idle' : ℕ) (e : RunFault) (end : Result Unit RunFault) → IsErrAnd end (λ other. other ≡ e) → failed ≡ start → idle ≡ first →
     CountsWrites {T = Unit} failed failed' idle idle' (Err e) → CountsWrites start failed' first idle' end
 counted_passed start failed failed' first idle idle' e (Ok x) is f i h = absurd is

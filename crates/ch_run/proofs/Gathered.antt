@@ -1,4 +1,4 @@
--- The first of requests that came together.
+-- The first of the requests that came together.
 use Rattle.std.proofs.Common.{◌≡◌, ℕ, suc, ◌+◌, ◌<◌, ◌≤◌, Bool, true, false, List, [], ◌∷◌, ◌++◌, length, take, drop, map, get_or, Option, Some, None, refl, sym, ap, ◌∙◌, subst, arith}
 use Rattle.std.specs.Prelude.{All}
 use Rattle.std.proofs.Math.ListN.{get_or-map}
@@ -25,25 +25,25 @@ use Rattle.ch_run.proofs.Answered.{rows_answered}
 use Rattle.ch_run.proofs.Texts.{each_weaker}
 
 module _ {A : Type 0} (from : A → Request) (x : Request) (rest : List Request) (i : ℕ) (values : List A) (so_far : map from values ≡ x ∷ take i rest) where
-  -- what was taken so far is the first of the requests
+  -- the values so far make the first of the requests
   pub first_made : i ≤ length rest → AreFirstOf from (x ∷ rest) values
   first_made within =
       let long : length values ≡ suc i = omega (arith, ap length so_far, length-map values from, length-take i rest) in
       record { some = omega arith; few = omega arith; are = so_far ∙ ap (λ n. take n (x ∷ rest)) (sym long) }
 
-  -- and with one more they are one more
+  -- one more value makes one more of the requests
   pub first_more : (v : A) (d : Request) → i < length rest → get_or rest i d ≡ from v → map from (values ++ v ∷ []) ≡ x ∷ take (i + 1) rest
   first_more v d within is =
       map-append from values (v ∷ []) ∙ ap (λ (front : List Request). front ++ from v ∷ []) so_far
       ∙ ap (λ (last : Request). x ∷ (take i rest ++ last ∷ [])) (sym is) ∙ ap (λ (front : List Request). x ∷ front) (sym (take_more rest i d within))
 
--- requests begin with the first
+-- requests are their first one and the rest
 pub front : (requests : List Request) (d r : Request) → 0 < length requests → get_or requests 0 d ≡ r → requests ≡ r ∷ drop 1 requests
 front [] d r some is = absurd (omega arith)
 front (x ∷ requests) d r some is = ap (λ (y : Request). y ∷ requests) is
 
 module _ {A : Type 0} (from : A → Request) (requests : List Request) (values : List A) (first : AreFirstOf from requests values) where
-  -- what holds of each request of these values holds of each value
+  -- a property of the requests of these values holds of the values
   pub values_within : (n : ℕ) (P : A → Type 0) → ((v : A) → IsRequest n (from v) → P v) → All (IsRequest n) requests → All P values
   values_within n P so each k d lt =
       let made : All (IsRequest n) (map from values) = subst (All (IsRequest n)) (sym first.are) (All-take (IsRequest n) (length values) requests each) in
@@ -54,7 +54,7 @@ module _ {A : Type 0} (from : A → Request) (requests : List Request) (values :
   places_stay stay places [] = refl
   places_stay stay places (v ∷ vs) = ap (λ (p : PlaceList). places_after p (map from vs)) (stay places v) ∙ places_stay stay places vs
 
-  -- a text of the requests of these values answers the first
+  -- a text of the requests of these values answers the first of the requests
   pub first_answered : (IsTextOf : TextOf) (before after : PlaceList) (text : List ℕ) (count : ℕ) → ((places : PlaceList) (v : A) → places_then places (from v) ≡ places) → count ≡ length values → after ≡ before →
       AreAnswered IsTextOf before (map from values) text → AnswersFirst IsTextOf before after requests text count
   first_answered IsTextOf before after text count stay count_is same answers =
@@ -68,7 +68,7 @@ module _ {A : Type 0} (from : A → Request) (requests : List Request) (values :
         places = same ∙ sym (places_stay stay before values) ∙ ap (places_after before) these;
       }
 
--- queries lead to no other places, nor do near rows
+-- neither queries nor near rows change the places
 pub asked_stay : (routed : Bool) (places : PlaceList) (pair : ℕ × ℕ) → places_then places (asked_for routed pair) ≡ places
 asked_stay true places pair = refl
 asked_stay false places pair = refl
@@ -81,7 +81,7 @@ take_one : (r : Request) (rest : List Request) → take 1 (r ∷ rest) ≡ r ∷
 take_one r [] = refl
 take_one r (x ∷ rest) = refl
 
--- a request that is answered by itself
+-- a request that is answered alone
 pub one_answered : (IsTextOf : TextOf) (places : PlaceList) (r : Request) (rest : List Request) (text : List ℕ) → IsTextOf places r text → AnswersFirst IsTextOf places (places_then places r) (r ∷ rest) text 1
 one_answered IsTextOf places r rest text is = record {
   some = omega arith;
@@ -90,7 +90,7 @@ one_answered IsTextOf places r rest text is = record {
   places = ap (places_after places) (sym (take_one r rest));
 }
 
--- among no places none is near
+-- without places, a near row is empty
 no_row : (g : Network) (direction : Direction) (limit : Option ℕ) (s : ℕ) → IsNearestRow g direction limit None [] s []
 no_row g direction limit s = record {
   order = λ i j d less within. absurd (omega arith);
@@ -102,7 +102,7 @@ no_row g direction limit s = record {
 pub none_near : (options : Options) (g : Network) (From : LevelsAndLegs → Type 0) (s : ℕ) (within : Option ℕ) (text : List ℕ) → text ≡ near_row_text [] (s, []) → IsRequestText options g From no_places (near_row_of within s) text
 none_near options g From s within text is = ([] ∷ [], (no_row g options.direction _ s, tt), is ∙ sym (append-nil (near_row_text [] (s, []))))
 
--- near rows in the hierarchy that was searched in are those of the graph
+-- near rows in the searched hierarchy are those of the graph
 pub near_answered : (options : Options) (g : Network) (H : LevelsAndLegs) → IsWithinLimits g → IsKept g H → (within : Option ℕ) (near : Wanted) → near.hierarchy ≡ facing options.direction H → (sources text : List ℕ) →
     HasNearRows (wanted_within near (limit_of options within)) sources text → AreAnswered (IsTextOfRequest options g H) (places_of (Some near)) (map (near_row_of within) sources) text
 near_answered options g H limits kept within near same sources text h =

@@ -1,4 +1,4 @@
--- Which input a fault is of.
+-- The input that a fault belongs to.
 use Rattle.std.proofs.Common.{◌≡◌, refl, sym, ◌∙◌}
 use Rattle.ch_read.specs.declared.fault.ReadFault.{ReadFault}
 use Rattle.ch_read.specs.declared.fault.ReadError.{ReadError}
@@ -10,17 +10,17 @@ use Rattle.ch_run.specs.declared.fault.RunFault.{RunFault}
 use Rattle.ch_run.specs.Fault.{input_fault}
 use Rattle.ch_run.specs.Run.{IsOf, IsUnread, StopsAt}
 
--- a run that is refused for a fault of a file was refused by the reader for it
+-- if a run is refused for a fault of a file, the reader refused the file for it
 pub refused_for : (which : Which) (error : ReadError) (fault : ReadFault) → input_fault which error ≡ RunFault.Read which fault → error ≡ Fault fault
 refused_for which (Fault f) fault same = cc
 refused_for which NoMemory fault same = cc
 
--- what a reader refused is of its input
+-- the fault of a reader belongs to its input
 pub refused_is_of : (which : Which) (error : ReadError) → IsOf which (input_fault which error)
 refused_is_of which (Fault f) = refl
 refused_is_of which NoMemory = tt
 
--- an input that gave no bytes ended so
+-- the fault of an input that gave no bytes belongs to it
 pub unread_is_of : (which : Which) (fault : RunFault) → IsUnread which fault → IsOf which fault
 unread_is_of which (RunFault.Device input) h = h
 unread_is_of which RunFault.Memory h = tt
@@ -30,7 +30,7 @@ unread_is_of which (RunFault.CellsAt line) h = absurd h
 unread_is_of which (RunFault.Write count) h = absurd h
 unread_is_of which (RunFault.Check f) h = absurd h
 
--- a fault that stops a run is of one input
+-- a fault that stops a run belongs to one input
 pub of_one : (which other : Which) (fault : RunFault) → IsOf which fault → StopsAt other fault → other ≡ which
 of_one which other (RunFault.Read input f) h k = k.0 ∙ sym h
 of_one which other RunFault.Memory h k = absurd (k.1 refl)
@@ -40,6 +40,6 @@ of_one which other (RunFault.CellsAt line) h k = k.0 ∙ sym h
 of_one which other (RunFault.Write count) h k = absurd h
 of_one which other (RunFault.Check f) h k = k.0 ∙ sym h
 
--- one fault of a saved hierarchy is told
+-- a result has only one fault of a saved hierarchy
 pub one_refusal : {T : Type 0} (f fault : CheckFault) → ◌≡◌ {A = Result T RunFault} (Err (RunFault.Check f)) (Err (RunFault.Check fault)) → f ≡ fault
 one_refusal f fault same = cc

@@ -1,4 +1,4 @@
--- What was loaded: a graph, and where a hierarchy was saved that one too.
+-- The graph that was loaded, and the saved hierarchy if one was read.
 use Rattle.std.proofs.Common.{◌≡◌, ℕ, List, Option, Some, None, refl, subst, inl, inr}
 use Rattle.std.specs.Prelude.{IfSome, IsNone, Result}
 use Rattle.ch_graph.specs.Graph.{Network, IsWithinLimits}
@@ -20,14 +20,14 @@ loaded_limits graph None g h is = is.0
 loaded_limits graph (Some saved) g None is = absurd is
 loaded_limits graph (Some saved) g (Some H) is = is.1.limits
 
--- the saved hierarchy, where there is one, is right for it
+-- the saved hierarchy, if there is one, is right for the graph
 pub loaded_kept : (graph : Reading) (saved : Option Reading) (g : Network) (h : Option LevelsAndLegs) → AreLoaded graph saved g h → IfSome h (IsKept g)
 loaded_kept graph None g None is = tt
 loaded_kept graph None g (Some H) is = cc
 loaded_kept graph (Some saved) g None is = absurd is
 loaded_kept graph (Some saved) g (Some H) is = is.1.names.1
 
--- where there is none, none was to be read
+-- if there is no saved hierarchy, the run builds one
 pub loaded_built : {T S : Type 0} (graph : Reading) (r : Result T RunFault) (left : S → Option (List ℕ)) (failed : S → ℕ) (old new : Source S) (g : Network) (h : Option LevelsAndLegs) →
     AreLoaded graph (source_reading left old new) g h → ReadsSource graph r left failed old new → IsNone h → old ≡ Source.Built
 loaded_built graph r left failed Source.Built new g h is reads none = refl
@@ -35,17 +35,17 @@ loaded_built graph r left failed (Source.Saved old) Source.Built g h is reads no
 loaded_built graph r left failed (Source.Saved old) (Source.Saved new) g None is reads none = absurd is
 loaded_built graph r left failed (Source.Saved old) (Source.Saved new) g (Some H) is reads none = cc
 
--- a fault of loading is of the graph or of the saved hierarchy
+-- a fault of loading belongs to the graph or to the saved hierarchy
 pub loading_past : (saved : Option Reading) (e : RunFault) → IsOfLoading saved e → (which : Which) → (which ≡ Which.Graph → ⊥) → (which ≡ Which.Saved → ⊥) → StopsAt which e → ⊥
 loading_past None e own which not_graph not_saved stops = not_graph (of_one Which.Graph which e own stops)
 loading_past (Some saved) e (inl own) which not_graph not_saved stops = not_graph (of_one Which.Graph which e own stops)
 loading_past (Some saved) e (inr own) which not_graph not_saved stops = not_saved (of_one Which.Saved which e own stops)
 
--- what was loaded without a saved hierarchy
+-- the loaded graph, without a saved hierarchy
 pub built : (graph : Reading) (P : Network → Option LevelsAndLegs → Type 0) → WithLoaded graph None P → (g : Network) × IsWithinLimits g × ReadsGraph graph g × P g None
 built graph P t = (t.0, t.2.0, t.2.1, subst (P t.0) t.2.2 t.3)
 
--- and with one
+-- the loaded graph, with the saved hierarchy
 pub checked : (graph saved : Reading) (P : Network → Option LevelsAndLegs → Type 0) → WithLoaded graph (Some saved) P →
     (g : Network) × (s : OrderAndLegs) × (H : LevelsAndLegs) × AreChecked graph saved g s H × P g (Some H)
 checked graph saved P t = at t.1 t.2 t.3
@@ -54,7 +54,7 @@ checked graph saved P t = at t.1 t.2 t.3
     at None is p = absurd is
     at (Some H) is p = (t.0, is.0, H, is.1, p)
 
--- a fault of an input is no refused write
+-- a fault of an input is no failed write
 pub of_no_write : (which : Which) (e : RunFault) → IsOf which e → IsWrite e → ⊥
 of_no_write which (RunFault.Write count) own write = own
 of_no_write which (RunFault.Read input f) own write = write
@@ -64,31 +64,31 @@ of_no_write which RunFault.Memory own write = write
 of_no_write which (RunFault.Device input) own write = write
 of_no_write which (RunFault.Check f) own write = write
 
--- so is none of loading
+-- a fault of loading is no failed write
 pub loading_no_write : (saved : Option Reading) (e : RunFault) → IsOfLoading saved e → IsWrite e → ⊥
 loading_no_write None e own = of_no_write Which.Graph e own
 loading_no_write (Some saved) e (inl own) = of_no_write Which.Graph e own
 loading_no_write (Some saved) e (inr own) = of_no_write Which.Saved e own
 
--- want of memory is one of loading
+-- loading can end in a lack of memory
 pub loading_memory : (saved : Option Reading) → IsOfLoading saved RunFault.Memory
 loading_memory None = tt
 loading_memory (Some saved) = inl tt
 
--- and so is none of the lists of a table
+-- a fault of the lists of a table is no failed write
 pub lists_no_write : (e : RunFault) → IsOfLists e → IsWrite e → ⊥
 lists_no_write e (inl own) write = of_no_write Which.Sources e own write
 lists_no_write e (inr (inl own)) write = of_no_write Which.Targets e own write
 lists_no_write e (inr (inr cells)) write = subst IsWrite cells write
 
--- nor of the lists of near rows
+-- a fault of the lists of near rows is no failed write
 pub node_lists_no_write : (sources : Option Reading) (e : RunFault) → IsOfNodeLists sources e → IsWrite e → ⊥
 node_lists_no_write None e (inl own) = absurd own
 node_lists_no_write (Some sources) e (inl own) = of_no_write Which.Sources e own
 node_lists_no_write None e (inr own) = of_no_write Which.Targets e own
 node_lists_no_write (Some sources) e (inr own) = of_no_write Which.Targets e own
 
--- a fault of these is of no other input
+-- a fault of the lists of near rows belongs to no other input
 pub past_node_lists : (sources : Option Reading) (e : RunFault) → IsOfNodeLists sources e → (which : Which) → (which ≡ Which.Sources → ⊥) → (which ≡ Which.Targets → ⊥) → StopsAt which e → ⊥
 past_node_lists None e (inl own) which not_sources not_targets stops = absurd own
 past_node_lists (Some sources) e (inl own) which not_sources not_targets stops = not_sources (of_one Which.Sources which e own stops)

@@ -22,11 +22,11 @@ use Rattle.ch_run.specs.Text.{IsNearTextFor}
 use Rattle.ch_text.specs.NearText.{near_row_text, nodes_in_order}
 use Rattle.ch_run.proofs.Texts.{each_weaker}
 
--- the row of a source as it is wanted
+-- this is the wanted near row of the source
 abbrev pub IsWantedRow : Wanted → ℕ → List (ℕ × ℕ) → Type 0
 IsWantedRow wanted s row = IsNearRow wanted.hierarchy wanted.limit wanted.count wanted.targets s row
 
--- lists that are related place by place, one after the other
+-- if the elements of two pairs of lists are related place by place, so are those of the joined lists
 joined : {X Y : Type 0} (P : X → Y → Type 0) (xs us : List X) (ys vs : List Y) → AllZip P xs ys → AllZip P us vs →
     AllZip P (xs ++ us) (ys ++ vs) × (zip (xs ++ us) (ys ++ vs) ≡ zip xs ys ++ zip us vs)
 joined P [] us [] vs h k = (k, refl)
@@ -34,11 +34,11 @@ joined P [] us (y ∷ ys) vs h k = absurd h
 joined P (x ∷ xs) us [] vs h k = absurd h
 joined P (x ∷ xs) us (y ∷ ys) vs h k = let rest = joined P xs us ys vs h.1 k in ((h.0, rest.0), ap (λ l. (x, y) ∷ l) rest.1)
 
--- no sources have no rows
+-- without sources there are no rows
 pub no_rows : (wanted : Wanted) → HasNearRows wanted [] []
 no_rows wanted = ([], tt, refl)
 
--- the text of some sources, and that of others behind it
+-- the text of some sources, joined with the text of others, is the text of all of them
 pub rows_joined : (wanted : Wanted) (a b s t : List ℕ) → HasNearRows wanted a s → HasNearRows wanted b t → HasNearRows wanted (a ++ b) (s ++ t)
 rows_joined wanted a b s t h k =
     let f = near_row_text wanted.targets in
@@ -46,15 +46,15 @@ rows_joined wanted a b s t h k =
     let text : s ++ t ≡ flat_map f (zip a h.0 ++ zip b k.0) = ap (λ l. l ++ t) h.2 ∙ ap (λ l. flat_map f (zip a h.0) ++ l) k.2 ∙ sym (flat_map-append f (zip a h.0) (zip b k.0)) in
     (h.0 ++ k.0, both.0, text ∙ ap (flat_map f) (sym both.1))
 
--- the rows stand in vectors
+-- the pairs of a row that is in a vector
 abbrev pub items : Vec (ℕ × ℕ) Global → List (ℕ × ℕ)
 items row = row.items
 
--- the places of a near row are those of the targets
+-- the places in a near row are places of targets
 pub row_places : (wanted : Wanted) (s : ℕ) (row : List (ℕ × ℕ)) → IsWantedRow wanted s row → All (λ (e : ℕ × ℕ). e.1 < length wanted.targets) row
 row_places wanted s row near i d lt = (near.sound (get_or row i d) (Contains-get_or row i d lt)).0
 
--- and so are those of all rows
+-- the places in all rows are places of targets
 pub rows_places : (wanted : Wanted) (sources : List ℕ) (rows : List (Vec (ℕ × ℕ) Global)) → AllZip (λ s (row : Vec (ℕ × ℕ) Global). IsWantedRow wanted s row.items) sources rows →
     All (λ (row : Vec (ℕ × ℕ) Global). All (λ (e : ℕ × ℕ). e.1 < length wanted.targets) row.items) rows
 rows_places wanted sources rows each i d lt =
@@ -62,7 +62,7 @@ rows_places wanted sources rows each i d lt =
     let row = zip_at (λ s (vec : Vec (ℕ × ℕ) Global). IsWantedRow wanted s vec.items) 0 d sources rows each i (omega arith) in
     row_places wanted (get_or sources i 0) (get_or rows i d).items row
 
--- the rows of sources, each the row of its node
+-- for each source, the row of its node is a wanted row
 pub node_rows : (wanted : Wanted) (n : ℕ) (row : ℕ → List (ℕ × ℕ)) → ((v : ℕ) → v < n → IsWantedRow wanted v (row v)) → (sources : List ℕ) → All (λ s. s < n) sources →
     AllZip (IsWantedRow wanted) sources (map row sources) × (zip sources (map row sources) ≡ map (λ s. (s, row s)) sources)
 node_rows wanted n row each [] within = (tt, refl)
@@ -70,7 +70,7 @@ node_rows wanted n row each (s ∷ sources) within =
     let rest = node_rows wanted n row each sources (λ i d lt. within (suc i) d (omega arith)) in
     ((each s (within 0 0 (omega arith)), rest.0), ap (λ l. (s, row s) ∷ l) rest.1)
 
--- so the lines of these, one after the other, are the text of the sources
+-- the lines of these rows, one after the other, are the text of the sources
 pub nodes_text : (wanted : Wanted) (n : ℕ) (row : ℕ → List (ℕ × ℕ)) → ((v : ℕ) → v < n → IsWantedRow wanted v (row v)) → (sources text : List ℕ) → All (λ s. s < n) sources →
     text ≡ flat_map (λ s. near_row_text wanted.targets (s, row s)) sources → HasNearRows wanted sources text
 nodes_text wanted n row each sources text within is =
@@ -78,7 +78,7 @@ nodes_text wanted n row each sources text within is =
     let f = near_row_text wanted.targets in
     (map row sources, rows.0, is ∙ sym (flat_map-map f (λ (s : ℕ). (s, row s)) sources) ∙ ap (flat_map f) (sym rows.1))
 
--- the text of a hierarchy that is right for a graph is that of the graph
+-- the near rows of a hierarchy that is right for a graph are those of the graph
 pub text_of_graph : (g : Network) (H : LevelsAndLegs) → IsWithinLimits g → IsKept g H → (options : Options) (sources targets text : List ℕ) →
     HasNearRows (record { hierarchy = facing options.direction H; targets = targets; limit = options.within; count = options.count }) sources text → IsNearTextFor options g sources targets text
 text_of_graph g H limits kept options sources targets text h = (
@@ -88,7 +88,7 @@ text_of_graph g H limits kept options sources targets text h = (
   h.2,
 )
 
--- so is what a call made of it, if anything
+-- if a call makes the near rows of the hierarchy, it makes those of the graph
 pub made_of_graph : {E : Type 0} (H : LevelsAndLegs) (options : Options) (sources targets : List ℕ) (wanted : Wanted) (made : Result (Vec ℕ Global) E) →
     wanted ≡ record { hierarchy = facing options.direction H; targets = targets; limit = options.within; count = options.count } →
     IfOk made (λ text. HasNearRows wanted sources text.items) → IfOk made (λ text. (g : Network) → IsWithinLimits g → IsKept g H → IsNearTextFor options g sources targets text.items)
@@ -96,12 +96,12 @@ made_of_graph H options sources targets wanted made is h = IfOk-weaker made (λ 
     (λ (text : Vec ℕ Global). (g : Network) → IsWithinLimits g → IsKept g H → IsNearTextFor options g sources targets text.items)
     (λ text rows g limits kept. text_of_graph g H limits kept options sources targets text.items (subst (λ (w : Wanted). HasNearRows w sources text.items) is rows)) h
 
--- one more number comes last
+-- a range with one more number has this number at its end
 one_more : (a n : ℕ) → range_with_len a (suc n) ≡ range_with_len a n ++ (a + n) ∷ []
 one_more a zero = let e : a ≡ a + 0 = omega arith in ap (λ (x : ℕ). x ∷ []) e
 one_more a (suc n) = let e : a + 1 + n ≡ a + suc n = omega arith in ap (λ l. a ∷ l) (one_more (a + 1) n ∙ ap (λ (x : ℕ). range_with_len (a + 1) n ++ x ∷ []) e)
 
--- they are below the number of nodes
+-- the nodes in order are below the number of nodes
 pub all_below : (n : ℕ) → All (λ v. v < n) (nodes_in_order n)
 all_below n i d lt =
     let size = length-range_with_len 0 n in
@@ -109,7 +109,7 @@ all_below n i d lt =
     let e : 0 + i ≡ i = omega arith in
     subst (λ v. v < n) (sym (get_or-range_with_len 0 n i d inside ∙ e)) inside
 
--- with one node more, that node comes last
+-- the nodes in order, with one node more, have this node at their end
 pub next_node : (n : ℕ) → nodes_in_order (n + 1) ≡ nodes_in_order n ++ n ∷ []
 next_node n =
     let next : n + 1 ≡ suc n = omega arith in

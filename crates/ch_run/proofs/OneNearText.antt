@@ -12,14 +12,14 @@ use Rattle.ch_run.specs.Run.{ReadsNodes}
 use Rattle.ch_run.proofs.Loading.{built, checked}
 use Rattle.ch_run.proofs.OneText.{one_list, same_graph, same_nodes}
 
--- near rows have one text
+-- the near rows of a graph have one text
 one_rows_text : (options : Options) (g : Network) (sources targets text other : List ℕ) → IsNearTextFor options g sources targets text → IsNearTextFor options g sources targets other → text ≡ other
 one_rows_text options g sources targets text other h k =
     let one : (s : ℕ) (a b : List (ℕ × ℕ)) → IsNearestRow g options.direction options.within options.count targets s a → IsNearestRow g options.direction options.within options.count targets s b → a ≡ b
     = λ s a b. one_first options.count (IsWalkTo g options.direction options.within targets s) a b in
     h.2 ∙ ap (λ rows. flat_map (near_row_text targets) (zip sources rows)) (one_list (IsNearestRow g options.direction options.within options.count targets) one sources h.0 k.0 h.1 k.1) ∙ sym k.2
 
--- inputs that tell their bytes have one text of near rows
+-- inputs whose bytes are known have one text of near rows
 pub one_near_text : NearRowsHaveOneText
 one_near_text options graph sources targets graph_bytes source_bytes target_bytes text other told_graph told_sources told_targets t u =
     let h = built graph _ t in
@@ -31,7 +31,7 @@ one_near_text options graph sources targets graph_bytes source_bytes target_byte
     let second : IsNearTextFor options h.0 h.3.0 k.3.1 other = subst (λ xs. IsNearTextFor options h.0 xs k.3.1 other) (sym from) first in
     one_rows_text options h.0 h.3.0 h.3.1 text other h.3.3 (subst (λ xs. IsNearTextFor options h.0 h.3.0 xs other) (sym to) second)
 
--- and one of the near rows of all nodes
+-- inputs whose bytes are known have one text of the near rows of all nodes
 pub one_near_all_text : AllNearRowsHaveOneText
 one_near_all_text options graph targets graph_bytes target_bytes text other told_graph told_targets t u =
     let h = built graph _ t in

@@ -1,4 +1,4 @@
--- The definitions name one text where a hierarchy is saved, and where one was.
+-- The definitions name one text for a hierarchy that is saved, and one text by a saved hierarchy.
 use Rattle.std.proofs.Common.{◌≡◌, ℕ, List, Some, sym, ap, ◌∙◌, subst}
 use Rattle.std.specs.Prelude.{not, ◌&&◌}
 use Rattle.ch_graph.specs.Graph.{Network}
@@ -22,14 +22,14 @@ use Rattle.ch_run.specs.Text.{IsTextBy}
 use Rattle.ch_run.proofs.Loading.{checked}
 use Rattle.ch_run.proofs.OneText.{given_bytes, one_table_text, one_text_by, same_graph, same_nodes, same_queries}
 
--- a saved hierarchy is named by its bytes
+-- the bytes of a saved hierarchy name only one order with its legs
 same_saved : (saved : Reading) (bytes : List ℕ) (n : ℕ) (s t : OrderAndLegs) → saved.before ≡ Some bytes → ReadsSaved saved n s → ReadsSaved saved n t → s ≡ t
 same_saved saved bytes n s t told a b =
     (saved_answer bytes n).one_value s t (subst (λ xs. NamesSaved xs n s) (given_bytes saved.before saved.after bytes a.0 told a.1) a.2) (subst (λ xs. NamesSaved xs n t) (given_bytes saved.before saved.after bytes b.0 told b.1) b.2)
 
 module _ (graph saved : Reading) (graph_bytes saved_bytes : List ℕ) (told_graph : graph.before ≡ Some graph_bytes) (told_saved : saved.before ≡ Some saved_bytes)
     (g k : Network) (s t : OrderAndLegs) (H K : LevelsAndLegs) (a : AreChecked graph saved g s H) (b : AreChecked graph saved k t K) where
-  -- the graph and the hierarchy are one
+  -- there is only one graph and one hierarchy
   one_graph : g ≡ k
   one_graph = same_graph graph graph_bytes g k told_graph a.reads_graph b.reads_graph
 
@@ -38,7 +38,7 @@ module _ (graph saved : Reading) (graph_bytes saved_bytes : List ℕ) (told_grap
       let same : s ≡ t = same_saved saved saved_bytes g.nodes s t told_saved a.reads_saved (subst (λ (n : Network). ReadsSaved saved n.nodes t) (sym one_graph) b.reads_saved) in
       one_saved s H K a.names.0 (subst (λ r. NamesHierarchy r K) (sym same) b.names.0)
 
--- inputs that tell their bytes are answered by one text
+-- inputs whose bytes are known have one text of answers
 pub one_saved_text : SavedAnswersHaveOneText
 one_saved_text options graph saved queries graph_bytes saved_bytes query_bytes text other told_graph told_saved told_queries t u =
     let h = checked graph saved _ t in
@@ -54,7 +54,7 @@ one_saved_text options graph saved queries graph_bytes saved_bytes query_bytes t
     let kept : (A : LevelsAndLegs) → A ≡ h.2 → IsKept h.0 A = λ A x. subst (IsKept h.0) (sym x) h.3.names.1 in
     one_text_by routes h.0 (λ K. K ≡ h.2) one kept h.4.0 text other h.4.2 here
 
--- inputs that tell their bytes have one table
+-- inputs whose bytes are known have one table
 pub one_saved_table : SavedTablesHaveOneText
 one_saved_table options graph saved sources targets graph_bytes saved_bytes source_bytes target_bytes text other told_graph told_saved told_sources told_targets t u =
     let h = checked graph saved _ t in
@@ -71,7 +71,7 @@ one_hierarchy_text : (H : LevelsAndLegs) (text other : List ℕ) → IsHierarchy
 one_hierarchy_text H text other h k =
     h.2 ∙ ap (λ order. saved_text (written H order)) (one_level_order H h.0 k.0 h.1 k.1) ∙ sym k.2
 
--- an input that tells its bytes is saved as one text
+-- an input whose bytes are known has one saved text
 pub one_save_text : HierarchiesHaveOneText
 one_save_text options graph graph_bytes text other told_graph h k =
     let same : h.0 ≡ k.0 = same_graph graph graph_bytes h.0 k.0 told_graph h.2 k.2 in

@@ -1,4 +1,4 @@
--- The text of a hierarchy that is right for a graph names it again.
+-- The text of a hierarchy that is right for a graph names this hierarchy again.
 use Rattle.std.proofs.Common.{◌≡◌, ℕ, ◌+◌, ◌*◌, ◌<◌, ◌≤◌, List, [], ◌∷◌, ◌++◌, length, map, take, get_or, Contains, Option, Some, None, refl, sym, ◌∙◌, ap, subst, arith, append_assoc, inl, inr}
 use Rattle.std.specs.Prelude.{◌≢◌, AllPairs, All, codes, decimal}
 use Rattle.std.specs.List.{flat_map}
@@ -32,7 +32,7 @@ use Rattle.ch_contract.proofs.theory.BuiltKept.{hierarchies_kept}
 use Rattle.ch_run.specs.SavedTextLaws.{HierarchyTextsReadBack, SavedTextsReadBack}
 use Rattle.ch_text.specs.SaveText.{middle_text, order_text, leg_text, saved_text}
 
--- the text is that of lines of words
+-- the text is that of its lines, made of words
 
 same_middle : (m : Option ℕ) → middle_text m ≡ middle_word m
 same_middle None = refl
@@ -61,7 +61,7 @@ same_text s =
     heading_words (decimal (length s.order)) (decimal (length s.legs)) (flat_map order_text s.order) (flat_map leg_text s.legs)
     ∙ ap (λ t. fed (codes "p") (codes "ch" ∷ decimal (length s.order) ∷ decimal (length s.legs) ∷ []) ++ t) parts
 
--- different numbers below n are at most n
+-- a list of different numbers below n has at most n of them
 distinct_few : (xs : List ℕ) (n : ℕ) → AllPairs ◌≢◌ xs → All (λ x. x < n) xs → length xs ≤ n
 distinct_few xs n distinct below = elim (cases_lt n (length xs)) [ inr few ↦ few | inl many ↦ absurd (again many) ]
   where
@@ -76,11 +76,11 @@ distinct_few xs n distinct below = elim (cases_lt n (length xs)) [ inr few ↦ f
         let lt = found.1 in
         distinct found.0 n d (omega arith) many (sym (get_or-take n xs found.0 d (omega arith)) ∙ found.2 ∙ get_or_default xs n 0 d many)
 
--- a pair of nodes as a number
+-- a pair of nodes, as one number
 abbrev pair_of : ℕ → SavedLeg → ℕ
 pair_of n l = l.from * n + l.to
 
--- legs between different pairs of nodes are at most as many as there are pairs
+-- there are at most as many legs between different pairs of nodes as there are pairs
 few_pairs : (n : ℕ) (legs : List SavedLeg) → ((l : SavedLeg) → Contains legs l → (l.from < n) × (l.to < n)) → AllPairs (λ k l. IsSamePair k l → ⊥) legs → length legs ≤ n * n
 few_pairs n legs ends once =
     let size = length-map legs (pair_of n) in
@@ -105,7 +105,7 @@ module _ (g : Network) (H : LevelsAndLegs) (order : List ℕ) (kept : IsKept g H
   names : NamesHierarchy (written H order) H
   names = written_names H order kept.levelled by
 
-  -- both rows of a node are within the limits
+  -- a leg is within the limits
   leg_within : (l : SavedLeg) → IsLeg H l.from l.to l.cost l.middle → IsLegWithin g.nodes l
   leg_within l leg = at leg (kept.founded l.from l.to l.cost l.middle leg)
     where
@@ -140,7 +140,7 @@ module _ (g : Network) (H : LevelsAndLegs) (order : List ℕ) (kept : IsKept g H
   legs_within : (l : SavedLeg) → Contains (written H order).legs l → IsLegWithin g.nodes l
   legs_within l h = leg_within l ((names.legs l.from l.to l.cost l.middle).1 h)
 
-  -- what is written is within the limits of files
+  -- the order and the legs that are written are within the limits of files
   are_within : AreWithin g.nodes (written H order)
   are_within =
       let size = kept.nodes in
@@ -156,11 +156,11 @@ module _ (g : Network) (H : LevelsAndLegs) (order : List ℕ) (kept : IsKept g H
         legs = legs_within;
       }
 
--- so the text names it again
+-- the text names the hierarchy again
 pub hierarchy_reads_back : HierarchyTextsReadBack
 hierarchy_reads_back g H text kept (order, by, is) =
     (written H order, subst (λ t. NamesSaved t g.nodes (written H order)) (sym (is ∙ same_text (written H order))) (reads_back g.nodes (written H order) (are_within g H order kept by)), written_kept g H order kept by)
 
--- and so does what is saved of a graph
+-- the text that is saved of a graph names its hierarchy again
 pub saved_reads_back : SavedTextsReadBack
 saved_reads_back by g h text limits bound (H, built, is) = (H, built, hierarchy_reads_back g H text (hierarchies_kept by g h H limits bound built) is)

@@ -31,28 +31,28 @@ use Rattle.ch_run.proofs.Inputs.{of_one}
 use Rattle.ch_run.proofs.Loading.{of_no_write}
 use Rattle.ch_run.proofs.Answered.{answered_none, answers_more, taken_none}
 
--- the places after requests, and more requests
+-- the places after requests, and after more requests
 pub places_append : (places : PlaceList) (xs ys : List Request) → places_after places (xs ++ ys) ≡ places_after (places_after places xs) ys
 places_append places [] ys = refl
 places_append places (x ∷ xs) ys = places_append (places_then places x) xs ys
 
--- requests that were answered, and then more by the places that were given last
+-- requests were answered, and then more, by the places that were given last
 pub answers_on : (IsTextOf : TextOf) {T : Type 0} (places held : PlaceList) (old mid new : Option (List ℕ)) (before between after : ℕ) (xs ys : List Request) (r : Result T RunFault) →
     Answers {T = Unit} IsTextOf places old mid before between xs (Ok tt) → held ≡ places_after places xs → Answers IsTextOf held mid new between after ys r → Answers IsTextOf places old new before after (xs ++ ys) r
 answers_on IsTextOf places held old mid new before between after xs ys r h is k =
     answers_more IsTextOf places old mid new before between after xs ys r h (subst (λ (p : PlaceList). Answers IsTextOf p mid new between after ys r) is k)
 
--- nothing is owed of a call that ended well where a fault was passed on
+-- if a fault was passed on, a promise on calls that end well says nothing
 pub passed_err : (X : Type 0) (r : Result Unit RunFault) (e : RunFault) → IsErrAnd r (λ y. y ≡ e) → OnOk r X
 passed_err X (Ok x) e is = absurd is
 passed_err X (Err y) e is = tt
 
--- what holds is so of a call that ended well
+-- a statement that holds also holds if the call ended well
 pub of_value : (X : Type 0) (r : Result Unit RunFault) → X → OnOk r X
 of_value X (Ok x) is = is
 of_value X (Err e) is = tt
 
--- what readers give
+-- the requests that readers give
 
 after_both : (xs ys : List Request) (t : Told) → after_these xs (after_these ys t) ≡ after_these (xs ++ ys) t
 after_both xs ys t = λ i. record { given = sym (append_assoc xs ys t.given) i; fault = t.fault }
@@ -69,19 +69,19 @@ gives_on ended old mid new xs ys r h k = λ more may.
 pub gives_more : (ended : Bool) (old mid new : Standing) (xs ys : List Request) → Gives ended old mid xs → Gives ended mid new ys → Gives ended old new (xs ++ ys)
 gives_more ended old mid new xs ys h k = λ more may. h more may ∙ ap (after_these xs) (k more may) ∙ after_both xs ys (ahead new more)
 
--- a call that ended well gave them
+-- a call that ended well gave these requests
 pub given_well : (ended : Bool) (old new : Standing) (xs : List Request) → GivesUntil {T = Unit} ended old new xs (Ok tt) → Gives ended old new xs
 given_well ended old new xs h = λ more may. let step = h more may in step.1 ∙ ap (after_these xs) step.2
 
 pub well_given : (ended : Bool) (old new : Standing) (xs : List Request) → Gives ended old new xs → GivesUntil {T = Unit} ended old new xs (Ok tt)
 well_given ended old new xs h = λ more may. (ahead new more, h more may, refl)
 
--- nothing more is known where there is no memory, or a write was refused
+-- after a lack of memory or a failed write, anything may follow
 pub given_without : (ended : Bool) (old mid new : Standing) (xs : List Request) (fault : RunFault) → Gives ended old mid xs → ((next rest : Told) → IsToldAfter {T = Unit} (Err fault) next rest) →
     GivesUntil {T = Unit} ended old new xs (Err fault)
 given_without ended old mid new xs fault h any = λ more may. (ahead mid more, h more may, any (ahead new more) (ahead mid more))
 
--- the error that a reader answers is what is told next
+-- the error that a reader returns follows next
 refused_next : (ended : Bool) (old mid new : Standing) (xs : List Request) (error : RequestError) → Gives ended old mid xs → IsErrorAhead ended mid error →
     GivesUntil {T = Unit} ended old new xs (Err (request_refusal error))
 refused_next ended old mid new xs (Fault (Line fault)) h stops = λ more may.
@@ -90,7 +90,7 @@ refused_next ended old mid new xs (Fault (Cells line)) h stops = λ more may.
     (record { given = []; fault = Some (Cells line) }, h more may ∙ ap (after_these xs) (stops more may), refl)
 refused_next ended old mid new xs NoMemory h stops = λ more may. (ahead mid more, h more may, tt)
 
--- what comes after the requests of a batch
+-- the end of a batch
 
 module _ (ended : Bool) (old mid new : Standing) (requests : List Request) where
   pub batch_more : Gives ended old new requests → GivesUntil ended old new requests (end_of More)
@@ -105,12 +105,12 @@ module _ (ended : Bool) (old mid new : Standing) (requests : List Request) where
   pub batch_stopped : (error : RequestError) → Gives ended old mid requests → IsErrorAhead ended mid error → GivesUntil ended old new requests (end_of (Stop (request_refusal error)))
   batch_stopped error h stops = refused_next ended old mid new requests error h stops
 
--- nothing was pushed where memory was refused
+-- if memory was refused, nothing was pushed
 pub not_pushed : {T E A : Type 0} (r : Result T E) (xs more all : List A) → is_err r ≡ true → all ≡ (if is_ok r then more else xs) → all ≡ xs
 not_pushed (Ok x) xs more all e h = cc
 not_pushed (Err y) xs more all e h = h
 
--- where a call ends in want of memory or a refused write, anything may be told next
+-- if a call ends in a lack of memory or a failed write, anything may follow
 told_write : (e : RunFault) → IsWrite e → (next rest : Told) → IsToldAfter {T = Unit} (Err e) next rest
 told_write (RunFault.Write count) is next rest = tt
 told_write RunFault.Memory is next rest = absurd is
@@ -124,7 +124,7 @@ told_any : (e : RunFault) → IsOfAnswering e → (next rest : Told) → IsToldA
 told_any e (inl is) next rest = told_write e is next rest
 told_any e (inr is) next rest = subst (λ (f : RunFault). IsToldAfter {T = Unit} (Err f) next rest) (sym is) tt
 
--- what a batch gave was given also where its answers ended the run
+-- the requests of a batch were given, even if answering them ended the run
 pub given_anyway : (ended : Bool) (old new : Standing) (xs : List Request) (end : Result Unit RunFault) (e : RunFault) (r : Result Unit RunFault) → GivesUntil ended old new xs end → IsOfAnswering e →
     IsErrAnd r (λ y. y ≡ e) → GivesUntil ended old new xs r
 given_anyway ended old new xs end e (Ok x) h own is = absurd is
@@ -132,7 +132,7 @@ given_anyway ended old new xs end e (Err y) h own is = λ more may.
     let step = h more may in
     (step.0, step.1, subst (λ (f : RunFault). IsToldAfter {T = Unit} (Err f) (ahead new more) step.0) (sym is) (told_any e own (ahead new more) step.0))
 
--- a call that gave requests ends in no fault but those of answering them
+-- a call that gave requests ends only in a fault of serving them
 pub own_fault : (ended : Bool) (old new : Standing) (xs : List Request) (e : RunFault) → GivesUntil {T = Unit} ended old new xs (Err e) → IsOfServing e
 own_fault ended old new xs e h = let step = h [] (λ is. refl) in at e (ahead new []) step.0 step.2
   where
@@ -154,13 +154,13 @@ pub own_passed : (r : Result Unit RunFault) (e : RunFault) → IsErrAnd r (λ y.
 own_passed (Ok x) e is own = absurd is
 own_passed (Err y) e is own = subst IsOfServing (sym is) own
 
--- inputs that are read
+-- the bytes that were read of an input
 
 pub read_none : (old : Option (List ℕ)) (all : List ℕ) → (left : List ℕ) × HasRead old old [] left
 read_none None all = ([], tt)
 read_none (Some old) all = (old, (refl, refl))
 
--- one more read
+-- one more read succeeded
 pub read_on : (E : Type 0) (start old new : Option (List ℕ)) (read left buffer : List ℕ) (n : ℕ) → HasRead start old read left → GivesBytes {E = E} old new (Ok n) buffer → 0 < length buffer →
     (left' : List ℕ) × HasRead start new (read ++ take n buffer) left' × (n ≡ 0 → left' ≡ [])
 read_on E None old new read left buffer n h k room = ([], tt, λ e. refl)
@@ -172,7 +172,7 @@ read_on E (Some start) (Some old) (Some new) read left buffer n h k room =
     let none : n ≡ 0 → new ≡ [] = λ zero_is. (let all : left ≡ new = rw zero_is at parts in sym all ∙ sym same ∙ k.1 zero_is room) in
     (new, (h.0 ∙ ap (λ xs. read ++ xs) parts ∙ sym (append_assoc read (take n buffer) new), refl), none)
 
--- a read that is refused
+-- one more read failed
 pub read_refused : (E : Type 0) (start old new : Option (List ℕ)) (read left buffer : List ℕ) (e : E) → HasRead start old read left → GivesBytes old new (Err e) buffer → HasRead start new read left
 read_refused E None old new read left buffer e h k = tt
 read_refused E (Some start) None new read left buffer e h k = cc
@@ -183,17 +183,18 @@ all_given : (old new : Option (List ℕ)) (read left : List ℕ) → HasRead old
 all_given None new read left h none = tt
 all_given (Some old) new read left h none = (h.0 ∙ ap (λ xs. read ++ xs) none ∙ append-nil read, h.1 ∙ ap (λ (xs : List ℕ). Some xs) none)
 
--- bytes that are fed come first
+-- the fed bytes come before all others
 fed_ahead : (s : Standing) (bytes more : List ℕ) → ahead s (bytes ++ more) ≡ ahead (fed s bytes) more
 fed_ahead s bytes more = ap (λ xs. told s.nodes s.line s.begun (lines xs)) (sym (append_assoc s.pending bytes more))
 
--- where no line is whole in what is pending, all was given that is whole in the bytes
+-- if no pending line is whole, all requests that are whole in the bytes were given
 whole_given : (n : ℕ) (bytes : List ℕ) (s : Standing) (given : List Request) → ((more : List ℕ) → told_by n (bytes ++ more) ≡ after_these given (ahead s more)) → IsUsedUp false s → given ≡ whole_in n bytes
 whole_given n bytes s given h none =
     sym (append-nil given) ∙ not_held_back n ((bytes, given) ∷ []) s (s, (λ more may. h more), refl) none ∙ ap (whole_in n) (append-nil bytes)
 
 module _ (IsTextOf : TextOf) (n : ℕ) where
-  -- these bytes were read and all that is whole in them is answered, the reader stands so, and the output took so many bytes
+  -- these bytes were read, and all requests that are whole in them are answered. The reader is in the standing `s`, and the
+  -- output took `written` bytes
   pub record HasServed (requests : Reading) (old new : Option (List ℕ)) (written : ℕ) (s : Standing) (held : PlaceList) : Type 0 where
     pub read : List ℕ
     pub left : List ℕ
@@ -205,7 +206,7 @@ module _ (IsTextOf : TextOf) (n : ℕ) where
     pub answered : Answers {T = Unit} IsTextOf no_places old new 0 written given (Ok tt)
     pub held_is : held ≡ places_after no_places given
 
-  -- bytes were read, and fed to the reader; at the end none is left
+  -- bytes were read and fed to the reader. At the end none is left
   pub record HasFed (ended : Bool) (requests : Reading) (old new : Option (List ℕ)) (written : ℕ) (s : Standing) (held : PlaceList) : Type 0 where
     pub read : List ℕ
     pub left : List ℕ
@@ -232,7 +233,7 @@ module _ (IsTextOf : TextOf) (n : ℕ) where
         held_is = refl;
       }
 
-  -- one more read is fed
+  -- the bytes of one more read are fed
   pub served_fed : (E : Type 0) (before mid after old new : Option (List ℕ)) (written : ℕ) (s : Standing) (held : PlaceList) (buffer : List ℕ) (count : ℕ) →
       HasServed (record { before = before; after = mid }) old new written s held → GivesBytes {E = E} mid after (Ok count) buffer → 0 < length buffer →
       HasFed (count == 0) (record { before = before; after = after }) old new written (fed s (take count buffer)) held
@@ -251,7 +252,7 @@ module _ (IsTextOf : TextOf) (n : ℕ) where
         held_is = h.held_is;
       }
 
-  -- the reader is fed what was read
+  -- the reader is fed the bytes of one more read
   pub fed_more : (E : Type 0) (before mid after old new : Option (List ℕ)) (written : ℕ) (s next : Standing) (held : PlaceList) (buffer slice : List ℕ) (count : ℕ) → next ≡ fed s slice → slice ≡ take count buffer →
       HasServed (record { before = before; after = mid }) old new written s held → GivesBytes {E = E} mid after (Ok count) buffer → 0 < length buffer →
       HasFed (count == 0) (record { before = before; after = after }) old new written next held
@@ -259,12 +260,12 @@ module _ (IsTextOf : TextOf) (n : ℕ) where
       subst (λ (t : Standing). HasFed (count == 0) (record { before = before; after = after }) old new written t held) (sym (is ∙ ap (fed s) same)) (served_fed E before mid after old new written s held buffer count h gives room)
 
   module _ (requests : Reading) (old mid new : Option (List ℕ)) (before after : ℕ) (s next : Standing) (held : PlaceList) (given : List Request) where
-    -- what is answered next is answered by the places that were given last
+    -- the next requests are answered by the places that were given last
     held_next : {T : Type 0} (ended : Bool) (h : HasFed ended requests old mid before s held) (r : Result T RunFault) → Answers IsTextOf held mid new before after given r →
         Answers IsTextOf (places_after no_places h.given) mid new before after given r
     held_next ended h r answers = subst (λ (p : PlaceList). Answers IsTextOf p mid new before after given r) h.held_is answers
 
-    -- what was whole is answered, and there may be more
+    -- all whole requests are answered, and there may be more
     pub fed_served : (ended : Bool) → ended ≡ false → HasFed ended requests old mid before s held → GivesUntil {T = Unit} ended s next given (Ok tt) → Answers {T = Unit} IsTextOf held mid new before after given (Ok tt) →
         IsUsedUp ended next → next.nodes ≡ s.nodes → (new_held : PlaceList) → new_held ≡ places_after held given → HasServed requests old new after next new_held
     fed_served true is h gives answers used_up same new_held held_is = cc
@@ -280,7 +281,7 @@ module _ (IsTextOf : TextOf) (n : ℕ) where
       held_is = held_is ∙ ap (λ (p : PlaceList). places_after p given) h.held_is ∙ sym (places_append no_places h.given given);
     }
 
-    -- all is answered at the end
+    -- all requests are answered at the end
     pub fed_done : (ended : Bool) → ended ≡ true → HasFed ended requests old mid before s held → GivesUntil {T = Unit} ended s next given (Ok tt) → Answers {T = Unit} IsTextOf held mid new before after given (Ok tt) →
         IsUsedUp ended next → Serves {T = Unit} IsTextOf n requests old new (Ok tt)
     fed_done false is h gives answers used_up = cc
@@ -294,17 +295,17 @@ module _ (IsTextOf : TextOf) (n : ℕ) where
         let given_is : (told_by n h.read).given ≡ h.given ++ given = ap (λ t. t.given) whole ∙ append-nil (h.given ++ given) in
         (h.read, all_given requests.before requests.after h.read h.left h.input (h.ends refl), (ap (λ t. t.fault) whole, subst (TookAnswers IsTextOf no_places old new) (sym given_is) (took.0, took.1, took.2)))
 
-    -- what is told of the whole input
+    -- the requests that the whole input gives
     fed_told : (ended : Bool) (h : HasFed ended requests old mid before s held) (rest : Told) → ahead s h.left ≡ after_these given rest → told_by n (h.read ++ h.left) ≡ after_these (h.given ++ given) rest
     fed_told ended h rest is = h.ahead_is h.left ∙ ap (after_these h.given) is ∙ after_both h.given given rest
 
-    -- the first of what was given is the first of what is told
+    -- the first of the requests that were given are the first of those that the whole input gives
     first_told : (ended : Bool) (h : HasFed ended requests old mid before s held) (rest : Told) (first later : List Request) → ahead s h.left ≡ after_these given rest → h.given ++ given ≡ first ++ later →
         (told_by n (h.read ++ h.left)).given ≡ first ++ (later ++ rest.given)
     first_told ended h rest first later is same =
         ap (λ t. t.given) (fed_told ended h rest is) ∙ ap (λ xs. xs ++ rest.given) same ∙ append_assoc first later rest.given
 
-    -- a fault comes after all that was given, and all of it is answered
+    -- a fault follows all requests that were given, and all of these are answered
     told_fault : (ended : Bool) (h : HasFed ended requests old mid before s held) (rest : Told) (fault : RequestFault) → ahead s h.left ≡ after_these given rest → rest ≡ record { given = []; fault = Some fault } →
         TookAnswers IsTextOf no_places old new (h.given ++ given) → TellsThen n (Some fault) (TookAnswers IsTextOf no_places old new) (h.read ++ h.left)
     told_fault ended h rest fault is rest_is took =
@@ -345,7 +346,7 @@ module _ (IsTextOf : TextOf) (n : ℕ) where
     fed_refused ended (RunFault.Read Which.Saved f) h gives answers = absurd (gives h.left h.ends).2
     fed_refused ended (RunFault.Check f) h gives answers = absurd (gives h.left h.ends).2
 
-  -- a read that is refused finds all answered that was whole
+  -- at a failed read, all requests that were whole before it are answered
   pub served_refused : (E : Type 0) (before mid after old new : Option (List ℕ)) (written : ℕ) (s : Standing) (held : PlaceList) (buffer : List ℕ) (e : E) →
       HasServed (record { before = before; after = mid }) old new written s held → GivesBytes mid after (Err e) buffer →
       Serves {T = Unit} IsTextOf n (record { before = before; after = after }) old new (Err (RunFault.Device Which.Requests))
@@ -354,7 +355,7 @@ module _ (IsTextOf : TextOf) (n : ℕ) where
       let whole : h.given ≡ whole_in n h.read = whole_given n h.read s h.given h.ahead_is h.used_up in
       (refl, (h.read, h.left, read_refused E before mid after h.read h.left buffer e h.input gives, subst (TookAnswers IsTextOf no_places old new) whole (took.0, took.1, took.2)))
 
-  -- there is no memory for what was read
+  -- there is no memory to feed the bytes of a read
   pub served_unfed : (E : Type 0) (before mid after old new : Option (List ℕ)) (written : ℕ) (s : Standing) (held : PlaceList) (buffer : List ℕ) (count : ℕ) →
       HasServed (record { before = before; after = mid }) old new written s held → GivesBytes {E = E} mid after (Ok count) buffer → 0 < length buffer →
       Serves {T = Unit} IsTextOf n (record { before = before; after = after }) old new (Err RunFault.Memory)
@@ -367,23 +368,23 @@ module _ (IsTextOf : TextOf) (n : ℕ) where
         (fed.given, (ahead (Rattle.ch_read.specs.Requests.fed s (take count buffer)) fed.left).given, ap (λ t. t.given) (fed.ahead_is fed.left), (took.0, took.1, took.2)),
       )
 
-  -- there were more reads than are counted
+  -- there were more reads than a count can hold
   pub served_long : (requests : Reading) (old new : Option (List ℕ)) (written : ℕ) (s : Standing) (held : PlaceList) → HasServed requests old new written s held → Serves {T = Unit} IsTextOf n requests old new (Err RunFault.Memory)
   served_long requests old new written s held h =
       let took = h.answered in
       (h.read, h.left, h.input, (h.given, (ahead s h.left).given, ap (λ t. t.given) (h.ahead_is h.left), (took.0, took.1, took.2)))
 
-  -- nothing was read and nothing was written
+  -- nothing was read, and nothing was written
   pub served_unread : (input output : Option (List ℕ)) → Serves {T = Unit} IsTextOf n (record { before = input; after = input }) output output (Err RunFault.Memory)
   served_unread input output = served_long (record { before = input; after = input }) output output 0 (starting n) no_places (served_none input output)
 
--- a fault that is passed on ends the run as the one that was met
+-- a fault that is passed on ends the run like the fault that was met
 pub passes_end : (IsTextOf : TextOf) (n : ℕ) (requests : Reading) (old new : Option (List ℕ)) (r : Result Unit RunFault) (e : RunFault) → IsErrAnd r (λ y. y ≡ e) →
     Serves {T = Unit} IsTextOf n requests old new (Err e) → Serves IsTextOf n requests old new r
 passes_end IsTextOf n requests old new (Ok x) e is h = absurd is
 passes_end IsTextOf n requests old new (Err y) e is h = subst (λ (f : RunFault). Serves {T = Unit} IsTextOf n requests old new (Err f)) (sym is) h
 
--- answers by one hierarchy are answers by any way that holds of it
+-- answers with P are answers with Q, if P implies Q
 
 module _ (P Q : TextOf) (so : (places : PlaceList) (request : Request) (text : List ℕ) → P places request text → Q places request text) where
   answered_weaker : (places : PlaceList) (requests : List Request) (text : List ℕ) → AreAnswered P places requests text → AreAnswered Q places requests text
@@ -410,11 +411,11 @@ module _ (P Q : TextOf) (so : (places : PlaceList) (request : Request) (text : L
   served_weaker n requests old new (Err (RunFault.Read Which.Saved f)) h = absurd h
   served_weaker n requests old new (Err (RunFault.Check f)) h = absurd h
 
--- the hierarchy by which each query is told with its route is built in the order that is wanted
+-- if each query is answered with its route, the hierarchy is built in the order of the options
 pub built_wanted : (options : Options) → options.routes ≡ true → order_built options ≡ options.order
 built_wanted options e = rw e refl
 
--- the answer to a request by the hierarchy that serves is one by such a hierarchy
+-- an answer to a request by the hierarchy that serves is one by a hierarchy that serves
 pub asked_in : (options : Options) (g : Network) (h : Option LevelsAndLegs) (H : LevelsAndLegs) → IsServing (order_built options) options.hops g h H → (places : PlaceList) (request : Request) (text : List ℕ) →
     IsTextOfRequest options g H places request text → IsRequestText options g (IsServing (order_built options) options.hops g h) places request text
 asked_in options g h H is places (Query s t) text told = text_in (writes_routes options) (order_built options) (order_built options) options.hops g h H (λ e. refl) is ((s, t) ∷ []) text told
@@ -423,7 +424,7 @@ asked_in options g h H is places (TableOf lists) text told = told
 asked_in options g h H is places (PlacesOf given) text told = told
 asked_in options g h H is places (Near s within) text told = told
 
--- answering requests stops at no other input
+-- a fault of answering requests stops at no other input
 pub serving_past : {T : Type 0} (r : Result T RunFault) (which : Which) → (which ≡ Which.Requests → ⊥) → IfErr r IsOfServing → GoesPast which r
 serving_past (Ok x) which not own = tt
 serving_past (Err e) which not own = at own

@@ -21,7 +21,7 @@ use Rattle.ch_run.specs.Source.{IsServing}
 use Rattle.ch_run.specs.Text.{IsTextBy}
 use Rattle.ch_text.specs.TableText.{IsCell, IsTableRow, IsTableText, row_text}
 
--- one more query is answered by its distance
+-- one more query is answered with its distance
 pub answered : (g : Network) (queries : List (ℕ × ℕ)) (i : ℕ) (d : ℕ × ℕ) (answers : List Answer) (a : Answer) → i < length queries →
     AllZip (AnswersShortly g) (take i queries) answers → AnswersShortly g (get_or queries i d) a → AllZip (AnswersShortly g) (take (i + 1) queries) (answers ++ a ∷ [])
 answered g queries i d answers a within so_far is =
@@ -37,11 +37,11 @@ short_lines g [] (a ∷ answers) h = absurd h
 short_lines g (q ∷ queries) [] h = absurd h
 short_lines g (q ∷ queries) (a ∷ answers) h = ap₂ ◌++◌ (short_line g q a h.0) (short_lines g queries answers h.1)
 
--- answers without arcs, written out, are a text of distances
+-- the lines of answers without arcs are a text of distances
 pub short_text : (g : Network) (queries : List (ℕ × ℕ)) (answers : List Answer) (text : List ℕ) → AllZip (AnswersShortly g) queries answers → text ≡ flat_map answer_text answers → IsDistanceText g queries text
 short_text g queries answers text short is = (answers, short, is ∙ short_lines g queries answers short)
 
--- what holds of all pairs of two lists, and implies something, gives that of all
+-- if P implies Q, lists whose elements have P place by place also have Q place by place
 pub each_weaker : {A B : Type 0} (P Q : A → B → Type 0) → ((x : A) (y : B) → P x y → Q x y) → (xs : List A) (ys : List B) → AllZip P xs ys → AllZip Q xs ys
 each_weaker P Q so [] [] h = tt
 each_weaker P Q so [] (y ∷ ys) h = absurd h
@@ -60,7 +60,7 @@ reply_walks g H limits kept s t (Some x) None h arcs is = absurd h
 reply_walks g H limits kept s t (Some x) (Some xs) h arcs is =
     subst (IsLeastWalk g s t) (same_Some xs arcs is) (route_least_walk g H kept limits s t (record { weight = x; arcs = xs }) h).0
 
--- what a hierarchy that is right for a graph answers to the queries, written out, is the text that is asked for
+-- the answers of a hierarchy that is right for a graph have the text that is asked for
 pub replies_text : (g : Network) (H : LevelsAndLegs) → IsWithinLimits g → IsKept g H → (routes : Bool) (queries : List (ℕ × ℕ)) (answers : List Answer) (text : List ℕ) →
     AllZip (IsReply H routes) queries answers → text ≡ flat_map answer_text answers → IsTextBy routes g (λ K. K ≡ H) queries text
 replies_text g H limits kept false queries answers text replies is =
@@ -74,13 +74,13 @@ replies_text g H limits kept true queries answers text replies is =
     } in
     (H, refl, (answers, each_weaker (IsReply H true) (AnswersWithRoute g H) routed queries answers replies, is))
 
--- routes are those of the hierarchy that is wanted, and distances those of any
+-- the text has the routes of the wanted hierarchy, or only distances, which are the same for each hierarchy
 pub text_in : (routes : Bool) (wanted by : OrderBy) (hops : ℕ) (g : Network) (h : Option LevelsAndLegs) (H : LevelsAndLegs) → (routes ≡ true → by ≡ wanted) → IsServing by hops g h H →
     (queries : List (ℕ × ℕ)) (text : List ℕ) → IsTextBy routes g (λ K. K ≡ H) queries text → IsTextBy routes g (IsServing wanted hops g h) queries text
 text_in false wanted by hops g h H same is queries text t = t
 text_in true wanted by hops g h H same is queries text t = (t.0, subst (IsServing wanted hops g h) (sym t.1) (subst (λ o. IsServing o hops g h H) (same refl) is), t.2)
 
--- a table of a hierarchy that is right for a graph, written out, is the table of the graph
+-- the table of a hierarchy that is right for a graph is the table of the graph
 pub cells_text : (g : Network) (H : LevelsAndLegs) → IsWithinLimits g → IsKept g H → (limit : Option ℕ) (sources targets : List ℕ) (rows : List (List (Option ℕ))) (text : List ℕ) →
     AllZip (IsRowBy H limit targets) sources rows → text ≡ flat_map row_text (zip sources rows) → IsTableText g limit sources targets text
 cells_text g H limits kept limit sources targets rows text table is = (

@@ -1,4 +1,4 @@
--- What a run that answers requests as they come owes.
+-- The promises of a run that answers requests as they come.
 use Rattle.std.specs.Prelude.{◌≡◌, ◌⊎◌, ℕ, ◌+◌, ◌<◌, true, List, [], ◌∷◌, ◌++◌, length, take, Option, Some, None, Result, Ok, Err}
 use Rattle.ch_graph.specs.Graph.{Network}
 use Rattle.ch_hierarchy.specs.Hierarchy.{LevelsAndLegs}
@@ -20,11 +20,11 @@ use Rattle.ch_text.specs.NearText.{IsNearText}
 use Rattle.ch_text.specs.TableText.{IsTableText}
 use Rattle.ch_run.specs.Text.{IsTextBy, writes_routes}
 
--- before any places are given there are none
+-- the places before any are given: none
 abbrev pub no_places : PlaceList
 no_places = record { nodes = []; count = None }
 
--- a request gives places, or leaves those that were given last
+-- a request gives new places, or keeps those that were given last
 abbrev pub places_then : PlaceList → Request → PlaceList
 places_then places (Query s t) = places
 places_then places (Route s t) = places
@@ -32,18 +32,18 @@ places_then places (Table lists) = places
 places_then places (Places given) = given
 places_then places (Near s within) = places
 
--- the places after these requests, where these were given last before them
+-- the places after these requests, from the places before them
 abbrev pub places_after : PlaceList → List Request → PlaceList
 places_after places [] = places
 places_after places (request ∷ requests) = places_after (places_then places request) requests
 
--- the limit of a request: its own, or the run's where it has none
+-- the limit of a request: its own, or that of the run if it has none
 abbrev pub limit_of : Options → Option ℕ → Option ℕ
 limit_of options (Some most) = Some most
 limit_of options None = options.within
 
--- the text of a request, where these places were given last before it: of its query, as a run over this one query writes it, the same
--- with its route, the table of its lists, nothing, or the near row of its node
+-- the text of a request, by the places that were given last before it. A query has the text of a run over this one query, or that
+-- text with its route. A table has the text of its lists. Places have no text. A near row has the text of its node
 abbrev pub IsRequestText : Options → Network → (LevelsAndLegs → Type 0) → PlaceList → Request → List ℕ → Type 0
 IsRequestText options g From places (Query s t) text = IsTextBy (writes_routes options) g From ((s, t) ∷ []) text
 IsRequestText options g From places (Route s t) text = IsTextBy true g From ((s, t) ∷ []) text
@@ -51,15 +51,15 @@ IsRequestText options g From places (Table lists) text = IsTableText g (limit_of
 IsRequestText options g From places (Places given) text = text ≡ []
 IsRequestText options g From places (Near s within) text = IsNearText g options.direction (limit_of options within) places.count (s ∷ []) places.nodes text
 
--- the same by one hierarchy
+-- the text of a request, by one hierarchy
 abbrev pub IsTextOfRequest : Options → Network → LevelsAndLegs → PlaceList → Request → List ℕ → Type 0
 IsTextOfRequest options g H = IsRequestText options g (λ K. K ≡ H)
 
--- what the text of a request is, by the places that were given last before it
+-- which texts a request may have, by the places that were given last before it
 abbrev pub TextOf : Type 1
 TextOf = PlaceList → Request → List ℕ → Type 0
 
--- a text of each of these requests, one after the other, where these places were given last before them
+-- the texts of these requests, one after the other, by the places that were given last before them
 abbrev pub AreAnswered : TextOf → PlaceList → List Request → List ℕ → Type 0
 AreAnswered IsTextOf places [] text = text ≡ []
 AreAnswered IsTextOf places (request ∷ requests) text =
@@ -69,12 +69,12 @@ AreAnswered IsTextOf places (request ∷ requests) text =
 abbrev pub TookAnswers : TextOf → PlaceList → (old new : Option (List ℕ)) → List Request → Type 0
 TookAnswers IsTextOf places old new requests = (text : List ℕ) × AreAnswered IsTextOf places requests text × HasTaken old new text
 
--- the output took the answers to the first of these requests, however many they are
+-- the output took the answers to the first of these requests, to any number of them
 abbrev pub TookFirstAnswers : TextOf → PlaceList → (old new : Option (List ℕ)) → List Request → Type 0
 TookFirstAnswers IsTextOf places old new requests = (first later : List Request) × (requests ≡ first ++ later) × TookAnswers IsTextOf places old new first
 
--- the output took a beginning of the answers to the first of these requests, and not all of it: so many bytes, with those
--- that it took before, as far as 64 bits go
+-- the output took the beginning of the answers to the first of these requests, and not all of it. `count` is the number of its
+-- bytes and of the bytes `before`, up to 2^64 - 1
 abbrev pub TookBeginning : TextOf → PlaceList → (old new : Option (List ℕ)) → (before count : ℕ) → List Request → Type 0
 TookBeginning IsTextOf places old new before count requests =
     (first later : List Request) × (text : List ℕ) × (bytes : ℕ) × (requests ≡ first ++ later) × AreAnswered IsTextOf places first text
@@ -84,16 +84,16 @@ TookBeginning IsTextOf places old new before count requests =
 abbrev pub ReadsSome : Reading → (List ℕ → List ℕ → Type 0) → Type 0
 ReadsSome input P = (read left : List ℕ) × HasRead input.before input.after read left × P read left
 
--- the bytes tell requests of which P holds, and then this fault or none
+-- the bytes give requests with P, and then this fault or none
 abbrev pub TellsThen : ℕ → Option RequestFault → (List Request → Type 0) → List ℕ → Type 0
 TellsThen n fault P bytes = ((told_by n bytes).fault ≡ fault) × P (told_by n bytes).given
 
--- the requests that are whole in these bytes: those that the lines tell which a line feed ends
+-- the requests that are whole in these bytes: those in lines that a line feed ends
 abbrev pub whole_in : ℕ → List ℕ → List Request
 whole_in n bytes = (went_by n bytes).told.given
 
--- how a run over requests on a graph of n nodes ends, and what the output took. A read that is refused finds all answered that
--- was whole before it, and no run can know which read will be: so what is whole is answered before each read
+-- how a run over requests on a graph of n nodes ends, and what the output took. At a failed read, all requests that were whole
+-- before it are answered. No run can know which read will fail. That is why it answers what is whole before each read
 abbrev pub Serves : {T : Type 0} → TextOf → ℕ → Reading → (old new : Option (List ℕ)) → Result T RunFault → Type 0
 Serves IsTextOf n requests old new (Ok _) = ReadsAll requests (TellsThen n None (TookAnswers IsTextOf no_places old new))
 Serves IsTextOf n requests old new (Err (RunFault.Read Which.Requests fault)) =
@@ -108,16 +108,16 @@ Serves IsTextOf n requests old new (Err (RunFault.Write count)) =
     ReadsSome requests (λ read left. TookBeginning IsTextOf no_places old new 0 count (told_by n (read ++ left)).given)
 Serves IsTextOf n requests old new (Err _) = ⊥
 
--- the graph was accepted, and a saved hierarchy, where one is read, and by that or by the contraction hierarchy that is built the run
--- answered the requests
+-- the graph was accepted, and so was the saved hierarchy, if one is read. The run answered the requests by this hierarchy, or by
+-- the contraction hierarchy that it built
 abbrev pub ServesBy : {T : Type 0} → Options → Reading → Option Reading → Reading → (old new : Option (List ℕ)) → Result T RunFault → Type 0
 ServesBy options graph saved requests old new result =
     WithLoaded graph saved (λ g h. Serves (IsRequestText options g (IsServing (order_built options) options.hops g h)) g.nodes requests old new result)
 
--- what answering requests may end in: they are refused or can't be read, there is no memory, or the output refuses a write
+-- the faults that answering requests can end in: they are refused or can't be read, there is no memory, or a write failed
 abbrev pub IsOfServing : RunFault → Type 0
 IsOfServing fault = IsOf Which.Requests fault ⊎ IsWrite fault
 
--- what a run that answers requests may end in
+-- the faults that a run over requests can end in
 abbrev pub IsOfAsk : Option Reading → RunFault → Type 0
 IsOfAsk saved fault = IsOfLoading saved fault ⊎ IsOfServing fault

@@ -1,4 +1,4 @@
--- What the program says of a fault.
+-- The line and the exit status of each fault.
 use Rattle.std.specs.Prelude.{ℕ, ◌++◌, List, codes, decimal}
 use Rattle.ch_hierarchy.specs.FaultText.{fault_text as check_fault_text}
 use Rattle.ch_read.specs.declared.fault.ReadError.{ReadError}
@@ -16,7 +16,7 @@ input_name Which.Sources = codes "sources"
 input_name Which.Targets = codes "targets"
 input_name Which.Requests = codes "requests"
 
--- what the line of a fault begins with, where this input has it
+-- the beginning of the line of a fault of this input
 abbrev pub read_heading : Which → List ℕ
 read_heading Which.Graph = codes "chtab: graph "
 read_heading Which.Saved = codes "chtab: saved "
@@ -25,7 +25,7 @@ read_heading Which.Sources = codes "chtab: sources "
 read_heading Which.Targets = codes "chtab: targets "
 read_heading Which.Requests = codes "chtab: request "
 
--- the line that is told of a fault, without its line feed
+-- the line that reports a fault, without its line feed
 abbrev pub fault_text : RunFault → List ℕ
 fault_text (RunFault.Read which fault) = read_heading which ++ read_fault_text fault
 fault_text RunFault.Cells = codes "chtab: too many cells"
@@ -35,7 +35,8 @@ fault_text (RunFault.Device which) = codes "chtab: cannot read " ++ input_name w
 fault_text (RunFault.Write count) = codes "chtab: cannot write after " ++ decimal count ++ codes " bytes"
 fault_text (RunFault.Check fault) = codes "chtab: saved hierarchy refused: " ++ check_fault_text fault
 
--- the exit status of a fault: 1 where a file, a saved hierarchy or the size of a table was refused, 3 where the system refused something
+-- the exit status of a fault. It is 1 if a file, a request, a saved hierarchy or the size of a table was refused, and 3 if the
+-- system refused something
 abbrev pub status_of : RunFault → ℕ
 status_of (RunFault.Read _ _) = 1
 status_of RunFault.Cells = 1
@@ -45,7 +46,7 @@ status_of (RunFault.Device _) = 3
 status_of (RunFault.Write _) = 3
 status_of (RunFault.Check _) = 1
 
--- the fault of a run whose input a reader refused
+-- the fault of a run whose reader refused this input, or had no memory for it
 abbrev pub input_fault : Which → ReadError → RunFault
 input_fault which (Fault fault) = RunFault.Read which fault
 input_fault which NoMemory = RunFault.Memory

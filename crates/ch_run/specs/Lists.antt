@@ -1,4 +1,4 @@
--- What is read of the two lists of a table, on a graph of so many nodes.
+-- The two lists of a table, on a graph with this many nodes.
 use Rattle.std.specs.Prelude.{◌≡◌, ℕ, ◌*◌, ◌<◌, ◌≤◌, ◌⊎◌, List, length, All}
 use Rattle.ch_graph.specs.declared.limits.TheConstants.{MOST_LISTED}
 use Rattle.ch_work.specs.declared.limits.TheConstants.{MOST_CELLS}
@@ -11,14 +11,14 @@ use Rattle.ch_run.specs.Run.{Reading, ReadsNodes, IsListRefused, IsOf}
 abbrev pub HasTooManyCells : List ℕ → List ℕ → Type 0
 HasTooManyCells sources targets = MOST_CELLS < length sources * length targets
 
--- lists of the nodes, within the limits, that don't make too many cells
+-- these are lists of nodes within the limits, and they don't make too many cells
 pub record AreLists (nodes : ℕ) (from to : List ℕ) : Type 0 where
   pub sources : All (λ node. node < nodes) from
   pub targets : All (λ node. node < nodes) to
   pub sizes : (length from ≤ MOST_LISTED) × (length to ≤ MOST_LISTED)
   pub cells : length from * length to ≤ MOST_CELLS
 
--- the input was read to its end and names a list of the nodes
+-- the input was read to its end and names a list of nodes
 abbrev pub AcceptsList : Reading → ℕ → Type 0
 AcceptsList list nodes = (listed : List ℕ) × ReadsNodes list nodes listed
 
@@ -30,10 +30,11 @@ ReadsLists sources targets nodes from to = ReadsNodes sources nodes from × Read
 abbrev pub HaveTargetsRefused : Reading → Reading → ℕ → ReadFault → Type 0
 HaveTargetsRefused sources targets nodes fault = AcceptsList sources nodes × IsListRefused targets nodes fault
 
--- the lists were accepted, and make too many cells
+-- the lists were accepted, but they make too many cells
 abbrev pub HaveCellsRefused : Reading → Reading → ℕ → Type 0
 HaveCellsRefused sources targets nodes = (from to : List ℕ) × ReadsNodes sources nodes from × ReadsNodes targets nodes to × HasTooManyCells from to
 
--- what reading the lists may end in: one of them is refused or can't be read, or they make too many cells
+-- the faults that reading the lists can end in: one of them is refused or can't be read, there is no memory, or they make too
+-- many cells
 abbrev pub IsOfLists : RunFault → Type 0
 IsOfLists fault = IsOf Which.Sources fault ⊎ IsOf Which.Targets fault ⊎ (fault ≡ RunFault.Cells)

@@ -1,4 +1,4 @@
--- The text of near rows by a hierarchy: what the parts of a run that tells near rows owe to it.
+-- The text of near rows by a hierarchy, which parts of a run over near rows promise.
 use Rattle.std.specs.Prelude.{◌≡◌, ℕ, List, flat_map}
 use Rattle.std.specs.List.{AllZip, zip}
 use Rattle.ch_near.specs.Near.{Wanted, IsNearRow}

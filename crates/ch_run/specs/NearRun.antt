@@ -1,4 +1,4 @@
--- What a run that tells near rows owes.
+-- The promises of a run that writes near rows.
 use Rattle.std.specs.Prelude.{◌≡◌, ◌⊎◌, ℕ, ◌<◌, ◌≤◌, List, length, All, Option, Some, None, Result}
 use Rattle.ch_graph.specs.declared.limits.TheConstants.{MOST_LISTED}
 use Rattle.ch_read.specs.declared.fault.ReadFault.{ReadFault}
@@ -12,21 +12,21 @@ use Rattle.ch_run.specs.Source.{IsOfLoading, WithLoaded}
 use Rattle.ch_run.specs.Text.{IsNearTextFor}
 use Rattle.ch_text.specs.NearText.{nodes_in_order}
 
--- the input of a list of sources, where one is read
+-- the input of the list of sources, if one is read
 abbrev pub listed_in : {J : Type 0} → Sources J → Option J
 listed_in Each = None
 listed_in (Listed input) = Some input
 
--- how many reads of it have failed
+-- the number of failed reads of the list of sources, if one is read
 abbrev pub sources_failures : {J : Type 0} → (J → ℕ) → Sources J → ℕ
 sources_failures failed Each = 0
 sources_failures failed (Listed input) = failed input
 
--- its reading
+-- the reading of the list of sources, if one is read
 abbrev pub sources_reading : {J : Type 0} → (J → Option (List ℕ)) → Sources J → Sources J → Option Reading
 sources_reading left old new = reading_if left (listed_in old) (listed_in new)
 
--- lists of the nodes, of which the targets are within the limit
+-- these are lists of nodes, and the list of targets is within the limit
 pub record AreNodeLists (nodes : ℕ) (from to : List ℕ) : Type 0 where
   pub sources : All (λ node. node < nodes) from
   pub targets : All (λ node. node < nodes) to
@@ -37,51 +37,51 @@ abbrev pub AreSources : Option Reading → ℕ → List ℕ → Type 0
 AreSources None nodes from = from ≡ nodes_in_order nodes
 AreSources (Some sources) nodes from = ReadsNodes sources nodes from
 
--- a list of sources, where one is read, was accepted
+-- the list of sources was accepted, if one is read
 abbrev pub AcceptsAnySources : Option Reading → ℕ → Type 0
 AcceptsAnySources sources nodes = (from : List ℕ) × AreSources sources nodes from
 
--- these are the sources, and the other input was read to its end and names these targets
+-- these are the sources, and the input of the targets was read to its end and names these
 abbrev pub ReadsNodeLists : Option Reading → Reading → ℕ → List ℕ → List ℕ → Type 0
 ReadsNodeLists sources targets nodes from to = AreSources sources nodes from × ReadsNodes targets nodes to
 
--- a list of sources, where one is read, was accepted, and the targets have this fault
+-- the list of sources was accepted, if one is read, but the targets have this fault
 abbrev pub HaveNearTargetsRefused : Option Reading → Reading → ℕ → ReadFault → Type 0
 HaveNearTargetsRefused sources targets nodes fault = AcceptsAnySources sources nodes × IsListRefused targets nodes fault
 
--- the inputs name a graph and the two lists, and the text has the near rows of these as the options ask; a saved hierarchy, where one is
+-- the inputs name a graph and the two lists, and the text has their near rows with the options. A saved hierarchy, if one is
 -- read, is right for the graph
 abbrev pub IsNearBy : Options → Reading → Option Reading → Option Reading → Reading → List ℕ → Type 0
 IsNearBy options graph saved sources targets text =
     WithLoaded graph saved (λ g _. (from to : List ℕ) × ReadsNodeLists sources targets g.nodes from to × IsNearTextFor options g from to text)
 
--- the graph was accepted, and a saved hierarchy, where one is read, and so was a list of sources, where one is read
+-- the graph was accepted, and then the saved hierarchy and the list of sources, if they are read
 abbrev pub AcceptsNearSources : Reading → Option Reading → Option Reading → Type 0
 AcceptsNearSources graph saved sources = WithLoaded graph saved (λ g _. AcceptsAnySources sources g.nodes)
 
--- and so were the targets
+-- all of these were accepted, and then the targets
 abbrev pub AcceptsNodeLists : Reading → Option Reading → Option Reading → Reading → Type 0
 AcceptsNodeLists graph saved sources targets = WithLoaded graph saved (λ g _. (from to : List ℕ) × ReadsNodeLists sources targets g.nodes from to)
 
--- all that is read before was accepted, but the targets have this fault
+-- all earlier inputs were accepted, but the targets have this fault
 abbrev pub HasNearTargetsRefused : Reading → Option Reading → Option Reading → Reading → ReadFault → Type 0
 HasNearTargetsRefused graph saved sources targets fault = WithLoaded graph saved (λ g _. HaveNearTargetsRefused sources targets g.nodes fault)
 
--- what a run owes to where its sources come from: nothing is read where they are all nodes
+-- the promise of a run on the input of its sources. If the sources are all nodes, it reads none
 abbrev pub ReadsSources : {T J : Type 0} → (earlier : List Which) → (accepted : Type 0) → Result T RunFault → (J → Option (List ℕ)) → (J → ℕ) → Sources J → Sources J → (Reading → ReadFault → Type 0) → Type 0
 ReadsSources earlier accepted result left failed Each new IsRefused = new ≡ Each
 ReadsSources earlier accepted result left failed (Listed old) Each IsRefused = ⊥
 ReadsSources earlier accepted result left failed (Listed old) (Listed new) IsRefused = ReadsAfter earlier accepted Which.Sources result left failed old new IsRefused
 
--- what reading a list of sources may end in, where one is read
+-- the faults that reading the list of sources can end in, if one is read
 abbrev pub IsOfSources : Option Reading → RunFault → Type 0
 IsOfSources None fault = ⊥
 IsOfSources (Some sources) fault = IsOf Which.Sources fault
 
--- what reading both lists may end in: one of them is refused or can't be read, or there is no memory
+-- the faults that reading both lists can end in: one of them is refused or can't be read, or there is no memory
 abbrev pub IsOfNodeLists : Option Reading → RunFault → Type 0
 IsOfNodeLists sources fault = IsOfSources sources fault ⊎ IsOf Which.Targets fault
 
--- what the run may end in
+-- the faults that the run can end in
 abbrev pub IsOfNear : Option Reading → Option Reading → RunFault → Type 0
 IsOfNear saved sources fault = IsOfLoading saved fault ⊎ IsOfNodeLists sources fault ⊎ IsWrite fault

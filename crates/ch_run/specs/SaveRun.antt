@@ -1,4 +1,4 @@
--- What a run that saves a hierarchy owes.
+-- The promises of a run that saves a hierarchy.
 use Rattle.std.specs.Prelude.{◌⊎◌, ℕ, List}
 use Rattle.ch_graph.specs.Graph.{Network, IsWithinLimits}
 use Rattle.ch_run.specs.declared.fault.Which.{Which}
@@ -11,6 +11,6 @@ use Rattle.ch_run.specs.Text.{IsSaveText}
 abbrev pub IsSavedBy : Options → Reading → List ℕ → Type 0
 IsSavedBy options graph text = (g : Network) × IsWithinLimits g × ReadsGraph graph g × IsSaveText options.order g options.hops text
 
--- what the run may end in
+-- the faults that the run can end in
 abbrev pub IsOfSave : RunFault → Type 0
 IsOfSave fault = IsOf Which.Graph fault ⊎ IsWrite fault

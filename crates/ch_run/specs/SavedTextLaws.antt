@@ -1,4 +1,4 @@
--- The definitions name one text, where a hierarchy is saved and where one was.
+-- The definitions name one text for a hierarchy that is saved, and one text by a saved hierarchy.
 use Rattle.std.specs.Prelude.{◌≡◌, ℕ, List, Some}
 use Rattle.ch_graph.specs.Graph.{Network, IsWithinLimits}
 use Rattle.ch_graph.specs.Saved.{OrderAndLegs}
@@ -17,13 +17,13 @@ use Rattle.ch_run.specs.TableRun.{IsTabledBy}
 use Rattle.ch_text.specs.SaveText.{IsHierarchyText}
 use Rattle.ch_run.specs.Text.{IsSaveText}
 
--- two texts that answer the same bytes, as the same options ask, are equal
+-- two texts that answer the same bytes, with the same options, are equal
 abbrev pub SavedAnswersHaveOneText : Type 0
 SavedAnswersHaveOneText = (options : Options) (graph saved queries : Reading) (graph_bytes saved_bytes query_bytes text other : List ℕ) →
     graph.before ≡ Some graph_bytes → saved.before ≡ Some saved_bytes → queries.before ≡ Some query_bytes →
     IsAnsweredBy options graph (Some saved) queries text → IsAnsweredBy options graph (Some saved) queries other → text ≡ other
 
--- two texts that are the table of the same bytes, within the same options' limit, are equal
+-- two texts of the table of the same bytes, with the same options, are equal
 abbrev pub SavedTablesHaveOneText : Type 0
 SavedTablesHaveOneText = (options : Options) (graph saved sources targets : Reading) (graph_bytes saved_bytes source_bytes target_bytes text other : List ℕ) →
     graph.before ≡ Some graph_bytes → saved.before ≡ Some saved_bytes → sources.before ≡ Some source_bytes → targets.before ≡ Some target_bytes →
@@ -33,15 +33,15 @@ SavedTablesHaveOneText = (options : Options) (graph saved sources targets : Read
 abbrev pub HierarchiesHaveOneText : Type 0
 HierarchiesHaveOneText = (options : Options) (graph : Reading) (graph_bytes text other : List ℕ) → graph.before ≡ Some graph_bytes → IsSavedBy options graph text → IsSavedBy options graph other → text ≡ other
 
--- the bytes name an order and legs on the graph, and these name the hierarchy, which is right for it
+-- the bytes name an order and legs on the graph, and these name the hierarchy, which is right for the graph
 abbrev pub IsReadAs : List ℕ → Network → LevelsAndLegs → Type 0
 IsReadAs bytes g H = (s : OrderAndLegs) × NamesSaved bytes g.nodes s × NamesKept g s H
 
--- so does the text of a hierarchy, of any origin, that is right for a graph
+-- the text of a hierarchy of any origin that is right for a graph is read as this hierarchy
 abbrev pub HierarchyTextsReadBack : Type 0
 HierarchyTextsReadBack = (g : Network) (H : LevelsAndLegs) (text : List ℕ) → IsKept g H → IsHierarchyText H text → IsReadAs text g H
 
--- and what is saved of a graph within the limits
+-- the text that is saved of a graph within the limits is read as its hierarchy
 abbrev pub SavedTextsReadBack : Type 0
 SavedTextsReadBack = (by : OrderBy) (g : Network) (h : ℕ) (text : List ℕ) → IsWithinLimits g → IsHopBound h → IsSaveText by g h text →
     (H : LevelsAndLegs) × IsHierarchyBy by g h H × IsReadAs text g H

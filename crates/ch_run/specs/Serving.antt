@@ -1,4 +1,4 @@
--- What the parts of a run over requests owe to it.
+-- The promises of the parts of a run over requests.
 use Rattle.std.specs.Prelude.{◌≡◌, ℕ, ◌+◌, ◌<◌, ◌≤◌, ◌⊎◌, Bool, true, false, if◌then◌else◌, List, [], ◌++◌, length, take, map, All, Option, Some, None, Result, Ok, Err, OnOk, ⊤}
 use Rattle.ch_graph.specs.declared.limits.TheConstants.{MOST_LISTED}
 use Rattle.ch_hierarchy.specs.Hierarchy.{LevelsAndLegs, nodes_of}
@@ -24,9 +24,9 @@ use Rattle.ch_run.specs.declared.options.Options.{Options}
 use Rattle.ch_run.specs.Run.{IsWrite}
 use Rattle.ch_run.specs.Text.{writes_routes}
 
--- how a call that was to answer these requests ended, where these places were given last before them: all were answered, or the first
--- of them, each whole, or a write was refused.
--- Before it the output had taken so many bytes, and has taken so many after it
+-- how a call that answers these requests ended, by the places that were given last before them. It answered all of them, or the
+-- first of them, each whole, or a write failed.
+-- The output had taken `before` bytes before the call, and `after` bytes after it
 abbrev pub Answers : {T : Type 0} → TextOf → PlaceList → (old new : Option (List ℕ)) → (before after : ℕ) → List Request → Result T RunFault → Type 0
 Answers IsTextOf places old new before after requests (Ok _) =
     (text : List ℕ) × AreAnswered IsTextOf places requests text × HasTaken old new text × (after ≡ capped_number (before + length text))
@@ -36,36 +36,37 @@ Answers IsTextOf places old new before after requests (Err (RunFault.Read Which.
 Answers IsTextOf places old new before after requests (Err (RunFault.CellsAt line)) = TookAnswers IsTextOf places old new requests
 Answers IsTextOf places old new before after requests (Err _) = ⊥
 
--- the output took this text after so many bytes, or a beginning of it and not all
+-- the output took this text after `before` bytes, or the beginning of the text and not all of it
 abbrev pub WritesMore : {T : Type 0} → (old new : Option (List ℕ)) → (before after : ℕ) → (text : List ℕ) → Result T RunFault → Type 0
 WritesMore old new before after text (Ok _) = HasTaken old new text × (after ≡ capped_number (before + length text))
 WritesMore old new before after text (Err (RunFault.Write count)) =
     (bytes : ℕ) × (bytes < length text) × HasTaken old new (take bytes text) × (count ≡ capped_number (before + bytes))
 WritesMore old new before after text (Err _) = ⊥
 
--- how many refused writes a result tells of
+-- the number of failed writes that a result reports
 abbrev pub refused_writes : {T : Type 0} → Result T RunFault → ℕ
 refused_writes (Ok _) = 0
 refused_writes (Err (RunFault.Write count)) = 1
 refused_writes (Err _) = 0
 
--- the counts of an output's refused writes, of both kinds, grow together by as many as the result tells of
+-- neither count of the output's failed writes falls, and together they grow by the number that the result reports
 pub record CountsWrites {T : Type 0} (failed failed' idle idle' : ℕ) (result : Result T RunFault) : Type 0 where
   pub failed_grows : failed ≤ failed'
   pub idle_grows : idle ≤ idle'
   pub together : failed' + idle' ≡ failed + idle + refused_writes result
 
--- what answering may end in
+-- the faults that answering can end in
 abbrev pub IsOfAnswering : RunFault → Type 0
 IsOfAnswering fault = IsWrite fault ⊎ (fault ≡ RunFault.Memory)
 
--- the fault of a run whose reader of requests answers this error
+-- the fault of a run whose reader of requests returns this error
 abbrev pub request_refusal : RequestError → RunFault
 request_refusal (Fault (Line fault)) = RunFault.Read Which.Requests fault
 request_refusal (Fault (Cells line)) = RunFault.CellsAt line
 request_refusal NoMemory = RunFault.Memory
 
--- what is told after the requests that a call was given: what is ahead where it ended well, and else its fault
+-- what follows the requests that a call gave. If the call ended well, it is what is ahead of the reader. If the call ended in a
+-- fault of the requests, it is this fault. If not, it may be anything
 abbrev pub IsToldAfter : {T : Type 0} → Result T RunFault → (next rest : Told) → Type 0
 IsToldAfter (Ok _) next rest = rest ≡ next
 IsToldAfter (Err (RunFault.Read Which.Requests fault)) next rest = rest ≡ record { given = []; fault = Some (Line fault) }
@@ -74,32 +75,32 @@ IsToldAfter (Err RunFault.Memory) next rest = ⊤
 IsToldAfter (Err (RunFault.Write count)) next rest = ⊤
 IsToldAfter (Err _) next rest = ⊥
 
--- a reader that stood so gave these requests, and stands so where the call ended well
+-- a reader in the standing `old` gave these requests. It is in the standing `new` if the call ended well
 abbrev pub GivesUntil : {T : Type 0} → Bool → (old new : Standing) → List Request → Result T RunFault → Type 0
 GivesUntil ended old new given result =
     (more : List ℕ) → MayCome ended more → (rest : Told) × (ahead old more ≡ after_these given rest) × IsToldAfter result (ahead new more) rest
 
--- what a batch ends in
+-- the result that a batch ends in
 abbrev pub end_of : Then → Result Unit RunFault
 end_of More = Ok tt
 end_of Nothing = Ok tt
 end_of (Stop fault) = Err fault
 
--- a reader of requests stopped for this
+-- the reader of requests stopped for this fault
 abbrev pub IsStop : RunFault → Type 0
 IsStop (RunFault.Read Which.Requests fault) = ⊤
 IsStop (RunFault.CellsAt line) = ⊤
 IsStop RunFault.Memory = ⊤
 IsStop _ = ⊥
 
--- the run goes on after a batch, or so it ends
+-- the run goes on after a batch, or it ends with this result
 abbrev pub GoesOn : Then → Type 0
 GoesOn after = end_of after ≡ Ok tt
 
 abbrev pub EndsSo : Then → Result Unit RunFault → Type 0
 EndsSo after end = (end ≡ end_of after) × OnOk end (after ≡ Nothing)
 
--- a fault after a batch is one of a reader's
+-- the fault after a batch, if there is one, is one of the reader
 abbrev pub IsAfter : Then → Type 0
 IsAfter More = ⊤
 IsAfter Nothing = ⊤
@@ -111,16 +112,16 @@ pub record IsBatch (n : ℕ) (asked : List Request) (next : Then) : Type 0 where
   pub few : length asked ≤ MOST_LISTED
   pub after : IsAfter next
 
--- a query of these nodes, with its route or as the run answers queries
+-- a query of these nodes: with its route, or as the run answers queries
 abbrev pub asked_for : Bool → ℕ × ℕ → Request
 asked_for routed pair = if routed then route_from pair else query_from pair
 
--- whether routes are written: for queries that ask for them, or that the run answers
+-- whether routes are written: if the queries ask for them, or if the run writes them
 abbrev pub routes_for : Options → Bool → Bool
 routes_for options true = true
 routes_for options false = writes_routes options
 
--- a near row of this node within this limit
+-- a request for the near row of this node within this limit
 abbrev pub near_row_of : Option ℕ → ℕ → Request
 near_row_of within s = Near s within
 
@@ -130,24 +131,25 @@ pub record AreFirstOf {A : Type 0} (from : A → Request) (requests : List Reque
   pub few : length values ≤ length requests
   pub are : map from values ≡ take (length values) requests
 
--- the text answers the first of the requests, at least one and as many as are counted, and they lead from some places to others
+-- the text answers the first of the requests, `count` of them and at least one, and these take the places from `before` to
+-- `after`
 pub record AnswersFirst (IsTextOf : TextOf) (before after : PlaceList) (requests : List Request) (text : List ℕ) (count : ℕ) : Type 0 where
   pub some : 0 < count
   pub few : count ≤ length requests
   pub answers : AreAnswered IsTextOf before (take count requests) text
   pub places : after ≡ places_after before (take count requests)
 
--- the places that were given last, of which near rows are asked for, or none
+-- the places that were given last for near rows, or none
 abbrev pub places_of : Option Wanted → PlaceList
 places_of None = no_places
 places_of (Some near) = record { nodes = near.targets; count = near.count }
 
--- they were searched from in this hierarchy, without a limit
+-- the searches from these places are in this hierarchy, without a limit
 abbrev pub IsSearched : LevelsAndLegs → Option Wanted → Type 0
 IsSearched H None = ⊤
 IsSearched H (Some near) = (near.hierarchy ≡ H) × (near.limit ≡ None)
 
--- a room serves a hierarchy, with distances of near rows in this direction
+-- a room serves a hierarchy, and near rows in this direction
 pub record IsRoomFor (direction : Direction) (H : LevelsAndLegs) (room : Room) : Type 0 where
   pub scratches : All (λ scratch. scratch ≡ nodes_of H) room.scratches.items
   pub near : IsSearched (facing direction H) room.near

@@ -10,19 +10,19 @@ use Rattle.ch_text.specs.NearText.{IsNearText}
 use Rattle.ch_text.specs.Routes.{IsRouteText}
 use Rattle.ch_text.specs.SaveText.{IsHierarchyText}
 
--- routes are written where they are wanted and a hierarchy is used
+-- routes are written if the options ask for them and a hierarchy is used
 abbrev pub writes_routes : Options → Bool
 writes_routes options = not options.plain && options.routes
 
--- distances, and where they are wanted the routes by one of these hierarchies
+-- the text of the distances, with the routes by one of these hierarchies if they are asked for
 abbrev pub IsTextBy : Bool → Network → (LevelsAndLegs → Type 0) → List (ℕ × ℕ) → List ℕ → Type 0
 IsTextBy false g From queries text = IsDistanceText g queries text
 IsTextBy true g From queries text = IsRouteText g From queries text
 
--- the near rows in the direction, within the limit and of the number of targets that the options name
+-- the text of the near rows, with the direction, the limit and the count of the options
 abbrev pub IsNearTextFor : Options → Network → List ℕ → List ℕ → List ℕ → Type 0
 IsNearTextFor options g sources targets text = IsNearText g options.direction options.within options.count sources targets text
 
--- the text of the graph's contraction hierarchy in this order, where a witness has at most h legs
+-- the text of the graph's contraction hierarchy in this order, with at most h legs in a witness
 abbrev pub IsSaveText : OrderBy → Network → ℕ → List ℕ → Type 0
 IsSaveText by g h text = (H : LevelsAndLegs) × IsHierarchyBy by g h H × IsHierarchyText H text

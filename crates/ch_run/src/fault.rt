@@ -24,7 +24,7 @@ pub enum Which {
 }
 
 impl Which {
-    /// The fault of a run, where a reader refused what this input gave.
+    /// Returns the fault of a run whose reader refused this input, or had no memory for it.
     pub(crate) fn refusal(self, error: ReadError) -> RunFault
         ensures { result ≡ input_fault self error }
     {
@@ -34,7 +34,7 @@ impl Which {
         }
     }
 
-    /// The word for this input.
+    /// Returns the word for this input.
     fn name(self) -> &'static str
         ensures text { result.now ≡ input_name self }
         ensures short { length result.now ≤ 8 }
@@ -49,7 +49,7 @@ impl Which {
         }
     }
 
-    /// What the line of a fault begins with, where this input has it.
+    /// Returns the beginning of the line of a fault of this input.
     fn heading(self) -> &'static str
         ensures text { result.now ≡ read_heading self }
         ensures short { length result.now ≤ 15 }
@@ -73,24 +73,28 @@ impl fmt::Display for Which {
     }
 }
 
-/// Why a run gave no answer, or no further one. Its `Display` is the line that the program writes to standard error.
+/// Why a run gave no answer, or no further one. Its `Display` is the line that the program writes to
+/// standard error.
 ///
-/// After all but `Write` nothing was written, but by a run over requests: it has answered some of these.
+/// If the fault is not `Write`, nothing was written. A run over requests is the exception: it may have
+/// answered some of them.
 #[derive(Clone, Copy, Debug, PartialEq, Eq)]
 pub enum RunFault {
-    /// This input has this fault: the file, or a line of the requests or their end.
+    /// This input is refused for this fault. Requests are refused for a fault of a line, or of their
+    /// end.
     Read(Which, ReadFault),
-    /// The sources times the targets are more than 2^22, of two files.
+    /// The lists of two files make more than 2^22 cells: the number of sources times the number of
+    /// targets.
     Cells,
-    /// So are those of the table that this line of the requests begins.
+    /// The table that begins at this line of the requests has more than 2^22 cells.
     CellsAt(u64),
-    /// There was no memory.
+    /// There was not enough memory.
     Memory,
     /// This input couldn't be opened or read.
     Device(Which),
-    /// A write failed, or took no byte, after so many bytes had been written.
+    /// A write failed, or took no byte, after this many bytes were written.
     Write(u64),
-    /// The saved hierarchy isn't right for the graph, for this fault.
+    /// The saved hierarchy is not right for the graph, and this is its first fault.
     Check(CheckFault),
 }
 
@@ -115,7 +119,7 @@ impl fmt::Display for RunFault {
 
 impl Error for RunFault {}
 
-/// The words for what is wrong with a file.
+/// Returns the words for a kind of fault of a file.
 fn kind_words(kind: FaultKind) -> &'static str
     ensures text { result.now ≡ kind_text kind }
     ensures short { length result.now ≤ 19 }
@@ -134,7 +138,7 @@ fn kind_words(kind: FaultKind) -> &'static str
     }
 }
 
-/// The word for what is wrong with a saved hierarchy.
+/// Returns the word for a fault of a saved hierarchy.
 fn check_word(fault: CheckFault) -> &'static str
     ensures text { result.now ≡ check_fault_text fault }
     ensures short { length result.now ≤ 6 }
@@ -150,7 +154,8 @@ fn check_word(fault: CheckFault) -> &'static str
     }
 }
 
-/// The line of a fault, with its line feed. It takes no memory, so it can be told where memory has run out.
+/// Returns the line of a fault, with its line feed. It takes no memory, so it can report a lack of
+/// memory.
 pub fn fault_line(fault: &RunFault) -> ShortText
     ensures { result ≡ fault_text fault.now ++ codes "\n" }
 {
@@ -208,9 +213,8 @@ impl<T: Drop> From<AllocFailed<T>> for RunFault {
     }
 }
 
-/// The program's exit status for a fault: 1 where a file, a saved
-/// hierarchy or the size of a table was refused, 3 where the system refused
-/// memory, a file or a write.
+/// Returns the program's exit status for a fault. It is 1 if a file, a request, a saved hierarchy or the
+/// size of a table was refused. It is 3 if the system refused memory, a file or a write.
 pub fn status(fault: &RunFault) -> u8
     ensures { result ≡ status_of fault.now }
 {

@@ -3,23 +3,24 @@ ghost use Rattle.ch_run.specs.NearTextLaws.{AllNearRowsHaveOneText, NearRowsHave
 ghost use Rattle.ch_run.specs.SavedTextLaws.{HierarchiesHaveOneText, HierarchyTextsReadBack, SavedAnswersHaveOneText, SavedTablesHaveOneText, SavedTextsReadBack};
 ghost use Rattle.ch_run.specs.TextLaws.{AnswersHaveOneText, TablesHaveOneText};
 
-/// The definitions name one text: the order of contraction, the meet, each choice and the arcs of each leg
-/// are one, and so are distances. No worker, piece or gate occurs in them.
+/// Proves that the definitions name one text. There is one order of contraction, one meet, one choice at
+/// each step, one list of arcs for each leg, and one distance. No worker, piece or gate occurs in the
+/// definitions.
 pub fn one_text()
     ensures answers { AnswersHaveOneText }
     ensures tables { TablesHaveOneText }
 {}
 
-/// They name one text too where answers and tables are made by a saved hierarchy, of any origin, and where a
-/// hierarchy is saved.
+/// Proves the same for answers and tables by a saved hierarchy of any origin, and for the text of a
+/// hierarchy that is saved.
 pub fn one_saved_text()
     ensures answers { SavedAnswersHaveOneText }
     ensures tables { SavedTablesHaveOneText }
     ensures hierarchies { HierarchiesHaveOneText }
 {}
 
-/// They name one text of near rows, of a list of sources and of all nodes. What they name by a saved hierarchy, of any origin, is
-/// that text.
+/// Proves that the definitions name one text of near rows, for a list of sources and for all nodes. By a
+/// saved hierarchy of any origin they name the same text.
 pub fn one_near_text()
     ensures rows { NearRowsHaveOneText }
     ensures all { AllNearRowsHaveOneText }
@@ -27,8 +28,9 @@ pub fn one_near_text()
     ensures saved_all { SavedAllNearRowsAreThoseOfTheGraph }
 {}
 
-/// The text of a hierarchy, of any origin, that is right for a graph names that hierarchy again, so it is accepted;
-/// and so does what is saved of a graph.
+/// Proves that a saved text is accepted when it is read back. The text of a hierarchy that is right for a
+/// graph names this hierarchy again. This holds of a hierarchy of any origin, and of the one that is saved of
+/// a graph.
 pub fn saved_text_reads_back()
     ensures kept { HierarchyTextsReadBack }
     ensures saved { SavedTextsReadBack }

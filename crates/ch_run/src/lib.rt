@@ -1,14 +1,22 @@
-//! Runs: from the bytes of a graph and of queries, of lists of nodes or of requests, to the text of the answers.
+//! Runs: from the bytes of a graph and of queries, lists of nodes or requests, to the text of the
+//! answers.
 //!
-//! It stands on ch_contract, ch_graph, ch_hierarchy, ch_near, ch_query, ch_read, ch_table, ch_text and ch_work. It knows no command line.
-//! Proved of it: what the output took after [`run_dist`] and [`run_table`] is exactly the text that the
-//! definitions name for the bytes that the inputs had, which is one ([`laws::one_text`]), for every plan and
-//! gate; a run ends in no fault but its own, and touches nothing before all that comes earlier was accepted.
-//! A hierarchy is built, or it was saved, by whatever program, and is found right for the graph first ([`Source`]).
-//! The same holds of [`run_save`], which writes the graph's hierarchy, and of [`run_near`], which writes the targets that are
-//! nearest to each source of a list, or to each node of the graph ([`Sources`]).
-//! [`run_ask`] answers requests as they come: what is whole in the bytes that were read is answered before the next read.
-//! It passes on the devices of ch_text, from which the inputs come and to which the text goes.
+//! It stands on ch_contract, ch_graph, ch_hierarchy, ch_near, ch_query, ch_read, ch_table, ch_text and
+//! ch_work. It knows no command line. Proved of it, for every plan and gate:
+//!
+//! - After [`run_dist`] and [`run_table`] the output has taken exactly the text that the definitions
+//!   name for the bytes of the inputs. They name only one text ([`laws::one_text`]).
+//! - A run ends only in a fault of its own. It touches no device before all earlier inputs were
+//!   accepted.
+//! - A hierarchy is built, or a saved one of any origin is read. A saved one is first checked for the
+//!   graph ([`Source`]).
+//! - The same holds of [`run_save`], which writes the hierarchy of the graph. It also holds of
+//!   [`run_near`], which writes the nearest targets of each source of a list, or of each node of the
+//!   graph ([`Sources`]).
+//! - [`run_ask`] answers requests as they come. Before each read it answers all requests that are whole
+//!   in the bytes that were read.
+//!
+//! It passes on the devices of ch_text, which give the inputs and take the text.
 #![tactic(auto)]
 
 mod fault;

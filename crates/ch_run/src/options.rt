@@ -1,4 +1,4 @@
-//! How queries are answered, and tables and near rows made, and the limits of this.
+//! The options of a run, and their limits.
 
 pub use ch_contract::OrderBy;
 use ch_graph::limits;
@@ -7,13 +7,13 @@ pub use ch_near::Direction;
 /// The most legs of a witness.
 pub const MOST_HOPS: u32 = limits::MOST_HOPS;
 
-/// The greatest limit on the distances of tables and near rows that has a use: no distance is more.
+/// The greatest useful limit on the distances of tables and near rows: no distance is greater.
 pub const MOST_WITHIN: u64 = limits::MOST_WEIGHT;
 
-/// The greatest number of targets of a near row that has a use: no list of targets has more.
+/// The greatest useful number of targets of a near row: no list of targets is longer.
 pub const MOST_COUNT: u32 = limits::MOST_LISTED as u32;
 
-/// How queries are answered, and tables and near rows made.
+/// The options of a run: how it answers queries, and makes tables and near rows.
 #[derive(Clone, Copy, Debug, PartialEq, Eq)]
 pub struct Options {
     /// Whether distances come from rounds of relaxation over all arcs, and not from a hierarchy.
@@ -22,15 +22,17 @@ pub struct Options {
     pub routes: bool,
     /// The most legs of a witness, from 1 to [`MOST_HOPS`].
     pub hops: u32,
-    /// The order of the hierarchy that is saved, or by which routes are told. Distances and tables are the same in
-    /// each order.
+    /// The order of contraction of a hierarchy that is saved, or that gives routes. Distances and tables
+    /// are the same in each order.
     pub order: OrderBy,
-    /// The greatest distance that a table or a near row tells, if there is one: a cell that is more has none, and a near row
-    /// has no target that is farther. Answers to queries have no limit.
+    /// The greatest distance that a table or a near row reports, if there is a limit. A cell with a
+    /// greater distance is as if there were no walk. A near row leaves out targets that are farther.
+    /// Answers to queries have no limit.
     pub within: Option<u64>,
-    /// The most targets that a near row tells, from 1 to [`MOST_COUNT`], if there is a number: all where there is none.
+    /// The most targets of a near row, from 1 to [`MOST_COUNT`], if there is a limit. Without one, a row
+    /// has all targets.
     pub count: Option<u32>,
-    /// Which way the distances of near rows go.
+    /// The direction of the distances of near rows.
     pub direction: Direction,
 }
 
@@ -38,8 +40,9 @@ impl Options {
     ghost use Rattle.std.specs.Prelude.{◌≡◌};
     ghost use Rattle.ch_run.specs.Source.{order_built};
 
-    /// The order in which a hierarchy is built by which queries are answered: for routes the one that is wanted, and for
-    /// distances, which are the same in each order, the one that is quick.
+    /// Returns the order in which to build the hierarchy that answers queries. With routes it is the
+    /// order of the options. Without routes it is the order of depth, because distances are the same in
+    /// each order and this one is fast.
     pub(crate) fn building_order(&self) -> OrderBy
         ensures { result ≡ order_built self.now }
     {

@@ -3,8 +3,9 @@
 /// Where the hierarchy of a run comes from.
 #[derive(Debug, Drop)]
 pub enum Source<S: Drop> {
-    /// It is built of the graph, once all inputs were read.
+    /// The run builds it from the graph, after it has read all inputs but the requests.
     Built,
-    /// It was saved, by whatever program. It is read from this input after the graph, and checked, before anything else is read.
+    /// Some program has saved it: chtab or another. The run reads it from this input after the graph,
+    /// and checks it before it reads anything else.
     Saved(S),
 }

@@ -1,4 +1,4 @@
-//! Requests that came together, answered in order.
+//! Answers requests that came together, in order.
 ghost use Rattle.std.specs.Prelude.{◌≡◌, ◌<◌, ◌≤◌, ◌^◌, [], None, length, All, IfErr, OnOk};
 ghost use Rattle.ch_graph.specs.declared.limits.TheConstants.{MOST_LISTED};
 ghost use Rattle.ch_graph.specs.Graph.{IsWithinLimits};
@@ -21,24 +21,24 @@ use ch_text::Output;
 use std::alloc::Global;
 use std::thread::Threads;
 
-/// By what requests are answered: a graph with a hierarchy that is right for it, and the options.
+/// The graph, the hierarchy and the options that answer requests. The hierarchy is right for the graph.
 #[derive(Drop)]
 pub(crate) struct Answering<'a> {
     pub(crate) checked: &'a Checked,
     pub(crate) options: &'a Options,
 }
 
-/// What a run over requests keeps from one request to the next.
+/// The memory that a run over requests keeps from one request to the next.
 #[derive(Drop)]
 pub(crate) struct Room<'a> {
-    /// In which workers answer queries.
+    /// The scratches in which workers answer queries.
     pub(crate) scratches: Vec<Scratch>,
-    /// The places that were given last, if any were, with the searches from them.
+    /// The places that were given last, with the searches from them, if any were given.
     pub(crate) near: Option<NearTargets<'a>>,
 }
 
 impl<'a> Room<'a> {
-    /// Nothing is kept yet.
+    /// Makes a room that keeps nothing yet.
     pub(crate) fn new(alloc: Global) -> Room<'a>
         ensures scratches { result.scratches.items ≡ [] }
         ensures near { result.near ≡ None }
@@ -50,7 +50,8 @@ impl<'a> Room<'a> {
     }
 }
 
-/// Answers requests, each group of like ones by one text. `written` counts the bytes that the output took, as far as 64 bits go.
+/// Answers requests in order, with one text for each group of like requests. It adds the bytes that the
+/// output took to `written`, up to 2^64 - 1.
 pub(crate) fn answer_requests<'a, R: Threads + Sync, O: Output, G: Gate>(
     crew: &Crew<'_, R, G>,
     by: &Answering<'a>,

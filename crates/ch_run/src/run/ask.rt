@@ -17,20 +17,26 @@ use crate::source::Source;
 use ch_text::{Input, Output};
 use std::thread::Threads;
 
-/// Reads a graph and a saved hierarchy, or builds the graph's, and then answers requests as they come: queries, and tables with their
-/// lists, in order.
+/// Reads a graph, and reads a saved hierarchy or builds one. Then it answers requests as they come, in
+/// order: queries, tables with their lists, places, and near rows.
 ///
-/// What is whole in the bytes that were read is answered and written before the next read, and then let go. A query is
-/// answered as [`run_dist`](super::run_dist) answers it, and a table as [`run_table`](super::run_table) makes it. The answers are
-/// the same for every plan and gate. By a saved hierarchy the options `hops` and `order` are not used.
+/// Before each read it answers all requests that are whole in the bytes that were read. It writes these
+/// answers and then frees their memory. It answers a query as [`run_dist`](super::run_dist) does, and
+/// makes a table as [`run_table`](super::run_table) does. The answers are the same for every plan and
+/// gate. With a saved hierarchy it does not use the options `hops` and `order`.
 ///
 /// # Errors
-/// The first fault of the graph, of the saved hierarchy's lines, or of the hierarchy on the graph (`Check`), a device that refused a
-/// read of these, or want of memory: nothing was read of the requests then, and
-/// nothing was written. `Requests`, or `Cells` for a table with more than 2^22 of them, where a line of the requests has a
-/// fault: all requests before it were answered. `Memory`: the first of the requests were answered, each whole. A device that refused
-/// a read of the requests: all that were whole in what was read before were answered. `Write(count)`, where the output took `count`
-/// bytes of the text and no more.
+/// - `Read(Graph, _)`, `Read(Saved, _)`: the first fault of the graph, or of the saved hierarchy's lines.
+/// - `Check`: the first fault of the saved hierarchy on the graph.
+/// - `Device(Graph)`, `Device(Saved)`: a read of these failed.
+/// - `Read(Requests, _)`: a line of the requests has this fault. All requests before it were answered.
+/// - `CellsAt`: a table has more than 2^22 cells. All requests before it were answered.
+/// - `Device(Requests)`: a read of the requests failed. All requests that were whole in the bytes read before
+///   were answered.
+/// - `Memory`: there was not enough memory. The first requests may have been answered, each whole.
+/// - `Write(count)`: the output took `count` bytes of the text and no more.
+///
+/// After the faults of the first three lines no request was read, and nothing was written.
 pub fn run_ask<R: Threads + Sync, I: Input, S: Input + Drop, J: Input, O: Output, G: Gate>(
     crew: &Crew<'_, R, G>,
     graph: &mut I,
@@ -46,12 +52,13 @@ pub fn run_ask<R: Threads + Sync, I: Input, S: Input + Drop, J: Input, O: Output
     requires zeros { CanCountOneMore (O.idle output.old) }
     requires hops { source.old ≡ SourceOf.Built → IsHopBound options.now.hops }
 
-    // The requests were answered in order, or neither they nor the output were touched.
+    // The requests are answered in order, or neither they nor the output are touched.
     ensures served { (IsErrAnd result (IsOfLoading (source_reading S.left source.old source.new)) × (requests.new ≡ requests.old) × (output.new ≡ output.old))
         ⊎ ServesBy options.now (reading I.left graph.old graph.new) (source_reading S.left source.old source.new) (reading J.left requests.old requests.new)
         (O.taken output.old) (O.taken output.new) result }
 
-    // A run ends in a fault of its own, and what each device holds is told as it is.
+    // A run ends only in a fault of its own. A file is refused only for its first fault, and failures of
+    // devices are reported exactly.
     ensures own { IfErr result (IsOfAsk (source_reading S.left source.old source.new)) }
     ensures graph { Reads Which.Graph result I.left I.failed graph.old graph.new IsGraphRefused }
     ensures source { ReadsSource (reading I.left graph.old graph.new) result S.left S.failed source.old source.new }

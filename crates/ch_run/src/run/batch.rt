@@ -1,4 +1,4 @@
-//! Requests that came together.
+//! Batches of requests that came together.
 ghost use Rattle.std.specs.Prelude.{◌≡◌, MatchOption};
 ghost use Rattle.ch_read.specs.Requests.{IsUsedUp};
 ghost use Rattle.ch_run.specs.declared.run.batch.Then.TheVariants as ThenOf;
@@ -8,10 +8,10 @@ use crate::fault::{RunFault, Which};
 use ch_read::{Request, RequestError, RequestFault, RequestReader};
 use std::alloc::Global;
 
-/// How many requests are gathered at most before they are answered.
+/// The most requests of a batch.
 const TOGETHER: usize = 65_536;
 
-/// Requests that came together, and what came after them.
+/// Requests that came together, and what comes after them.
 #[derive(Drop)]
 pub(crate) struct Batch {
     pub(crate) requests: Vec<Request>,
@@ -30,16 +30,17 @@ impl Batch {
 /// What comes after the requests of a batch.
 #[derive(Drop)]
 pub(crate) enum Then {
-    /// Maybe more requests.
+    /// More requests may come.
     More,
-    /// No further request that is whole.
+    /// No further request is whole.
     Nothing,
-    /// This fault.
+    /// The run stops with this fault.
     Stop(RunFault),
 }
 
 impl Then {
-    /// How a run ends after it, where it ends there.
+    /// Returns the result of answering the requests that are whole, or `None` if there may be more of
+    /// them.
     pub(crate) fn end(&self) -> Option<Result<(), RunFault>>
         ensures { MatchOption result (GoesOn self.now) (EndsSo self.now) }
     {
@@ -51,7 +52,7 @@ impl Then {
     }
 }
 
-/// The requests that are whole, or the first of them.
+/// Gathers the requests that are whole, or the first of them, if there are more than `TOGETHER`.
 pub(crate) fn gather(alloc: Global, reader: &mut RequestReader, ended: bool) -> Batch
     ensures nodes { reader.new.nodes ≡ reader.old.nodes }
     ensures given { GivesUntil ended reader.old reader.new result.requests.items (end_of result.then) }
@@ -73,7 +74,7 @@ pub(crate) fn gather(alloc: Global, reader: &mut RequestReader, ended: bool) -> 
     Batch::new(requests, Then::More)
 }
 
-/// The fault of a run, where the reader of requests gives none for this error.
+/// Returns the fault of a run whose reader of requests gives this error.
 fn refusal(error: RequestError) -> RunFault
     ensures fault { result ≡ request_refusal error }
     ensures stop { IsStop result }

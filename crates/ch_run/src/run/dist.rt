@@ -26,15 +26,20 @@ use std::thread::Threads;
 
 /// Reads a graph and then queries, and writes the answer to each query in order.
 ///
-/// The graph is read to its end and judged before the queries are read, and the whole text is made
-/// before the first write. A saved hierarchy is read between the two, and checked for the graph. Then routes are found by it, and the
-/// options `hops` and `order` are not used. With `plain` the answers come from the arcs alone, without routes; a saved hierarchy is
-/// checked all the same. The answers are the same for every plan and gate.
+/// It reads the graph to its end and judges it before it reads the queries. It makes the whole text
+/// before the first write. It reads a saved hierarchy between the graph and the queries, and checks it
+/// for the graph. Routes then come from that hierarchy, and the options `hops` and `order` are not used.
+/// With `plain` the answers come from the arcs alone, without routes, but a saved hierarchy is still
+/// checked. The answers are the same for every plan and gate.
 ///
 /// # Errors
-/// The first fault of the graph, of the saved hierarchy's lines, of the hierarchy on the graph (`Check`) or of the queries, a device
-/// that refused a read, or want of memory: nothing was written then. `Write(count)`, where the output took `count` bytes of the text
-/// and no more.
+/// - `Read`: the first fault of the graph, of the saved hierarchy's lines, or of the queries.
+/// - `Check`: the first fault of the saved hierarchy on the graph.
+/// - `Device`: a read of an input failed.
+/// - `Memory`: there was not enough memory.
+/// - `Write(count)`: the output took `count` bytes of the text and no more.
+///
+/// After all faults but `Write` nothing was written.
 pub fn run_dist<R: Threads + Sync, I: Input, S: Input + Drop, J: Input, O: Output, G: Gate>(
     crew: &Crew<'_, R, G>,
     graph: &mut I,
@@ -50,12 +55,12 @@ pub fn run_dist<R: Threads + Sync, I: Input, S: Input + Drop, J: Input, O: Outpu
     requires zeros { CanCountOneMore (O.idle output.old) }
     requires hops { source.old ≡ SourceOf.Built → IsHopBound options.now.hops }
 
-    // What is written is the text that answers what was read: all of it, or its first bytes.
+    // The output takes the text that answers the queries: all of it, or its first bytes.
     ensures written { Delivers result (O.taken output.old) (O.taken output.new)
         (IsAnsweredBy options.now (reading I.left graph.old graph.new) (source_reading S.left source.old source.new) (reading J.left queries.old queries.new)) }
 
-    // A run ends in a fault of its own. What each device holds is told as it is, and nothing is touched before all that comes earlier
-    // was accepted.
+    // A run ends only in a fault of its own. A file is refused only for its first fault, and failures of
+    // devices are reported exactly. No device is touched before all earlier inputs were accepted.
     ensures own { IfErr result (IsOfDist (source_reading S.left source.old source.new)) }
     ensures graph { Reads Which.Graph result I.left I.failed graph.old graph.new IsGraphRefused }
     ensures source { ReadsSource (reading I.left graph.old graph.new) result S.left S.failed source.old source.new }
@@ -72,7 +77,7 @@ pub fn run_dist<R: Threads + Sync, I: Input, S: Input + Drop, J: Input, O: Outpu
     write_text(output, &text)
 }
 
-/// The text that answers the queries, by the way that the options name.
+/// Returns the text that answers the queries, in the way that the options choose.
 fn text_of<R: Threads + Sync, G: Gate>(
     crew: &Crew<'_, R, G>,
     loaded: Loaded,

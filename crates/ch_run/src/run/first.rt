@@ -1,4 +1,4 @@
-//! The first of requests that came together, and the text that answers them.
+//! Answers the first of the requests that came together.
 ghost use Rattle.std.specs.Prelude.{◌≡◌, ◌<◌, ◌≤◌, true, false, ⊤, ◌∷◌, List, None, length, map, All, IfOk, MatchOption};
 ghost use Rattle.ch_graph.specs.declared.limits.TheConstants.{MOST_LISTED, MOST_QUERIES};
 ghost use Rattle.ch_graph.specs.Graph.{IsWithinLimits};
@@ -25,17 +25,19 @@ use ch_text::{push_near_row, push_near_rows};
 use std::alloc::{AllocError, Global};
 use std::thread::Threads;
 
-/// How many near rows are made together at most. The pairs of so many stand beside their text.
+/// The most near rows that are made together. The pairs of this many rows are in memory beside their
+/// text.
 const ROWS_TOGETHER: usize = 4096;
 
-/// The text that answers the first of some requests, and how many these are.
+/// The text that answers the first of some requests, and the number of these.
 #[derive(Drop)]
 pub(crate) struct FirstAnswers {
     pub(crate) text: Vec<u8>,
     pub(crate) count: usize,
 }
 
-/// Answers the first request, and with it those of its kind that come right after it.
+/// Answers the first request. Queries and near rows like it that come right after it are answered with
+/// it.
 pub(crate) fn answer_first<'a, R: Threads + Sync, G: Gate>(
     crew: &Crew<'_, R, G>,
     by: &Answering<'a>,
@@ -61,7 +63,8 @@ pub(crate) fn answer_first<'a, R: Threads + Sync, G: Gate>(
     }
 }
 
-/// Answers a query, and with it the queries that come right after it: all with their routes, or as the run answers queries.
+/// Answers a query, and with it the queries like it that come right after it. All have their routes, or
+/// all are answered as the run answers queries.
 fn first_pairs<R: Threads + Sync, G: Gate>(
     crew: &Crew<'_, R, G>,
     by: &Answering<'_>,
@@ -84,7 +87,7 @@ fn first_pairs<R: Threads + Sync, G: Gate>(
     Ok(FirstAnswers { text, count })
 }
 
-/// The nodes of the queries in front, of which this is the first.
+/// Returns the nodes of the queries in front that are like this first one.
 fn pairs_in_front(
     alloc: Global,
     first: (u32, u32),
@@ -104,7 +107,8 @@ fn pairs_in_front(
     Ok(pairs)
 }
 
-/// The nodes of a query, where it asks for its route, or where it does not.
+/// Returns the nodes of a query that asks for its route if `routed`, and that does not if not. Returns
+/// `None` for any other request.
 fn pair_of(request: &Request, routed: bool) -> Option<(u32, u32)>
     ensures { MatchOption result ⊤ (λ pair. request.now ≡ asked_for routed pair) }
 {
@@ -115,7 +119,7 @@ fn pair_of(request: &Request, routed: bool) -> Option<(u32, u32)>
     }
 }
 
-/// The text of queries, all with their routes, or as the run answers queries.
+/// Returns the text of queries: all with their routes, or as the run answers queries.
 fn pairs_text<R: Threads + Sync, G: Gate>(
     crew: &Crew<'_, R, G>,
     by: &Answering<'_>,
@@ -138,21 +142,22 @@ fn pairs_text<R: Threads + Sync, G: Gate>(
     answers_in(crew, &by.checked.hierarchy, scratches, pairs, routes)
 }
 
-/// Whether queries are answered by rounds over all arcs, which tell no route.
+/// Returns whether queries are answered by rounds over all arcs, which give no route.
 fn is_plain(options: &Options, routed: bool) -> bool
     ensures { result ≡ true → routes_for options.now routed ≡ false }
 {
     options.plain && !routed
 }
 
-/// Whether routes are written: for queries that ask for them, or that the run answers.
+/// Returns whether routes are written: if the queries ask for them, or if the run writes them.
 fn tells_routes(options: &Options, routed: bool) -> bool
     ensures { result ≡ routes_for options.now routed }
 {
     routed || (!options.plain && options.routes)
 }
 
-/// Answers a near row, and with it those within the same limit that come right after it.
+/// Answers a near row, and with it those with the same limit that come right after it, at most
+/// [`ROWS_TOGETHER`] in all. If no places were given, it answers only this one, and the row is empty.
 fn first_rows<R: Threads + Sync, G: Gate>(
     crew: &Crew<'_, R, G>,
     by: &Answering<'_>,
@@ -180,7 +185,7 @@ fn first_rows<R: Threads + Sync, G: Gate>(
     Ok(FirstAnswers { text, count })
 }
 
-/// The text of near rows within a limit.
+/// Returns the text of near rows within a limit.
 fn rows_text<R: Threads + Sync, G: Gate>(
     crew: &Crew<'_, R, G>,
     near: &mut NearTargets<'_>,
@@ -199,7 +204,8 @@ fn rows_text<R: Threads + Sync, G: Gate>(
     Ok(text)
 }
 
-/// The sources of the near rows in front, of which this is the first.
+/// Returns the sources of the near rows in front with this limit, at most [`ROWS_TOGETHER`]. The first
+/// of them is `first`.
 fn sources_in_front(
     alloc: Global,
     first: u32,
@@ -222,7 +228,7 @@ fn sources_in_front(
     Ok(sources)
 }
 
-/// The source of a near row within this limit.
+/// Returns the source of a near row with this limit, or `None` for any other request.
 fn source_of(request: &Request, within: Option<u64>) -> Option<u32>
     ensures { MatchOption result ⊤ (λ source. request.now ≡ near_row_of within source) }
 {
@@ -232,7 +238,7 @@ fn source_of(request: &Request, within: Option<u64>) -> Option<u32>
     }
 }
 
-/// The limit of a request: its own, or the run's where it has none.
+/// Returns the limit of a request: its own, or that of the run if it has none.
 fn limit_of(options: &Options, within: Option<u64>) -> Option<u64>
     ensures { result ≡ limit_of options.now within }
 {
@@ -260,7 +266,7 @@ fn first_table<R: Threads + Sync, G: Gate>(
     Ok(FirstAnswers { text, count: 1 })
 }
 
-/// Takes places in place of those that were given last, and searches from each.
+/// Takes these places instead of those that were given last, and searches from each.
 fn take_places<'a, R: Threads + Sync, G: Gate>(
     crew: &Crew<'_, R, G>,
     by: &Answering<'a>,
@@ -274,7 +280,7 @@ fn take_places<'a, R: Threads + Sync, G: Gate>(
     ensures first { (rest : List RequestKind) → IfOk result (λ answers. AnswersFirst (IsTextOfRequest by.now.options.now by.now.checked.now.graph by.now.checked.now.hierarchy) (places_of room.old.near) (places_of room.new.near) (RequestOf.Places places.now ∷ rest) answers.text.items answers.count) }
     ensures room { IfOk result (λ _. IsRoomFor by.now.options.now.direction by.now.checked.now.hierarchy room.new) }
 {
-    // The memory of the searches before serves these.
+    // The memory of the earlier searches is freed for these.
     room.near = None;
     let direction = by.options.direction;
     let count = places.count();

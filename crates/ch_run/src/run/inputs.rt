@@ -1,4 +1,4 @@
-//! Inputs, read to their end and judged.
+//! Reads inputs to their end, and judges them.
 ghost use Rattle.std.specs.Prelude.{◌≡◌, ◌<◌, ◌≤◌, ◌↔◌, All, IfOk, IfErr, vec_len};
 ghost use Rattle.ch_graph.specs.declared.limits.TheConstants.{MOST_LISTED, MOST_QUERIES};
 ghost use Rattle.ch_read.specs.declared.fault.ReadFault.{ReadFault as FaultAt};
@@ -78,7 +78,7 @@ pub(crate) fn nodes_from<I: Input>(
     }
 }
 
-/// The bytes of an input, read to its end.
+/// Reads an input to its end, and returns its bytes.
 pub(crate) fn bytes_from<I: Input>(
     alloc: Global,
     input: &mut I,

@@ -19,8 +19,8 @@ pub(crate) struct Lists {
     pub(crate) targets: Vec<u32>,
 }
 
-/// Reads the sources to their end and then the targets, as lists of nodes of this graph that make no
-/// more than 2^22 cells.
+/// Reads the sources to their end, and then the targets. Both are lists of nodes of this graph, and they
+/// make at most 2^22 cells.
 pub(crate) fn lists_from<J: Input, L: Input>(
     alloc: Global,
     sources: &mut J,

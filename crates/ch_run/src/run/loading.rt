@@ -1,4 +1,4 @@
-//! A graph, read to its end and judged, and where a hierarchy was saved that one too, which is checked for the graph.
+//! A graph, and a saved hierarchy if there is one. Both are read to their end and checked.
 ghost use Rattle.std.specs.Prelude.{◌≡◌, ◌<◌, ◌↔◌, ◌⊎◌, IfOk, IfErr, IfSome, IsNone};
 ghost use Rattle.ch_graph.specs.Saved.{OrderAndLegs};
 ghost use Rattle.ch_read.specs.declared.fault.ReadFault.{ReadFault as FaultAt};
@@ -21,7 +21,7 @@ use ch_text::Input;
 use std::alloc::AllocError;
 use std::thread::Threads;
 
-/// A graph, and the hierarchy that was saved for it, if one was.
+/// A graph, and the saved hierarchy that is right for it, if one was read.
 #[derive(Drop)]
 pub(crate) struct Loaded {
     pub(crate) graph: Graph,
@@ -35,7 +35,8 @@ pub(crate) struct Checked {
     pub(crate) hierarchy: Hierarchy,
 }
 
-/// Reads a graph to its end, and then a saved hierarchy, where the hierarchy comes from one. That is checked for the graph.
+/// Reads a graph to its end, and then the saved hierarchy if there is one, which it checks for the
+/// graph.
 pub(crate) fn loaded_from<R: Threads + Sync, I: Input, S: Input + Drop, G: Gate>(
     crew: &Crew<'_, R, G>,
     graph: &mut I,
@@ -52,7 +53,7 @@ pub(crate) fn loaded_from<R: Threads + Sync, I: Input, S: Input + Drop, G: Gate>
         Source::Built => {
             crew.gate.watch(Stage::Reading, 0, 1);
             let graph = graph_from(crew, graph)?;
-            // The proof learns from this call that the graph keeps the limits.
+            // The contract of this call says that the graph keeps the limits.
             let _ = graph.arcs();
             Ok(Loaded { graph, saved: None })
         }
@@ -66,7 +67,7 @@ pub(crate) fn loaded_from<R: Threads + Sync, I: Input, S: Input + Drop, G: Gate>
     }
 }
 
-/// Reads a graph to its end, and then a saved hierarchy, which is checked for the graph.
+/// Reads a graph to its end, and then a saved hierarchy, which it checks for the graph.
 fn checked_from<R: Threads + Sync, I: Input, S: Input, G: Gate>(
     crew: &Crew<'_, R, G>,
     graph: &mut I,
@@ -95,7 +96,7 @@ fn checked_from<R: Threads + Sync, I: Input, S: Input, G: Gate>(
 {
     crew.gate.watch(Stage::Reading, 0, 2);
     let graph = graph_from(crew, graph)?;
-    // The proof learns from this call that the graph keeps the limits.
+    // The contract of this call says that the graph keeps the limits.
     let _ = graph.arcs();
     crew.gate.watch(Stage::Reading, 1, 2);
     let saved = saved_from(crew, saved, &graph)?;
@@ -107,7 +108,8 @@ fn checked_from<R: Threads + Sync, I: Input, S: Input, G: Gate>(
 }
 
 impl Loaded {
-    /// The graph with the hierarchy that serves: the saved one, or else one that is built in this order.
+    /// Returns the graph with the hierarchy that serves: the saved one, or one that it builds in this
+    /// order.
     pub(crate) fn checked<R: Threads + Sync, G: Gate>(
         self,
         crew: &Crew<'_, R, G>,
@@ -128,7 +130,7 @@ impl Loaded {
         Ok(Checked { graph, hierarchy })
     }
 
-    /// That hierarchy alone. The graph is dropped, so that its memory serves the answers.
+    /// Returns the hierarchy that serves, and drops the graph. Its memory is then free for the answers.
     pub(crate) fn hierarchy<R: Threads + Sync, G: Gate>(
         self,
         crew: &Crew<'_, R, G>,

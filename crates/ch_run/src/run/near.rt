@@ -1,4 +1,4 @@
-//! Runs that tell the targets that are nearest to each source of a list, or to each node of the graph.
+//! Runs that write the nearest targets of each source of a list, or of each node of the graph.
 ghost use Rattle.std.specs.Prelude.{◌≡◌, [], ◌∷◌, IfOk, IfErr, IfSome, IsNone};
 ghost use Rattle.ch_graph.specs.Graph.{IsWithinLimits};
 ghost use Rattle.ch_contract.specs.Legs.{IsHopBound};
@@ -25,20 +25,28 @@ use ch_text::{Input, Output};
 use std::alloc::AllocError;
 use std::thread::Threads;
 
-/// Reads a graph, a list of sources and a list of targets, and writes a line for each source, in order: how many targets follow,
-/// and these in order of distance and then of place in their list, each with its distance. By the options these are the first
-/// `count` of them, or all, and with a limit those alone that are within it; and distances go from the source to the targets, or
-/// from them. A target to which there is no walk is left out. The sources may also be all nodes of the graph.
+/// Reads a graph, a list of sources and a list of targets, and writes the near row of each source, in
+/// order. The sources may also be all nodes of the graph.
+///
+/// A near row is a line with the number of targets that follow, and then each of these with its
+/// distance. They are in order of distance, and then of place in their list. The options say how many of
+/// the first targets a row has: `count`, or all. With a limit it has only targets within the limit. They
+/// also say whether distances go from the source to the targets, or from the targets to the source. A
+/// target without such a walk is left out.
 ///
 /// Each input is read to its end and judged before the next is read, and the whole text is made before
-/// the first write. A saved hierarchy is read after the graph, and checked for it. The text is the same for every plan and gate, and for
-/// every hierarchy that is right for the graph. Of the options `within`, `count` and `direction` are used, and `hops` where the hierarchy
-/// is built.
+/// the first write. A saved hierarchy is read after the graph, and checked for it. The text is the same
+/// for every plan and gate, and for every hierarchy that is right for the graph. Of the options the run
+/// uses `within`, `count` and `direction`, and `hops` if it builds the hierarchy.
 ///
 /// # Errors
-/// The first fault of the graph, of the saved hierarchy's lines, of the hierarchy on the graph (`Check`), of the sources or the targets,
-/// a device that refused a read, or want of memory: nothing was written then. `Write(count)`, where the output took `count` bytes of the
-/// text and no more.
+/// - `Read`: the first fault of the graph, of the saved hierarchy's lines, of the sources, or of the targets.
+/// - `Check`: the first fault of the saved hierarchy on the graph.
+/// - `Device`: a read of an input failed.
+/// - `Memory`: there was not enough memory.
+/// - `Write(count)`: the output took `count` bytes of the text and no more.
+///
+/// After all faults but `Write` nothing was written.
 pub fn run_near<
     R: Threads + Sync,
     I: Input,
@@ -64,13 +72,13 @@ pub fn run_near<
     requires zeros { CanCountOneMore (O.idle output.old) }
     requires hops { source.old ≡ SourceOf.Built → IsHopBound options.now.hops }
 
-    // What is written is the near rows of what was read: all of them, or their first bytes.
+    // The output takes the near rows of the inputs: all of them, or their first bytes.
     ensures written { Delivers result (O.taken output.old) (O.taken output.new)
         (IsNearBy options.now (reading I.left graph.old graph.new) (source_reading S.left source.old source.new)
         (sources_reading J.left sources.old sources.new) (reading L.left targets.old targets.new)) }
 
-    // A run ends in a fault of its own. What each device holds is told as it is, and nothing is touched before all that comes earlier
-    // was accepted.
+    // A run ends only in a fault of its own. A file is refused only for its first fault, and failures of
+    // devices are reported exactly. No device is touched before all earlier inputs were accepted.
     ensures own { IfErr result (IsOfNear (source_reading S.left source.old source.new) (sources_reading J.left sources.old sources.new)) }
     ensures graph { Reads Which.Graph result I.left I.failed graph.old graph.new IsGraphRefused }
     ensures source { ReadsSource (reading I.left graph.old graph.new) result S.left S.failed source.old source.new }
@@ -92,7 +100,7 @@ pub fn run_near<
     write_text(output, &text)
 }
 
-/// The text of the near rows of these lists, by the hierarchy that serves.
+/// Returns the text of the near rows of these lists, by the hierarchy that serves.
 fn near_of<R: Threads + Sync, G: Gate>(
     crew: &Crew<'_, R, G>,
     loaded: Loaded,

@@ -16,11 +16,13 @@ use ch_text::{push_near_row, push_near_rows};
 use std::alloc::AllocError;
 use std::thread::Threads;
 
-/// Of how many sources rows are made before their text is. The pairs of so many rows stand beside the text, and no others.
+/// The number of sources whose rows are made before their text is. So only the pairs of this many rows
+/// are in memory beside the text.
 const PORTION: usize = 4096;
 
-/// The text of the near rows of these sources, by a hierarchy. Where the sources are at least half as many as the nodes, one
-/// sweep makes the rows of all nodes. It takes no search, and makes hardly more than twice as many rows as are asked for.
+/// Returns the text of the near rows of these sources, by a hierarchy. If there are at least half as
+/// many sources as nodes, rounded down, one sweep makes the rows of all nodes. The sweep needs no search
+/// from a source, and makes hardly more than twice as many rows as are asked for.
 pub(crate) fn near_by<R: Threads + Sync, G: Gate>(
     crew: &Crew<'_, R, G>,
     hierarchy: &Hierarchy,
@@ -43,7 +45,8 @@ pub(crate) fn near_by<R: Threads + Sync, G: Gate>(
     }
 }
 
-/// The text of the near rows of these sources, made in portions by a search from each source. The workers share the sources.
+/// Returns the text of the near rows of these sources. It makes them in portions, by a search from each
+/// source. The workers share the sources.
 fn searched_text<R: Threads + Sync, G: Gate>(
     crew: &Crew<'_, R, G>,
     near: &mut NearTargets<'_>,
@@ -62,7 +65,8 @@ fn searched_text<R: Threads + Sync, G: Gate>(
     Ok(text)
 }
 
-/// The text of the near rows of these sources, made of the rows of all nodes. One worker makes these.
+/// Returns the text of the near rows of these sources, from the rows of all nodes. One worker makes
+/// these rows.
 fn swept_text<R: Threads + Sync, G: Gate>(
     crew: &Crew<'_, R, G>,
     near: &NearTargets<'_>,

@@ -1,4 +1,4 @@
-//! The two lists of a run that tells near rows.
+//! The two lists of a run that makes near rows.
 ghost use Rattle.std.specs.Prelude.{◌≡◌, ◌<◌, ◌↔◌, ◌⊎◌, [], ◌∷◌, Some, IfOk, IfErr, ⊤};
 ghost use Rattle.ch_read.specs.declared.fault.ReadFault.{ReadFault as FaultAt};
 ghost use Rattle.ch_text.specs.Device.{CanCountOneMore, CountsAtMostOne};
@@ -15,7 +15,8 @@ use ch_graph::Graph;
 use ch_text::Input;
 use std::alloc::{AllocError, Global};
 
-/// Reads the sources to their end, where they are those of a list, and then the targets, as lists of nodes of this graph.
+/// Reads the sources to their end, if they are those of a list, and then the targets. Both are lists of
+/// nodes of this graph.
 pub(crate) fn node_lists_from<J: Input + Drop, L: Input>(
     alloc: Global,
     sources: &mut Sources<J>,
@@ -87,7 +88,7 @@ fn all_nodes_and<L: Input>(alloc: Global, targets: &mut L, graph: &Graph) -> Res
     Ok(Lists { sources, targets })
 }
 
-/// The nodes of a graph of so many, in order.
+/// Returns the nodes of a graph with this many nodes, in order.
 fn each_node(alloc: Global, nodes: u32) -> Result<Vec<u32>, AllocError>
     ensures { IfOk result (λ list. list.items ≡ nodes_in_order nodes) }
 {

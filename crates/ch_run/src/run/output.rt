@@ -1,4 +1,4 @@
-//! The output, to which a run's text goes.
+//! Writes the text of a run to its output.
 ghost use Rattle.std.specs.Prelude.{◌≡◌, ◌<◌, ◌↔◌, ◌⊎◌, IfErr, IsErrAnd};
 ghost use Rattle.ch_text.specs.Device.{CanCountOneMore, CountsAtMostOneOf};
 ghost use Rattle.ch_run.specs.Run.{Delivers, IsWrite};
@@ -22,7 +22,7 @@ pub(crate) fn write_text<O: Output>(output: &mut O, text: &[u8]) -> Result<(), R
     }
 }
 
-/// Writes more of the answers to requests, and counts it with what was written before.
+/// Writes more of the answers to requests, and adds its bytes to the count of those written before.
 pub(crate) fn write_more<O: Output>(
     output: &mut O,
     more: &[u8],

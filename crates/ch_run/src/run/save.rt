@@ -16,12 +16,16 @@ use std::thread::Threads;
 
 /// Reads a graph, builds its contraction hierarchy, and writes it as a saved hierarchy.
 ///
-/// The graph is read to its end and judged, and the whole text is made before the first write. The text is the
-/// same for every plan and gate. Of the options `hops` and `order` are used.
+/// It reads the graph to its end and judges it, and makes the whole text, before the first write. The
+/// text is the same for every plan and gate. Of the options it uses `hops` and `order`.
 ///
 /// # Errors
-/// The first fault of the graph, a device that refused a read, or want of memory: nothing was written then.
-/// `Write(count)`, where the output took `count` bytes of the text and no more.
+/// - `Read`: the first fault of the graph.
+/// - `Device`: a read of the graph failed.
+/// - `Memory`: there was not enough memory.
+/// - `Write(count)`: the output took `count` bytes of the text and no more.
+///
+/// After all faults but `Write` nothing was written.
 pub fn run_save<R: Threads + Sync, I: Input, O: Output, G: Gate>(
     crew: &Crew<'_, R, G>,
     graph: &mut I,
@@ -33,11 +37,12 @@ pub fn run_save<R: Threads + Sync, I: Input, O: Output, G: Gate>(
     requires zeros { CanCountOneMore (O.idle output.old) }
     requires hops { IsHopBound options.now.hops }
 
-    // What is written is the text of the graph's hierarchy: all of it, or its first bytes.
+    // The output takes the text of the graph's hierarchy: all of it, or its first bytes.
     ensures written { Delivers result (O.taken output.old) (O.taken output.new)
         (IsSavedBy options.now (reading I.left graph.old graph.new)) }
 
-    // A run ends in a fault of its own. What each device holds is told as it is, and nothing is written before the graph was accepted.
+    // A run ends only in a fault of its own. The graph is refused only for its first fault, and failures
+    // of devices are reported exactly. Nothing is written before the graph was accepted.
     ensures own { IfErr result IsOfSave }
     ensures graph { Reads Which.Graph result I.left I.failed graph.old graph.new IsGraphRefused }
     ensures output { WritesAfter (AcceptsGraph (reading I.left graph.old graph.new)) result O.failed O.idle output.old output.new }

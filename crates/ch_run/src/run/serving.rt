@@ -1,4 +1,4 @@
-//! Requests, read and answered as they come.
+//! Reads requests and answers them as they come.
 ghost use Rattle.std.specs.Prelude.{◌≡◌, ◌+◌, ◌^◌, ◌<◌, ◌≤◌, ◌↔◌, length, List, None, IfErr, IfOk, OnOk};
 ghost use Rattle.ch_graph.specs.Graph.{IsWithinLimits};
 ghost use Rattle.ch_hierarchy.specs.Kept.{IsKept};
@@ -17,10 +17,10 @@ use ch_read::RequestReader;
 use ch_text::{Input, Output};
 use std::thread::Threads;
 
-/// How many bytes of requests are read at once.
+/// The most bytes of requests that one read gives.
 const ROOM: usize = 65_536;
 
-/// Reads requests to their end, and answers each as soon as it is whole, before the next read.
+/// Reads requests to their end. It answers each one as soon as it is whole, before the next read.
 pub(crate) fn serve<R: Threads + Sync, J: Input, O: Output, G: Gate>(
     crew: &Crew<'_, R, G>,
     by: &Answering<'_>,
@@ -44,7 +44,7 @@ pub(crate) fn serve<R: Threads + Sync, J: Input, O: Output, G: Gate>(
     serve_in(crew, by, &mut buffer, &mut room, requests, output)
 }
 
-/// The same in the room that the caller made: for what is read at once, and for what is kept from one request to the next.
+/// Does the same with the caller's buffer for each read, and the caller's room for all requests.
 fn serve_in<'a, R: Threads + Sync, J: Input, O: Output, G: Gate>(
     crew: &Crew<'_, R, G>,
     by: &Answering<'a>,

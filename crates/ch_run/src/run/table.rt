@@ -23,18 +23,24 @@ use ch_text::{Input, Output};
 use std::alloc::AllocError;
 use std::thread::Threads;
 
-/// Reads a graph, a list of sources and a list of targets, and writes a row for each source with the
-/// distance to each target, in order. With a limit of the options a distance that is more is left out, as one
-/// where there is no walk.
+/// Reads a graph, a list of sources and a list of targets, and writes a table. It has a row for each source,
+/// in order, with the distance to each target. With a limit, a cell with a greater distance is as if there
+/// were no walk.
 ///
 /// Each input is read to its end and judged before the next is read, and the whole text is made before
-/// the first write. A saved hierarchy is read after the graph, and checked for it. The table is the same for every plan and gate, and for
-/// every hierarchy that is right for the graph. Of the options `within` is used, and `hops` where the hierarchy is built.
+/// the first write. A saved hierarchy is read after the graph, and checked for it. The table is the same
+/// for every plan and gate, and for every hierarchy that is right for the graph. Of the options the run
+/// uses `within`, and `hops` if it builds the hierarchy.
 ///
 /// # Errors
-/// The first fault of the graph, of the saved hierarchy's lines, of the hierarchy on the graph (`Check`), of the sources or the targets,
-/// a device that refused a read, `Cells` where there are more than 2^22 of them, or want of memory: nothing was written then.
-/// `Write(count)`, where the output took `count` bytes of the text and no more.
+/// - `Read`: the first fault of the graph, of the saved hierarchy's lines, of the sources, or of the targets.
+/// - `Check`: the first fault of the saved hierarchy on the graph.
+/// - `Cells`: the lists make more than 2^22 cells.
+/// - `Device`: a read of an input failed.
+/// - `Memory`: there was not enough memory.
+/// - `Write(count)`: the output took `count` bytes of the text and no more.
+///
+/// After all faults but `Write` nothing was written.
 pub fn run_table<
     R: Threads + Sync,
     I: Input,
@@ -60,13 +66,13 @@ pub fn run_table<
     requires zeros { CanCountOneMore (O.idle output.old) }
     requires hops { source.old ≡ SourceOf.Built → IsHopBound options.now.hops }
 
-    // What is written is the table of what was read: all of it, or its first bytes.
+    // The output takes the table of the inputs: all of it, or its first bytes.
     ensures written { Delivers result (O.taken output.old) (O.taken output.new)
         (IsTabledBy options.now (reading I.left graph.old graph.new) (source_reading S.left source.old source.new)
         (reading J.left sources.old sources.new) (reading L.left targets.old targets.new)) }
 
-    // A run ends in a fault of its own. What each device holds is told as it is, and nothing is touched before all that comes earlier
-    // was accepted.
+    // A run ends only in a fault of its own. A file is refused only for its first fault, and failures of
+    // devices are reported exactly. No device is touched before all earlier inputs were accepted.
     ensures own { IfErr result (IsOfTable (source_reading S.left source.old source.new)) }
     ensures graph { Reads Which.Graph result I.left I.failed graph.old graph.new IsGraphRefused }
     ensures source { ReadsSource (reading I.left graph.old graph.new) result S.left S.failed source.old source.new }
@@ -91,7 +97,7 @@ pub fn run_table<
     write_text(output, &text)
 }
 
-/// The text of the table of these lists, by the hierarchy that serves.
+/// Returns the text of the table of these lists, by the hierarchy that serves.
 fn table_of<R: Threads + Sync, G: Gate>(
     crew: &Crew<'_, R, G>,
     loaded: Loaded,

@@ -21,7 +21,7 @@ use ch_text::{answers_text, answers_text_by, table_text};
 use std::alloc::{AllocError, Global};
 use std::thread::Threads;
 
-/// The text that answers the queries by a hierarchy, with the routes where they are wanted.
+/// Returns the text that answers the queries by a hierarchy, with their routes if `routes`.
 pub(crate) fn answers_by<R: Threads + Sync, G: Gate>(
     crew: &Crew<'_, R, G>,
     hierarchy: &Hierarchy,
@@ -38,7 +38,7 @@ pub(crate) fn answers_by<R: Threads + Sync, G: Gate>(
     answers_text_by(crew, &answers)
 }
 
-/// As [`answers_by`], in scratches that the caller has.
+/// Does the same as [`answers_by`], in scratches of the caller.
 pub(crate) fn answers_in<R: Threads + Sync, G: Gate>(
     crew: &Crew<'_, R, G>,
     hierarchy: &Hierarchy,
@@ -58,7 +58,8 @@ pub(crate) fn answers_in<R: Threads + Sync, G: Gate>(
     answers_text_by(crew, &answers)
 }
 
-/// The text that answers the queries by rounds over all arcs, without a hierarchy and without routes.
+/// Returns the text that answers the queries by rounds over all arcs, without a hierarchy and without
+/// routes.
 pub(crate) fn plain_text<G: Gate>(
     alloc: Global,
     graph: &Graph,
@@ -73,7 +74,7 @@ pub(crate) fn plain_text<G: Gate>(
     answers_text(alloc, &answers)
 }
 
-/// The answers to the queries in order, each by its plain distance.
+/// Answers the queries in order, each by its plain distance.
 fn plain_answers<G: Gate>(
     alloc: Global,
     graph: &Graph,
@@ -98,7 +99,7 @@ fn plain_answers<G: Gate>(
     Ok(answers)
 }
 
-/// The text of the table of these lists, by a hierarchy.
+/// Returns the text of the table of these lists, by a hierarchy.
 pub(crate) fn table_by<R: Threads + Sync, G: Gate>(
     crew: &Crew<'_, R, G>,
     hierarchy: &Hierarchy,

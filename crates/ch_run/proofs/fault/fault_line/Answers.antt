@@ -2,7 +2,7 @@ use Rattle.std.proofs.Common.{[], ◌∷◌, ◌++◌, ap, append_assoc, sym}
 use Rattle.std.specs.Prelude.{codes, decimal}
 use Rattle.ch_run.proofs.fault.fault_line.Goals as goal
 
--- what is put in front stands in front
+-- the parts of the line, joined from its end
 pub returns-in-CellsAt : goal.returns-in-CellsAt
 returns-in-CellsAt c =
     let together = append_assoc (decimal c.in-CellsAt.place) (codes ": too many cells") (10 ∷ []) in

@@ -6,7 +6,7 @@ use Rattle.ch_run.specs.Ask.{IsTextOfRequest, places_after}
 use Rattle.ch_run.specs.Serving.{Answers, IsRoomFor, places_of}
 use Rattle.ch_run.proofs.run.answering.answer_requests.Given as goal
 
--- the first of the requests are answered, and the rest is left
+-- the first of the requests are answered, and the rest are left
 abbrev pub invariant-loop-rest : goal.invariant-loop-rest
 invariant-loop-rest g l = record {
   room : IsRoomFor l.by.options.now.direction l.by.checked.now.hierarchy l.room;

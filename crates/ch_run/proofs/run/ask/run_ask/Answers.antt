@@ -9,7 +9,7 @@ use Rattle.ch_run.proofs.Served.{asked_in, served_weaker, serving_past}
 use Rattle.ch_run.proofs.Writes.{passes_on}
 use Rattle.ch_run.proofs.run.ask.run_ask.Goals as goal
 
--- what was loaded serves the answers
+-- the loaded graph and hierarchy meet the requirements of the answers
 pub checked-requires-clause-kept : goal.checked-requires-clause-kept
 checked-requires-clause-kept g c = λ κs outlives. loaded_kept _ _ _ _ c.in_ok-loaded.ensures.value
 

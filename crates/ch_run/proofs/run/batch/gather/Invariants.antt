@@ -2,7 +2,7 @@ use Rattle.std.proofs.Common.{◌≡◌, ◌≤◌, All, length}
 use Rattle.ch_read.specs.Requests.{Gives, IsRequest}
 use Rattle.ch_run.proofs.run.batch.gather.Given as goal
 
--- the requests so far were given, and there are no more of them than turns
+-- the requests so far were given, and there are at most as many of them as turns
 abbrev pub invariant-loop : goal.invariant-loop
 invariant-loop l = record {
   nodes : l.reader.nodes ≡ l.initial.reader.nodes;

@@ -6,7 +6,7 @@ use Rattle.ch_run.proofs.Writes.{delivered, gone_past, passes_on}
 use Rattle.ch_run.specs.declared.fault.Which.{Which}
 use Rattle.ch_run.proofs.run.dist.run_dist.Goals as goal
 
--- what was loaded serves the text
+-- the loaded graph and hierarchy meet the requirements of the text
 pub text_of-requires-clause-limits : goal.text_of-requires-clause-limits
 text_of-requires-clause-limits g c = λ κs outlives. loaded_limits _ _ _ _ c.in_ok-loaded.ensures.value
 

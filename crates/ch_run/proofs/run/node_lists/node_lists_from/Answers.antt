@@ -7,7 +7,7 @@ use Rattle.ch_run.proofs.Inputs.{of_one}
 use Rattle.ch_run.proofs.Owed.{read_after}
 use Rattle.ch_run.proofs.run.node_lists.node_lists_from.Goals as goal
 
--- where the sources are all nodes, none is read
+-- if the sources are all nodes, no list of them is read
 pub returns-in-All-clause-targets : goal.returns-in-All-clause-targets
 returns-in-All-clause-targets g c =
     let e = c.all_nodes_and.ensures in

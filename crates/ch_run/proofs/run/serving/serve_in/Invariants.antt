@@ -5,7 +5,7 @@ use Rattle.ch_run.specs.Serving.{IsRoomFor, places_of}
 use Rattle.ch_run.proofs.Served.{HasServed}
 use Rattle.ch_run.proofs.run.serving.serve_in.Given as goal
 
--- all that was whole in what was read is answered, and no call of a device has failed
+-- all requests that are whole in the bytes read so far are answered, and no call of a device has failed
 abbrev pub invariant-loop : goal.invariant-loop
 invariant-loop g l = record {
   room : 0 < length l.buffer;

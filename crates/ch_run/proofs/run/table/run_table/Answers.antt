@@ -9,7 +9,7 @@ use Rattle.ch_run.specs.declared.fault.RunFault.TheVariants as RunFault
 use Rattle.ch_run.specs.declared.fault.Which.{Which}
 use Rattle.ch_run.proofs.run.table.run_table.Goals as goal
 
--- what was loaded serves the text
+-- the loaded graph and hierarchy meet the requirements of the text
 pub table_of-requires-clause-limits : goal.table_of-requires-clause-limits
 table_of-requires-clause-limits g c = λ κs outlives. loaded_limits _ _ _ _ c.in_ok-loaded.ensures.value
 
