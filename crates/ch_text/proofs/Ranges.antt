@@ -1,4 +1,4 @@
--- Texts of ranges of items, which follow one another.
+-- The texts of ranges of items, joined in order.
 use Rattle.std.proofs.Common.{◌≡◌, ℕ, ◌+◌, ◌-◌, ◌*◌, ◌<◌, ◌≤◌, min, List, [], ◌∷◌, ◌++◌, length, drop, get_or, subst, sym, ap, ◌∙◌, refl, arith, length-drop}
 use Rattle.std.specs.Prelude.{Vec}
 use Rattle.std.specs.List.{flat_map, slice_range, zip}
@@ -10,7 +10,7 @@ use Rattle.ch_work.specs.Pieces.{pieces_of, MeanEach, AreValues}
 use Rattle.ch_work.proofs.PieceLists.{covers, piece_split}
 use Rattle.ch_text.proofs.Growing.{grown}
 
--- the range of all items
+-- the range from the first to the last item has all items
 pub whole_range : {X : Type 0} (items : List X) (n : ℕ) → length items ≤ n → slice_range items 0 n ≡ items
 whole_range items n le = let all : n - 0 ≡ n = omega arith in rw all (take_all n items le)
 
@@ -37,11 +37,11 @@ module _ {X : Type 0} (f : X → List ℕ) (items : List X) (p : ℕ) where
   abbrev IsTextOfRange : ℕ → ℕ → Vec ℕ Global → Type 0
   IsTextOfRange from to text = text.items ≡ flat_map f (slice_range items from to)
 
-  -- the texts after one another
+  -- the texts, joined in order
   abbrev all_texts : List (Vec ℕ Global) → List ℕ
   all_texts texts = flat_map (λ (text : Vec ℕ Global). text.items) texts
 
-  -- from piece k on
+  -- the joined texts from piece k on are the text of the items from there on
   texts_from : (k : ℕ) (texts : List (Vec ℕ Global)) → length items ≤ (k + length texts) * p → MeanEach IsTextOfRange (length items) p k texts → all_texts texts ≡ flat_map f (drop (k * p) items)
   texts_from k [] le h = rw (drop_all (k * p) items (omega (arith, le))) refl
   texts_from k (text ∷ texts) le h =
@@ -52,7 +52,7 @@ module _ {X : Type 0} (f : X → List ℕ) (items : List X) (p : ℕ) where
       let both : text.items ++ all_texts texts ≡ flat_map f piece ++ flat_map f (drop (k * p + p) items) = rw (h.0, rest) refl in
       both ∙ sym (flat_map-append f piece (drop (k * p + p) items)) ∙ ap (flat_map f) (piece_split items (k * p) p)
 
--- the texts of all pieces after one another are the text of all items
+-- the joined texts of all pieces are the text of all items
 pub joined_texts : {X : Type 0} (f : X → List ℕ) (items : List X) (n p : ℕ) (texts : List (Vec ℕ Global)) → n ≡ length items → 0 < p →
     AreValues (λ from to (text : Vec ℕ Global). text.items ≡ flat_map f (slice_range items from to)) n p 0 (pieces_of n p) texts → flat_map (λ (text : Vec ℕ Global). text.items) texts ≡ flat_map f items
 joined_texts f items n p texts count positive h =

@@ -16,21 +16,21 @@ use Rattle.ch_hierarchy.proofs.theory.SavedLevels.{order_of}
 use Rattle.ch_hierarchy.specs.Written.{IsByLevel, legs_at}
 use Rattle.ch_text.specs.SaveText.{leg_text, order_text, saved_text}
 
--- the nodes below v stand at the places of their levels
+-- each node below v is at the place of its level
 pub record HasPlaced (H : LevelsAndLegs) (order : List ℕ) (v : ℕ) : Type 0 where
   pub size : length order ≡ nodes_of H
   pub each : (u : ℕ) → u < v → slice_index order (slice_index H.level u - 1) ≡ u
 
 module _ (H : LevelsAndLegs) (is : IsLevelled H) where
-  -- levels are from 1 on
+  -- levels are at least 1
   pub level_within : (v : ℕ) → v < nodes_of H → (1 ≤ slice_index H.level v) × (slice_index H.level v ≤ nodes_of H)
   level_within v lt = is.levels.0 v 0 lt
 
-  -- nodes that differ have levels that differ
+  -- different nodes have different levels
   levels_apart : (u v : ℕ) → u < v → v < nodes_of H → slice_index H.level u ≢ slice_index H.level v
   levels_apart u v less lt = is.levels.1 u v 0 less lt
 
-  -- one node more is placed
+  -- one more node is placed
   pub one_placed : (order : List ℕ) (v place : ℕ) → HasPlaced H order v → v < nodes_of H → place ≡ slice_index H.level v - 1 → HasPlaced H (set order place v) (v + 1)
   one_placed order v place h lt at =
       let within = level_within v lt in
@@ -65,7 +65,7 @@ module _ (H : LevelsAndLegs) (is : IsLevelled H) where
       } in
       record { nodes = order_of order H.level levels; levels = levels }
 
--- the legs of a row are at least at their places
+-- the leg at place i of a row leads to node i or a later one
 ascends : (legs : List Leg) → IsRow legs → (d : Leg) (i : ℕ) → i < length legs → i ≤ (get_or legs i d).node
 ascends legs rises d zero lt = omega arith
 ascends legs rises d (suc i) lt =
@@ -74,7 +74,7 @@ ascends legs rises d (suc i) lt =
     omega arith
 
 module _ (H : LevelsAndLegs) (is : IsLevelled H) (rows : List (List Leg)) (are : AreLegsUp H rows) (v : ℕ) where
-  -- a row has at most as many legs as there are nodes
+  -- a row has at most MOST_NODES legs
   pub row_short : length (row rows v) ≤ MOST_NODES
   row_short = at (row rows v) (are.1 v).0 (are.1 v).1
     where
@@ -86,7 +86,7 @@ module _ (H : LevelsAndLegs) (is : IsLevelled H) (rows : List (List Leg)) (are :
           let count = is.count in
           omega arith
 
--- the legs of one node more
+-- the legs of one more node are counted
 pub counted : (H : LevelsAndLegs) (nodes : List ℕ) (i count v up down : ℕ) → i < length nodes → v ≡ get_or nodes i 0 → count ≡ length (flat_map (legs_at H) (take i nodes)) →
     up ≡ length (row H.up v) → down ≡ length (row H.down v) → count + (up + down) ≡ length (flat_map (legs_at H) (take (i + 1) nodes))
 counted H nodes i count v up down lt is so_far ups downs =
@@ -97,22 +97,22 @@ counted H nodes i count v up down lt is so_far ups downs =
     let e : length (flat_map f (take i nodes) ++ f v) ≡ length (flat_map f (take (i + 1) nodes)) = ap length whole in
     omega arith
 
--- the texts of what items are made of
+-- the text of items that are made of parts is the text of all their parts
 pub text_of_each : {X Y : Type 0} (f : X → List ℕ) (g : Y → List X) (ys : List Y) → flat_map f (flat_map g ys) ≡ flat_map (λ y. flat_map f (g y)) ys
 text_of_each f g [] = refl
 text_of_each f g (y ∷ ys) = flat_map-append f (g y) (flat_map g ys) ∙ ap (λ t. flat_map f (g y) ++ t) (text_of_each f g ys)
 
--- the texts of what items are turned into
+-- the text of converted items is the text of each item after its conversion
 pub text_of_turned : {X Y : Type 0} (f : X → List ℕ) (g : Y → X) (ys : List Y) → flat_map f (map g ys) ≡ flat_map (λ y. f (g y)) ys
 text_of_turned f g [] = refl
 text_of_turned f g (y ∷ ys) = ap (λ t. f (g y) ++ t) (text_of_turned f g ys)
 
--- the problem line, the order and the legs are the text
+-- the problem line, the order and the legs make the text
 pub whole_text : (order : List ℕ) (legs : List SavedLeg) (n m : ℕ) (headed ordered text : List ℕ) → n ≡ length order → m ≡ length legs →
     headed ≡ codes "p ch " ++ decimal n ++ codes " " ++ decimal m ++ codes "\n" → ordered ≡ headed ++ flat_map order_text order → text ≡ ordered ++ flat_map leg_text legs →
     text ≡ saved_text (record { order = order; legs = legs })
 whole_text order legs n m headed ordered text n_is m_is a b c = rw (c, b, a, n_is, m_is) refl
 
--- the nodes of an order of level are nodes
+-- the nodes in order of level are nodes of the hierarchy
 pub all_nodes : (H : LevelsAndLegs) (order : List ℕ) → IsByLevel H order → All (λ node. node < nodes_of H) order
 all_nodes H order is = λ k d lt. subst (λ v. v < nodes_of H) (get_or_default order k 0 d lt) (is.nodes.within k lt)

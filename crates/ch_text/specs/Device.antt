@@ -1,4 +1,4 @@
--- What devices give, take and count.
+-- The bytes that devices give and take, and the counts of their faults.
 use Rattle.std.specs.Prelude.{◌≡◌, ℕ, zero, suc, ◌+◌, ◌-◌, ◌^◌, ◌<◌, ◌++◌, ◌==◌, ◌&&◌, ◌⊎◌, if◌then◌else◌, nat_lt, Bool, true, List, [], Option, Some, None, ⊤, Result, Ok, Err, IsErr, length, take, MatchResult}
 use Rattle.ch_text.specs.declared.device.ReadAllFault.{ReadAllFault}
 use Rattle.ch_text.specs.declared.device.ReadAllFault.TheVariants.{Device, Memory}
@@ -25,15 +25,15 @@ CountsAtMostOne count count' = (count' ≡ count) ⊎ (count' ≡ count + 1)
 abbrev pub CountsAtMostOneOf : (failed failed' idle idle' : ℕ) → Type 0
 CountsAtMostOneOf failed failed' idle idle' = (CountsAtMostOne failed failed' × (idle' ≡ idle)) ⊎ ((failed' ≡ failed) × CountsAtMostOne idle idle')
 
--- how many failed reads the answer of reading a whole input tells of
+-- the number of failed reads, by the answer of reading a whole input
 abbrev pub failed_reads : {T : Type 0} → Result T ReadAllFault → ℕ
 failed_reads (Ok _) = 0
 failed_reads (Err Device) = 1
 failed_reads (Err Memory) = 0
 
--- an input that tells its bytes goes on telling them, and of one that doesn't nothing is said:
--- a read takes the bytes that it gives from the front of those left, none only at the end or into
--- no room; a read that fails takes none
+-- known bytes of an input stay known, and nothing is said of unknown ones.
+-- A read takes its bytes from the front of those left. It takes none only at the end, or into a buffer without room.
+-- A failed read takes none
 abbrev pub GivesBytes : {E : Type 0} → Option (List ℕ) → Option (List ℕ) → Result ℕ E → List ℕ → Type 0
 GivesBytes None new result buffer = ⊤
 GivesBytes (Some old) None result buffer = ⊥
@@ -45,22 +45,22 @@ TakesBytes None new result bytes = ⊤
 TakesBytes (Some old) None result bytes = ⊥
 TakesBytes (Some old) (Some new) result bytes = MatchResult result (λ n. new ≡ old ++ take n bytes) (λ _. new ≡ old)
 
--- an input that tells its bytes had these left, and now none
+-- the known bytes of an input were these, and now none are left
 abbrev pub HasGiven : Option (List ℕ) → Option (List ℕ) → List ℕ → Type 0
 HasGiven None new bytes = ⊤
 HasGiven (Some old) new bytes = (old ≡ bytes) × (new ≡ Some [])
 
--- of an input that tells its bytes these were read, and these are left
+-- of the known bytes of an input, these were read and these are left
 abbrev pub HasRead : (old new : Option (List ℕ)) → (read left : List ℕ) → Type 0
 HasRead None new read left = ⊤
 HasRead (Some old) new read left = (old ≡ read ++ left) × (new ≡ Some left)
 
--- an output that tells the bytes that it took has taken these after the earlier ones
+-- an output whose bytes are known has taken these after the earlier ones
 abbrev pub HasTaken : Option (List ℕ) → Option (List ℕ) → List ℕ → Type 0
 HasTaken None new bytes = ⊤
 HasTaken (Some old) new bytes = new ≡ Some (old ++ bytes)
 
--- both counts stay at an `Ok`; at an error just one of them grows, by one
+-- both counts stay at an `Ok`. At an error exactly one of them grows, by one
 abbrev pub CountsFault : {T E : Type 0} → (failed failed' idle idle' : ℕ) → Result T E → Type 0
 CountsFault failed failed' idle idle' (Ok _) = (failed' ≡ failed) × (idle' ≡ idle)
 CountsFault failed failed' idle idle' (Err _) = ((failed' ≡ failed + 1) × (idle' ≡ idle)) ⊎ ((failed' ≡ failed) × (idle' ≡ idle + 1))
@@ -69,7 +69,7 @@ CountsFault failed failed' idle idle' (Err _) = ((failed' ≡ failed + 1) × (id
 abbrev pub ClosesAtFault : {T E : Type 0} → (closed closed' : Bool) → Result T E → Type 0
 ClosesAtFault closed closed' result = (closed' ≡ closed) ⊎ (IsErr result × (closed' ≡ true))
 
--- the turns that are left after one: none where it was the last
+-- the turns that are left after one: none after the last
 abbrev pub turns_after : Option ℕ → Option ℕ
 turns_after None = None
 turns_after (Some zero) = None

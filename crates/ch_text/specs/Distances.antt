@@ -16,7 +16,7 @@ weight_text (Some x) = decimal x
 abbrev pub distance_text : Answer → List ℕ
 distance_text a = codes "d " ++ node_text a.from ++ codes " " ++ node_text a.to ++ codes " " ++ weight_text a.weight ++ codes "\n"
 
--- the query's own nodes, and their distance, or none exactly where there is no walk
+-- the answer has the nodes of its query and their distance, or no distance exactly if there is no walk
 pub record Answers (g : Network) (query : ℕ × ℕ) (a : Answer) : Type 0 where
   pub from : a.from ≡ query.0
   pub to : a.to ≡ query.1
@@ -26,10 +26,10 @@ pub record Answers (g : Network) (query : ℕ × ℕ) (a : Answer) : Type 0 wher
 abbrev pub AnswersShortly : Network → ℕ × ℕ → Answer → Type 0
 AnswersShortly g query a = Answers g query a × (a.arcs ≡ None)
 
--- the text has an answer for each query, in order, and each is written so
+-- the text has an answer for each query, in order, and `written` gives the text of each
 abbrev pub HasText : (Answer → List ℕ) → (ℕ × ℕ → Answer → Type 0) → List (ℕ × ℕ) → List ℕ → Type 0
 HasText written P queries text = (answers : List Answer) × AllZip P queries answers × (text ≡ flat_map written answers)
 
--- distances alone
+-- the text of the distances, without routes
 abbrev pub IsDistanceText : Network → List (ℕ × ℕ) → List ℕ → Type 0
 IsDistanceText g queries text = HasText distance_text (AnswersShortly g) queries text

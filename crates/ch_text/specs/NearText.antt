@@ -6,11 +6,11 @@ use Rattle.ch_near.specs.declared.direction.Direction.{Direction}
 use Rattle.ch_near.specs.Near.{IsNearestRow}
 use Rattle.ch_text.specs.Distances.{node_text}
 
--- of a distance and a place in the list of targets: the target at this place, and the distance
+-- the text of a pair of a distance and a place in the list of targets: the target at this place, and the distance
 abbrev pub near_pair_text : List ℕ → ℕ × ℕ → List ℕ
 near_pair_text targets e = codes " " ++ node_text (slice_index targets e.1) ++ codes " " ++ decimal e.0
 
--- a source, how many targets follow, and these, each with its distance
+-- the text of a near row: the source, the number of targets, and the targets, each with its distance
 abbrev pub near_row_text : List ℕ → ℕ × List (ℕ × ℕ) → List ℕ
 near_row_text targets row = codes "n " ++ node_text row.0 ++ codes " " ++ decimal (length row.1) ++ flat_map (near_pair_text targets) row.1 ++ codes "\n"
 
@@ -19,6 +19,6 @@ abbrev pub IsNearText : Network → Direction → Option ℕ → Option ℕ → 
 IsNearText g direction limit count sources targets text =
     (rows : List (List (ℕ × ℕ))) × AllZip (IsNearestRow g direction limit count targets) sources rows × (text ≡ flat_map (near_row_text targets) (zip sources rows))
 
--- the nodes of a graph of so many, in order
+-- the nodes of a graph with this many nodes, in order
 abbrev pub nodes_in_order : ℕ → List ℕ
 nodes_in_order nodes = range_with_len 0 nodes

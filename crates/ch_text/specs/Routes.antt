@@ -19,12 +19,12 @@ route_text (Some arcs) = codes "r " ++ decimal (length arcs) ++ codes "\n" ++ fl
 abbrev pub answer_text : Answer → List ℕ
 answer_text a = distance_text a ++ route_text a.arcs
 
--- an answer with the arcs of the route, which are a walk of least weight and of these of the fewest arcs
+-- an answer with the arcs of its route. They are a walk of least weight, and have the fewest arcs of all such walks
 pub record AnswersWithRoute (g : Network) (H : LevelsAndLegs) (query : ℕ × ℕ) (a : Answer) : Type 0 where
   pub answers : Answers g query a
   pub route : HasArcs H true query.0 query.1 a.weight a.arcs
   pub walk : (arcs : List InArc) → a.arcs ≡ Some arcs → IsLeastWalk g query.0 query.1 arcs
 
--- distances and routes, by one of these hierarchies
+-- the text of the distances and routes, by one of these hierarchies
 abbrev pub IsRouteText : Network → (LevelsAndLegs → Type 0) → List (ℕ × ℕ) → List ℕ → Type 0
 IsRouteText g From queries text = (H : LevelsAndLegs) × From H × HasText answer_text (AnswersWithRoute g H) queries text

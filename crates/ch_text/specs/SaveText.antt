@@ -6,7 +6,7 @@ use Rattle.ch_hierarchy.specs.Hierarchy.{LevelsAndLegs}
 use Rattle.ch_hierarchy.specs.Written.{IsByLevel, written}
 use Rattle.ch_text.specs.Distances.{node_text}
 
--- 0 stands for none
+-- a leg without a middle has 0
 abbrev pub middle_text : Option ℕ → List ℕ
 middle_text None = codes "0"
 middle_text (Some v) = node_text v
@@ -15,11 +15,11 @@ middle_text (Some v) = node_text v
 abbrev pub order_text : ℕ → List ℕ
 order_text v = codes "o " ++ node_text v ++ codes "\n"
 
--- from, to, weight, arcs, middle
+-- a leg: from, to, weight, arcs, middle
 abbrev pub leg_text : SavedLeg → List ℕ
 leg_text l = codes "l " ++ node_text l.from ++ codes " " ++ node_text l.to ++ codes " " ++ decimal l.cost.weight ++ codes " " ++ decimal l.cost.arcs ++ codes " " ++ middle_text l.middle ++ codes "\n"
 
--- how many nodes and legs there are, the order, the legs
+-- the numbers of nodes and of legs, then the order, and then the legs
 abbrev pub saved_text : OrderAndLegs → List ℕ
 saved_text s = codes "p ch " ++ decimal (length s.order) ++ codes " " ++ decimal (length s.legs) ++ codes "\n" ++ flat_map order_text s.order ++ flat_map leg_text s.legs
 

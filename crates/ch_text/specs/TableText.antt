@@ -13,7 +13,7 @@ cell_text cell = codes " " ++ weight_text cell
 abbrev pub row_text : ℕ × List (Option ℕ) → List ℕ
 row_text row = codes "t " ++ node_text row.0 ++ flat_map cell_text row.1 ++ codes "\n"
 
--- the distance from s to t where it is within the limit, and else none
+-- the distance from s to t if it is within the limit, and otherwise none
 abbrev pub IsCell : Network → Option ℕ → ℕ → ℕ → Option ℕ → Type 0
 IsCell g limit s t cell = (distance : Option ℕ) × IsAnswer g s t distance × IsCut limit distance cell
 

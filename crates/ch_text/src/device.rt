@@ -1,4 +1,4 @@
-//! What a run reads its files from and writes its text to.
+//! The devices that a run reads its files from and writes its text to.
 
 ghost use Rattle.std.specs.Prelude.{◌≡◌, ◌+◌, ◌<◌, ◌≤◌, ℕ, Bool, List, Option, Some, codes, length, take, vec_len, IfOk, IfErr, OnOk};
 ghost use Rattle.ch_text.specs.Device.{CanCountOneMore, ClosesAtFault, GivesBytes, HasGiven, HasTaken, CountsFault, TakesBytes, idle_writes, failures_in, failed_reads};
@@ -12,10 +12,10 @@ use std::alloc::{AllocError, Global};
 use std::error::Error;
 use std::fmt;
 
-/// How many bytes [`read_all`] has room for at each read.
+/// The number of bytes that [`read_all`] has room for at each read.
 const ROOM: usize = 65_536;
 
-/// A read or a write that the system refused.
+/// The fault of a read or a write that failed.
 #[derive(Clone, Copy, Debug, PartialEq, Eq)]
 pub struct DeviceFault;
 
@@ -31,47 +31,47 @@ impl Error for DeviceFault {}
 
 /// A source of bytes that counts its faults.
 ///
-/// Each implementation says whether it tells its bytes: one over memory does, one over a file
-/// doesn't. What is promised of bytes holds for those that do.
+/// Each implementation says whether contracts know its bytes (`left`). They know those of an input over
+/// memory, but not those of a file. The promises about bytes hold for inputs whose bytes are known.
 pub trait Input {
     // how many reads have failed
     ghost failed: { Self → ℕ };
-    // the bytes that are left, where the input tells them
+    // the bytes that are left, if they are known
     ghost left: { Self → Option (List ℕ) };
 
-    /// Reads into the front of `buffer`, and gives the number of bytes read.
+    /// Reads into the front of `buffer`, and returns the number of bytes read.
     ///
-    /// `Ok(0)` into a buffer with room is the end of the input. An `Err` raises the count of
-    /// failures by one, and has given no byte where the input tells its bytes.
+    /// `Ok(0)` into a buffer with room is the end of the input. An `Err` raises the count of failures by
+    /// one. If the bytes are known, an `Err` has taken none of them.
     fn read(&mut self, buffer: &mut [u8]) -> Result<usize, DeviceFault>
         requires { CanCountOneMore (failed self.old) }
         ensures fits { IfOk result (λ n. n ≤ length buffer.new) }
         ensures failures { failed self.new ≡ failed self.old + failures_in result }
         ensures bytes { GivesBytes (left self.old) (left self.new) result buffer.new };
 
-    /// How many reads have failed.
+    /// Returns how many reads have failed.
     fn failures(&self) -> u64
         ensures { result ≡ failed self.now };
 }
 
-/// A taker of bytes that counts its faults.
+/// A sink of bytes that counts its faults.
 ///
-/// Each implementation says whether it tells the bytes that it took, as [`Input`] does. It is closed once a
-/// write has failed because no one reads what is written any more.
+/// Each implementation says whether contracts know the bytes that it took (`taken`), as for an [`Input`].
+/// An output is closed once a write has failed because nobody reads the output any more.
 pub trait Output {
     // how many writes have failed
     ghost failed: { Self → ℕ };
     // how many writes of some bytes took none
     ghost idle: { Self → ℕ };
-    // the bytes that were taken, where the output tells them
+    // the bytes that were taken, if they are known
     ghost taken: { Self → Option (List ℕ) };
-    // whether a write has failed because no one reads what is written any more
+    // whether a write has failed because nobody reads the output any more
     ghost closed: { Self → Bool };
 
-    /// Writes from the front of `bytes`, and gives the number of bytes taken.
+    /// Writes from the front of `bytes`, and returns the number of bytes taken.
     ///
-    /// An `Err` raises the count of failures by one, and has taken no byte where the output tells
-    /// its bytes. One that doesn't may have taken some, which are not counted. Only an `Err` closes the output.
+    /// An `Err` raises the count of failures by one. If the bytes are known, an `Err` has taken none.
+    /// Otherwise it may have taken some, which are not counted. Only an `Err` closes the output.
     fn write(&mut self, bytes: &[u8]) -> Result<usize, DeviceFault>
         requires failures { CanCountOneMore (failed self.old) }
         requires zeros { CanCountOneMore (idle self.old) }
@@ -81,16 +81,16 @@ pub trait Output {
         ensures bytes { TakesBytes (taken self.old) (taken self.new) result bytes.now }
         ensures closes { ClosesAtFault (closed self.old) (closed self.new) result };
 
-    /// How many writes have failed.
+    /// Returns how many writes have failed.
     fn failures(&self) -> u64
         ensures { result ≡ failed self.now };
 
-    /// How many writes of some bytes took none.
+    /// Returns how many writes of some bytes took none.
     fn zeros(&self) -> u64
         ensures { result ≡ idle self.now };
 
-    /// Whether a write has failed because no one reads what is written any more, as where a pipe leads to a
-    /// program that has ended.
+    /// Returns whether a write has failed because nobody reads the output any more. This happens if a
+    /// pipe leads to a program that has ended.
     fn is_closed(&self) -> bool
         ensures { result ≡ closed self.now };
 }
@@ -124,18 +124,18 @@ impl From<DeviceFault> for ReadAllFault {
     }
 }
 
-/// A buffer of `size` bytes.
+/// Returns a buffer of `size` bytes.
 fn buffer_of(alloc: Global, size: usize) -> Result<Vec<u8>, AllocError>
     ensures { IfOk result (λ buffer. vec_len buffer ≡ size) }
 {
     Vec::from_elem(alloc, 0, size)
 }
 
-/// Reads the input to its end. A read that fails isn't tried again.
+/// Reads the input to its end. A read that fails is not tried again.
 ///
 /// # Errors
-/// `Device` where a read failed, and `Memory` where there is no memory for the bytes: no read has failed then,
-/// and the input is where its reads left it.
+/// `Device` if a read failed. `Memory` if there is no memory for the bytes. Then no read has failed, and
+/// the input is where its reads left it.
 pub fn read_all<I: Input>(alloc: Global, input: &mut I) -> Result<Vec<u8>, ReadAllFault>
     requires { CanCountOneMore (I.failed input.old) }
     ensures bytes { IfOk result (λ bytes. HasGiven (I.left input.old) (I.left input.new) bytes.items) }
@@ -154,8 +154,8 @@ pub fn read_all<I: Input>(alloc: Global, input: &mut I) -> Result<Vec<u8>, ReadA
 
 /// Writes all of the bytes, in as many writes as the output needs.
 ///
-/// The first write that fails, or that takes none of some bytes, ends it: the `Err` is the number
-/// of bytes that were taken before.
+/// It ends at the first write that fails, or that takes none of some bytes. The `Err` is the number of
+/// bytes that were taken before.
 pub fn write_all<O: Output>(output: &mut O, bytes: &[u8]) -> Result<(), u64>
     requires failures { CanCountOneMore (O.failed output.old) }
     requires zeros { CanCountOneMore (O.idle output.old) }

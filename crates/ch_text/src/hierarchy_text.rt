@@ -1,5 +1,6 @@
-//! The text of saved hierarchies, with nodes counted from 1: a line `p ch N L`, a line `o V` for each node in
-//! order of level, and in that order a line `l U V W A M` for each leg of a node, first those to higher nodes.
+//! The text of saved hierarchies, with nodes counted from 1. It has a line `p ch N L`, then a line `o V`
+//! for each node, and then a line `l U V W A M` for each leg. The nodes are in order of level. The legs
+//! are in the same order of nodes, and each node has first its legs to higher nodes.
 ghost use Rattle.std.specs.Prelude.{◌≡◌, ◌≤◌, ◌<◌, ◌+◌, ◌++◌, length, flat_map, map, All, IfOk, OnOk, codes, decimal};
 ghost use Rattle.ch_graph.specs.declared.limits.TheConstants.{MOST_NODES};
 ghost use Rattle.ch_hierarchy.specs.Hierarchy.{nodes_of, IsLevelled};
@@ -12,10 +13,10 @@ use crate::text::push_all;
 use ch_hierarchy::{Hierarchy, Leg};
 use std::alloc::{AllocError, Global};
 
-/// The text of a hierarchy.
+/// Returns the text of a hierarchy.
 ///
 /// # Errors
-/// `AllocError` where there is no memory for it.
+/// `AllocError` if there is no memory for it.
 pub fn save_text(alloc: Global, hierarchy: &Hierarchy) -> Result<Vec<u8>, AllocError>
     ensures { IfOk result (λ text. IsHierarchyText hierarchy.now text.items) }
 {
@@ -27,7 +28,7 @@ pub fn save_text(alloc: Global, hierarchy: &Hierarchy) -> Result<Vec<u8>, AllocE
     Ok(text)
 }
 
-/// The nodes in order of level.
+/// Returns the nodes in order of level.
 fn nodes_by_level(alloc: Global, hierarchy: &Hierarchy) -> Result<Vec<u32>, AllocError>
     ensures order { IfOk result (λ order. IsByLevel hierarchy.now order.items) }
     ensures levelled { IsLevelled hierarchy.now }
@@ -40,7 +41,7 @@ fn nodes_by_level(alloc: Global, hierarchy: &Hierarchy) -> Result<Vec<u32>, Allo
     Ok(order)
 }
 
-/// How many legs these nodes have.
+/// Returns how many legs these nodes have.
 fn count_legs(hierarchy: &Hierarchy, nodes: &[u32]) -> u64
     requires count { length nodes.now ≤ MOST_NODES }
     requires within { All (λ node. node < nodes_of hierarchy.now) nodes.now }
@@ -53,7 +54,7 @@ fn count_legs(hierarchy: &Hierarchy, nodes: &[u32]) -> u64
     count
 }
 
-/// The problem line.
+/// Returns the problem line.
 fn heading(alloc: Global, nodes: u64, legs: u64) -> Result<Vec<u8>, AllocError>
     ensures { IfOk result (λ text. text.items ≡ codes "p ch " ++ decimal nodes ++ codes " " ++ decimal legs ++ codes "\n") }
 {
@@ -128,7 +129,7 @@ fn push_downs(text: &mut Vec<u8>, node: u32, legs: &[Leg]) -> Result<(), AllocEr
     Ok(())
 }
 
-/// Makes a line that of a leg from one node to another.
+/// Writes the line of a leg from one node to another, in place of the earlier line.
 fn write_leg(line: &mut ShortText, from: u32, to: u32, leg: &Leg)
     ensures { line.new ≡ leg_text (record { from = from; to = to; cost = leg.now.cost; middle = leg.now.middle }) }
 {
@@ -142,7 +143,7 @@ fn write_leg(line: &mut ShortText, from: u32, to: u32, leg: &Leg)
     line.prepend_ends(b'l', from, to);
 }
 
-/// Puts the middle of a leg in front, or 0 where it has none.
+/// Puts the middle of a leg in front, or 0 if it has none.
 fn prepend_middle(line: &mut ShortText, middle: Option<u32>)
     requires { length line.old + 20 ≤ ROOM }
     ensures text { line.new ≡ middle_text middle ++ line.old }

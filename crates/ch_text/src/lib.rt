@@ -1,11 +1,18 @@
 //! Devices, and the texts of answers.
 //!
-//! It stands on ch_graph, ch_hierarchy, ch_near, ch_query, ch_table, ch_work and itoa. It knows no run, and not how a hierarchy is built.
-//! [`Input`] and [`Output`] are devices that count their faults, over memory ([`MemoryInput`],
-//! [`MemoryOutput`]) or over the readers and writers of `std` ([`ReaderInput`], [`WriterOutput`]). An output also says
-//! whether it is closed: whether a write has failed because no one reads what is written any more.
-//! Proved of [`read_all`] and [`write_all`]: they give and take exactly the bytes that the device had, in however many calls.
-//! Proved of each text: it is the one that the definitions name, byte for byte.
+//! It stands on ch_graph, ch_hierarchy, ch_near, ch_query, ch_table, ch_work and itoa. It does not know
+//! runs, or how a hierarchy is built.
+//!
+//! [`Input`] and [`Output`] are devices that count their faults. They are over memory ([`MemoryInput`],
+//! [`MemoryOutput`]) or over the readers and writers of `std` ([`ReaderInput`], [`WriterOutput`]). An
+//! output also says whether it is closed: whether a write has failed because nobody reads the output any
+//! more.
+//!
+//! Proved:
+//!
+//! - [`read_all`] returns exactly the bytes that the input had, in any number of reads.
+//! - [`write_all`] gives the output exactly the bytes of its text, in any number of writes.
+//! - Each text is the one that the definitions name, byte for byte.
 #![tactic(auto)]
 
 mod device;

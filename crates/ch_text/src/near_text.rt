@@ -1,5 +1,5 @@
-//! The text of near rows, with nodes counted from 1: for each source a line `n S k`, with k targets after it and the
-//! distance of each behind it.
+//! The text of near rows, with nodes counted from 1. Each source has a line `n S K`. After it come its K
+//! targets, each with its distance.
 ghost use Rattle.std.specs.Prelude.{◌≡◌, ◌<◌, ◌++◌, length, flat_map, map, All, OnOk};
 ghost use Rattle.std.specs.List.{zip};
 ghost use Rattle.ch_text.specs.NearText.{near_pair_text, near_row_text};

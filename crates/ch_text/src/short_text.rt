@@ -6,11 +6,12 @@ ghost use Rattle.ch_text.specs.Distances.{node_text, weight_text};
 use itoa::write_digits;
 use std::marker::Model;
 
-/// The most bytes of a short text: those of the line of a leg in which each number has 20 digits, and some more.
+/// The most bytes of a short text: those of the line of a leg with 20 digits in each number, and some
+/// more.
 pub const ROOM: usize = 112;
 
-/// A text that is written from its end to its front, since the digits of a number are found from the last one on. So a line
-/// is one slice when it is added to others. Contracts see its bytes.
+/// A text that is written from its end to its front, because the digits of a number are found from the
+/// last one on. So a line is one slice when it is added to others. Contracts see its bytes.
 #[derive(Drop)]
 pub struct ShortText {
     bytes: [u8; ROOM],
@@ -29,7 +30,7 @@ impl Model for ShortText {
 }
 
 impl ShortText {
-    /// No bytes.
+    /// Makes a text without bytes.
     #[inline]
     pub fn new() -> ShortText
         ensures { result ≡ [] }
@@ -40,7 +41,7 @@ impl ShortText {
         }
     }
 
-    /// Takes all bytes away.
+    /// Removes all bytes.
     #[inline]
     pub(crate) fn clear(&mut self)
         ensures { self.new ≡ [] }
@@ -90,7 +91,7 @@ impl ShortText {
         self.prepend_number(node as u64 + 1);
     }
 
-    /// Puts a distance in front, or `-` where there is none.
+    /// Puts a distance in front, or `-` if there is none.
     #[inline]
     pub(crate) fn prepend_weight(&mut self, weight: Option<u64>)
         requires { length self.old + 20 ≤ ROOM }
@@ -118,7 +119,7 @@ impl ShortText {
         self.prepend(letter);
     }
 
-    /// The bytes.
+    /// Returns the bytes of the text.
     #[inline]
     pub fn as_slice(&self) -> &[u8]
         ensures { result.now ≡ self.now }

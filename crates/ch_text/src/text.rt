@@ -1,6 +1,6 @@
-//! The texts of answers and tables, with nodes counted from 1. An answer is a line `d S T X`, with `-` for
-//! the distance where there is no walk; with its route a line `r K` and K lines `a U V W` follow. A row of a
-//! table is a line `t S`, with the distance to each target after it.
+//! The texts of answers and tables, with nodes counted from 1. An answer is a line `d S T X`, with `-`
+//! for the distance if there is no walk. If it has a route, a line `r K` and K lines `a U V W` follow. A
+//! row of a table is a line `t S`, with the distance to each target after it.
 ghost use Rattle.std.specs.Prelude.{◌≡◌, ◌≤◌, ◌++◌, length, flat_map, Some, IfOk, OnOk};
 ghost use Rattle.std.specs.List.{slice_range, zip};
 ghost use Rattle.ch_graph.specs.declared.limits.TheConstants.{MOST_LISTED};
@@ -14,10 +14,10 @@ use ch_query::Answer;
 use ch_table::Table;
 use std::alloc::{AllocError, Global};
 
-/// The text of the answers, in order.
+/// Returns the text of the answers, in order.
 ///
 /// # Errors
-/// `AllocError` where there is no memory for it.
+/// `AllocError` if there is no memory for it.
 pub fn answers_text(alloc: Global, answers: &[Answer]) -> Result<Vec<u8>, AllocError>
     ensures { IfOk result (λ text. text.items ≡ flat_map answer_text answers.now) }
 {
@@ -28,8 +28,8 @@ pub fn answers_text(alloc: Global, answers: &[Answer]) -> Result<Vec<u8>, AllocE
     Ok(text)
 }
 
-/// The text of the rows of a table from row `from` up to row `to`, which is not among them, one for each of
-/// its sources in order.
+/// Returns the text of the rows of a table, from row `from` up to row `to`, without `to`. The rows are
+/// those of the sources, in order.
 ///
 /// # Errors
 /// `AllocError` if there is no memory for it.
@@ -80,7 +80,7 @@ fn push_cells(text: &mut Vec<u8>, cells: &[Option<u64>]) -> Result<(), AllocErro
     Ok(())
 }
 
-/// Adds an answer, with its route where it has one.
+/// Adds an answer, with its route if it has one.
 fn push_answer(text: &mut Vec<u8>, answer: &Answer) -> Result<(), AllocError>
     ensures { OnOk result (text.new.items ≡ text.old.items ++ answer_text answer.now) }
 {
@@ -127,7 +127,7 @@ fn push_arcs(text: &mut Vec<u8>, arcs: &[InArc]) -> Result<(), AllocError>
     Ok(())
 }
 
-/// Makes a line that of an arc.
+/// Writes the line of an arc, in place of the earlier line.
 fn write_arc(line: &mut ShortText, arc: &InArc)
     ensures { line.new ≡ arc_text arc.now }
 {

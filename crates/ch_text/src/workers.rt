@@ -1,4 +1,5 @@
-//! Texts that workers share: each makes the text of a range of answers or of rows, and these follow one another.
+//! Texts that workers share. Each worker makes the texts of ranges of answers or of rows, and these are
+//! joined in order.
 ghost use Rattle.std.specs.Prelude.{◌≡◌, ◌^◌, ◌<◌, ◌≤◌, length, flat_map, IfOk};
 ghost use Rattle.std.specs.List.{slice_range, zip};
 ghost use Rattle.ch_graph.specs.declared.limits.TheConstants.{MOST_LISTED};
@@ -19,8 +20,8 @@ const ANSWERS: u32 = 1024;
 /// The number of rows of a table that a worker writes at once.
 const ROWS: u32 = 16;
 
-/// Makes a crew of the same workers that takes so many items at once. It passes no gate of the caller, who counts
-/// answers.
+/// Makes a crew of the same workers that takes `piece` items at a time. It does not pass the caller's
+/// gate, which counts answers.
 fn by_pieces<'a, R, G>(crew: &Crew<'a, R, G>, piece: u32) -> Crew<'a, R, Open>
     requires positive { 0 < piece }
     requires most { piece < 2 ^ 16 }
@@ -82,7 +83,8 @@ impl Job for RowsJob<'_> {
     }
 }
 
-/// The text of the answers, in order, as [`answers_text`] makes it. The workers of the crew share it.
+/// Returns the text of the answers, in order, as [`answers_text`] does. The workers of the crew share
+/// it.
 ///
 /// # Errors
 /// `AllocError` if there is no memory for it.
@@ -104,7 +106,8 @@ pub fn answers_text_by<R: Threads + Sync, G: Gate>(
     joined(crew.alloc, texts)
 }
 
-/// The text of the rows of a table, one for each of its sources in order. The workers of the crew share it.
+/// Returns the text of the rows of a table, one for each of its sources in order. The workers of the
+/// crew share it.
 ///
 /// # Errors
 /// `AllocError` if there is no memory for it.

@@ -1,6 +1,7 @@
-//! Devices over the readers and writers of `std`, which tell their bytes where these do.
+//! Devices over the readers and writers of `std`.
 //!
-//! A stream in memory does, and a file or a stream of the system doesn't.
+//! Contracts know the bytes of these devices if they know those of the reader or writer. They know those
+//! of a stream in memory, but not those of a file or of a stream of the system.
 
 ghost use Rattle.std.specs.Prelude.{◌≡◌, ◌+◌, ◌≤◌, ℕ, false, List, Option, Result, IfOk, length};
 ghost use Rattle.std.specs.Io.{ReadsAtMost, WritesAtMost};
@@ -12,9 +13,10 @@ ghost use Rattle.ch_text.specs.Device.{CanCountOneMore, ClosesAtFault, GivesByte
 use super::{DeviceFault, Input, Output};
 use std::io::{self, ErrorKind, Read, Write};
 
-/// What is read by one call at a time: any reader of `std`.
+/// A source that is read by one call at a time: any reader of `std`.
 ///
-/// What a call may do has a name here and no meaning, so a clause over any source tells which calls were made.
+/// The effect of a call has a name here, but no meaning. That is why a clause over all sources says
+/// which calls were made.
 pub trait ReadOnce {
     // the bytes that are left, where they are known
     ghost remaining: { Self → Option (List ℕ) };
@@ -38,9 +40,10 @@ impl<D: Read> ReadOnce for D {
     }
 }
 
-/// What is written to by one call at a time, as [`ReadOnce`]: any writer of `std`.
+/// A sink that is written to by one call at a time: any writer of `std`. For the name of its effect see
+/// [`ReadOnce`].
 pub trait WriteOnce {
-    // the bytes that it holds, where they are known
+    // the bytes that the sink holds, if they are known
     ghost contents: { Self → Option (List ℕ) };
     // what one write may do: the sink before, the bytes, the answer, and the sink after
     ghost write_gives: { Self → List ℕ → Result ℕ IoError → Self → Type 0 };
@@ -62,7 +65,7 @@ impl<D: Write> WriteOnce for D {
     }
 }
 
-/// An input from a reader. An interrupted read is made again.
+/// An input over a reader. It makes an interrupted read again.
 #[derive(Drop)]
 pub struct ReaderInput<D: ReadOnce + Drop> {
     reader: D,
@@ -70,7 +73,7 @@ pub struct ReaderInput<D: ReadOnce + Drop> {
 }
 
 impl<D: ReadOnce + Drop> ReaderInput<D> {
-    /// An input of what the reader reads, of which nothing is read yet.
+    /// Makes an input over the reader. Nothing is read yet.
     pub fn new(reader: D) -> Self
         ensures reader { result.reader ≡ reader }
         ensures left { ⟦<ReaderInput<D> as Input>⟧.left result ≡ D.remaining reader }
@@ -103,7 +106,7 @@ impl<D: ReadOnce + Drop> Input for ReaderInput<D> {
 
     ghost left = { λ d. D.remaining d.reader };
 
-    // What it gives is what the reader gave, and it fails where the reader did.
+    // It gives the bytes that the reader gave, and fails if the reader failed.
     fn read(&mut self, buffer: &mut [u8]) -> Result<usize, DeviceFault>
         requires { CanCountOneMore self.old.failures }
         ensures fits { IfOk result (λ count. count ≤ length buffer.new) }
@@ -125,10 +128,10 @@ impl<D: ReadOnce + Drop> Input for ReaderInput<D> {
     }
 }
 
-/// An output to a writer. An interrupted write is made again.
+/// An output over a writer. It makes an interrupted write again.
 ///
-/// A writer may keep bytes in a buffer of its own, as none of the system's streams does. What is in there
-/// counts as written, and is not flushed.
+/// A writer may keep bytes in a buffer of its own, though no stream of the system does. Bytes in such a
+/// buffer count as written, and are not flushed.
 #[derive(Drop)]
 pub struct WriterOutput<D: WriteOnce + Drop> {
     writer: D,
@@ -138,7 +141,7 @@ pub struct WriterOutput<D: WriteOnce + Drop> {
 }
 
 impl<D: WriteOnce + Drop> WriterOutput<D> {
-    /// An output to the writer, to which nothing is written yet.
+    /// Makes an output over the writer. Nothing is written yet.
     pub fn new(writer: D) -> Self
         ensures writer { result.writer ≡ writer }
         ensures taken { ⟦<WriterOutput<D> as Output>⟧.taken result ≡ D.contents writer }
@@ -179,7 +182,8 @@ impl<D: WriteOnce + Drop> Output for WriterOutput<D> {
 
     ghost closed = { λ d. d.is_closed };
 
-    // What it took is what the writer took, it fails where the writer did, and a broken pipe alone closes it.
+    // It takes the bytes that the writer took, and fails if the writer failed. Only a broken pipe closes
+    // it.
     fn write(&mut self, bytes: &[u8]) -> Result<usize, DeviceFault>
         requires failures { CanCountOneMore self.old.failures }
         requires zeros { CanCountOneMore self.old.zeros }

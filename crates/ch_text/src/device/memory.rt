@@ -1,4 +1,5 @@
-//! Devices over memory, which tell their bytes and fail where they are told to: for tests.
+//! Devices over memory, for tests. Contracts know their bytes. They fail at the calls that a test
+//! chooses.
 
 ghost use Rattle.std.specs.Prelude.{◌≡◌, ◌+◌, ◌-◌, ◌<◌, ◌≤◌, ◌↔◌, ◌||◌, [], true, false, None, Some, IfOk, IsErr, IsTrue, OnErr, OnOk, length, min, vec_capacity, vec_len};
 ghost use Rattle.ch_text.specs.Device.{CanCountOneMore, ClosesAtFault, GivesBytes, TakesBytes, idle_writes, failures_in, turns_after};
@@ -6,7 +7,7 @@ ghost use Rattle.ch_text.specs.Device.{CanCountOneMore, ClosesAtFault, GivesByte
 use super::{DeviceFault, Input, Output};
 use std::alloc::{AllocError, Global};
 
-/// Which call of a device goes wrong: the one after so many others, or none.
+/// The call of a device that goes wrong: the one after `before` others, or none.
 #[derive(Clone, Copy, Debug, PartialEq, Eq)]
 struct Turn {
     before: Option<u64>,
@@ -15,7 +16,7 @@ struct Turn {
 impl Turn {
     const NEVER: Turn = Turn { before: None };
 
-    /// Whether the call being made is the one.
+    /// Counts a call, and returns whether it is the one that goes wrong.
     fn has_come(&mut self) -> bool
         ensures come { IsTrue result ↔ (self.old.before ≡ Some 0) }
         ensures turns { self.new.before ≡ turns_after self.old.before }
@@ -45,7 +46,7 @@ pub struct MemoryInput<'a> {
 }
 
 impl<'a> MemoryInput<'a> {
-    /// An input of these bytes that gives at most `most` of them at a read, and never fails.
+    /// Makes an input of these bytes. Each read gives at most `most` of them, and no read fails.
     pub fn new(bytes: &'a [u8], most: usize) -> Self
         requires { 0 < most }
         ensures left { ⟦<MemoryInput<'a> as Input>⟧.left result ≡ Some bytes.now }
@@ -61,7 +62,7 @@ impl<'a> MemoryInput<'a> {
         }
     }
 
-    /// The same input, whose read after `reads` others fails.
+    /// Makes the read after `reads` others fail.
     pub fn failing_after(self, reads: u64) -> Self
         ensures turn { result.fault.before ≡ Some reads }
         ensures most { result.most ≡ self.entry.most }
@@ -111,7 +112,7 @@ impl Input for MemoryInput<'_> {
     }
 }
 
-/// An output into memory that was reserved before.
+/// An output into memory that was reserved before its first write.
 #[derive(Debug, Drop)]
 pub struct MemoryOutput {
     taken: Vec<u8>,
@@ -128,8 +129,8 @@ pub struct MemoryOutput {
 }
 
 impl MemoryOutput {
-    /// An output with room for `room` bytes that takes at most `most` of them at a write, none
-    /// once it is full, and never fails.
+    /// Makes an output with room for `room` bytes. Each write takes at most `most` bytes, and none once
+    /// the output is full. No write fails.
     pub fn new(alloc: Global, room: usize, most: usize) -> Result<Self, AllocError>
         ensures taken { IfOk result (λ output. ⟦<MemoryOutput as Output>⟧.taken output ≡ Some []) }
         ensures room { IfOk result (λ output. output.room ≡ room) }
@@ -154,7 +155,7 @@ impl MemoryOutput {
         })
     }
 
-    /// The same output, whose write after `writes` others fails.
+    /// Makes the write after `writes` others fail.
     pub fn failing_after(mut self, writes: u64) -> Self
         ensures turn { result.fault.before ≡ Some writes }
         ensures pause { result.pause.before ≡ self.pause.before }
@@ -172,7 +173,7 @@ impl MemoryOutput {
         self
     }
 
-    /// The same output, whose write after `writes` others takes no byte.
+    /// Makes the write after `writes` others take no byte. Writes that fail are not counted here.
     pub fn idle_after(mut self, writes: u64) -> Self
         ensures pause { result.pause.before ≡ Some writes }
         ensures turn { result.fault.before ≡ self.fault.before }
@@ -190,7 +191,7 @@ impl MemoryOutput {
         self
     }
 
-    /// The same output, whose write that fails closes it.
+    /// Makes a write that fails close the output.
     pub fn closing(mut self) -> Self
         ensures closes { result.closes ≡ true }
         ensures turn { result.fault.before ≡ self.fault.before }
@@ -206,7 +207,7 @@ impl MemoryOutput {
         self
     }
 
-    /// The bytes that were taken.
+    /// Returns the bytes that were taken.
     pub fn bytes(&self) -> &[u8]
         ensures { ⟦<MemoryOutput as Output>⟧.taken self.now ≡ Some result.now }
     {
@@ -223,8 +224,8 @@ impl Output for MemoryOutput {
 
     ghost closed = { λ d. d.is_closed };
 
-    // It fails at its turn, and at no other write, and is closed then where it was told to close; and at the turn of its
-    // pause it takes no byte.
+    // It fails at its turn, and at no other write. If `closes` is set, that closes it. At the turn of
+    // its pause it takes no byte.
     fn write(&mut self, bytes: &[u8]) -> Result<usize, DeviceFault>
         requires failures { CanCountOneMore self.old.failures }
         requires zeros { CanCountOneMore self.old.zeros }
