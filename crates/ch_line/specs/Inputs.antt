@@ -55,7 +55,7 @@ pub record WritesText {J O : Type 0} (P : List ℕ → Type 0) (taken : O → Op
   pub delivers : Delivers result (taken old) (taken new) P
   pub unwritten : (new ≡ old) ⊎ IfErr result IsWrite
 
--- a run answers requests as `Serves` says, or it ends before that in a fault with `IsBefore` and touches neither them nor the
+-- a run answers requests as `Serves` says, or it ends before that in a fault with `IsBefore`. Then it touches neither them nor the
 -- output. It reports a failed read of the requests exactly if there was one
 pub record WritesAnswers {J O : Type 0} (IsBefore : RunFault → Type 0) (Serves : Reading → (old new : Option (List ℕ)) → Result Unit RunFault → Type 0)
     (left : J → Option (List ℕ)) (failed : J → ℕ) (taken : O → Option (List ℕ)) (requests requests' : J) (old new : O) (result : Result Unit RunFault) : Type 0 where
@@ -115,7 +115,7 @@ RefusesAsked graph saved (Near sources targets) result = RefusesNear graph saved
 RefusesAsked graph saved Hierarchy result = ⊤
 RefusesAsked graph saved Requests result = ⊤
 
--- the run for a task ends in a fault of its own, and it refuses a file only for a fault that the file has
+-- the run for a task ends in a fault of its own, and refuses a file only for a fault of this file
 pub record EndsFor (task : Task) (result : Result Unit RunFault) : Type 0 where
   pub own : IfErr result (IsOwn task.saved task.question)
   pub graph_refused : (fault : ReadFault) → result ≡ Err (RunFault.Read Which.Graph fault) → IsGraphRefused task.graph fault

@@ -89,7 +89,7 @@ pub fn options_of(choices: &Choices) -> Options
     }
 }
 
-/// Opens the files of a line: first the graph, then the saved hierarchy if there is one, and then the
+/// Opens the files of a line. The graph comes first, then the saved hierarchy if there is one, and then the
 /// other files in the order of the arguments.
 ///
 /// # Errors
