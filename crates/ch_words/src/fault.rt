@@ -41,8 +41,8 @@ impl From<AllocError> for LineFault {
 
 impl Error for LineFault {}
 
-/// Returns the program's exit status if no line is read: 0 for help, 2 for words that are refused, 3 for
-/// a lack of memory.
+/// Returns the program's exit status if no line is read. It is 0 for help, 2 for words that are refused, and
+/// 3 for a lack of memory.
 pub fn line_status(fault: &LineFault) -> u8
     ensures { result ≡ line_status_of fault.now }
 {
