@@ -12,8 +12,9 @@ const INTERVAL: u64 = 1_000;
 /// The value of a due time when no line is due.
 const NEVER: u64 = u64::MAX;
 
-/// The clock is read about this many times in a stage, spread over its steps, and after each of as many
-/// steps at its end. One reading takes about 50 ns, so a stage spends less than a millisecond on it.
+/// The clock is read about this many times in a stage, spread over its steps. At the end of the stage it is
+/// read after each of this many steps. One reading takes about 50 ns, so a stage spends less than a
+/// millisecond on it.
 const TIMED: u32 = 4_096;
 
 /// Room for a line, in bytes.
