@@ -35,8 +35,8 @@ fault_text (RunFault.Device which) = codes "chtab: cannot read " ++ input_name w
 fault_text (RunFault.Write count) = codes "chtab: cannot write after " ++ decimal count ++ codes " bytes"
 fault_text (RunFault.Check fault) = codes "chtab: saved hierarchy refused: " ++ check_fault_text fault
 
--- the exit status of a fault. It is 1 if a file, a request, a saved hierarchy or the size of a table was refused, and 3 if the
--- system refused something
+-- the exit status of a fault. It is 1 if a file, a request, a saved hierarchy or the size of a table was refused. It is 3 if the system
+-- refused something
 abbrev pub status_of : RunFault → ℕ
 status_of (RunFault.Read _ _) = 1
 status_of RunFault.Cells = 1

@@ -34,7 +34,6 @@ HaveTargetsRefused sources targets nodes fault = AcceptsList sources nodes × Is
 abbrev pub HaveCellsRefused : Reading → Reading → ℕ → Type 0
 HaveCellsRefused sources targets nodes = (from to : List ℕ) × ReadsNodes sources nodes from × ReadsNodes targets nodes to × HasTooManyCells from to
 
--- the faults that reading the lists can end in: one of them is refused or can't be read, there is no memory, or they make too
--- many cells
+-- the faults that reading the lists can end in: one is refused or can't be read, there is no memory, or there are too many cells
 abbrev pub IsOfLists : RunFault → Type 0
 IsOfLists fault = IsOf Which.Sources fault ⊎ IsOf Which.Targets fault ⊎ (fault ≡ RunFault.Cells)

@@ -65,7 +65,7 @@ abbrev pub IsServing : OrderBy → ℕ → Network → Option LevelsAndLegs → 
 IsServing by hops g None K = IsHierarchyBy by g hops K
 IsServing by hops g (Some H) K = K ≡ H
 
--- the order in which a hierarchy is built that answers queries. If each query is answered with its route, it is the order of the
+-- the order in which a run builds the hierarchy that answers queries. If each query is answered with its route, it is the order of the
 -- options. Otherwise it is the order of depth, which answers sooner
 abbrev pub order_built : Options → OrderBy
 order_built options = if options.routes then options.order else Depth
@@ -86,7 +86,7 @@ HasSavedRefused graph saved fault = (g : Network) × ReadsGraph graph g × IsSav
 abbrev pub HasCheckRefused : Reading → Reading → CheckFault → Type 0
 HasCheckRefused graph saved fault = (g : Network) × (s : OrderAndLegs) × ReadsGraph graph g × ReadsSaved saved g.nodes s × IsFirstFault g s fault
 
--- a run reads a saved hierarchy after the graph, and refuses it only for a fault of its lines or for its first fault on the graph
+-- a run reads a saved hierarchy after the graph. It refuses it only for a fault of its lines, or for its first fault on the graph
 pub record ReadsChecked {T S : Type 0} (graph : Reading) (result : Result T RunFault) (left : S → Option (List ℕ)) (failed : S → ℕ) (old new : S) : Type 0 where
   pub lines : ReadsAfter (Which.Graph ∷ []) (AcceptsGraph graph) Which.Saved result left failed old new (HasSavedRefused graph)
   pub check : (fault : CheckFault) → result ≡ Err (RunFault.Check fault) → HasCheckRefused graph (reading left old new) fault

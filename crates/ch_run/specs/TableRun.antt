@@ -34,7 +34,6 @@ HasTargetsRefused graph saved sources targets fault = WithLoaded graph saved (λ
 abbrev pub HasCellsRefused : Reading → Option Reading → Reading → Reading → Type 0
 HasCellsRefused graph saved sources targets = WithLoaded graph saved (λ g _. HaveCellsRefused sources targets g.nodes)
 
--- the faults that the run can end in: an input is refused or can't be read, there are too many cells, there is no memory, or a
--- write failed
+-- the faults that the run can end in: an input is refused or can't be read, there are too many cells or no memory, or a write failed
 abbrev pub IsOfTable : Option Reading → RunFault → Type 0
 IsOfTable saved fault = IsOfLoading saved fault ⊎ IsOfLists fault ⊎ IsWrite fault
