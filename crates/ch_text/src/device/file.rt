@@ -18,7 +18,7 @@ use std::io::{self, ErrorKind, Read, Write};
 /// The effect of a call has a name here, but no meaning. That is why a clause over all sources says
 /// which calls were made.
 pub trait ReadOnce {
-    // the bytes that are left, where they are known
+    // the bytes that are left, if they are known
     ghost remaining: { Self → Option (List ℕ) };
     // what one read may do: the source before, the buffer after, the answer, and the source after
     ghost read_gives: { Self → List ℕ → Result ℕ IoError → Self → Type 0 };
