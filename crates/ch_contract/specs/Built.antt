@@ -1,4 +1,4 @@
--- The hierarchy that the order of contraction leaves.
+-- The hierarchy that contraction makes, in each order.
 use Rattle.std.specs.Prelude.{◌≡◌, ℕ, ◌+◌, ◌<◌, List, length, slice_index}
 use Rattle.ch_graph.specs.Graph.{Network}
 use Rattle.ch_hierarchy.specs.Hierarchy.{LevelsAndLegs}
@@ -11,7 +11,8 @@ use Rattle.ch_contract.specs.Order.{AreTaken, TakesFirst}
 use Rattle.ch_contract.specs.RoundOrder.{IsHierarchyByRounds}
 use Rattle.ch_contract.specs.LegRows.{AreLegsFrom, AreLegsTo}
 
--- nodes are taken in any order: order[i] has level i + 1; its up legs are those from it just before it was taken, its down legs those to it
+-- nodes are taken in any order: order[i] has level i + 1, its up legs are the legs from it just before it is taken, and
+-- its down legs the legs to it
 pub record IsHierarchyIn (IsStep : Legs → ℕ → Legs → Type 0) (g : Network) (H : LevelsAndLegs) (order : List ℕ) (L : ℕ → Legs) : Type 0 where
   pub contracted : AreTaken IsStep g order L
   pub sizes : (length H.level ≡ g.nodes) × (length H.up ≡ g.nodes) × (length H.down ≡ g.nodes)
@@ -33,6 +34,6 @@ IsHierarchyBy Difference g h H = IsHierarchyInTurn Difference g h H
 IsHierarchyBy Depth g h H = IsHierarchyInTurn Depth g h H
 IsHierarchyBy Rounds g h H = IsHierarchyByRounds g h H
 
--- the one in the order by the number of shortcuts less that of legs
+-- the contraction hierarchy by the number of shortcuts less the number of legs
 abbrev pub IsHierarchy : Network → ℕ → LevelsAndLegs → Type 0
 IsHierarchy g h H = IsHierarchyBy Difference g h H

@@ -9,22 +9,22 @@ use Rattle.ch_contract.specs.KnownCosts.{Known, AreLeastCosts}
 use Rattle.ch_contract.specs.LegLists.{legs_into}
 use Rattle.ch_contract.specs.Remaining.{RemainingLegs}
 
--- the chains from the wanted end are known that leave two legs to go of those that a witness may have
+-- the least costs to the wanted end are known, of chains of at most `hops` - 2 legs
 pub record IsKnown (r : RemainingLegs) (s : Wanted) (hops : ℕ) (h : Known) : Type 0 where
   pub size : length h.costs ≡ r.nodes
   pub least : AreLeastCosts (legs_into r.rows) s (hops - 2) h
 
--- the two legs, one to a node and one from it, lead on to another node, and together keep the limits
+-- a leg to a node and a leg from it have different other ends, and their sum keeps the limits
 pub record IsCandidate (n : ℕ) (first second : Leg) : Type 0 where
   pub apart : first.node ≢ second.node
   pub weight : first.cost.weight + second.cost.weight ≤ MOST_WEIGHT
   pub arcs : first.cost.arcs + second.cost.arcs < n
 
--- a candidate costs no more than this
+-- if the two legs are a candidate, they cost at most this
 abbrev pub IsMostFor : ℕ → Leg → Cost → Leg → Type 0
 IsMostFor n first most second = IsCandidate n first second → IsAtMost (cost_sum first.cost second.cost) most
 
--- no leg of the list makes a candidate, or one makes a candidate of this cost and none a dearer
+-- no leg of the list makes a candidate, or this is the greatest cost of the candidates
 abbrev pub AreBounded : ℕ → Leg → List Leg → Option Cost → Type 0
 AreBounded n first up o =
     MatchOption o (All (λ l. IsCandidate n first l → ⊥) up) (λ most. ((l : Leg) × Contains up l × IsCandidate n first l × (most ≡ cost_sum first.cost l.cost)) × All (IsMostFor n first most) up)

@@ -1,4 +1,4 @@
--- A hierarchy under construction.
+-- A hierarchy that is being built one node after the other.
 use Rattle.std.specs.Prelude.{◌≡◌, ◌≤◌, ℕ, All, length, slice_index}
 use Rattle.ch_graph.specs.declared.limits.TheConstants.{MOST_NODES}
 use Rattle.ch_hierarchy.specs.Rows.{row}
@@ -7,11 +7,11 @@ use Rattle.ch_contract.specs.Progress.{Progress}
 use Rattle.ch_contract.specs.Remaining.{legs_of}
 use Rattle.ch_contract.specs.Rooms.{IsIdleRoom, IsReady}
 
--- what it has come to: the rows are the legs that were set aside
+-- the progress of the construction: the rows are the legs that were set aside
 abbrev pub progress_of : Construction → Progress
 progress_of c = record { legs = legs_of c.remaining; keys = c.waiting; depth = λ x. slice_index c.depths.items x; levels = c.levels.items; up = λ x. row c.remaining.ups x; down = λ x. row c.remaining.downs x; contracted = c.contracted }
 
--- there is a key, a depth, a level and a row of each side for each node
+-- each node has a key, a depth, a level, an up row and a down row
 pub record IsSized (c : Construction) : Type 0 where
   pub nodes : c.remaining.nodes ≤ MOST_NODES
   pub keys : length c.waiting ≡ c.remaining.nodes
@@ -20,6 +20,6 @@ pub record IsSized (c : Construction) : Type 0 where
   pub ups : length c.remaining.ups ≡ c.remaining.nodes
   pub downs : length c.remaining.downs ≡ c.remaining.nodes
 
--- its room is ready to judge nodes with the legs that are left, and the workers' rooms are idle
+-- the caller's room is ready to judge nodes with the remaining legs, and the workers' rooms are idle
 abbrev pub IsJudging : ℕ → Construction → Type 0
 IsJudging h c = IsReady c.remaining.nodes h (legs_of c.remaining) c.room × All IsIdleRoom c.rooms.items

@@ -13,7 +13,7 @@ arc u v w = record { from = u - 1; to = v - 1; weight = w }
 abbrev pub line : Network
 line = record { nodes = 3; arcs = arc 1 2 4 ∷ arc 2 3 5 ∷ [] }
 
--- 1 in the middle of 2, 3 and 4, both ways
+-- 1 in the middle, with arcs both ways to 2, 3 and 4
 abbrev pub star : Network
 star = record { nodes = 4; arcs = arc 1 2 1 ∷ arc 2 1 1 ∷ arc 1 3 1 ∷ arc 3 1 1 ∷ arc 1 4 1 ∷ arc 4 1 1 ∷ [] }
 
@@ -21,15 +21,15 @@ star = record { nodes = 4; arcs = arc 1 2 1 ∷ arc 2 1 1 ∷ arc 1 3 1 ∷ arc 
 abbrev pub diamond : Network
 diamond = record { nodes = 4; arcs = arc 1 2 1 ∷ arc 2 4 1 ∷ arc 1 3 1 ∷ arc 3 4 1 ∷ [] }
 
--- without weight: one arc from 1 to 3, and two over 2
+-- all arcs have weight 0: one arc from 1 to 3, and two arcs over 2
 abbrev pub triangle : Network
 triangle = record { nodes = 3; arcs = arc 1 2 0 ∷ arc 2 3 0 ∷ arc 1 3 0 ∷ [] }
 
--- a loop 1, 2, 3 without weight, and an arc from 3 to 4
+-- a ring 1, 2, 3 of weight 0, and an arc from 3 to 4
 abbrev pub loop_and_tail : Network
 loop_and_tail = record { nodes = 4; arcs = arc 1 2 0 ∷ arc 2 3 0 ∷ arc 3 1 0 ∷ arc 3 4 2 ∷ [] }
 
--- from 1 to 3 over 2 in two arcs, and over 4 and 5 in three arcs without weight
+-- from 1 to 3 over 2 in two arcs, and over 4 and 5 in three arcs of weight 0
 abbrev pub detour : Network
 detour = record { nodes = 5; arcs = arc 1 2 1 ∷ arc 2 3 1 ∷ arc 1 4 0 ∷ arc 4 5 0 ∷ arc 5 3 0 ∷ [] }
 
@@ -41,17 +41,17 @@ ring = record { nodes = 5; arcs = arc 1 2 1 ∷ arc 2 3 1 ∷ arc 3 4 1 ∷ arc 
 abbrev pub street : Network
 street = record { nodes = 7; arcs = arc 1 2 1 ∷ arc 2 3 1 ∷ arc 3 4 1 ∷ arc 4 5 1 ∷ arc 5 6 1 ∷ arc 6 7 1 ∷ [] }
 
--- without weight from 1 to 3: two arcs over 5, and three over 2 and 4
+-- from 1 to 3 at weight 0: two arcs over 5, and three arcs over 2 and 4
 abbrev pub fewer_arcs : Network
 fewer_arcs = record { nodes = 5; arcs = arc 1 5 0 ∷ arc 5 3 0 ∷ arc 1 2 0 ∷ arc 2 4 0 ∷ arc 4 3 0 ∷ [] }
 
 abbrev pub cost : ℕ → ℕ → Cost
 cost w k = record { weight = w; arcs = k }
 
--- a leg of weight w and k arcs, its node counted from 1
+-- a leg of weight w and k arcs, its node counted from 1 as in files
 abbrev pub leg : ℕ → ℕ → ℕ → Leg
 leg v w k = record { node = v - 1; cost = cost w k; middle = None }
 
--- a leg made through node m, counted from 1
+-- a shortcut through node m, its nodes counted from 1
 abbrev pub leg_through : ℕ → ℕ → ℕ → ℕ → Leg
 leg_through m v w k = record { node = v - 1; cost = cost w k; middle = Some (m - 1) }

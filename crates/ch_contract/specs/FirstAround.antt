@@ -1,4 +1,4 @@
--- Which nodes come before all others within two legs, by a list of keys.
+-- The nodes that come before all others within two legs, for a list of keys.
 use Rattle.std.specs.Prelude.{◌≡◌, ℕ, true, List, slice_index_or, ℤ, pos}
 use Rattle.ch_contract.specs.Legs.{Legs}
 use Rattle.ch_contract.specs.Order.{are_neighbours}
@@ -8,7 +8,7 @@ use Rattle.ch_contract.specs.Rounds.{ComesBefore, IsWithinTwoLegs}
 abbrev pub ComesBeforeBy : List ℤ → ℕ → ℕ → Type 0
 ComesBeforeBy keys v x = ComesBefore (slice_index_or keys v (pos 0)) v (slice_index_or keys x (pos 0)) x
 
--- v comes before every neighbour of y; it comes before itself, too
+-- v comes before every neighbour of y; v comes before itself too
 abbrev pub IsBeforeNeighbours : List ℤ → Legs → ℕ → ℕ → Type 0
 IsBeforeNeighbours keys L v y = (x : ℕ) → are_neighbours L y x ≡ true → ComesBeforeBy keys v x
 

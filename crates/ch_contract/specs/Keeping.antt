@@ -1,4 +1,4 @@
--- What contraction keeps: the least costs between the nodes that are left, and so the hierarchy is right for its graph.
+-- Contraction keeps the least costs between the remaining nodes. That is why the hierarchy is right for its graph.
 use Rattle.std.specs.Prelude.{◌≡◌, ℕ, ◌<◌, ◌≤◌, List, take, Contains}
 use Rattle.ch_graph.specs.declared.cost.Cost.{Cost}
 use Rattle.ch_graph.specs.Cost.{IsAtMost}
@@ -17,26 +17,26 @@ pub record IsLeastChain (L : Legs) (u w : ℕ) (c : Cost) : Type 0 where
   pub chain : (xs : List ℕ) × IsChain L u w xs × (chain_cost L u xs ≡ c)
   pub least : (xs : List ℕ) → IsChain L u w xs → IsAtMost c (chain_cost L u xs)
 
--- x is none of the first i nodes of the order
+-- x is a node, and is not among the first i nodes of the order
 abbrev pub IsLeft : Network → List ℕ → ℕ → ℕ → Type 0
 IsLeft g order i x = (x < g.nodes) × (Contains (take i order) x → ⊥)
 
--- after any number of steps, what the cheapest walk between two nodes that are left costs, the cheapest chain of legs costs
+-- after any number of steps, the least cost of a walk between two remaining nodes is the least cost of a chain of legs
 abbrev pub AreLeastCostsKept : Network → List ℕ → (ℕ → Legs) → Type 0
 AreLeastCostsKept g order L = (i u w : ℕ) (c : Cost) → i ≤ g.nodes → IsLeft g order i u → IsLeft g order i w → IsLeast g u w c → IsLeastChain (L i) u w c
 
--- so it is for contraction in any order
+-- contraction in any order keeps the least costs
 abbrev pub ContractionKeepsLeastCosts : Type 0
 ContractionKeepsLeastCosts = (g : Network) (h : ℕ) (order : List ℕ) (L : ℕ → Legs) → IsWithinLimits g → IsHopBound h → AreContracted g h order L → AreLeastCostsKept g order L
 
--- and for contraction with enough shortcuts, which may be more than the needed ones
+-- contraction in any order with enough shortcuts keeps the least costs; these may be more than are needed
 abbrev pub EnoughKeepsLeastCosts : Type 0
 EnoughKeepsLeastCosts = (g : Network) (h : ℕ) (order : List ℕ) (L : ℕ → Legs) → IsWithinLimits g → AreTaken (ContractsWithEnough g.nodes h) g order L → AreLeastCostsKept g order L
 
--- the contraction hierarchy of a graph, in whichever order, is right for the graph, whatever the bound on hops
+-- the contraction hierarchy of a graph is right for the graph, for each order and each bound on hops
 abbrev pub HierarchiesAreKept : Type 0
 HierarchiesAreKept = (by : OrderBy) (g : Network) (h : ℕ) (H : LevelsAndLegs) → IsWithinLimits g → IsHopBound h → IsHierarchyBy by g h H → IsKept g H
 
--- and so is each hierarchy of nodes contracted, in any order, with enough shortcuts
+-- each hierarchy of nodes that are contracted in any order with enough shortcuts is right for the graph
 abbrev pub HierarchiesWithEnoughAreKept : Type 0
 HierarchiesWithEnoughAreKept = (g : Network) (h : ℕ) (H : LevelsAndLegs) (order : List ℕ) (L : ℕ → Legs) → IsWithinLimits g → IsHierarchyIn (ContractsWithEnough g.nodes h) g H order L → IsKept g H

@@ -1,4 +1,4 @@
--- What a search for witnesses knows of each node.
+-- The costs that a search for witnesses knows of each node.
 use Rattle.std.specs.Prelude.{◌≡◌, ◌≢◌, ℕ, ◌+◌, ◌<◌, ◌≤◌, Bool, IsTrue, vec_len, vec_capacity, List, [], length, map, slice_index_or, Contains, All, ◌⊎◌, Some}
 use Rattle.std.specs.List.{AllByRecursion}
 use Rattle.ch_graph.specs.declared.cost.Cost.{Cost}
@@ -16,13 +16,14 @@ pub record ChainStart : Type 0 where
   pub node : ℕ
   pub cost : Cost
 
--- what a search knows: by node the least cost, the nodes where it was lowered, and those of the next front with their costs
+-- what a search knows: the least cost of each node, the nodes whose cost was lowered, and the next front, which has
+-- nodes with their costs
 pub record Known : Type 0 where
   pub costs : List Cost
   pub touched : List ℕ
   pub next : List ChainStart
 
--- what is known where the held costs stand for costs in this way
+-- a step of the code with its held cost as a cost
 abbrev pub chain_start_of : {K : Type 0} → (K → Cost) → Step K → ChainStart
 chain_start_of cost s = record { node = s.node; cost = cost s.cost }
 
@@ -36,7 +37,7 @@ known_in costs x = slice_index_or costs x never
 abbrev pub known_at : Known → ℕ → Cost
 known_at h x = known_in h.costs x
 
--- a chain of at most k legs from x to the wanted end costs d, and never touches the avoided node
+-- there is a chain of at most k legs from x to the wanted end that costs d and avoids the avoided node
 pub record IsReached (L : Legs) (s : Wanted) (k x : ℕ) (d : Cost) : Type 0 where
   pub nodes : List ℕ
   pub chain : IsChain L x s.end nodes
@@ -44,16 +45,17 @@ pub record IsReached (L : Legs) (s : Wanted) (k x : ℕ) (d : Cost) : Type 0 whe
   pub away : (x ≢ s.avoided) × AllByRecursion (λ y. y ≢ s.avoided) nodes
   pub cost : chain_cost L x nodes ≡ d
 
--- and it costs no more than is wanted
+-- there is such a chain, and it costs at most the wanted cost
 abbrev pub IsWanted : Legs → Wanted → ℕ → ℕ → Cost → Type 0
 IsWanted L s k x d = IsReached L s k x d × IsAtMost d s.most
 
--- the known costs are the least of chains of at most k legs, as far as they are wanted
+-- each known cost is `never` or that of a wanted chain of at most k legs, and is at most the cost of each such
+-- chain
 pub record AreLeastCosts (L : Legs) (s : Wanted) (k : ℕ) (h : Known) : Type 0 where
   pub sound : (x : ℕ) → (known_at h x ≡ never) ⊎ IsWanted L s k x (known_at h x)
   pub whole : (x : ℕ) (d : Cost) → IsWanted L s k x d → IsAtMost (known_at h x) d
 
--- a leg of the list, put in front of a chain that begins with this step, makes a wanted chain from x that costs d
+-- a leg of the list in front of a chain that begins with this step makes a wanted chain from x that costs d
 abbrev pub IsOneMore : List Leg → ChainStart → Wanted → ℕ → Cost → Type 0
 IsOneMore legs f s x d = (l : Leg) × Contains legs l × (l.node ≡ x) × (x ≢ s.avoided) × (d ≡ cost_sum l.cost f.cost) × IsAtMost d s.most
 
@@ -64,14 +66,15 @@ IsOneMoreOf lists front s x d = (f : ChainStart) × Contains front f × IsOneMor
 abbrev pub IsOnly : ℕ → Cost → ℕ → Cost → Type 0
 IsOnly node cost x d = (x ≡ node) × (d ≡ cost)
 
--- the same where the cost is wanted
+-- x is this node and d is this cost, and the cost is wanted
 abbrev pub IsOnlyWhere : Bool → ℕ → Cost → ℕ → Cost → Type 0
 IsOnlyWhere is_wanted node cost x d = IsTrue is_wanted × IsOnly node cost x d
 
 abbrev pub step_to : ℕ → Cost → ChainStart
 step_to x e = record { node = x; cost = e }
 
--- the known costs are lowered to the costs P, and the nodes where they are lowered stand in the next front and among the touched
+-- the known costs are lowered to the costs with P, and each node with a lowered cost is in the next front and among the
+-- touched nodes
 pub record Lowers (P : ℕ → Cost → Type 0) (old new : Known) : Type 0 where
   pub size : length new.costs ≡ length old.costs
   pub sound : (x : ℕ) → (known_at new x ≡ known_at old x) ⊎ P x (known_at new x)
@@ -83,38 +86,38 @@ pub record Lowers (P : ℕ → Cost → Type 0) (old new : Known) : Type 0 where
   pub touched_kept : (x : ℕ) → Contains old.touched x → Contains new.touched x
   pub touched : (x : ℕ) → Contains new.touched x → Contains old.touched x ⊎ (x < length old.costs)
 
--- every leg to x, in front of a chain from x that costs e, has lowered the known costs
+-- the known costs take into account each leg to x in front of a chain from x that costs e
 abbrev pub IsSpread : Legs → Wanted → Known → ℕ → Cost → Type 0
 IsSpread L s h x e = (y : ℕ) (l : Label) → L y x ≡ Some l → y ≢ s.avoided → IsAtMost (cost_sum l.cost e) s.most → IsAtMost (known_at h y) (cost_sum l.cost e)
 
--- each step is a wanted chain of at most k legs
+-- each step begins a wanted chain of at most k legs
 abbrev pub AreSteps : Legs → Wanted → ℕ → List ChainStart → Type 0
 AreSteps L s k steps = (f : ChainStart) → Contains steps f → IsWanted L s k f.node f.cost
 
--- each node that is reached stands in the front with its cost, or has been spread from at that cost
+-- each reached node is in the front with its cost, or its legs have been spread at that cost
 abbrev pub IsFront : Legs → Wanted → Known → List ChainStart → Type 0
 IsFront L s h front = (x : ℕ) → IsAtMost (known_at h x) s.most → Contains front (step_to x (known_at h x)) ⊎ IsSpread L s h x (known_at h x)
 
--- room for so many more nodes to be lowered
+-- there is room for `more` nodes to be lowered
 abbrev pub HasRoom : {K : Type 0} → ℕ → KnownCosts K → Type 0
 HasRoom more h = (vec_len h.touched + more ≤ vec_capacity h.touched) × (vec_len h.next + more ≤ vec_capacity h.next)
 
--- a node that isn't among the touched ones is at rest
+-- a node that is not among the touched nodes is at rest: no chain from it is known
 pub record AreTouched (h : Known) : Type 0 where
   pub each : (x : ℕ) → (known_at h x ≡ never) ⊎ Contains h.touched x
   pub within : All (λ x. x < length h.costs) h.touched
 
--- all of n nodes are at rest
+-- all n nodes are at rest
 pub record IsClean (n : ℕ) (h : Known) : Type 0 where
   pub size : length h.costs ≡ n
   pub rest : (x : ℕ) → known_at h x ≡ never
   pub touched : h.touched ≡ []
 
--- all nodes are at rest, however many they are
+-- all nodes are at rest, for any number of nodes
 abbrev pub IsIdle : Known → Type 0
 IsIdle h = IsClean (length h.costs) h
 
--- after k rounds among n nodes: what is known, what is next, and what has to be cleaned
+-- the state after k rounds among n nodes: the known costs, the next front, and the nodes that have to be cleaned
 pub record IsAfterRounds (n : ℕ) (L : Legs) (s : Wanted) (k : ℕ) (h : Known) : Type 0 where
   pub size : length h.costs ≡ n
   pub least : AreLeastCosts L s k h
@@ -126,12 +129,12 @@ pub record IsAfterRounds (n : ℕ) (L : Legs) (s : Wanted) (k : ℕ) (h : Known)
 abbrev pub AreLegsUpTo : ℕ → Legs → Type 0
 AreLegsUpTo limit L = (u w : ℕ) (l : Label) → L u w ≡ Some l → l.cost.weight ≤ limit
 
--- a leg to one of n nodes that may be added to a known chain
+-- a leg at one of n nodes whose cost may be added to a known cost
 pub record IsLegLight (limit n : ℕ) (l : Leg) : Type 0 where
   pub node : l.node < n
   pub cost : IsLight limit l.cost
 
--- legs that may be put in front of a step among n nodes, so that no sum wraps
+-- legs that may be put in front of a step among n nodes: no sum wraps
 pub record IsRoomFor (limit n : ℕ) (legs : List Leg) (f : ChainStart) : Type 0 where
   pub within : All (IsLegLight limit n) legs
   pub held : IsHeld limit f.cost

@@ -1,4 +1,4 @@
--- The legs of a node in a row.
+-- The legs of a node, in a row.
 use Rattle.std.specs.Prelude.{◌≡◌, ℕ, ◌==◌, List, Option, option_map, find}
 use Rattle.ch_hierarchy.specs.declared.leg.Leg.{Leg}
 use Rattle.ch_hierarchy.specs.Rows.{IsRow}
@@ -7,7 +7,7 @@ use Rattle.ch_contract.specs.Legs.{Label, Legs}
 abbrev pub label_of : Leg → Label
 label_of l = record { cost = l.cost; middle = l.middle }
 
--- the leg of a row at node x
+-- the leg of the row at node x
 abbrev pub row_leg : List Leg → ℕ → Option Label
 row_leg legs x = option_map label_of (find (λ l. l.node == x) legs)
 

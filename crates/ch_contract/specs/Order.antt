@@ -10,7 +10,7 @@ use Rattle.ch_contract.specs.Contraction.{Contracts, IsPriorityBy}
 abbrev pub are_neighbours : Legs → ℕ → ℕ → Bool
 are_neighbours L v x = is_some (L v x) || is_some (L x v)
 
--- the depths once v is contracted: each neighbour lies at least one deeper than v
+-- the depths after v is contracted: the depth of each neighbour is at least one more than that of v
 abbrev pub next_depth : Legs → ℕ → (ℕ → ℕ) → ℕ → ℕ
 next_depth L v depth x = if are_neighbours L v x then max (depth x) (depth v + 1) else depth x
 
@@ -19,31 +19,32 @@ abbrev pub depth_after : List ℕ → (ℕ → Legs) → ℕ → ℕ → ℕ
 depth_after order L zero x = 0
 depth_after order L (suc i) x = next_depth (L i) (slice_index order i) (depth_after order L i) x
 
--- of the first i steps the j-th is the last whose node was a neighbour of x just before it; j is 0 where there is none
+-- the last of the first i steps that contracts a neighbour of x is the j-th, counted from 1; j is 0 if there is none
 pub record IsLastTouch (order : List ℕ) (L : ℕ → Legs) (i x j : ℕ) : Type 0 where
   pub within : j ≤ i
   pub touched : 0 < j → are_neighbours (L (j - 1)) (slice_index order (j - 1)) x ≡ true
   pub later : (k : ℕ) → j ≤ k → k < i → are_neighbours (L k) (slice_index order k) x ≡ false
 
--- the priority of x after the first i steps: it is computed anew only when a neighbour is contracted
+-- the priority of x after the first i steps: it is computed again only when a neighbour is contracted
 abbrev pub IsPriorityAfter : OrderBy → ℕ → ℕ → List ℕ → (ℕ → Legs) → ℕ → ℕ → ℤ → Type 0
 IsPriorityAfter by n h order L i x p = (j : ℕ) × IsLastTouch order L i x j × IsPriorityBy by n h (L j) (depth_after order L j) x p
 
--- the lesser priority comes first, and of equal ones the lesser number
+-- the lesser priority comes first; at equal priorities the lesser number comes first
 abbrev pub IsContractedBefore : ℤ → ℕ → ℤ → ℕ → Type 0
 IsContractedBefore p v q x = (p ≤ℤ q) × (q ≤ℤ p → v ≤ x)
 
--- all nodes of g are taken, each once and in any order, where IsStep says what the legs L i that are left after the first i steps become by the next
+-- all nodes of g are taken, each once and in any order; L i are the legs after the first i steps, and IsStep says how a
+-- step changes them
 pub record AreTaken (IsStep : Legs → ℕ → Legs → Type 0) (g : Network) (order : List ℕ) (L : ℕ → Legs) : Type 0 where
   pub nodes : (length order ≡ g.nodes) × All (λ v. v < g.nodes) order × AllPairs ◌≢◌ order
   pub start : SameLegs (L 0) (opening g)
   pub step : (i : ℕ) → i < g.nodes → IsStep (L i) (slice_index order i) (L (i + 1))
 
--- all nodes of g are contracted, each once and in any order, with the legs L i that are left after the first i steps
+-- all nodes of g are contracted, each once and in any order; L i are the legs after the first i steps
 abbrev pub AreContracted : Network → ℕ → List ℕ → (ℕ → Legs) → Type 0
 AreContracted g h order L = AreTaken (Contracts g.nodes h) g order L
 
--- at each step the node comes before all that are left
+-- at each step the node comes before all remaining nodes
 abbrev pub TakesFirst : OrderBy → Network → ℕ → List ℕ → (ℕ → Legs) → Type 0
 TakesFirst by g h order L = (i x : ℕ) → i < g.nodes → x < g.nodes → (Contains (take i order) x → ⊥) →
     (p q : ℤ) × IsPriorityAfter by g.nodes h order L i (slice_index order i) p × IsPriorityAfter by g.nodes h order L i x q × IsContractedBefore p (slice_index order i) q x
@@ -53,6 +54,6 @@ pub record IsOrderBy (by : OrderBy) (g : Network) (h : ℕ) (order : List ℕ) (
   pub contracted : AreContracted g h order L
   pub least : TakesFirst by g h order L
 
--- the order by the number of shortcuts less that of legs
+-- the order by the number of shortcuts less the number of legs
 abbrev pub IsOrder : Network → ℕ → List ℕ → (ℕ → Legs) → Type 0
 IsOrder g h order L = IsOrderBy Difference g h order L

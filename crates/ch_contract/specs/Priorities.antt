@@ -1,16 +1,17 @@
--- The priorities that a queue holds, where a relation says which number is the priority of a node, and the neighbours of a node.
+-- The priorities in a queue, for a relation that says which number is the priority of a node; and the neighbours of a
+-- node.
 use Rattle.std.specs.Prelude.{◌≡◌, ℕ, ◌<◌, ◌==◌, Bool, not, List, ◌++◌, length, map, filter, Contains, Option, ℤ}
 use Rattle.std.specs.List.{list_any}
 use Rattle.ch_queue.specs.Queue.{key_of}
 use Rattle.ch_hierarchy.specs.declared.leg.Leg.{Leg}
 use Rattle.ch_contract.specs.Progress.{HasPriority}
 
--- the key of each of the n nodes is its priority
+-- the queue has a key for each of the n nodes, and it is the priority of the node
 pub record ArePriorities (IsOf : ℕ → ℤ → Type 0) (n : ℕ) (keys : List (Option ℤ)) : Type 0 where
   pub size : length keys ≡ n
   pub each : (x : ℕ) → x < n → HasPriority IsOf keys x
 
--- the keys of these nodes are their priorities, and the others stay
+-- the keys of these nodes are now their priorities, and the keys of the others stay
 pub record AreRefreshed (IsOf : ℕ → ℤ → Type 0) (nodes : List ℕ) (before after : List (Option ℤ)) : Type 0 where
   pub size : length after ≡ length before
   pub anew : (x : ℕ) → Contains nodes x → HasPriority IsOf after x

@@ -1,4 +1,4 @@
--- What the contraction of one node after the other has come to.
+-- The progress of contraction, one node after the other.
 use Rattle.std.specs.Prelude.{◌≡◌, ◌≢◌, ℕ, ◌+◌, ◌<◌, true, false, List, length, slice_set, Option, Some, None, ℤ}
 use Rattle.ch_queue.specs.Queue.{key_of}
 use Rattle.ch_graph.specs.Graph.{Network}
@@ -11,7 +11,8 @@ use Rattle.ch_hierarchy.specs.Rows.{row}
 use Rattle.ch_contract.specs.LegRows.{AreLegsFrom, AreLegsTo}
 use Rattle.ch_hierarchy.specs.Hierarchy.{LevelsAndLegs}
 
--- the legs that are left, a queue of the nodes that are left by their priorities, how deep each node lies, and the level and the rows of each contracted node
+-- the remaining legs, the remaining nodes in a queue with their priorities, the depth of each node, and the level and
+-- the rows of each contracted node
 pub record Progress : Type 0 where
   pub legs : Legs
   pub keys : List (Option ℤ)
@@ -21,7 +22,7 @@ pub record Progress : Type 0 where
   pub down : ℕ → List Leg
   pub contracted : ℕ
 
--- the key of x is its priority, where this says which that is
+-- the key of x in the queue is its priority, for a relation that says which number that is
 abbrev pub HasPriority : (ℕ → ℤ → Type 0) → List (Option ℤ) → ℕ → Type 0
 HasPriority IsOf keys x = (p : ℤ) × (key_of keys x ≡ Some p) × IsOf x p
 
@@ -40,7 +41,8 @@ pub record IsOpen (by : OrderBy) (g : Network) (h : ℕ) (p : Progress) : Type 0
   pub depths : (x : ℕ) → p.depth x ≡ 0
   pub contracted : p.contracted ≡ 0
 
--- v is contracted: its rows are put in, its level is the number of contracted nodes, it leaves the queue, and its neighbours alone have new depths and priorities
+-- v is contracted: its rows are put in, its level is the number of contracted nodes, and it leaves the queue; only its
+-- neighbours get new depths and priorities
 pub record IsStep (by : OrderBy) (n h : ℕ) (before : Progress) (v : ℕ) (after : Progress) : Type 0 where
   pub legs : Contracts n h before.legs v after.legs
   pub contracted : after.contracted ≡ before.contracted + 1
@@ -54,7 +56,7 @@ pub record IsStep (by : OrderBy) (n h : ℕ) (before : Progress) (v : ℕ) (afte
   pub anew : (x : ℕ) → are_neighbours before.legs v x ≡ true → HasPriority (IsPriorityBy by n h after.legs after.depth) after.keys x
   pub kept : (x : ℕ) → x ≢ v → are_neighbours before.legs v x ≡ false → key_of after.keys x ≡ key_of before.keys x
 
--- these levels and rows are those of all n nodes
+-- the hierarchy has these levels and rows, of all n nodes
 pub record AreAll (n : ℕ) (p : Progress) (H : LevelsAndLegs) : Type 0 where
   pub level : H.level ≡ p.levels
   pub sizes : (length p.levels ≡ n) × (length H.up ≡ n) × (length H.down ≡ n)

@@ -24,7 +24,7 @@ cheaper None b = b
 cheaper (Some a) None = Some a
 cheaper (Some a) (Some b) = if is_at_most a b then Some a else Some b
 
--- the least of the costs of the numbers below n
+-- the least of the costs that f gives to the numbers below n
 abbrev pub cheapest_below : ℕ → (ℕ → Option Cost) → Option Cost
 cheapest_below zero f = None
 cheapest_below (suc n) f = cheaper (f n) (cheapest_below n f)
@@ -59,11 +59,11 @@ shortcuts_of n h L v = flat_map (λ u. flat_map (λ w. shortcut_between n h L v 
 abbrev pub priority_of : ℕ → ℕ → Legs → ℕ → ℤ
 priority_of n h L v = pos (length (shortcuts_of n h L v)) -ℤ pos (count_touching n L v)
 
--- the priority in an order, where nodes lie so deep
+-- the priority in this order, with these depths of the nodes
 abbrev pub priority_by : OrderBy → ℕ → ℕ → Legs → (ℕ → ℕ) → ℕ → ℤ
 priority_by by n h L depth v = key_by by (length (shortcuts_of n h L v)) (count_touching n L v) (depth v)
 
--- the nodes that are left, each after its priority
+-- the remaining nodes, each after its priority
 abbrev pub Waiting : Type 0
 Waiting = List (ℤ × ℕ)
 
@@ -74,14 +74,14 @@ abbrev pub first_of : ℤ × ℕ → Waiting → ℤ × ℕ
 first_of a [] = a
 first_of a (b ∷ list) = first_of (if comes_first b a then b else a) list
 
--- the others, the priorities of v's neighbours computed anew
+-- the remaining nodes without v, with new priorities of the neighbours of v
 abbrev pub waiting_after : OrderBy → ℕ → ℕ → Legs → Legs → (ℕ → ℕ) → ℕ → Waiting → Waiting
 waiting_after by n h before after depth v list = map (λ e. if are_neighbours before v e.1 then (priority_by by n h after depth e.1, e.1) else e) (filter (λ e. not (e.1 == v)) list)
 
 abbrev pub legs_in_order : ℕ → (ℕ → Option Label) → List Leg
 legs_in_order n f = filter_map (λ x. option_map (λ l. record { node = x; cost = l.cost; middle = l.middle }) (f x)) (range_with_len 0 n)
 
--- a contracted node, its priority, and the legs that it had
+-- a contracted node with its priority and its legs
 pub record ContractedNode : Type 0 where
   pub node : ℕ
   pub priority : ℤ
@@ -97,7 +97,7 @@ steps_from by (suc k) n h L depth (e ∷ list) =
     let deeper : ℕ → ℕ = next_depth L first.1 depth in
     record { node = first.1; priority = first.0; up = legs_in_order n (λ x. L first.1 x); down = legs_in_order n (λ x. L x first.1) } ∷ steps_from by k n h M deeper (waiting_after by n h L M deeper first.1 (e ∷ list))
 
--- the steps of contracting all nodes in order
+-- the steps in which all nodes are contracted, one after the other in this order
 abbrev pub steps_by : OrderBy → Network → ℕ → List ContractedNode
 steps_by by g h = steps_from by g.nodes g.nodes h (opening g) (λ v. 0) (map (λ v. (priority_by by g.nodes h (opening g) (λ x. 0) v, v)) (range_with_len 0 g.nodes))
 
@@ -137,7 +137,7 @@ abbrev pub upward : List (List Leg) → ℕ → ℕ → ℕ → Option Cost
 upward rows zero b a = if a == b then Some no_cost else None
 upward rows (suc k) b a = if a == b then Some no_cost else cheapest_of (map (λ l. plus_cost l.cost (upward rows k b l.node)) (row rows a))
 
--- the cost of going up from s to m and down to t
+-- the least cost of going up from s to m and then down to t
 abbrev pub over : LevelsAndLegs → ℕ → ℕ → ℕ → Option Cost
 over H s t m = option_and_then (λ c. plus_cost c (upward H.down (nodes_of H) m t)) (upward H.up (nodes_of H) m s)
 
@@ -146,7 +146,7 @@ same_cost None b = false
 same_cost (Some a) None = false
 same_cost (Some a) (Some b) = a.weight == b.weight && a.arcs == b.arcs
 
--- the least numbered node where going up and down costs least, and that cost
+-- the least-numbered node over which going up and then down costs least, with that cost
 abbrev pub meet_of : LevelsAndLegs → ℕ → ℕ → Option (ℕ × Cost)
 meet_of H s t =
     let nodes : List ℕ = range_with_len 0 (nodes_of H) in

@@ -1,4 +1,4 @@
--- Rooms in which nodes are judged.
+-- Rooms for judging nodes.
 use Rattle.std.specs.Prelude.{ℕ, ◌<◌, ◌≤◌, List, [], length, map, slice_index, slice_index_or}
 use Rattle.ch_graph.specs.declared.cost.Cost.{Cost}
 use Rattle.ch_contract.specs.declared.held_cost.Word.{Word}
@@ -14,15 +14,15 @@ use Rattle.ch_contract.specs.KnownCosts.{IsIdle, known_of}
 abbrev pub list_at : Room → ℕ → List Shortcut
 list_at room k = slice_index_or (map (λ v. v.items) room.lists.items) k []
 
--- both searches are idle
+-- the searches over words and over pairs are idle
 abbrev pub AreIdle : WitnessSearches → Type 0
 AreIdle s = IsIdle (known_of (λ (w : Word). cost_in w.0) s.words.known) × IsIdle (known_of (λ (c : Cost). c) s.pairs.known)
 
--- its searches are idle, whatever it keeps
+-- the searches of the room are idle; it may keep any shortcuts
 abbrev pub IsIdleRoom : Room → Type 0
 IsIdleRoom room = AreIdle room.searches
 
--- its searches are idle, and it keeps the shortcuts that each judged node has with these legs
+-- the searches of the room are idle, and it keeps the shortcuts of each judged node with these legs
 pub record IsReady (n h : ℕ) (L : Legs) (room : Room) : Type 0 where
   pub idle : AreIdle room.searches
   pub places : length room.judged.items ≤ length room.lists.items

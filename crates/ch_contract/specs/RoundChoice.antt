@@ -4,11 +4,11 @@ use Rattle.ch_contract.specs.declared.measure.OrderBy.TheVariants.{Rounds}
 use Rattle.ch_contract.specs.Contraction.{count_touching, key_by}
 use Rattle.ch_contract.specs.Remaining.{RemainingLegs, legs_of}
 
--- k is the key of x with the legs that are left, where these lists have the count of shortcuts and the depth of each node
+-- k is the key of x with the remaining legs, where these lists have the count of shortcuts and the depth of each node
 abbrev pub IsKeyIn : RemainingLegs → List ℕ → List ℕ → ℕ → ℤ → Type 0
 IsKeyIn r counts depths x k = k ≡ key_by Rounds (slice_index counts x) (count_touching r.nodes (legs_of r) x) (slice_index depths x)
 
--- the nodes for which this holds are in the round, and the others are in the rest, each in order of number
+-- the nodes with IsFirst are in the round and the others in the rest; both are in order of number
 pub record IsSplit (IsFirst : ℕ → Type 0) (nodes round rest : List ℕ) : Type 0 where
   pub ordered : AllPairs ◌<◌ round × AllPairs ◌<◌ rest
   pub first : (x : ℕ) → Contains round x ↔ (Contains nodes x × IsFirst x)

@@ -1,4 +1,4 @@
--- A hierarchy by rounds under construction.
+-- A hierarchy that is being built by rounds.
 use Rattle.std.specs.Prelude.{◌≡◌, ◌+◌, ◌<◌, ◌≤◌, length, slice_index, All, AllPairs}
 use Rattle.ch_graph.specs.declared.limits.TheConstants.{MOST_NODES}
 use Rattle.ch_hierarchy.specs.Rows.{row}
@@ -6,11 +6,11 @@ use Rattle.ch_contract.specs.declared.rounds.ConstructionByRounds.{ConstructionB
 use Rattle.ch_contract.specs.Remaining.{legs_of}
 use Rattle.ch_contract.specs.RoundProgress.{RoundProgress}
 
--- what it has come to: the rows are the legs that were set aside
+-- the progress of the construction: the rows are the legs that were set aside
 abbrev pub round_progress_of : ConstructionByRounds → RoundProgress
 round_progress_of c = record { left = c.left.items; legs = legs_of c.remaining; counts = λ x. slice_index c.counts.items x; depth = λ x. slice_index c.depths.items x; levels = c.levels.items; up = λ x. row c.remaining.ups x; down = λ x. row c.remaining.downs x; contracted = c.contracted }
 
--- each node is contracted or left, and there is a count, a depth, a key, a level and a row of each side for each node
+-- each node is contracted or remains, and each has a count, a depth, a key, a level, an up row and a down row
 pub record IsSizedByRounds (c : ConstructionByRounds) : Type 0 where
   pub nodes : c.remaining.nodes ≤ MOST_NODES
   pub left : All (λ x. x < c.remaining.nodes) c.left.items

@@ -12,7 +12,7 @@ use Rattle.ch_contract.specs.Contraction.{AreShortcuts, count_touching, key_by}
 use Rattle.ch_contract.specs.Order.{are_neighbours}
 use Rattle.ch_contract.specs.Rounds.{IsRound, ContractsRound, depth_after_round}
 
--- the nodes of round r, the first being round 0
+-- the nodes of round r, counted from 0
 abbrev pub round_at : List (List ℕ) → ℕ → List ℕ
 round_at rounds r = slice_index_or rounds r []
 
@@ -29,18 +29,19 @@ depth_before rounds L (suc r) x = depth_after_round (L r) (round_at rounds r) (d
 abbrev pub is_early : ℕ → List (List ℕ) → ℕ → Bool
 is_early n rounds r = nat_lt (10 * length (nodes_before rounds r)) (7 * n)
 
--- whether the shortcuts of x are counted after the first r rounds: for all nodes at the opening, for none while it is early, for all once it no longer is, and then for the neighbours of each round
+-- whether the shortcuts of x are counted after the first r rounds: all nodes are counted at the opening, no node while
+-- it is early, all nodes after the first round that is no longer early, and then the neighbours of each round
 abbrev pub is_counted : ℕ → List (List ℕ) → (ℕ → Legs) → ℕ → ℕ → Bool
 is_counted n rounds L zero x = true
 is_counted n rounds L (suc r) x = not (is_early n rounds (suc r)) && (is_early n rounds r || list_any (λ v. are_neighbours (L r) v x) (round_at rounds r))
 
--- of the first r rounds, the j-th is the last after which the shortcuts of x were counted; j is 0 for the opening
+-- the shortcuts of x were last counted after the first j of the first r rounds; j is 0 for the opening
 pub record IsLastCount (n : ℕ) (rounds : List (List ℕ)) (L : ℕ → Legs) (r x j : ℕ) : Type 0 where
   pub within : j ≤ r
   pub counted : is_counted n rounds L j x ≡ true
   pub later : (k : ℕ) → j < k → k ≤ r → is_counted n rounds L k x ≡ false
 
--- c is the last count of the shortcuts of x in the first r rounds
+-- c is the last count of the shortcuts of x in the first r rounds, or at the opening
 abbrev pub IsCountAfter : ℕ → ℕ → List (List ℕ) → (ℕ → Legs) → ℕ → ℕ → ℕ → Type 0
 IsCountAfter n h rounds L r x c = (j : ℕ) × (list : List Shortcut) × IsLastCount n rounds L r x j × AreShortcuts n h (L j) x list × (c ≡ length list)
 
@@ -60,7 +61,8 @@ pub record AreRounds (g : Network) (h : ℕ) (rounds : List (List ℕ)) (L : ℕ
   pub legs : (r : ℕ) → r < length rounds → ContractsRound g.nodes h (L r) (round_at rounds r) (L (r + 1))
   pub all : (x : ℕ) → x < g.nodes → Contains (concat rounds) x
 
--- levels count the nodes from 1, round after round and in a round by number; a node's up legs are its legs from it just before its round, its down legs those to it
+-- levels count the nodes from 1, round after round, and in a round by number; a node's up legs are the legs from it
+-- just before its round, and its down legs the legs to it
 pub record IsHierarchyOfRounds (g : Network) (H : LevelsAndLegs) (rounds : List (List ℕ)) (L : ℕ → Legs) : Type 0 where
   pub sizes : (length H.level ≡ g.nodes) × (length H.up ≡ g.nodes) × (length H.down ≡ g.nodes)
   pub level : (i : ℕ) → i < g.nodes → slice_index H.level (slice_index (concat rounds) i) ≡ i + 1

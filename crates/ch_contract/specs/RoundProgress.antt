@@ -13,7 +13,8 @@ use Rattle.ch_contract.specs.Contraction.{AreShortcuts, count_touching, key_by}
 use Rattle.ch_contract.specs.Order.{are_neighbours}
 use Rattle.ch_contract.specs.Rounds.{IsRound, ContractsRound, depth_after_round}
 
--- the remaining nodes and their legs, each node's last count of shortcuts and its depth, and the level and the rows of each contracted node
+-- the remaining nodes and their legs, each node's last count of shortcuts and its depth, and the level and the rows of
+-- each contracted node
 pub record RoundProgress : Type 0 where
   pub left : List ℕ
   pub legs : Legs
@@ -45,7 +46,8 @@ pub record IsRoundsOpen (g : Network) (h : ℕ) (p : RoundProgress) : Type 0 whe
   pub size : length p.levels ≡ g.nodes
   pub contracted : p.contracted ≡ 0
 
--- a round of these nodes is contracted: their rows are put in, their levels continue those before, and due shortcuts are counted
+-- a round of these nodes is contracted: their rows are put in, their levels follow those before, and the shortcuts that
+-- are due are counted
 pub record IsRoundStep (n h : ℕ) (before : RoundProgress) (nodes : List ℕ) (after : RoundProgress) : Type 0 where
   pub round : IsRound (IsKeyNow n before) (Contains before.left) before.legs nodes
   pub legs : ContractsRound n h before.legs nodes after.legs
@@ -60,7 +62,7 @@ pub record IsRoundStep (n h : ℕ) (before : RoundProgress) (nodes : List ℕ) (
   pub down : (v : ℕ) → Contains nodes v → AreLegsTo before.legs v (after.down v)
   pub others : (x : ℕ) → (Contains nodes x → ⊥) → (slice_index after.levels x ≡ slice_index before.levels x) × (after.up x ≡ before.up x) × (after.down x ≡ before.down x)
 
--- no node is left, and these levels and rows are those of all n nodes
+-- no node remains, and the hierarchy has these levels and rows, of all n nodes
 pub record IsRoundsEnd (n : ℕ) (p : RoundProgress) (H : LevelsAndLegs) : Type 0 where
   pub none : (x : ℕ) → Contains p.left x → ⊥
   pub level : H.level ≡ p.levels

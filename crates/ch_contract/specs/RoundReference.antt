@@ -1,4 +1,4 @@
--- The reference program by rounds: their definitions computed on small graphs.
+-- The reference program by rounds: the definitions of rounds computed on small graphs.
 use Rattle.std.specs.Prelude.{ℕ, zero, suc, ◌+◌, ◌*◌, ◌==◌, ◌&&◌, ◌||◌, not, nat_lt, nat_le, Bool, if◌then◌else◌, List, [], ◌∷◌, length, map, flat_map, filter, find, unwrap_or, option_map, Option, None, ℤ, int_lt, slice_index_or}
 use Rattle.std.specs.List.{range_with_len, list_any, list_all}
 use Rattle.ch_graph.specs.Graph.{Network}
@@ -11,14 +11,14 @@ use Rattle.ch_contract.specs.Order.{are_neighbours}
 use Rattle.ch_contract.specs.Rounds.{mixed_number, is_one_of, legs_away, legs_with_shortcuts, depth_after_round}
 use Rattle.ch_contract.specs.Reference.{shortcut_between, shortcuts_of, legs_in_order, ContractedNode, hierarchy_of_steps}
 
--- whether the first of two nodes, each after its key, comes before the other
+-- whether the first node comes before the second, each after its key
 abbrev pub comes_before : ℤ × ℕ → ℤ × ℕ → Bool
 comes_before a b = int_lt a.0 b.0 || (not (int_lt b.0 a.0) && (nat_lt (mixed_number a.1) (mixed_number b.1) || (mixed_number a.1 == mixed_number b.1 && nat_le a.1 b.1)))
 
 abbrev pub is_within_two_legs : ℕ → Legs → ℕ → ℕ → Bool
 is_within_two_legs n L v x = are_neighbours L v x || list_any (λ y. are_neighbours L v y && are_neighbours L y x) (range_with_len 0 n)
 
--- of these nodes, each after its key, those that come before all others within two legs
+-- the nodes of the next round: those that come before all others within two legs, each after its key
 abbrev pub round_of : ℕ → Legs → List (ℤ × ℕ) → List (ℤ × ℕ)
 round_of n L keyed = filter (λ e. list_all (λ f. e.1 == f.1 || (not (is_within_two_legs n L e.1 f.1) || comes_before e f)) keyed) keyed
 
@@ -46,7 +46,8 @@ Counted = List (ℕ × ℕ)
 abbrev pub counted_of : ℕ → ℕ → Legs → ℕ → ℕ × ℕ
 counted_of n h L v = (length (shortcuts_of n h L v), v)
 
--- the remaining nodes after a round, with due shortcuts counted; `done` nodes were contracted before the round
+-- the remaining nodes after a round, where the shortcuts that are due are counted; `done` nodes were contracted before
+-- the round
 abbrev pub counted_after : ℕ → ℕ → ℕ → Legs → Legs → List ℕ → Counted → Counted
 counted_after n h done before after nodes list =
     let late : Bool = not (nat_lt (10 * (done + length nodes)) (7 * n)) in

@@ -1,4 +1,4 @@
--- Nodes that are taken out together, and shortcuts that are put in for them.
+-- Nodes that are taken out together, and the shortcuts that are put in for them.
 use Rattle.std.specs.Prelude.{◌≡◌, ℕ, List, length, All, AllPairs, Contains}
 use Rattle.ch_hierarchy.specs.declared.leg.Leg.{Leg}
 use Rattle.ch_hierarchy.specs.Rows.{row}
@@ -9,13 +9,13 @@ use Rattle.ch_contract.specs.LegRows.{AreLegsFrom}
 use Rattle.ch_contract.specs.Rounds.{legs_away}
 use Rattle.ch_contract.specs.Remaining.{RemainingLegs, legs_of}
 
--- the legs from each of these nodes are set aside, and what was set aside of all others stays
+-- the legs from each of these nodes are set aside, and the legs set aside of all other nodes stay
 pub record AreSetAside (L : Legs) (nodes : List ℕ) (old new : List (List Leg)) : Type 0 where
   pub size : length new ≡ length old
   pub legs : (v : ℕ) → Contains nodes v → AreLegsFrom L v (row new v)
   pub kept : (x : ℕ) → (Contains nodes x → ⊥) → row new x ≡ row old x
 
--- these nodes are taken out with all legs that touch them, and theirs are set aside
+-- these nodes are taken out with all legs that touch them, and the legs of each are set aside
 pub record AreTakenOut (nodes : List ℕ) (before after : RemainingLegs) : Type 0 where
   pub count : after.nodes ≡ before.nodes
   pub legs : SameLegs (legs_of after) (legs_away nodes (legs_of before))

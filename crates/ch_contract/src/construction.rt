@@ -1,4 +1,5 @@
-//! The hierarchy of a graph in each order, and its construction by contracting one node after the other.
+//! Builds the hierarchy of a graph in each order. Here the nodes are contracted one after the other; rounds are
+//! in a module of their own.
 ghost use Rattle.std.specs.Prelude.{◌≡◌, ◌<◌, ◌≤◌, ◌++◌, IfOk, OnOk, map};
 ghost use Rattle.ch_graph.specs.Graph.{IsWithinLimits};
 ghost use Rattle.ch_contract.specs.Legs.{IsHopBound};
@@ -18,18 +19,19 @@ use ch_work::{Crew, Gate, Stage};
 use std::alloc::{AllocError, Global};
 use std::thread::Threads;
 
-/// The contraction hierarchy of a graph by the difference, where a witness has at most `hops` legs. The next
-/// node to be contracted is always the one of least priority, and of these the least numbered; only the
-/// neighbours of a contracted node get their priorities computed anew.
+/// Builds the contraction hierarchy of a graph by the difference, where a witness has at most `hops` legs. The
+/// next node to be contracted is always the one of the least priority; at equal priorities it has the least
+/// number. Only the neighbours of a contracted node get new priorities.
 ///
-/// Workers share the opening priorities, and those of a step's neighbours where there are at least
-/// `crew.plan.wide()` of them, each batch a job of its own (see [`run_pieces`](ch_work::run_pieces)): they
-/// pass the gate with the numbers of its pieces. The gate is told how many nodes are contracted, one after the
-/// other. The crew changes nothing of the hierarchy.
+/// Workers share the first priorities of all nodes. They also share the new priorities of the neighbours of a
+/// contracted node if these are at least `crew.plan.wide()` nodes. Each of these batches is a job of its own
+/// (see [`run_pieces`](ch_work::run_pieces)), and workers pass the gate with the numbers of its pieces. Before
+/// each contraction the gate's `watch` receives the number of contracted nodes. The hierarchy does not depend
+/// on the crew.
 ///
 /// # Errors
-/// `AllocError` where the call or any piece was refused memory, once all workers are joined. What was made is
-/// dropped, and the graph is as it was.
+/// `AllocError` if the call or a piece is refused memory. All workers are joined before the call returns.
+/// Everything that it made is dropped, and the graph is as before.
 pub fn build<R: Threads + Sync, G: Gate>(
     crew: &Crew<'_, R, G>,
     graph: &Graph,
@@ -43,12 +45,13 @@ pub fn build<R: Threads + Sync, G: Gate>(
     build_by(crew, graph, hops, OrderBy::Difference)
 }
 
-/// The contraction hierarchy of a graph in this order, where a witness has at most `hops` legs. In each order it
-/// is kept for the graph, so distances are the same. For workers and errors see [`build`].
+/// Builds the contraction hierarchy of a graph in this order, where a witness has at most `hops` legs. In each
+/// order it is kept for the graph, so distances are the same. For workers and errors see [`build`].
 ///
-/// By [`OrderBy::Rounds`] workers share each round in jobs over nodes: the keys of the nodes that are left, the choice
-/// among these, the shortcuts of the round, and counts. The caller does a job of fewer than `crew.plan.wide()` nodes
-/// alone. The gate is told how many nodes are contracted before each round.
+/// By [`OrderBy::Rounds`] workers share each round in four jobs over nodes: the keys of the remaining nodes,
+/// the choice of the round, the shortcuts of the round, and the counts of shortcuts. The caller does a job of
+/// fewer than `crew.plan.wide()` nodes alone. Before each round the gate's `watch` receives the number of
+/// contracted nodes.
 pub fn build_by<R: Threads + Sync, G: Gate>(
     crew: &Crew<'_, R, G>,
     graph: &Graph,
@@ -68,7 +71,7 @@ pub fn build_by<R: Threads + Sync, G: Gate>(
     }
 }
 
-/// The contraction hierarchy of a graph, one node after the other in this order.
+/// Builds the contraction hierarchy of a graph, one node after the other in this order.
 fn contract_in_turn<R: Threads + Sync, G: Gate>(
     crew: &Crew<'_, R, G>,
     graph: &Graph,
@@ -87,14 +90,15 @@ fn contract_in_turn<R: Threads + Sync, G: Gate>(
     construction.finish()
 }
 
-/// The words of memory that building takes for each node, but for its arcs: less than was measured of road networks.
+/// Words of 8 bytes for each node, without its arcs. Building a road network was measured to take more.
 const NODE_WORDS: usize = 12;
 
-/// The words of memory that building takes for each arc: less than was measured, as well.
+/// Words of 8 bytes for each arc. Building was measured to take more.
 const ARC_WORDS: usize = 8;
 
-/// Asks for as much memory at once as building will take, and gives it back: where there is less, that is told now and not when most nodes
-/// are contracted. It looks at the graph, so what the getters tell the proof, that the graph keeps the limits, it tells too.
+/// Asks at once for about as much memory as building will take, and gives it back. If there is less memory,
+/// building fails now and not after most nodes are contracted. The clause passes on what the calls on the graph
+/// ensure: it keeps the limits.
 fn ask_ahead(alloc: Global, graph: &Graph) -> Result<(), AllocError>
     ensures { IsWithinLimits graph.now }
 {
@@ -104,22 +108,22 @@ fn ask_ahead(alloc: Global, graph: &Graph) -> Result<(), AllocError>
     Ok(())
 }
 
-/// A hierarchy of which some nodes are contracted.
+/// A hierarchy that is being built: some of its nodes are contracted.
 #[derive(Drop)]
 struct Construction {
     remaining: Remaining,
-    /// The caller's own, lent to each step. It keeps the shortcuts of the nodes that the last step judged,
-    /// among which the next node often is.
+    /// The caller's room, which each step uses. It keeps the shortcuts of the nodes that the last step judged.
+    /// The next node is often one of these.
     room: Room,
-    /// Those of the workers, where several judge the neighbours of a node.
+    /// The workers' rooms. They are used if several workers judge the neighbours of a node.
     rooms: Vec<Room>,
-    /// The nodes that are left, by their priorities.
+    /// The remaining nodes, by their priorities.
     waiting: KeyQueue<i64>,
-    /// How deep each node lies.
+    /// The depth of each node.
     depths: Vec<u32>,
-    /// The level of each contracted node.
+    /// The level of each contracted node, and 0 for each remaining node.
     levels: Vec<u32>,
-    /// How many nodes are contracted.
+    /// The number of contracted nodes.
     contracted: u32,
 }
 
@@ -132,7 +136,7 @@ impl Construction {
     ghost use Rattle.ch_contract.specs.Progress.{AreAll, IsNext, IsOpen, IsStep};
     ghost use Rattle.ch_contract.specs.Construction.{IsSized, IsJudging, progress_of};
 
-    /// No node is contracted yet.
+    /// Starts the construction of the hierarchy of a graph. No node is contracted yet.
     fn open<R: Threads + Sync, G: Gate>(
         crew: &Crew<'_, R, G>,
         graph: &Graph,
@@ -163,7 +167,7 @@ impl Construction {
         })
     }
 
-    /// The node that is contracted next, `None` where none is left.
+    /// Returns the node that is contracted next, or `None` if no node remains.
     fn next(&self) -> Option<u32>
         ensures { MatchOption result (HasNone self.now.waiting) (IsNext self.now.waiting) }
     {
@@ -218,7 +222,8 @@ impl Construction {
         Ok(self)
     }
 
-    /// The hierarchy, once every node is contracted. What it doesn't need is freed first.
+    /// Returns the hierarchy when every node is contracted. It first frees the memory that the hierarchy does
+    /// not need.
     fn finish(self) -> Result<Hierarchy, AllocError>
         requires sizes { IsSized self }
         requires levelled { (H : LevelsAndLegs) → AreAll self.remaining.nodes (progress_of self) H → IsLevelled H }

@@ -1,4 +1,4 @@
-//! Which nodes make a round: those that come before all others within two legs.
+//! The nodes of a round: those that come before all others within two legs.
 ghost use Rattle.std.specs.Prelude.{◌≡◌, ℕ, ◌<◌, ◌↔◌, All, IsTrue, length, true};
 ghost use Rattle.ch_contract.specs.Order.{are_neighbours};
 ghost use Rattle.ch_hierarchy.specs.declared.leg.Leg.{Leg};
@@ -11,11 +11,12 @@ use ch_hierarchy::Leg;
 use ch_work::ListJob;
 use std::alloc::{AllocError, Global};
 
-/// Whether nodes come before all others within two legs, of which a round consists.
+/// The job that says of each node whether it comes before all others within two legs. These nodes make the
+/// round.
 #[derive(Drop)]
 pub(crate) struct FirstJob<'a> {
     pub(crate) remaining: &'a Remaining,
-    /// By node: its key, where it is left.
+    /// By node: its key, if it remains.
     pub(crate) keys: &'a [i64],
     ghost size: { length keys.now ≡ remaining.now.nodes },
 }
@@ -43,7 +44,8 @@ impl ListJob for FirstJob<'_> {
 }
 
 impl FirstJob<'_> {
-    /// Whether a node comes before every other within two legs. It comes before itself. Its neighbours are looked at first.
+    /// Whether a node comes before every other within two legs. A node comes before itself. The neighbours
+    /// are checked first.
     fn is_first(&self, node: u32) -> bool
         requires { node < self.now.remaining.now.nodes }
         ensures { IsTrue result ↔ IsFirstBy self.now.keys.now (legs_of self.now.remaining.now) node }
@@ -57,7 +59,7 @@ impl FirstJob<'_> {
         ensures { IsTrue result ↔ ((y : ℕ) → are_neighbours (legs_of self.now.remaining.now) node y ≡ true →
             IsBeforeNeighbours self.now.keys.now (legs_of self.now.remaining.now) node y) }
     {
-        // The proof learns from this call that the legs keep the limits.
+        // This call tells the proof that the legs keep the limits.
         let _ = self.remaining.nodes();
         self.is_before_around(node, self.remaining.out_legs(node))
             && self.is_before_around(node, self.remaining.in_legs(node))
@@ -77,13 +79,13 @@ impl FirstJob<'_> {
         true
     }
 
-    /// Whether a node comes before every neighbour of this one.
+    /// Whether a node comes before every neighbour of `other`.
     fn is_before_neighbours(&self, node: u32, other: u32) -> bool
         requires node { node < self.now.remaining.now.nodes }
         requires other { other < self.now.remaining.now.nodes }
         ensures { IsTrue result ↔ IsBeforeNeighbours self.now.keys.now (legs_of self.now.remaining.now) node other }
     {
-        // The proof learns from this call that the legs keep the limits.
+        // This call tells the proof that the legs keep the limits.
         let _ = self.remaining.nodes();
         self.is_before_all(node, self.remaining.out_legs(other))
             && self.is_before_all(node, self.remaining.in_legs(other))
@@ -103,7 +105,7 @@ impl FirstJob<'_> {
         true
     }
 
-    /// Whether the first node comes before the second.
+    /// Whether `node` comes before `other`.
     #[inline]
     fn is_before(&self, node: u32, other: u32) -> bool
         requires node { node < self.now.remaining.now.nodes }
@@ -119,8 +121,8 @@ impl FirstJob<'_> {
     }
 }
 
-/// Whether the node of the first key comes before the one of the second: by the keys, then by the mixed numbers, then
-/// by the numbers.
+/// Whether the first node comes before the second. The keys decide, then the mixed numbers, then the
+/// numbers.
 #[inline]
 fn comes_before(key: i64, node: u32, other_key: i64, other: u32) -> bool
     ensures { IsTrue result ↔ ComesBefore key node other_key other }
@@ -133,7 +135,8 @@ fn comes_before(key: i64, node: u32, other_key: i64, other: u32) -> bool
     mixed < other_mixed || (mixed == other_mixed && node <= other)
 }
 
-/// What decides between equal keys. Nodes that lie near each other have distant mixed numbers.
+/// Returns the number that decides between equal keys. Neighbouring numbers of nodes give distant mixed
+/// numbers.
 #[inline]
 fn mixed_number(node: u32) -> u32
     ensures { result ≡ mixed_number node }

@@ -1,4 +1,4 @@
-//! The costs that a search holds: as they are, or in one word each.
+//! The costs that a search holds: as pairs of weight and arcs, or in one word each.
 ghost use Rattle.std.specs.Prelude.{◌≡◌, ℕ, ◌↔◌, IsTrue};
 ghost use Rattle.ch_graph.specs.declared.limits.TheConstants.{MOST_WEIGHT};
 ghost use Rattle.ch_graph.specs.declared.cost.Cost.{Cost};
@@ -8,50 +8,51 @@ ghost use Rattle.ch_contract.specs.HeldCosts.{never, IsHeld, IsAddend, IsKnownCo
 use ch_graph::Cost;
 use ch_graph::limits::{MOST_HOPS, MOST_NODES, MOST_WEIGHT};
 
-/// The most arcs of a chain of as many legs as a witness may have. Each stands for fewer than there are nodes.
+/// The most arcs of a chain with as many legs as a witness may have. Each leg stands for fewer arcs than there
+/// are nodes.
 pub(crate) const MOST_CHAIN_ARCS: u64 = MOST_HOPS as u64 * MOST_NODES as u64;
 
-/// The most that a leg may weigh for searches over words.
+/// The greatest weight of a leg for searches over words.
 pub(crate) const MOST_LIGHT: u64 = (1 << 30) - 1;
 
-/// The arcs of a node to which no chain is known: more than any chain has.
+/// The number of arcs that stands for no known chain. It is more than any chain has.
 pub(crate) const NEVER_ARCS: u64 = 1 << 62;
 
-/// What a weight of 1 is in a word. The arcs stand below it.
+/// A weight of 1 in a word. The bits below it hold the arcs.
 pub(crate) const WEIGHT_UNIT: u64 = 1 << 31;
 
-/// The bit of a word that stands for no known chain. The weight stands below it.
+/// The bit of a word that stands for no known chain. The bits below it hold the weight and then the arcs.
 pub(crate) const NEVER_BIT: u64 = 1 << 63;
 
-/// What stands for a cost in a search.
+/// A cost in the form in which a search holds it.
 pub(crate) trait HeldCost: Copy {
     /// The cost.
     ghost cost: { Self → Cost };
 
-    /// The most that a leg may weigh.
+    /// The greatest weight that a leg may have.
     ghost limit: { ℕ };
 
-    /// What a node costs to which no chain is known.
+    /// Returns the cost of a node without a known chain.
     fn never() -> Self
         ensures { cost result ≡ never };
 
-    /// What stands for this cost.
+    /// Returns the form of this cost.
     fn of(held: Cost) -> Self
         requires { IsHeld limit held }
         ensures { cost result ≡ held };
 
-    /// What stands for the sum.
+    /// Returns the form of the sum.
     fn plus(self, more: Self) -> Self
         requires known { IsKnownCost limit (cost self) }
         requires more { IsAddend limit (cost more) }
         ensures { cost result ≡ cost_sum (cost self) (cost more) };
 
-    /// Whether the cost is at most the other.
+    /// Whether this cost is at most the other.
     fn is_at_most(self, other: Self) -> bool
         ensures { IsTrue result ↔ IsAtMost (cost self) (cost other) };
 }
 
-/// More than any cost that is wanted.
+/// More than any bound of a search.
 const NEVER: Cost = Cost {
     weight: MOST_WEIGHT,
     arcs: NEVER_ARCS,
@@ -94,12 +95,12 @@ pub(crate) fn is_at_most(a: Cost, b: Cost) -> bool
     a.weight < b.weight || (a.weight == b.weight && a.arcs <= b.arcs)
 }
 
-/// A cost in one word, where no leg weighs more than [`MOST_LIGHT`]: 31 bits of arcs, 32 bits of weight above
-/// them, and the highest bit for nodes to which no chain is known.
+/// A cost in one word, for legs that weigh at most [`MOST_LIGHT`]. The low 31 bits hold the arcs, the next 32
+/// bits the weight. The highest bit is for nodes without a known chain.
 ///
-/// No sum of a search carries from one part into the next. What is known of a node is at most the search's
-/// bound, which is the cost of two legs and so weighs less than 2^31, and a search adds no more than that to
-/// it. No chain of a search stands for more than [`MOST_CHAIN_ARCS`] arcs, which are 2^29.
+/// No sum of a search carries from one part into the next. The known cost of a node is at most the bound of the
+/// search. The bound is the cost of two legs, so it weighs less than 2^31. A search adds at most that much to a
+/// known cost. No chain of a search stands for more than [`MOST_CHAIN_ARCS`] arcs, which is 2^29.
 #[derive(Clone, Copy, Debug)]
 pub(crate) struct Word(u64);
 

@@ -1,4 +1,4 @@
-//! The least costs known of chains from each node, which a search lowers.
+//! The least known costs of chains from each node. A search lowers them.
 ghost use Rattle.std.specs.Prelude.{◌≡◌, ℕ, ◌+◌, ◌<◌, ◌≤◌, if◌then◌else◌, length, map, vec_len, vec_capacity, IfOk, OnOk, [], ◌∷◌, ◌++◌, All};
 ghost use Rattle.ch_hierarchy.specs.Rows.{row};
 
@@ -15,14 +15,14 @@ pub(crate) struct Step<K> {
     pub(crate) cost: K,
 }
 
-/// The least costs known of chains from each node.
+/// The least known costs of chains from each node.
 #[derive(Drop)]
 pub(crate) struct KnownCosts<K> {
-    /// By node: the least cost known of a chain from it.
+    /// By node: the least known cost of a chain from it.
     pub(crate) costs: Vec<K>,
     /// The nodes whose costs were lowered.
     pub(crate) touched: Vec<u32>,
-    /// Those whose cost was lowered in the round that is under way, with that cost.
+    /// The nodes whose costs were lowered in this round, with these costs.
     pub(crate) next: Vec<Step<K>>,
 }
 
@@ -30,7 +30,7 @@ impl<K: HeldCost> KnownCosts<K> {
     ghost use Rattle.ch_contract.specs.HeldCosts.{IsHeld};
     ghost use Rattle.ch_contract.specs.KnownCosts.{known_of, chain_start_of, AreTouched, IsClean, HasRoom, Lowers, IsOnlyWhere, IsOneMore, IsOneMoreOf, IsLegLight, IsRoomFor};
 
-    /// Room for searches among so many nodes.
+    /// Makes room for searches among `nodes` nodes. No chain is known.
     pub(crate) fn new(alloc: Global, nodes: u32) -> Result<KnownCosts<K>, AllocError>
         ensures { IfOk result (λ h. IsClean nodes (known_of K.cost h)) }
     {
@@ -45,7 +45,7 @@ impl<K: HeldCost> KnownCosts<K> {
         })
     }
 
-    /// Makes room for so many more nodes to be lowered.
+    /// Makes room for `more` nodes whose costs are lowered.
     #[inline]
     pub(crate) fn reserve(&mut self, more: usize) -> Result<(), AllocError>
         ensures known { known_of K.cost self.new ≡ known_of K.cost self.old }
@@ -55,8 +55,8 @@ impl<K: HeldCost> KnownCosts<K> {
         self.next.reserve(more)
     }
 
-    /// Puts the cost in where it is wanted and a greater one is known. No branch hangs on that, which no
-    /// processor could foresee.
+    /// Stores the cost if it is wanted and a greater one is known. It does so without a branch, because no
+    /// processor could predict that branch.
     #[inline]
     pub(crate) fn lower(&mut self, node: u32, cost: K, is_wanted: bool)
         requires node { node < length self.old.costs.items }
@@ -71,7 +71,7 @@ impl<K: HeldCost> KnownCosts<K> {
         self.costs[node as usize] = if is_less { cost } else { known };
     }
 
-    /// Puts a leg in front of the chain of this step, where that is wanted.
+    /// Puts a leg in front of the chain of this step, if the result is wanted.
     #[inline]
     fn spread_leg(&mut self, leg: Leg, step: Step<K>, wanted: Wanted)
         requires leg { IsLegLight K.limit (length self.old.costs.items) leg }
@@ -119,7 +119,7 @@ impl<K: HeldCost> KnownCosts<K> {
         Ok(())
     }
 
-    /// Forgets what is known.
+    /// Forgets all known costs.
     pub(crate) fn clear(&mut self)
         requires { AreTouched (known_of K.cost self.old) }
         ensures { IsClean (length (known_of K.cost self.old).costs) (known_of K.cost self.new) }
@@ -131,7 +131,7 @@ impl<K: HeldCost> KnownCosts<K> {
     }
 }
 
-/// Puts a value at the end of a list where it is wanted, without a branch.
+/// Appends a value to a list if it is wanted, without a branch.
 #[inline]
 fn push_where<T: Copy + Drop>(is_wanted: bool, list: &mut Vec<T>, value: T)
     requires { vec_len list.old < vec_capacity list.old }

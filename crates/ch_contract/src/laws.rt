@@ -1,4 +1,4 @@
-//! Laws, each the contract of a function that does nothing, and worked examples of the definitions.
+//! Laws, each of which is the contract of a function that does nothing, and worked examples of the definitions.
 
 pub mod keeping;
 pub mod one_order;

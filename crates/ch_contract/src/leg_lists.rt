@@ -1,4 +1,4 @@
-//! The legs of each node, in a list for each.
+//! Lists of legs, one for each node.
 ghost use Rattle.std.specs.Prelude.{◌≡◌, ℕ, ◌+◌, ◌<◌, ◌≤◌, ◌==◌, if◌then◌else◌, [], length, All, AllPairs, IfOk, OnOk, Some, None, option_map, find, replicate, slice_index_or, slice_set};
 ghost use Rattle.ch_graph.specs.declared.limits.TheConstants.{MOST_NODES};
 ghost use Rattle.ch_hierarchy.specs.declared.leg.Leg.{Leg};
@@ -14,12 +14,12 @@ use ch_lists::Lists;
 use std::alloc::{AllocError, Global};
 use std::marker::Model;
 
-/// A list of legs for each node, and one more for each, of those that it had when it was contracted. All legs stand in one
-/// array: a node that is contracted leaves its legs where they are.
+/// A list of legs for each node, and a second list for each node, with its legs when it was contracted. All
+/// legs are in one array. When a node is contracted, its legs stay where they are.
 #[derive(Drop)]
 pub(crate) struct LegLists {
     nodes: u32,
-    /// The list of each node, and behind all of them those that were set aside.
+    /// The list of each node, and then for each node the list that was set aside.
     lists: Lists<Leg>,
 }
 
@@ -36,8 +36,8 @@ impl Model for LegLists {
 }
 
 impl LegLists {
-    /// Empty lists for so many nodes. There are two rooms for each node: how many legs its list takes before it has to move,
-    /// and behind those of all nodes how many the one that is set aside takes.
+    /// Makes empty lists for `nodes` nodes. `rooms` has a capacity for the list of each node, and then one for
+    /// the list of each node that is set aside. A list that outgrows its capacity has to move.
     pub(crate) fn new(alloc: Global, nodes: u32, rooms: &[u32]) -> Result<LegLists, AllocError>
         requires nodes { nodes ≤ MOST_NODES }
         requires rooms { length rooms.now ≡ nodes + nodes }
@@ -47,7 +47,7 @@ impl LegLists {
         Ok(LegLists { nodes, lists })
     }
 
-    /// The legs of a node.
+    /// Returns the legs of a node.
     #[inline]
     pub(crate) fn at(&self, node: u32) -> &[Leg]
         requires { node < length self.now.rows }
@@ -56,7 +56,7 @@ impl LegLists {
         self.lists.at(node)
     }
 
-    /// The legs that were set aside at a node.
+    /// Returns the legs that were set aside for a node.
     pub(crate) fn aside(&self, node: u32) -> &[Leg]
         requires { node < length self.now.rows }
         ensures { result.now ≡ row self.now.aside node }
@@ -64,7 +64,7 @@ impl LegLists {
         self.lists.at(self.nodes + node)
     }
 
-    /// Takes the leg of `node` at `other` out, where there is one.
+    /// Takes the leg of `node` at `other` out, if there is one.
     pub(crate) fn take(&mut self, node: u32, other: u32)
         requires node { node < length self.old.rows }
         requires rows { AreRows self.old.rows }
@@ -74,7 +74,7 @@ impl LegLists {
         take_leg(&mut self.lists, node, other);
     }
 
-    /// Puts the leg in among those of `node`, in place of one at its node.
+    /// Puts the leg into the list of `node`. It replaces the leg with the same other node, if there is one.
     pub(crate) fn put(&mut self, node: u32, leg: Leg) -> Result<(), AllocError>
         requires node { node < length self.old.rows }
         requires rows { AreRows self.old.rows }
@@ -85,7 +85,8 @@ impl LegLists {
         Ok(())
     }
 
-    /// Puts an arc in as the leg of `node` at `other`, or the weight of the leg there where that is less.
+    /// Puts an arc in as the leg of `node` at `other`. If the leg that is there weighs less, its weight is
+    /// kept.
     pub(crate) fn put_arc(&mut self, node: u32, other: u32, weight: u64) -> Result<(), AllocError>
         requires node { node < length self.old.rows }
         requires rows { AreRows self.old.rows }
@@ -105,7 +106,7 @@ impl LegLists {
         Ok(())
     }
 
-    /// Takes the legs at `v` out of the lists of these nodes, among which are all that have one.
+    /// Takes the legs at `v` out of the lists of these nodes. These have to be all nodes with a leg at `v`.
     pub(crate) fn take_from(&mut self, v: u32, others: &[Leg])
         requires rows { AreRows self.old.rows }
         requires nodes { All (λ l. l.node < length self.old.rows) others.now }
@@ -120,7 +121,7 @@ impl LegLists {
         }
     }
 
-    /// Sets the legs of a node aside, which leaves it none.
+    /// Sets the legs of a node aside. Its list is then empty.
     pub(crate) fn set_aside(&mut self, node: u32)
         requires { node < length self.old.rows }
         ensures rows { self.new.rows ≡ slice_set self.old.rows node [] }
@@ -129,7 +130,8 @@ impl LegLists {
         self.lists.hand_over(node, self.nodes + node);
     }
 
-    /// The lists that were set aside, one for each node. They are moved together, and what is left of their array is given back.
+    /// Returns the lists that were set aside, one for each node. They are moved together, and the rest of their
+    /// array is given back.
     pub(crate) fn into_aside(self) -> Result<Lists<Leg>, AllocError>
         ensures { IfOk result (λ lists. lists ≡ self.aside) }
     {
@@ -139,8 +141,8 @@ impl LegLists {
     }
 }
 
-/// Puts the shortcuts of `v` in on both sides: each in the list of the node from which it leads, and in that of
-/// the node to which it leads.
+/// Puts the shortcuts of `v` in on both sides. Each goes into the list of its first node and into the list of
+/// its second node.
 pub(crate) fn put_shortcuts(
     outs: &mut LegLists,
     ins: &mut LegLists,
@@ -163,7 +165,7 @@ pub(crate) fn put_shortcuts(
     Ok(())
 }
 
-/// The leg of a shortcut of `v`, as its end has it whose other end this is.
+/// Returns a shortcut of `v` as a leg in the list of one of its ends. `node` is its other end.
 fn leg_of(node: u32, shortcut: Shortcut, v: u32) -> Leg
     ensures { result ≡ record { node = node; cost = shortcut.cost; middle = Some v } }
 {
@@ -174,7 +176,7 @@ fn leg_of(node: u32, shortcut: Shortcut, v: u32) -> Leg
     }
 }
 
-/// What the leg of the list at this node weighs, and `None` where there is none.
+/// Returns the weight of the leg of the list at this node, or `None` if there is none.
 fn weight_at(list: &[Leg], node: u32) -> Option<u64>
     ensures { result ≡ option_map (λ l. l.cost.weight) (find (λ l. l.node == node) list.now) }
 {
@@ -183,7 +185,8 @@ fn weight_at(list: &[Leg], node: u32) -> Option<u64>
         .map(|leg| leg.cost.weight)
 }
 
-/// The place of the first leg of the list at a node that is not below this one.
+/// Returns the place of the first leg of the list whose node is at least `node`, or the length of the list if
+/// there is none.
 fn place_of(list: &[Leg], node: u32) -> usize
     requires { IsRow list.now }
     ensures bound { result ≤ length list.now }
@@ -198,7 +201,7 @@ fn place_of(list: &[Leg], node: u32) -> usize
     list.len()
 }
 
-/// Takes the leg of a list at this node out, where there is one.
+/// Takes the leg of a list at this node out, if there is one.
 fn take_leg(lists: &mut Lists<Leg>, list: u32, node: u32)
     requires list { list < length lists.old }
     requires row { IsRow (row lists.old list) }
@@ -213,7 +216,7 @@ fn take_leg(lists: &mut Lists<Leg>, list: u32, node: u32)
     }
 }
 
-/// Puts the leg in at its node, where the list has none at that node.
+/// Puts the leg into a list that has none at its node.
 fn insert_leg(lists: &mut Lists<Leg>, list: u32, leg: Leg) -> Result<(), AllocError>
     requires list { list < length lists.old }
     requires row { IsRow (row lists.old list) }
@@ -228,7 +231,7 @@ fn insert_leg(lists: &mut Lists<Leg>, list: u32, leg: Leg) -> Result<(), AllocEr
     Ok(())
 }
 
-/// Puts the leg in at its node, in place of one that is there.
+/// Puts the leg into a list. It replaces the leg with the same other node, if there is one.
 fn put_leg(lists: &mut Lists<Leg>, list: u32, leg: Leg) -> Result<(), AllocError>
     requires list { list < length lists.old }
     requires row { IsRow (row lists.old list) }

@@ -1,14 +1,15 @@
-//! Contraction hierarchies (Geisberger, Sanders, Schultes and Delling 2008): nodes are contracted one
-//! after the other, and shortcuts keep the distances between those that are left.
+//! Contraction hierarchies (Geisberger, Sanders, Schultes and Delling 2008). Nodes are contracted one after the
+//! other or in rounds, and shortcuts keep the distances between the remaining nodes.
 //!
-//! It stands on ch_graph, ch_hierarchy, ch_lists, ch_queue and ch_work. Proved of it: each call of [`Remaining`] is its definition,
-//! also the search for witnesses, which walks no chain past its bound; [`build_by`] makes the hierarchy that
-//! the rules name in an order, by the difference ([`build`]), by depth or by rounds, however workers share the work,
-//! which is one ([`laws::one_order`]), and which is
-//! kept for its graph ([`laws::keeping`], [`laws::rounds`]);
-//! in a hierarchy that is kept for a graph, of any origin, going up
-//! and then down costs least what a walk costs least ([`laws::kept`]); [`assemble`] makes the one hierarchy
-//! that a saved order and legs name, or tells their first fault ([`laws::saved`]).
+//! It stands on ch_graph, ch_hierarchy, ch_lists, ch_queue and ch_work. These statements are proved:
+//!
+//! - Each call of [`Remaining`] gives what its definition says, and so does the search for witnesses. This
+//!   search walks no chain past its bound.
+//! - [`build_by`] makes the hierarchy that the rules name, by the difference ([`build`]), by depth or by
+//!   rounds. The hierarchy does not depend on how workers share the work. The rules name only one
+//!   ([`laws::one_order`]), and it is kept for its graph ([`laws::keeping`], [`laws::rounds`]).
+//! - [`assemble`] makes the one hierarchy that a saved order and legs name, or returns their first fault. It is
+//!   a call of ch_hierarchy, and so are the laws on kept and saved hierarchies.
 #![tactic(auto)]
 
 mod construction;

@@ -1,24 +1,25 @@
-//! By what the next node to be contracted is chosen.
+//! The orders of contraction, and the keys of nodes in them.
 ghost use Rattle.std.specs.Prelude.{◌≡◌, ◌^◌, ◌≤◌};
 ghost use Rattle.ch_contract.specs.declared.measure.OrderBy.TheVariants as OrderBy;
 ghost use Rattle.ch_contract.specs.Contraction.{key_by};
 
-/// What orders the nodes that are left: the least comes first, and of equal ones the least numbered.
-/// Distances are the same in each order.
+/// The order in which nodes are contracted, named after its key. The node of the least key comes first, and at
+/// equal keys the node of the least number. Only rounds differ from this. Distances are the same in each order.
 #[derive(Clone, Copy, Debug, PartialEq, Eq)]
 pub enum OrderBy {
     /// The number of a node's shortcuts less the number of legs that touch it.
     Difference,
-    /// Twice the number of a node's shortcuts less the number of legs that touch it, plus its depth: 0 at
-    /// first, and at least one more than that of each neighbour once this one is contracted.
+    /// Twice the number of a node's shortcuts, less the number of legs that touch it, plus its depth. The depth
+    /// is 0 at first. When a neighbour is contracted, it becomes at least one more than the neighbour's depth.
     Depth,
-    /// In rounds, by the key of [`OrderBy::Depth`]. A round contracts all nodes together that come before every other node
-    /// within two legs, so workers share it. Of equal keys, and before the numbers, mixed numbers decide. Shortcuts are
-    /// counted anew only once seven tenths of the nodes are contracted.
+    /// In rounds, by the key of [`OrderBy::Depth`]. A round contracts together all nodes that come before every
+    /// other node within two legs, so workers share it. At equal keys mixed numbers decide, and then the
+    /// numbers. After the opening, shortcuts are counted again only once seven tenths of the nodes are
+    /// contracted.
     Rounds,
 }
 
-/// How many shortcuts a node has, and how many legs touch it.
+/// The number of a node's shortcuts, and the number of legs that touch it.
 #[derive(Clone, Copy)]
 pub(crate) struct Measure {
     pub(crate) shortcuts: u64,
@@ -27,7 +28,7 @@ pub(crate) struct Measure {
 }
 
 impl OrderBy {
-    /// The key of a node of this measure that lies so deep.
+    /// Returns the key of a node in this order, from its measure and its depth.
     pub(crate) fn key(self, measure: Measure, depth: u32) -> i64
         ensures { result ≡ key_by self measure.shortcuts measure.legs depth }
     {

@@ -6,7 +6,7 @@ ghost use Rattle.ch_contract.specs.Measures.{AreDeepened};
 use ch_hierarchy::Leg;
 use std::alloc::{AllocError, Global};
 
-/// The nodes of the legs from a node and of those to it, each once.
+/// Returns the nodes of the legs from a node and of the legs to it, each once.
 pub(crate) fn neighbours(alloc: Global, up: &[Leg], down: &[Leg]) -> Result<Vec<u32>, AllocError>
     ensures { IfOk result (λ list. list.items ≡ neighbours_in up.now down.now) }
 {
@@ -27,7 +27,7 @@ fn has_node(legs: &[Leg], node: u32) -> bool
     legs.iter().any(|leg| leg.node == node)
 }
 
-/// Lays these nodes deeper than the one that was contracted, unless they lie so already.
+/// Raises the depth of each of these nodes to at least one more than that of the contracted node.
 pub(crate) fn deepen(depths: &mut [u32], nodes: &[u32], contracted: u32)
     requires nodes { All (λ x. x < length depths.old) nodes.now }
     requires contracted { contracted < length depths.old }

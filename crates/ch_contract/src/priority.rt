@@ -1,4 +1,4 @@
-//! Priorities of nodes, and the queue of the nodes that are left.
+//! Priorities of nodes, and the queue of the remaining nodes.
 ghost use Rattle.std.specs.Prelude.{◌≡◌, ◌^◌, ◌<◌, length, All, IfOk, OnOk};
 ghost use Rattle.std.specs.List.{AllZip, range_with_len};
 ghost use Rattle.ch_contract.specs.Legs.{IsHopBound};
@@ -15,7 +15,8 @@ use ch_work::{Crew, Gate, ListJob, Stage, run_list_in};
 use std::alloc::{AllocError, Global};
 use std::thread::Threads;
 
-/// The queue of all nodes, each with its priority, which workers compute. Their rooms are among `rooms` afterwards.
+/// Makes the queue of all nodes, each with its priority. Workers compute the priorities, and `rooms` keeps
+/// their rooms.
 pub(crate) fn opening_queue<R: Threads + Sync, G: Gate>(
     crew: &Crew<'_, R, G>,
     remaining: &Remaining,
@@ -45,14 +46,14 @@ pub(crate) fn opening_queue<R: Threads + Sync, G: Gate>(
     Ok(waiting)
 }
 
-/// The nodes in order.
+/// Returns the nodes in order of number.
 pub(crate) fn all_nodes(alloc: Global, nodes: u32) -> Result<Vec<u32>, AllocError>
     ensures { IfOk result (λ list. list.items ≡ range_with_len 0 nodes) }
 {
     (0..nodes).collect(alloc)
 }
 
-/// The priorities of nodes, with the legs that are left, where nodes lie so deep.
+/// The job that computes the priorities of nodes with the remaining legs and these depths.
 #[derive(Drop)]
 pub(crate) struct PriorityJob<'a> {
     pub(crate) remaining: &'a Remaining,
@@ -87,7 +88,7 @@ impl ListJob for PriorityJob<'_> {
 }
 
 impl PriorityJob<'_> {
-    /// The priority of a node, judged in this room.
+    /// Returns the priority of a node. The node is judged in this room.
     fn priority(&self, alloc: Global, room: &mut Room, node: u32) -> Result<i64, AllocError>
         requires node { node < self.now.remaining.now.nodes }
         requires ready { IsReady self.now.remaining.now.nodes self.now.hops (legs_of self.now.remaining.now) room.old }
@@ -100,9 +101,9 @@ impl PriorityJob<'_> {
         Ok(self.by.key(measure, self.depths[node as usize]))
     }
 
-    /// Gives these nodes the priorities that they have now. Where there are at least `crew.plan.wide()` of them,
-    /// they are cut into pieces, which workers share and which pass the gate. A lone worker, and one that
-    /// does the only piece, stays in the caller's room; the others work in `rooms`.
+    /// Gives these nodes the priorities that they have now. If they are at least `crew.plan.wide()` nodes, they
+    /// are cut into pieces. Workers share the pieces and pass the gate with each piece. A single worker, or the
+    /// worker of an only piece, uses the caller's room; otherwise the workers use `rooms`.
     pub(crate) fn refresh<R: Threads + Sync, G: Gate>(
         &self,
         crew: &Crew<'_, R, G>,
@@ -144,7 +145,7 @@ impl PriorityJob<'_> {
         Ok(())
     }
 
-    /// Gives these nodes the priorities that they have now, judged in this room.
+    /// Gives these nodes the priorities that they have now. The nodes are judged in this room.
     fn refresh_here(
         &self,
         alloc: Global,
@@ -168,7 +169,7 @@ impl PriorityJob<'_> {
         Ok(())
     }
 
-    /// Gives each of these nodes its priority, which stands at the same place.
+    /// Gives each of these nodes the priority at the same place.
     fn set_all(&self, nodes: &[u32], priorities: &[i64], waiting: &mut KeyQueue<i64>)
         requires nodes { All (λ x. x < self.now.remaining.now.nodes) nodes.now }
         requires priorities { AllZip (IsPriorityIn self.now.by self.now.remaining.now self.now.hops self.now.depths.now)

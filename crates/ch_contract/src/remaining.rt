@@ -1,4 +1,4 @@
-//! The legs among the nodes that are left.
+//! The legs among the remaining nodes.
 
 mod candidates;
 mod contraction;
@@ -24,18 +24,19 @@ pub use contraction::Removed;
 use std::alloc::{AllocError, Global};
 use std::marker::Model;
 
-/// The legs among the nodes that are not contracted yet: at most one from each node to each other node.
+/// The legs among the remaining nodes, which are not contracted yet. There is at most one from each node to
+/// each other node.
 ///
-/// No leg weighs more than [`MOST_WEIGHT`](ch_graph::limits::MOST_WEIGHT) or stands for as many arcs as the
+/// A leg weighs at most [`MOST_WEIGHT`](ch_graph::limits::MOST_WEIGHT), and stands for fewer arcs than the
 /// input graph has nodes.
 #[derive(Drop)]
 pub struct Remaining {
     nodes: u32,
     /// The legs from each node.
     outs: LegLists,
-    /// The legs to each node, which are the same.
+    /// The same legs again: the legs to each node.
     ins: LegLists,
-    /// Whether no leg that was put in so far weighs more than `MOST_LIGHT`.
+    /// Whether all legs that were put in so far weigh at most `MOST_LIGHT`. If not, it is false for good.
     light: bool,
     alloc: Global,
 }
@@ -55,7 +56,7 @@ impl Model for Remaining {
 }
 
 impl Remaining {
-    /// The number of nodes of the input graph.
+    /// Returns the number of nodes of the input graph.
     pub fn nodes(&self) -> u32
         ensures nodes { result ≡ self.now.nodes }
         ensures count { self.now.nodes ≤ MOST_NODES }
@@ -64,14 +65,14 @@ impl Remaining {
         self.nodes
     }
 
-    /// Whether no leg that was put in so far is too heavy for searches over words.
+    /// Whether all legs that were put in so far are light enough for searches over words.
     pub(crate) fn is_light(&self) -> bool
         ensures { IsTrue result → AreLegsUpTo MOST_LIGHT (legs_of self.now) }
     {
         self.light
     }
 
-    /// The legs from `v`, ordered by the node to which they lead. It takes no memory.
+    /// Returns the legs from `v`, ordered by the node to which they lead. It takes no memory.
     pub fn out_legs(&self, v: u32) -> &[Leg]
         requires { v < self.now.nodes }
         ensures { AreLegsFrom (legs_of self.now) v result.now }
@@ -79,7 +80,7 @@ impl Remaining {
         self.outs.at(v)
     }
 
-    /// The legs to `v`, ordered by the node from which they come. It takes no memory.
+    /// Returns the legs to `v`, ordered by the node from which they come. It takes no memory.
     pub fn in_legs(&self, v: u32) -> &[Leg]
         requires { v < self.now.nodes }
         ensures { AreLegsTo (legs_of self.now) v result.now }
@@ -87,7 +88,7 @@ impl Remaining {
         self.ins.at(v)
     }
 
-    /// The legs from `v` when it was contracted.
+    /// Returns the legs from `v` when it was contracted.
     pub(crate) fn up_legs(&self, v: u32) -> &[Leg]
         requires { v < self.now.nodes }
         ensures { result.now ≡ row self.now.ups v }
@@ -95,7 +96,7 @@ impl Remaining {
         self.outs.aside(v)
     }
 
-    /// The legs to `v` when it was contracted.
+    /// Returns the legs to `v` when it was contracted.
     pub(crate) fn down_legs(&self, v: u32) -> &[Leg]
         requires { v < self.now.nodes }
         ensures { result.now ≡ row self.now.downs v }
@@ -103,7 +104,7 @@ impl Remaining {
         self.ins.aside(v)
     }
 
-    /// The legs from each node when it was contracted, and those to it. They stay in the arrays in which they are.
+    /// Returns the legs from each node when it was contracted, and the legs to it. They stay in their arrays.
     pub(crate) fn into_rows(self) -> Result<BothRows, AllocError>
         ensures up { IfOk result (λ r. r.ups ≡ self.ups) }
         ensures down { IfOk result (λ r. r.downs ≡ self.downs) }
@@ -114,7 +115,7 @@ impl Remaining {
     }
 }
 
-/// The rows of a hierarchy: the legs from each node to higher ones, and those from higher ones to it.
+/// The rows of a hierarchy: the legs from each node to higher nodes, and the legs from higher nodes to it.
 #[derive(Drop)]
 pub(crate) struct BothRows {
     pub(crate) ups: Lists<Leg>,

@@ -1,4 +1,5 @@
-//! The room in which nodes are judged.
+//! The rooms for judging nodes: for finding the shortcuts of a node, and counting them and the legs that touch
+//! it.
 ghost use Rattle.std.specs.Prelude.{◌≡◌, ℕ, ◌<◌, ◌++◌, ◌∷◌, [], length, IfOk, IfSome, OnOk, slice_index};
 ghost use Rattle.ch_contract.specs.Legs.{Legs, IsHopBound, turned_legs};
 ghost use Rattle.ch_contract.specs.Contraction.{Contracts};
@@ -12,21 +13,21 @@ use crate::shortcut::Shortcut;
 use crate::witness_searches::WitnessSearches;
 use std::alloc::{AllocError, Global};
 
-/// The room in which one worker judges nodes. It keeps the shortcuts of those that it has judged with the
-/// legs that are left now.
+/// The room in which one worker judges nodes. It keeps the shortcuts of the nodes that it judged with the legs
+/// that remain now.
 #[derive(Drop)]
 pub(crate) struct Room {
     pub(crate) searches: WitnessSearches,
-    /// The nodes that are judged.
+    /// The nodes that were judged.
     pub(crate) judged: Vec<u32>,
-    /// Their shortcuts, at the same places. The lists after these are spare.
+    /// The shortcuts of these nodes, at the same places. The lists after them are spare.
     pub(crate) lists: Vec<Vec<Shortcut>>,
 }
 
 impl Room {
     ghost use Rattle.ch_contract.specs.Rooms.{IsReady, list_at};
 
-    /// A room in which no node is judged yet. It takes no memory.
+    /// Makes a room in which no node was judged yet. It takes no memory.
     pub(crate) fn new(alloc: Global) -> Room
         ensures { (n h : ℕ) (L : Legs) → IsReady n h L result }
     {
@@ -37,14 +38,15 @@ impl Room {
         }
     }
 
-    /// Forgets the shortcuts, as is due where the legs are others now.
+    /// Forgets the shortcuts. This is needed when the legs have changed.
     pub(crate) fn forget(&mut self)
         ensures { (n h : ℕ) (L : Legs) → AreIdle self.old.searches → IsReady n h L self.new }
     {
         self.judged.clear();
     }
 
-    /// Judges a node, and keeps its shortcuts. The answer is how many these are, and how many legs touch it.
+    /// Judges a node, and keeps its shortcuts. Returns their number, and the number of legs that touch the
+    /// node.
     pub(crate) fn judge(
         &mut self,
         alloc: Global,
@@ -69,8 +71,8 @@ impl Room {
         Ok(measure)
     }
 
-    /// Contracts a node with the shortcuts that it has. Those of all nodes are forgotten, since the legs are others
-    /// then.
+    /// Contracts a node with its shortcuts. Then it forgets the shortcuts of all nodes, because the legs have
+    /// changed.
     pub(crate) fn contract(
         &mut self,
         alloc: Global,
@@ -93,7 +95,7 @@ impl Room {
         Ok(contracted)
     }
 
-    /// The place of a node among the judged. It is judged first if it isn't yet.
+    /// Returns the place of a node among the judged nodes. If the node was not judged yet, it is judged first.
     fn place_of(
         &mut self,
         alloc: Global,
@@ -115,7 +117,7 @@ impl Room {
         Ok(place)
     }
 
-    /// The shortcuts of the judged node at this place.
+    /// Returns the shortcuts of the judged node at this place.
     fn shortcuts(&self, place: usize) -> &[Shortcut]
         requires { place < length self.now.lists.items }
         ensures { result.now ≡ list_at self.now place }
@@ -124,7 +126,7 @@ impl Room {
     }
 }
 
-/// The place of a node in a list.
+/// Returns the place of a node in a list, or `None` if it is not there.
 fn place_in(nodes: &[u32], node: u32) -> Option<usize>
     ensures { IfSome result (λ k. (k < length nodes.now) × (slice_index nodes.now k ≡ node)) }
 {

@@ -1,4 +1,4 @@
-//! The choice of a round: the keys of the nodes that are left, and their split into the round and the rest.
+//! The choice of a round: the keys of the remaining nodes, and their split into the round and the rest.
 ghost use Rattle.std.specs.Prelude.{◌≡◌, ℕ, ◌^◌, ◌<◌, ◌≤◌, ◌↔◌, ◌++◌, ◌∷◌, [], if◌then◌else◌, All, AllPairs, Contains, IfOk, IsTrue, OnOk, length, pos, slice_index, slice_index_or};
 ghost use Rattle.std.specs.List.{AllZip};
 ghost use Rattle.ch_contract.specs.FirstAround.{IsFirstBy};
@@ -13,12 +13,12 @@ use ch_work::{Crew, Gate, ListJob, run_list};
 use std::alloc::{AllocError, Global};
 use std::thread::Threads;
 
-/// The nodes that are left, each list in order of number.
+/// The remaining nodes in two lists, each in order of number.
 #[derive(Drop)]
 pub(crate) struct Split {
-    /// Those of the next round.
+    /// The nodes of the next round.
     pub(crate) round: Vec<u32>,
-    /// Those that wait for a later one.
+    /// The nodes that wait for a later round.
     pub(crate) rest: Vec<u32>,
 }
 
@@ -38,14 +38,14 @@ impl Split {
     }
 }
 
-/// The keys of nodes, by which a round is chosen: twice the last count of a node's shortcuts, less the number of legs
-/// that touch it now, plus its depth.
+/// The job that computes the keys of nodes. A round is chosen by these keys. A key is twice the last count of
+/// the node's shortcuts, less the number of legs that touch it now, plus its depth.
 #[derive(Drop)]
 pub(crate) struct KeyJob<'a> {
     pub(crate) remaining: &'a Remaining,
-    /// By node: how many shortcuts it had when these were counted last.
+    /// By node: the last count of its shortcuts.
     pub(crate) counts: &'a [u64],
-    /// By node: how deep it lies.
+    /// By node: its depth.
     pub(crate) depths: &'a [u32],
     ghost counted: { length counts.now ≡ remaining.now.nodes },
     ghost deep: { length depths.now ≡ remaining.now.nodes },
@@ -74,7 +74,7 @@ impl ListJob for KeyJob<'_> {
 }
 
 impl KeyJob<'_> {
-    /// The key of a node.
+    /// Returns the key of a node.
     fn key(&self, node: u32) -> i64
         requires node { node < self.now.remaining.now.nodes }
         requires count { slice_index self.now.counts.now node ≤ 2 ^ 50 }
@@ -88,8 +88,8 @@ impl KeyJob<'_> {
         OrderBy::Rounds.key(measure, self.depths[place])
     }
 
-    /// Writes the keys of the nodes that are left, and splits these nodes into those of the next round, which come before
-    /// all others within two legs, and the rest.
+    /// Writes the keys of the remaining nodes into `keys`, and splits these nodes into the next round and the
+    /// rest. The nodes of the round come before all others within two legs.
     pub(crate) fn choose<R: Threads + Sync, G: Gate>(
         &self,
         crew: &Crew<'_, R, G>,
@@ -117,8 +117,8 @@ impl KeyJob<'_> {
 }
 
 impl FirstJob<'_> {
-    /// Splits nodes into those that come before all others within two legs, and the rest. The flags at the same places say
-    /// which do.
+    /// Splits nodes into those that come before all others within two legs, and the rest. The flag at a node's
+    /// place says whether it does.
     fn split(&self, alloc: Global, nodes: &[u32], firsts: &[bool]) -> Result<Split, AllocError>
         requires firsts { AllZip (λ x b. IsTrue b ↔ IsFirstBy self.now.keys.now (legs_of self.now.remaining.now) x) nodes.now firsts.now }
         requires ordered { AllPairs ◌<◌ nodes.now }

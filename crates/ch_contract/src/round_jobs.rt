@@ -1,4 +1,4 @@
-//! What workers do for a round: the counts of shortcuts, and the shortcuts themselves.
+//! The jobs of workers in a round: the counts of shortcuts, and the shortcuts themselves.
 ghost use Rattle.std.specs.Prelude.{◌<◌};
 ghost use Rattle.ch_graph.specs.declared.limits.TheConstants.{MOST_WEIGHT};
 ghost use Rattle.ch_hierarchy.specs.Rows.{row};
@@ -15,7 +15,8 @@ use crate::shortcut::Shortcut;
 use ch_work::ListJob;
 use std::alloc::{AllocError, Global};
 
-/// How many shortcuts nodes have with the legs that are left, of which the keys of rounds consist.
+/// The job that counts the shortcuts of nodes with the remaining legs. The keys of rounds are made of these
+/// counts.
 #[derive(Drop)]
 pub(crate) struct CountJob<'a> {
     pub(crate) remaining: &'a Remaining,
@@ -47,8 +48,8 @@ impl ListJob for CountJob<'_> {
     }
 }
 
-/// The shortcuts of the nodes of a round, each once all nodes of the round are taken out, so that its witnesses avoid
-/// them all.
+/// The job that finds the shortcuts of the nodes of a round. All nodes of the round were taken out before, so
+/// witnesses avoid them all.
 #[derive(Drop)]
 pub(crate) struct ShortcutJob<'a> {
     pub(crate) remaining: &'a Remaining,

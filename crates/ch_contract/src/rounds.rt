@@ -1,4 +1,4 @@
-//! The hierarchy of a graph by rounds: nodes that lie more than two legs apart are contracted together.
+//! Builds the hierarchy of a graph by rounds: nodes that are more than two legs apart are contracted together.
 ghost use Rattle.std.specs.Prelude.{◌≡◌, ℕ, ◌+◌, ◌*◌, ◌<◌, nat_lt, ◌≤◌, ◌^◌, ◌↔◌, All, AllPairs, Contains, IfOk, List, OnOk, length, slice_index, true};
 ghost use Rattle.std.specs.List.{list_any};
 ghost use Rattle.ch_graph.specs.Graph.{IsWithinLimits};
@@ -24,8 +24,8 @@ use ch_work::{Crew, Gate, Plan, Stage, run_list_in};
 use std::alloc::{AllocError, Global};
 use std::thread::Threads;
 
-/// The contraction hierarchy of a graph by rounds, where a witness has at most `hops` legs. Workers share each round.
-/// They change nothing of the hierarchy.
+/// Builds the contraction hierarchy of a graph by rounds, where a witness has at most `hops` legs. Workers
+/// share each round. The hierarchy does not depend on them.
 pub(crate) fn contract_by_rounds<R: Threads + Sync, G: Gate>(
     crew: &Crew<'_, R, G>,
     graph: &Graph,
@@ -45,23 +45,23 @@ pub(crate) fn contract_by_rounds<R: Threads + Sync, G: Gate>(
     construction.finish()
 }
 
-/// A hierarchy of which some rounds are contracted.
+/// A hierarchy that is being built: some rounds are contracted.
 #[derive(Drop)]
 struct ConstructionByRounds {
     remaining: Remaining,
-    /// Those of the workers.
+    /// The workers' rooms.
     rooms: Vec<Room>,
-    /// The nodes that are left, in order of number.
+    /// The remaining nodes, in order of number.
     left: Vec<u32>,
-    /// By node: how many shortcuts it had when these were counted last.
+    /// By node: the last count of its shortcuts.
     counts: Vec<u64>,
-    /// By node: how deep it lies.
+    /// By node: its depth.
     depths: Vec<u32>,
-    /// By node: the key that it had when it was left last.
+    /// By node: the last key that was computed for it, and 0 before the first round.
     keys: Vec<i64>,
-    /// The level of each contracted node.
+    /// The level of each contracted node, and 0 for each remaining node.
     levels: Vec<u32>,
-    /// How many nodes are contracted.
+    /// The number of contracted nodes.
     contracted: u32,
 }
 
@@ -70,7 +70,7 @@ impl ConstructionByRounds {
     ghost use Rattle.ch_contract.specs.RoundProgress.{IsRoundsOpen, IsRoundStep, IsRoundsEnd};
     ghost use Rattle.ch_contract.specs.RoundConstruction.{IsSizedByRounds, round_progress_of};
 
-    /// No node is contracted yet.
+    /// Starts the construction of the hierarchy of a graph. No node is contracted yet.
     fn open<R: Threads + Sync, G: Gate>(
         crew: &Crew<'_, R, G>,
         graph: &Graph,
@@ -166,7 +166,8 @@ impl ConstructionByRounds {
         Ok(self)
     }
 
-    /// The hierarchy, once every node is contracted. What it doesn't need is freed first.
+    /// Returns the hierarchy when every node is contracted. It first frees the memory that the hierarchy does
+    /// not need.
     fn finish(self) -> Result<Hierarchy, AllocError>
         requires sizes { IsSizedByRounds self }
         requires none { length self.left.items ≡ 0 }
@@ -193,7 +194,8 @@ impl ConstructionByRounds {
     }
 }
 
-/// The crew for a job over so many nodes: the caller alone where these are few, and else all workers.
+/// Returns the crew for a job over `nodes` nodes: the caller alone if these are fewer than `crew.plan.wide()`,
+/// and otherwise all workers.
 fn crew_for<'a, R, G>(crew: &Crew<'a, R, G>, nodes: usize) -> Crew<'a, R, G> {
     let plan = if nodes < crew.plan.wide() as usize {
         Plan::new(1, crew.plan.piece(), crew.plan.wide())
@@ -208,7 +210,8 @@ fn crew_for<'a, R, G>(crew: &Crew<'a, R, G>, nodes: usize) -> Crew<'a, R, G> {
     }
 }
 
-/// Lays the neighbours of the nodes of a round at least one deeper than these. The answer is these neighbours.
+/// Raises the depth of each neighbour of a node of the round to at least one more than the node's depth.
+/// Returns these neighbours.
 fn deepen_around(
     alloc: Global,
     remaining: &Remaining,
@@ -224,7 +227,7 @@ fn deepen_around(
     ensures near { IfOk result (λ near. (x : ℕ) → Contains near.items x ↔ (list_any (λ v. are_neighbours (legs_of remaining.now) v x) nodes.now ≡ true)) }
     ensures few { IfOk result (λ near. length near.items ≤ remaining.now.nodes) }
 {
-    // The proof learns from this call that the legs keep the limits.
+    // This call tells the proof that the legs keep the limits.
     let _ = remaining.nodes();
     let mut near = Vec::new(alloc);
     for node in nodes {
@@ -235,7 +238,8 @@ fn deepen_around(
     Ok(near)
 }
 
-/// Contracts the nodes of a round: all are taken out, workers look for their shortcuts, and these are put in.
+/// Contracts the nodes of a round. All are taken out, workers look for their shortcuts, and then the shortcuts
+/// are put in.
 fn contract_round<R: Threads + Sync, G: Gate>(
     crew: &Crew<'_, R, G>,
     remaining: Remaining,
@@ -264,8 +268,9 @@ fn contract_round<R: Threads + Sync, G: Gate>(
     away.put_all(nodes, lists.as_slice())
 }
 
-/// The nodes whose shortcuts are counted after a round, of those near it and those that are left: none while fewer than
-/// seven tenths of the nodes are contracted, then once all that are left, and from then on those near it.
+/// Returns the nodes whose shortcuts are counted after a round. While fewer than seven tenths of the nodes are
+/// contracted, these are none. Then they are once all remaining nodes, `rest`, and after that the neighbours of
+/// the round, `near`.
 fn due<'a>(nodes: u32, before: u32, after: u32, near: &'a [u32], rest: &'a [u32]) -> &'a [u32]
     ensures { result.now ≡ due_of nodes before after near.now rest.now }
 {
@@ -285,7 +290,8 @@ fn is_early(contracted: u32, nodes: u32) -> bool
     10 * u64::from(contracted) < 7 * u64::from(nodes)
 }
 
-/// Counts the shortcuts of these nodes with the legs that are left.
+/// Counts the shortcuts of these nodes with the remaining legs, and writes the counts at the places of the
+/// nodes.
 fn count<R: Threads + Sync, G: Gate>(
     crew: &Crew<'_, R, G>,
     remaining: &Remaining,

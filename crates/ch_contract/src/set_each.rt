@@ -1,4 +1,4 @@
-//! Values written at the places of nodes.
+//! Writes values at the places of nodes.
 ghost use Rattle.std.specs.Prelude.{◌≡◌, ◌+◌, ◌<◌, ◌^◌, All, AllPairs, length};
 ghost use Rattle.ch_contract.specs.SetEach.{AreGiven, AreRanked};
 
@@ -13,7 +13,7 @@ pub(crate) fn set_each<T: Copy>(list: &mut [T], nodes: &[u32], values: &[T])
     }
 }
 
-/// Gives these nodes the levels that follow the first `contracted`, in their order.
+/// Gives these nodes the levels from `contracted` + 1 on, in their order.
 pub(crate) fn rank(levels: &mut [u32], nodes: &[u32], contracted: u32)
     requires nodes { All (λ v. v < length levels.old) nodes.now }
     requires ordered { AllPairs ◌<◌ nodes.now }

@@ -1,9 +1,9 @@
-//! The search for witnesses that have one end in common: rounds back from it, and then one or two legs
-//! from each start.
+//! The search for witnesses that have one end in common. It goes back from this end in rounds, and then adds
+//! one or two legs from each start.
 //!
-//! It is written for chains that lead to the end, and the lists that it is given decide which chains those
-//! are. Where each list has the legs to its node, they are chains of the graph. Where each has the legs from
-//! its node, every leg is seen turned round, and they are the chains of the graph that begin at the end.
+//! It is written for chains that lead to the end. The lists that it is lent decide which chains these are. If
+//! each list has the legs to its node, they are chains of the graph. If each list has the legs from its node,
+//! each leg is seen in the other direction, and the chains of the graph begin at the end.
 ghost use Rattle.std.specs.Prelude.{◌≡◌, ◌≢◌, ◌<◌, ◌≤◌, ◌↔◌, length, IfOk, OnOk, IsTrue, All};
 ghost use Rattle.ch_graph.specs.declared.limits.TheConstants.{MOST_NODES, MOST_HOPS};
 ghost use Rattle.ch_contract.specs.Legs.{AreLegsWithin};
@@ -16,7 +16,7 @@ use ch_hierarchy::Leg;
 use std::alloc::{AllocError, Global};
 use std::mem;
 
-/// What a search looks for: chains that lead to `end`, never touch `avoided`, and cost at most `most`.
+/// The chains that a search looks for: they lead to `end`, never touch `avoided`, and cost at most `most`.
 #[derive(Clone, Copy, Debug)]
 pub(crate) struct Wanted {
     pub(crate) end: u32,
@@ -24,11 +24,11 @@ pub(crate) struct Wanted {
     pub(crate) most: Cost,
 }
 
-/// The search for the chains to one end, and the room for it.
+/// The search for the chains to one end, with its memory.
 #[derive(Drop)]
 pub(crate) struct WitnessSearch<K> {
     pub(crate) known: KnownCosts<K>,
-    /// The nodes whose cost was lowered in the last round, with that cost.
+    /// The nodes whose costs were lowered in the last round, with these costs.
     pub(crate) front: Vec<Step<K>>,
 }
 
@@ -38,7 +38,7 @@ impl<K: HeldCost> WitnessSearch<K> {
     ghost use Rattle.ch_contract.specs.KnownCosts.{known_of, AreTouched, IsClean, IsIdle, AreLeastCosts, AreLegsUpTo, IsLegLight};
     ghost use Rattle.ch_contract.specs.Meeting.{AreListsWithin, AreSmall, IsMet, IsMetAt, IsMetBeyond};
 
-    /// Room for searches among so many nodes.
+    /// Makes a search with room for `nodes` nodes.
     pub(crate) fn new(alloc: Global, nodes: u32) -> Result<WitnessSearch<K>, AllocError>
         ensures { IfOk result (λ s. IsClean nodes (known_of K.cost s.known)) }
     {
@@ -48,7 +48,7 @@ impl<K: HeldCost> WitnessSearch<K> {
         })
     }
 
-    /// A search without room. It takes no memory.
+    /// Makes a search without room. It takes no memory.
     pub(crate) fn idle(alloc: Global) -> WitnessSearch<K>
         ensures { IsIdle (known_of K.cost result.known) }
     {
@@ -62,7 +62,7 @@ impl<K: HeldCost> WitnessSearch<K> {
         }
     }
 
-    /// Gives an idle search room for so many nodes, where it has not.
+    /// Gives an idle search room for `nodes` nodes, if it has none.
     pub(crate) fn fit(&mut self, alloc: Global, nodes: u32) -> Result<(), AllocError>
         requires { IsIdle (known_of K.cost self.old.known) }
         ensures { OnOk result (IsClean nodes (known_of K.cost self.new.known)) }
@@ -73,8 +73,8 @@ impl<K: HeldCost> WitnessSearch<K> {
         Ok(())
     }
 
-    /// Learns the least costs of chains of at most `rounds` legs to the wanted end, where each list has
-    /// the legs to its node.
+    /// Learns the least costs of chains of at most `rounds` legs to the wanted end. Each list has the legs to
+    /// its node.
     pub(crate) fn reach(
         &mut self,
         lists: &LegLists,
@@ -106,8 +106,8 @@ impl<K: HeldCost> WitnessSearch<K> {
     }
 
     /// Whether a chain of at most `hops` legs leads from `start` to the wanted end, never touches the avoided
-    /// node and costs at most `most`. The lists are the other ones: where those of `reach` have the legs to
-    /// their nodes, these have the legs from them.
+    /// node, and costs at most `most`. The lists are the other ones: if those of `reach` have the legs to their
+    /// nodes, these have the legs from them.
     pub(crate) fn meets(
         &self,
         lists: &LegLists,
@@ -132,7 +132,7 @@ impl<K: HeldCost> WitnessSearch<K> {
         false
     }
 
-    /// Whether a known chain after this leg, or after this leg and one more, costs at most `most`.
+    /// Whether this leg and a known chain cost at most `most`, or this leg, one more leg and a known chain do.
     #[inline]
     fn meets_at(&self, lists: &LegLists, leg: Leg, most: K, hops: u32) -> bool
         requires leg { IsLegLight K.limit (length lists.now.rows) leg }
@@ -150,7 +150,7 @@ impl<K: HeldCost> WitnessSearch<K> {
                 || (hops > 1 && self.meets_beyond(lists.at(leg.node), first, most)))
     }
 
-    /// Whether a known chain after a leg of these, after a leg of this cost, costs at most `most`.
+    /// Whether a leg of the cost `first`, one of these legs and a known chain together cost at most `most`.
     #[inline]
     fn meets_beyond(&self, legs: &[Leg], first: K, most: K) -> bool
         requires legs { All (IsLegLight K.limit (length self.now.known.costs.items)) legs.now }
@@ -171,7 +171,7 @@ impl<K: HeldCost> WitnessSearch<K> {
         false
     }
 
-    /// Forgets what is known.
+    /// Forgets all known costs.
     pub(crate) fn clear(&mut self)
         requires { AreTouched (known_of K.cost self.old.known) }
         ensures { IsClean (length (known_of K.cost self.old.known).costs) (known_of K.cost self.new.known) }

@@ -17,19 +17,19 @@ use crate::witness_search::WitnessSearch;
 use ch_graph::Cost;
 use std::alloc::{AllocError, Global};
 
-/// The searches of one worker. Each has no room before it is used.
+/// The searches of one worker. Each gets its room when it is first used.
 #[derive(Drop)]
 pub(crate) struct WitnessSearches {
-    /// For legs that are light enough for words.
+    /// The search over words, for legs that are light enough.
     pub(crate) words: WitnessSearch<Word>,
-    /// For any others.
+    /// The search over pairs of weight and arcs, for all other legs.
     pub(crate) pairs: WitnessSearch<Cost>,
 }
 
 impl WitnessSearches {
     ghost use Rattle.ch_contract.specs.Rooms.{AreIdle};
 
-    /// Searches without room.
+    /// Makes searches without room. It takes no memory.
     pub(crate) fn new(alloc: Global) -> WitnessSearches
         ensures { AreIdle result }
     {
@@ -39,7 +39,8 @@ impl WitnessSearches {
         }
     }
 
-    /// How many shortcuts `v` has and how many legs touch it. The list becomes that of its shortcuts.
+    /// Returns the number of shortcuts of `v` and the number of legs that touch it. `list` becomes the list of
+    /// its shortcuts.
     pub(crate) fn measure(
         &mut self,
         alloc: Global,
@@ -63,8 +64,8 @@ impl WitnessSearches {
         remaining.measure_in(&mut self.pairs, list, v, hops)
     }
 
-    /// The list becomes that of the shortcuts of a node that was taken out, of which a round consists. Witnesses are
-    /// looked for among the legs that are left.
+    /// Fills `list` with the shortcuts of a node of a round. The node was taken out before, and witnesses are
+    /// made of the remaining legs.
     pub(crate) fn shortcuts(
         &mut self,
         alloc: Global,

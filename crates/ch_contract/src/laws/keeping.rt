@@ -1,8 +1,8 @@
-//! What contraction keeps, each the contract of a function that does nothing.
+//! Laws on what contraction keeps. Each is the contract of a function that does nothing.
 ghost use Rattle.ch_contract.specs.Keeping.{ContractionKeepsLeastCosts, EnoughKeepsLeastCosts, HierarchiesAreKept, HierarchiesWithEnoughAreKept};
 
-/// Contraction keeps the costs between the nodes that are left: after any number of steps, the least cost
-/// of a walk between two of them is the least cost of a chain of legs.
+/// Contraction keeps the least costs between the remaining nodes. After any number of steps, the least cost of
+/// a walk between two of them is the least cost of a chain of legs.
 pub fn contraction_keeps_least_costs()
     ensures { ContractionKeepsLeastCosts }
 {}
@@ -13,8 +13,9 @@ pub fn hierarchies_are_kept()
     ensures { HierarchiesAreKept }
 {}
 
-/// Contraction with enough shortcuts keeps the costs between the nodes that are left. Enough shortcuts are all that
-/// are needed, and possibly more pairs of legs, none dearer than a leg between the same two nodes.
+/// Contraction with enough shortcuts keeps the least costs between the remaining nodes. Enough shortcuts are
+/// all that are needed, and possibly more sums of two legs. None of them costs more than a leg between the same
+/// two nodes.
 pub fn enough_keeps_least_costs()
     ensures { EnoughKeepsLeastCosts }
 {}

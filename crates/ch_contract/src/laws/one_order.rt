@@ -1,7 +1,7 @@
 //! The law that the rules of contraction name one order, and so one hierarchy.
 ghost use Rattle.ch_contract.specs.OneOrder.{RulesNameOneHierarchy, RoundsNameOneHierarchy};
 
-/// Two hierarchies that meet the rules for a graph and a bound on the legs of a witness are equal.
+/// Two hierarchies in the same order for a graph and a bound on the legs of a witness are equal.
 pub fn one_hierarchy()
     ensures { RulesNameOneHierarchy }
 {}

@@ -1,8 +1,8 @@
-//! Laws of contraction by rounds, each the contract of a function that does nothing.
+//! Laws on contraction by rounds. Each is the contract of a function that does nothing.
 ghost use Rattle.ch_contract.specs.RoundLaws.{RoundsAreContractions, HierarchiesByRoundsAreKept, GraphsHaveHierarchiesByRounds};
 
-/// A round equals the contractions of its nodes one after the other, with enough shortcuts, if no two of them lie
-/// within two legs.
+/// A round equals the contractions of its nodes one after the other, with enough shortcuts, if no two of them
+/// are within two legs.
 pub fn rounds_are_contractions()
     ensures { RoundsAreContractions }
 {}

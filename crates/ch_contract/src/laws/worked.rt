@@ -22,7 +22,7 @@ pub fn openings()
     ensures detour_priority_of_three { priority_of 5 3 (opening examples.detour) 1 ≡ negsuc 1 }
 {}
 
-/// Orders, each node after the priority at which it is taken.
+/// Orders by the difference, where each node follows its priority when it is contracted.
 pub fn orders()
     ensures line { order_of examples.line 5 ≡ (negsuc 0, 0) ∷ (negsuc 0, 1) ∷ (pos 0, 2) ∷ [] }
     ensures star { order_of examples.star 5 ≡ (negsuc 1, 1) ∷ (negsuc 1, 0) ∷ (negsuc 1, 2) ∷ (pos 0, 3) ∷ [] }
@@ -35,7 +35,7 @@ pub fn orders()
     ensures fewer_arcs { map (λ e. e.1) (order_of examples.fewer_arcs 5) ≡ 0 ∷ 2 ∷ 1 ∷ 3 ∷ 4 ∷ [] }
 {}
 
-/// Orders by depth, each node after the priority at which it is taken.
+/// Orders by depth, where each node follows its priority when it is contracted.
 pub fn orders_by_depth()
     ensures line { order_by Depth examples.line 5 ≡ (negsuc 0, 0) ∷ (negsuc 0, 2) ∷ (pos 1, 1) ∷ [] }
     ensures star { order_by Depth examples.star 5 ≡ (negsuc 1, 1) ∷ (negsuc 1, 2) ∷ (negsuc 1, 3) ∷ (pos 1, 0) ∷ [] }
@@ -47,7 +47,7 @@ pub fn orders_by_depth()
     ensures fewer_arcs { order_by Depth examples.fewer_arcs 5 ≡ (negsuc 1, 0) ∷ (negsuc 1, 2) ∷ (pos 0, 1) ∷ (pos 1, 4) ∷ (pos 2, 3) ∷ [] }
 {}
 
-/// Orders by rounds, each node after the key at which it is taken.
+/// Rounds, where each node follows its key when it is contracted.
 pub fn orders_by_rounds()
     ensures line { rounds_of examples.line 5 ≡ ((negsuc 0, 0) ∷ []) ∷ ((negsuc 0, 2) ∷ []) ∷ ((pos 3, 1) ∷ []) ∷ [] }
     ensures star { rounds_of examples.star 5 ≡ ((negsuc 1, 2) ∷ []) ∷ ((negsuc 1, 1) ∷ []) ∷ ((negsuc 1, 3) ∷ []) ∷ ((pos 1, 0) ∷ []) ∷ [] }
@@ -79,7 +79,7 @@ pub fn hierarchies_by_rounds()
     } }
 {}
 
-/// Hierarchies in the order of depth.
+/// Hierarchies by depth.
 pub fn hierarchies_by_depth()
     ensures line { hierarchy_by Depth examples.line 5 ≡ record {
       level = 1 ∷ 3 ∷ 2 ∷ [];
@@ -113,7 +113,7 @@ pub fn hierarchies_by_depth()
     } }
 {}
 
-/// Hierarchies.
+/// Hierarchies by the difference.
 pub fn hierarchies()
     ensures line { hierarchy_of examples.line 5 ≡ record {
       level = 1 ∷ 2 ∷ 3 ∷ [];
@@ -147,7 +147,7 @@ pub fn hierarchies()
     } }
 {}
 
-/// The hierarchy of the detour, the same at two hops and at three, and in both orders.
+/// The hierarchy of the detour. It is the same with two hops and with three, by the difference and by depth.
 pub fn detours()
     ensures of_two { hierarchy_of examples.detour 2 ≡ record {
       level = 1 ∷ 4 ∷ 2 ∷ 3 ∷ 5 ∷ [];
@@ -159,7 +159,7 @@ pub fn detours()
     ensures by_depth_of_three { hierarchy_by Depth examples.detour 3 ≡ hierarchy_of examples.detour 2 }
 {}
 
-/// Where the paths of both ends meet, and what they cost together.
+/// The node at which the paths from both ends meet, and their cost together.
 pub fn meets()
     ensures line_forward { meet_of (hierarchy_of examples.line 5) 0 2 ≡ Some (2, cost 9 2) }
     ensures line_back { meet_of (hierarchy_of examples.line 5) 2 0 ≡ None }

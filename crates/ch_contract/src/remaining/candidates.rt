@@ -1,4 +1,4 @@
-//! What two legs cost together, one to a node and one from it.
+//! The cost of two legs together, one to a node and one from it.
 ghost use Rattle.std.specs.Prelude.{◌≡◌, ◌+◌, ◌^◌, ◌<◌, ◌≤◌, ◌⊎◌, All, MatchOption};
 ghost use Rattle.ch_graph.specs.declared.limits.TheConstants.{MOST_NODES, MOST_WEIGHT, MOST_SUM};
 ghost use Rattle.ch_graph.specs.Cost.{IsAtMost, cost_sum};
@@ -9,8 +9,8 @@ use ch_graph::Cost;
 use ch_graph::limits::MOST_WEIGHT;
 use ch_hierarchy::Leg;
 
-/// The greatest cost that this leg to a node makes together with one from it, of those that lead on to
-/// another node and keep the limits. `None` where there is none.
+/// Returns the greatest cost of a leg to a node and a leg from it together. It counts only pairs of legs with
+/// different other ends whose sum keeps the limits. Returns `None` if there is no such pair.
 pub(super) fn most_cost(nodes: u32, first: Leg, up: &[Leg]) -> Option<Cost>
     requires first { (first.cost.weight ≤ MOST_WEIGHT) × (first.cost.arcs ≤ MOST_NODES) }
     requires up { All (λ l. (l.cost.weight ≤ MOST_WEIGHT) × (l.cost.arcs ≤ MOST_NODES)) up.now }
@@ -25,7 +25,7 @@ pub(super) fn most_cost(nodes: u32, first: Leg, up: &[Leg]) -> Option<Cost>
     most
 }
 
-/// The greater of a cost and the one so far.
+/// Returns the greater of a cost and the greatest one so far.
 fn greatest(so_far: Option<Cost>, cost: Cost) -> Cost
     ensures cost { IsAtMost cost result }
     ensures so_far { MatchOption so_far (result ≡ cost) (λ c. IsAtMost c result × ((result ≡ cost) ⊎ (result ≡ c))) }
@@ -36,8 +36,8 @@ fn greatest(so_far: Option<Cost>, cost: Cost) -> Cost
     }
 }
 
-/// What a leg to a node and one from it cost together, where they lead on to another node and keep the
-/// limits.
+/// Returns the cost of a leg to a node and a leg from it together. Returns `None` if they have the same other
+/// end, or if the sum does not keep the limits.
 #[inline]
 pub(super) fn candidate_cost(nodes: u32, first: Leg, second: Leg) -> Option<Cost>
     requires weight { first.cost.weight + second.cost.weight ≤ MOST_SUM }

@@ -22,12 +22,12 @@ pub struct Removed {
 }
 
 impl Remaining {
-    /// Takes `v` out with all legs that touch it, and puts its shortcuts in. A shortcut takes the place of
-    /// an older leg between its ends, which was dearer.
+    /// Takes `v` out with all legs that touch it, and puts its shortcuts in. A shortcut takes the place of an
+    /// older leg between its ends, which cost more.
     ///
     /// # Errors
-    /// `AllocError` where there is no memory for the shortcuts or for what they leave. The legs are dropped, so that
-    /// none are left of which half are contracted; the graph can be opened again.
+    /// `AllocError` if there is no memory for the search, for the shortcuts, or for the legs that the call
+    /// returns. All legs are dropped, because they may be half contracted. The graph can be opened again.
     pub fn contract(self, v: u32, hops: u32) -> Result<(Remaining, Removed), AllocError>
         requires node { v < self.nodes }
         requires hops { IsHopBound hops }
@@ -43,7 +43,7 @@ impl Remaining {
         Ok((remaining, Removed { up, down }))
     }
 
-    /// Takes `v` out with all legs that touch it, and sets its own aside.
+    /// Takes `v` out with all legs that touch it, and sets its own lists aside.
     pub(crate) fn take_out(self, v: u32) -> Remaining
         requires node { v < self.nodes }
         ensures nodes { result.nodes ≡ self.nodes }
@@ -96,7 +96,7 @@ impl Remaining {
         })
     }
 
-    /// Takes `v` out with all legs that touch it, sets its own aside, and puts these shortcuts in, which are those of `v`.
+    /// Takes `v` out with all legs that touch it, sets its own lists aside, and puts the shortcuts of `v` in.
     pub(crate) fn contract_with(
         self,
         v: u32,
@@ -109,7 +109,7 @@ impl Remaining {
         ensures up { IfOk result (λ r. IsSetAside (legs_of self) v self.ups r.ups) }
         ensures down { IfOk result (λ r. IsSetAside (turned_legs (legs_of self)) v self.downs r.downs) }
     {
-        // The proof learns from this call that the legs keep the limits.
+        // This call tells the proof that the legs keep the limits.
         let _ = self.nodes();
         self.take_out(v).put(v, shortcuts)
     }

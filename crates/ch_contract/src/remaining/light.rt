@@ -1,4 +1,4 @@
-//! Legs that are light enough for searches over words.
+//! Tests whether legs are light enough for searches over words.
 ghost use Rattle.std.specs.Prelude.{◌≤◌, All, IsTrue};
 ghost use Rattle.ch_contract.specs.declared.held_cost.TheConstants.{MOST_LIGHT};
 
@@ -7,7 +7,7 @@ use crate::shortcut::Shortcut;
 use ch_graph::InArc;
 use ch_hierarchy::Leg;
 
-/// Whether no arc of these is too heavy for searches over words.
+/// Whether all these arcs are light enough for searches over words.
 pub(super) fn are_light_arcs(arcs: &[InArc]) -> bool
     ensures { IsTrue result → All (λ a. a.weight ≤ MOST_LIGHT) arcs.now }
 {
@@ -19,7 +19,7 @@ pub(super) fn are_light_arcs(arcs: &[InArc]) -> bool
     true
 }
 
-/// Whether no shortcut of these is too heavy for searches over words.
+/// Whether all these shortcuts are light enough for searches over words.
 pub(super) fn are_light(shortcuts: &[Shortcut]) -> bool
     ensures { IsTrue result → All (λ s. s.cost.weight ≤ MOST_LIGHT) shortcuts.now }
 {
@@ -31,7 +31,7 @@ pub(super) fn are_light(shortcuts: &[Shortcut]) -> bool
     true
 }
 
-/// Whether no leg of these is too heavy for searches over words.
+/// Whether all these legs are light enough for searches over words.
 pub(super) fn are_light_legs(legs: &[Leg]) -> bool
     ensures { IsTrue result → All (λ l. l.cost.weight ≤ MOST_LIGHT) legs.now }
 {

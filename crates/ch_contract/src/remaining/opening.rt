@@ -11,11 +11,11 @@ use ch_graph::{Graph, InArc};
 use std::alloc::{AllocError, Global};
 
 impl Remaining {
-    /// The legs of a graph before any contraction: for each two different nodes the lightest of the arcs
-    /// from one to the other. Loops give no leg.
+    /// Returns the legs of a graph before any contraction: the lightest arc from each node to each other node.
+    /// Loops give no leg.
     ///
     /// # Errors
-    /// `AllocError` where there is no memory for the legs. The graph is as it was.
+    /// `AllocError` if there is no memory for the legs. The graph is as before.
     pub fn open(alloc: Global, graph: &Graph) -> Result<Remaining, AllocError>
         ensures nodes { IfOk result (λ r. r.nodes ≡ graph.now.nodes) }
         ensures legs { IfOk result (λ r. SameLegs (legs_of r) (opening graph.now)) }
@@ -42,13 +42,13 @@ impl Remaining {
     }
 }
 
-/// How many legs a node's list may come to by the arcs, and behind the numbers of all nodes as many zeros, since nothing is
-/// set aside yet.
+/// The capacities of the lists of legs: first one for each node, from its number of arcs, and then one zero for
+/// each node. The zeros are for the lists that are set aside, which take no room at first.
 #[derive(Drop)]
 struct Rooms {
-    /// By node: how many arcs lead from it.
+    /// By node: the number of arcs from it. Then the zeros.
     from: Vec<u32>,
-    /// By node: how many arcs lead to it.
+    /// By node: the number of arcs to it. Then the zeros.
     to: Vec<u32>,
 }
 
@@ -68,7 +68,7 @@ impl Rooms {
     }
 }
 
-/// Counts one more at a node.
+/// Adds one to the count of a node.
 fn count_one(counts: &mut [u32], node: u32)
     requires { node < length counts.old }
     ensures { length counts.new ≡ length counts.old }

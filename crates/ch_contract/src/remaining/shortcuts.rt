@@ -1,4 +1,4 @@
-//! The shortcuts that the contraction of a node would leave, and its priority.
+//! The shortcuts that the contraction of a node would put in, and its priority.
 ghost use Rattle.std.specs.Prelude.{◌≡◌, ◌+◌, ◌<◌, ◌≤◌, ◌^◌, All, IfOk, IsTrue, OnOk, Some};
 ghost use Rattle.ch_contract.specs.declared.held_cost.TheConstants.{MOST_LIGHT};
 ghost use Rattle.ch_hierarchy.specs.Rows.{row};
@@ -25,11 +25,12 @@ use ch_hierarchy::Leg;
 use std::alloc::AllocError;
 
 impl Remaining {
-    /// The shortcuts that the contraction of `v` would leave, ordered by their ends: for two legs to `v`
-    /// and from it their sum, where it keeps the limits and has no witness of at most `hops` legs.
+    /// Returns the shortcuts that the contraction of `v` would put in, ordered by their ends. A shortcut is the
+    /// sum of a leg to `v` and a leg from it, if the sum keeps the limits and has no witness of at most `hops`
+    /// legs.
     ///
     /// # Errors
-    /// `AllocError` where there is no memory for searches or for the list. The legs are as they were.
+    /// `AllocError` if there is no memory for the search or for the list. The legs are as before.
     pub fn shortcuts(&self, v: u32, hops: u32) -> Result<Vec<Shortcut>, AllocError>
         requires node { v < self.now.nodes }
         requires hops { IsHopBound hops }
@@ -42,10 +43,10 @@ impl Remaining {
         Ok(list)
     }
 
-    /// The priority of `v`: the number of its shortcuts less the number of legs that touch it.
+    /// Returns the priority of `v`: the number of its shortcuts less the number of legs that touch it.
     ///
     /// # Errors
-    /// `AllocError` where there is no memory for searches. The legs are as they were.
+    /// `AllocError` if there is no memory for the search or for the list of shortcuts. The legs are as before.
     pub fn priority(&self, v: u32, hops: u32) -> Result<i64, AllocError>
         requires node { v < self.now.nodes }
         requires hops { IsHopBound hops }
@@ -57,8 +58,8 @@ impl Remaining {
         Ok(OrderBy::Difference.key(measure, 0))
     }
 
-    /// How many shortcuts `v` has and how many legs touch it, judged in this room for searches. The list
-    /// becomes that of its shortcuts.
+    /// Returns the number of shortcuts of `v` and the number of legs that touch it. The search is made in
+    /// `search`, and `list` becomes the list of the shortcuts.
     pub(crate) fn measure_in<K: HeldCost>(
         &self,
         search: &mut WitnessSearch<K>,
@@ -74,7 +75,7 @@ impl Remaining {
         ensures list { OnOk result (AreShortcuts self.now.nodes hops (legs_of self.now) v list.new.items) }
         ensures clean { OnOk result (IsClean self.now.nodes (known_of K.cost search.new.known)) }
     {
-        // The proof learns from this call that the legs keep the limits.
+        // This call tells the proof that the legs keep the limits.
         let _ = self.nodes();
         let touching = self.touching(v);
         self.fill_shortcuts(search, list, &touching, hops)?;
@@ -85,19 +86,19 @@ impl Remaining {
         })
     }
 
-    /// How many legs touch a node now.
+    /// Returns the number of legs that touch a node now.
     pub(crate) fn count_touching(&self, node: u32) -> u64
         requires { node < self.now.nodes }
         ensures count { result ≡ count_touching self.now.nodes (legs_of self.now) node }
         ensures small { result ≤ 2 ^ 26 }
     {
-        // The proof learns from this call that the legs keep the limits.
+        // This call tells the proof that the legs keep the limits.
         let _ = self.nodes();
         let legs = self.out_legs(node).len() + self.in_legs(node).len();
         legs as u64
     }
 
-    /// A node with the legs that touch it now.
+    /// Returns a node with the legs that touch it now.
     fn touching(&self, node: u32) -> Touching<'_>
         requires { node < self.now.nodes }
         ensures node { result.node ≡ node }
@@ -111,7 +112,7 @@ impl Remaining {
         }
     }
 
-    /// A node with the legs that touched it when it was taken out.
+    /// Returns a node with the legs that touched it when it was taken out.
     pub(crate) fn touched(&self, node: u32) -> Touching<'_>
         requires { node < self.now.nodes }
         ensures node { result.node ≡ node }
@@ -125,8 +126,8 @@ impl Remaining {
         }
     }
 
-    /// Makes the list that of the shortcuts of a node with these legs, which may have been set aside, judged in this
-    /// room for searches. It takes memory only where the room or the list has to grow.
+    /// Fills `list` with the shortcuts of a node with these legs, which may have been set aside. The search is
+    /// made in `search`. It takes memory only if `search` or `list` has to grow.
     pub(crate) fn fill_shortcuts<K: HeldCost>(
         &self,
         search: &mut WitnessSearch<K>,
@@ -149,8 +150,7 @@ impl Remaining {
         Ok(())
     }
 
-    /// Puts the shortcuts of a node at the end of the list that begin with this leg to it: one search for all
-    /// of them.
+    /// Appends the shortcuts of a node that begin with this leg to it. One search finds all of them.
     fn push_shortcuts<K: HeldCost>(
         &self,
         search: &mut WitnessSearch<K>,
@@ -190,8 +190,8 @@ impl Remaining {
         Ok(())
     }
 
-    /// The shortcut of the avoided node for two legs, the first to it and the second from it, where the
-    /// chains from the first node are known.
+    /// Returns the shortcut for a leg to the avoided node and a leg from it, or `None` if there is none.
+    /// `search` knows the chains from the first node.
     fn shortcut<K: HeldCost>(
         &self,
         search: &WitnessSearch<K>,
@@ -224,7 +224,7 @@ impl Remaining {
     }
 }
 
-/// A node, with the legs from it and those to it.
+/// A node, with the legs from it and the legs to it.
 #[derive(Clone, Copy)]
 pub(crate) struct Touching<'a> {
     pub(crate) node: u32,
@@ -233,7 +233,7 @@ pub(crate) struct Touching<'a> {
 }
 
 impl Touching<'_> {
-    /// Whether no leg of these is too heavy for searches over words.
+    /// Whether all these legs are light enough for searches over words.
     pub(crate) fn are_light(&self) -> bool
         ensures up { IsTrue result → All (λ l. l.cost.weight ≤ MOST_LIGHT) self.now.up.now }
         ensures down { IsTrue result → All (λ l. l.cost.weight ≤ MOST_LIGHT) self.now.down.now }

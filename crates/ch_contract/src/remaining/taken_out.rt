@@ -1,4 +1,4 @@
-//! The nodes of a round, taken out together.
+//! The nodes of a round are taken out together, and then their shortcuts are put in.
 ghost use Rattle.std.specs.Prelude.{◌≡◌, ℕ, ◌<◌, All, IfOk, List};
 ghost use Rattle.std.specs.List.{AllZip};
 ghost use Rattle.ch_contract.specs.declared.shortcut.Shortcut.{Shortcut};
@@ -12,8 +12,8 @@ use crate::shortcut::Shortcut;
 use std::alloc::AllocError;
 
 impl Remaining {
-    /// Takes the nodes of a round out with all legs that touch them, and sets theirs aside. What is left is what witnesses
-    /// of the round consist of.
+    /// Takes the nodes of a round out with all legs that touch them, and sets the lists of these nodes aside.
+    /// The witnesses of the round are made of the legs that remain.
     pub(crate) fn take_all_out(self, nodes: &[u32]) -> Remaining
         requires nodes { All (λ v. v < self.nodes) nodes.now }
         requires limits { AreLegsWithin self.nodes (legs_of self) }
@@ -27,7 +27,8 @@ impl Remaining {
         left
     }
 
-    /// Puts the shortcuts of the nodes of a round in. Each list has those of the node at its place.
+    /// Puts the shortcuts of the nodes of a round in. Each list has the shortcuts of the node at the same
+    /// place.
     pub(crate) fn put_all(
         self,
         nodes: &[u32],

@@ -1,4 +1,4 @@
-//! Witnesses among the legs that are left.
+//! Witnesses among the remaining legs.
 ghost use Rattle.std.specs.Prelude.{◌≢◌, ◌<◌, ◌≤◌, ◌↔◌, IfOk, OnOk, IsTrue};
 ghost use Rattle.ch_graph.specs.declared.limits.TheConstants.{MOST_WEIGHT};
 ghost use Rattle.ch_graph.specs.Cost.{IsAtMost};
@@ -15,11 +15,11 @@ use ch_graph::Cost;
 use std::alloc::AllocError;
 
 impl Remaining {
-    /// Whether a chain of 1 to `hops` legs leads from `u` to `w`, never touches `v`, and costs at most
-    /// `cost`. The search goes forward from `u` until two legs are left, and these back from `w`.
+    /// Whether a chain of 1 to `hops` legs leads from `u` to `w`, avoids `v`, and costs at most `cost`.
+    /// The search goes forward from `u` until two legs are left, and then these two legs back from `w`.
     ///
     /// # Errors
-    /// `AllocError` where there is no memory for a search. The legs are as they were.
+    /// `AllocError` if there is no memory for the search. The legs are as before.
     pub fn has_witness(
         &self,
         v: u32,
@@ -49,11 +49,12 @@ impl Remaining {
         Ok(self.is_witnessed(&search, wanted, w, most, hops))
     }
 
-    /// Learns the costs of the chains from the wanted end that leave two legs to go of the `hops` that a
-    /// witness may have.
+    /// Learns the costs of the chains of at most `hops` - 2 legs from the wanted end. A witness may add two
+    /// legs to them.
     ///
-    /// The search speaks of chains to the end, over the legs to each node. It is given the legs from each node in
-    /// their place, so that it sees every leg turned round: what it takes for chains to the end begins there.
+    /// The search is written for chains to the end, over the legs to each node. This call lends it the legs
+    /// from each node instead, so it sees each leg in the other direction. The chains that it finds start at
+    /// the end.
     pub(super) fn reach<K: HeldCost>(
         &self,
         search: &mut WitnessSearch<K>,
@@ -71,8 +72,9 @@ impl Remaining {
         search.reach(&self.outs, wanted, hops.saturating_sub(2))
     }
 
-    /// Whether the chains that are known show a witness from the wanted end to `w`, of at most `hops` legs
-    /// and this cost. The search is given the legs to each node as those from it, turned round as in `reach`.
+    /// Whether there is a witness from the wanted end to `w`, of at most `hops` legs and at most this
+    /// cost. `search` knows the first legs, as `reach` learned them. This call lends it the legs to each node
+    /// as the legs from it, in the other direction as in `reach`.
     pub(super) fn is_witnessed<K: HeldCost>(
         &self,
         search: &WitnessSearch<K>,
