@@ -1,4 +1,4 @@
--- What the calls of the code do.
+-- The lemmas for the code.
 pub mod RowEdits
 pub mod ListEdits
 pub mod Puts

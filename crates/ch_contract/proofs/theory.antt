@@ -1,4 +1,4 @@
--- Legs as functions: what contraction keeps, and what kept hierarchies give, whatever lists hold the legs.
+-- The lemmas on legs as functions: what contraction keeps, for legs in lists of any form.
 pub mod RowLegs
 pub mod RowLemmas
 pub mod Counts

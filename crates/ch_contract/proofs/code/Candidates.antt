@@ -32,7 +32,7 @@ use Rattle.ch_contract.proofs.code.Meetings.{met_is_witness}
 use Rattle.ch_contract.proofs.code.Turning.{turned_witness}
 
 module _ (n : ℕ) (outs ins : List (List Leg)) (within : IsWithinLimits n outs ins) where
-  -- turned legs are legs within the limits
+  -- the legs in the other direction are within the limits
   pub into_within : AreLegsWithin n (legs_into outs)
   into_within u w l e =
       let is = within.legs w u l e in
@@ -44,11 +44,11 @@ module _ (n : ℕ) (outs ins : List (List Leg)) (within : IsWithinLimits n outs 
   pub to_rows : (v : ℕ) → AreLegsTo (legs_from outs) v (row ins v)
   to_rows v = (within.rows.1 v, λ x. sym (within.agree x v))
 
-  -- the legs to a node are the turned legs from it
+  -- the row of the legs to a node has the legs from it in the other direction
   pub turned_rows : (v : ℕ) → AreLegsFrom (legs_into outs) v (row ins v)
   turned_rows v = to_rows v
 
-  -- a leg may be added to a known chain
+  -- the cost of each leg may be added to a known cost
   pub ins_light : (limit : ℕ) → AreLegsUpTo limit (legs_from outs) → AreListsWithin limit n ins
   ins_light limit up_to x = All-from_get_or (IsLegLight limit n) (row ins x) no_leg (λ i lt. light _ (Contains-get_or (row ins x) i no_leg lt))
     where
@@ -59,14 +59,14 @@ module _ (n : ℕ) (outs ins : List (List Leg)) (within : IsWithinLimits n outs 
           let count = within.nodes in
           record { node = is.ends.0; cost = record { limited = up_to l.node x (label_of l) leg; weight = is.weight; arcs = omega (arith, is.arcs) } }
 
-  -- so are the known costs
+  -- the known costs are small enough for one more leg
   pub known_small : (limit : ℕ) (s : Wanted) (k : ℕ) (h : Known) → k ≤ MOST_HOPS → s.end < n → IsHeld limit s.most → AreLeastCosts (legs_into outs) s k h → AreSmall limit h
   known_small limit s k h few inside most least x = elim (least.sound x) [
     | inl none ↦ inl none
     | inr w ↦ inr (wanted_small limit n (legs_into outs) s k x (known_at h x) into_within within.nodes few inside most w).1
   ]
 
-  -- what the search meets is a witness
+  -- the search meets the last legs of a chain exactly if there is a witness
   pub met_witness : (s : Wanted) (hops : ℕ) (h : Known) (w : ℕ) (most : Cost) → AreLeastCosts (legs_into outs) s (hops - 2) h →
       (most.weight ≤ MOST_WEIGHT) × (most.arcs < NEVER_ARCS) → IsAtMost most s.most → 1 ≤ hops → w ≢ s.avoided → w ≢ s.end →
       IsMet h ins s.avoided w most hops ↔ HasWitness (legs_from outs) s.avoided s.end w most hops
@@ -75,7 +75,7 @@ module _ (n : ℕ) (outs ins : List (List Leg)) (within : IsWithinLimits n outs 
       let turned = turned_witness (legs_from outs) s.avoided s.end w most hops in
       ((λ m. turned.0 (met.0 m)), λ x. met.1 (turned.1 x))
 
-  -- two legs may be added
+  -- the sum of two legs may be added to a known cost
   pub legs_sum : (u v x w : ℕ) (a b : Leg) → legs_from outs u v ≡ Some (label_of a) → legs_from outs x w ≡ Some (label_of b) →
       (a.cost.weight + b.cost.weight ≤ MOST_SUM) × (a.cost.arcs + b.cost.arcs < 2 ^ 64)
   legs_sum u v x w a b e f =
@@ -84,26 +84,26 @@ module _ (n : ℕ) (outs ins : List (List Leg)) (within : IsWithinLimits n outs 
       let count = within.nodes in
       (omega (arith, p.weight, q.weight), omega (arith, p.arcs, q.arcs))
 
-  -- the leg at a place of a list
+  -- the leg at a place of a list is a leg from its node
   pub out_at : (v i : ℕ) (d : Leg) → i < length (row outs v) → legs_from outs v (get_or (row outs v) i d).node ≡ Some (label_of (get_or (row outs v) i d))
   out_at v i d lt = row_has (row outs v) (get_or (row outs v) i d) (within.rows.0 v) (Contains-get_or (row outs v) i d lt)
 
-  -- a leg leads from one of the nodes to another
+  -- a leg leads from one node to another node
   pub leg_ends : (u v : ℕ) (a : Leg) → legs_from outs u v ≡ Some (label_of a) → (u < n) × (v < n) × (u ≢ v)
   leg_ends u v a e = (within.legs u v (label_of a) e).ends
 
-  -- what a search has learned
+  -- after a search the costs of chains of at most `hops` - 2 legs are known
   pub known_after : (ups downs : List (List Leg)) (s : Wanted) (hops k : ℕ) (h : Known) (o : Result (Unit {0}) AllocError) → k ≡ hops - 2 →
       OnOk o (length h.costs ≡ length outs) → OnOk o (AreLeastCosts (legs_into outs) s k h) → OnOk o (IsKnown (record { nodes = n; rows = outs; ups = ups; downs = downs }) s hops h)
   known_after ups downs s hops k h (Ok x) e size least = record { size = size ∙ within.sizes.0; least = subst (λ j. AreLeastCosts (legs_into outs) s j h) e least }
   known_after ups downs s hops k h (Err x) e size least = least
 
--- a candidate of a list is one of a longer list
+-- a candidate of a list is also one of a longer list
 more_candidate : (n : ℕ) (first l : Leg) (up : List Leg) (most : Cost) → ((k : Leg) × Contains up k × IsCandidate n first k × (most ≡ cost_sum first.cost k.cost)) →
     (k : Leg) × Contains (up ++ l ∷ []) k × IsCandidate n first k × (most ≡ cost_sum first.cost k.cost)
 more_candidate n first l up most is = (is.0, Contains-append_left up _ _ is.1, is.2, is.3)
 
--- one leg more, which makes a candidate
+-- the greatest cost of the candidates after one more leg that makes a candidate
 pub bounded_more : (n : ℕ) (first l : Leg) (up : List Leg) (so_far : Option Cost) (cost most : Cost) → cost ≡ cost_sum first.cost l.cost → IsCandidate n first l →
     IsAtMost cost most → MatchOption so_far (most ≡ cost) (λ c. IsAtMost c most × ((most ≡ cost) ⊎ (most ≡ c))) → AreBounded n first up so_far → AreBounded n first (up ++ l ∷ []) (Some most)
 bounded_more n first l up None cost most is can le same none = (
@@ -118,16 +118,16 @@ bounded_more n first l up (Some c) cost most is can le more all = (
   All-push (IsMostFor n first most) up l (λ k d lt other. IsAtMost_trans _ c most (all.1 k d lt other) more.0) (λ it. subst (λ z. IsAtMost z most) is le),
 )
 
--- and one that makes none
+-- the greatest cost of the candidates after one more leg that makes none
 pub bounded_skip : (n : ℕ) (first l : Leg) (up : List Leg) (so_far : Option Cost) → (IsCandidate n first l → ⊥) → AreBounded n first up so_far → AreBounded n first (up ++ l ∷ []) so_far
 bounded_skip n first l up None never none = All-push (λ (k : Leg). IsCandidate n first k → ⊥) up l none never
 bounded_skip n first l up (Some c) never all = (more_candidate n first l up c all.0, All-push (IsMostFor n first c) up l all.1 (λ it. absurd (never it)))
 
--- what two legs cost together is a bound that a search holds
+-- the cost of two legs that are a candidate is a bound that a search can hold
 pub candidate_held : (limit n : ℕ) (first l : Leg) → n ≤ MOST_NODES → first.cost.weight ≤ limit → l.cost.weight ≤ limit → IsCandidate n first l → IsHeld limit (cost_sum first.cost l.cost)
 candidate_held limit n first l small a b is = record { limited = omega arith; weight = is.weight; arcs = omega (arith, is.arcs) }
 
--- the dearest candidate is a bound that a search holds
+-- the greatest cost of the candidates is a bound that a search can hold
 pub bound_held : (limit n v : ℕ) (L : Legs) (first : Leg) (up : List Leg) (most : Cost) → n ≤ MOST_NODES → AreLegsUpTo limit L → L first.node v ≡ Some (label_of first) → AreLegsFrom L v up →
     AreBounded n first up (Some most) → IsHeld limit most
 bound_held limit n v L first up most small light here row bounded =
@@ -136,7 +136,7 @@ bound_held limit n v L first up most small light here row bounded =
     let leg = sym (row.1 l.node) ∙ row_has up l row.0 is.1 in
     subst (IsHeld limit) (sym is.3) (candidate_held limit n first l small (light first.node v (label_of first) here) (light v l.node (label_of l) leg) is.2)
 
--- where no leg from a node makes a candidate with this leg to it, no shortcut begins with this leg
+-- if no leg from a node makes a candidate with this leg to it, no shortcut begins with this leg
 pub before_no_candidate : (n h : ℕ) (L W : Legs) (v : ℕ) (first : Leg) (up : List Leg) (list : List Shortcut) → L first.node v ≡ Some (label_of first) → AreLegsFrom L v up →
     All (λ l. IsCandidate n first l → ⊥) up → AreShortcutsBefore n h L W v first.node 0 list → AreShortcutsBefore n h L W v (first.node + 1) 0 list
 before_no_candidate n h L W v first up list here row none are =
@@ -160,13 +160,13 @@ before_no_candidate n h L W v first up list here row none are =
           arcs = subst (λ (z : Cost). z.arcs < n) sum is.pair.arcs;
         }))
 
--- the legs from a node may be added to a leg
+-- the costs of the legs from a node may be added to the cost of a leg
 pub up_light : (n : ℕ) (L : Legs) (v : ℕ) (up : List Leg) → AreLegsWithin n L → n ≤ MOST_NODES → AreLegsFrom L v up →
     All (λ l. (l.cost.weight ≤ MOST_WEIGHT) × (l.cost.arcs ≤ MOST_NODES)) up
 up_light n L v up limits small row = All-from_get_or (λ l. (l.cost.weight ≤ MOST_WEIGHT) × (l.cost.arcs ≤ MOST_NODES)) up no_leg
     (λ i lt. let is = limits v (get_or up i no_leg).node _ (leg_from_at L v up i no_leg row lt) in (is.weight, omega (arith, is.arcs)))
 
--- no witness stands for more arcs than MOST_CHAIN_ARCS, so the bound on its arcs may be capped
+-- a witness stands for at most MOST_CHAIN_ARCS arcs, so a greater bound on its arcs may be lowered to that
 pub capped_witness : (n : ℕ) (L : Legs) (v u w hops : ℕ) (cost : Cost) (arcs : ℕ) → AreLegsWithin n L → n ≤ MOST_NODES → hops ≤ MOST_HOPS → arcs ≡ min cost.arcs MOST_CHAIN_ARCS →
     HasWitness L v u w (record { weight = cost.weight; arcs = arcs }) hops ↔ HasWitness L v u w cost hops
 capped_witness n L v u w hops cost arcs limits small few is = (

@@ -1,4 +1,4 @@
--- The lists that taking a node out leaves, and those that putting shortcuts in leaves.
+-- The lists after a node is taken out, and the lists after shortcuts are put in.
 use Rattle.std.proofs.Common.{◌≡◌, ℕ, ◌<◌, Bool, true, false, List, [], length, set, Option, None, All, Contains, refl, sym, ◌∙◌, ap, subst, arith, inl, inr}
 use Rattle.std.specs.Prelude.{◌≢◌, ◌==◌, ◌||◌, if◌then◌else◌}
 use Rattle.std.proofs.lemmas.Bool.{cases_eq, eqb-true, eqb-false}
@@ -25,41 +25,41 @@ pub record AreWithout (v : ℕ) (old new : List (List Leg)) : Type 0 where
   pub rows : AreRows new
   pub legs : (x y : ℕ) → row_leg (row new x) y ≡ (if v == y then None else row_leg (row old x) y)
 
--- no leg touches v: those at v are taken out of all lists, and the list of v is cleared
+-- no leg touches v: the legs at v are taken out of all lists, and the list of v is empty
 pub record AreCleared (v : ℕ) (old new : List (List Leg)) : Type 0 where
   pub size : length new ≡ length old
   pub rows : AreRows new
   pub legs : (x y : ℕ) → row_leg (row new x) y ≡ (if x == v || y == v then None else row_leg (row old x) y)
 
--- the row of v is empty once it is set aside, and the others stay
+-- after the row of v is set aside it is empty, and the other rows stay
 module _ (v : ℕ) (old mid : List (List Leg)) (inside : v < length old) (is : mid ≡ set old v []) where
-  -- that of v
+  -- the row of v is empty
   pub aside_here : (x : ℕ) → x ≡ v → row mid x ≡ []
   aside_here x e = ap (row mid) e ∙ ap (λ z. row z v) is ∙ get_or-set_same old v [] [] inside
 
-  -- those of the others
+  -- the other rows stay
   pub aside_there : (x : ℕ) → x ≢ v → row mid x ≡ row old x
   aside_there x ne = ap (λ z. row z x) is ∙ get_or-set_other old v x [] [] ne
 
-  -- all are in order
+  -- all rows are in order
   pub aside_rows : AreRows old → AreRows mid
   aside_rows rows x = elim (cases_eq x v) [
     | inl e ↦ subst IsRow (sym (aside_here x e)) (λ i j d less lt. absurd (omega arith))
     | inr ne ↦ subst IsRow (sym (aside_there x ne)) (rows x)
   ]
 
-  -- as many as before
+  -- the number of rows stays
   pub aside_size : length mid ≡ length old
   aside_size = ap length is ∙ length-set old v []
 
-  -- the nodes that have a leg at v are among those that had one
+  -- each node that has a leg at v had one before
   pub aside_all : (others : List Leg) → HaveAll old v others → HaveAll mid v others
   aside_all others all x m e = elim (cases_eq x v) [
     | inl same ↦ absurd (let none = sym e ∙ ap (λ z. row_leg z v) (aside_here x same) in cc)
     | inr ne ↦ all x m (sym (ap (λ z. row_leg z v) (aside_there x ne)) ∙ e)
   ]
 
-  -- with the legs at v taken out of all lists, no leg touches v
+  -- after the legs at v are taken out of all lists, no leg touches v
   pub cleared : (new : List (List Leg)) → AreWithout v mid new → AreCleared v old new
   cleared new w = record {
     size = w.size ∙ aside_size;
@@ -77,14 +77,14 @@ module _ (v : ℕ) (old mid : List (List Leg)) (inside : v < length old) (is : m
       legs_at x y false false e f = let differs : (v == y) ≡ false = grind (arith, nat_tests) in w.legs x y ∙ rw differs (ap (λ z. row_leg z y) (aside_there x (eqb-false x v e)))
 
 module _ (n : ℕ) (outs ins : List (List Leg)) (within : IsWithinLimits n outs ins) (v : ℕ) where
-  -- the nodes with a leg at v are those of the legs on the other side
+  -- the nodes with a leg to v are the nodes of the row of v on the other side
   pub outs_at : HaveAll outs v (row ins v)
   outs_at x m e = (leg_at x m, row_member (row ins v) x m (sym (within.agree x v) ∙ e), refl)
 
   pub ins_at : HaveAll ins v (row outs v)
   ins_at x m e = (leg_at x m, row_member (row outs v) x m (within.agree v x ∙ e), refl)
 
-  -- and they have lists there
+  -- the nodes of the legs from v have lists on the other side
   pub outs_within : All (λ l. l.node < length ins) (row outs v)
   outs_within = All-from_get_or (λ (l : Leg). l.node < length ins) (row outs v) no_leg (λ i lt. node _ (Contains-get_or (row outs v) i no_leg lt))
     where
@@ -97,9 +97,9 @@ module _ (n : ℕ) (outs ins : List (List Leg)) (within : IsWithinLimits n outs 
       node : (l : Leg) → Contains (row ins v) l → l.node < length outs
       node l c = let lt = (within.legs l.node v (label_of l) (within.agree l.node v ∙ row_has (row ins v) l (within.rows.1 v) c)).ends.0 in omega (arith, within.sizes.0)
 
-  -- both sides once no leg touches v
+  -- both sides when no leg touches v
   module _ (new_outs new_ins : List (List Leg)) (from : AreCleared v outs new_outs) (into : AreCleared v ins new_ins) where
-    -- the lists of legs to each node have the same legs
+    -- the lists of the legs to each node have the same legs as the other side
     ins_cleared : SameLegs (legs_into new_ins) (legs_after_contraction (legs_from outs) v [])
     ins_cleared u w = into.legs w u ∙ at (w == v) (u == v)
       where
@@ -118,7 +118,7 @@ module _ (n : ℕ) (outs ins : List (List Leg)) (within : IsWithinLimits n outs 
       legs = same_within n (legs_from new_outs) (legs_after_contraction (legs_from outs) v []) from.legs (contracted_within n (legs_from outs) v [] within.legs (λ s c. absurd (contains_none s c)));
     }
 
--- what taking a node out does to both sides, call after call
+-- both sides after a node is taken out, call after call
 pub clearing_leaves : (n : ℕ) (outs ins : List (List Leg)) → IsWithinLimits n outs ins → (v : ℕ) → v < n → (mid_outs mid_ins new_outs new_ins : List (List Leg)) →
     mid_outs ≡ set outs v [] → mid_ins ≡ set ins v [] → AreWithout v mid_outs new_outs → AreWithout v mid_ins new_ins →
     IsWithinLimits n new_outs new_ins × SameLegs (legs_from new_outs) (legs_after_contraction (legs_from outs) v [])
@@ -127,7 +127,7 @@ clearing_leaves n outs ins within v inside mid_outs mid_ins new_outs new_ins e f
     let into = cleared v ins mid_ins (omega (arith, within.sizes.1)) f new_ins b in
     (within_cleared n outs ins within v new_outs new_ins from into, λ u w. from.legs u w)
 
--- what putting shortcuts in does to both sides
+-- both sides after shortcuts are put in
 pub putting_leaves : (n : ℕ) (outs ins : List (List Leg)) → IsWithinLimits n outs ins → (v : ℕ) (list : List Shortcut) → All (λ s. IsLegWithin n s.from s.to (shortcut_label v s)) list → (new_outs new_ins : List (List Leg)) →
     AreOverridden legs_from v list outs new_outs → AreOverridden legs_into v list ins new_ins → IsWithinLimits n new_outs new_ins
 putting_leaves n outs ins within v list are new_outs new_ins put put_turned = record {

@@ -1,4 +1,4 @@
--- What opening a construction, one step of it and its end give, from what their calls give.
+-- The opening of a construction, one step and the end, from the clauses of their calls.
 use Rattle.std.proofs.Common.{◌≡◌, ℕ, Bool, true, false, not, map, refl, ◌+◌, ◌*◌, ◌<◌, ◌≤◌, List, length, get_or, Option, Some, None, sym, ◌∙◌, ap, subst, arith, inl, inr, replicate, Contains, length-append, length-set, get_or-set_same, get_or-set_other}
 use Rattle.std.specs.Prelude.{slice_set, All, filter, is_some, ◌||◌, if◌then◌else◌, slice_index, max, ℤ, ◌<ℤ◌}
 use Rattle.std.specs.Ordering.{is_gt, int_cmp, MatchOrdering}
@@ -30,7 +30,7 @@ use Rattle.ch_contract.proofs.theory.OneInTurn.{one_map}
 use Rattle.ch_contract.proofs.theory.Counts.{rows_touching, count_most}
 use Rattle.ch_contract.proofs.code.Neighbours.{neighbour_listed, not_listed, neighbour_within}
 
--- of two entries of a queue of numbers the first has the lesser number, and of equal ones the lesser id
+-- an entry that comes first in a queue of numbers is contracted before the other
 first_of : (p : ℤ) (v : ℕ) (q : ℤ) (x : ℕ) → ComesFirst int_cmp (p, v) (q, x) → IsContractedBefore p v q x
 first_of p v q x f = at (int_cmp p q) (int_ranks p q) f.0 f.1
   where
@@ -50,7 +50,7 @@ zeros n x = elim (cases_lt x n) [
   | inr past ↦ get_or_past (replicate n 0) x 0 (omega (arith, length-replicate {A = ℕ} n 0))
 ]
 
--- a construction of which no node is contracted
+-- a construction in which no node is contracted
 pub opened : (by : OrderBy) (g : Network) (h : ℕ) (c : Construction) → SameLegs (legs_of c.remaining) (opening g) → c.remaining.nodes ≡ g.nodes → AreLegsWithin c.remaining.nodes (legs_of c.remaining) → ArePriorities (IsPriorityIn by c.remaining h c.depths.items) c.remaining.nodes c.waiting → ((x : ℕ) → slice_index c.depths.items x ≡ 0) →
     c.contracted ≡ 0 → IsOpen by g h (progress_of c)
 opened by g h c same nodes limits priorities depths contracted =
@@ -77,7 +77,7 @@ pub record IsStepped (by : OrderBy) (h : ℕ) (before : Construction) (v : ℕ) 
   pub contracted : after.contracted ≡ before.contracted + 1
   pub levels : after.levels.items ≡ slice_set before.levels.items v after.contracted
 
--- a node is no neighbour of its own
+-- a node is no neighbour of itself
 not_own : (n : ℕ) (L : Legs) (v : ℕ) → AreLegsWithin n L → are_neighbours L v v ≡ false
 not_own n L v within = at (L v v) refl
   where
@@ -85,7 +85,7 @@ not_own n L v within = at (L v v) refl
     at None e = rw e refl
     at (Some l) e = absurd ((within v v l e).ends.2 refl)
 
--- the depths of the neighbours alone grow
+-- only the depths of the neighbours grow
 pub deeper_by : (L : Legs) (v : ℕ) (up down : List Leg) (before after : List ℕ) → AreLegsFrom L v up → AreLegsTo L v down → AreDeepened (neighbours_in up down) (slice_index before v + 1) before after →
     (x : ℕ) → slice_index after x ≡ next_depth L v (λ y. slice_index before y) x
 deeper_by L v up down before after from to d x = at (are_neighbours L v x) refl
@@ -94,7 +94,7 @@ deeper_by L v up down before after from to d x = at (are_neighbours L v x) refl
     at true e = rw e (d.anew x (neighbour_listed L v up down from to x e))
     at false e = rw e (d.kept x (not_listed L v up down from to x e))
 
--- so it is one step on
+-- the construction has made one step
 pub stepped : (by : OrderBy) (h : ℕ) (before : Construction) (v : ℕ) (after : Construction) → v < before.remaining.nodes → AreLegsWithin before.remaining.nodes (legs_of before.remaining) → IsSized before → IsStepped by h before v after →
     IsStep by before.remaining.nodes h (progress_of before) v (progress_of after)
 stepped by h before v after node within sizes s =
@@ -117,7 +117,7 @@ stepped by h before v after node within sizes s =
       kept = λ x ne e. anew.kept x (not_listed L v up down s.up.legs s.down.legs x e) ∙ get_or-set_other before.waiting v x None None ne;
     }
 
--- and keeps its sizes
+-- the construction keeps its sizes
 pub sized_still : (by : OrderBy) (h : ℕ) (before : Construction) (v : ℕ) (after : Construction) → IsSized before → IsStepped by h before v after → IsSized after
 sized_still by h before v after sizes s =
     let nodes = s.nodes in
@@ -130,7 +130,7 @@ sized_still by h before v after sizes s =
       downs = s.down.size ∙ sizes.downs ∙ sym nodes;
     }
 
--- the levels and rows of all nodes
+-- at the end the hierarchy has the levels and the rows of all nodes
 pub all_rows : (c : Construction) (H : LevelsAndLegs) → IsSized c → H.level ≡ c.levels.items → H.up ≡ c.remaining.ups → H.down ≡ c.remaining.downs → AreAll c.remaining.nodes (progress_of c) H
 all_rows c H sizes level up down = record {
   level = level;
@@ -138,12 +138,12 @@ all_rows c H sizes level up down = record {
   rows = λ x lt. (ap (λ l. row l x) up, ap (λ l. row l x) down);
 }
 
--- the neighbours are nodes
+-- the neighbours are below the number of nodes
 pub neighbours_within : (n : ℕ) (L : Legs) (v : ℕ) (up down : List Leg) (list : List ℕ) → AreLegsFrom L v up → AreLegsTo L v down → AreLegsWithin n L → list ≡ neighbours_in up down → All (λ x. x < n) list
 neighbours_within n L v up down list from to within e k d lt =
     neighbour_within L v up down from to n (get_or list k d) within (subst (λ l. Contains l (get_or list k d)) e (Contains-get_or list k d lt))
 
--- there are at most two neighbours for each node
+-- a node has at most two neighbours for each node of the graph
 pub neighbours_count : (n v : ℕ) (L : Legs) (up down : List Leg) (list : List ℕ) →
     AreLegsWithin n L → AreLegsFrom L v up → AreLegsTo L v down → list ≡ neighbours_in up down → length list ≤ 2 * n
 neighbours_count n v L up down list within from to e =

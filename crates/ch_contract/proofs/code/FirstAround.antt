@@ -1,4 +1,4 @@
--- What holds of the neighbours of a node, from what holds of the nodes of its rows.
+-- A property holds of all neighbours of a node exactly if it holds of the nodes of its two rows.
 use Rattle.std.proofs.Common.{◌≡◌, ℕ, ◌<◌, true, List, Option, Some, None, All, refl, ◌∙◌}
 use Rattle.std.specs.Prelude.{◌||◌, is_some}
 use Rattle.std.proofs.lemmas.List.Elements.{All-contains, All-from_get_or}
@@ -15,12 +15,12 @@ use Rattle.ch_contract.proofs.theory.RoundLegs.{neighbour_out, neighbour_in}
 pub from_nodes : (n : ℕ) (L : Legs) (v : ℕ) (up : List Leg) → AreLegsWithin n L → AreLegsFrom L v up → All (λ l. l.node < n) up
 from_nodes n L v up limits from = All-from_get_or (λ (l : Leg). l.node < n) up no_leg (λ i lt. (limits _ _ _ (leg_from_at L v up i no_leg from lt)).ends.1)
 
--- and those to it come from nodes
+-- the legs to a node come from nodes
 pub to_nodes : (n : ℕ) (L : Legs) (v : ℕ) (down : List Leg) → AreLegsWithin n L → AreLegsTo L v down → All (λ l. l.node < n) down
 to_nodes n L v down limits to = All-from_get_or (λ (l : Leg). l.node < n) down no_leg (λ i lt. (limits _ _ _ (leg_to_at L v down i no_leg to lt)).ends.0)
 
 module _ (P : ℕ → Type 0) (L : Legs) (v : ℕ) where
-  -- what holds at the rows holds at all neighbours
+  -- a property of the nodes of both rows holds of all neighbours
   pub around_all : (up down : List Leg) → AreLegsFrom L v up → AreLegsTo L v down → All (λ l. P l.node) up → All (λ l. P l.node) down → (x : ℕ) → are_neighbours L v x ≡ true → P x
   around_all up down from to above below x near = at (L v x) (L x v) refl refl near
     where
@@ -29,10 +29,10 @@ module _ (P : ℕ → Type 0) (L : Legs) (v : ℕ) where
       at None (Some l) e f t = All-contains (λ (k : Leg). P k.node) down (leg_at x l) below (row_member down x l (to.1 x ∙ f))
       at None None e f t = cc
 
-  -- and what holds at all neighbours holds at the row of legs from v
+  -- a property of all neighbours holds of the nodes of the legs from v
   pub around_up : (up : List Leg) → AreLegsFrom L v up → ((x : ℕ) → are_neighbours L v x ≡ true → P x) → All (λ l. P l.node) up
   around_up up from all = All-from_get_or (λ (l : Leg). P l.node) up no_leg (λ i lt. all _ (neighbour_out L v _ _ (leg_from_at L v up i no_leg from lt)))
 
-  -- and at that of legs to it
+  -- a property of all neighbours holds of the nodes of the legs to v
   pub around_down : (down : List Leg) → AreLegsTo L v down → ((x : ℕ) → are_neighbours L v x ≡ true → P x) → All (λ l. P l.node) down
   around_down down to all = All-from_get_or (λ (l : Leg). P l.node) down no_leg (λ i lt. all _ (neighbour_in L v _ _ (leg_to_at L v down i no_leg to lt)))

@@ -1,4 +1,4 @@
--- Priorities that are computed one after the other.
+-- The queue while priorities are computed one after the other.
 use Rattle.std.proofs.Common.{◌≡◌, ℕ, zero, suc, ◌+◌, ◌-◌, ◌<◌, ◌≤◌, List, [], ◌∷◌, ◌++◌, length, get_or, set, take, Option, Some, None, sym, ◌∙◌, ap, subst, arith, inl, inr, Contains, length-set, get_or-set_same, get_or-set_other}
 use Rattle.std.specs.Prelude.{◌≢◌, All, ℤ}
 use Rattle.std.proofs.lemmas.Bool.{cases_eq}
@@ -12,7 +12,7 @@ use Rattle.ch_queue.specs.Queue.{key_of}
 use Rattle.ch_contract.specs.Progress.{HasPriority}
 use Rattle.ch_contract.specs.Priorities.{ArePriorities, AreRefreshed}
 
--- what relates two lists place by place, at one place
+-- if a relation holds at each place of two lists, it holds at this place
 pub zipped_at : {A B : Type 0} (R : A → B → Type 0) (xs : List A) (ys : List B) (i : ℕ) (d : A) (e : B) → AllZip R xs ys → i < length xs → R (get_or xs i d) (get_or ys i e)
 zipped_at R [] ys i d e are lt = absurd (omega arith)
 zipped_at R (x ∷ xs) [] i d e are lt = absurd are
@@ -25,14 +25,14 @@ numbers_below n k d lt =
     let within : k < n = omega (arith, length-range_with_len 0 n) in
     omega (arith, get_or-range_with_len 0 n k d within)
 
--- each number below n is among them
+-- each number below n is in the list of these numbers
 pub number_among : (n x : ℕ) → x < n → Contains (range_with_len 0 n) x
 number_among n x lt =
     let at : get_or (range_with_len 0 n) x 0 ≡ x = omega (arith, get_or-range_with_len 0 n x 0 lt) in
     subst (Contains (range_with_len 0 n)) at (Contains-get_or (range_with_len 0 n) x 0 (omega (arith, length-range_with_len 0 n)))
 
 module _ (IsOf : ℕ → ℤ → Type 0) where
-  -- the priority of one more node is computed anew
+  -- the queue after one more node gets its new priority
   pub refreshed_more : (nodes : List ℕ) (i : ℕ) (before middle : List (Option ℤ)) (p : ℤ) → i < length nodes → get_or nodes i 0 < length middle → IsOf (get_or nodes i 0) p → AreRefreshed IsOf (take i nodes) before middle → AreRefreshed IsOf (take (i + 1) nodes) before (set middle (get_or nodes i 0) (Some p))
   refreshed_more nodes i before middle p lt within is known =
       let more = take_more nodes i 0 lt in
@@ -52,7 +52,7 @@ module _ (IsOf : ℕ → ℤ → Type 0) where
             get_or-set_other middle v x (Some p) None ne ∙ known.kept x (λ c. away (subst (λ l. Contains l x) (sym more) (Contains-append_left (take i nodes) (v ∷ []) x c)));
       }
 
-  -- one list of nodes after the other
+  -- the queue after a second list of nodes gets its new priorities
   pub refreshed_then : (xs ys : List ℕ) (before middle after : List (Option ℤ)) → AreRefreshed IsOf xs before middle → AreRefreshed IsOf ys middle after → AreRefreshed IsOf (xs ++ ys) before after
   refreshed_then xs ys before middle after r s = record {
     size = s.size ∙ r.size;
@@ -66,13 +66,13 @@ module _ (IsOf : ℕ → ℤ → Type 0) where
     kept = λ x away. s.kept x (λ c. away (Contains-append_right xs ys x c)) ∙ r.kept x (λ c. away (Contains-append_left xs ys x c));
   }
 
-  -- one range of nodes after the nodes before it
+  -- the queue after one more range of nodes gets its new priorities
   pub refreshed_range : (nodes : List ℕ) (from to : ℕ) (before middle after : List (Option ℤ)) → from ≤ to → AreRefreshed IsOf (take from nodes) before middle → AreRefreshed IsOf (slice_range nodes from to) middle after → AreRefreshed IsOf (take to nodes) before after
   refreshed_range nodes from to before middle after le r s =
       let size : from + (to - from) ≡ to = omega arith in
       let all : take from nodes ++ slice_range nodes from to ≡ take to nodes = sym (take-add from (to - from) nodes) ∙ ap (λ z. take z nodes) size in
       subst (λ l. AreRefreshed IsOf l before after) all (refreshed_then (take from nodes) (slice_range nodes from to) before middle after r s)
 
-  -- where all nodes are refreshed, all have their priorities
+  -- if all nodes get their new priorities, all have their priorities
   pub all_refreshed : (n : ℕ) (before after : List (Option ℤ)) → length before ≡ n → AreRefreshed IsOf (range_with_len 0 n) before after → ArePriorities IsOf n after
   all_refreshed n before after size r = record { size = r.size ∙ size; each = λ x lt. r.anew x (number_among n x lt) }

@@ -1,4 +1,4 @@
--- Rounds of a search: after k of them the least costs of chains of at most k legs are known.
+-- The rounds of a search: after k rounds the least costs of chains of at most k legs are known.
 use Rattle.std.proofs.Common.{◌≡◌, ℕ, suc, ◌+◌, ◌*◌, ◌<◌, ◌≤◌, List, [], ◌∷◌, length, get_or, All, rules, Some, Contains, refl, sym, ◌∙◌, ap, subst, arith, inl, inr}
 use Rattle.std.specs.Prelude.{◌⊎◌, ◌≢◌}
 use Rattle.std.specs.List.{AllByRecursion}
@@ -22,11 +22,11 @@ use Rattle.ch_contract.proofs.theory.ReferenceSearch.{some_of}
 use Rattle.ch_graph.proofs.CostOrder.{IsAtMost_refl, IsAtMost_trans, IsAtMost-no_cost}
 use Rattle.ch_graph.proofs.CostSums.{IsAtMost-cost_sum}
 
--- a chain of at most k legs is one of at most k + 1 legs
+-- a wanted chain of at most k legs has at most k + 1 legs
 pub wanted_more : (L : Legs) (s : Wanted) (k x : ℕ) (d : Cost) → IsWanted L s k x d → IsWanted L s (k + 1) x d
 wanted_more L s k x d w = let short = w.0.short in (record { nodes = w.0.nodes; chain = w.0.chain; short = omega arith; away = w.0.away; cost = w.0.cost }, w.1)
 
--- the legs of a list are those into its node, and the other way round
+-- a leg of the list of a node is a leg into the node
 listed_leg : (lists : List (List Leg)) (x : ℕ) (l : Leg) → AreRows lists → Contains (row lists x) l → legs_into lists l.node x ≡ Some (label_of l)
 listed_leg lists x l rows c = row_has (row lists x) l (rows x) c
 
@@ -51,18 +51,18 @@ one_more_wanted lists s k front x d rows steps m =
       more.5,
     )
 
--- a round: the front is spread, and what it lowers is the next front
+-- a round: the front is spread, and the nodes with lowered costs are the next front
 module _ (lists : List (List Leg)) (s : Wanted) (k : ℕ) (front : List ChainStart) (old new : Known) (rows : AreRows lists)
     (least : AreLeastCosts (legs_into lists) s k old) (steps : AreSteps (legs_into lists) s k front) (whole : IsFront (legs_into lists) s old front)
     (low : Lowers (IsOneMoreOf lists front s) old new) where
   abbrev pub L : Legs
   L = legs_into lists
 
-  -- what had been spread before stays so
+  -- a node that was spread stays spread
   spread_kept : (x : ℕ) (e : Cost) → IsSpread L s old x e → IsSpread L s new x e
   spread_kept x e h y l leg off le = IsAtMost_trans (known_at new y) (known_at old y) _ (low.lower y) (h y l leg off le)
 
-  -- what stood in the front is spread
+  -- a node of the front is spread
   front_spread : (x : ℕ) (e : Cost) → Contains front (step_to x e) → IsSpread L s new x e
   front_spread x e c y l leg off le =
       low.whole y (cost_sum l.cost e) (step_to x e, c, (leg_at y l, row_member (row lists x) y l leg, refl, off, refl, le))
@@ -79,7 +79,7 @@ module _ (lists : List (List Leg)) (s : Wanted) (k : ℕ) (front : List ChainSta
   round_sound x (inl e) (inl none) = inl (e ∙ none)
   round_sound x (inl e) (inr w) = inr (subst (IsWanted L s (k + 1) x) (sym e) (wanted_more L s k x _ w))
 
-  -- the first leg of a chain is in front of one that was known
+  -- after the round the known cost is at most that of each wanted chain of at most k + 1 legs
   whole_cons : (x : ℕ) (d : Cost) (nodes : List ℕ) → IsChain L x s.end nodes → length nodes ≤ k + 1 → x ≢ s.avoided →
       AllByRecursion (λ y. y ≢ s.avoided) nodes → chain_cost L x nodes ≡ d → IsAtMost d s.most → IsAtMost (known_at new x) d
   whole_cons x d [] chain short off away cost le =
@@ -114,7 +114,7 @@ module _ (lists : List (List Leg)) (s : Wanted) (k : ℕ) (front : List ChainSta
     | inr at ↦ inl at.0
   ]
 
--- what is touched stays so, and what is lowered is touched
+-- touched nodes stay touched, and nodes with lowered costs become touched
 touched_next : (P : ℕ → Cost → Type 0) (old new : Known) → AreTouched old → Lowers P old new → AreTouched new
 touched_next P old new t low = record {
   each = λ x. each x (low.fresh x) (t.each x);
@@ -134,7 +134,7 @@ touched_next P old new t low = record {
 not_among : {X : Type 0} (xs : List X) (x : X) → xs ≡ [] → Contains xs x → ⊥
 not_among xs x none c = let at = (subst (λ z. Contains z x) none c).1 in omega arith
 
--- at first the empty chain is known alone
+-- at first only the empty chain is known
 pub rounds_start : (n : ℕ) (L : Legs) (s : Wanted) (old new : Known) → s.end ≢ s.avoided → (s.most.weight ≤ MOST_WEIGHT) × (s.most.arcs < NEVER_ARCS) →
     s.end < n → IsClean n old → old.next ≡ [] → Lowers (IsOnly s.end no_cost) old new → IsAfterRounds n L s 0 new
 rounds_start n L s old new off most inside clean none low = record {
@@ -168,7 +168,7 @@ rounds_start n L s old new off most inside clean none low = record {
         let arcs = low_enough.1 (omega (arith, most.0)) in
         absurd (omega (arith, most.1))
 
--- one round more
+-- the state after one more round
 pub rounds_next : (lists : List (List Leg)) (n : ℕ) (s : Wanted) (k : ℕ) (before mid new : Known) → AreRows lists →
     mid.costs ≡ before.costs → mid.touched ≡ before.touched → mid.next ≡ [] →
     IsAfterRounds n (legs_into lists) s k before → Lowers (IsOneMoreOf lists before.next s) mid new → IsAfterRounds n (legs_into lists) s (k + 1) new
@@ -189,7 +189,7 @@ rounds_next lists n s k before mid new rows costs touched none u low =
       }) low;
     }
 
--- a chain stands for fewer than n arcs a leg
+-- a chain stands for at most n arcs for each of its legs
 chain_arcs : (n : ℕ) (L : Legs) (u w : ℕ) (xs : List ℕ) → AreLegsWithin n L → IsChain L u w xs → (chain_cost L u xs).arcs ≤ length xs * n
 chain_arcs n L u w [] limits chain = omega arith
 chain_arcs n L u w (x ∷ xs) limits chain =
@@ -199,11 +199,11 @@ chain_arcs n L u w (x ∷ xs) limits chain =
     let is : (chain_cost L u (x ∷ xs)).arcs ≡ l.0.cost.arcs + (chain_cost L x xs).arcs = ap (λ o. (cost_sum (leg_cost o) (chain_cost L x xs)).arcs) l.1 in
     subst (λ z. z ≤ suc (length xs) * n) (sym is) (omega arith)
 
--- as many legs as a witness may have, of fewer arcs each than there are nodes
+-- at most MOST_HOPS legs of at most n arcs each have at most MOST_CHAIN_ARCS arcs
 product : (k n : ℕ) → k ≤ MOST_HOPS → n ≤ MOST_NODES → k * n ≤ MOST_CHAIN_ARCS
 product k n h m = omega (arith, mul-le-mul_right {m = k} {n = MOST_HOPS} n h)
 
--- so a chain of as many legs as a witness may have stands for few arcs
+-- a chain with at most as many legs as a witness may have stands for at most MOST_CHAIN_ARCS arcs
 pub chain_small : (n : ℕ) (L : Legs) (u w : ℕ) (xs : List ℕ) → AreLegsWithin n L → n ≤ MOST_NODES → length xs ≤ MOST_HOPS → IsChain L u w xs → (chain_cost L u xs).arcs ≤ MOST_CHAIN_ARCS
 chain_small n L u w xs limits small few chain =
     let arcs = chain_arcs n L u w xs limits chain in
@@ -229,7 +229,7 @@ wanted_small limit n L s k x d limits small few inside most w = (node w.0.nodes 
         let short = w.0.short in
         subst (λ z. z.arcs ≤ MOST_CHAIN_ARCS) w.0.cost (chain_small n L x s.end w.0.nodes limits small (omega arith) w.0.chain)
 
--- so there is room for one leg more in front of each step
+-- one more leg may be put in front of each step
 pub steps_room : (limit : ℕ) (lists : List (List Leg)) (n : ℕ) (s : Wanted) (k : ℕ) (front : List ChainStart) → AreRows lists → AreLegsWithin n (legs_into lists) → AreLegsUpTo limit (legs_into lists) →
     n ≤ MOST_NODES → k ≤ MOST_HOPS → s.end < n → IsHeld limit s.most → AreSteps (legs_into lists) s k front → All (λ f. (f.node < n) × IsRoomFor limit n (row lists f.node) f) front
 steps_room limit lists n s k front rows limits light small few inside most steps =

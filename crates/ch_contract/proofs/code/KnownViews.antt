@@ -1,4 +1,4 @@
--- What held costs of any form stand for.
+-- The costs for which held costs of each form stand.
 use Rattle.std.proofs.Common.{◌≡◌, ℕ, ◌<◌, Bool, true, false, List, [], ◌∷◌, ◌++◌, length, map, set, get_or, All, Contains, sym, ◌∙◌, ap, subst, arith, inl, inr}
 use Rattle.std.specs.Prelude.{◌⊎◌, ◌≢◌, if◌then◌else◌}
 use Rattle.std.proofs.lemmas.Bool.{cases_eq}
@@ -13,27 +13,27 @@ use Rattle.ch_contract.specs.HeldCosts.{never, IsLight, IsHeld, IsAddend}
 use Rattle.ch_contract.specs.KnownCosts.{known_in, known_at, AreTouched, known_of, chain_start_of, Lowers, IsOnly}
 use Rattle.ch_contract.proofs.code.Lowering.{lowers_here, lowers_none}
 
--- the cost known at a node is that for which its held cost stands
+-- the known cost of a node is the one for which its held cost stands
 pub known_cost_of : {K : Type 0} (cost : K → Cost) (h : KnownCosts K) (x : ℕ) (d : K) → x < length h.costs.items → known_at (known_of cost h) x ≡ cost (get_or h.costs.items x d)
 known_cost_of cost h x d lt = get_or-map cost h.costs.items x d never lt
 
--- what holds of all that a list stands for
+-- a property of all values of a mapped list holds of all elements after the mapping
 pub all_mapped : {X Y : Type 0} (P : Y → Type 0) (f : X → Y) (xs : List X) → All P (map f xs) → All (λ x. P (f x)) xs
 all_mapped P f xs all k d lt = subst P (get_or-map f xs k d (f d) lt) (all k (f d) (omega (arith, length-map xs f)))
 
--- what a leg costs may be added to what is known
+-- the cost of a leg can be held
 pub light_held : (limit : ℕ) (c : Cost) → IsLight limit c → IsHeld limit c
 light_held limit c is = record { limited = omega (arith, is.limited); weight = is.weight; arcs = omega (arith, is.arcs) }
 
--- a bound may be added
+-- a bound may be added to a known cost
 pub held_addend : (limit : ℕ) (c : Cost) → IsHeld limit c → IsAddend limit c
 held_addend limit c is = record { limited = is.limited; weight = omega (arith, is.weight); arcs = is.arcs }
 
--- a leg may be added
+-- the cost of a leg may be added to a known cost
 pub light_addend : (limit : ℕ) (c : Cost) → IsLight limit c → IsAddend limit c
 light_addend limit c is = held_addend limit c (light_held limit c is)
 
--- and so may two legs
+-- the cost of two legs may be added to a known cost
 pub two_addend : (limit : ℕ) (a b : Cost) → IsLight limit a → IsLight limit b → IsAddend limit (cost_sum a b)
 two_addend limit a b first second = record {
   limited = omega (arith, first.limited, second.limited);
@@ -41,15 +41,15 @@ two_addend limit a b first second = record {
   arcs = omega (arith, first.arcs, second.arcs);
 }
 
--- where the test holds, the value is pushed
+-- if the test holds, the value is appended
 pub pushed : {X : Type 0} (b : Bool) (new old : List X) (x : X) → new ≡ (if b then old ++ x ∷ [] else old) → b ≡ true → new ≡ old ++ x ∷ []
 pushed b new old x is holds = is ∙ ap (λ t. if t then old ++ x ∷ [] else old) holds
 
--- and where it fails, nothing is
+-- if the test fails, nothing is appended
 pub not_pushed : {X : Type 0} (b : Bool) (new old : List X) (x : X) → new ≡ (if b then old ++ x ∷ [] else old) → b ≡ false → new ≡ old
 not_pushed b new old x is fails = is ∙ ap (λ t. if t then old ++ x ∷ [] else old) fails
 
--- one held cost is put in at one node
+-- the known costs after one held cost is stored at one node
 pub lowers_one : {K : Type 0} (cost : K → Cost) (old : KnownCosts K) (node : ℕ) (held_cost : K) (touched : List ℕ) (next : List (Step K)) → node < length old.costs.items →
     IsAtMost (cost held_cost) (known_at (known_of cost old) node) → touched ≡ old.touched.items ++ node ∷ [] → next ≡ old.next.items ++ record { node = node; cost = held_cost } ∷ [] →
     Lowers (IsOnly node (cost held_cost)) (known_of cost old) (record { costs = map cost (set old.costs.items node held_cost); touched = touched; next = map (chain_start_of cost) next })
@@ -57,7 +57,7 @@ lowers_one cost old node held_cost touched next inside less is_touched is_next =
     lowers_here node (cost held_cost) (known_of cost old) _ (omega (arith, length-map old.costs.items cost)) less (map-set cost old.costs.items node held_cost)
     (ap (map (chain_start_of cost)) is_next ∙ map-append (chain_start_of cost) old.next.items (record { node = node; cost = held_cost } ∷ [])) is_touched
 
--- and where it is not less than what is known, that is put in again
+-- the known costs stay if the cost is not less and the known one is stored again
 pub lowers_nothing : {K : Type 0} (cost : K → Cost) (old : KnownCosts K) (node : ℕ) (put d : K) (touched : List ℕ) (next : List (Step K)) (P : ℕ → Cost → Type 0) →
     put ≡ get_or old.costs.items node d → touched ≡ old.touched.items → next ≡ old.next.items → ((x : ℕ) (e : Cost) → P x e → IsAtMost (known_at (known_of cost old) x) e) →
     Lowers P (known_of cost old) (record { costs = map cost (set old.costs.items node put); touched = touched; next = map (chain_start_of cost) next })
@@ -68,7 +68,7 @@ lowers_nothing cost old node put d touched next P same is_touched is_next whole 
     (subst (λ z. Lowers P h (record { costs = h.costs; touched = z; next = map (chain_start_of cost) next })) (sym is_touched)
     (subst (λ z. Lowers P h (record { costs = h.costs; touched = h.touched; next = map (chain_start_of cost) z })) (sym is_next) (lowers_none P h whole)))
 
--- the last touched node is put to rest
+-- the known costs after the last touched node is put to rest
 pub touched_less : {K : Type 0} (cost : K → Cost) (h : KnownCosts K) (node : ℕ) (held_cost : K) (rest : List ℕ) → cost held_cost ≡ never → h.touched.items ≡ rest ++ node ∷ [] → AreTouched (known_of cost h) →
     AreTouched (record { costs = map cost (set h.costs.items node held_cost); touched = rest; next = map (chain_start_of cost) h.next.items })
 touched_less cost h node held_cost rest none touched t = record {

@@ -1,4 +1,4 @@
--- One list of many is changed.
+-- Changes to one of many lists.
 use Rattle.std.proofs.Common.{◌≡◌, ℕ, ◌+◌, ◌<◌, Bool, true, false, List, [], ◌∷◌, ◌++◌, length, set, get_or, take, drop, Option, Some, None, Contains, inl, inr, refl, sym, ◌∙◌, ap, subst, arith}
 use Rattle.std.specs.Prelude.{◌⊎◌, ◌≢◌, ◌==◌, ◌&&◌, if◌then◌else◌, AllPairs}
 use Rattle.std.proofs.lemmas.Bool.{cases_eq, eqb-true, eqb-false}
@@ -15,7 +15,7 @@ use Rattle.ch_hierarchy.specs.declared.leg.Leg.{Leg}
 use Rattle.ch_hierarchy.specs.Rows.{row, IsRow}
 use Rattle.ch_contract.specs.LegRows.{row_leg}
 
--- the list of one node is changed at one other node
+-- the legs after the list of one node changes at one other node
 pub set_row : (node other : ℕ) (label : Option Label) (old new : List (List Leg)) → node < length old → AreRows old →
     new ≡ set old node (row new node) → IsRow (row new node) →
     ((y : ℕ) → row_leg (row new node) y ≡ (if other == y then label else row_leg (row old node) y)) → IsSet node other label old new
@@ -36,16 +36,16 @@ set_row node other label old new inside rows is row_is legs = record {
     legs_at x y true e = let same = eqb-true node x e in subst (λ z. row_leg (row new z) y ≡ (if other == y then label else row_leg (row old z) y)) same (legs y)
     legs_at x y false e = let ne = eqb-false node x e in ap (λ z. row_leg z y) (elsewhere x (λ same. ne (sym same)))
 
--- of some lists the first n are those of nodes, of which one is looked at
+-- the first n of these lists are the lists of the nodes, and `node` is one of the nodes
 module _ (n node : ℕ) (all rows : List (List Leg)) (are : take n all ≡ rows) (inside : node < length rows) where
   below : node < n
   below = omega (arith, ap length are, length-take n all, inside)
 
-  -- the list of the node is there
+  -- the node has a list
   pub list_within : node < length all
   list_within = omega (arith, ap length are, length-take n all, inside)
 
-  -- and it is the row of the node
+  -- the list of the node is its row
   pub list_row : row all node ≡ row rows node
   list_row = sym (get_or-take n all node [] below) ∙ ap (λ l. row l node) are
 
@@ -53,11 +53,11 @@ module _ (n node : ℕ) (all rows : List (List Leg)) (are : take n all ≡ rows)
     here : row (take n new) node ≡ row new node
     here = get_or-take n new node [] below
 
-    -- where it is edited, the lists behind those of nodes stay
+    -- if the list of the node changes, the lists after those of the nodes stay
     pub edited_aside : drop n new ≡ drop n all
     edited_aside = ap (drop n) edited ∙ drop-set-lt n all node (row new node) below
 
-    -- and where it is edited at one other node, the leg there is set
+    -- if the list of the node changes at one other node, the leg there is set
     pub edited_set : (other : ℕ) (label : Option Label) → AreRows rows → IsRow (row new node) → ((y : ℕ) → row_leg (row new node) y ≡ (if other == y then label else row_leg (row all node) y)) → IsSet node other label rows (take n new)
     edited_set other label ordered is legs =
         set_row node other label rows (take n new) inside ordered
@@ -65,14 +65,14 @@ module _ (n node : ℕ) (all rows : List (List Leg)) (are : take n all ≡ rows)
         (subst IsRow (sym here) is)
         (λ y. ap (λ l. row_leg l y) here ∙ legs y ∙ ap (λ l. if other == y then label else row_leg l y) list_row)
 
--- there the leg is new
+-- the leg that is set is the new one
 pub set_here : (node other : ℕ) (label : Option Label) (old new : List (List Leg)) → IsSet node other label old new → row_leg (row new node) other ≡ label
 set_here node other label old new s =
     let first : (node == node) ≡ true = grind (arith, nat_tests) in
     let second : (other == other) ≡ true = grind (arith, nat_tests) in
     s.legs node other ∙ rw (first, second) refl
 
--- and everywhere else the one before
+-- each other leg is the one before
 pub set_off : (node other : ℕ) (label : Option Label) (old new : List (List Leg)) → IsSet node other label old new →
     (x y : ℕ) → (node ≡ x → other ≡ y → ⊥) → row_leg (row new x) y ≡ row_leg (row old x) y
 set_off node other label old new s x y off = s.legs x y ∙ at (node == x) (other == y) refl refl
@@ -85,11 +85,11 @@ set_off node other label old new s x y off = s.legs x y ∙ at (node == x) (othe
 not_among : (x : ℕ) → IsAmong [] x → ⊥
 not_among x m = let at = m.1.1 in omega arith
 
--- at first nothing is taken
+-- at first no leg is taken out
 pub taken_none : (v : ℕ) (lists : List (List Leg)) → AreRows lists → AreTaken v [] lists lists
 taken_none v lists rows = record { size = refl; rows = rows; kept = λ x y ne. refl; here = λ x m. absurd (not_among x m); there = λ x. inl refl }
 
--- one more
+-- the lists after one more leg is taken out
 pub taken_more : (v : ℕ) (others : List Leg) (l : Leg) (old mid new : List (List Leg)) → AreTaken v others old mid →
     IsSet l.node v None mid new → AreTaken v (others ++ l ∷ []) old new
 taken_more v others l old mid new t s = record {
@@ -117,7 +117,7 @@ taken_more v others l old mid new t s = record {
     there x (inr ne) (inl same) = inl (stays x ne ∙ same)
     there x (inr ne) (inr none) = inr (stays x ne ∙ none)
 
--- all that have one are among them
+-- after the legs at v are taken out of the lists of all nodes that have one, no list has a leg at v
 pub taken_all : (v : ℕ) (others : List Leg) (old new : List (List Leg)) → AreTaken v others old new → HaveAll old v others →
     (x y : ℕ) → row_leg (row new x) y ≡ (if v == y then None else row_leg (row old x) y)
 taken_all v others old new t all x y = at (v == y) refl
@@ -135,7 +135,7 @@ taken_all v others old new t all x y = at (v == y) refl
 pub overridden_none : (read : List (List Leg) → Legs) (v : ℕ) (lists : List (List Leg)) → AreRows lists → AreOverridden read v [] lists lists
 overridden_none read v lists rows = record { size = refl; rows = rows; legs = λ u w. refl }
 
--- the next shortcut is put in
+-- the legs after the next shortcut is put in
 overridden_more : (read : List (List Leg) → Legs) (v : ℕ) (xs : List Shortcut) (i : ℕ) (d : Shortcut) (old mid new : List (List Leg)) → i < length xs →
     AllPairs IsPairBefore xs → AreOverridden read v (take i xs) old mid → length new ≡ length mid → AreRows new →
     ((u w : ℕ) → read new u w ≡ (if (get_or xs i d).from == u && (get_or xs i d).to == w then Some (shortcut_label v (get_or xs i d)) else read mid u w)) →
@@ -146,20 +146,20 @@ overridden_more read v xs i d old mid new lt ordered so_far size rows legs = rec
   legs = λ u w. legs u w ∙ next_shortcut v xs i d u w (read mid u w) (read old u w) lt ordered (so_far.legs u w);
 }
 
--- two tests in either order
+-- the order of two tests does not matter
 pub turn : {A : Type 0} (p q : Bool) (a b : A) → (if p && q then a else b) ≡ (if q && p then a else b)
 turn true true a b = refl
 turn true false a b = refl
 turn false true a b = refl
 turn false false a b = refl
 
--- in the list of its first node
+-- the next shortcut is put into the list of its first node
 pub overridden_from : (v : ℕ) (xs : List Shortcut) (i : ℕ) (d : Shortcut) (old mid new : List (List Leg)) → i < length xs →
     AllPairs IsPairBefore xs → AreOverridden legs_from v (take i xs) old mid →
     IsSet (get_or xs i d).from (get_or xs i d).to (Some (shortcut_label v (get_or xs i d))) mid new → AreOverridden legs_from v (take (i + 1) xs) old new
 overridden_from v xs i d old mid new lt ordered so_far s = overridden_more legs_from v xs i d old mid new lt ordered so_far s.size s.rows s.legs
 
--- in the list of its second node
+-- the next shortcut is put into the list of its second node
 pub overridden_into : (v : ℕ) (xs : List Shortcut) (i : ℕ) (d : Shortcut) (old mid new : List (List Leg)) → i < length xs →
     AllPairs IsPairBefore xs → AreOverridden legs_into v (take i xs) old mid →
     IsSet (get_or xs i d).to (get_or xs i d).from (Some (shortcut_label v (get_or xs i d))) mid new → AreOverridden legs_into v (take (i + 1) xs) old new
@@ -167,6 +167,6 @@ overridden_into v xs i d old mid new lt ordered so_far s =
     overridden_more legs_into v xs i d old mid new lt ordered so_far s.size s.rows
     (λ u w. s.legs w u ∙ turn ((get_or xs i d).to == w) ((get_or xs i d).from == u) (Some (shortcut_label v (get_or xs i d))) (legs_into mid u w))
 
--- what stands past the end of a list of shortcuts
+-- the default shortcut of a read past the end of a list of shortcuts
 abbrev pub no_shortcut : Shortcut
 no_shortcut = record { from = 0; to = 0; cost = record { weight = 0; arcs = 0 } }

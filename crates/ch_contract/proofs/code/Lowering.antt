@@ -1,4 +1,4 @@
--- How known costs are lowered, one after the other.
+-- The known costs while they are lowered one after the other.
 use Rattle.std.proofs.Common.{◌≡◌, ℕ, ◌<◌, List, [], ◌∷◌, ◌++◌, length, set, Contains, refl, sym, ◌∙◌, ap, subst, arith, inl, inr}
 use Rattle.std.specs.Prelude.{◌⊎◌, ◌≢◌, ◌↔◌, Bool, true, false, IsTrue}
 use Rattle.std.proofs.lemmas.Bool.{cases_eq}
@@ -13,7 +13,7 @@ use Rattle.ch_contract.specs.KnownCosts.{Known, ChainStart, known_in, known_at, 
 use Rattle.ch_hierarchy.specs.Rows.{row}
 use Rattle.ch_graph.proofs.CostOrder.{IsAtMost_refl, IsAtMost_trans, IsAtMost_or_IsBelow, IsBelow-IsAtMost}
 
--- nothing is put in
+-- the known costs stay if each cost with P is at least the known one
 pub lowers_none : (P : ℕ → Cost → Type 0) (h : Known) → ((x : ℕ) (d : Cost) → P x d → IsAtMost (known_at h x) d) → Lowers P h h
 lowers_none P h whole = record {
   size = refl;
@@ -27,7 +27,7 @@ lowers_none P h whole = record {
   touched = λ x c. inl c;
 }
 
--- the same costs, named in another way
+-- P may be replaced by a property that the same costs have
 pub lowers_as : (P Q : ℕ → Cost → Type 0) (a b : Known) → ((x : ℕ) (d : Cost) → P x d → Q x d) → ((x : ℕ) (d : Cost) → Q x d → P x d) → Lowers P a b → Lowers Q a b
 lowers_as P Q a b there back p = record {
   size = p.size;
@@ -49,7 +49,7 @@ lowers_as P Q a b there back p = record {
     next f (inl m) = inl m
     next f (inr m) = inr (there f.node f.cost m)
 
--- first P and then Q
+-- lowering to the costs with P and then to the costs with Q lowers to the costs with R, if R is their union
 pub lowers_then : (P Q R : ℕ → Cost → Type 0) (a b c : Known) → ((x : ℕ) (d : Cost) → P x d → R x d) → ((x : ℕ) (d : Cost) → Q x d → R x d) →
     ((x : ℕ) (d : Cost) → R x d → P x d ⊎ Q x d) → Lowers P a b → Lowers Q b c → Lowers R a c
 lowers_then P Q R a b c first second either p q = record {
@@ -93,7 +93,7 @@ lowers_then P Q R a b c first second either p q = record {
         early g (inl n) = inl n
         early g (inr n) = inr (first g.node g.cost n)
 
--- one cost is put in at one node
+-- the known costs after one cost is stored at one node
 pub lowers_here : (node : ℕ) (cost : Cost) (old new : Known) → node < length old.costs → IsAtMost cost (known_at old node) →
     new.costs ≡ set old.costs node cost → new.next ≡ old.next ++ step_to node cost ∷ [] →
     new.touched ≡ old.touched ++ node ∷ [] → Lowers (IsOnly node cost) old new
@@ -141,11 +141,11 @@ lowers_here node cost old new inside less costs next touched = record {
     from f (inl m) = inl m
     from f (inr e) = inr (ap (λ (z : ChainStart). z.node) (sym e), ap (λ (z : ChainStart). z.cost) (sym e))
 
--- no leg is put in front of a chain
+-- without legs no leg is put in front of a chain
 pub no_more : (f : ChainStart) (s : Wanted) (x : ℕ) (d : Cost) → IsOneMore [] f s x d → ⊥
 no_more f s x d m = let at = m.1.1 in omega arith
 
--- a leg that is put in where its chain is wanted
+-- one leg lowers the known costs if its chain is wanted
 pub leg_where : (l : Leg) (f : ChainStart) (s : Wanted) (is_wanted : Bool) (a b : Known) → (IsTrue is_wanted ↔ (IsAtMost (cost_sum l.cost f.cost) s.most × (l.node ≢ s.avoided))) →
     Lowers (IsOnlyWhere is_wanted l.node (cost_sum l.cost f.cost)) a b → Lowers (IsOneMore (l ∷ []) f s) a b
 leg_where l f s is_wanted a b tells = lowers_as (IsOnlyWhere is_wanted l.node (cost_sum l.cost f.cost)) (IsOneMore (l ∷ []) f s) a b there back
@@ -162,7 +162,7 @@ leg_where l f s is_wanted a b tells = lowers_as (IsOnlyWhere is_wanted l.node (c
           (tells.1 (subst (λ z. IsAtMost z s.most) costs m.5, λ e. m.3 (at ∙ e)), (at, costs))
     ]
 
--- one leg more, whether it is put in or not
+-- the known costs after one more leg, wanted or not
 pub legs_more : (taken : List Leg) (l : Leg) (f : ChainStart) (s : Wanted) (a b c : Known) → Lowers (IsOneMore taken f s) a b → Lowers (IsOneMore (l ∷ []) f s) b c → Lowers (IsOneMore (taken ++ l ∷ []) f s) a c
 legs_more taken l f s a b c = lowers_then (IsOneMore taken f s) (IsOneMore (l ∷ []) f s) (IsOneMore (taken ++ l ∷ []) f s) a b c
     (λ x d m. (m.0, Contains-append_left taken _ _ m.1, m.2, m.3, m.4, m.5)) (λ x d m. (m.0, Contains-append_right taken _ _ m.1, m.2, m.3, m.4, m.5)) either
@@ -173,7 +173,7 @@ legs_more taken l f s a b c = lowers_then (IsOneMore taken f s) (IsOneMore (l �
       | inr same ↦ inr (m.0, subst (Contains (l ∷ [])) same (Contains-push [] l), m.2, m.3, m.4, m.5)
     ]
 
--- one step more
+-- the known costs after one more step
 pub one_step_more : (lists : List (List Leg)) (taken : List ChainStart) (f : ChainStart) (s : Wanted) (a b c : Known) →
     Lowers (IsOneMoreOf lists taken s) a b → Lowers (IsOneMore (row lists f.node) f s) b c → Lowers (IsOneMoreOf lists (taken ++ f ∷ []) s) a c
 one_step_more lists taken f s a b c = lowers_then (IsOneMoreOf lists taken s) (IsOneMore (row lists f.node) f s) (IsOneMoreOf lists (taken ++ f ∷ []) s) a b c
@@ -185,7 +185,7 @@ one_step_more lists taken f s a b c = lowers_then (IsOneMoreOf lists taken s) (I
       | inr same ↦ inr (subst (λ z. IsOneMore (row lists z.node) z s x d) (sym same) m.2)
     ]
 
--- what a test that failed tells
+-- if a is not at most b, b is at most a
 pub dearer : (a b : Cost) (r : Bool) → (IsTrue r ↔ IsAtMost a b) → r ≡ false → IsAtMost b a
 dearer a b r tells failed = elim (IsAtMost_or_IsBelow a b) [
   | inl at_most ↦ let yes : r ≡ true = tells.1 at_most in cc

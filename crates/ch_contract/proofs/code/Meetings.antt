@@ -1,4 +1,4 @@
--- A search that has met the last legs of a chain has found a witness, and the other way round.
+-- A search meets the last legs of a chain exactly if there is a witness.
 use Rattle.std.proofs.Common.{◌≡◌, ℕ, ◌+◌, ◌-◌, ◌<◌, ◌≤◌, List, [], ◌∷◌, length, get_or, take, Some, Contains, refl, sym, ◌∙◌, ap, subst, arith, inl, inr}
 use Rattle.std.specs.Prelude.{◌⊎◌, ◌≢◌, ◌↔◌}
 use Rattle.std.proofs.lemmas.List.{take_all, take_more}
@@ -20,18 +20,18 @@ use Rattle.ch_contract.proofs.theory.ReferenceSearch.{some_of}
 use Rattle.ch_graph.proofs.CostOrder.{IsAtMost_refl, IsAtMost_trans, IsAtMost-no_cost}
 use Rattle.ch_graph.proofs.CostSums.{IsAtMost-cost_sum, cost_sum_comm, cost_sum_assoc}
 
--- what is at most a cost that is wanted isn't `never`
+-- a sum with `never` is above each bound of a search
 never_most : (a c : Cost) → (c.weight ≤ MOST_WEIGHT) × (c.arcs < NEVER_ARCS) → IsAtMost (cost_sum never a) c → ⊥
 never_most a c small le = let weight = le.0 in let arcs = le.1 (omega arith) in omega arith
 
 module _ (n : ℕ) (L : Legs) (lists : List (List Leg)) (s : Wanted) (hops : ℕ) (h : Known) (start : ℕ) (most : Cost)
     (from : (x : ℕ) → AreLegsFrom L x (row lists x)) (least : AreLeastCosts L s (hops - 2) h) (small : (most.weight ≤ MOST_WEIGHT) × (most.arcs < NEVER_ARCS))
     (wanted : IsAtMost most s.most) (one : 1 ≤ hops) (off : start ≢ s.avoided) (apart : start ≢ s.end) where
-  -- a leg of a list is a leg
+  -- a leg of a list is a leg of the graph
   leg_of : (x : ℕ) (l : Leg) → Contains (row lists x) l → L x l.node ≡ Some (label_of l)
   leg_of x l c = sym ((from x).1 l.node) ∙ row_has (row lists x) l (from x).0 c
 
-  -- a known chain whose cost counts
+  -- a known cost within the bound is that of a chain
   known : (x : ℕ) (a : Cost) → IsAtMost (cost_sum (known_at h x) a) most → IsReached L s (hops - 2) x (known_at h x)
   known x a le = elim (least.sound x) [
     | inl none ↦ absurd (never_most a most small (subst (λ z. IsAtMost (cost_sum z a) most) none le))
@@ -78,7 +78,7 @@ module _ (n : ℕ) (L : Legs) (lists : List (List Leg)) (s : Wanted) (hops : ℕ
     | inr b ↦ found_two m.0 b.1.0 m.1 m.2 b.0 b.1.1 b.1.2
   ]
 
-  -- the first leg of a witness, and its second
+  -- the first one or two legs of a witness are met
   met_by : (xs : List ℕ) → IsWitness L s.avoided start s.end most hops xs → IsMet h lists s.avoided start most hops
   met_by [] w = absurd (apart w.chain)
   met_by (y ∷ []) w =
@@ -122,10 +122,10 @@ module _ (n : ℕ) (L : Legs) (lists : List (List Leg)) (s : Wanted) (hops : ℕ
   pub met_is_witness : IsMet h lists s.avoided start most hops ↔ HasWitness L s.avoided start s.end most hops
   met_is_witness = (met_found, λ w. met_by w.0 w.1)
 
--- an element of a list of which all is taken
+-- an element of a list is among the first i elements, if i is at least the length
 pub all_taken : {X : Type 0} (xs : List X) (i : ℕ) (x : X) → length xs ≤ i → Contains xs x → Contains (take i xs) x
 all_taken xs i x past c = subst (λ z. Contains z x) (sym (take_all i xs past)) c
 
--- an element of one more that is taken
+-- one of the first i + 1 elements is one of the first i, or is element i
 pub one_more_taken : {X : Type 0} (xs : List X) (i : ℕ) (d x : X) → i < length xs → Contains (take (i + 1) xs) x → Contains (take i xs) x ⊎ (get_or xs i d ≡ x)
 one_more_taken xs i d x lt c = Contains-push_cases (take i xs) (get_or xs i d) x (subst (λ z. Contains z x) (take_more xs i d lt) c)

@@ -1,4 +1,4 @@
--- The neighbours of the nodes of a round, gathered node by node.
+-- The neighbours of the nodes of a round, collected node by node.
 use Rattle.std.proofs.Common.{◌≡◌, ℕ, ◌+◌, ◌<◌, Bool, true, false, List, [], ◌∷◌, ◌++◌, length, get_or, take, refl, sym, ◌∙◌, ap, subst, arith, inl, inr, Contains, map, not, drop}
 use Rattle.std.specs.Prelude.{◌≢◌, ◌↔◌, ◌≤◌, ◌||◌, ◌==◌, AllPairs, filter, slice_index}
 use Rattle.std.specs.List.{list_any}
@@ -25,7 +25,7 @@ use Rattle.ch_contract.proofs.theory.RoundsExist.{neighbour_below}
 use Rattle.ch_contract.proofs.code.ConstructionCalls.{deeper_by}
 use Rattle.ch_contract.proofs.code.Neighbours.{neighbour_listed, listed_neighbour}
 
--- what a test finds in a list
+-- if a test holds in a list, it holds of an element
 pub any_found : (p : ℕ → Bool) (xs : List ℕ) → list_any p xs ≡ true → (v : ℕ) × Contains xs v × (p v ≡ true)
 any_found p [] e = absurd (true≢false (sym e))
 any_found p (x ∷ xs) e = at (p x) refl e (any_found p xs)
@@ -34,7 +34,7 @@ any_found p (x ∷ xs) e = at (p x) refl e (any_found p xs)
     at true t f more = (x, contains_head x xs, t)
     at false t f more = let r = more f in (r.0, contains_tail r.0 x xs r.1, r.2)
 
--- a test finds the node of a leg
+-- the test for the node of a leg holds
 has_one : (legs : List Leg) (l : Leg) (x : ℕ) → Contains legs l → l.node ≡ x → has_node legs x ≡ true
 has_one [] l x c e = absurd (contains_none l c)
 has_one (k ∷ legs) l x c e = elim (contains_cons k l legs c) [
@@ -60,21 +60,21 @@ neighbours_differ up down above below =
     differ : (legs : List Leg) → IsRow legs → AllPairs ◌≢◌ (map (λ (l : Leg). l.node) legs)
     differ legs row = pairs_map (λ (l : Leg). l.node) ◌≢◌ legs (λ i j d lt inside same. let before = row i j d lt inside in omega arith)
 
--- these are the neighbours of the nodes, each once
+-- the list has the neighbours of the nodes, each once
 pub record AreNear (L : Legs) (done near : List ℕ) : Type 0 where
   pub each : (x : ℕ) → Contains near x ↔ (list_any (λ v. are_neighbours L v x) done ≡ true)
   pub differ : AllPairs ◌≢◌ near
 
--- none at first
+-- without nodes there are no neighbours
 pub near_none : (L : Legs) → AreNear L [] []
 near_none L = record { each = λ x. (λ c. absurd (contains_none x c), λ e. absurd (true≢false (sym e))); differ = λ i j d lt inside. absurd (omega arith) }
 
 module _ (n : ℕ) (L : Legs) (nodes : List ℕ) (limits : AreLegsWithin n L) (is : AreApart L nodes) where
-  -- there are no more of them than nodes
+  -- there are at most n neighbours
   pub near_few : (done near : List ℕ) → AreNear L done near → length near ≤ n
   near_few done near a = distinct_most near n a.differ (λ x c. let v = any_found (λ v. are_neighbours L v x) done ((a.each x).0 c) in neighbour_below n L v.0 x limits v.2)
 
-  -- whether a node is near one more node
+  -- a node is a neighbour of one of the first i + 1 nodes exactly if it is one of the first i, or of node i
   any_more : (i x : ℕ) → i < length nodes → list_any (λ v. are_neighbours L v x) (take (i + 1) nodes) ≡ (list_any (λ v. are_neighbours L v x) (take i nodes) || are_neighbours L (get_or nodes i 0) x)
   any_more i x lt =
       let p : ℕ → Bool = λ v. are_neighbours L v x in
@@ -86,7 +86,7 @@ module _ (n : ℕ) (L : Legs) (nodes : List ℕ) (limits : AreLegsWithin n L) (i
       one false = refl
 
   module _ (i : ℕ) (lt : i < length nodes) (up down : List Leg) (from : AreLegsFrom L (get_or nodes i 0) up) (to : AreLegsTo L (get_or nodes i 0) down) where
-    -- no node is near this node and an earlier one
+    -- no node is a neighbour of this node and of an earlier one
     near_one : (x : ℕ) → list_any (λ v. are_neighbours L v x) (take i nodes) ≡ true → are_neighbours L (get_or nodes i 0) x ≡ true → ⊥
     near_one x past now =
         let v : ℕ = get_or nodes i 0 in
@@ -95,7 +95,7 @@ module _ (n : ℕ) (L : Legs) (nodes : List ℕ) (limits : AreLegsWithin n L) (i
         let ne : u.0 ≢ v = λ e. not_before i nodes lt is.distinct (subst (Contains (take i nodes)) e u.1) in
         is.apart u.0 v member (Contains-get_or nodes i 0 lt) ne (inr (x, u.2, neighbours_flip L x v ∙ now))
 
-    -- the neighbours of one more node
+    -- the list after the neighbours of one more node are appended
     pub near_more : (near : List ℕ) → AreNear L (take i nodes) near → AreNear L (take (i + 1) nodes) (near ++ neighbours_in up down)
     near_more near a = record {
       each = λ x. (
@@ -118,7 +118,7 @@ module _ (n : ℕ) (L : Legs) (nodes : List ℕ) (limits : AreLegsWithin n L) (i
         at x true e f = Contains-append_left near (neighbours_in up down) x ((a.each x).1 e)
         at x false e f = Contains-append_right near (neighbours_in up down) x (neighbour_listed L (get_or nodes i 0) up down from to x f)
 
-    -- and their depths
+    -- the depths after the neighbours of one more node get theirs
     pub deepened_near : (old before after around : List ℕ) → around ≡ neighbours_in up down → ((x : ℕ) → slice_index before x ≡ depth_after_round L (take i nodes) (λ y. slice_index old y) x) →
         AreDeepened around (slice_index before (get_or nodes i 0) + 1) before after → (x : ℕ) → slice_index after x ≡ depth_after_round L (take (i + 1) nodes) (λ y. slice_index old y) x
     deepened_near old before after around e known d x =

@@ -14,7 +14,7 @@ use Rattle.ch_graph.proofs.Lists.{contains_head, contains_tail, contains_map, co
 use Rattle.ch_hierarchy.proofs.theory.Ordered.{contains_or_not}
 use Rattle.ch_contract.proofs.theory.RowLegs.{leg_at, row_has, row_member}
 
--- where the test finds a node, a leg has it
+-- if the test for a node holds, a leg has this node
 node_found : (legs : List Leg) (x : ℕ) → has_node legs x ≡ true → (l : Leg) × Contains legs l × (l.node ≡ x)
 node_found [] x e = cc
 node_found (k ∷ legs) x e = at (k.node == x) refl e (node_found legs x)
@@ -48,7 +48,7 @@ module _ (L : Legs) (v : ℕ) (up down : List Leg) (from : AreLegsFrom L v up) (
       at None (Some l) p q t = in_down (has_node up x) (leg_at x l) refl (row_member down x l (to.1 x ∙ q))
       at None None p q t = cc
 
-  -- what is listed is a neighbour
+  -- a listed node is a neighbour
   pub listed_neighbour : (x : ℕ) → Contains (neighbours_in up down) x → are_neighbours L v x ≡ true
   listed_neighbour x c = elim (Contains-append_cases (map (λ (k : Leg). k.node) up) _ x c) [
     | inl first ↦
@@ -66,11 +66,11 @@ module _ (L : Legs) (v : ℕ) (up down : List Leg) (from : AreLegsFrom L v up) (
       some_right true o l e = refl
       some_right false o l e = ap is_some e
 
-  -- what is no neighbour is not listed
+  -- a node that is no neighbour is not listed
   pub not_listed : (x : ℕ) → are_neighbours L v x ≡ false → Contains (neighbours_in up down) x → ⊥
   not_listed x e c = false≢true (sym e ∙ listed_neighbour x c)
 
-  -- a neighbour is a node
+  -- a neighbour is below the number of nodes
   pub neighbour_within : (n x : ℕ) → AreLegsWithin n L → Contains (neighbours_in up down) x → x < n
   neighbour_within n x within c = at (L v x) (L x v) refl refl (listed_neighbour x c)
     where
@@ -79,7 +79,7 @@ module _ (L : Legs) (v : ℕ) (up down : List Leg) (from : AreLegsFrom L v up) (
       at None (Some l) p q t = (within x v l q).ends.0
       at None None p q t = cc
 
--- one more node lies at least so deep
+-- the depths after one more node gets at least this depth
 pub deepened_more : (nodes : List ℕ) (i deep : ℕ) (before middle : List ℕ) → i < length nodes → get_or nodes i 0 < length middle → AreDeepened (take i nodes) deep before middle → AreDeepened (take (i + 1) nodes) deep before (set middle (get_or nodes i 0) (max (slice_index middle (get_or nodes i 0)) deep))
 deepened_more nodes i deep before middle lt within known =
     let more = take_more nodes i 0 lt in

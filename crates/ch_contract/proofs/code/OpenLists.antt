@@ -1,4 +1,4 @@
--- The opening legs, put into two lists of lists arc after arc.
+-- The opening legs, which are put into two lists of lists arc after arc.
 use Rattle.std.proofs.Common.{◌≡◌, ℕ, ◌+◌, ◌<◌, ◌≤◌, Bool, true, false, cond, List, [], ◌∷◌, ◌++◌, length, get_or, take, replicate, Option, Some, None, refl, sym, ◌∙◌, ap, subst, arith, inl, inr}
 use Rattle.std.specs.Prelude.{◌==◌, ◌&&◌, if◌then◌else◌, ◌≢◌, option_map, filter, not}
 use Rattle.std.proofs.lemmas.List.{get_or-replicate, get_or_past, length-replicate, take_more, append-nil}
@@ -18,7 +18,7 @@ use Rattle.ch_contract.proofs.theory.Opening.{joins, opens, same_within}
 use Rattle.ch_contract.proofs.theory.OpeningLegs.{opening_within}
 use Rattle.ch_contract.proofs.code.ListEdits.{turn}
 
--- the least weight with one more arc
+-- the least weight after one more arc
 pub least_weight_push : (u w : ℕ) (arcs : List InArc) (a : InArc) →
     least_weight u w (arcs ++ a ∷ []) ≡ (if a.from == u && a.to == w then Some (lesser_weight a.weight (least_weight u w arcs)) else least_weight u w arcs)
 least_weight_push u w [] a = refl
@@ -34,7 +34,7 @@ least_weight_push u w (x ∷ arcs) a = at (x.from == u && x.to == w) (a.from == 
     at true false e = ap (λ o. Some (lesser_weight x.weight o)) e
     at false q e = e
 
--- the lightest arcs, with one more
+-- the legs of the lightest arcs after one more arc
 more_open : (arcs : List InArc) (a : InArc) (L M : Legs) → ArcsOpen arcs L →
     ((u w : ℕ) → M u w ≡ (if a.from == u && a.to == w then Some (lighter_arc a.weight (L a.from a.to)) else L u w)) → ArcsOpen (arcs ++ a ∷ []) M
 more_open arcs a L M opened says u w = says u w ∙ at (a.from == u && a.to == w) refl ∙ sym (ap arc_label_of (least_weight_push u w arcs a))
@@ -60,14 +60,14 @@ pub record AreOpenLists (n : ℕ) (arcs : List InArc) (outs ins : List (List Leg
   pub out_legs : ArcsOpen arcs (legs_from outs)
   pub in_legs : ArcsOpen arcs (legs_into ins)
 
--- a list of empty lists
+-- each row of a list of empty lists is empty
 no_row : (n x : ℕ) → row (replicate n []) x ≡ []
 no_row n x = elim (cases_lt x n) [
   | inl lt ↦ get_or-replicate n x [] [] lt
   | inr ge ↦ get_or_past (replicate n []) x [] (omega (arith, length-replicate {A = List Leg} n []))
 ]
 
--- at first no leg stands
+-- at first there is no leg
 pub open_none : (n : ℕ) (outs ins : List (List Leg)) → outs ≡ replicate n [] → ins ≡ replicate n [] → AreOpenLists n [] outs ins
 open_none n outs ins e f = subst (λ (z : List (List Leg)). AreOpenLists n [] z ins) (sym e) (subst (λ (z : List (List Leg)). AreOpenLists n [] (replicate n []) z) (sym f) (record {
   sizes = (length-replicate n [], length-replicate n []);
@@ -79,7 +79,7 @@ open_none n outs ins e f = subst (λ (z : List (List Leg)). AreOpenLists n [] z 
     ordered : AreRows (replicate n [])
     ordered x = subst IsRow (sym (no_row n x)) (λ i j d less lt. absurd (omega arith))
 
--- one arc more, on both sides
+-- the lists after one more arc is put in on both sides
 pub open_more : (n : ℕ) (arcs : List InArc) (a : InArc) (outs ins new_outs new_ins : List (List Leg)) → AreOpenLists n arcs outs ins →
     IsSet a.from a.to (Some (lighter_arc a.weight (row_leg (row outs a.from) a.to))) outs new_outs →
     IsSet a.to a.from (Some (lighter_arc a.weight (row_leg (row ins a.to) a.from))) ins new_ins → AreOpenLists n (arcs ++ a ∷ []) new_outs new_ins
@@ -90,11 +90,11 @@ open_more n arcs a outs ins new_outs new_ins o s t = record {
   in_legs = more_open arcs a (legs_into ins) (legs_into new_ins) o.in_legs (λ u w. t.legs w u ∙ turn (a.to == w) (a.from == u) (Some (lighter_arc a.weight (legs_into ins a.from a.to))) (legs_into ins u w));
 }
 
--- what stands past the end of a list of arcs
+-- the default arc of a read past the end of a list of arcs
 abbrev pub no_arc : InArc
 no_arc = record { from = 0; to = 0; weight = 0 }
 
--- the next arc, which joins two nodes
+-- the lists after the next arc, if it joins two nodes
 pub open_next : (n : ℕ) (arcs : List InArc) (i : ℕ) (d : InArc) (outs ins new_outs new_ins : List (List Leg)) → i < length arcs → (get_or arcs i d).from ≢ (get_or arcs i d).to →
     AreOpenLists n (filter joins (take i arcs)) outs ins →
     IsSet (get_or arcs i d).from (get_or arcs i d).to (Some (lighter_arc (get_or arcs i d).weight (row_leg (row outs (get_or arcs i d).from) (get_or arcs i d).to))) outs new_outs →
@@ -107,7 +107,7 @@ open_next n arcs i d outs ins new_outs new_ins lt apart o s t =
     (subst (λ z. AreOpenLists n z new_outs new_ins) (sym (filter-append joins (take i arcs) (a ∷ []) ∙ ap (λ b. filter joins (take i arcs) ++ cond (not b) (a ∷ []) []) other))
     (open_more n (filter joins (take i arcs)) a outs ins new_outs new_ins o s t))
 
--- and a loop, which is left out
+-- the lists after the next arc, if it is a loop, which is left out
 pub open_skips : (n : ℕ) (arcs : List InArc) (i : ℕ) (d : InArc) (outs ins : List (List Leg)) → i < length arcs → (get_or arcs i d).from ≡ (get_or arcs i d).to →
     AreOpenLists n (filter joins (take i arcs)) outs ins → AreOpenLists n (filter joins (take (i + 1) arcs)) outs ins
 open_skips n arcs i d outs ins lt same o =
@@ -116,7 +116,7 @@ open_skips n arcs i d outs ins lt same o =
     subst (λ z. AreOpenLists n (filter joins z) outs ins) (sym (take_more arcs i d lt))
     (subst (λ z. AreOpenLists n z outs ins) (sym (filter-append joins (take i arcs) (a ∷ []) ∙ ap (λ b. filter joins (take i arcs) ++ cond (not b) (a ∷ []) []) loop ∙ append-nil (filter joins (take i arcs)))) o)
 
--- where all arcs are put in, both sides hold the opening legs, within the limits
+-- after all arcs are put in, both sides have the opening legs, within the limits
 pub open_all : (g : Network) (n : ℕ) (arcs : List InArc) (i : ℕ) (outs ins : List (List Leg)) → IsWithinGraphLimits g → n ≡ g.nodes → arcs ≡ g.arcs → length arcs ≤ i →
     AreOpenLists n (filter joins (take i arcs)) outs ins → IsWithinLimits n outs ins × SameLegs (legs_from outs) (opening g)
 open_all g n arcs i outs ins limits nodes same past o =

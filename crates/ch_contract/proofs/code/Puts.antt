@@ -1,4 +1,4 @@
--- Shortcuts put in one after the other.
+-- The legs while shortcuts are put in one after the other.
 use Rattle.std.proofs.Common.{◌≡◌, ℕ, ◌+◌, ◌<◌, Bool, true, false, cond, List, [], ◌∷◌, ◌++◌, length, get_or, take, Option, Some, All, refl, sym, ◌∙◌, ap, subst, arith}
 use Rattle.std.specs.Prelude.{◌==◌, ◌&&◌, if◌then◌else◌, AllPairs}
 use Rattle.std.proofs.lemmas.List.Elements.{All-head, All-tail}
@@ -8,7 +8,7 @@ use Rattle.ch_contract.specs.Contraction.{IsPairBefore, leg_after_shortcuts, sho
 use Rattle.ch_contract.specs.Legs.{Label}
 use Rattle.ch_hierarchy.proofs.theory.Ordered.{same_ends}
 
--- one more shortcut: it stands where no earlier one has its ends
+-- the legs after one more shortcut: it is the leg between its ends, because no earlier shortcut has the same ends
 pub overridden_push : (v : ℕ) (xs : List Shortcut) (s : Shortcut) (u w : ℕ) (before : Option Label) →
     All (λ t. IsPairBefore t s) xs →
     leg_after_shortcuts v (xs ++ s ∷ []) u w before ≡ (if s.from == u && s.to == w then Some (shortcut_label v s) else leg_after_shortcuts v xs u w before)
@@ -22,14 +22,14 @@ overridden_push v (t ∷ xs) s u w before earlier = at (t.from == u && t.to == w
     at true false e f more = refl
     at false b e f more = more
 
--- each element stands in order before the one at i
+-- each element before place i comes before the one at place i
 pub earlier_at : (xs : List Shortcut) (i : ℕ) (d : Shortcut) → i < length xs → AllPairs IsPairBefore xs →
     All (λ t. IsPairBefore t (get_or xs i d)) (take i xs)
 earlier_at xs i d lt h k e in' =
     let within : k < i = omega (arith, length-take i xs) in
     subst (λ t. IsPairBefore t (get_or xs i d)) (sym (get_or-take i xs k e within)) (subst (λ t. IsPairBefore (get_or xs k e) t) (get_or_default xs i e d lt) (h k i e within lt))
 
--- the next shortcut is put over those before it
+-- the legs after the next shortcut is put in
 pub next_shortcut : (v : ℕ) (xs : List Shortcut) (i : ℕ) (d : Shortcut) (u w : ℕ) (o before : Option Label) → i < length xs →
     AllPairs IsPairBefore xs → o ≡ leg_after_shortcuts v (take i xs) u w before →
     (if (get_or xs i d).from == u && (get_or xs i d).to == w then Some (shortcut_label v (get_or xs i d)) else o) ≡ leg_after_shortcuts v (take (i + 1) xs) u w before

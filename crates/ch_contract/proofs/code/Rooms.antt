@@ -14,7 +14,7 @@ use Rattle.ch_contract.specs.Rooms.{IsReady, AreIdle, list_at}
 abbrev pub views : List (Vec Shortcut) → List (List Shortcut)
 views lists = map (λ v. v.items) lists
 
--- one node more is judged: its shortcuts stand behind those that are kept
+-- the room after one more node is judged: its shortcuts come after those that are kept
 pub ready_more : (n h : ℕ) (L : Legs) (old new : Room) (mid : List (Vec Shortcut)) (v : ℕ) (list : Vec Shortcut) → IsReady n h L old → AreIdle new.searches →
     new.judged.items ≡ old.judged.items ++ v ∷ [] → new.lists.items ≡ set mid (length old.judged.items) list → length old.judged.items < length mid →
     ((k : ℕ) → k < length old.judged.items → get_or (views mid) k [] ≡ list_at old k) → AreShortcuts n h L v list.items → IsReady n h L new
@@ -38,7 +38,7 @@ ready_more n h L old new mid v list ready idle judged lists inside same are = re
         let there : list_at new k ≡ list_at old k = ap (λ z. get_or z k []) views_are ∙ get_or-set_other (views mid) (length old.judged.items) k list.items [] ne ∙ same k early in
         subst (λ x. AreShortcuts n h L x (list_at new k)) (sym here) (subst (AreShortcuts n h L (slice_index old.judged.items k)) (sym there) (ready.kept k early))
 
--- a spare list more changes none
+-- one more spare list leaves the other lists as they are
 pub spare_more : (lists mid : List (Vec Shortcut)) (list : Vec Shortcut) (k : ℕ) → mid ≡ lists ++ list ∷ [] → k < length lists → get_or (views mid) k [] ≡ get_or (views lists) k []
 spare_more lists mid list k is lt =
     ap (λ z. get_or (views z) k []) is ∙ ap (λ z. get_or z k []) (map-append (λ (v : Vec Shortcut). v.items) lists (list ∷ []))

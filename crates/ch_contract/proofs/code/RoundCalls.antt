@@ -1,4 +1,4 @@
--- What one round of a construction gives, from what its calls give.
+-- One round of a construction, from the clauses of its calls.
 use Rattle.std.proofs.Common.{◌≡◌, ℕ, ◌+◌, ◌<◌, ◌≤◌, Bool, true, false, not, List, [], length, get_or, sym, ◌∙◌, ap, subst, arith, inl, inr, Contains}
 use Rattle.std.specs.Prelude.{◌↔◌, ◌*◌, ◌&&◌, ◌||◌, nat_lt, if◌then◌else◌, slice_index, slice_index_or, All, AllPairs, ℤ, pos}
 use Rattle.std.specs.List.{list_any, range_with_len}
@@ -52,21 +52,21 @@ split_apart keys L left nodes rest s = record {
   apart = λ v x p q ne near. ne (both_before _ _ (mixed_number v) (mixed_number x) v x (((s.first v).0 p).1 x near) (((s.first x).0 q).1 v (within_flip L v x near)));
 }
 
--- the nodes of a round are nodes that are left
+-- the nodes of a round are below the number of nodes
 pub split_left : (P : ℕ → Type 0) (n : ℕ) (left nodes rest : List ℕ) → All (λ x. x < n) left → IsSplit P left nodes rest → All (λ x. x < n) nodes
 split_left P n left nodes rest all s = λ k d lt. All-contains (λ x. x < n) left (get_or nodes k d) all ((s.first (get_or nodes k d)).0 (Contains-get_or nodes k d lt)).0
 
--- and so are the others
+-- the nodes of the rest are below the number of nodes
 pub split_rest : (P : ℕ → Type 0) (n : ℕ) (left nodes rest : List ℕ) → All (λ x. x < n) left → IsSplit P left nodes rest → All (λ x. x < n) rest
 split_rest P n left nodes rest all s = λ k d lt. All-contains (λ x. x < n) left (get_or rest k d) all ((s.waits (get_or rest k d)).0 (Contains-get_or rest k d lt)).0
 
--- the neighbours of the nodes of a round are nodes
+-- the neighbours of the nodes of a round are below the number of nodes
 pub near_below : (n : ℕ) (L : Legs) (nodes near : List ℕ) → AreLegsWithin n L → ((x : ℕ) → Contains near x ↔ (list_any (λ v. are_neighbours L v x) nodes ≡ true)) → All (λ x. x < n) near
 near_below n L nodes near limits is = λ k d lt.
     let v = any_found (λ v. are_neighbours L v (get_or near k d)) nodes ((is (get_or near k d)).0 (Contains-get_or near k d lt)) in
     neighbour_below n L v.0 (get_or near k d) limits v.2
 
--- so are those whose shortcuts are counted
+-- the nodes whose shortcuts are counted are below the number of nodes
 pub due_below : (n m before after : ℕ) (near rest : List ℕ) → All (λ x. x < m) near → All (λ x. x < m) rest → All (λ x. x < m) (due_of n before after near rest)
 due_below n m before after near rest below others = at (nat_lt (10 * after) (7 * n)) (nat_lt (10 * before) (7 * n))
   where
@@ -75,20 +75,20 @@ due_below n m before after near rest below others = at (nat_lt (10 * after) (7 *
     at false true = others
     at false false = below
 
--- a node of the rest is listed where its shortcuts are counted
+-- a node of the rest is in the list of nodes to count if its count is due
 due_in : (early first any : Bool) (near rest : List ℕ) (x : ℕ) → Contains rest x → (Contains near x ↔ (any ≡ true)) → (not early && (first || any)) ≡ true → Contains (if early then [] else (if first then rest else near)) x
 due_in true first any near rest x c is e = absurd (true≢false (sym e))
 due_in false true any near rest x c is e = c
 due_in false false any near rest x c is e = is.1 e
 
--- and only there
+-- a node whose count is not due is not in the list of nodes to count
 due_out : (early first any : Bool) (near rest : List ℕ) (x : ℕ) → (Contains near x ↔ (any ≡ true)) → (not early && (first || any)) ≡ false → Contains (if early then [] else (if first then rest else near)) x → ⊥
 due_out true first any near rest x is e c = contains_none x c
 due_out false true any near rest x is e c = true≢false e
 due_out false false any near rest x is e c = true≢false (sym (is.0 c) ∙ e)
 
 module _ (h : ℕ) (before after : ConstructionByRounds) (nodes near : List ℕ) (keys : List ℤ) (closed : (v x : ℕ) → are_neighbours (legs_of before.remaining) v x ≡ true → Contains before.left.items x) (s : IsSteppedByRound h before after nodes near keys) where
-  -- what lies within two legs is left
+  -- a node within two legs of another remains
   near_left : (v x : ℕ) → IsWithinTwoLegs (legs_of before.remaining) v x → Contains before.left.items x
   near_left v x close = elim close [
     | inl one ↦ closed v x one
@@ -115,19 +115,19 @@ module _ (h : ℕ) (before after : ConstructionByRounds) (nodes near : List ℕ)
     );
   }
 
-  -- the nodes whose shortcuts are counted
+  -- a remaining node whose count is due is in the list of nodes to count
   listed_due : (x : ℕ) → Contains after.left.items x → is_due before.remaining.nodes (round_progress_of before) nodes x ≡ true → Contains (due_of before.remaining.nodes before.contracted after.contracted near after.left.items) x
   listed_due x c e =
       let count = s.contracted in
       subst (λ k. Contains (due_of before.remaining.nodes before.contracted k near after.left.items) x) (sym count) (due_in _ _ _ near after.left.items x c (s.around x) e)
 
-  -- and the others
+  -- a node whose count is not due is not in this list
   not_due : (x : ℕ) → is_due before.remaining.nodes (round_progress_of before) nodes x ≡ false → Contains (due_of before.remaining.nodes before.contracted after.contracted near after.left.items) x → ⊥
   not_due x e c =
       let count = s.contracted in
       due_out _ _ _ near after.left.items x (s.around x) e (subst (λ k. Contains (due_of before.remaining.nodes before.contracted k near after.left.items) x) count c)
 
-  -- so it is one round on
+  -- the construction has made one round
   pub stepped_by_round : IsRoundStep before.remaining.nodes h (round_progress_of before) nodes (round_progress_of after)
   stepped_by_round = record {
     round = is_round;
@@ -147,7 +147,7 @@ module _ (h : ℕ) (before after : ConstructionByRounds) (nodes near : List ℕ)
     others = λ x away. (s.ranked.kept x away, s.up.kept x away, s.down.kept x away);
   }
 
-  -- and keeps its sizes
+  -- the construction keeps its sizes
   pub sized_by_round : IsSizedByRounds before → IsSizedByRounds after
   sized_by_round sizes =
       let count = s.count in
@@ -164,7 +164,7 @@ module _ (h : ℕ) (before after : ConstructionByRounds) (nodes near : List ℕ)
         downs = s.down.size ∙ sizes.downs ∙ sym count;
       }
 
--- once no node is left, the levels and the rows are those of all nodes
+-- when no node remains, the hierarchy has the levels and the rows of all nodes
 pub rounds_end : (c : ConstructionByRounds) (H : LevelsAndLegs) → IsSizedByRounds c → length c.left.items ≡ 0 → H.level ≡ c.levels.items → H.up ≡ c.remaining.ups → H.down ≡ c.remaining.downs → IsRoundsEnd c.remaining.nodes (round_progress_of c) H
 rounds_end c H sizes none level up down = record {
   none = λ x has. let inside = has.1 in absurd (omega arith);
@@ -173,7 +173,7 @@ rounds_end c H sizes none level up down = record {
   rows = λ x lt. (ap (λ l. row l x) up, ap (λ l. row l x) down);
 }
 
--- no node is contracted yet
+-- at the start no node is contracted
 pub rounds_open : (g : Network) (h : ℕ) (c : ConstructionByRounds) (first : List ℕ) → SameLegs (legs_of c.remaining) (opening g) → c.remaining.nodes ≡ g.nodes → c.left.items ≡ range_with_len 0 c.remaining.nodes →
     AreCounted c.remaining.nodes h (legs_of c.remaining) c.left.items first c.counts.items → ((x : ℕ) → slice_index c.depths.items x ≡ 0) → length c.levels.items ≡ c.remaining.nodes → c.contracted ≡ 0 → IsRoundsOpen g h (round_progress_of c)
 rounds_open g h c first same nodes left counted depths levels contracted =
@@ -198,7 +198,7 @@ numbers_ordered n i j d lt inside =
     let below : j < n = omega arith in
     omega (arith, get_or-range_with_len 0 n i d (omega arith), get_or-range_with_len 0 n j d below)
 
--- and a construction of which no node is contracted has its sizes
+-- a construction in which no node is contracted has its sizes
 pub sized_open : (c : ConstructionByRounds) → c.remaining.nodes ≤ MOST_NODES → c.left.items ≡ range_with_len 0 c.remaining.nodes → length c.counts.items ≡ c.remaining.nodes → length c.depths.items ≡ c.remaining.nodes → length c.keys.items ≡ c.remaining.nodes → length c.levels.items ≡ c.remaining.nodes →
     length c.remaining.ups ≡ c.remaining.nodes → length c.remaining.downs ≡ c.remaining.nodes → c.contracted ≡ 0 → IsSizedByRounds c
 sized_open c most left counts depths keys levels ups downs contracted = record {

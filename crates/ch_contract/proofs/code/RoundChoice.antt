@@ -1,4 +1,4 @@
--- The split of the nodes that are left into a round and the rest.
+-- The split of the remaining nodes into a round and the rest.
 use Rattle.std.proofs.Common.{◌≡◌, ℕ, ◌+◌, ◌<◌, Bool, true, false, List, [], ◌∷◌, ◌++◌, length, get_or, take, refl, sym, ◌∙◌, subst, arith, inl, inr, Contains}
 use Rattle.std.specs.Prelude.{◌↔◌, if◌then◌else◌, AllPairs, IsTrue}
 use Rattle.std.proofs.lemmas.Bool.{true≢false}
@@ -7,7 +7,7 @@ use Rattle.std.proofs.lemmas.List.Elements.{Contains-append_left, Contains-push,
 use Rattle.ch_graph.proofs.Lists.{contains_none, pairs_append}
 use Rattle.ch_contract.specs.RoundChoice.{IsSplit}
 
--- no node is split off at first
+-- at first both lists are empty
 pub split_none : (P : ℕ → Type 0) → IsSplit P [] [] []
 split_none P = record {
   ordered = (λ i j d lt inside. absurd (omega arith), λ i j d lt inside. absurd (omega arith));
@@ -25,7 +25,7 @@ ordered_push xs y ordered below =
       | inr same ↦ subst (λ w. x < w) same (below x c)
     ])
 
--- a node of the first i stands at a place before
+-- a node among the first i has a place below i
 pub earlier_at : (nodes : List ℕ) (i x : ℕ) → i < length nodes → Contains (take i nodes) x → (k : ℕ) × (k < i) × (get_or nodes k 0 ≡ x)
 earlier_at nodes i x lt c =
     let below = c.1 in
@@ -38,11 +38,11 @@ module _ (P : ℕ → Type 0) (nodes : List ℕ) (i : ℕ) (round rest : List �
   abbrev v : ℕ
   v = get_or nodes i 0
 
-  -- it comes after those before it
+  -- the next node has a greater number than those before it
   after : (x : ℕ) → Contains (take i nodes) x → x < v
   after x c = let at = earlier_at nodes i x lt c in subst (λ z. z < v) at.2 (ordered at.0 i 0 at.1 lt)
 
-  -- a list that has the nodes for which something holds, and v
+  -- a list of the nodes with Q, after v with Q is appended
   pushed : (Q : ℕ → Type 0) (list : List ℕ) → Q v → ((x : ℕ) → Contains list x ↔ (Contains (take i nodes) x × Q x)) → (x : ℕ) → Contains (list ++ v ∷ []) x ↔ (Contains (take (i + 1) nodes) x × Q x)
   pushed Q list is has x =
       let more = take_more nodes i 0 lt in (
@@ -56,7 +56,7 @@ module _ (P : ℕ → Type 0) (nodes : List ℕ) (i : ℕ) (round rest : List �
         ],
       )
 
-  -- a list of the others
+  -- a list of the nodes with Q, after v without Q is left out
   passed : (Q : ℕ → Type 0) (list : List ℕ) → (Q v → ⊥) → ((x : ℕ) → Contains list x ↔ (Contains (take i nodes) x × Q x)) → (x : ℕ) → Contains list x ↔ (Contains (take (i + 1) nodes) x × Q x)
   passed Q list away has x =
       let more = take_more nodes i 0 lt in (
@@ -67,11 +67,11 @@ module _ (P : ℕ → Type 0) (nodes : List ℕ) (i : ℕ) (round rest : List �
         ],
       )
 
-  -- as many are split
+  -- the number of nodes that are split grows by one
   counted : length (take (i + 1) nodes) ≡ length (take i nodes) + 1
   counted = omega (arith, length-take-le i nodes (omega arith), length-take-le (i + 1) nodes (omega arith))
 
-  -- the next node is in the round
+  -- the split after the next node goes into the round
   pub split_in : P (get_or nodes i 0) → IsSplit P (take (i + 1) nodes) (round ++ get_or nodes i 0 ∷ []) rest
   split_in is = record {
     ordered = (ordered_push round v known.ordered.0 (λ x c. after x ((known.first x).0 c).0), known.ordered.1);
@@ -80,7 +80,7 @@ module _ (P : ℕ → Type 0) (nodes : List ℕ) (i : ℕ) (round rest : List �
     count = let count = known.count in omega (arith, counted, length_push round v);
   }
 
-  -- or it waits
+  -- the split after the next node goes into the rest
   pub split_off : (P (get_or nodes i 0) → ⊥) → IsSplit P (take (i + 1) nodes) round (rest ++ get_or nodes i 0 ∷ [])
   split_off waits = record {
     ordered = (known.ordered.0, ordered_push rest v known.ordered.1 (λ x c. after x ((known.waits x).0 c).0));
@@ -89,7 +89,7 @@ module _ (P : ℕ → Type 0) (nodes : List ℕ) (i : ℕ) (round rest : List �
     count = let count = known.count in omega (arith, counted, length_push rest v);
   }
 
-  -- as the test of the node says
+  -- the split after the next node goes where its test says
   pub split_more : (b : Bool) → (IsTrue b ↔ P (get_or nodes i 0)) → IsSplit P (take (i + 1) nodes) (if b then round ++ get_or nodes i 0 ∷ [] else round) (if b then rest else rest ++ get_or nodes i 0 ∷ [])
   split_more true is = split_in (is.0 refl)
   split_more false is = split_off (λ yes. true≢false (sym (is.1 yes)))

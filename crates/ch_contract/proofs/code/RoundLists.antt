@@ -1,4 +1,4 @@
--- The shortcuts of the nodes of a round, in a list for each node, and put in one after the other.
+-- The shortcuts of the nodes of a round are in a list for each node, and are put in one after the other.
 use Rattle.std.proofs.Common.{◌≡◌, ℕ, ◌+◌, ◌<◌, List, [], ◌∷◌, length, get_or, take, sym, ◌∙◌, ap, subst, inl, inr, Contains}
 use Rattle.std.specs.Prelude.{◌≢◌, ◌==◌, if◌then◌else◌, AllPairs}
 use Rattle.std.specs.List.{AllZip}
@@ -21,21 +21,21 @@ use Rattle.ch_contract.proofs.theory.Contracting.{shortcut_within}
 use Rattle.ch_contract.proofs.code.ListEdits.{no_shortcut}
 use Rattle.ch_contract.proofs.code.Touching.{among_same, touching_from, touching_to, are_touching}
 
--- what is related place by place is related otherwise, too, for members of the first list
+-- a relation at each place of two lists may be replaced by one that follows from it for members of the first list
 pub zipped_also : {A B : Type 0} (R S : A → B → Type 0) (xs : List A) (ys : List B) → ((x : A) (y : B) → Contains xs x → R x y → S x y) → AllZip R xs ys → AllZip S xs ys
 zipped_also R S [] [] f all = tt
 zipped_also R S [] (y ∷ ys) f all = absurd all
 zipped_also R S (x ∷ xs) [] f all = absurd all
 zipped_also R S (x ∷ xs) (y ∷ ys) f all = (f x y (contains_head x xs) all.0, zipped_also R S xs ys (λ z w c r. f z w (contains_tail z x xs c) r) all.1)
 
--- two relations give a third
+-- two relations at each place of two lists give a third
 zipped_two : {A B : Type 0} (R S T : A → B → Type 0) (xs : List A) (ys : List B) → ((x : A) (y : B) → Contains xs x → R x y → S x y → T x y) → AllZip R xs ys → AllZip S xs ys → AllZip T xs ys
 zipped_two R S T [] [] f all also = tt
 zipped_two R S T [] (y ∷ ys) f all also = absurd all
 zipped_two R S T (x ∷ xs) [] f all also = absurd all
 zipped_two R S T (x ∷ xs) (y ∷ ys) f all also = (f x y (contains_head x xs) all.0 also.0, zipped_two R S T xs ys (λ z w c r s. f z w (contains_tail z x xs c) r s) all.1 also.1)
 
--- what holds of each member of the first list
+-- a property at each place of two lists holds of each member of the first list
 zipped_each : {B : Type 0} (P : ℕ → Type 0) (xs : List ℕ) (ys : List B) → AllZip (λ x y. P x) xs ys → (v : ℕ) → Contains xs v → P v
 zipped_each P [] ys all v c = absurd (contains_none v c)
 zipped_each P (x ∷ xs) [] all v c = absurd all
@@ -45,7 +45,7 @@ zipped_each P (x ∷ xs) (y ∷ ys) all v c = elim (contains_cons x v xs c) [
 ]
 
 module _ {A : Type 0} (read : A → List Shortcut) where
-  -- the list of a node, where lists stand at the places of nodes
+  -- the list of a node, if the lists are at the places of the nodes
   abbrev pub list_for : List ℕ → List A → ℕ → List Shortcut
   list_for [] lists v = []
   list_for (x ∷ nodes) [] v = []
@@ -71,7 +71,7 @@ put_in n h v K W list limits are = (
       (λ i lt. shortcut_within n K v list limits (λ s c. (are.sound s c).pair) _ (are.sound _ (Contains-get_or list i no_shortcut lt)).pair),
 )
 
--- the legs of one more node are put in
+-- the legs after the shortcuts of one more node are put in
 pub with_more : (nodes : List ℕ) (i : ℕ) (f : ℕ → List Shortcut) (list : List Shortcut) (K L M : Legs) → i < length nodes → f (get_or nodes i 0) ≡ list → ((u w : ℕ) → L u w ≡ legs_with_shortcuts (take i nodes) f K u w) →
     ((u w : ℕ) → M u w ≡ leg_after_shortcuts (get_or nodes i 0) list u w (L u w)) → (u w : ℕ) → M u w ≡ legs_with_shortcuts (take (i + 1) nodes) f K u w
 with_more nodes i f list K L M lt same known put u w =
@@ -83,11 +83,11 @@ with_more nodes i f list K L M lt same known put u w =
     ∙ ap (λ l. legs_with_shortcuts l f K u w) (sym (take_more nodes i 0 lt))
 
 module _ (n h : ℕ) (nodes : List ℕ) (before away : RemainingLegs) (limits : AreLegsWithin n (legs_of before)) (is : AreApart (legs_of before) nodes) (t : AreTakenOut nodes before away) where
-  -- a node of the round still has its legs in its rows
+  -- the rows of a node of the round have its legs from before the round
   pub touched : (v : ℕ) → Contains nodes v → AreTouching n MOST_WEIGHT v (row away.ups v) (row away.downs v)
   touched v c = are_touching (legs_of before) v (row away.ups v) (row away.downs v) (t.up.legs v c) (t.down.legs v c) n MOST_WEIGHT limits (λ u w l e. (limits u w l e).weight)
 
-  -- the shortcuts of its rows, with witnesses among the legs that are left, are those of the round
+  -- the shortcuts of these rows, with witnesses among the remaining legs, are the shortcuts of the round
   of_round : (v : ℕ) (list : List Shortcut) → Contains nodes v → AreShortcutsAmong n h (legs_touching v (row away.ups v) (row away.downs v)) (legs_of away) v list → AreShortcutsAmong n h (legs_of before) (legs_away nodes (legs_of before)) v list
   of_round v list c are =
       let up = t.up.legs v c in
@@ -96,7 +96,7 @@ module _ (n h : ℕ) (nodes : List ℕ) (before away : RemainingLegs) (limits : 
       (touching_from (legs_of before) v (row away.ups v) (row away.downs v) up down) (touching_to (legs_of before) v (row away.ups v) (row away.downs v) up down)
       (subst (λ (W : Legs). AreShortcutsAmong n h (legs_touching v (row away.ups v) (row away.downs v)) W v list) (one_map (legs_of away) (legs_away nodes (legs_of before)) t.legs) are)
 
-  -- so once they are put in, the round is contracted
+  -- after these shortcuts are put in, the round is contracted
   pub round_done : {A : Type 0} (read : A → List Shortcut) (lists : List A) (M : Legs) → AllZip (λ v list. AreShortcutsAmong n h (legs_touching v (row away.ups v) (row away.downs v)) (legs_of away) v (read list)) nodes lists →
       ((f : ℕ → List Shortcut) → AllZip (λ v list. f v ≡ read list) nodes lists → (u w : ℕ) → M u w ≡ legs_with_shortcuts nodes f (legs_of away) u w) → ContractsRound n h (legs_of before) nodes M
   round_done {A} read lists M all put =

@@ -1,4 +1,4 @@
--- Values that are written at the places of nodes, one after the other.
+-- A list while values are written at the places of nodes, one after the other.
 use Rattle.std.proofs.Common.{◌≡◌, ℕ, ◌+◌, ◌<◌, List, [], ◌∷◌, ◌++◌, length, get_or, set, take, refl, sym, ◌∙◌, subst, arith, inl, inr, Contains, length-set, get_or-set_same, get_or-set_other}
 use Rattle.std.specs.Prelude.{◌≢◌, AllPairs, slice_index, slice_index_or}
 use Rattle.std.specs.List.{AllZip}
@@ -9,11 +9,11 @@ use Rattle.ch_graph.proofs.Lists.{contains_none}
 use Rattle.ch_contract.specs.SetEach.{AreGiven, AreRanked}
 use Rattle.ch_contract.proofs.code.KeptPriorities.{zipped_at}
 
--- the first i + 1 of the nodes have one at place i
+-- the first i + 1 nodes are i + 1 nodes
 size_more : (nodes : List ℕ) (i : ℕ) → i < length nodes → length (take (i + 1) nodes) ≡ i + 1
 size_more nodes i lt = length-take-le (i + 1) nodes (omega arith)
 
--- what is none of the first i + 1 is not the last of them, and none of those before
+-- a number that is none of the first i + 1 nodes is not node i, and none of the first i
 away_both : (nodes : List ℕ) (i x : ℕ) → i < length nodes → (Contains (take (i + 1) nodes) x → ⊥) → (x ≢ get_or nodes i 0) × (Contains (take i nodes) x → ⊥)
 away_both nodes i x lt away =
     let more = take_more nodes i 0 lt in
@@ -22,11 +22,11 @@ away_both nodes i x lt away =
       λ c. away (subst (λ l. Contains l x) (sym more) (Contains-append_left (take i nodes) (v ∷ []) x c)),
     )
 
--- nothing is written at first
+-- at first no value is written
 pub given_none : {A : Type 0} (values before : List A) → AreGiven [] values before before
 given_none values before = record { size = refl; anew = λ x d c. absurd (contains_none x c); kept = λ x d away. refl }
 
--- one more value is written
+-- the list after one more value is written
 pub given_more : {A : Type 0} (nodes : List ℕ) (i : ℕ) (values before middle : List A) (y : A) → i < length nodes → get_or nodes i 0 < length middle → ((d : A) → get_or values i d ≡ y) → AreGiven (take i nodes) values before middle → AreGiven (take (i + 1) nodes) values before (set middle (get_or nodes i 0) y)
 given_more {A} nodes i values before middle y lt within is known =
     let v : ℕ = get_or nodes i 0 in
@@ -56,17 +56,17 @@ given_more {A} nodes i values before middle y lt within is known =
       kept = λ x d away. let both = away_both nodes i x lt away in get_or-set_other middle v x y d both.0 ∙ known.kept x d both.1;
     }
 
--- what relates nodes to their values relates each to what it was given
+-- a relation of the nodes to their values holds of each node and the value in the list
 pub given_by : {A : Type 0} (R : ℕ → A → Type 0) (nodes : List ℕ) (values before after : List A) → AllZip R nodes values → AreGiven nodes values before after → (x : ℕ) (d : A) → Contains nodes x → R x (slice_index_or after x d)
 given_by R nodes values before after all g x d c =
     let r = g.anew x d c in
     subst (R x) (sym r.3) (subst (λ z. R z (get_or values r.0 d)) r.2 (zipped_at R nodes values r.0 0 d all r.1))
 
--- no node is ranked at first
+-- at first no node has a level
 pub ranked_none : (contracted : ℕ) (before : List ℕ) → AreRanked [] contracted before before
 ranked_none contracted before = record { size = refl; anew = λ i lt. absurd (omega arith); kept = λ x away. refl }
 
--- one more node is ranked
+-- the levels after one more node gets its level
 pub ranked_more : (nodes : List ℕ) (i contracted : ℕ) (before middle : List ℕ) → i < length nodes → AllPairs ◌<◌ nodes → get_or nodes i 0 < length middle → AreRanked (take i nodes) contracted before middle → AreRanked (take (i + 1) nodes) contracted before (set middle (get_or nodes i 0) (contracted + i + 1))
 ranked_more nodes i contracted before middle lt ordered within known =
     let v : ℕ = get_or nodes i 0 in

@@ -1,4 +1,4 @@
--- The nodes of a round taken out one after the other.
+-- The legs while the nodes of a round are taken out one after the other.
 use Rattle.std.proofs.Common.{◌≡◌, ℕ, ◌+◌, ◌<◌, List, [], ◌∷◌, ◌++◌, length, take, drop, Option, Some, None, Contains, refl, sym, ◌∙◌, ap, subst, inl, inr}
 use Rattle.std.specs.Prelude.{◌≢◌, slice_index}
 use Rattle.std.proofs.lemmas.List.{take_more, take-append-drop}
@@ -18,7 +18,7 @@ use Rattle.ch_contract.proofs.theory.RoundPuts.{away_more}
 use Rattle.ch_contract.proofs.theory.RoundLegs.{one_of, none_of, away_leg, no_leg}
 use Rattle.ch_contract.proofs.code.Meetings.{one_more_taken}
 
--- nothing is taken out at first
+-- at first no node is taken out
 pub taken_none : (r : RemainingLegs) → AreTakenOut [] r r
 taken_none r = record {
   count = refl;
@@ -28,18 +28,18 @@ taken_none r = record {
 }
 
 module _ (n : ℕ) (L : Legs) (nodes : List ℕ) (limits : AreLegsWithin n L) (is : AreApart L nodes) (i : ℕ) (lt : i < length nodes) where
-  -- it is a node of the round, and none of the earlier ones
+  -- the next node is a node of the round
   among : Contains nodes (slice_index nodes i)
   among = Contains-get_or nodes i 0 lt
 
   fresh : Contains (take i nodes) (slice_index nodes i) → ⊥
   fresh = not_before i nodes lt is.distinct
 
-  -- those are nodes of the round
+  -- the first i nodes are nodes of the round
   earlier : (x : ℕ) → Contains (take i nodes) x → Contains nodes x
   earlier x c = subst (λ l. Contains l x) (take-append-drop i nodes) (Contains-append_left (take i nodes) (drop i nodes) x c)
 
-  -- it still has its legs
+  -- the next node still has all its legs
   same_from : (x : ℕ) → legs_away (take i nodes) L (slice_index nodes i) x ≡ L (slice_index nodes i) x
   same_from x = elim (contains_or_not (take i nodes) x) [
     | inl c ↦ rw (none_of (take i nodes) (slice_index nodes i) fresh, one_of (take i nodes) x c) (at c (L (slice_index nodes i) x) refl)
@@ -60,7 +60,7 @@ module _ (n : ℕ) (L : Legs) (nodes : List ℕ) (limits : AreLegsWithin n L) (i
       at c None e = sym e
       at c (Some l) e = absurd (no_leg n L nodes limits is x (slice_index nodes i) l (earlier x c) among e)
 
-  -- its legs are set aside
+  -- the lists set aside after the legs of the next node are set aside
   aside_more : (K M : Legs) (old mid new : List (List Leg)) → AreSetAside K (take i nodes) old mid → IsSetAside M (slice_index nodes i) mid new → ((x : ℕ) → M (slice_index nodes i) x ≡ K (slice_index nodes i) x) → AreSetAside K (take (i + 1) nodes) old new
   aside_more K M old mid new a s same = record {
     size = s.size ∙ a.size;
@@ -74,7 +74,7 @@ module _ (n : ℕ) (L : Legs) (nodes : List ℕ) (limits : AreLegsWithin n L) (i
         s.kept x ne ∙ a.kept x (λ c. away (subst (λ l. Contains l x) (sym more) (Contains-append_left (take i nodes) (slice_index nodes i ∷ []) x c)));
   }
 
--- one more node is taken out
+-- the legs after one more node is taken out
 pub taken_more : (nodes : List ℕ) (i : ℕ) (before mid after : RemainingLegs) → i < length nodes → AreLegsWithin before.nodes (legs_of before) → AreApart (legs_of before) nodes → AreTakenOut (take i nodes) before mid → after.nodes ≡ mid.nodes →
     SameLegs (legs_of after) (legs_after_contraction (legs_of mid) (slice_index nodes i) []) → IsSetAside (legs_of mid) (slice_index nodes i) mid.ups after.ups → IsSetAside (turned_legs (legs_of mid)) (slice_index nodes i) mid.downs after.downs →
     AreTakenOut (take (i + 1) nodes) before after

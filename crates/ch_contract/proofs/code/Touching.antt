@@ -1,4 +1,4 @@
--- The legs that touch a node, as two rows have them.
+-- The legs that touch a node, in its two rows.
 use Rattle.std.proofs.Common.{◌≡◌, ℕ, Bool, true, false, cond, List, Some, None, refl, sym, ◌∙◌, ap}
 use Rattle.std.specs.Prelude.{All, ◌≤◌, ◌==◌, if◌then◌else◌}
 use Rattle.std.proofs.lemmas.List.Elements.{All-contains}
@@ -17,7 +17,7 @@ use Rattle.ch_contract.specs.Rounds.{AreShortcutsAmong}
 use Rattle.ch_contract.specs.ShortcutLists.{legs_touching, AreTouching}
 use Rattle.ch_contract.proofs.theory.Contracting.{pair_of_shortcut}
 
--- pairs of legs through v are those of any legs that are the same at v
+-- pairs of legs through v depend only on the legs at v
 pair_same : (n : ℕ) (K L : Legs) (v : ℕ) → ((x : ℕ) → K v x ≡ L v x) → ((x : ℕ) → K x v ≡ L x v) → (s : Shortcut) → IsPairThrough n K v s → IsPairThrough n L v s
 pair_same n K L v from to s is = record {
   apart = is.apart;
@@ -26,7 +26,7 @@ pair_same n K L v from to s is = record {
   arcs = is.arcs;
 }
 
--- so are their shortcuts
+-- the shortcuts of v depend only on the legs at v and on the legs of witnesses
 pub among_same : (n h : ℕ) (K L W : Legs) (v : ℕ) (list : List Shortcut) → ((x : ℕ) → K v x ≡ L v x) → ((x : ℕ) → K x v ≡ L x v) → AreShortcutsAmong n h K W v list → AreShortcutsAmong n h L W v list
 among_same n h K L W v list from to are = record {
   ordered = are.ordered;
@@ -34,7 +34,7 @@ among_same n h K L W v list from to are = record {
   whole = λ s is. are.whole s (record { pair = pair_same n L K v (λ x. sym (from x)) (λ x. sym (to x)) s is.pair; needed = is.needed });
 }
 
--- shortcuts whose witnesses are among the legs themselves
+-- shortcuts with witnesses among the legs themselves are the shortcuts of v
 pub among_own : (n h : ℕ) (L : Legs) (v : ℕ) (list : List Shortcut) → AreShortcutsAmong n h L L v list → AreShortcuts n h L v list
 among_own n h L v list are = record {
   ordered = are.ordered;
@@ -47,7 +47,7 @@ module _ (L : Legs) (v : ℕ) (up down : List Leg) (from : AreLegsFrom L v up) (
   pub touching_from : (x : ℕ) → legs_touching v up down v x ≡ L v x
   touching_from x = rw (eqb-refl v) (from.1 x)
 
-  -- and those to it
+  -- the rows have the legs to v
   pub touching_to : (x : ℕ) → legs_touching v up down x v ≡ L x v
   touching_to x = at (x == v) refl
     where
@@ -55,7 +55,7 @@ module _ (L : Legs) (v : ℕ) (up down : List Leg) (from : AreLegsFrom L v up) (
       at true e = from.1 v ∙ ap (λ z. L z v) (sym (eqb-true x v e))
       at false e = rw (eqb-refl v) (to.1 x)
 
-  -- and no others
+  -- the rows have no other legs
   pub touching_leg : (u w : ℕ) (l : Label) → legs_touching v up down u w ≡ Some l → L u w ≡ Some l
   touching_leg u w l e = at (u == v) (w == v) refl refl e
     where
@@ -64,7 +64,7 @@ module _ (L : Legs) (v : ℕ) (up down : List Leg) (from : AreLegsFrom L v up) (
       at false true p q f = ap (L u) (eqb-true w v q) ∙ sym (to.1 u) ∙ f
       at false false p q f = absurd (none-some l f)
 
-  -- rows of legs that keep the limits
+  -- the rows touch v within the limits, if the legs do
   pub are_touching : (n limit : ℕ) → AreLegsWithin n L → AreLegsUpTo limit L → AreTouching n limit v up down
   are_touching n limit within light = record {
     from = (from.0, λ x. from.1 x ∙ sym (touching_from x));
@@ -73,11 +73,11 @@ module _ (L : Legs) (v : ℕ) (up down : List Leg) (from : AreLegsFrom L v up) (
     light = λ u w l e. light u w l (touching_leg u w l e);
   }
 
-  -- shortcuts of the rows are those of the node
+  -- the shortcuts of the rows are those of the node
   pub own_shortcuts : (n h : ℕ) (list : List Shortcut) → AreShortcutsAmong n h (legs_touching v up down) L v list → AreShortcuts n h L v list
   own_shortcuts n h list are = among_own n h L v list (among_same n h (legs_touching v up down) L L v list touching_from touching_to are)
 
--- rows without heavy legs
+-- rows of legs within a lower limit touch v within this limit
 pub lighter_touching : (n limit most v : ℕ) (up down : List Leg) → AreTouching n most v up down → All (λ l. l.cost.weight ≤ limit) up → All (λ l. l.cost.weight ≤ limit) down → AreTouching n limit v up down
 lighter_touching n limit most v up down are above below = record {
   from = are.from;

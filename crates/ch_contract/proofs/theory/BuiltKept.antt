@@ -1,4 +1,4 @@
--- The hierarchy of each order is kept.
+-- The contraction hierarchy in each order is kept.
 use Rattle.std.proofs.Common.{ℕ}
 use Rattle.ch_graph.specs.Graph.{Network, IsWithinLimits}
 use Rattle.ch_hierarchy.specs.Hierarchy.{LevelsAndLegs}
@@ -16,7 +16,7 @@ use Rattle.ch_contract.proofs.theory.RoundOrders.{hierarchies_by_rounds_kept}
 in_turn_kept : (by : OrderBy) (g : Network) (h : ℕ) (H : LevelsAndLegs) → IsWithinLimits g → IsHopBound h → IsHierarchyInTurn by g h H → IsKept g H
 in_turn_kept by g h H limits hops is = hierarchies_with_enough_kept g h H is.0 is.1 limits (hierarchy_with_enough g h H is.0 is.1 limits hops is.2)
 
--- so is that of each order
+-- the hierarchy in each order is kept
 pub hierarchies_kept : HierarchiesAreKept
 hierarchies_kept Difference g h H limits hops is = in_turn_kept Difference g h H limits hops is
 hierarchies_kept Depth g h H limits hops is = in_turn_kept Depth g h H limits hops is

@@ -1,4 +1,4 @@
--- How many legs a row has, and at most how many legs and shortcuts a node has.
+-- The number of legs in a row, and the greatest numbers of legs and of shortcuts of a node.
 use Rattle.std.proofs.Common.{◌≡◌, ℕ, suc, zero, ◌+◌, ◌*◌, ◌<◌, ◌≤◌, Bool, true, false, List, [], ◌∷◌, length, get_or, Option, Some, None, Contains, refl, sym, ◌∙◌, ap, subst, arith, inl, inr}
 use Rattle.std.specs.Prelude.{◌≢◌, AllPairs, is_some, if◌then◌else◌}
 use Rattle.std.proofs.lemmas.Bool.{cases_eq, cases_lt}
@@ -14,16 +14,16 @@ use Rattle.ch_graph.proofs.Lists.{pairs_tail, pairs_head}
 use Rattle.ch_contract.proofs.theory.RowLegs.{row_leg_cons, row_member, leg_at}
 use Rattle.ch_contract.proofs.theory.RowLemmas.{leg_from_at, leg_to_at}
 
--- 1 where the test passes
+-- 1 if the test passes, and otherwise 0
 abbrev one_if : Bool → ℕ
 one_if b = if b then 1 else 0
 
--- two tests that agree below n pass as many
+-- two tests that agree below n pass the same number
 pub count_same : (n : ℕ) (p q : ℕ → Bool) → ((x : ℕ) → x < n → p x ≡ q x) → count_below n p ≡ count_below n q
 count_same zero p q same = refl
 count_same (suc n) p q same = ap (λ b. one_if b + count_below n p) (same n (omega arith)) ∙ ap (λ z. one_if (q n) + z) (count_same n p q (λ x lt. same x (omega arith)))
 
--- one number more passes
+-- the count if one more number passes
 pub count_one_more : (n a : ℕ) (p q : ℕ → Bool) → a < n → p a ≡ false → q a ≡ true → ((x : ℕ) → x ≢ a → p x ≡ q x) →
     count_below n q ≡ suc (count_below n p)
 count_one_more zero a p q lt off on same = absurd (omega arith)
@@ -39,12 +39,12 @@ count_one_more (suc n) a p q lt off on same = elim (cases_eq a n) [
       omega arith
 ]
 
--- no number passes
+-- the count if no number passes
 count_none : (n : ℕ) → count_below n (λ x. false) ≡ 0
 count_none zero = refl
 count_none (suc n) = omega (arith, count_none n)
 
--- a row of legs at nodes below n has as many as those nodes at which it has a leg
+-- the length of a row is the number of nodes below n at which it has a leg
 pub row_count : (n : ℕ) (legs : List Leg) → IsRow legs → ((l : Leg) → Contains legs l → l.node < n) →
     length legs ≡ count_below n (λ x. is_some (row_leg legs x))
 row_count n [] row within = sym (count_none n)
@@ -68,7 +68,7 @@ row_count n (l ∷ legs) row within =
     apart : (x : ℕ) → x ≢ l.node → is_some (row_leg legs x) ≡ is_some (row_leg (l ∷ legs) x)
     apart x ne = sym (ap is_some (row_leg_cons l legs x) ∙ rw (not_eqb l.node x (λ e. ne (sym e))) refl)
 
--- the rows of a node have as many legs as touch it
+-- the lengths of the two rows of a node add up to the number of legs that touch it
 pub rows_touching : (n v : ℕ) (L : Legs) (up down : List Leg) → AreLegsWithin n L → AreLegsFrom L v up → AreLegsTo L v down →
     length up + length down ≡ count_touching n L v
 rows_touching n v L up down limits from to =
@@ -78,7 +78,7 @@ rows_touching n v L up down limits from to =
     let ins = count_same n (λ x. is_some (row_leg down x)) (λ x. is_some (L x v)) (λ x lt. ap is_some (to.1 x)) in
     omega arith
 
--- no more numbers below n pass than there are
+-- at most n numbers below n pass
 pub count_most : (n : ℕ) (p : ℕ → Bool) → count_below n p ≤ n
 count_most zero p = omega arith
 count_most (suc n) p = omega (arith, count_most n p, one (p n))
@@ -87,7 +87,7 @@ count_most (suc n) p = omega (arith, count_most n p, one (p n))
     one true = omega arith
     one false = omega arith
 
--- at most two legs for each node touch a node
+-- at most 2 * n legs touch a node
 pub touching_most : (n : ℕ) (L : Legs) (v : ℕ) → count_touching n L v ≤ 2 * n
 touching_most n L v = omega (arith, count_most n (λ x. is_some (L v x)), count_most n (λ x. is_some (L x v)))
 
@@ -95,13 +95,13 @@ touching_most n L v = omega (arith, count_most n (λ x. is_some (L v x)), count_
 abbrev place : ℕ → Shortcut → ℕ
 place n s = s.from * n + s.to
 
--- it is below n * n
+-- the place of a pair is below n * n
 place_small : (n : ℕ) (s : Shortcut) → s.from < n → s.to < n → place n s < n * n
 place_small n s from to =
     let most = mul-le-mul_right {m = s.from + 1} {n = n} n (omega arith) in
     omega (arith, most)
 
--- and a later pair has a greater place
+-- a later pair has a greater place
 place_next : (n : ℕ) (s t : Shortcut) → s.to < n → IsPairBefore s t → place n s < place n t
 place_next n s t to before = elim (cases_lt s.from t.from) [
   | inl lt ↦ let most = mul-le-mul_right {m = s.from + 1} {n = t.from} n (omega arith) in omega (arith, most)
@@ -112,7 +112,7 @@ place_next n s t to before = elim (cases_lt s.from t.from) [
       omega (arith, later, rows)
 ]
 
--- so there are at most n * n of them in order
+-- there are at most n * n pairs in order
 pairs_most : (n m : ℕ) (list : List Shortcut) → m ≤ n * n → AllPairs IsPairBefore list → ((s : Shortcut) → Contains list s → (m ≤ place n s) × (s.from < n) × (s.to < n)) → m + length list ≤ n * n
 pairs_most n m [] le ordered each = omega arith
 pairs_most n m (s ∷ list) le ordered each =
@@ -124,7 +124,7 @@ pairs_most n m (s ∷ list) le ordered each =
     after : (t : Shortcut) → Contains list t → (m ≤ place n t) × (t.from < n) × (t.to < n) → (m ≤ place n s) × (s.from < n) × (s.to < n) → (suc m ≤ place n t) × (t.from < n) × (t.to < n)
     after t c later here = let next = place_next n s t here.2 (pairs_head IsPairBefore s t list ordered c) in (omega (arith, here.0, next), later.1, later.2)
 
--- a node has at most a shortcut for each two nodes
+-- a node has at most n * n shortcuts
 pub shortcuts_most : (n h : ℕ) (L : Legs) (v : ℕ) (list : List Shortcut) → AreLegsWithin n L → AreShortcuts n h L v list → length list ≤ n * n
 shortcuts_most n h L v list limits are =
     let each : (s : Shortcut) → Contains list s → (0 ≤ place n s) × (s.from < n) × (s.to < n) = λ s c. let r = (are.sound s c).legs in (omega arith, (limits s.from v r.0 r.2).ends.0, (limits v s.to r.1 r.3).ends.1) in

@@ -1,4 +1,4 @@
--- How deep nodes lie, as an order of contraction grows.
+-- The depths of nodes, as an order of contraction grows.
 use Rattle.std.proofs.Common.{◌≡◌, ℕ, zero, suc, ◌+◌, ◌≤◌, Bool, true, false, max, List, length, sym, ◌∙◌, subst, arith, add-one}
 use Rattle.std.specs.Prelude.{if◌then◌else◌, slice_index}
 use Rattle.ch_contract.specs.Legs.{Legs}
@@ -6,7 +6,7 @@ use Rattle.ch_contract.specs.Order.{are_neighbours, next_depth, depth_after}
 use Rattle.ch_contract.proofs.theory.OneInTurn.{depth_along}
 use Rattle.ch_contract.proofs.theory.OrderSteps.{more, legs_more, here, agree, now}
 
--- a node lies no deeper than there were steps
+-- a depth is at most the number of steps
 pub depth_most : (order : List ℕ) (L : ℕ → Legs) (i x : ℕ) → depth_after order L i x ≤ i
 depth_most order L zero x = omega arith
 depth_most order L (suc i) x = at (are_neighbours (L i) (slice_index order i) x) (depth_most order L i x) (depth_most order L i (slice_index order i))

@@ -1,4 +1,4 @@
--- A hierarchy that is built with enough shortcuts is kept: right for its graph.
+-- A hierarchy that is built with enough shortcuts is kept: it is right for its graph.
 use Rattle.std.proofs.Common.{◌≡◌, ◌≢◌, ℕ, zero, suc, ◌<◌, ◌≤◌, List, length, Option, Some, None, Contains, slice_index, refl, sym, ◌∙◌, subst, arith, inl, inr}
 use Rattle.std.proofs.lemmas.Bool.{cases_lt}
 use Rattle.std.proofs.lemmas.List.{get_or-take, get_or_default, length-take-le}
@@ -30,12 +30,12 @@ use Rattle.ch_contract.proofs.theory.Levelled.{levelled}
 use Rattle.ch_contract.proofs.theory.Enough.{hierarchy_by, taken_with_enough}
 use Rattle.ch_contract.proofs.theory.UpAndDown.{up_and_down}
 
--- going up and down costs no more than c
+-- going up from s and then down to t costs at most c
 abbrev MeetsWithin : LevelsAndLegs → ℕ → ℕ → Cost → Type 0
 MeetsWithin H s t c = (m : ℕ) × (d : Cost) × IsMeeting H s t m d × IsAtMost d c
 
 module _ {g : Network} {h : ℕ} {H : LevelsAndLegs} {order : List ℕ} {L : ℕ → Legs} (built : IsBuilt g h H order L) where
-  -- what is made of an arc, or of two legs of its middle, is founded
+  -- a leg that is made of an arc, or of two legs of its middle, is founded
   made_founded : (i u w : ℕ) (c : Cost) (m : Option ℕ) → i < g.nodes → IsMade g order L i u w c m → IsFounded g H u w c m
   made_founded i u w c None lt made = made
   made_founded i u w c (Some v) lt made =
@@ -70,7 +70,7 @@ module _ {g : Network} {h : ℕ} {H : LevelsAndLegs} {order : List ℕ} {L : ℕ
         | inr down ↦ subst (λ x. IsFounded g H x w l.cost l.middle) down.1 (down_founded w l down.0)
       ]))
 
-  -- a leg between two nodes stays, or gets cheaper, until one of them is contracted
+  -- a leg between two nodes stays or gets cheaper until one of them is contracted
   leg_stays : (i u w : ℕ) (c : Cost) → i ≤ g.nodes → IsAfter order i u → IsAfter order i w → HasLeg (L zero) u w c → HasLeg (L i) u w c
   leg_stays zero u w c le p q leg = leg
   leg_stays (suc i) u w c le p q leg =
@@ -79,19 +79,19 @@ module _ {g : Network} {h : ℕ} {H : LevelsAndLegs} {order : List ℕ} {L : ℕ
       (λ same. p i (omega arith) (sym same)) (λ same. q i (omega arith) (sym same)) before.1 in
       (after.0, after.1, IsAtMost_trans _ before.0.cost c after.2 before.2)
 
-  -- a leg of the hierarchy leads from u to w and costs at most c
+  -- there is a leg of the hierarchy from u to w that costs at most c
   abbrev HasLegWithin : ℕ → ℕ → Cost → Type 0
   HasLegWithin u w d = (c : Cost) × (m : Option ℕ) × IsLeg H u w c m × IsAtMost c d
 
-  -- the leg that two nodes have when the first of them is contracted
+  -- a leg from the node of a step, just before it, is in the hierarchy
   from_step : (i w : ℕ) (d : Cost) → i < g.nodes → HasLeg (L i) (slice_index order i) w d → HasLegWithin (slice_index order i) w d
   from_step i w d lt leg = (leg.0.cost, leg.0.middle, (leg_at w leg.0, refl, refl, inl (up_leg built i w leg.0 lt leg.1, refl)), leg.2)
 
-  -- and where the second is contracted first
+  -- a leg to the node of a step, just before it, is in the hierarchy
   to_step : (i u : ℕ) (d : Cost) → i < g.nodes → HasLeg (L i) u (slice_index order i) d → HasLegWithin u (slice_index order i) d
   to_step i u d lt leg = (leg.0.cost, leg.0.middle, (leg_at u leg.0, refl, refl, inr (down_leg built i u leg.0 lt leg.1, refl)), leg.2)
 
-  -- two nodes that have a leg before the first step keep one
+  -- two nodes with a leg before the first step have one in the hierarchy
   leg_by_step : (i j : ℕ) (d : Cost) → i < g.nodes → j < g.nodes → HasLeg (L zero) (slice_index order i) (slice_index order j) d → HasLegWithin (slice_index order i) (slice_index order j) d
   leg_by_step i j d li lj leg = elim (cases_lt i j) [
     | inl first ↦ from_step i (slice_index order j) d li
@@ -113,14 +113,14 @@ module _ {g : Network} {h : ℕ} {H : LevelsAndLegs} {order : List ℕ} {L : ℕ
       (leg_by_step s.0 t.0 d s.1 t.1
       (subst (λ x. HasLeg (L zero) (slice_index order s.0) x d) (sym t.2) (subst (λ x. HasLeg (L zero) x a.to d) (sym s.2) (leg.0, first, leg.2)))))
 
-  -- where a walk leads from s to t, going up and down costs no more
+  -- for each walk, going up and then down costs at most as much
   walk_met : (s t : ℕ) (c : Cost) → s < g.nodes → t < g.nodes → IsWalkCost g s t c → MeetsWithin H s t c
   walk_met s t c ls lt walk =
       let least = IsLeast-of_walk g s t c walk in
       let meets = up_and_down built s t least.0 ls lt least.1 in
       (meets.0, least.0, meets.1, least.2)
 
-  -- where two legs lead through a lower node, going up and down costs no more
+  -- for two legs through a lower node, going up and then down costs at most as much
   pub built_covered : (v : ℕ) (a b : Leg) → Contains (row H.down v) a → Contains (row H.up v) b → a.node ≢ b.node → MeetsWithin H a.node b.node (cost_sum a.cost b.cost)
   built_covered v a b down up ne =
       let s = up_step built v b up in
@@ -130,7 +130,7 @@ module _ {g : Network} {h : ℕ} {H : LevelsAndLegs} {order : List ℕ} {L : ℕ
       let to = second.within.ends in
       walk_met a.node b.node (cost_sum a.cost b.cost) from.0 to.1 (IsWalkCost-cost_sum g a.node (slice_index order s.0) b.node a.cost b.cost first.walk second.walk)
 
-  -- all that a kept hierarchy has
+  -- the hierarchy is kept
   pub built_kept : IsKept g H
   built_kept = record {
     nodes = built.hierarchy.sizes.0;
@@ -140,12 +140,12 @@ module _ {g : Network} {h : ℕ} {H : LevelsAndLegs} {order : List ℕ} {L : ℕ
     covered = built_covered;
   }
 
--- what is left after i steps is none of the first i nodes
+-- a node that remains after i steps is none of the first i nodes
 left_after : (g : Network) (order : List ℕ) (i x : ℕ) → i ≤ length order → IsLeft g order i x → IsAfter order i x
 left_after g order i x le left j below e =
     left.1 (j, omega (arith, length-take-le i order le), get_or-take i order j x below ∙ get_or_default order j x 0 (omega arith) ∙ e)
 
--- contraction with shortcuts that are enough keeps least costs
+-- contraction with enough shortcuts keeps the least costs
 pub enough_keeps_least_costs : EnoughKeepsLeastCosts
 enough_keeps_least_costs g h order L limits is i u w c le p q least =
     let all : IsContraction g h order L g.nodes = record { limits = limits; start = is.start; step = is.step } in
@@ -156,11 +156,11 @@ enough_keeps_least_costs g h order L limits is i u w c le p q least =
       least = λ xs chain. IsLeast-IsAtMost g u w c _ least (chain_walk all i le u w xs chain);
     }
 
--- and so does contraction
+-- contraction keeps the least costs
 pub least_costs_kept : ContractionKeepsLeastCosts
 least_costs_kept g h order L limits hops is = enough_keeps_least_costs g h order L limits (taken_with_enough g h order L limits hops is)
 
--- hierarchies that are made with shortcuts that are enough are kept
+-- hierarchies with enough shortcuts are kept
 pub hierarchies_with_enough_kept : HierarchiesWithEnoughAreKept
 hierarchies_with_enough_kept g h H order L limits is =
     let built : IsBuilt g h H order L = record { limits = limits; hierarchy = is } in

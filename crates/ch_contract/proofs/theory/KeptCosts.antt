@@ -1,4 +1,4 @@
--- After any number of steps, the least cost of a walk between nodes that are left is the cost of a chain of legs.
+-- After any number of steps, the least cost of a walk between remaining nodes is the cost of a chain of legs.
 use Rattle.std.proofs.Common.{◌≡◌, ◌≢◌, ℕ, zero, suc, ◌<◌, ◌≤◌, List, [], ◌∷◌, slice_index, sym, ◌∙◌, subst, arith, inl, inr}
 use Rattle.std.proofs.lemmas.Bool.{cases_eq}
 use Rattle.ch_graph.specs.declared.arc.InArc.{InArc}
@@ -22,11 +22,11 @@ use Rattle.ch_contract.proofs.theory.StepLegs.{IsContraction, step_leg, step_at}
 abbrev pub IsAfter : List ℕ → ℕ → ℕ → Type 0
 IsAfter order i x = (j : ℕ) → j < i → slice_index order j ≢ x
 
--- a chain of legs from u to w costs c
+-- there is a chain of legs from u to w that costs c
 abbrev pub IsChainCost : Legs → ℕ → ℕ → Cost → Type 0
 IsChainCost L u w c = (xs : List ℕ) × IsChain L u w xs × (chain_cost L u xs ≡ c)
 
--- each walk has a chain of opening legs that costs no more: loops are left out
+-- for each walk there is a chain of opening legs that costs at most as much: it leaves out loops
 pub walk_chain : (g : Network) (L : Legs) (s t : ℕ) (xs : List InArc) → SameLegs L (opening g) → IsWalk g s t xs → HasChain L s t (cost_of xs)
 walk_chain g L s t [] start w = subst (λ q. HasChain L s q (cost_of [])) w (no_chain L s _ (IsAtMost_refl _))
 walk_chain g L s t (a ∷ xs) start w =
@@ -42,7 +42,7 @@ walk_chain g L s t (a ∷ xs) start w =
     ]
 
 module _ {g : Network} {h : ℕ} {order : List ℕ} {L : ℕ → Legs} {m : ℕ} (all : IsContraction g h order L m) where
-  -- a chain of legs costs what a walk costs
+  -- for each chain of legs there is a walk of its cost
   pub chain_walk : (i : ℕ) → i ≤ m → (u w : ℕ) (xs : List ℕ) → IsChain (L i) u w xs → IsWalkCost g u w (chain_cost (L i) u xs)
   chain_walk i le u w [] chain = subst (λ q. IsWalkCost g u q (chain_cost (L i) u [])) chain (IsWalkCost-no_cost g u)
   chain_walk i le u w (x ∷ xs) chain =
@@ -50,7 +50,7 @@ module _ {g : Network} {h : ℕ} {order : List ℕ} {L : ℕ → Legs} {m : ℕ}
       subst (IsWalkCost g u w) (sym (chain_cost-cons (L i) u x xs l.0 l.1))
       (IsWalkCost-cost_sum g u x w l.0.cost (chain_cost (L i) x xs) (step_leg all i le u x l.0 l.1).walk (chain_walk i le x w xs chain.1))
 
-  -- a chain that costs no more than the least costs the least
+  -- a chain that costs at most the least cost costs exactly that
   least_exact : (i : ℕ) → i ≤ m → (u w : ℕ) (c : Cost) → IsLeast g u w c → HasChain (L i) u w c → IsChainCost (L i) u w c
   least_exact i le u w c least r = (r.0, r.1, IsLeast-again g u w c _ least (chain_walk i le u w r.0 r.1) r.2)
 
@@ -58,7 +58,7 @@ module _ {g : Network} {h : ℕ} {order : List ℕ} {L : ℕ → Legs} {m : ℕ}
   least_light : (u w : ℕ) (c : Cost) → w < g.nodes → IsLeast g u w c → IsLight g.nodes c
   least_light u w c lt least = (IsLeast-weight g u w c all.limits least, IsLeast-arcs g u w c all.limits lt least)
 
-  -- the least cost of a walk between nodes that are left is the cost of a chain
+  -- the least cost of a walk between remaining nodes is the cost of a chain
   pub least_chain : (i : ℕ) → i ≤ m → (u w : ℕ) (c : Cost) → w < g.nodes → IsAfter order i u → IsAfter order i w → IsLeast g u w c → IsChainCost (L i) u w c
   least_chain zero le u w c lt p q least =
       least_exact zero le u w c least (subst (HasChain (L zero) u w) least.walk.2 (walk_chain g (L zero) u w least.walk.0 all.start least.walk.1))

@@ -1,4 +1,5 @@
--- Each hierarchy of contracted nodes has levels from 1 to the number of nodes, each once, and legs to higher nodes, within the limits.
+-- Each hierarchy of contracted nodes has each level from 1 to the number of nodes once, and legs to higher nodes within
+-- the limits.
 use Rattle.std.proofs.Common.{◌≡◌, ℕ, suc, zero, ◌+◌, ◌<◌, ◌≤◌, Bool, true, false, cond, List, [], length, get_or, Option, Some, None, refl, sym, ◌∙◌, ap, subst, arith, inl, inr, Contains}
 use Rattle.std.specs.Prelude.{◌⊎◌, ◌≢◌, ◌==◌, ◌||◌, All, slice_index}
 use Rattle.std.proofs.lemmas.Bool.{cases_eq, cases_lt}
@@ -23,11 +24,11 @@ use Rattle.ch_contract.proofs.theory.RowLegs.{none_unless}
 use Rattle.ch_contract.proofs.theory.RowLemmas.{leg_from_at}
 use Rattle.ch_hierarchy.proofs.theory.SavedLevels.{levels_are}
 
--- a leg after shortcuts are put in was there before, or is the leg of a shortcut
+-- the leg from u to w is that of a shortcut
 abbrev pub IsMade : ℕ → List Shortcut → ℕ → ℕ → Label → Type 0
 IsMade v list u w l = (s : Shortcut) × Contains list s × (s.from ≡ u) × (s.to ≡ w) × (shortcut_label v s ≡ l)
 
--- so it is after a contraction
+-- a leg after a contraction was there before, or is that of a shortcut
 pub contracted_cases : (L : Legs) (v : ℕ) (list : List Shortcut) (u w : ℕ) (l : Label) → legs_after_contraction L v list u w ≡ Some l → (L u w ≡ Some l) ⊎ IsMade v list u w l
 contracted_cases L v list u w l e = at (u == v || w == v) e
   where
@@ -56,7 +57,7 @@ gone_next n L v M step x =
     last true o e = refl
     last false o e = rw e refl
 
--- no leg comes back to a node that has none
+-- a node without legs stays without legs
 pub gone_more : (n : ℕ) (L : Legs) (v : ℕ) (M : Legs) (z : ℕ) → IsGone L z → ContractsWithPairs n L v M → IsGone M z
 gone_more n L v M z gone step x = (
   none_unless (M z x) (λ l e. elim (contracted_cases L v step.0 z x l (sym (step.2 z x) ∙ e)) [
@@ -89,7 +90,7 @@ gone_steps n m order L step j (suc k) lt le =
       | inr ne ↦ gone_more n (L k) (slice_index order k) (L (k + 1)) (slice_index order j) (before (omega arith) (omega arith)) (step k (omega arith))
     ]
 
--- legs turned round keep the limits
+-- legs within the limits are within the limits in the other direction
 pub turned_within : (n : ℕ) (L : Legs) → AreLegsWithin n L → AreLegsWithin n (turned_legs L)
 turned_within n L within u w l e =
     let is = within w u l e in
@@ -124,7 +125,7 @@ module _ (g : Network) (H : LevelsAndLegs) (order : List ℕ) (L : ℕ → Legs)
       ] in
       record { node = omega arith; higher = omega arith; weight = weight; arcs = omega arith }
 
-  -- a row of legs from the node of a step leads up, where these are the legs before the step or those turned round
+  -- the row of the node of a step leads up, for the legs before the step in either direction
   row_up : (N : Legs) (i : ℕ) (legs : List Leg) → i < g.nodes → AreLegsWithin g.nodes N → ((j : ℕ) → j < i → IsGone N (slice_index order j)) → AreLegsFrom N (slice_index order i) legs →
       IsRow legs × All (IsLegUp H (slice_index order i)) legs
   row_up N i legs lt limits earlier r = (
@@ -137,15 +138,15 @@ module _ (g : Network) (H : LevelsAndLegs) (order : List ℕ) (L : ℕ → Legs)
         leg_up i l lt w.ends.1 (λ e. w.ends.2 (sym e)) (λ j before e. none-some _ (sym (earlier j before v).1 ∙ ap (N v) e ∙ leg)) w.weight w.arcs,
   )
 
-  -- the legs from the node of a step lead up
+  -- the legs from the node of a step lead to higher nodes
   up_row : (i : ℕ) → i < g.nodes → IsRow (row H.up (slice_index order i)) × All (IsLegUp H (slice_index order i)) (row H.up (slice_index order i))
   up_row i lt = row_up (L i) i _ lt (within i (omega arith)) (λ j before. gone j i before (omega arith)) (p.up i lt)
 
-  -- and the legs to it come from above
+  -- the legs to the node of a step come from higher nodes
   down_row : (i : ℕ) → i < g.nodes → IsRow (row H.down (slice_index order i)) × All (IsLegUp H (slice_index order i)) (row H.down (slice_index order i))
   down_row i lt = row_up (turned_legs (L i)) i _ lt (turned_within g.nodes (L i) (within i (omega arith))) (λ j before x. let none = gone j i before (omega arith) x in (none.1, none.0)) (p.down i lt)
 
-  -- rows of which each leads up, for each node
+  -- if the row of each step leads up, all rows do
   legs_up : (rows : List (List Leg)) → length rows ≡ g.nodes → ((i : ℕ) → i < g.nodes → IsRow (row rows (slice_index order i)) × All (IsLegUp H (slice_index order i)) (row rows (slice_index order i))) → AreLegsUp H rows
   legs_up rows size each = (
     size ∙ sym p.sizes.0,
@@ -161,11 +162,11 @@ module _ (g : Network) (H : LevelsAndLegs) (order : List ℕ) (L : ℕ → Legs)
   is_order : IsOrderOf g.nodes order
   is_order = let nodes = p.contracted.nodes in record { count = nodes.0; within = λ i lt. nodes.1 i 0 lt; distinct = λ i j before lt. nodes.2 i j 0 before lt }
 
-  -- and the levels are those of the order
+  -- the levels are those of the order
   are_levels : AreLevelsOf order H.level
   are_levels = let size = p.contracted.nodes.0 in record { count = p.sizes.0 ∙ sym size; each = λ i lt. p.level i (omega arith) }
 
-  -- so the hierarchy is levelled
+  -- the hierarchy is levelled
   pub levelled : IsLevelled H
   levelled = record {
     count = let size = p.sizes.0 in omega arith;

@@ -1,4 +1,5 @@
--- One contraction: each leg that does not touch the node stays or gets cheaper, and so does each light chain.
+-- One contraction: each leg that does not touch the node stays or gets cheaper. For each light chain between other
+-- nodes there is one that costs at most as much.
 use Rattle.std.proofs.Common.{◌≡◌, ℕ, suc, zero, ◌<◌, Bool, true, false, cond, List, [], ◌∷◌, length, get_or, Option, Some, None, refl, sym, ◌∙◌, ap, subst, arith, inl, inr}
 use Rattle.std.specs.Prelude.{◌⊎◌, ◌≢◌, ◌==◌, ◌&&◌, ◌||◌}
 use Rattle.std.specs.List.{AllByRecursion}
@@ -20,16 +21,16 @@ use Rattle.ch_graph.proofs.Lists.{contains_head, contains_tail}
 use Rattle.ch_contract.proofs.theory.Contracting.{IsOverridden, override_cases}
 use Rattle.ch_contract.proofs.theory.Chains.{HasChain, HasLeg, IsLight, light_left, light_right, chain_cost-cons, chain_of_leg, leg_then_chain, chain_then_chain, chain_at_most, no_loop}
 
--- a shortcut in the list is found, it or one of the same pair
+-- a pair is overridden by the first shortcut of the list, or by a later one
 first_or : (v : ℕ) (t : Shortcut) (list : List Shortcut) (u w : ℕ) (before : Option Label) (b : Bool) → (t.from == u && t.to == w) ≡ b → (b ≡ false → IsOverridden v list u w before) → IsOverridden v (t ∷ list) u w before
 first_or v t list u w before true e more = (t, contains_head t list, grind (arith, nat_tests), grind (arith, nat_tests), rw e refl)
 first_or v t list u w before false e more = let h = more refl in (h.0, contains_tail h.0 t list h.1, h.2, h.3, rw e h.4)
 
--- a shortcut has its own pair
+-- the test for the pair of a shortcut holds of this shortcut
 matches : (t s : Shortcut) → t ≡ s → (t.from == s.from && t.to == s.to) ≡ true
 matches t s e = rw e (rw (eqb-refl s.from, eqb-refl s.to) refl)
 
--- a shortcut of the list has its pair overridden
+-- the pair of each shortcut of the list is overridden
 override_found : (v : ℕ) (list : List Shortcut) (k : ℕ) (s : Shortcut) (before : Option Label) → k < length list → get_or list k s ≡ s → IsOverridden v list s.from s.to before
 override_found v [] k s before lt e = absurd (omega arith)
 override_found v (t ∷ list) zero s before lt e = first_or v t list s.from s.to before _ refl (λ f. let m = matches t s e in absurd (false≢true (sym f ∙ m)))
@@ -39,13 +40,13 @@ override_found v (t ∷ list) (suc k) s before lt e = first_or v t list s.from s
 leads_within : (n : ℕ) (L : Legs) → AreLegsWithin n L → LeadsWithin n L
 leads_within n L within u x some = let l = some_of (L u x) some in (within u x l.0 l.1).ends.1
 
--- M are the legs that contracting v with enough shortcuts leaves of legs L within the limits of n nodes
+-- M are the legs after v is contracted with enough shortcuts in L, which are legs within the limits of n nodes
 pub record IsOneContraction (n h : ℕ) (L : Legs) (v : ℕ) (M : Legs) : Type 0 where
   pub contracts : ContractsWithEnough n h L v M
   pub within : AreLegsWithin n L
 
 module _ {n h : ℕ} {L M : Legs} {v : ℕ} (step : IsOneContraction n h L v M) where
-  -- away from v, the shortcuts stand in the place of older legs
+  -- away from v, shortcuts replace older legs
   outside : (x y : ℕ) → x ≢ v → y ≢ v → M x y ≡ leg_after_shortcuts v step.contracts.0 x y (L x y)
   outside x y p q = step.contracts.2 x y ∙ rw (not_eqb x v p, not_eqb y v q) refl
 
@@ -57,7 +58,7 @@ module _ {n h : ℕ} {L M : Legs} {v : ℕ} (step : IsOneContraction n h L v M) 
       at true z is = refl
       at false z is = rw (is, eqb-refl v) refl
 
-  -- a leg after the contraction was one before, or is a shortcut
+  -- a leg after the contraction was there before, or is the sum of two legs through v
   abbrev pub IsOldOrShortcut : ℕ → ℕ → Label → Type 0
   IsOldOrShortcut x y m = (L x y ≡ Some m) ⊎ ((a b : Label) × (L x v ≡ Some a) × (L v y ≡ Some b) × (m ≡ record { cost = cost_sum a.cost b.cost; middle = Some v }) × IsLight n m.cost × (x ≢ y))
 
@@ -69,7 +70,7 @@ module _ {n h : ℕ} {L M : Legs} {v : ℕ} (step : IsOneContraction n h L v M) 
       let cost : shortcut_label v s ≡ record { cost = cost_sum legs.0.cost legs.1.cost; middle = Some v } = ap (λ c. record { cost = c; middle = Some v }) legs.4 in
       inr (legs.0, legs.1, ap (λ q. L q v) (sym ex) ∙ legs.2, ap (λ q. L v q) (sym ey) ∙ legs.3, sym same ∙ cost, subst (λ (l : Label). IsLight n l.cost) same (is.weight, is.arcs), λ here. is.apart (ex ∙ here ∙ sym ey))
 
-  -- each leg after the contraction is one of these
+  -- each leg after the contraction was there before, or is such a sum
   pub old_or_shortcut : (x y : ℕ) (m : Label) → M x y ≡ Some m → IsOldOrShortcut x y m
   old_or_shortcut x y m e =
       let away = untouched x y m e in
@@ -79,14 +80,14 @@ module _ {n h : ℕ} {L M : Legs} {v : ℕ} (step : IsOneContraction n h L v M) 
         | inr r ↦ shortcut_legs x y m r.0 r.2 r.3 (sym (out ∙ r.4) ∙ e) (step.contracts.1.pairs r.0 r.1)
       ]
 
-  -- a leg that does not touch v stays, or one that is no dearer stands in its place
+  -- a leg that does not touch v stays, or is replaced by one that costs at most as much
   pub leg_kept : (x y : ℕ) (l : Label) → x ≢ v → y ≢ v → L x y ≡ Some l → HasLeg M x y l.cost
   leg_kept x y l p q e = elim (override_cases v step.contracts.0 x y (L x y)) [
     | inl stays ↦ (l, outside x y p q ∙ stays ∙ e, IsAtMost_refl l.cost)
     | inr r ↦ (shortcut_label v r.0, outside x y p q ∙ r.4, step.contracts.1.no_dearer r.0 l r.1 (ap (λ z. L z r.0.to) r.2 ∙ ap (L x) r.3 ∙ e))
   ]
 
-  -- a chain that never touches v stays, or gets cheaper
+  -- for a chain that never touches v, there is one that costs at most as much
   chain_kept : (u w : ℕ) (xs : List ℕ) → u ≢ v → AllByRecursion (λ x. x ≢ v) xs → IsChain L u w xs → HasChain M u w (chain_cost L u xs)
   chain_kept u w [] p away chain = ([], chain, IsAtMost_refl _)
   chain_kept u w (x ∷ xs) p away chain =
@@ -94,7 +95,7 @@ module _ {n h : ℕ} {L M : Legs} {v : ℕ} (step : IsOneContraction n h L v M) 
       subst (HasChain M u w) (sym (chain_cost-cons L u x xs l.0 l.1))
       (leg_then_chain M u x w l.0.cost (chain_cost L x xs) (leg_kept u x l.0 p away.0 l.1) (chain_kept x w xs away.0 away.1 chain.1))
 
-  -- the shortcut of a pair costs what the two legs cost
+  -- the shortcut of a pair costs as much as the two legs
   shortcut_cost : (s : Shortcut) (u y : ℕ) (a b : Label) → IsPairThrough n L v s → s.from ≡ u → s.to ≡ y → L u v ≡ Some a → L v y ≡ Some b → s.cost ≡ cost_sum a.cost b.cost
   shortcut_cost s u y a b is eu ey ea eb =
       let legs = is.legs in
@@ -102,12 +103,12 @@ module _ {n h : ℕ} {L M : Legs} {v : ℕ} (step : IsOneContraction n h L v M) 
       let sb = same_Some _ _ (sym legs.3 ∙ ap (λ q. L v q) ey ∙ eb) in
       legs.4 ∙ ap (λ (z : Label). cost_sum z.cost legs.1.cost) sa ∙ ap (λ (z : Label). cost_sum a.cost z.cost) sb
 
-  -- where the pair is overridden, the shortcut is the chain
+  -- if the pair is overridden, its shortcut is a chain of one leg
   by_shortcut : (u y : ℕ) (a b : Label) → u ≢ v → y ≢ v → L u v ≡ Some a → L v y ≡ Some b → IsOverridden v step.contracts.0 u y (L u y) → HasChain M u y (cost_sum a.cost b.cost)
   by_shortcut u y a b p q ea eb f =
       chain_of_leg M u y _ (shortcut_label v f.0, outside u y p q ∙ f.4, subst (IsAtMost f.0.cost) (shortcut_cost f.0 u y a b (step.contracts.1.pairs f.0 f.1) f.2 f.3 ea eb) (IsAtMost_refl f.0.cost))
 
-  -- two legs through v have a shortcut or a witness
+  -- for two legs through v there is a shortcut or a witness, so there is a chain that costs at most as much
   through : (u y : ℕ) (a b : Label) → u ≢ v → y ≢ v → u ≢ y → L u v ≡ Some a → L v y ≡ Some b → IsLight n (cost_sum a.cost b.cost) → HasChain M u y (cost_sum a.cost b.cost)
   through u y a b p q ne ea eb light = elim (witness_or_none n L v u y (cost_sum a.cost b.cost) h ne p (leads_within n L step.within)) [
     | inl w ↦ chain_at_most M u y _ _ (chain_kept u y w.0 p w.1.away.1 w.1.chain) w.1.cheap
@@ -117,7 +118,7 @@ module _ {n h : ℕ} {L M : Legs} {v : ℕ} (step : IsOneContraction n h L v M) 
         by_shortcut u y a b p q ea eb (override_found v step.contracts.0 has.0 s (L u y) has.1 has.2)
   ]
 
-  -- two legs through v and then a chain; where the two lead back they are left out
+  -- two legs through v and then a chain: if the two legs lead back, they are left out
   via : (u w y : ℕ) (a b : Label) (c : Cost) → u ≢ v → L u v ≡ Some a → L v y ≡ Some b → IsLight n (cost_sum a.cost (cost_sum b.cost c)) → y ≢ v → HasChain M y w c → HasChain M u w (cost_sum a.cost (cost_sum b.cost c))
   via u w y a b c p ea eb light q rest =
       let sum = cost_sum_assoc a.cost b.cost c in
@@ -126,7 +127,7 @@ module _ {n h : ℕ} {L M : Legs} {v : ℕ} (step : IsOneContraction n h L v M) 
         | inr on ↦ subst (HasChain M u w) sum (chain_then_chain M u y w _ c (through u y a b p q on ea eb (light_left n _ c (subst (IsLight n) (sym sum) light))) rest)
       ]
 
-  -- each light chain between other nodes has one after the contraction that costs no more
+  -- for each light chain between other nodes there is one after the contraction that costs at most as much
   pub chain_stays : (u w : ℕ) (xs : List ℕ) → u ≢ v → w ≢ v → IsChain L u w xs → IsLight n (chain_cost L u xs) → HasChain M u w (chain_cost L u xs)
   chain_stays u w [] p q chain light = ([], chain, IsAtMost_refl _)
   chain_stays u w (x ∷ []) p q chain light = chain_kept u w (x ∷ []) p (subst (λ z. z ≢ v) (sym chain.1) q, tt) chain

@@ -1,4 +1,4 @@
--- Two hierarchies of nodes that are contracted one after the other, by the rules for a graph, an order and a bound, are equal.
+-- Two hierarchies of nodes that are contracted one after the other, for the same graph, order and bound, are equal.
 use Rattle.std.proofs.Common.{◌≡◌, ℕ, suc, zero, ◌+◌, ◌-◌, ◌<◌, ◌≤◌, List, [], length, take, sym, ◌∙◌, ap, subst, arith, inl, inr, Contains}
 use Rattle.std.specs.Prelude.{◌≢◌, All, AllPairs, slice_index, ℤ, ◌≤ℤ◌}
 use Rattle.std.proofs.lemmas.Bool.{cases_eq, cases_lt, false≢true}
@@ -18,15 +18,15 @@ use Rattle.ch_contract.specs.Built.{IsHierarchyOf, IsHierarchyInTurn}
 use Rattle.ch_hierarchy.proofs.theory.Ordered.{ordered_same, every_number}
 use Rattle.ch_contract.proofs.theory.RowLegs.{one_row}
 
--- legs that are the same at each pair are one map
+-- legs that are the same at each pair are equal
 pub one_map : (L M : Legs) → SameLegs L M → L ≡ M
 one_map L M same = λ i u w. same u w i
 
--- the shortcuts of a node are one list
+-- a node has one list of shortcuts
 pub one_list : (n h : ℕ) (L : Legs) (v : ℕ) (xs ys : List Shortcut) → AreShortcuts n h L v xs → AreShortcuts n h L v ys → xs ≡ ys
 one_list n h L v xs ys p q = ordered_same IsPairBefore (λ a b r s. let lt = r.1 s.0 in omega arith) xs ys p.ordered q.ordered (λ s c. q.whole s (p.sound s c)) (λ s c. p.whole s (q.sound s c))
 
--- a contraction leaves one map
+-- a contraction has one result
 pub one_contraction : (n h : ℕ) (L : Legs) (v : ℕ) (M N : Legs) → Contracts n h L v M → Contracts n h L v N → M ≡ N
 one_contraction n h L v M N p q =
     let list = one_list n h L v p.0 q.0 p.1 q.1 in
@@ -38,7 +38,7 @@ one_priority by n h L depth v p q a b =
     let list = one_list n h L v a.0 b.0 a.1 b.1 in
     a.2 ∙ ap (λ l. key_by by (length l) (count_touching n L v) (depth v)) list ∙ sym b.2
 
--- the same nodes in the first i steps, and the same legs up to then
+-- two orders agree: they have the same nodes in the first i steps, and the same legs up to then
 pub record Agree (i : ℕ) (order : List ℕ) (L : ℕ → Legs) (other : List ℕ) (M : ℕ → Legs) : Type 0 where
   pub nodes : (k : ℕ) → k < i → slice_index order k ≡ slice_index other k
   pub legs : (k : ℕ) → k ≤ i → L k ≡ M k
@@ -51,7 +51,7 @@ agree_back i order L other M a = record { nodes = λ k lt. sym (a.nodes k lt); l
 neighbours_along : (i : ℕ) (order : List ℕ) (L : ℕ → Legs) (other : List ℕ) (M : ℕ → Legs) (x k : ℕ) → Agree i order L other M → k < i → are_neighbours (M k) (slice_index other k) x ≡ are_neighbours (L k) (slice_index order k) x
 neighbours_along i order L other M x k a lt = let le : k ≤ i = omega arith in λ t. are_neighbours (sym (a.legs k le) t) (sym (a.nodes k lt) t) x
 
--- nodes lie as deep in orders that agree
+-- depths are the same in orders that agree
 pub depth_along : (i : ℕ) (order : List ℕ) (L : ℕ → Legs) (other : List ℕ) (M : ℕ → Legs) → Agree i order L other M → (j : ℕ) → j ≤ i → depth_after order L j ≡ depth_after other M j
 depth_along i order L other M a zero le = λ t x. 0
 depth_along i order L other M a (suc j) le =
@@ -60,7 +60,7 @@ depth_along i order L other M a (suc j) le =
     let node = a.nodes j (omega arith) in
     λ t x. next_depth (legs t) (node t) (rest t) x
 
--- what orders that agree say of the steps that touched a node
+-- the last touch of a node is the same in orders that agree
 pub touch_along : (i : ℕ) (order : List ℕ) (L : ℕ → Legs) (other : List ℕ) (M : ℕ → Legs) (x j : ℕ) → Agree i order L other M → IsLastTouch order L i x j → IsLastTouch other M i x j
 touch_along i order L other M x j a t = record {
   within = t.within;
@@ -74,7 +74,7 @@ priority_along by n h i order L other M x p a r =
     let deep = subst (λ (d : ℕ → ℕ). IsPriorityBy by n h (L r.0) d x p) (depth_along i order L other M a r.0 r.1.within) r.2 in
     (r.0, touch_along i order L other M x r.0 a r.1, subst (λ (N : Legs). IsPriorityBy by n h N (depth_after other M r.0) x p) (a.legs r.0 r.1.within) deep)
 
--- no step after the last touch is one
+-- a last touch is not later than another last touch
 not_later : (order : List ℕ) (L : ℕ → Legs) (i x j k : ℕ) → IsLastTouch order L i x j → IsLastTouch order L i x k → k ≤ j
 not_later order L i x j k t s = elim (cases_lt j k) [
   | inl lt ↦
@@ -85,7 +85,7 @@ not_later order L i x j k t s = elim (cases_lt j k) [
   | inr le ↦ le
 ]
 
--- there is one last touch
+-- a node has one last touch
 one_touch : (order : List ℕ) (L : ℕ → Legs) (i x j k : ℕ) → IsLastTouch order L i x j → IsLastTouch order L i x k → j ≡ k
 one_touch order L i x j k t s = let le = not_later order L i x j k t s in let ge = not_later order L i x k j s t in omega arith
 
@@ -93,7 +93,7 @@ one_touch order L i x j k t s = let le = not_later order L i x j k t s in let ge
 pub one_priority_after : (by : OrderBy) (n h : ℕ) (order : List ℕ) (L : ℕ → Legs) (i x : ℕ) (p q : ℤ) → IsPriorityAfter by n h order L i x p → IsPriorityAfter by n h order L i x q → p ≡ q
 one_priority_after by n h order L i x p q a b = one_priority by n h (L a.0) (depth_after order L a.0) x p q a.2 (subst (λ j. IsPriorityBy by n h (L j) (depth_after order L j) x q) (sym (one_touch order L i x a.0 b.0 a.1 b.1)) b.2)
 
--- of an order of different nodes, no node stands among those before its place
+-- in an order of different nodes, no node is among those before its place
 pub not_before : (i : ℕ) (order : List ℕ) → i < length order → AllPairs ◌≢◌ order → Contains (take i order) (slice_index order i) → ⊥
 not_before i order lt distinct c =
     let k = c.0 in
@@ -114,7 +114,7 @@ module _ (by : OrderBy) (g : Network) (h : ℕ) (order : List ℕ) (L : ℕ → 
       let before : k < i = omega arith in
       get_or-take i order k 0 before ∙ a.nodes k before ∙ sym (get_or-take i other k 0 before))
 
-  -- the next node is the same: each of the two comes first
+  -- the next node is the same, because each of the two comes first
   next : (i : ℕ) → i < g.nodes → Agree i order L other M → slice_index order i ≡ slice_index other i
   next i lt a =
       let size = p.nodes.0 in
@@ -172,14 +172,14 @@ module _ (by : OrderBy) (g : Network) (h : ℕ) (H K : LevelsAndLegs) (order : L
   all : Agree g.nodes order L other M
   all = agree by g h order L other M p.contracted first q.contracted its_first g.nodes (omega arith)
 
-  -- so the levels are the same
+  -- the levels are the same
   levels : H.level ≡ K.level
   levels = same_number_lists H.level K.level (p.sizes.0 ∙ sym q.sizes.0) (λ x lt.
       let size = p.sizes.0 in
       let at = taken_at g.nodes order x p.contracted.nodes (omega arith) in
       ap (slice_index H.level) (sym at.2) ∙ p.level at.0 at.1 ∙ sym (q.level at.0 at.1) ∙ ap (slice_index K.level) (sym (all.nodes at.0 at.1) ∙ at.2))
 
-  -- and so are rows of the legs before each step, or of these turned round
+  -- the rows are the same, for the legs before each step in either direction
   rows_agree : (turn : Legs → Legs) (xs ys : List (List Leg)) → length xs ≡ g.nodes → length ys ≡ g.nodes →
       ((i : ℕ) → i < g.nodes → AreLegsFrom (turn (L i)) (slice_index order i) (row xs (slice_index order i))) →
       ((i : ℕ) → i < g.nodes → AreLegsFrom (turn (M i)) (slice_index other i) (row ys (slice_index other i))) → xs ≡ ys
@@ -189,11 +189,11 @@ module _ (by : OrderBy) (g : Network) (h : ℕ) (H K : LevelsAndLegs) (order : L
       let two = subst (λ (N : Legs). AreLegsFrom (turn N) x (row ys x)) (sym (all.legs at.0 (omega (arith, at.1)))) (subst (λ v. AreLegsFrom (turn (M at.0)) v (row ys v)) (sym (all.nodes at.0 at.1) ∙ at.2) (theirs at.0 at.1)) in
       one_row (turn (L at.0) x) (row xs x) (row ys x) one.0 two.0 one.1 two.1)
 
-  -- the rows up
+  -- the up rows are the same
   ups : H.up ≡ K.up
   ups = rows_agree (λ N. N) H.up K.up p.sizes.1 q.sizes.1 p.up q.up
 
-  -- and the rows down
+  -- the down rows are the same
   downs : H.down ≡ K.down
   downs = rows_agree turned_legs H.down K.down p.sizes.2 q.sizes.2 p.down q.down
 

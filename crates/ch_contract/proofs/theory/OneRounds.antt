@@ -1,4 +1,4 @@
--- Two hierarchies by rounds of one graph are equal.
+-- Two hierarchies by rounds for the same graph and bound are equal.
 use Rattle.std.proofs.Common.{◌≡◌, ℕ, zero, suc, ◌+◌, ◌<◌, ◌≤◌, List, [], ◌∷◌, ◌++◌, length, Contains, refl, sym, ◌∙◌, ap, subst, arith, add-one, inl, inr}
 use Rattle.std.specs.Prelude.{◌*◌, ◌&&◌, ◌||◌, not, nat_lt, slice_index, ℤ}
 use Rattle.std.specs.List.{concat, list_any}
@@ -24,18 +24,18 @@ use Rattle.ch_contract.proofs.theory.RowLegs.{one_row}
 use Rattle.ch_contract.proofs.theory.OneInTurn.{one_map, taken_at, same_rows}
 use Rattle.ch_contract.proofs.theory.RoundNodes.{begun_of, before_next, before_all, in_round, left, nodes_once}
 
--- the shortcuts of a node in a round are one list
+-- a node has one list of shortcuts in a round
 one_round_list : (n h : ℕ) (L W : Legs) (v : ℕ) (xs ys : List Shortcut) → AreShortcutsAmong n h L W v xs → AreShortcutsAmong n h L W v ys → xs ≡ ys
 one_round_list n h L W v xs ys p q = ordered_same IsPairBefore (λ a b r s. let lt = r.1 s.0 in omega arith) xs ys p.ordered q.ordered (λ s c. q.whole s (p.sound s c)) (λ s c. p.whole s (q.sound s c))
 
--- putting in the same lists leaves the same
+-- putting in the same lists has the same result
 put_same : (todo : List ℕ) (f g : ℕ → List Shortcut) (L : Legs) → ((v : ℕ) → Contains todo v → f v ≡ g v) → legs_with_shortcuts todo f L ≡ legs_with_shortcuts todo g L
 put_same [] f g L same = refl
 put_same (v ∷ todo) f g L same =
     ap (λ list. legs_with_shortcuts todo f (λ u w. leg_after_shortcuts v list u w (L u w))) (same v (contains_head v todo))
     ∙ put_same todo f g (λ u w. leg_after_shortcuts v (g v) u w (L u w)) (λ x c. same x (contains_tail x v todo c))
 
--- a round leaves one map
+-- a round has one result
 one_round_map : (n h : ℕ) (L : Legs) (nodes : List ℕ) (M N : Legs) → ContractsRound n h L nodes M → ContractsRound n h L nodes N → M ≡ N
 one_round_map n h L nodes M N p q =
     let same = put_same nodes p.0 q.0 (legs_away nodes L) (λ v c. one_round_list n h L (legs_away nodes L) v (p.0 v) (q.0 v) (p.1 v c) (q.1 v c)) in
@@ -49,7 +49,7 @@ one_round IsKey IsOther IsLeft IsRest L xs ys key back left rest p q =
     (λ v c. let s = p.sound v c in q.whole v (left v s.0) (λ x ne near. let f = s.1 x ne near in (f.0, f.1, key v f.0 f.2, key x f.1 f.3, f.4)))
     (λ v c. let s = q.sound v c in p.whole v (rest v s.0) (λ x ne near. let f = s.1 x ne near in (f.0, f.1, back v f.0 f.2, back x f.1 f.3, f.4)))
 
--- the same nodes in the first r rounds, and the same legs up to then
+-- two lists of rounds agree: they have the same nodes in the first r rounds, and the same legs up to then
 pub record Agree (r : ℕ) (rounds : List (List ℕ)) (L : ℕ → Legs) (other : List (List ℕ)) (M : ℕ → Legs) : Type 0 where
   pub nodes : (k : ℕ) → k < r → round_at rounds k ≡ round_at other k
   pub legs : (k : ℕ) → k ≤ r → L k ≡ M k
@@ -67,7 +67,7 @@ module _ (n h r : ℕ) (rounds : List (List ℕ)) (L : ℕ → Legs) (other : Li
       let node = a.nodes k (omega arith) in
       before_next rounds k ∙ (λ t. rest t ++ node t) ∙ sym (before_next other k)
 
-  -- in them nodes lie as deep
+  -- depths are the same in rounds that agree
   pub depth_along : (k : ℕ) → k ≤ r → depth_before rounds L k ≡ depth_before other M k
   depth_along zero le = λ t x. 0
   depth_along (suc k) le =
@@ -76,7 +76,7 @@ module _ (n h r : ℕ) (rounds : List (List ℕ)) (L : ℕ → Legs) (other : Li
       let node = a.nodes k (omega arith) in
       λ t x. depth_after_round (legs t) (node t) (rest t) x
 
-  -- they are early alike
+  -- rounds that agree are early at the same time
   early_along : (k : ℕ) → k ≤ r → is_early n rounds k ≡ is_early n other k
   early_along k le = ap (λ l. nat_lt (10 * length l) (7 * n)) (before_along k le)
 
@@ -90,7 +90,7 @@ module _ (n h r : ℕ) (rounds : List (List ℕ)) (L : ℕ → Legs) (other : Li
       let node = a.nodes k (omega arith) in
       λ t. not (now t) && (past t || list_any (λ v. are_neighbours (legs t) v x) (node t))
 
-  -- so their numbers are the same
+  -- the counts of shortcuts are the same
   pub count_along : (x c : ℕ) → IsCountAfter n h rounds L r x c → IsCountAfter n h other M r x c
   count_along x c b =
       let last = b.2 in (
@@ -105,7 +105,7 @@ module _ (n h r : ℕ) (rounds : List (List ℕ)) (L : ℕ → Legs) (other : Li
         b.4,
       )
 
-  -- and keys
+  -- the keys are the same
   pub key_along : (x : ℕ) (p : ℤ) → IsKeyAfter n h rounds L r x p → IsKeyAfter n h other M r x p
   key_along x p b =
       let deep = depth_along r (omega arith) in
@@ -113,7 +113,7 @@ module _ (n h r : ℕ) (rounds : List (List ℕ)) (L : ℕ → Legs) (other : Li
       let value : key_by Rounds b.0 (count_touching n (L r) x) (depth_before rounds L r x) ≡ key_by Rounds b.0 (count_touching n (M r) x) (depth_before other M r x) = λ t. key_by Rounds b.0 (count_touching n (legs t) x) (deep t x) in
       (b.0, count_along x b.0 b.1, b.2 ∙ value)
 
-  -- and so are the nodes that are left
+  -- the remaining nodes are the same
   pub left_along : (x : ℕ) → IsLeftAfter n rounds r x → IsLeftAfter n other r x
   left_along x b = (b.0, λ c. b.1 (subst (λ l. Contains l x) (sym (before_along r (omega arith))) c))
 
@@ -127,7 +127,7 @@ module _ {g : Network} {h : ℕ} {rounds : List (List ℕ)} {L : ℕ → Legs} {
       (key_along g.nodes h r rounds L other M a) (key_along g.nodes h r other M rounds L back) (left_along g.nodes h r rounds L other M a) (left_along g.nodes h r other M rounds L back)
       (p.round r lt) theirs
 
-  -- and so are the legs after it
+  -- the legs after the next round are the same
   next_legs : (r : ℕ) → r < length rounds → r < length other → Agree r rounds L other M → round_at rounds r ≡ round_at other r → L (suc r) ≡ M (suc r)
   next_legs r lt its a same =
       let one = subst (λ (N : Legs). ContractsRound g.nodes h N (round_at other r) (M (r + 1))) (sym (a.legs r (omega arith))) (q.legs r its) in
@@ -157,7 +157,7 @@ module _ {g : Network} {h : ℕ} {rounds : List (List ℕ)} {L : ℕ → Legs} {
             ];
           }
 
-  -- none goes on after the other has ended
+  -- the other list of rounds is not longer
   no_longer : length other ≤ length rounds
   no_longer = elim (cases_lt (length rounds) (length other)) [
     | inl lt ↦
@@ -170,19 +170,19 @@ module _ {g : Network} {h : ℕ} {rounds : List (List ℕ)} {L : ℕ → Legs} {
   ]
 
 module _ {g : Network} {h : ℕ} {H K : LevelsAndLegs} {rounds : List (List ℕ)} {L : ℕ → Legs} {other : List (List ℕ)} {M : ℕ → Legs} (p : AreRounds g h rounds L) (q : AreRounds g h other M) (a : IsHierarchyOfRounds g H rounds L) (b : IsHierarchyOfRounds g K other M) where
-  -- there are as many rounds
+  -- both lists have the same number of rounds
   as_many : length rounds ≡ length other
   as_many = omega (arith, no_longer p q, no_longer q p)
 
-  -- and they agree
+  -- the two lists agree in all rounds
   all : Agree (length rounds) rounds L other M
   all = let many = as_many in agree p q (length rounds) (omega arith) (omega arith)
 
-  -- so the nodes have one order
+  -- the nodes have the same order
   one_list_of_nodes : concat rounds ≡ concat other
   one_list_of_nodes = sym (before_all rounds) ∙ before_along g.nodes h (length rounds) rounds L other M all (length rounds) (omega arith) ∙ ap (nodes_before other) as_many ∙ before_all other
 
-  -- and the same levels
+  -- the levels are the same
   levels : H.level ≡ K.level
   levels = same_number_lists H.level K.level (a.sizes.0 ∙ sym b.sizes.0) (λ x lt.
       let size = a.sizes.0 in
@@ -190,7 +190,7 @@ module _ {g : Network} {h : ℕ} {H K : LevelsAndLegs} {rounds : List (List ℕ)
       let there : slice_index (concat other) at.0 ≡ x = sym (ap (λ l. slice_index l at.0) one_list_of_nodes) ∙ at.2 in
       ap (slice_index H.level) (sym at.2) ∙ a.level at.0 at.1 ∙ sym (b.level at.0 at.1) ∙ ap (slice_index K.level) there)
 
-  -- rows of the legs before each round, or of these turned round, are the same
+  -- the rows are the same, for the legs before each round in either direction
   rows_agree : (turn : Legs → Legs) (xs ys : List (List Leg)) → length xs ≡ g.nodes → length ys ≡ g.nodes →
       ((r v : ℕ) → r < length rounds → Contains (round_at rounds r) v → AreLegsFrom (turn (L r)) v (row xs v)) →
       ((r v : ℕ) → r < length other → Contains (round_at other r) v → AreLegsFrom (turn (M r)) v (row ys v)) → xs ≡ ys
@@ -204,7 +204,7 @@ module _ {g : Network} {h : ℕ} {H K : LevelsAndLegs} {rounds : List (List ℕ)
       let its = subst (λ (N : Legs). AreLegsFrom (turn N) x (row ys x)) (sym (all.legs at.0 (omega arith))) two in
       one_row (turn (L at.0) x) (row xs x) (row ys x) one.0 its.0 one.1 its.1)
 
-  -- so the hierarchies are equal
+  -- the hierarchies are equal
   pub hierarchies_equal : H ≡ K
   hierarchies_equal =
       let level = levels in

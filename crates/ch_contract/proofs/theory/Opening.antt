@@ -1,4 +1,4 @@
--- The opening legs from the arcs that are put in.
+-- The opening legs are those of the arcs that are put in.
 use Rattle.std.proofs.Common.{◌≡◌, ℕ, ◌≤◌, Bool, true, false, cond, List, [], ◌∷◌, length, Option, Some, None, refl, sym, ◌∙◌, ap, take}
 use Rattle.std.specs.Prelude.{◌==◌, ◌&&◌, if◌then◌else◌, filter, not}
 use Rattle.std.proofs.lemmas.Bool.{eqb-true, eqb-false}
@@ -12,7 +12,7 @@ use Rattle.ch_hierarchy.proofs.theory.Ordered.{same_ends}
 abbrev pub joins : InArc → Bool
 joins a = not (a.from == a.to)
 
--- arcs from a node to itself play no part between two nodes
+-- loops do not change the least weight between two nodes
 pub without_loops : (u w : ℕ) (arcs : List InArc) →
     least_weight u w (filter joins arcs) ≡ (if u == w then None else least_weight u w arcs)
 without_loops u w [] = at (u == w)
@@ -46,7 +46,7 @@ without_loops u w (a ∷ arcs) = at (a.from == a.to) (a.from == u && a.to == w) 
         kept true false f g more = ap (λ z. Some (lesser_weight a.weight z)) more
         kept false s f g more = more
 
--- where all arcs are put in, the opening legs stand
+-- after all arcs are put in, the legs are the opening legs
 pub opens : (g : Network) (L : Legs) (arcs : List InArc) (i : ℕ) → arcs ≡ g.arcs → length arcs ≤ i →
     ArcsOpen (filter joins (take i arcs)) L → SameLegs L (opening g)
 opens g L arcs i same all opened u w =
@@ -56,6 +56,6 @@ opens g L arcs i same all opened u w =
     at true = refl
     at false = refl
 
--- the limits are those of the same legs
+-- legs that are the same as legs within the limits are within the limits
 pub same_within : (n : ℕ) (L M : Legs) → SameLegs L M → AreLegsWithin n M → AreLegsWithin n L
 same_within n L M same h u w l e = h u w l (sym (same u w) ∙ e)

@@ -1,4 +1,4 @@
--- The legs before any contraction: each is the lightest arc of its pair.
+-- The legs before any contraction: each is the lightest arc of its pair of nodes.
 use Rattle.std.proofs.Common.{◌≡◌, ℕ, suc, zero, ◌*◌, ◌<◌, ◌≤◌, min, Bool, true, false, cond, List, [], ◌∷◌, length, get_or, Option, Some, None, Contains, refl, sym, ◌∙◌, ap, subst, arith, inl, inr}
 use Rattle.std.specs.Prelude.{◌⊎◌, ◌≢◌, ◌==◌, ◌&&◌}
 use Rattle.std.proofs.Math.Nat.{mul-le-mul_right}
@@ -17,11 +17,11 @@ use Rattle.ch_contract.proofs.theory.Chains.{HasLeg}
 abbrev pub arc : ℕ → ℕ → ℕ → InArc
 arc u w x = record { from = u; to = w; weight = x }
 
--- the first arc of the list, where it is one from u to w
+-- if the first arc of the list leads from u to w, the list has this arc
 first_arc : (u w x : ℕ) (a : InArc) (arcs : List InArc) → (a.from ≡ u) × (a.to ≡ w) → a.weight ≡ x → Contains (a ∷ arcs) (arc u w x)
 first_arc u w x a arcs ends weight = (zero, omega arith, λ i. record { from = ends.0 i; to = ends.1 i; weight = weight i })
 
--- the lesser of the two weights
+-- the lesser of two weights is one of them
 lesser_cases : (a y : ℕ) → (min a y ≡ a) ⊎ (min a y ≡ y)
 lesser_cases a y = elim (cases_lt a y) [ inl lt ↦ inl (omega arith) | inr ge ↦ inr (omega arith) ]
 
@@ -38,11 +38,11 @@ least_weight_arc u w x (a ∷ arcs) e = at (a.from == u && a.to == w) (least_wei
       | inr its ↦ contains_tail (arc u w x) a arcs (more (ap (λ q. Some q) (sym its ∙ same_Some _ _ e')))
     ]
 
--- the least weight is there, and is at most y
+-- there is a least weight, and it is at most y
 abbrev WeighsAtMost : Option ℕ → ℕ → Type 0
 WeighsAtMost o y = (x : ℕ) × (o ≡ Some x) × (x ≤ y)
 
--- an arc in front makes the least weight no greater
+-- one more arc in front does not raise the least weight
 least_weight_more : (u w y : ℕ) (b : InArc) (arcs : List InArc) → WeighsAtMost (least_weight u w arcs) y → WeighsAtMost (least_weight u w (b ∷ arcs)) y
 least_weight_more u w y b arcs h = at (b.from == u && b.to == w)
   where
@@ -50,7 +50,7 @@ least_weight_more u w y b arcs h = at (b.from == u && b.to == w)
     at false = h
     at true = (min b.weight h.0, ap (λ o. Some (lesser_weight b.weight o)) h.1, omega (arith, h.2))
 
--- the lesser of a weight and another is at most that weight
+-- the lesser of a weight and another is at most the weight
 lesser_own : (x : ℕ) (o : Option ℕ) → WeighsAtMost (Some (lesser_weight x o)) x
 lesser_own x None = (x, refl, omega arith)
 lesser_own x (Some y) = (min x y, refl, omega arith)
@@ -64,7 +64,7 @@ least_weight_least a (b ∷ arcs) zero lt e = subst (λ (q : InArc). WeighsAtMos
     own = rw (eqb-refl b.from, eqb-refl b.to) (lesser_own b.weight (least_weight b.from b.to arcs))
 least_weight_least a (b ∷ arcs) (suc k) lt e = least_weight_more a.from a.to a.weight b arcs (least_weight_least a arcs k (omega arith) e)
 
--- what an opening leg is
+-- an opening leg is an arc of the graph
 pub record IsArcLeg (g : Network) (u w : ℕ) (l : Label) : Type 0 where
   pub weight : ℕ
   pub label : l ≡ arc_label weight
@@ -86,7 +86,7 @@ opening_covers g a has ne =
     let x = least_weight_least a g.arcs has.0 has.1 has.2 in
     (arc_label x.0, rw (not_eqb a.from a.to ne) (ap arc_label_of x.1), (x.2, λ tie. omega arith))
 
--- a factor that is not 0 makes no less
+-- a product with a factor that is not 0 is at least the other factor
 weight_below : (n x : ℕ) → 0 < n → x ≤ n * x
 weight_below n x lt = omega (arith, mul-le-mul_right {m = 1} {n = n} x (omega arith))
 

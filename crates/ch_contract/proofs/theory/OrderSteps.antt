@@ -17,22 +17,22 @@ use Rattle.ch_contract.proofs.theory.OneInTurn.{Agree, priority_along}
 abbrev pub ComesBefore : OrderBy → ℕ → ℕ → List ℕ → (ℕ → Legs) → ℕ → ℕ → ℕ → Type 0
 ComesBefore by n h order L i v x = (p q : ℤ) × IsPriorityAfter by n h order L i v p × IsPriorityAfter by n h order L i x q × IsContractedBefore p v q x
 
--- the nodes of this list were contracted in order, with the legs L i left after the first i steps
+-- the nodes of this list were contracted in order; L i are the legs after the first i steps
 pub record IsBegun (by : OrderBy) (g : Network) (h : ℕ) (order : List ℕ) (L : ℕ → Legs) : Type 0 where
   pub nodes : All (λ v. v < g.nodes) order × AllPairs ◌≢◌ order
   pub start : SameLegs (L 0) (opening g)
   pub step : (i : ℕ) → i < length order → Contracts g.nodes h (L i) (slice_index order i) (L (i + 1))
   pub least : (i x : ℕ) → i < length order → x < g.nodes → (Contains (take i order) x → ⊥) → ComesBefore by g.nodes h order L i (slice_index order i) x
 
--- legs that go on with M after the first i steps
+-- the legs up to step i, and then M
 abbrev pub then_legs : ℕ → (ℕ → Legs) → Legs → ℕ → Legs
 then_legs i L M k = if nat_le k i then L k else M
 
--- up to the first i steps they are as before
+-- up to step i the legs are as before
 pub then_before : (i : ℕ) (L : ℕ → Legs) (M : Legs) (k : ℕ) → k ≤ i → then_legs i L M k ≡ L k
 then_before i L M k le = let t : nat_le k i ≡ true = grind (arith, nat_tests) in rw t refl
 
--- and then they are M
+-- after step i the legs are M
 pub then_next : (i : ℕ) (L : ℕ → Legs) (M : Legs) (k : ℕ) → i < k → then_legs i L M k ≡ M
 then_next i L M k lt = let t : nat_le k i ≡ false = grind (arith, nat_tests) in rw t refl
 
@@ -40,7 +40,7 @@ then_next i L M k lt = let t : nat_le k i ≡ false = grind (arith, nat_tests) i
 agree_less : (i k : ℕ) (order : List ℕ) (L : ℕ → Legs) (other : List ℕ) (M : ℕ → Legs) → k ≤ i → Agree i order L other M → Agree k order L other M
 agree_less i k order L other M le a = record { nodes = λ j lt. a.nodes j (omega arith); legs = λ j below. a.legs j (omega arith) }
 
--- one more step that did not touch x
+-- the last touch of x after one more step that did not touch it
 pub untouched_more : (order : List ℕ) (L : ℕ → Legs) (i x j : ℕ) → are_neighbours (L i) (slice_index order i) x ≡ false → IsLastTouch order L i x j → IsLastTouch order L (i + 1) x j
 untouched_more order L i x j none t = record {
   within = let le = t.within in omega arith;
@@ -51,7 +51,7 @@ untouched_more order L i x j none t = record {
   ];
 }
 
--- one more step that touched x
+-- the last touch of x after one more step that touched it
 pub touched_more : (order : List ℕ) (L : ℕ → Legs) (i x : ℕ) → are_neighbours (L i) (slice_index order i) x ≡ true → IsLastTouch order L (i + 1) x (i + 1)
 touched_more order L i x touch = record {
   within = omega arith;
@@ -59,7 +59,7 @@ touched_more order L i x touch = record {
   later = λ k le lt. absurd (omega arith);
 }
 
--- no more nodes are contracted than there are
+-- the number of contracted nodes is at most the number of nodes
 pub begun_most : (g : Network) (order : List ℕ) → All (λ v. v < g.nodes) order → AllPairs ◌≢◌ order → length order ≤ g.nodes
 begun_most g order below distinct = distinct_most order g.nodes distinct (λ q has. subst (λ z. z < g.nodes) has.2 (below has.0 q has.1))
 
@@ -68,15 +68,15 @@ module _ (order : List ℕ) (L : ℕ → Legs) (v : ℕ) (M : Legs) where
   abbrev pub more : List ℕ
   more = order ++ v ∷ []
 
-  -- the legs with those after its step
+  -- the legs with the legs after the new step
   abbrev pub legs_more : ℕ → Legs
   legs_more = then_legs (length order) L M
 
-  -- earlier nodes stand where they stood
+  -- the earlier nodes keep their places
   pub before : (k : ℕ) → k < length order → slice_index order k ≡ slice_index more k
   before k lt = sym (get_or_append_left order (v ∷ []) 0 k lt)
 
-  -- the next node stands at the end
+  -- the next node is at the end
   pub here : slice_index more (length order) ≡ v
   here = get_or_push order v 0 (length order) refl
 
@@ -92,11 +92,11 @@ module _ (order : List ℕ) (L : ℕ → Legs) (v : ℕ) (M : Legs) where
   next = then_next (length order) L M (length order + 1) (omega arith)
 
 module _ (by : OrderBy) (g : Network) (h : ℕ) (order : List ℕ) (L : ℕ → Legs) (b : IsBegun by g h order L) (v : ℕ) (within : v < g.nodes) (left : Contains order v → ⊥) where
-  -- with one more node that is left the contracted nodes are different nodes
+  -- after one more remaining node is contracted, the contracted nodes differ
   pub nodes_more : All (λ x. x < g.nodes) (more order L v (L 0)) × AllPairs ◌≢◌ (more order L v (L 0))
   nodes_more = (All-push (λ x. x < g.nodes) order v b.nodes.0 within, pairs_push order v b.nodes.1 left)
 
-  -- fewer nodes are contracted than there are
+  -- the number of contracted nodes is less than the number of nodes
   pub begun_fewer : length order < g.nodes
   begun_fewer = omega (arith, begun_most g (order ++ v ∷ []) nodes_more.0 nodes_more.1, length_push order v)
 
@@ -122,7 +122,7 @@ module _ (by : OrderBy) (g : Network) (h : ℕ) (order : List ℕ) (L : ℕ → 
     | inr ne ↦ let size = length_push order v in step_before k (omega arith)
   ]
 
-  -- at earlier steps the node came before all that were left
+  -- at each earlier step the node came before all remaining nodes
   least_before : (k x : ℕ) → k < length order → x < g.nodes → (Contains (take k order) x → ⊥) → ComesBefore by g.nodes h (more order L v M) (legs_more order L v M) k (slice_index (more order L v M) k) x
   least_before k x lt inside away =
       let r = b.least k x lt inside away in
@@ -130,7 +130,7 @@ module _ (by : OrderBy) (g : Network) (h : ℕ) (order : List ℕ) (L : ℕ → 
       let one = priority_along by g.nodes h k order L (more order L v M) (legs_more order L v M) (slice_index order k) r.0 a r.2 in
       (r.0, r.1, subst (λ z. IsPriorityAfter by g.nodes h (more order L v M) (legs_more order L v M) k z r.0) (before order L v M k lt) one, priority_along by g.nodes h k order L (more order L v M) (legs_more order L v M) x r.1 a r.3, subst (λ z. IsContractedBefore r.0 z r.1 x) (before order L v M k lt) r.4)
 
-  -- and at this step
+  -- at this step the node comes before all remaining nodes
   least_here : (x : ℕ) → x < g.nodes → (Contains order x → ⊥) → ComesBefore by g.nodes h (more order L v M) (legs_more order L v M) (length order) (slice_index (more order L v M) (length order)) x
   least_here x inside away =
       let r = first x inside away in
@@ -138,7 +138,7 @@ module _ (by : OrderBy) (g : Network) (h : ℕ) (order : List ℕ) (L : ℕ → 
       let one = priority_along by g.nodes h n order L (more order L v M) (legs_more order L v M) v r.0 (agree order L v M) r.2 in
       (r.0, r.1, subst (λ z. IsPriorityAfter by g.nodes h (more order L v M) (legs_more order L v M) n z r.0) (sym (here order L v M)) one, priority_along by g.nodes h n order L (more order L v M) (legs_more order L v M) x r.1 (agree order L v M) r.3, subst (λ z. IsContractedBefore r.0 z r.1 x) (sym (here order L v M)) r.4)
 
-  -- so at all steps
+  -- at all steps the node comes before all remaining nodes
   least_more : (k x : ℕ) → k < length (more order L v M) → x < g.nodes → (Contains (take k (more order L v M)) x → ⊥) → ComesBefore by g.nodes h (more order L v M) (legs_more order L v M) k (slice_index (more order L v M) k) x
   least_more k x lt inside away = elim (cases_eq k (length order)) [
     | inl e ↦
@@ -151,7 +151,7 @@ module _ (by : OrderBy) (g : Network) (h : ℕ) (order : List ℕ) (L : ℕ → 
         least_before k x below inside (λ has. away (subst (λ l. Contains l x) (sym part) has))
   ]
 
-  -- so the longer order follows the rules
+  -- the longer order follows the rules
   pub begun_more : IsBegun by g h (order ++ v ∷ []) (then_legs (length order) L M)
   begun_more = record {
     nodes = nodes_more by g h order L b v within left;
@@ -169,7 +169,7 @@ begun_none by g h = record {
   least = λ i x lt inside away. absurd (omega arith);
 }
 
--- one that takes all is the order
+-- an order that follows the rules and takes all nodes is the order of contraction
 pub begun_all : (by : OrderBy) (g : Network) (h : ℕ) (order : List ℕ) (L : ℕ → Legs) → IsBegun by g h order L → ((x : ℕ) → x < g.nodes → Contains order x) → IsOrderBy by g h order L
 begun_all by g h order L b each =
     let size : length order ≡ g.nodes = omega (arith, whole_least order g.nodes each, begun_most g order b.nodes.0 b.nodes.1) in

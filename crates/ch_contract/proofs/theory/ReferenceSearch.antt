@@ -14,7 +14,7 @@ use Rattle.ch_graph.proofs.CostOrder.{IsAtMost_refl, IsAtMost_trans, IsAtMost-no
 use Rattle.ch_graph.proofs.CostSums.{IsAtMost-cost_sum}
 use Rattle.ch_graph.proofs.Numbers.{not_eqb, eqb-refl}
 
--- what the test of two costs says
+-- the test of two costs decides whether one is at most the other
 pub is_at_most_true : (a b : Cost) → is_at_most a b ≡ true → IsAtMost a b
 is_at_most_true a b h = (grind (arith, nat_tests), λ e. grind (arith, nat_tests))
 
@@ -24,7 +24,7 @@ is_at_most_false a b h = (grind (arith, nat_tests), λ e. grind (arith, nat_test
 pub at_most_is_true : (a b : Cost) → IsAtMost a b → is_at_most a b ≡ true
 at_most_is_true a b h = grind (arith, nat_tests)
 
--- the cheaper of two is one of them
+-- the cheaper of two costs is one of them
 cheaper_one : (o p : Option Cost) (c : Cost) → cheaper o p ≡ Some c → (o ≡ Some c) ⊎ (p ≡ Some c)
 cheaper_one None p c e = inr e
 cheaper_one (Some a) None c e = inl e
@@ -34,11 +34,11 @@ cheaper_one (Some a) (Some b) c e = at (is_at_most a b) e
     at true e' = inl e'
     at false e' = inr e'
 
--- there is a cost, and it is at most d
+-- o covers d: there is a cost, and it is at most d
 abbrev Covers : Option Cost → Cost → Type 0
 Covers o d = (c : Cost) × (o ≡ Some c) × IsAtMost c d
 
--- and it covers what either covers
+-- the cheaper of two costs covers each cost that one of them covers
 cheaper_left : (o p : Option Cost) (d : Cost) → Covers o d → Covers (cheaper o p) d
 cheaper_left None p d h = absurd (none-some _ h.1)
 cheaper_left (Some a) None d h = h
@@ -57,7 +57,7 @@ cheaper_right (Some a) (Some b) d h = at (is_at_most a b) refl
     at true e = (a, refl, IsAtMost_trans a b d (is_at_most_true a b e) (subst (λ q. IsAtMost q d) (sym (same_Some _ _ h.1)) h.2))
     at false e = h
 
--- the cheapest of the numbers below n is the cost of one of them, and covers each
+-- the least cost of the numbers below n is the cost of one of them, and covers each cost that one covers
 below_one : (n : ℕ) (f : ℕ → Option Cost) (c : Cost) → cheapest_below n f ≡ Some c → (x : ℕ) × (f x ≡ Some c)
 below_one zero f c e = absurd (none-some _ e)
 below_one (suc n) f c e = elim (cheaper_one (f n) (cheapest_below n f) c e) [ inl h ↦ (n, h) | inr h ↦ below_one n f c h ]
@@ -69,7 +69,7 @@ below_covers (suc n) f x d lt h = elim (cases_eq x n) [
   | inr away ↦ cheaper_right (f n) (cheapest_below n f) d (below_covers n f x d (omega arith) h)
 ]
 
--- one more cost on top
+-- the sum of a cost and another, if there is another
 plus_cost_one : (c : Cost) (o : Option Cost) (e : Cost) → plus_cost c o ≡ Some e → (d : Cost) × (o ≡ Some d) × (cost_sum c d ≡ e)
 plus_cost_one c None e h = absurd (none-some _ h)
 plus_cost_one c (Some d) e h = (d, refl, same_Some _ _ h)
@@ -78,17 +78,17 @@ plus_cost_covers : (c : Cost) (o : Option Cost) (d : Cost) → Covers o d → Co
 plus_cost_covers c None d h = absurd (none-some _ h.1)
 plus_cost_covers c (Some a) d h = (cost_sum c a, refl, IsAtMost-cost_sum c c a d (IsAtMost_refl c) (subst (λ q. IsAtMost q d) (sym (same_Some _ _ h.1)) h.2))
 
--- the value that is there
+-- the value of an option that has one
 pub some_of : {A : Type 0} (o : Option A) → IsSome o → (x : A) × (o ≡ Some x)
 some_of None h = cc
 some_of (Some x) h = (x, refl)
 
 module _ (n : ℕ) (L : Legs) (v w : ℕ) where
-  -- one leg to x, and then the cheapest rest
+  -- the cost of one leg to x and then the cheapest rest
   abbrev step : ℕ → ℕ → Option Label → Bool → Option Cost
   step k x o b = elim o [ None ↦ None | Some l ↦ elim b [ true ↦ None | false ↦ plus_cost l.cost (cheapest n L v w k x) ] ]
 
-  -- what it finds is a leg and a rest
+  -- such a cost is that of a leg and a rest
   step_one : (k x : ℕ) (o : Option Label) (b : Bool) (c : Cost) → step k x o b ≡ Some c →
       (l : Label) × (o ≡ Some l) × (b ≡ false) × (d : Cost) × (cheapest n L v w k x ≡ Some d) × (cost_sum l.cost d ≡ c)
   step_one k x None b c e = absurd (none-some _ e)
@@ -99,11 +99,11 @@ module _ (n : ℕ) (L : Legs) (v w : ℕ) where
       Covers (cheapest n L v w k x) d → Covers (step k x o b) (cost_sum l.cost d)
   step_covers k x o b l d e s h = rw (e, s) (plus_cost_covers l.cost (cheapest n L v w k x) d h)
 
-  -- a chain from u to w of at most k legs that visits no v after u, of cost c
+  -- there is a chain from u to w of at most k legs and of cost c that visits no v after u
   abbrev Found : ℕ → ℕ → Cost → Type 0
   Found k u c = (xs : List ℕ) × IsChain L u w xs × (length xs ≤ k) × AllByRecursion (λ x. x ≢ v) xs × (chain_cost L u xs ≡ c)
 
-  -- the empty chain, and one leg more in front of a chain
+  -- the empty chain, and a chain with one more leg in front
   at_end : (k u : ℕ) (c : Cost) → u ≡ w → no_cost ≡ c → Found k u c
   at_end k u c e f = ([], e, omega arith, tt, f)
 
@@ -113,7 +113,7 @@ module _ (n : ℕ) (L : Legs) (v w : ℕ) where
       let short = rest.2 in
       (x ∷ rest.0, (rw e refl, rest.1), omega arith, (eqb-false x v off, rest.3), ap (λ o. cost_sum (leg_cost o) (chain_cost L x rest.0)) e ∙ ap (cost_sum l.cost) rest.4 ∙ sum)
 
-  -- what the search answers is the cost of such a chain
+  -- the result of the search is the cost of such a chain
   found : (k u : ℕ) (c : Cost) → cheapest n L v w k u ≡ Some c → Found k u c
   found zero u c e = at (u == w) refl e
     where
@@ -130,7 +130,7 @@ module _ (n : ℕ) (L : Legs) (v w : ℕ) where
           let r = step_one k one.0 (L u one.0) (one.0 == v) c one.1 in
           further k u one.0 c r.0 r.3 r.1 r.2 r.5 (more one.0 r.3 r.4)
 
-  -- and no such chain costs less
+  -- the result of the search is at most the cost of each such chain
   covered : (k u : ℕ) (xs : List ℕ) → IsChain L u w xs → length xs ≤ k → AllByRecursion (λ x. x ≢ v) xs →
       AllByRecursion (λ x. x < n) xs → Covers (cheapest n L v w k u) (chain_cost L u xs)
   covered zero u [] chain short away within = rw same_node (no_cost, refl, IsAtMost-no_cost _)
@@ -158,7 +158,7 @@ chain_within : (n : ℕ) (L : Legs) (u w : ℕ) (xs : List ℕ) → LeadsWithin 
 chain_within n L u w [] within chain = tt
 chain_within n L u w (x ∷ xs) within chain = (within u x chain.0, chain_within n L x w xs within chain.1)
 
--- what the test against a bound says
+-- the test against a bound decides whether there is a cost within the bound
 costs_at_most_one : (o : Option Cost) (c : Cost) → costs_at_most o c ≡ true → (d : Cost) × (o ≡ Some d) × IsAtMost d c
 costs_at_most_one None c e = cc
 costs_at_most_one (Some d) c e = (d, refl, is_at_most_true d c e)
@@ -172,7 +172,7 @@ pub nonempty : (L : Legs) (u w : ℕ) (xs : List ℕ) → u ≢ w → IsChain L 
 nonempty L u w [] ne chain = absurd (ne chain)
 nonempty L u w (x ∷ xs) ne chain = omega arith
 
--- the search answers true only where there is a witness, and there always
+-- the search returns true only if there is a witness, and it returns true if there is one
 pub witness_found : (n : ℕ) (L : Legs) (v u w : ℕ) (c : Cost) (h : ℕ) → u ≢ w → u ≢ v → has_witness n L v u w c h ≡ true →
     HasWitness L v u w c h
 witness_found n L v u w c h ne off e =
@@ -186,7 +186,7 @@ witness_covered n L v u w c h within x =
     let one = x.1 in
     costs_at_most_covered (cheapest n L v w h u) c (chain_cost L u x.0) (covered n L v w h u x.0 one.chain one.hops.1 one.away.1 (chain_within n L u w x.0 within one.chain)) one.cheap
 
--- a pair has a witness or has none
+-- whether a pair has a witness is decided
 pub witness_or_none : (n : ℕ) (L : Legs) (v u w : ℕ) (c : Cost) (h : ℕ) → u ≢ w → u ≢ v → LeadsWithin n L →
     HasWitness L v u w c h ⊎ (HasWitness L v u w c h → ⊥)
 witness_or_none n L v u w c h ne off within = at (has_witness n L v u w c h) refl

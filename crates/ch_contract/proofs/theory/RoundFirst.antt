@@ -1,4 +1,4 @@
--- While a node is left, a round has a node: the first of all that are left.
+-- While a node remains, a round has a node: the first of all remaining nodes.
 use Rattle.std.proofs.Common.{◌≡◌, ℕ, zero, suc, ◌<◌, ◌≤◌, List, length, sym, subst, arith, inl, inr}
 use Rattle.std.specs.Prelude.{◌⊎◌, ℤ, ◌≤ℤ◌, ◌<ℤ◌}
 use Rattle.std.specs.Ordering.{int_cmp, MatchOrdering}
@@ -10,11 +10,11 @@ use Rattle.std.proofs.lemmas.Int.{ints}
 use Rattle.ch_contract.specs.Legs.{Legs}
 use Rattle.ch_contract.specs.Rounds.{mixed_number, ComesBefore, IsWithinTwoLegs, IsRound}
 
--- the order by a key and then by two numbers
+-- the order by a key and then by two numbers, as nodes come before each other
 abbrev pub IsBeforeBy : ℤ → ℕ → ℕ → ℤ → ℕ → ℕ → Type 0
 IsBeforeBy p a v q b x = (p ≤ℤ q) × (q ≤ℤ p → (a ≤ b) × (b ≤ a → v ≤ x))
 
--- of two one comes first
+-- one of two nodes comes before the other
 pub before_total : (p q : ℤ) (a v b x : ℕ) → IsBeforeBy p a v q b x ⊎ IsBeforeBy q b x p a v
 before_total p q a v b x = at (int_cmp p q) (int_ranks p q)
   where
@@ -32,7 +32,7 @@ before_total p q a v b x = at (int_cmp p q) (int_ranks p q)
     ]
     at Greater gt = inr (omega (arith, ints), λ back. absurd (omega (arith, ints)))
 
--- what comes before a second, which comes before a third, comes before the third
+-- the order is transitive
 before_trans : (p q r : ℤ) (a v b x c y : ℕ) → IsBeforeBy p a v q b x → IsBeforeBy q b x r c y → IsBeforeBy p a v r c y
 before_trans p q r a v b x c y h k =
     let first = h.0 in
@@ -46,12 +46,12 @@ before_trans p q r a v b x c y h k =
           (omega arith, λ tie. let less = f.1 (omega arith) in let more = g.1 (omega arith) in omega arith),
     )
 
--- each comes before itself
+-- each node comes before itself
 pub before_self : (p : ℤ) (a v : ℕ) → IsBeforeBy p a v p a v
 before_self p a v = (omega (arith, ints), λ back. (omega arith, λ tie. omega arith))
 
 module _ (IsKey : ℕ → ℤ → Type 0) (IsLeft : ℕ → Type 0) (one : (x : ℕ) (p q : ℤ) → IsKey x p → IsKey x q → p ≡ q) (key : (x : ℕ) → IsLeft x → (p : ℤ) × IsKey x p) (left_or_not : (x : ℕ) → IsLeft x ⊎ (IsLeft x → ⊥)) where
-  -- v is left, and comes before all that are left below m
+  -- v remains, and comes before all remaining nodes below m
   record IsLeastBelow (m : ℕ) : Type 0 where
     node : ℕ
     value : ℤ
@@ -59,7 +59,7 @@ module _ (IsKey : ℕ → ℤ → Type 0) (IsLeft : ℕ → Type 0) (one : (x : 
     has : IsKey node value
     least : (x : ℕ) (q : ℤ) → x < m → IsLeft x → IsKey x q → ComesBefore value node q x
 
-  -- one more node that is left
+  -- the first of the remaining nodes after one more node
   least_with : (m : ℕ) → IsLeft m → ((x : ℕ) → x < m → IsLeft x → ⊥) ⊎ IsLeastBelow m → IsLeastBelow (suc m)
   least_with m is rest =
       let mine = key m is in
@@ -99,7 +99,7 @@ module _ (IsKey : ℕ → ℤ → Type 0) (IsLeft : ℕ → Type 0) (one : (x : 
         ]
       ]
 
-  -- no node below m is left, or one of these comes first
+  -- no node below m remains, or one of them comes first
   least_below : (m : ℕ) → ((x : ℕ) → x < m → IsLeft x → ⊥) ⊎ IsLeastBelow m
   least_below zero = inl (λ x lt left. absurd (omega arith))
   least_below (suc m) = at (left_or_not m) (least_below m)
@@ -115,7 +115,7 @@ module _ (IsKey : ℕ → ℤ → Type 0) (IsLeft : ℕ → Type 0) (one : (x : 
       at (inr away) (inl none) = inl (λ x lt left. none x (same away x lt left) left)
       at (inr away) (inr b) = inr (record { node = b.node; value = b.value; is_left = b.is_left; has = b.has; least = λ x q lt left k. b.least x q (same away x lt left) left k })
 
-  -- so a round has a node, where what lies around a node that is left is left
+  -- a round has a node if all nodes within two legs of a remaining node remain
   pub round_some : (n : ℕ) (L : Legs) (nodes : List ℕ) → ((x : ℕ) → IsLeft x → x < n) → ((v x : ℕ) → IsWithinTwoLegs L v x → IsLeft x) → IsRound IsKey IsLeft L nodes → (x : ℕ) → IsLeft x → 0 < length nodes
   round_some n L nodes within near round x left = elim (least_below n) [
     | inl none ↦ absurd (none x (within x left) left)

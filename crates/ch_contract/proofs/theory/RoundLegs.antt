@@ -1,4 +1,4 @@
--- The legs away from the nodes of a round, and what no two nodes of a round have in common.
+-- The legs that touch no node of a round, and the legs that nodes of a round cannot have.
 use Rattle.std.proofs.Common.{◌≡◌, ℕ, Bool, true, false, cond, List, [], ◌∷◌, Some, None, Contains, refl, sym, ◌∙◌, subst, inl, inr}
 use Rattle.std.specs.Prelude.{◌≢◌, ◌==◌, ◌||◌, is_some}
 use Rattle.std.proofs.lemmas.Bool.{cases_eq, eqb-true}
@@ -15,7 +15,7 @@ use Rattle.ch_contract.specs.Rounds.{is_one_of, legs_away, AreApart}
 use Rattle.ch_contract.proofs.theory.ReferenceSearch.{some_of}
 use Rattle.ch_contract.proofs.theory.Chains.{HasLeg, chain_cost-cons}
 
--- a node of the list is found
+-- the test finds each node of the list
 pub one_of : (nodes : List ℕ) (v : ℕ) → Contains nodes v → is_one_of nodes v ≡ true
 one_of [] v c = absurd (contains_none v c)
 one_of (x ∷ nodes) v c = elim (contains_cons x v nodes c) [
@@ -27,12 +27,12 @@ one_of (x ∷ nodes) v c = elim (contains_cons x v nodes c) [
     at true e = refl
     at false e = e
 
--- and no other is
+-- the test finds no other node
 pub none_of : (nodes : List ℕ) (v : ℕ) → (Contains nodes v → ⊥) → is_one_of nodes v ≡ false
 none_of [] v away = refl
 none_of (x ∷ nodes) v away = rw (not_eqb v x (λ e. away (subst (Contains (x ∷ nodes)) (sym e) (contains_head x nodes)))) (none_of nodes v (λ c. away (contains_tail v x nodes c)))
 
--- what is found is a node of the list
+-- a node that the test finds is in the list
 pub found : (nodes : List ℕ) (v : ℕ) → is_one_of nodes v ≡ true → Contains nodes v
 found [] v t = cc
 found (x ∷ nodes) v t = at (v == x) refl t (found nodes v)
@@ -41,11 +41,11 @@ found (x ∷ nodes) v t = at (v == x) refl t (found nodes v)
     at true e f more = subst (Contains (x ∷ nodes)) (sym (eqb-true v x e)) (contains_head x nodes)
     at false e f more = contains_tail v x nodes (more f)
 
--- legs between other nodes are away from the round
+-- a leg between other nodes stays outside of the round
 pub away_leg : (nodes : List ℕ) (L : Legs) (u w : ℕ) → (Contains nodes u → ⊥) → (Contains nodes w → ⊥) → legs_away nodes L u w ≡ L u w
 away_leg nodes L u w p q = rw (none_of nodes u p, none_of nodes w q) refl
 
--- a leg away from the round touches none of its nodes, and was there before
+-- a leg outside of the round touches none of its nodes, and was there before
 pub away_ends : (nodes : List ℕ) (L : Legs) (u w : ℕ) (l : Label) → legs_away nodes L u w ≡ Some l → (Contains nodes u → ⊥) × (Contains nodes w → ⊥) × (L u w ≡ Some l)
 away_ends nodes L u w l e = (
   λ c. none-some l (sym (first (one_of nodes u c)) ∙ e),
@@ -64,11 +64,11 @@ away_ends nodes L u w l e = (
     at true f = absurd (none-some l f)
     at false f = f
 
--- legs of M that stand for those away from the round, at no more cost
+-- for each leg outside of the round, M has one that costs at most as much
 abbrev pub StandIn : List ℕ → Legs → Legs → Type 0
 StandIn nodes L M = (x y : ℕ) (l : Label) → (Contains nodes x → ⊥) → (Contains nodes y → ⊥) → L x y ≡ Some l → HasLeg M x y l.cost
 
--- a chain away from the round is a chain of such legs
+-- for a chain outside of the round, there is one in M that costs at most as much
 away_chain : (nodes : List ℕ) (L M : Legs) → StandIn nodes L M → (u w : ℕ) (xs : List ℕ) → IsChain (legs_away nodes L) u w xs → IsChain M u w xs × IsAtMost (chain_cost M u xs) (chain_cost (legs_away nodes L) u xs)
 away_chain nodes L M stand u w [] chain = (chain, IsAtMost_refl _)
 away_chain nodes L M stand u w (x ∷ xs) chain =
@@ -81,17 +81,17 @@ away_chain nodes L M stand u w (x ∷ xs) chain =
     let sum : IsAtMost (cost_sum leg.0.cost more) (cost_sum l.0.cost most) = IsAtMost-cost_sum leg.0.cost l.0.cost more most leg.2 rest.1 in
     ((rw leg.1 refl, rest.0), subst (IsAtMost (chain_cost M u (x ∷ xs))) (sym (chain_cost-cons (legs_away nodes L) u x xs l.0 l.1)) (subst (λ c. IsAtMost c (cost_sum l.0.cost most)) (sym (chain_cost-cons M u x xs leg.0 leg.1)) sum))
 
--- a witness away from the round stands for one among these legs
+-- for a witness outside of the round, there is one in M
 pub away_witness : (nodes : List ℕ) (L M : Legs) → StandIn nodes L M → (v u w : ℕ) (c : Cost) (h : ℕ) → HasWitness (legs_away nodes L) v u w c h → HasWitness M v u w c h
 away_witness nodes L M stand v u w c h w' =
     let chain = away_chain nodes L M stand u w w'.0 w'.1.chain in
     (w'.0, record { chain = chain.0; hops = w'.1.hops; away = w'.1.away; cheap = IsAtMost_trans (chain_cost M u w'.0) (chain_cost (legs_away nodes L) u w'.0) c chain.1 w'.1.cheap })
 
--- a leg from v makes a neighbour
+-- the end of a leg from v is a neighbour
 pub neighbour_out : (L : Legs) (v x : ℕ) (l : Label) → L v x ≡ Some l → are_neighbours L v x ≡ true
 neighbour_out L v x l e = rw e refl
 
--- and so does a leg to it
+-- the start of a leg to v is a neighbour
 pub neighbour_in : (L : Legs) (v x : ℕ) (l : Label) → L x v ≡ Some l → are_neighbours L v x ≡ true
 neighbour_in L v x l e = at (is_some (L v x))
   where

@@ -12,14 +12,14 @@ use Rattle.ch_contract.specs.Legs.{Legs, SameLegs, opening}
 use Rattle.ch_contract.specs.Rounds.{IsRound, ContractsRound}
 use Rattle.ch_contract.specs.RoundOrder.{round_at, nodes_before, IsKeyAfter, IsLeftAfter, AreRounds}
 
--- one more round
+-- the nodes before the next round
 pub before_next : (rounds : List (List ℕ)) (r : ℕ) → nodes_before rounds (suc r) ≡ nodes_before rounds r ++ round_at rounds r
 before_next [] zero = refl
 before_next [] (suc r) = refl
 before_next (x ∷ rounds) zero = append-nil x
 before_next (x ∷ rounds) (suc r) = ap (λ l. x ++ l) (before_next rounds r) ∙ sym (append_assoc x (nodes_before rounds r) (round_at rounds r))
 
--- all rounds are the first of all
+-- the nodes of all rounds are the nodes before the end
 pub before_all : (rounds : List (List ℕ)) → nodes_before rounds (length rounds) ≡ concat rounds
 before_all rounds = ap concat (take_all (length rounds) rounds (omega arith))
 
@@ -31,7 +31,7 @@ in_round (nodes ∷ rounds) x c = elim (Contains-append_cases nodes (concat roun
   | inr later ↦ let at = in_round rounds x later in (suc at.0, omega (arith, at.1), at.2)
 ]
 
--- all nodes, and those of one more round
+-- the nodes of all rounds after one more round
 pub concat_push : (rounds : List (List ℕ)) (nodes : List ℕ) → concat (rounds ++ nodes ∷ []) ≡ concat rounds ++ nodes
 concat_push [] nodes = append-nil nodes
 concat_push (x ∷ rounds) nodes = ap (λ l. x ++ l) (concat_push rounds nodes) ∙ sym (append_assoc x (concat rounds) nodes)
@@ -44,23 +44,23 @@ round_before rounds r (suc k) v lt c = subst (λ l. Contains l v) (sym (before_n
   | inr ne ↦ Contains-append_left (nodes_before rounds k) (round_at rounds k) v (round_before rounds r k v (omega arith) c)
 ])
 
--- these rounds were made, with the legs L r left after the first r
+-- these rounds were made; L r are the legs after the first r rounds
 pub record AreBegun (g : Network) (h : ℕ) (rounds : List (List ℕ)) (L : ℕ → Legs) : Type 0 where
   pub start : SameLegs (L 0) (opening g)
   pub some : (r : ℕ) → r < length rounds → 0 < length (round_at rounds r)
   pub round : (r : ℕ) → r < length rounds → IsRound (IsKeyAfter g.nodes h rounds L r) (IsLeftAfter g.nodes rounds r) (L r) (round_at rounds r)
   pub legs : (r : ℕ) → r < length rounds → ContractsRound g.nodes h (L r) (round_at rounds r) (L (r + 1))
 
--- once no node is left, these are all rounds
+-- when no node remains, these are all rounds
 pub begun_all : (g : Network) (h : ℕ) (rounds : List (List ℕ)) (L : ℕ → Legs) → AreBegun g h rounds L → ((x : ℕ) → x < g.nodes → Contains (concat rounds) x) → AreRounds g h rounds L
 begun_all g h rounds L b all = record { start = b.start; some = b.some; round = b.round; legs = b.legs; all = all }
 
--- all rounds were made
+-- rounds that contract all nodes were made
 pub begun_of : {g : Network} {h : ℕ} {rounds : List (List ℕ)} {L : ℕ → Legs} → AreRounds g h rounds L → AreBegun g h rounds L
 begun_of are = record { start = are.start; some = are.some; round = are.round; legs = are.legs }
 
 module _ {g : Network} {h : ℕ} {rounds : List (List ℕ)} {L : ℕ → Legs} (are : AreBegun g h rounds L) where
-  -- what is in a round was left before it
+  -- a node of a round remained before it
   pub left : (r x : ℕ) → r < length rounds → Contains (round_at rounds r) x → IsLeftAfter g.nodes rounds r x
   left r x lt c = ((are.round r lt).sound x c).0
 
@@ -72,7 +72,7 @@ module _ {g : Network} {h : ℕ} {rounds : List (List ℕ)} {L : ℕ → Legs} (
     | inr now ↦ (left r x (omega arith) now).0
   ]
 
-  -- and different
+  -- the nodes of the first rounds differ
   pub different : (r : ℕ) → r ≤ length rounds → AllPairs ◌≢◌ (nodes_before rounds r)
   different zero le = λ i j d lt inside. absurd (omega arith)
   different (suc r) le =
@@ -81,14 +81,14 @@ module _ {g : Network} {h : ℕ} {rounds : List (List ℕ)} {L : ℕ → Legs} (
       (pairs_append ◌≢◌ (nodes_before rounds r) (round_at rounds r) (different r (omega arith)) (λ i j d lt inside e. let before = round.ordered i j d lt inside in omega arith)
       (λ x y early now same. (left r y (omega arith) now).1 (subst (Contains (nodes_before rounds r)) same early)))
 
--- the nodes of all rounds are below n, and different
+-- the nodes of all rounds are below n and differ
 pub nodes_apart : {g : Network} {h : ℕ} {rounds : List (List ℕ)} {L : ℕ → Legs} → AreBegun g h rounds L → ((x : ℕ) → Contains (concat rounds) x → x < g.nodes) × AllPairs ◌≢◌ (concat rounds)
 nodes_apart {rounds = rounds} are = (
   λ x c. below are (length rounds) (omega arith) x (subst (λ l. Contains l x) (sym (before_all rounds)) c),
   subst (AllPairs ◌≢◌) (before_all rounds) (different are (length rounds) (omega arith)),
 )
 
--- where all nodes are contracted, each is there once
+-- if all nodes are contracted, each is there once
 pub nodes_once : {g : Network} {h : ℕ} {rounds : List (List ℕ)} {L : ℕ → Legs} → AreRounds g h rounds L → (length (concat rounds) ≡ g.nodes) × All (λ v. v < g.nodes) (concat rounds) × AllPairs ◌≢◌ (concat rounds)
 nodes_once {g = g} {rounds = rounds} are =
     let apart = nodes_apart (begun_of are) in

@@ -1,4 +1,4 @@
--- A hierarchy by rounds is one of nodes that are contracted one after the other, with shortcuts that are enough.
+-- A hierarchy by rounds is one of nodes that are contracted one after the other with enough shortcuts.
 use Rattle.std.proofs.Common.{◌≡◌, ℕ, zero, suc, ◌+◌, ◌<◌, ◌≤◌, Bool, true, false, List, length, Contains, refl, sym, ◌∙◌, ap, subst, arith, add-one, inl, inr}
 use Rattle.std.specs.Prelude.{◌⊎◌, All, AllPairs, ◌≢◌, ◌||◌, is_some, slice_index, ℤ, ◌≤ℤ◌}
 use Rattle.std.specs.List.{concat}
@@ -27,14 +27,14 @@ use Rattle.ch_contract.proofs.theory.RoundNodes.{AreBegun, begun_of, before_next
 use Rattle.ch_contract.proofs.theory.Turns.{turns_map, turns_append, turns_within, turns_gone, legs_at, legs_first, step_of}
 use Rattle.ch_contract.proofs.theory.EnoughKept.{hierarchies_with_enough_kept}
 
--- the shortcuts of a node were counted last at one time
+-- a last count of a node is not later than another last count
 not_counted_later : (n : ℕ) (rounds : List (List ℕ)) (L : ℕ → Legs) (r x j k : ℕ) → IsLastCount n rounds L r x j → IsLastCount n rounds L r x k → k ≤ j
 not_counted_later n rounds L r x j k p q = elim (cases_lt j k) [
   | inl lt ↦ absurd (false≢true (sym (p.later k lt q.within) ∙ q.counted))
   | inr le ↦ le
 ]
 
--- so after some rounds there is one number of them
+-- after some rounds a node has one last count
 one_count : (n h : ℕ) (rounds : List (List ℕ)) (L : ℕ → Legs) (r x c d : ℕ) → IsCountAfter n h rounds L r x c → IsCountAfter n h rounds L r x d → c ≡ d
 one_count n h rounds L r x c d a b =
     let le = not_counted_later n rounds L r x a.0 b.0 a.2 b.2 in
@@ -43,11 +43,11 @@ one_count n h rounds L r x c d a b =
     let list = one_list n h (L b.0) x a.1 b.1 (subst (λ j. AreShortcuts n h (L j) x a.1) same a.3) b.3 in
     a.4 ∙ ap length list ∙ sym b.4
 
--- and a node has one key
+-- after some rounds a node has one key
 pub one_key : (n h : ℕ) (rounds : List (List ℕ)) (L : ℕ → Legs) (r x : ℕ) (p q : ℤ) → IsKeyAfter n h rounds L r x p → IsKeyAfter n h rounds L r x q → p ≡ q
 one_key n h rounds L r x p q a b = a.2 ∙ ap (λ c. key_by Rounds c (count_touching n (L r) x) (depth_before rounds L r x)) (one_count n h rounds L r x a.0 b.0 a.1 b.1) ∙ sym b.2
 
--- of two numbers that come before each other, in an order by three
+-- two nodes that come before each other are equal
 pub both_before : (p q : ℤ) (a b v x : ℕ) → (p ≤ℤ q) × (q ≤ℤ p → (a ≤ b) × (b ≤ a → v ≤ x)) → (q ≤ℤ p) × (p ≤ℤ q → (b ≤ a) × (a ≤ b → x ≤ v)) → v ≡ x
 both_before p q a b v x h k =
     let f = h.1 k.0 in
@@ -56,7 +56,7 @@ both_before p q a b v x h k =
     let ge = g.1 f.0 in
     omega arith
 
--- neighbours are so of each other
+-- if x is a neighbour of v, v is one of x
 pub neighbours_flip : (L : Legs) (v x : ℕ) → are_neighbours L v x ≡ are_neighbours L x v
 neighbours_flip L v x = at (is_some (L v x)) (is_some (L x v))
   where
@@ -66,14 +66,14 @@ neighbours_flip L v x = at (is_some (L v x)) (is_some (L x v))
     at false true = refl
     at false false = refl
 
--- and so are nodes within two legs
+-- if x is within two legs of v, v is within two legs of x
 pub within_flip : (L : Legs) (v x : ℕ) → IsWithinTwoLegs L v x → IsWithinTwoLegs L x v
 within_flip L v x near = elim near [
   | inl one ↦ inl (neighbours_flip L x v ∙ one)
   | inr two ↦ inr (two.0, neighbours_flip L x two.0 ∙ two.2, neighbours_flip L two.0 v ∙ two.1)
 ]
 
--- the nodes of a round are apart, where each has one key
+-- the nodes of a round are apart, if each has one key
 round_apart : (IsKey : ℕ → ℤ → Type 0) (IsLeft : ℕ → Type 0) (L : Legs) (nodes : List ℕ) → ((x : ℕ) (p q : ℤ) → IsKey x p → IsKey x q → p ≡ q) → IsRound IsKey IsLeft L nodes → AreApart L nodes
 round_apart IsKey IsLeft L nodes one round = record {
   distinct = λ i j d lt inside e. let before = round.ordered i j d lt inside in omega arith;
@@ -87,7 +87,7 @@ round_apart IsKey IsLeft L nodes one round = record {
 }
 
 module _ {g : Network} {h : ℕ} {rounds : List (List ℕ)} {L : ℕ → Legs} (limits : IsWithinLimits g) (hops : IsHopBound h) (are : AreBegun g h rounds L) where
-  -- a round within the limits is contractions one after the other
+  -- a round within the limits is the contraction of its nodes one after the other
   turn : (r : ℕ) → r < length rounds → AreLegsWithin g.nodes (L r) → TakesInTurn (IsStepOfRound g.nodes h (L r)) (L r) (round_at rounds r) (L (suc r))
   turn r lt within =
       let apart = round_apart _ _ (L r) (round_at rounds r) (one_key g.nodes h rounds L r) (are.round r lt) in
@@ -115,7 +115,7 @@ module _ {g : Network} {h : ℕ} {rounds : List (List ℕ)} {L : ℕ → Legs} (
     abbrev IsStepOf : Legs → ℕ → Legs → Type 0
     IsStepOf K v N = ContractsWithEnough g.nodes h K v N × AreLegsFrom K v (row H.up v) × AreLegsTo K v (row H.down v)
 
-    -- so it is in each round
+    -- the steps of each round are such steps
     steps_of_round : (r : ℕ) → r < length rounds → TakesInTurn IsStepOf (L r) (round_at rounds r) (L (suc r))
     steps_of_round r lt =
         turns_map (IsStepOfRound g.nodes h (L r)) IsStepOf (round_at rounds r) (L r) (L (suc r))
@@ -125,14 +125,14 @@ module _ {g : Network} {h : ℕ} {rounds : List (List ℕ)} {L : ℕ → Legs} (
         (step.0, (up.0, λ x. up.1 x ∙ sym (step.1 x).0), (down.0, λ x. down.1 x ∙ sym (step.1 x).1)))
         (turn r lt (within_rounds r (omega arith)))
 
-    -- and in the first rounds
+    -- the steps of the first rounds are such steps
     steps_before : (r : ℕ) → r ≤ length rounds → TakesInTurn IsStepOf (L 0) (nodes_before rounds r) (L r)
     steps_before zero le = λ x y. refl
     steps_before (suc r) le =
         subst (λ l. TakesInTurn IsStepOf (L 0) l (L (suc r))) (sym (before_next rounds r))
         (turns_append IsStepOf (nodes_before rounds r) (round_at rounds r) (L 0) (L r) (L (suc r)) (steps_before r (omega arith)) (steps_of_round r (omega arith)))
 
-    -- all nodes one after the other
+    -- the steps of all rounds are such steps
     steps : TakesInTurn IsStepOf (L 0) (concat rounds) (L (length rounds))
     steps = subst (λ l. TakesInTurn IsStepOf (L 0) l (L (length rounds))) (before_all rounds) (steps_before (length rounds) (omega arith))
 
@@ -140,13 +140,13 @@ module _ {g : Network} {h : ℕ} {rounds : List (List ℕ)} {L : ℕ → Legs} (
     abbrev legs : ℕ → Legs
     legs = legs_at IsStepOf (concat rounds) (L 0) (L (length rounds)) steps
 
-    -- and the step
+    -- step i is such a step
     step : (i : ℕ) → i < g.nodes → IsStepOf (legs i) (slice_index (concat rounds) i) (legs (i + 1))
     step i lt =
         let size = once.0 in
         subst (λ k. IsStepOf (legs i) (slice_index (concat rounds) i) (legs k)) (sym (add-one i)) (step_of IsStepOf (concat rounds) (L 0) (L (length rounds)) steps i (omega arith))
 
-    -- so it is a hierarchy of nodes that are contracted one after the other
+    -- the hierarchy is one of nodes that are contracted one after the other
     pub by_steps : (K : ℕ → Legs) × IsHierarchyIn (ContractsWithEnough g.nodes h) g H (concat rounds) K
     by_steps = (
       legs,

@@ -1,4 +1,4 @@
--- A round of one more node: its legs are taken out, its shortcuts are put in, and its neighbours lie deeper.
+-- A round of one more node: its legs are taken out, its shortcuts are put in, and its neighbours get greater depths.
 use Rattle.std.proofs.Common.{◌≡◌, ℕ, Bool, true, false, cond, List, [], ◌∷◌, ◌++◌, None, refl, ◌∙◌}
 use Rattle.std.specs.Prelude.{if◌then◌else◌, ◌==◌, ◌||◌}
 use Rattle.ch_contract.specs.declared.shortcut.Shortcut.{Shortcut}
@@ -7,7 +7,7 @@ use Rattle.ch_contract.specs.Contraction.{leg_after_shortcuts, legs_after_contra
 use Rattle.ch_contract.specs.Order.{next_depth}
 use Rattle.ch_contract.specs.Rounds.{is_one_of, legs_away, legs_with_shortcuts, depth_after_round}
 
--- one more node of the list is found
+-- the test for a list with one more node
 one_of_more : (nodes : List ℕ) (v u : ℕ) → is_one_of (nodes ++ v ∷ []) u ≡ (is_one_of nodes u || u == v)
 one_of_more [] v u = at (u == v)
   where
@@ -42,7 +42,7 @@ pub put_more : (nodes : List ℕ) (v : ℕ) (lists : ℕ → List Shortcut) (L :
 put_more [] v lists L u w = refl
 put_more (x ∷ nodes) v lists L u w = put_more nodes v lists (λ a b. leg_after_shortcuts x (lists x) a b (L a b)) u w
 
--- the neighbours of one more node lie deeper than it
+-- the depths after the neighbours of one more node get theirs
 pub deeper_more : (nodes : List ℕ) (v : ℕ) (L : Legs) (depth : ℕ → ℕ) (x : ℕ) → depth_after_round L (nodes ++ v ∷ []) depth x ≡ next_depth L v (depth_after_round L nodes depth) x
 deeper_more [] v L depth x = refl
 deeper_more (y ∷ nodes) v L depth x = deeper_more nodes v L (next_depth L y depth) x

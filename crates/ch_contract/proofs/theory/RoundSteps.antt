@@ -13,7 +13,7 @@ use Rattle.ch_contract.proofs.theory.OrderSteps.{then_legs, then_before, then_ne
 use Rattle.ch_contract.proofs.theory.RoundNodes.{AreBegun, before_next, before_all}
 use Rattle.ch_contract.proofs.theory.OneRounds.{Agree, agree_back, before_along, depth_along, counted_along, key_along, left_along}
 
--- once v is contracted, no node lies more than one deeper than any did
+-- a contraction raises the greatest depth by at most one
 next_most : (L : Legs) (v : ℕ) (depth : ℕ → ℕ) (m : ℕ) → ((x : ℕ) → depth x ≤ m) → (x : ℕ) → next_depth L v depth x ≤ m + 1
 next_most L v depth m most x = at (are_neighbours L v x) (most x) (most v)
   where
@@ -21,19 +21,19 @@ next_most L v depth m most x = at (are_neighbours L v x) (most x) (most v)
     at true p q = omega arith
     at false p q = omega arith
 
--- nor after a round more than one for each of its nodes
+-- a round raises the greatest depth by at most the number of its nodes
 pub round_most : (L : Legs) (nodes : List ℕ) (depth : ℕ → ℕ) (m : ℕ) → ((x : ℕ) → depth x ≤ m) → (x : ℕ) → depth_after_round L nodes depth x ≤ m + length nodes
 round_most L [] depth m most x = let low = most x in omega arith
 round_most L (v ∷ nodes) depth m most x = let low = round_most L nodes (next_depth L v depth) (m + 1) (next_most L v depth m most) x in omega arith
 
--- so no node lies deeper than nodes are contracted
+-- a depth is at most the number of contracted nodes
 pub depth_most : (rounds : List (List ℕ)) (L : ℕ → Legs) (r x : ℕ) → depth_before rounds L r x ≤ length (nodes_before rounds r)
 depth_most rounds L zero x = omega arith
 depth_most rounds L (suc r) x =
     let low = round_most (L r) (round_at rounds r) (depth_before rounds L r) (length (nodes_before rounds r)) (depth_most rounds L r) x in
     omega (arith, ap length (before_next rounds r), length-append (nodes_before rounds r) (round_at rounds r))
 
--- before the first round
+-- before the first round no round was made
 pub begun_none : (g : Network) (h : ℕ) → AreBegun g h [] (λ r. opening g)
 begun_none g h = record {
   start = λ u w. refl;
@@ -42,7 +42,7 @@ begun_none g h = record {
   legs = λ r lt. absurd (omega arith);
 }
 
--- a round of the same nodes by other words
+-- a round stays a round for equivalent keys and equivalent remaining nodes
 round_moved : (IsKey IsOther : ℕ → ℤ → Type 0) (IsLeft IsRest : ℕ → Type 0) (L : Legs) (nodes : List ℕ) → ((x : ℕ) (p : ℤ) → IsKey x p → IsOther x p) → ((x : ℕ) (p : ℤ) → IsOther x p → IsKey x p) → ((x : ℕ) → IsLeft x → IsRest x) → ((x : ℕ) → IsRest x → IsLeft x) →
     IsRound IsKey IsLeft L nodes → IsRound IsOther IsRest L nodes
 round_moved IsKey IsOther IsLeft IsRest L nodes key back left rest p = record {
@@ -51,7 +51,7 @@ round_moved IsKey IsOther IsLeft IsRest L nodes key back left rest p = record {
   whole = λ v r f. p.whole v (rest v r) (λ x ne near. let s = f x ne near in (s.0, s.1, back v s.0 s.2, back x s.1 s.3, s.4));
 }
 
--- rounds that agree up to one agree up to each earlier one
+-- rounds that agree up to a round agree up to each earlier one
 agree_less : (r k : ℕ) (rounds : List (List ℕ)) (L : ℕ → Legs) (other : List (List ℕ)) (M : ℕ → Legs) → k ≤ r → Agree r rounds L other M → Agree k rounds L other M
 agree_less r k rounds L other M le a = record { nodes = λ j lt. a.nodes j (omega arith); legs = λ j below. a.legs j (omega arith) }
 
@@ -60,11 +60,11 @@ module _ (rounds : List (List ℕ)) (L : ℕ → Legs) (nodes : List ℕ) (M : L
   abbrev pub more : List (List ℕ)
   more = rounds ++ nodes ∷ []
 
-  -- the legs with those after it
+  -- the legs with the legs after the new round
   abbrev pub legs_more : ℕ → Legs
   legs_more = then_legs (length rounds) L M
 
-  -- earlier rounds are what they were
+  -- the earlier rounds stay
   pub before : (k : ℕ) → k < length rounds → round_at rounds k ≡ round_at more k
   before k lt = sym (get_or_append_left rounds (nodes ∷ []) [] k lt)
 
@@ -72,7 +72,7 @@ module _ (rounds : List (List ℕ)) (L : ℕ → Legs) (nodes : List ℕ) (M : L
   pub here : round_at more (length rounds) ≡ nodes
   here = get_or_push rounds nodes [] (length rounds) refl
 
-  -- they agree up to then
+  -- the longer list agrees with the shorter one
   pub agree : Agree (length rounds) rounds L more legs_more
   agree = record { nodes = before; legs = λ k le. sym (then_before (length rounds) L M k le) }
 
@@ -98,7 +98,7 @@ module _ (rounds : List (List ℕ)) (L : ℕ → Legs) (nodes : List ℕ) (M : L
       let round = here in
       before_next more (length rounds) ∙ (λ t. past t ++ round t)
 
-  -- whether the shortcuts of a node are counted after it
+  -- whether the shortcuts of a node are counted after the new round
   pub counted_next : (n x : ℕ) → is_counted n more legs_more (suc (length rounds)) x ≡
       (not (nat_lt (10 * (length (concat rounds) + length nodes)) (7 * n)) && (nat_lt (10 * length (concat rounds)) (7 * n) || list_any (λ v. are_neighbours (L (length rounds)) v x) nodes))
   counted_next n x =
@@ -108,11 +108,11 @@ module _ (rounds : List (List ℕ)) (L : ℕ → Legs) (nodes : List ℕ) (M : L
       let round = here in
       λ t. not (nat_lt (10 * all t) (7 * n)) && (nat_lt (10 * past t) (7 * n) || list_any (λ v. are_neighbours (legs t) v x) (round t))
 
-  -- where they are, that is the last time
+  -- if they are counted, this is the last count
   pub count_anew : (n x : ℕ) → is_counted n more legs_more (suc (length rounds)) x ≡ true → IsLastCount n more legs_more (suc (length rounds)) x (suc (length rounds))
   count_anew n x anew = record { within = omega arith; counted = anew; later = λ k lt le. absurd (omega arith) }
 
-  -- and else the last time stays
+  -- if they are not counted, the last count stays
   pub count_kept : (n x j : ℕ) → is_counted n more legs_more (suc (length rounds)) x ≡ false → IsLastCount n rounds L (length rounds) x j → IsLastCount n more legs_more (suc (length rounds)) x j
   count_kept n x j kept last = record {
     within = let le = last.within in omega arith;
@@ -124,7 +124,7 @@ module _ (rounds : List (List ℕ)) (L : ℕ → Legs) (nodes : List ℕ) (M : L
   }
 
   module _ (g : Network) (h : ℕ) (b : AreBegun g h rounds L) (some : 0 < length nodes) (round : IsRound (IsKeyAfter g.nodes h rounds L (length rounds)) (IsLeftAfter g.nodes rounds (length rounds)) (L (length rounds)) nodes) (legs : ContractsRound g.nodes h (L (length rounds)) nodes M) where
-    -- a round of the shorter list is one of the longer
+    -- a round of the shorter list is one of the longer list
     round_at_more : (k : ℕ) → k ≤ length rounds → (list : List ℕ) → IsRound (IsKeyAfter g.nodes h rounds L k) (IsLeftAfter g.nodes rounds k) (L k) list → IsRound (IsKeyAfter g.nodes h more legs_more k) (IsLeftAfter g.nodes more k) (legs_more k) list
     round_at_more k le list p =
         let a = agree_less (length rounds) k rounds L more legs_more le agree in
@@ -144,7 +144,7 @@ module _ (rounds : List (List ℕ)) (L : ℕ → Legs) (nodes : List ℕ) (M : L
           subst (IsRound (IsKeyAfter g.nodes h more legs_more k) (IsLeftAfter g.nodes more k) (legs_more k)) (before k inside) (round_at_more k (omega arith) (round_at rounds k) (b.round k inside))
     ]
 
-    -- and leaves the legs before the next
+    -- each round leads to the legs before the next
     contracted_more : (k : ℕ) → k < length more → ContractsRound g.nodes h (legs_more k) (round_at more k) (legs_more (k + 1))
     contracted_more k lt = elim (cases_eq k (length rounds)) [
       | inl e ↦ subst (λ z. ContractsRound g.nodes h (legs_more z) (round_at more z) (legs_more (z + 1))) (sym e) last
@@ -163,7 +163,7 @@ module _ (rounds : List (List ℕ)) (L : ℕ → Legs) (nodes : List ℕ) (M : L
             let three = subst (λ (N : Legs). ContractsRound g.nodes h (legs_more (length rounds)) (round_at more (length rounds)) N) (sym next) two in
             subst (λ k. ContractsRound g.nodes h (legs_more (length rounds)) (round_at more (length rounds)) (legs_more k)) (sym (add-one (length rounds))) three
 
-    -- so the rounds with one more were made
+    -- the rounds with one more were made
     pub begun_more : AreBegun g h (rounds ++ nodes ∷ []) (then_legs (length rounds) L M)
     begun_more = record {
       start = λ u w. ap (λ (N : Legs). N u w) (then_before (length rounds) L M 0 (omega arith)) ∙ b.start u w;

@@ -1,4 +1,4 @@
--- A round is contractions one after the other, with shortcuts that are enough.
+-- A round is the contraction of its nodes one after the other with enough shortcuts.
 use Rattle.std.proofs.Common.{◌≡◌, ℕ, Bool, true, false, cond, List, [], ◌∷◌, Some, None, Contains, refl, sym, ◌∙◌, ap, subst, inl, inr}
 use Rattle.std.specs.Prelude.{◌≢◌, ◌==◌, ◌||◌, ◌≤◌, AllPairs}
 use Rattle.std.proofs.lemmas.Bool.{cases_eq, eqb-true}
@@ -19,7 +19,7 @@ use Rattle.ch_contract.proofs.theory.Levelled.{IsGone, gone_next, within_more}
 use Rattle.ch_contract.proofs.theory.Enough.{own_witness}
 use Rattle.ch_contract.proofs.theory.RoundLegs.{found, away_leg, StandIn, away_witness, no_leg, no_fork}
 
--- the same pair of legs where v has the same legs
+-- a sum of two legs through v depends only on the legs of v
 pair_moved : (n : ℕ) (L M : Legs) (v : ℕ) (s : Shortcut) → ((x : ℕ) → (L v x ≡ M v x) × (L x v ≡ M x v)) → IsPairThrough n L v s → IsPairThrough n M v s
 pair_moved n L M v s same is = let legs = is.legs in record {
   apart = is.apart;
@@ -29,7 +29,7 @@ pair_moved n L M v s same is = let legs = is.legs in record {
 }
 
 module _ (n h : ℕ) (L : Legs) (nodes : List ℕ) (most : 1 ≤ h) (limits : AreLegsWithin n L) (is : AreApart L nodes) (lists : ℕ → List Shortcut) (are : (v : ℕ) → Contains nodes v → AreShortcutsAmong n h L (legs_away nodes L) v (lists v)) where
-  -- what holds of the legs M while these nodes of the round are still to be contracted
+  -- the state of the legs M while these nodes of the round are still to be contracted
   pub record IsUnderway (todo : List ℕ) (M : Legs) : Type 0 where
     pub members : (v : ℕ) → Contains todo v → Contains nodes v
     pub distinct : AllPairs ◌≢◌ todo
@@ -38,7 +38,7 @@ module _ (n h : ℕ) (L : Legs) (nodes : List ℕ) (most : 1 ≤ h) (limits : Ar
     pub stands : StandIn nodes L M
     pub between : (v u w : ℕ) (a b : Label) → Contains todo v → L u v ≡ Some a → L v w ≡ Some b → M u w ≡ L u w
 
-  -- at the beginning of the round
+  -- the legs at the beginning of the round are in this state
   pub begins : IsUnderway nodes L
   begins = record {
     members = λ v c. c;
@@ -49,7 +49,7 @@ module _ (n h : ℕ) (L : Legs) (nodes : List ℕ) (most : 1 ≤ h) (limits : Ar
     between = λ v u w a b c p q. refl;
   }
 
-  -- a shortcut of the round leads between nodes that are not of it
+  -- a shortcut of the round leads between nodes outside of the round
   ends_away : (v : ℕ) (s : Shortcut) → Contains nodes v → Contains (lists v) s → (Contains nodes s.from → ⊥) × (Contains nodes s.to → ⊥)
   ends_away v s c has =
       let legs = ((are v c).sound s has).pair.legs in
@@ -82,22 +82,22 @@ module _ (n h : ℕ) (L : Legs) (nodes : List ℕ) (most : 1 ≤ h) (limits : Ar
       same : (x : ℕ) → (M v x ≡ L v x) × (M x v ≡ L x v)
       same x = u.waits v x (contains_head v todo)
 
-  -- the legs after it
+  -- the legs after the next node is contracted
   abbrev next_legs : ℕ → Legs → Legs
   next_legs v M = legs_after_contraction M v (lists v)
 
-  -- its contraction
+  -- the next node is contracted with enough shortcuts
   contraction : (v : ℕ) (todo : List ℕ) (M : Legs) → IsUnderway (v ∷ todo) M → ContractsWithEnough n h M v (next_legs v M)
   contraction v todo M u = (lists v, are_enough v todo M u, λ x y. refl)
 
-  -- it leaves each leg between other nodes where it has no shortcut
+  -- the contraction of v leaves each leg between other nodes without a shortcut
   leg_same : (v : ℕ) (M : Legs) (x y : ℕ) → x ≢ v → y ≢ v → ((s : Shortcut) → Contains (lists v) s → s.from ≡ x → s.to ≡ y → ⊥) → next_legs v M x y ≡ M x y
   leg_same v M x y p q none = elim (override_cases v (lists v) x y (M x y)) [
     | inl stays ↦ rw (not_eqb x v p, not_eqb y v q) stays
     | inr s ↦ absurd (none s.0 s.1 s.2 s.3)
   ]
 
-  -- what is underway goes on
+  -- the legs after the next node are in this state, for the nodes that are then left
   goes_on : (v : ℕ) (todo : List ℕ) (M : Legs) → IsUnderway (v ∷ todo) M → IsUnderway todo (next_legs v M)
   goes_on v todo M u = record {
     members = members;
@@ -154,12 +154,13 @@ module _ (n h : ℕ) (L : Legs) (nodes : List ℕ) (most : 1 ≤ h) (limits : Ar
   legs_in_turn [] M = M
   legs_in_turn (v ∷ todo) M = legs_in_turn todo (legs_after_contraction M v (lists v))
 
-  -- so they are contracted in turn
+  -- the nodes are contracted in turn
   in_turn : (todo : List ℕ) (M : Legs) → IsUnderway todo M → TakesInTurn (IsStepOfRound n h L) M todo (legs_in_turn todo M)
   in_turn [] M u = λ x y. refl
   in_turn (v ∷ todo) M u = (next_legs v M, (contraction v todo M u, λ x. u.waits v x (contains_head v todo)), in_turn todo (next_legs v M) (goes_on v todo M u))
 
-  -- taking all legs out first leaves the same as taking out those of each when its shortcuts are put in
+  -- taking all legs out first gives the same legs as taking the legs of each node out just before its shortcuts are put
+  -- in
   away_first : (v : ℕ) (todo : List ℕ) (M : Legs) → IsUnderway (v ∷ todo) M → (x y : ℕ) → legs_away todo (next_legs v M) x y ≡ leg_after_shortcuts v (lists v) x y (legs_away (v ∷ todo) M x y)
   away_first v todo M u x y = at (x == v) (is_one_of todo x) (y == v) (is_one_of todo y) refl refl refl refl
     where
@@ -192,7 +193,7 @@ module _ (n h : ℕ) (L : Legs) (nodes : List ℕ) (most : 1 ≤ h) (limits : Ar
       at false false true false ea eb ec ed = to_off (subst (Contains nodes) (sym (eqb-true y v ec)) here)
       at false false false false ea eb ec ed = refl
 
-  -- so a round leaves what they leave one after the other
+  -- a round gives the same legs as the contractions one after the other
   same_after : (todo : List ℕ) (M : Legs) → IsUnderway todo M → legs_in_turn todo M ≡ legs_with_shortcuts todo lists (legs_away todo M)
   same_after [] M u = refl
   same_after (v ∷ todo) M u =

@@ -29,7 +29,7 @@ use Rattle.ch_contract.proofs.theory.RoundSteps.{begun_none, begun_more}
 use Rattle.ch_contract.proofs.theory.Listing.{chosen, all_below, table, row_of}
 use Rattle.ch_contract.proofs.theory.ShortcutsListed.{shortcuts_among, shortcuts_listed}
 
--- two nodes are neighbours or not
+-- whether two nodes are neighbours is decided
 neighbours_or_not : (L : Legs) (v x : ℕ) → (are_neighbours L v x ≡ true) ⊎ (are_neighbours L v x ≡ true → ⊥)
 neighbours_or_not L v x = at (are_neighbours L v x)
   where
@@ -46,14 +46,14 @@ neighbour_below n L v x limits near = at (L v x) (L x v) refl refl near
     at None (Some l) e f is = (limits x v l f).ends.0
     at None None e f is = absurd (true≢false (sym is))
 
--- and so is what lies within two legs
+-- nodes within two legs are below n
 near_below : (n : ℕ) (L : Legs) (v x : ℕ) → AreLegsWithin n L → IsWithinTwoLegs L v x → x < n
 near_below n L v x limits near = elim near [
   | inl one ↦ neighbour_below n L v x limits one
   | inr two ↦ neighbour_below n L two.0 x limits two.2
 ]
 
--- a node lies within two legs of another or not
+-- whether a node is within two legs of another is decided
 near_or_not : (n : ℕ) (L : Legs) (v x : ℕ) → AreLegsWithin n L → IsWithinTwoLegs L v x ⊎ (IsWithinTwoLegs L v x → ⊥)
 near_or_not n L v x limits = elim (neighbours_or_not L v x) [
   | inl one ↦ inl (inl one)
@@ -82,11 +82,11 @@ near_or_not n L v x limits = elim (neighbours_or_not L v x) [
     ]
 
 module _ (n : ℕ) (L : Legs) (limits : AreLegsWithin n L) (IsKey : ℕ → ℤ → Type 0) (key : (x : ℕ) → (p : ℤ) × IsKey x p) (one : (x : ℕ) (p q : ℤ) → IsKey x p → IsKey x q → p ≡ q) where
-  -- a node comes before another within two legs, or not
+  -- v comes before x, or x is v or not within two legs
   abbrev IsBefore : ℕ → ℕ → Type 0
   IsBefore v x = x ≢ v → IsWithinTwoLegs L v x → ComesBefore (key v).0 v (key x).0 x
 
-  -- and that is decided
+  -- whether this holds is decided
   before_or_not : (v x : ℕ) → IsBefore v x ⊎ (IsBefore v x → ⊥)
   before_or_not v x = elim (cases_eq x v) [
     | inl same ↦ inl (λ ne near. absurd (ne same))
@@ -99,7 +99,7 @@ module _ (n : ℕ) (L : Legs) (limits : AreLegsWithin n L) (IsKey : ℕ → ℤ 
     ]
   ]
 
-  -- so it is decided whether a node is the first around
+  -- whether a node comes before all others within two legs is decided
   first_or_not : (v : ℕ) → IsFirstAround IsKey L v ⊎ (IsFirstAround IsKey L v → ⊥)
   first_or_not v = elim (all_below (IsBefore v) (before_or_not v) n) [
     | inl all ↦ inl (λ x ne near. ((key v).0, (key x).0, (key v).1, (key x).1, all x (near_below n L v x limits near) ne near))
@@ -108,7 +108,7 @@ module _ (n : ℕ) (L : Legs) (limits : AreLegsWithin n L) (IsKey : ℕ → ℤ 
         subst (λ z. ComesBefore z v (key some.0).0 some.0) (one v f.0 (key v).0 f.2 (key v).1) (subst (λ z. ComesBefore f.0 v z some.0) (one some.0 f.1 (key some.0).0 f.3 (key some.0).1) f.4)))
   ]
 
-  -- the nodes of a round
+  -- there is a list of the nodes of a round
   pub round_exists : (IsLeft : ℕ → Type 0) → ((x : ℕ) → IsLeft x ⊎ (IsLeft x → ⊥)) → ((x : ℕ) → IsLeft x → x < n) → (nodes : List ℕ) × IsRound IsKey IsLeft L nodes
   round_exists IsLeft left_or_not within =
       let r = chosen (λ v. IsLeft v × IsFirstAround IsKey L v) both n in
@@ -123,7 +123,7 @@ module _ (n : ℕ) (L : Legs) (limits : AreLegsWithin n L) (IsKey : ℕ → ℤ 
         ]
       ]
 
--- some time the shortcuts of a node were counted last
+-- the shortcuts of each node have a last count
 last_count : (n : ℕ) (rounds : List (List ℕ)) (L : ℕ → Legs) (r x : ℕ) → (j : ℕ) × IsLastCount n rounds L r x j
 last_count n rounds L zero x = (0, record { within = omega arith; counted = refl; later = λ k lt le. absurd (omega arith) })
 last_count n rounds L (suc r) x = at (is_counted n rounds L (suc r) x) refl (last_count n rounds L r x)
@@ -146,7 +146,7 @@ last_count n rounds L (suc r) x = at (is_counted n rounds L (suc r) x) refl (las
 leads : (n : ℕ) (L : Legs) → AreLegsWithin n L → LeadsWithin n L
 leads n L limits u x some = let l = some_of (L u x) some in (limits u x l.0 l.1).ends.1
 
--- legs away from a round are within the limits
+-- the legs outside of a round are within the limits
 away_within : (n : ℕ) (nodes : List ℕ) (L : Legs) → AreLegsWithin n L → AreLegsWithin n (legs_away nodes L)
 away_within n nodes L limits u w l e = limits u w l (away_ends nodes L u w l e).2
 
@@ -158,7 +158,7 @@ key_exists n h rounds L r limits x =
     let list = shortcuts_listed n h (L last.0) x its (leads n (L last.0) its) in
     (key_by Rounds (length list.0) (count_touching n (L r) x) (depth_before rounds L r x), (length list.0, (last.0, list.0, last.1, list.1, refl), refl))
 
--- a round leaves legs
+-- a round has a result
 legs_exist : (n h : ℕ) (L : Legs) (nodes : List ℕ) → AreLegsWithin n L → (M : Legs) × ContractsRound n h L nodes M
 legs_exist n h L nodes limits =
     let away = away_within n nodes L limits in
@@ -172,11 +172,11 @@ module _ (g : Network) (h : ℕ) (limits : IsWithinLimits g) (hops : IsHopBound 
     here : AreLegsWithin g.nodes (L (length rounds))
     here = within_rounds limits hops b (length rounds) (omega arith)
 
-    -- the key of each node
+    -- each node has a key
     key : (x : ℕ) → (p : ℤ) × IsKeyAfter g.nodes h rounds L (length rounds) x p
     key = key_exists g.nodes h rounds L (length rounds) (within_rounds limits hops b)
 
-    -- a node is left or not
+    -- whether a node remains is decided
     left_or_not : (x : ℕ) → IsLeftAfter g.nodes rounds (length rounds) x ⊎ (IsLeftAfter g.nodes rounds (length rounds) x → ⊥)
     left_or_not x = elim (cases_lt x g.nodes) [
       | inr past ↦ inr (λ is. let lt = is.0 in omega arith)
@@ -186,13 +186,13 @@ module _ (g : Network) (h : ℕ) (limits : IsWithinLimits g) (hops : IsHopBound 
       ]
     ]
 
-    -- a node that is contracted is no neighbour
+    -- a contracted node is no neighbour
     no_neighbour : (v x : ℕ) → are_neighbours (L (length rounds)) v x ≡ true → Contains (nodes_before rounds (length rounds)) x → ⊥
     no_neighbour v x near taken =
         let gone = gone_rounds limits hops b (length rounds) (omega arith) x taken v in
         true≢false (sym near ∙ (λ t. is_some (gone.1 t) || is_some (gone.0 t)))
 
-    -- so what lies around a node is left
+    -- the nodes within two legs of a node remain
     near_left : (v x : ℕ) → IsWithinTwoLegs (L (length rounds)) v x → IsLeftAfter g.nodes rounds (length rounds) x
     near_left v x near = (
       near_below g.nodes (L (length rounds)) v x here near,
@@ -206,7 +206,7 @@ module _ (g : Network) (h : ℕ) (limits : IsWithinLimits g) (hops : IsHopBound 
     next_round : (nodes : List ℕ) × IsRound (IsKeyAfter g.nodes h rounds L (length rounds)) (IsLeftAfter g.nodes rounds (length rounds)) (L (length rounds)) nodes
     next_round = round_exists g.nodes (L (length rounds)) here (IsKeyAfter g.nodes h rounds L (length rounds)) key (one_key g.nodes h rounds L (length rounds)) (IsLeftAfter g.nodes rounds (length rounds)) left_or_not (λ x is. is.0)
 
-    -- while a node is left it has a node
+    -- while a node remains, the next round has a node
     next_some : (x : ℕ) → IsLeftAfter g.nodes rounds (length rounds) x → 0 < length next_round.0
     next_some x left =
         round_some (IsKeyAfter g.nodes h rounds L (length rounds)) (IsLeftAfter g.nodes rounds (length rounds)) (one_key g.nodes h rounds L (length rounds)) (λ y is. key y) left_or_not
@@ -230,7 +230,7 @@ module _ (g : Network) (h : ℕ) (limits : IsWithinLimits g) (hops : IsHopBound 
         rounds_from k (rounds ++ round.0 ∷ []) (then_legs (length rounds) L legs.0) (begun_more rounds L round.0 legs.0 g h b one round.1 legs.1) (omega arith)
   ]
 
-  -- so there are rounds
+  -- there are rounds that contract all nodes
   pub rounds_exist : (rounds : List (List ℕ)) × (L : ℕ → Legs) × AreRounds g h rounds L
   rounds_exist = rounds_from g.nodes [] (λ r. opening g) (begun_none g h) (omega arith)
 
@@ -245,7 +245,7 @@ module _ (g : Network) (h : ℕ) (limits : IsWithinLimits g) (hops : IsHopBound 
   ]
 
   module _ (rounds : List (List ℕ)) (L : ℕ → Legs) (are : AreRounds g h rounds L) where
-    -- the rows of all nodes, by the legs before each round or these turned round
+    -- there are rows of all nodes, from the legs before each round in either direction
     rows_exist : (turn : Legs → Legs) → ((M : Legs) → AreLegsWithin g.nodes M → AreLegsWithin g.nodes (turn M)) →
         (rows : List (List Leg)) × (length rows ≡ g.nodes) × ((x : ℕ) → x < g.nodes → (r : ℕ) → r < length rounds → Contains (round_at rounds r) x → AreLegsFrom (turn (L r)) x (get_or rows x []))
     rows_exist turn keeps = table (λ x legs. (r : ℕ) → r < length rounds → Contains (round_at rounds r) x → AreLegsFrom (turn (L r)) x legs) [] g.nodes (λ x lt.
@@ -254,7 +254,7 @@ module _ (g : Network) (h : ℕ) (limits : IsWithinLimits g) (hops : IsHopBound 
         let row = row_of g.nodes (turn (L at.0) x) (λ y l e. (within x y l e).ends.1) in
         (row.0, λ r lr c. subst (λ z. AreLegsFrom (turn (L z)) x row.0) (one_round_of are at.0 r x at.1 lr at.2 c) (row.1, row.2)))
 
-    -- the levels of all nodes
+    -- there are levels of all nodes
     levels_exist : (levels : List ℕ) × (length levels ≡ g.nodes) × ((x : ℕ) → x < g.nodes → (i : ℕ) → i < g.nodes → slice_index (concat rounds) i ≡ x → get_or levels x 0 ≡ i + 1)
     levels_exist = table (λ x level. (i : ℕ) → i < g.nodes → slice_index (concat rounds) i ≡ x → level ≡ i + 1) 0 g.nodes (λ x lt.
         let once = nodes_once are in
@@ -272,7 +272,7 @@ module _ (g : Network) (h : ℕ) (limits : IsWithinLimits g) (hops : IsHopBound 
               ]
             ]
 
-    -- so they leave a hierarchy
+    -- the rounds have a hierarchy
     pub hierarchy_exists : (H : LevelsAndLegs) × IsHierarchyOfRounds g H rounds L
     hierarchy_exists =
         let levels = levels_exist in

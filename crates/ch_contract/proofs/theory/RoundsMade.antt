@@ -1,4 +1,4 @@
--- What the contraction of one round after the other keeps, from the first to the last.
+-- The state that the contraction of one round after the other keeps, from the first round to the last.
 use Rattle.std.proofs.Common.{◌≡◌, ℕ, suc, ◌+◌, ◌-◌, ◌<◌, Bool, true, false, List, [], ◌∷◌, ◌++◌, length, Contains, length-append, refl, sym, ◌∙◌, ap, subst, arith, inl, inr}
 use Rattle.std.specs.Prelude.{◌≤◌, ◌*◌, ◌&&◌, ◌||◌, not, nat_lt, is_some, Option, Some, None, slice_index, ℤ}
 use Rattle.std.specs.List.{concat, list_any}
@@ -33,7 +33,7 @@ use Rattle.ch_contract.proofs.theory.RoundOrders.{one_key, within_rounds, gone_r
 use Rattle.ch_contract.proofs.theory.RoundSteps.{depth_most, more, legs_more, here, agree, now, next, before, depth_more, before_more, counted_next, count_anew, count_kept, begun_none, begun_more}
 use Rattle.ch_contract.proofs.theory.RoundFirst.{round_some}
 
--- what is kept after these rounds
+-- the state after these rounds
 pub record IsAfterRounds (g : Network) (h : ℕ) (rounds : List (List ℕ)) (L : ℕ → Legs) (p : RoundProgress) : Type 0 where
   pub begun : AreBegun g h rounds L
   pub legs : SameLegs (L (length rounds)) p.legs
@@ -47,7 +47,7 @@ pub record IsAfterRounds (g : Network) (h : ℕ) (rounds : List (List ℕ)) (L :
   pub up : (r v : ℕ) → r < length rounds → Contains (round_at rounds r) v → AreLegsFrom (L r) v (p.up v)
   pub down : (r v : ℕ) → r < length rounds → Contains (round_at rounds r) v → AreLegsTo (L r) v (p.down v)
 
--- at the start no round was made
+-- the state at the start, when no round was made
 pub rounds_at_start : (g : Network) (h : ℕ) (p : RoundProgress) → IsRoundsOpen g h p → IsAfterRounds g h [] (λ r. opening g) p
 rounds_at_start g h p o = record {
   begun = begun_none g h;
@@ -64,15 +64,15 @@ rounds_at_start g h p o = record {
 }
 
 module _ {g : Network} {h : ℕ} {rounds : List (List ℕ)} {L : ℕ → Legs} {p : RoundProgress} (limits : IsWithinLimits g) (hops : IsHopBound h) (u : IsAfterRounds g h rounds L p) where
-  -- the legs that are left are those after the last round
+  -- the remaining legs are those after the last round
   same : p.legs ≡ L (length rounds)
   same = sym (one_map (L (length rounds)) p.legs u.legs)
 
-  -- they are within the limits
+  -- the remaining legs are within the limits
   pub left_within : AreLegsWithin g.nodes p.legs
   left_within = subst (AreLegsWithin g.nodes) (sym same) (within_rounds limits hops u.begun (length rounds) (omega arith))
 
-  -- a node with a neighbour is left
+  -- a node with a neighbour remains
   pub neighbour_left : (v x : ℕ) → are_neighbours p.legs v x ≡ true → Contains p.left x
   neighbour_left v x near = u.all_left x (at (p.legs v x) (p.legs x v) refl refl near, λ past. let gone = gone_rounds limits hops u.begun (length rounds) (omega arith) x past v in no_neighbour gone near)
     where
@@ -84,27 +84,27 @@ module _ {g : Network} {h : ℕ} {rounds : List (List ℕ)} {L : ℕ → Legs} {
       at None (Some l) e f is = (left_within x v l f).ends.0
       at None None e f is = absurd (true≢false (sym is))
 
-  -- so is one within two legs
+  -- a node within two legs of another remains
   near_left : (v x : ℕ) → IsWithinTwoLegs p.legs v x → Contains p.left x
   near_left v x near = elim near [
     | inl one ↦ neighbour_left v x one
     | inr two ↦ neighbour_left two.0 x two.2
   ]
 
-  -- the key of now is the key after these rounds
+  -- the present key is the key after these rounds
   key_now : (x : ℕ) (k : ℤ) → IsKeyNow g.nodes p x k → IsKeyAfter g.nodes h rounds L (length rounds) x k
   key_now x k is =
       let legs = same in
       let deep = u.depths x in
       (p.counts x, u.counts x is.0, is.1 ∙ (λ t. key_by Rounds (p.counts x) (count_touching g.nodes (legs t) x) (deep t)))
 
-  -- and it is the only one
+  -- the key after these rounds is the present key
   key_then : (x : ℕ) (k : ℤ) → Contains p.left x → IsKeyAfter g.nodes h rounds L (length rounds) x k → IsKeyNow g.nodes p x k
   key_then x k c is =
       let k' : ℤ = key_by Rounds (p.counts x) (count_touching g.nodes p.legs x) (p.depth x) in
       (c, one_key g.nodes h rounds L (length rounds) x k k' is (key_now x k' (c, refl)))
 
-  -- a round by the keys of now is one by those after these rounds
+  -- a round by the present keys is one by the keys after these rounds
   round_then : (nodes : List ℕ) → IsRound (IsKeyNow g.nodes p) (Contains p.left) p.legs nodes → IsRound (IsKeyAfter g.nodes h rounds L (length rounds)) (IsLeftAfter g.nodes rounds (length rounds)) (L (length rounds)) nodes
   round_then nodes r = subst (λ (N : Legs). IsRound (IsKeyAfter g.nodes h rounds L (length rounds)) (IsLeftAfter g.nodes rounds (length rounds)) N nodes) same (record {
     ordered = r.ordered;
@@ -112,7 +112,7 @@ module _ {g : Network} {h : ℕ} {rounds : List (List ℕ)} {L : ℕ → Legs} {
     whole = λ v is f. r.whole v (u.all_left v is) (λ x ne near. let s = f x ne near in (s.0, s.1, key_then v s.0 (u.all_left v is) s.2, key_then x s.1 (near_left v x near) s.3, s.4));
   })
 
-  -- while a node is left, a round has a node
+  -- while a node remains, a round has a node
   pub rounds_some : (nodes : List ℕ) → IsRound (IsKeyNow g.nodes p) (Contains p.left) p.legs nodes → (x : ℕ) → Contains p.left x → 0 < length nodes
   rounds_some nodes r x c =
       round_some (IsKeyNow g.nodes p) (Contains p.left) (λ y k k' a b. a.1 ∙ sym b.1) (λ y has. (key_by Rounds (p.counts y) (count_touching g.nodes p.legs y) (p.depth y), (has, refl))) (contains_or_not p.left)
@@ -125,19 +125,19 @@ module _ {g : Network} {h : ℕ} {rounds : List (List ℕ)} {L : ℕ → Legs} {
       begun_more rounds L nodes q.legs g h u.begun some (round_then limits hops u nodes step.round)
       (subst (λ (N : Legs). ContractsRound g.nodes h N nodes q.legs) (same limits hops u) step.legs)
 
-  -- the rounds with one more are one more
+  -- the longer list has one more round
   size_more : length (rounds ++ nodes ∷ []) ≡ suc (length rounds)
   size_more = let size = length_push rounds nodes in omega arith
 
-  -- all their nodes
+  -- the nodes of the longer list
   nodes_more : concat (rounds ++ nodes ∷ []) ≡ concat rounds ++ nodes
   nodes_more = concat_push rounds nodes
 
-  -- a node of an earlier round is none of this one
+  -- a node of an earlier round is not in this round
   not_now : (v : ℕ) → Contains (nodes_before rounds (length rounds)) v → Contains nodes v → ⊥
   not_now v past c = (u.left v (step.round.sound v c).0).1 past
 
-  -- what is left is what was left, but for these nodes
+  -- a node that remains after the round is in none of the rounds
   left_next : (x : ℕ) → Contains q.left x → IsLeftAfter g.nodes (rounds ++ nodes ∷ []) (suc (length rounds)) x
   left_next x c =
       let was = (step.left x).0 c in
@@ -149,7 +149,7 @@ module _ {g : Network} {h : ℕ} {rounds : List (List ℕ)} {L : ℕ → Legs} {
         ],
       )
 
-  -- and all of it
+  -- a node in none of the rounds remains after the round
   all_left_next : (x : ℕ) → IsLeftAfter g.nodes (rounds ++ nodes ∷ []) (suc (length rounds)) x → Contains q.left x
   all_left_next x is =
       let back = sym (before_more rounds L nodes q.legs) in
@@ -158,14 +158,14 @@ module _ {g : Network} {h : ℕ} {rounds : List (List ℕ)} {L : ℕ → Legs} {
         λ now. is.1 (subst (λ l. Contains l x) back (Contains-append_right (concat rounds) nodes x now)),
       )
 
-  -- shortcuts are counted where it is due
+  -- the shortcuts of a node are counted exactly if its count is due
   due : (x : ℕ) → is_counted g.nodes (more rounds L nodes q.legs) (legs_more rounds L nodes q.legs) (suc (length rounds)) x ≡ is_due g.nodes p nodes x
   due x =
       let count = u.contracted in
       let legs = same limits hops u in
       counted_next rounds L nodes q.legs g.nodes x ∙ sym (λ t. not (nat_lt (10 * (count t + length nodes)) (7 * g.nodes)) && (nat_lt (10 * count t) (7 * g.nodes) || list_any (λ v. are_neighbours (legs t) v x) nodes))
 
-  -- so the numbers are those of the last count
+  -- the counts are those of the last count
   counts_next : (x : ℕ) → Contains q.left x → IsCountAfter g.nodes h (more rounds L nodes q.legs) (legs_more rounds L nodes q.legs) (suc (length rounds)) x (q.counts x)
   counts_next x c = at (is_due g.nodes p nodes x) refl
     where
@@ -183,14 +183,14 @@ module _ {g : Network} {h : ℕ} {rounds : List (List ℕ)} {L : ℕ → Legs} {
             step.kept x c e ∙ was.4,
           )
 
-  -- depths are those after the round
+  -- the depths are those after the round
   depths_next : (x : ℕ) → q.depth x ≡ depth_before (more rounds L nodes q.legs) (legs_more rounds L nodes q.legs) (suc (length rounds)) x
   depths_next x =
       let legs = same limits hops u in
       let deep : p.depth ≡ depth_before rounds L (length rounds) = λ t y. u.depths y t in
       step.depths x ∙ (λ t. depth_after_round (legs t) nodes (deep t) x) ∙ sym (λ t. depth_more rounds L nodes q.legs t x)
 
-  -- levels go on
+  -- the levels continue those before
   levels_next : AreLevels (concat rounds ++ nodes) q.levels
   levels_next i lt = elim (cases_lt i (length (concat rounds))) [
     | inl early ↦
@@ -204,7 +204,7 @@ module _ {g : Network} {h : ℕ} {rounds : List (List ℕ)} {L : ℕ → Legs} {
         ap (slice_index q.levels) (get_or-append_right (concat rounds) nodes (length (concat rounds)) i 0 refl ge) ∙ step.levels k (omega arith) ∙ (omega arith)
   ]
 
-  -- rows are those of their rounds
+  -- the rows are those of their rounds
   rows_next : (R : Legs → ℕ → List Leg → Type 0) (rows after : ℕ → List Leg) → ((v : ℕ) → Contains nodes v → R p.legs v (after v)) → ((x : ℕ) → (Contains nodes x → ⊥) → after x ≡ rows x) →
       ((r v : ℕ) → r < length rounds → Contains (round_at rounds r) v → R (L r) v (rows v)) →
       (r v : ℕ) → r < length (more rounds L nodes q.legs) → Contains (round_at (more rounds L nodes q.legs) r) v → R (legs_more rounds L nodes q.legs r) v (after v)
@@ -220,7 +220,7 @@ module _ {g : Network} {h : ℕ} {rounds : List (List ℕ)} {L : ℕ → Legs} {
         subst (λ (N : Legs). R N v (after v)) ((agree rounds L nodes q.legs).legs r (omega arith)) (subst (R (L r) v) (sym (others v away)) (are r v inside its))
   ]
 
-  -- one more round keeps what is kept
+  -- the state after one more round
   pub rounds_next : IsAfterRounds g h (rounds ++ nodes ∷ []) (then_legs (length rounds) L q.legs) q
   rounds_next = record {
     begun = begun_next;
@@ -236,7 +236,7 @@ module _ {g : Network} {h : ℕ} {rounds : List (List ℕ)} {L : ℕ → Legs} {
     down = rows_next AreLegsTo p.down q.down step.down (λ x away. (step.others x away).2) u.down;
   }
 
--- once no node is left, the levels and rows are the hierarchy by rounds
+-- when no node remains, the levels and the rows are the hierarchy by rounds
 pub rounds_at_end : (g : Network) (h : ℕ) (rounds : List (List ℕ)) (L : ℕ → Legs) (p : RoundProgress) (H : LevelsAndLegs) → IsAfterRounds g h rounds L p → IsRoundsEnd g.nodes p H → IsHierarchyByRounds g h H
 rounds_at_end g h rounds L p H u e =
     let all : (x : ℕ) → x < g.nodes → Contains (concat rounds) x = λ x lt. elim (contains_or_not (concat rounds) x) [
@@ -256,7 +256,7 @@ rounds_at_end g h rounds L p H u e =
       },
     )
 
--- a node lies no deeper than nodes are contracted
+-- a depth is at most the number of contracted nodes
 pub rounds_depth : {g : Network} {h : ℕ} {rounds : List (List ℕ)} {L : ℕ → Legs} {p : RoundProgress} → IsAfterRounds g h rounds L p → (x : ℕ) → p.depth x ≤ p.contracted
 rounds_depth {rounds = rounds} {L = L} u x =
     let deep = u.depths x in
@@ -265,14 +265,14 @@ rounds_depth {rounds = rounds} {L = L} u x =
     let count = u.contracted in
     omega arith
 
--- a node that is left has at most a shortcut for each two nodes
+-- the count of a remaining node is at most n * n
 pub rounds_counts : {g : Network} {h : ℕ} {rounds : List (List ℕ)} {L : ℕ → Legs} {p : RoundProgress} → IsWithinLimits g → IsHopBound h → IsAfterRounds g h rounds L p → (x : ℕ) → Contains p.left x → p.counts x ≤ g.nodes * g.nodes
 rounds_counts {g = g} {h = h} {L = L} limits hops u x c =
     let count = u.counts x c in
     let most = shortcuts_most g.nodes h (L count.0) x count.1 (within_rounds limits hops u.begun count.0 count.2.within) count.3 in
     omega (arith, most, count.4)
 
--- once no node is left, the hierarchy is levelled
+-- when no node remains, the hierarchy is levelled
 pub rounds_levelled : (g : Network) (h : ℕ) (rounds : List (List ℕ)) (L : ℕ → Legs) (p : RoundProgress) (H : LevelsAndLegs) → IsWithinLimits g → IsHopBound h → g.nodes ≤ MOST_NODES → IsAfterRounds g h rounds L p → IsRoundsEnd g.nodes p H → IsLevelled H
 rounds_levelled g h rounds L p H limits hops small u e =
     let is = rounds_at_end g h rounds L p H u e in

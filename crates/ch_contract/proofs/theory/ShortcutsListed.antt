@@ -17,18 +17,18 @@ use Rattle.ch_contract.proofs.theory.ReferenceSearch.{witness_or_none}
 use Rattle.ch_contract.proofs.theory.Contracting.{pair_of_shortcut}
 use Rattle.ch_contract.proofs.theory.Listing.{one_more}
 
--- a pair of numbers has what is looked for, or hasn't
+-- whether a pair of numbers has a shortcut with P is decided
 abbrev IsDecided : (Shortcut → Type 0) → ℕ → ℕ → Type 0
 IsDecided P u w = ((s : Shortcut) × (s.from ≡ u) × (s.to ≡ w) × P s) ⊎ ((s : Shortcut) → s.from ≡ u → s.to ≡ w → P s → ⊥)
 
 module _ (P : Shortcut → Type 0) (n : ℕ) (one : (s t : Shortcut) → s.from ≡ t.from → s.to ≡ t.to → P s → P t → s ≡ t) (within : (s : Shortcut) → P s → (s.from < n) × (s.to < n)) (decide : (u w : ℕ) → IsDecided P u w) where
-  -- those that lead from u to a number below m, in order
+  -- the list has the shortcuts with P from u to a number below m, in order
   record IsLine (u m : ℕ) (list : List Shortcut) : Type 0 where
     ordered : AllPairs IsPairBefore list
     sound : (s : Shortcut) → Contains list s → P s × (s.from ≡ u) × (s.to < m)
     whole : (s : Shortcut) → P s → s.from ≡ u → s.to < m → Contains list s
 
-  -- they have a list
+  -- there is such a list
   line : (u m : ℕ) → (list : List Shortcut) × IsLine u m list
   line u zero = ([], record { ordered = λ i j d lt inside. absurd (omega arith); sound = λ s c. absurd (contains_none s c); whole = λ s p e lt. absurd (omega arith) })
   line u (suc m) = at (decide u m) (line u m)
@@ -60,13 +60,13 @@ module _ (P : Shortcut → Type 0) (n : ℕ) (one : (s t : Shortcut) → s.from 
         },
       )
 
-  -- those that lead from a number below m, in order
+  -- the list has the shortcuts with P from a number below m, in order
   record IsGrid (m : ℕ) (list : List Shortcut) : Type 0 where
     ordered : AllPairs IsPairBefore list
     sound : (s : Shortcut) → Contains list s → P s × (s.from < m)
     whole : (s : Shortcut) → P s → s.from < m → Contains list s
 
-  -- they have a list, too
+  -- there is such a list too
   grid : (m : ℕ) → (list : List Shortcut) × IsGrid m list
   grid zero = ([], record { ordered = λ i j d lt inside. absurd (omega arith); sound = λ s c. absurd (contains_none s c); whole = λ s p lt. absurd (omega arith) })
   grid (suc m) =
@@ -86,7 +86,7 @@ module _ (P : Shortcut → Type 0) (n : ℕ) (one : (s t : Shortcut) → s.from 
         },
       )
 
-  -- all of them, in order
+  -- there is a list of all shortcuts with P, in order
   pub all_listed : (list : List Shortcut) × AllPairs IsPairBefore list × ((s : Shortcut) → Contains list s → P s) × ((s : Shortcut) → P s → Contains list s)
   all_listed = let r = grid n in (r.0, r.1.ordered, (λ s c. (r.1.sound s c).0), λ s p. r.1.whole s p (within s p).0)
 
@@ -101,7 +101,7 @@ module _ (n h : ℕ) (L W : Legs) (v : ℕ) (limits : AreLegsWithin n L) (leads 
       let cost = a.4 ∙ (λ i. cost_sum (first i).cost (second i).cost) ∙ sym b.4 in
       λ i. record { from = from i; to = to i; cost = cost i }
 
-  -- it is decided whether two nodes have one
+  -- whether two nodes have a shortcut is decided
   decided : (u w : ℕ) → IsDecided (IsShortcutAmong n h L W v) u w
   decided u w = first (L u v) refl
     where
@@ -140,13 +140,13 @@ module _ (n h : ℕ) (L W : Legs) (v : ℕ) (limits : AreLegsWithin n L) (leads 
       first None e = inr (λ s from to is. let legs = is.pair.legs in none-some legs.0 (sym e ∙ ap (λ z. L z v) (sym from) ∙ legs.2))
       first (Some a) e = second a (L v w) e refl
 
-  -- all shortcuts of v
+  -- there is a list of all shortcuts of v
   pub shortcuts_among : (list : List Shortcut) × AreShortcutsAmong n h L W v list
   shortcuts_among =
       let r = all_listed (IsShortcutAmong n h L W v) n one_shortcut (λ s is. let legs = is.pair.legs in ((limits s.from v legs.0 legs.2).ends.0, (limits v s.to legs.1 legs.3).ends.1)) decided in
       (r.0, record { ordered = r.1; sound = r.2; whole = r.3 })
 
--- the shortcuts of a node, with witnesses among the same legs
+-- there is a list of the shortcuts of a node, with witnesses among the same legs
 pub shortcuts_listed : (n h : ℕ) (L : Legs) (v : ℕ) → AreLegsWithin n L → LeadsWithin n L → (list : List Shortcut) × AreShortcuts n h L v list
 shortcuts_listed n h L v limits leads =
     let r = shortcuts_among n h L L v limits leads in (

@@ -1,4 +1,4 @@
--- What holds of each leg after any number of steps of contraction.
+-- Properties of each leg after any number of steps of contraction.
 use Rattle.std.proofs.Common.{◌≡◌, ◌≢◌, ℕ, zero, suc, ◌+◌, ◌<◌, ◌≤◌, List, Option, Some, None, Contains, slice_index, refl, sym, ◌∙◌, subst, arith, add-one, inl, inr}
 use Rattle.std.proofs.lemmas.Bool.{cases_eq}
 use Rattle.std.proofs.lemmas.Option.{same_Some}
@@ -13,7 +13,8 @@ use Rattle.ch_contract.proofs.theory.Chains.{IsLight}
 use Rattle.ch_contract.proofs.theory.OpeningLegs.{arc, opening_leg, opening_within}
 use Rattle.ch_contract.proofs.theory.OneContraction.{IsOneContraction, old_or_shortcut, untouched}
 
--- a leg is an arc, or the sum of two legs that its middle had just before it was contracted, within the first i steps
+-- the leg is an arc, or the sum of two legs of its middle just before the middle was contracted, within the first i
+-- steps
 abbrev pub IsMade : Network → List ℕ → (ℕ → Legs) → ℕ → ℕ → ℕ → Cost → Option ℕ → Type 0
 IsMade g order L i u w c None = (c.arcs ≡ 1) × Contains g.arcs (arc u w c.weight)
 IsMade g order L i u w c (Some v) = (j : ℕ) × (j < i) × (slice_index order j ≡ v) × (a b : Label) × (L j u v ≡ Some a) × (L j v w ≡ Some b) × (c ≡ cost_sum a.cost b.cost)
@@ -25,30 +26,31 @@ pub record IsStepLeg (g : Network) (order : List ℕ) (L : ℕ → Legs) (i u w 
   pub walk : IsWalkCost g u w l.cost
   pub made : IsMade g order L i u w l.cost l.middle
 
--- what was made earlier is made later
+-- a leg that was made within the first i steps was made within the first i + 1
 made_later : (g : Network) (order : List ℕ) (L : ℕ → Legs) (i u w : ℕ) (c : Cost) (m : Option ℕ) → IsMade g order L i u w c m → IsMade g order L (suc i) u w c m
 made_later g order L i u w c None h = h
 made_later g order L i u w c (Some v) h = (h.0, omega (arith, h.1), h.2, h.3, h.4, h.5, h.6, h.7)
 
--- of a graph within the limits, the first m nodes of this order are contracted, one after the other, each with shortcuts that are enough
+-- the first m nodes of this order are contracted one after the other, each with enough shortcuts, in a graph within the
+-- limits
 pub record IsContraction (g : Network) (h : ℕ) (order : List ℕ) (L : ℕ → Legs) (m : ℕ) : Type 0 where
   pub limits : IsWithinLimits g
   pub start : SameLegs (L 0) (opening g)
   pub step : (i : ℕ) → i < m → ContractsWithEnough g.nodes h (L i) (slice_index order i) (L (i + 1))
 
 module _ {g : Network} {h : ℕ} {order : List ℕ} {L : ℕ → Legs} {m : ℕ} (all : IsContraction g h order L m) where
-  -- each leg after i steps is so
+  -- each leg after i steps is such a leg
   abbrev AreStepLegs : ℕ → Type 0
   AreStepLegs i = (u w : ℕ) (l : Label) → L i u w ≡ Some l → IsStepLeg g order L i u w l
 
-  -- the step between, where what holds of legs before it is known
+  -- step i is a contraction, if the legs before it are such legs
   step_from : (i : ℕ) → i < m → AreStepLegs i → IsOneContraction g.nodes h (L i) (slice_index order i) (L (suc i))
   step_from i lt before = record {
     contracts = subst (λ k. ContractsWithEnough g.nodes h (L i) (slice_index order i) (L k)) (add-one i) (all.step i lt);
     within = λ u w l e. (before u w l e).within;
   }
 
-  -- before the first step
+  -- the legs before the first step are such legs
   first_legs : AreStepLegs zero
   first_legs u w l e =
       let opens : opening g u w ≡ Some l = sym (all.start u w) ∙ e in
@@ -60,14 +62,14 @@ module _ {g : Network} {h : ℕ} {order : List ℕ} {L : ℕ → Legs} {m : ℕ}
         made = (refl, leg.arc_is);
       })
 
-  -- an end of a leg after step i is none of the nodes contracted so far
+  -- a node that is not the node of step i and none of those before is none of the first i + 1
   left_next : (i x : ℕ) → x ≢ slice_index order i → ((j : ℕ) → j < i → slice_index order j ≢ x) → (j : ℕ) → j < suc i → slice_index order j ≢ x
   left_next i x ne before j below = elim (cases_eq j i) [
     | inl last ↦ subst (λ k. slice_index order k ≢ x) (sym last) (λ same. ne (sym same))
     | inr sooner ↦ before j (omega arith)
   ]
 
-  -- a shortcut of the node of step i
+  -- a shortcut of the node of step i is such a leg
   shortcut_leg : (i u w : ℕ) (a b l : Label) → IsStepLeg g order L i u (slice_index order i) a → IsStepLeg g order L i (slice_index order i) w b → L i u (slice_index order i) ≡ Some a → L i (slice_index order i) w ≡ Some b →
       l ≡ record { cost = cost_sum a.cost b.cost; middle = Some (slice_index order i) } → IsLight g.nodes l.cost → u ≢ w → ((j : ℕ) → j < suc i → (slice_index order j ≢ u) × (slice_index order j ≢ w)) → IsStepLeg g order L (suc i) u w l
   shortcut_leg i u w a b l p q ea eb e light ne left =
@@ -82,7 +84,7 @@ module _ {g : Network} {h : ℕ} {order : List ℕ} {L : ℕ → Legs} {m : ℕ}
         made = (i, omega arith, refl, a, b, ea, eb, refl);
       })
 
-  -- after one more step
+  -- the legs after one more step are such legs
   next_legs : (i : ℕ) → i < m → AreStepLegs i → AreStepLegs (suc i)
   next_legs i lt before u w l e =
       let v : ℕ = slice_index order i in
@@ -104,7 +106,7 @@ module _ {g : Network} {h : ℕ} {order : List ℕ} {L : ℕ → Legs} {m : ℕ}
             (λ j below. (left_next i u away.0 (λ k sooner. (p.left k sooner).0) j below, left_next i w away.1 (λ k sooner. (q.left k sooner).1) j below))
       ]
 
-  -- what holds of each leg after i steps
+  -- each leg after i steps is such a leg
   pub step_leg : (i : ℕ) → i ≤ m → (u w : ℕ) (l : Label) → L i u w ≡ Some l → IsStepLeg g order L i u w l
   step_leg zero le = first_legs
   step_leg (suc i) le = next_legs i (omega arith) (step_leg i (omega arith))

@@ -1,4 +1,4 @@
--- What the contraction of one node after the other keeps, from the first to the last.
+-- The state that the contraction of one node after the other keeps, from the first node to the last.
 use Rattle.std.proofs.Common.{◌≡◌, ℕ, ◌+◌, ◌<◌, ◌≤◌, true, false, List, [], ◌∷◌, ◌++◌, length, sym, ◌∙◌, ap, subst, arith, Contains, length-set}
 use Rattle.std.specs.Prelude.{◌≢◌, slice_index, slice_set, ◌||◌, is_some}
 use Rattle.std.proofs.lemmas.List.{length_push, get_or_default}
@@ -22,7 +22,7 @@ use Rattle.ch_contract.proofs.theory.Depths.{depth_most, depth_more}
 use Rattle.ch_contract.proofs.theory.PrioritySteps.{AreKept, all_taken, next_within, next_left, next_first, kept_more}
 use Rattle.ch_contract.proofs.theory.RowSteps.{AreLevels, AreRowsBy, levels_more, rows_more}
 
--- what is kept after these steps
+-- the state after these steps
 pub record IsAfter (by : OrderBy) (g : Network) (h : ℕ) (order : List ℕ) (L : ℕ → Legs) (p : Progress) : Type 0 where
   pub begun : IsBegun by g h order L
   pub limits : AreLegsWithin g.nodes (opening g)
@@ -35,13 +35,13 @@ pub record IsAfter (by : OrderBy) (g : Network) (h : ℕ) (order : List ℕ) (L 
   pub up : AreRowsBy AreLegsFrom order L p.up
   pub down : AreRowsBy AreLegsTo order L p.down
 
--- some steps led here
+-- the state after some steps
 pub record IsAfterSomeSteps (by : OrderBy) (g : Network) (h : ℕ) (p : Progress) : Type 0 where
   pub order : List ℕ
   pub L : ℕ → Legs
   pub after : IsAfter by g h order L p
 
--- at the start no step was made
+-- the state at the start, when no step was made
 pub steps_at_start : (by : OrderBy) (g : Network) (h : ℕ) (p : Progress) → length p.levels ≡ g.nodes → IsOpen by g h p → IsAfterSomeSteps by g h p
 steps_at_start by g h p size o = record {
   order = [];
@@ -65,18 +65,18 @@ steps_at_start by g h p size o = record {
 }
 
 module _ (by : OrderBy) (g : Network) (h : ℕ) (order : List ℕ) (L : ℕ → Legs) (p : Progress) (u : IsAfter by g h order L p) (v : ℕ) (f : IsNext p.keys v) where
-  -- the next node is a node that is left
+  -- the next node is below the number of nodes
   within : v < g.nodes
   within = next_within by g.nodes h order L p.keys u.priorities v f
 
   left : Contains order v → ⊥
   left = next_left by g.nodes h order L p.keys u.priorities v f
 
-  -- fewer nodes are contracted than there are
+  -- the number of contracted nodes is less than the number of nodes
   fewer : p.contracted < g.nodes
   fewer = omega (arith, begun_fewer by g h order L u.begun v within left, u.contracted)
 
-  -- no neighbour of it is contracted
+  -- no contracted node is a neighbour of the next node
   none_earlier : (x : ℕ) → Contains order x → are_neighbours (L (length order)) v x ≡ false
   none_earlier x has =
       let n : ℕ = length order in
@@ -84,7 +84,7 @@ module _ (by : OrderBy) (g : Network) (h : ℕ) (order : List ℕ) (L : ℕ → 
       let gone = gone_steps g.nodes n order L (λ i lt. pairs_by_needed g.nodes h _ _ _ (u.begun.step i lt)) has.0 n has.1 (omega arith) v in
       subst (λ z. are_neighbours (L n) v z ≡ false) at (λ i. is_some (gone.1 i) || is_some (gone.0 i))
 
-  -- a step keeps what is kept
+  -- the state after one more step
   after_step : (q : Progress) → IsStep by g.nodes h p v q → IsAfter by g h (order ++ v ∷ []) (then_legs (length order) L q.legs) q
   after_step q s =
       let n : ℕ = length order in
@@ -108,7 +108,7 @@ module _ (by : OrderBy) (g : Network) (h : ℕ) (order : List ℕ) (L : ℕ → 
         down = rows_more order v left AreLegsTo L q.legs p.down q.down (subst (λ (M : Legs). AreLegsTo M v (q.down v)) same s.down) (λ x ne. (s.rows x ne).1) u.down;
       }
 
--- at the end the levels and rows are a hierarchy by the rules
+-- when no node has a key, the steps are the order of contraction
 order_of : (by : OrderBy) (g : Network) (h : ℕ) (order : List ℕ) (L : ℕ → Legs) (p : Progress) → IsAfter by g h order L p → HasNone p.keys → IsOrderBy by g h order L
 order_of by g h order L p u none = begun_all by g h order L u.begun (all_taken by g.nodes h order L p.keys u.priorities none)
 
@@ -125,19 +125,19 @@ after_all by g h order L p u none H all =
       down = λ i lt. subst (AreLegsTo (L i) (slice_index order i)) (sym (all.rows (slice_index order i) (node i lt)).1) (u.down i (omega arith));
     }
 
--- one more step goes on
+-- one more step keeps the state after some steps
 pub steps_next : (by : OrderBy) (g : Network) (h : ℕ) (p : Progress) (v : ℕ) (q : Progress) → IsAfterSomeSteps by g h p → IsNext p.keys v → IsStep by g.nodes h p v q → IsAfterSomeSteps by g h q
 steps_next by g h p v q u f s = record { order = u.order ++ v ∷ []; L = then_legs (length u.order) u.L q.legs; after = after_step by g h u.order u.L p u.after v f q s }
 
--- while a node is left, fewer are contracted than there are
+-- while a node remains, the number of contracted nodes is less than the number of nodes
 pub steps_count : (by : OrderBy) (g : Network) (h : ℕ) (p : Progress) (v : ℕ) → IsAfterSomeSteps by g h p → IsNext p.keys v → p.contracted < g.nodes
 steps_count by g h p v u f = fewer by g h u.order u.L p u.after v f
 
--- the next node is a node
+-- the next node is a node of the graph
 pub steps_node : (by : OrderBy) (g : Network) (h : ℕ) (p : Progress) (v : ℕ) → IsAfterSomeSteps by g h p → IsNext p.keys v → v < g.nodes
 steps_node by g h p v u f = within by g h u.order u.L p u.after v f
 
--- a node lies no deeper than nodes are contracted
+-- a depth is at most the number of contracted nodes
 pub steps_depth : (by : OrderBy) (g : Network) (h : ℕ) (p : Progress) (x : ℕ) → IsAfterSomeSteps by g h p → p.depth x ≤ p.contracted
 steps_depth by g h p x u =
     let deep = u.after.depths x in
@@ -145,7 +145,7 @@ steps_depth by g h p x u =
     let count = u.after.contracted in
     omega arith
 
--- the legs that are left are within the limits
+-- the remaining legs are within the limits
 pub steps_within : (by : OrderBy) (g : Network) (h : ℕ) (p : Progress) → IsAfterSomeSteps by g h p → AreLegsWithin g.nodes p.legs
 steps_within by g h p u =
     let a = u.after in
@@ -153,7 +153,7 @@ steps_within by g h p u =
     let start = subst (AreLegsWithin g.nodes) (sym (one_map (u.L 0) (opening g) a.begun.start)) a.limits in
     subst (AreLegsWithin g.nodes) (one_map (u.L n) p.legs a.legs) (within_steps g.nodes n u.order u.L start (λ i lt. pairs_by_needed g.nodes h _ _ _ (a.begun.step i lt)) n (omega arith))
 
--- once no node is left, the levels and rows are the hierarchy
+-- when no node remains, the levels and the rows are the hierarchy
 pub steps_at_end : (by : OrderBy) (g : Network) (h : ℕ) (p : Progress) → IsAfterSomeSteps by g h p → HasNone p.keys → (H : LevelsAndLegs) → AreAll g.nodes p H → IsHierarchyInTurn by g h H
 steps_at_end by g h p u none H all = (u.order, u.L, after_all by g h u.order u.L p u.after none H all, (order_of by g h u.order u.L p u.after none).least)
 

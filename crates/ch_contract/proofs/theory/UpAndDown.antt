@@ -1,4 +1,4 @@
--- In a built hierarchy each least walk has an upward path and a downward path that cost no more.
+-- In a built hierarchy, for each least walk there are an upward path and a downward path that cost at most as much.
 use Rattle.std.proofs.Common.{◌≡◌, ◌≢◌, ℕ, zero, suc, ◌+◌, ◌<◌, ◌≤◌, List, [], ◌∷◌, Some, slice_index, refl, sym, ◌∙◌, ap, subst, arith, inl, inr}
 use Rattle.std.proofs.lemmas.Bool.{cases_eq}
 use Rattle.ch_graph.specs.declared.cost.Cost.{Cost}
@@ -22,7 +22,7 @@ use Rattle.ch_contract.proofs.theory.StepLegs.{step_leg}
 use Rattle.ch_contract.proofs.theory.KeptCosts.{IsAfter, IsChainCost, chain_walk, least_chain}
 use Rattle.ch_contract.proofs.theory.BuiltLegs.{IsBuilt, contraction, step_of, up_leg, down_leg, up_walk, down_walk}
 
--- the last leg of a chain
+-- there is a last leg of a chain, and a chain before it
 pub record HasLastLeg (L : Legs) (u w : ℕ) (c : Cost) : Type 0 where
   pub node : ℕ
   pub label : Label
@@ -57,22 +57,22 @@ last_leg L u w x (y ∷ xs) chain =
     }
 
 module _ {g : Network} {h : ℕ} {H : LevelsAndLegs} {order : List ℕ} {L : ℕ → Legs} (built : IsBuilt g h H order L) where
-  -- what is after i and not the node of step i is after i + 1
+  -- a node that remains after i steps and is not the node of step i remains after i + 1 steps
   after_next : (i x : ℕ) → IsAfter order i x → slice_index order i ≢ x → IsAfter order (suc i) x
   after_next i x p ne j lt = elim (cases_eq j i) [
     | inl last ↦ subst (λ k. slice_index order k ≢ x) (sym last) ne
     | inr sooner ↦ p j (omega arith)
   ]
 
-  -- the ends of a leg after i steps are after i
+  -- the ends of a leg after i steps remain after i steps
   ends_after : (i u w : ℕ) (l : Label) → i ≤ g.nodes → L i u w ≡ Some l → IsAfter order i u × IsAfter order i w
   ends_after i u w l le e = let leg = step_leg (contraction built) i le u w l e in ((λ j lt. (leg.left j lt).0), (λ j lt. (leg.left j lt).1))
 
-  -- least walks between nodes that are left after i steps have paths that meet
+  -- for each least walk between nodes that remain after i steps, there are paths that meet
   abbrev IsClimbed : ℕ → Type 0
   IsClimbed i = (s t : ℕ) (c : Cost) → s < g.nodes → t < g.nodes → IsAfter order i s → IsAfter order i t → IsLeast g s t c → HasMeetingPaths H s t c
 
-  -- from the node of step i: its first leg leads up, and the rest is least
+  -- the case of a walk from the node of step i: its first leg leads up, and the rest is a least walk
   from_lowest : (i t : ℕ) (c : Cost) → i < g.nodes → t < g.nodes → slice_index order i < g.nodes → IsClimbed (suc i) → slice_index order i ≢ t → IsAfter order i (slice_index order i) → IsAfter order i t → IsLeast g (slice_index order i) t c → HasMeetingPaths H (slice_index order i) t c
   from_lowest i t c lt below_t below_v climbed ne p q least =
       let chain = least_chain (contraction built) i (omega arith) (slice_index order i) t c below_t p q least in
@@ -92,7 +92,7 @@ module _ {g : Network} {h : ℕ} {H : LevelsAndLegs} {order : List ℕ} {L : ℕ
           let goes : HasMeetingPaths H x t (chain_cost (L i) x xs) = climbed x t _ ends.1 below_t (after_next i x (ends_after i v x m.0 (omega arith) m.1).1 ends.2) (after_next i t q ne) rest in
           subst (HasMeetingPaths H v t) (sym sum) (up_first H v t (leg_at x m.0) _ (up_leg built i x m.0 lt m.1) goes)
 
-  -- to the node of step i: its last leg leads down, and what is before it is least
+  -- the case of a walk to the node of step i: its last leg leads down, and the part before it is a least walk
   to_lowest : (i s : ℕ) (c : Cost) → i < g.nodes → s < g.nodes → slice_index order i < g.nodes → IsClimbed (suc i) → slice_index order i ≢ s → IsAfter order i s → IsAfter order i (slice_index order i) → IsLeast g s (slice_index order i) c → HasMeetingPaths H s (slice_index order i) c
   to_lowest i s c lt below_s below_v climbed ne p q least =
       let chain = least_chain (contraction built) i (omega arith) s (slice_index order i) c below_v p q least in
@@ -115,7 +115,7 @@ module _ {g : Network} {h : ℕ} {H : LevelsAndLegs} {order : List ℕ} {L : ℕ
       at [] chain e = absurd (ne (sym chain))
       at (x ∷ xs) chain e = last (subst (HasLastLeg (L i) s v) e (last_leg (L i) s v x xs chain))
 
-  -- downwards from the last step, which leaves no node
+  -- by recursion from the last step downwards, after which no node remains
   climb : (k i : ℕ) → i + k ≡ g.nodes → IsClimbed i
   climb zero i last s t c ls lt p q least =
       let place = step_of built s ls in
@@ -137,15 +137,15 @@ module _ {g : Network} {h : ℕ} {H : LevelsAndLegs} {order : List ℕ} {L : ℕ
     ]
   ]
 
-  -- upward paths are walks
+  -- for each upward path there is a walk of its cost
   rises : (a b : ℕ) (legs : List Leg) → IsUpwardPath H.up a b legs → IsWalkCost g a b (path_cost legs)
   rises = rises_along g H.up (up_walk built)
 
-  -- downward paths are walks
+  -- for each downward path there is a walk of its cost
   falls : (a b : ℕ) (legs : List Leg) → IsUpwardPath H.down a b legs → IsWalkCost g b a (path_cost legs)
   falls = falls_along g H.down (down_walk built)
 
-  -- two paths that meet and cost no more than the least walk are least, and cost the least
+  -- two paths that meet and cost at most the least cost of a walk are least paths, and cost exactly that
   paths_meet : (s t : ℕ) (c : Cost) → IsLeast g s t c → HasMeetingPaths H s t c → (m : ℕ) × IsMeeting H s t m c
   paths_meet s t c least goes =
       let m : ℕ = goes.node in
@@ -161,6 +161,6 @@ module _ {g : Network} {h : ℕ} {H : LevelsAndLegs} {order : List ℕ} {L : ℕ
       let is_down : IsDown H m t b = record { path = (goes.downs, goes.fall, refl); weight = IsLeast-weight g m t b built.limits second; least = λ legs p light. IsLeast-IsAtMost g m t b _ second (falls t m legs p) } in
       (m, (a, b, is_up, is_down, sum))
 
-  -- the least cost between two nodes is that of going up and down
+  -- the least cost between two nodes is that of going up and then down
   pub up_and_down : (s t : ℕ) (c : Cost) → s < g.nodes → t < g.nodes → IsLeast g s t c → (m : ℕ) × IsMeeting H s t m c
   up_and_down s t c ls lt least = paths_meet s t c least (climb g.nodes zero (omega arith) s t c ls lt (λ j below. absurd (omega arith)) (λ j below. absurd (omega arith)) least)

@@ -2,7 +2,7 @@ use Rattle.std.proofs.Common.{◌≡◌, take}
 use Rattle.ch_contract.specs.LegLists.{AreOverridden, legs_from, legs_into}
 use Rattle.ch_contract.proofs.leg_lists.put_shortcuts.Given as goal
 
--- the shortcuts so far are put in on both sides, and what was set aside stays
+-- the shortcuts so far were put in on both sides, and the lists set aside stay
 abbrev pub invariant-loop-shortcut : goal.invariant-loop-shortcut
 invariant-loop-shortcut l =
     AreOverridden legs_from l.v (take l.shortcut-index l.shortcuts) l.fn.outs.rows l.outs.rows

@@ -9,7 +9,7 @@ use Rattle.ch_contract.proofs.code.RowEdits.{taken, not_there}
 use Rattle.ch_contract.proofs.leg_lists.take_leg.Goals.{After-remove, else-place-legs-via-then-place-legs+else-legs-place, else-place-legs-via-else-place-legs}
 use Rattle.ch_contract.proofs.leg_lists.take_leg.Goals as goal
 
--- the row after the leg was taken out, and what it was
+-- the row after the leg is taken out
 now : (c : After-remove) → row c.remove.new.self c.args.list ≡ remove (row c.args.lists.now c.args.list) c.place_of-place.result
 now c = ap (λ l. row l c.args.list) c.remove.ensures ∙ get_or-set_same c.args.lists.now c.args.list (remove (row c.args.lists.now c.args.list) c.place_of-place.result) [] c.requires.list
 

@@ -9,7 +9,7 @@ use Rattle.ch_contract.specs.Measures.{IsPriorityIn}
 use Rattle.ch_contract.proofs.code.KeptPriorities.{numbers_below, all_refreshed}
 use Rattle.ch_contract.proofs.priority.opening_queue.Goals as goal
 
--- a list of the numbers below n, as it is lent
+-- the numbers of the list that is lent are below n
 within : (n count : ℕ) (items lent : List ℕ) → lent ≡ items → items ≡ range_with_len 0 count → count ≡ n → All (λ x. x < n) lent
 within n count items lent a b e = subst (All (λ x. x < n)) (sym (a ∙ b ∙ ap (range_with_len 0) e)) (numbers_below n)
 

@@ -9,7 +9,7 @@ use Rattle.ch_contract.proofs.code.ConstructionCalls.{IsStepped, stepped, sized_
 use Rattle.ch_contract.proofs.construction.Construction.contract.Goals.{After-drop-neighbours-2}
 use Rattle.ch_contract.proofs.construction.Construction.contract.Goals as goal
 
--- the neighbours, as they are lent, are those of the rows
+-- the list of neighbours that is lent has the neighbours of the rows
 listed : (ups downs up down : List Leg) (items lent : List ℕ) → ups ≡ up → downs ≡ down → items ≡ neighbours_in ups downs → lent ≡ items → lent ≡ neighbours_in up down
 listed ups downs up down items lent a b c d = d ∙ c ∙ ap (λ l. neighbours_in l downs) a ∙ ap (neighbours_in up) b
 
@@ -36,11 +36,11 @@ refresh-requires-clause-count g c lifetimes bounds =
 pub refresh-requires-clause-ready : goal.refresh-requires-clause-ready
 refresh-requires-clause-ready g c lifetimes bounds = c.in_ok-self.ensures.ready
 
--- the neighbours that are refreshed
+-- the priorities of the neighbours are new, for the lists as calls lend them
 refreshed : (IsOf : List ℕ → ℕ → ℤ → Type 0) (depths deep nodes lent : List ℕ) (old before after : List (Option ℤ)) → deep ≡ depths → lent ≡ nodes → before ≡ old → AreRefreshed (IsOf deep) lent before after → AreRefreshed (IsOf depths) nodes old after
 refreshed IsOf depths deep nodes lent old before after d a b r = subst (λ l. AreRefreshed (IsOf depths) l old after) a (subst (λ o. AreRefreshed (IsOf depths) lent o after) b (subst (λ e. AreRefreshed (IsOf e) lent before after) d r))
 
--- the nodes that lie deeper
+-- the depths of the neighbours are raised, for the lists as calls lend them
 deepened : (v : ℕ) (nodes lent old before after written : List ℕ) → lent ≡ nodes → before ≡ old → written ≡ after → AreDeepened lent (slice_index before v + 1) before after → AreDeepened nodes (slice_index old v + 1) old written
 deepened v nodes lent old before after written a b e d = subst (AreDeepened nodes (slice_index old v + 1) old) (sym e) (subst (λ l. AreDeepened l (slice_index old v + 1) old after) a (subst (λ o. AreDeepened lent (slice_index o v + 1) o after) b d))
 

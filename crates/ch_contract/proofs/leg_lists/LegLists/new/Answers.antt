@@ -4,7 +4,7 @@ use Rattle.ch_hierarchy.specs.declared.leg.Leg.{Leg}
 use Rattle.ch_contract.specs.LegLists.{NodeLegs}
 use Rattle.ch_contract.proofs.leg_lists.LegLists.new.Goals as goal
 
--- twice so many empty lists: as many of nodes, and as many set aside
+-- of twice n empty lists, the first n are the lists of the nodes and the others are set aside
 no_legs : (n : ℕ) (lists : List (List Leg)) → lists ≡ replicate (n + n) [] →
     ◌≡◌ {A = NodeLegs} (record { rows = take n lists; aside = drop n lists }) (record { rows = replicate n []; aside = replicate n [] })
 no_legs n lists is =

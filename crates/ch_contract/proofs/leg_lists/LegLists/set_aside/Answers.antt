@@ -15,7 +15,7 @@ hand_over-requires c =
     let size = c.self.invariant.0 in
     record { from = within; to = omega arith; two = omega arith }
 
--- the list of one of the first n is handed to that n places on
+-- one of the first n lists is handed over to the list n places further on
 module _ (n node : ℕ) (all new : List (List Leg)) (below : node < n) (is : new ≡ set (set all (n + node) (row all node)) node []) where
   handed_rows : take n new ≡ set (take n all) node []
   handed_rows = ap (take n) is ∙ take-set-lt n (set all (n + node) (row all node)) node [] below ∙ ap (λ l. set l node []) (take-set-le n all (n + node) (row all node) (omega arith))

@@ -5,6 +5,6 @@ use Rattle.ch_contract.specs.ShortcutLists.{legs_touching, AreShortcutsBefore}
 use Rattle.ch_contract.proofs.code.ShortcutLemmas.{IsBoundary}
 use Rattle.ch_contract.proofs.remaining.Remaining.fill_shortcuts.Given as goal
 
--- the list has the shortcuts before some boundary between the legs that were taken and the others, and the room is clean
+-- the list has the shortcuts before a boundary between the legs so far and the others, and the search is clean
 abbrev pub invariant-loop-first : goal.invariant-loop-first
 invariant-loop-first g l = ((a : ℕ) × IsBoundary l.touching.down.now l.first-index a × AreShortcutsBefore l.self.nodes l.hops (legs_touching l.touching.node l.touching.up.now l.touching.down.now) (legs_of l.self) l.touching.node a 0 l.list.items) × IsClean l.self.nodes (known_of g.K.HeldCost.cost l.search.known)

@@ -11,7 +11,7 @@ use Rattle.ch_contract.proofs.remaining.Remaining.measure_in.Goals as goal
 pub fill_shortcuts-requires-clause-touching : goal.fill_shortcuts-requires-clause-touching
 fill_shortcuts-requires-clause-touching g c = are_touching (legs_of c.args.self.now) _ _ _ c.touching-touching.ensures.up c.touching-touching.ensures.down _ _ c.nodes.ensures.limits c.requires.light
 
--- the list is that of the shortcuts of the node
+-- the list has the shortcuts of the node
 listed : (g : _) (c : In_ok-fill_shortcuts g) → AreShortcuts c.args.self.now.nodes c.args.hops (legs_of c.args.self.now) c.args.v c.fill_shortcuts.new.list.items
 listed g c =
     let t = c.touching-touching in

@@ -4,7 +4,7 @@ use Rattle.ch_contract.proofs.theory.Opening.{joins}
 use Rattle.ch_contract.proofs.code.OpenLists.{AreOpenLists}
 use Rattle.ch_contract.proofs.remaining.Remaining.open.Given as goal
 
--- the arcs so far are put in on both sides, but for loops, and nothing is set aside
+-- the arcs so far were put in on both sides, except loops, and no leg is set aside
 abbrev pub invariant-loop-arc : goal.invariant-loop-arc
 invariant-loop-arc l =
     AreOpenLists l.nodes (filter joins (take l.arc-index l.arc-items)) l.outs.rows l.ins.rows

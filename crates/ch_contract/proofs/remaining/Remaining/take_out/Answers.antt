@@ -13,7 +13,7 @@ use Rattle.ch_contract.proofs.code.LightLegs.{cleared_light}
 use Rattle.ch_contract.proofs.remaining.Remaining.take_out.Goals.{After-set_aside-2, After-take_from-2}
 use Rattle.ch_contract.proofs.remaining.Remaining.take_out.Goals as goal
 
--- the node is one of those that have lists
+-- the node has a list
 inside : (c : After-set_aside-2) → c.args.v < c.self.inside.nodes
 inside c = subst (λ (m : RemainingLegs). c.args.v < m.nodes) (sym c.self.view_is) c.requires.node
 
@@ -51,7 +51,7 @@ left c =
     c.set_aside.ensures.rows c.set_aside-2.ensures.rows
     (record { size = c.take_from.ensures.size; rows = c.take_from.ensures.rows; legs = c.take_from.ensures.legs }) (record { size = c.take_from-2.ensures.size; rows = c.take_from-2.ensures.rows; legs = c.take_from-2.ensures.legs })
 
--- legs that are set aside, as calls that come after leave them
+-- the legs that are set aside, as the later calls leave them
 set_aside : (L : Legs) (v : ℕ) (legs : List Leg) (old mid new told : List (List Leg)) → AreLegsFrom L v legs → IsReplaced v legs old mid → new ≡ mid → old ≡ told → IsSetAside L v told new
 set_aside L v legs old mid new told are put same was =
     subst (λ z. IsSetAside L v told z) (sym same) (subst (λ z. IsSetAside L v z mid) was (record { size = put.size; legs = subst (AreLegsFrom L v) (sym put.here) are; kept = put.kept }))

@@ -8,7 +8,7 @@ use Rattle.ch_contract.specs.Legs.{Legs, SameLegs}
 use Rattle.ch_contract.specs.Contraction.{AreShortcuts, Contracts, legs_after_contraction}
 use Rattle.ch_contract.proofs.room.Room.contract.Goals as goal
 
--- the shortcuts, as they are lent, make the contraction
+-- the shortcuts that are lent make the contraction
 contracts : (n h v : ℕ) (L M : Legs) (list lent : List Shortcut) → lent ≡ list → AreShortcuts n h L v list → SameLegs M (legs_after_contraction L v lent) → Contracts n h L v M
 contracts n h v L M list lent e are same = (lent, subst (AreShortcuts n h L v) (sym e) are, same)
 

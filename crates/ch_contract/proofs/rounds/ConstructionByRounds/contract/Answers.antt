@@ -24,16 +24,16 @@ choose-requires-clause-count g c lifetimes bounds = omega (arith, ap length c.as
 pub choose-requires-clause-ordered : goal.choose-requires-clause-ordered
 choose-requires-clause-ordered g c lifetimes bounds = subst (AllPairs ◌<◌) (sym c.as_slice-3.ensures.value) c.requires.sizes.ordered
 
--- what the keys split
+-- the keys split the remaining nodes into the round and the rest
 split : (g : _) (c : In_ok-round g) → IsSplit (IsFirstBy c.choose.new.keys (legs_of c.args.self.remaining)) c.args.self.left.items c.in_ok-round.field-0.round.items c.in_ok-round.field-0.rest.items
 split g c =
     subst (λ (l : List ℕ). IsSplit (IsFirstBy c.choose.new.keys (legs_of c.args.self.remaining)) l c.in_ok-round.field-0.round.items c.in_ok-round.field-0.rest.items) c.as_slice-3.ensures.value c.in_ok-round.ensures.split
 
--- the nodes of the round are nodes
+-- the nodes of the round are below the number of nodes
 below : (g : _) (c : In_ok-round g) → All (λ x. x < c.args.self.remaining.nodes) c.in_ok-round.field-0.round.items
 below g c = split_left (IsFirstBy c.choose.new.keys (legs_of c.args.self.remaining)) c.args.self.remaining.nodes c.args.self.left.items c.in_ok-round.field-0.round.items c.in_ok-round.field-0.rest.items c.requires.sizes.left (split g c)
 
--- and apart
+-- the nodes of the round are apart
 apart : (g : _) (c : In_ok-round g) → AreApart (legs_of c.args.self.remaining) c.in_ok-round.field-0.round.items
 apart g c = split_apart c.choose.new.keys (legs_of c.args.self.remaining) c.args.self.left.items c.in_ok-round.field-0.round.items c.in_ok-round.field-0.rest.items (split g c)
 
@@ -81,7 +81,7 @@ count-requires-clause-nodes g c lifetimes bounds =
     (subst (All (λ x. x < n)) (sym c.as_slice-4.ensures.value) near) (subst (All (λ x. x < n)) (sym c.as_slice-5.ensures.value) rest)) in
     subst (λ m. All (λ x. x < m) c.due-due.result.now) (sym c.in_ok-self.ensures.nodes) lent
 
--- what it is after the round
+-- the construction after the round
 abbrev after : (g : _) (c : In_ok-count g) → ConstructionByRounds
 after g c = record {
   remaining = c.in_ok-self.field-0;
@@ -94,7 +94,7 @@ after g c = record {
   contracted = c.args.self.contracted + length c.as_slice-nodes.result.now;
 }
 
--- its counts
+-- the counts after the round
 counted : (g : _) (c : In_ok-count g) → AreCounted c.args.self.remaining.nodes c.args.hops (legs_of c.in_ok-self.field-0)
     (due_of c.args.self.remaining.nodes c.args.self.contracted (c.args.self.contracted + length c.as_slice-nodes.result.now) c.in_ok-near.near.items c.in_ok-round.field-0.rest.items) c.args.self.counts.items c.count.new.counts
 counted g c =
@@ -112,7 +112,7 @@ counted g c =
     let second = subst (λ (l : List ℕ). AreCounted n c.args.hops M l c.deref_mut-4.result.now c.count.new.counts) due first in
     subst (λ (l : List ℕ). AreCounted n c.args.hops M (due_of n before now near c.in_ok-round.field-0.rest.items) l c.count.new.counts) c.deref_mut-4.ensures.value second
 
--- its parts
+-- the parts of the construction after the round
 stepped : (g : _) (c : In_ok-count g) → IsSteppedByRound c.args.hops c.args.self (after g c) c.as_slice-nodes.result.now c.in_ok-near.near.items c.choose.new.keys
 stepped g c =
     let n = c.args.self.remaining.nodes in
