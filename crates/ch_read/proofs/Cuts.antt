@@ -1,4 +1,4 @@
--- Sections of a file: lines that are cut at a line feed, and sections whose items together are those of the file.
+-- Sections of a file: cutting at a line feed cuts no line, and the items of all sections are those of the file.
 use Rattle.std.proofs.Common.{suc, ◌≡◌, ℕ, ◌+◌, ◌-◌, ◌<◌, ◌≤◌, ◌⊎◌, inl, inr, Bool, true, false, cond, eqb, leb, ltb, List, [], ◌∷◌, ◌++◌, length, map, take, drop, get_or, Option, Some, None, refl, sym, ◌∙◌, ap, subst, arith, length-drop, append_assoc, Bor, Result, Ok, Err}
 use Rattle.std.specs.Prelude.{slice_get, All, codes, is_some, Vec, IfOk, MatchOption}
 use Rattle.std.specs.List.{slice_split, onto_first, position, flat_map, AllZip, filter_map, cons_option}
@@ -28,11 +28,11 @@ use Rattle.ch_read.proofs.OneAnswer.{at_end}
 use Rattle.ch_read.proofs.Reading.{one}
 use Rattle.ch_read.proofs.Splits.{line_before, split_at}
 
--- a list of numbers of items after which the line has room for one more of its part
+-- after these numbers of items there may be one more of the part of this line
 abbrev pub HasRoom : Form → Heading → Counts → List (List ℕ) → Type 0
 HasRoom form h counts ws = (part : Part) (ns : List ℕ) → item form part ws ≡ Some ns → count_of counts part < count_of h.items part
 
--- an item that passes its checks after some items passes them after others, where there is room
+-- an item that passes its checks after some items passes them after others, if there may be one more
 later_item : (form : Form) (part : Part) (h : Heading) (c d : ℕ) (numbers : Option (List ℕ)) → first_failing (item_checks form part (Some h) c numbers) ≡ None →
     ((ns : List ℕ) → numbers ≡ Some ns → d < count_of h.items part) → first_failing (item_checks form part (Some h) d numbers) ≡ None
 later_item form part h c d None passes room = absurd (none-some BadLine (sym passes))
@@ -76,7 +76,7 @@ module _ (form : Form) (h : Heading) (ws : List (List ℕ)) where
     line_later true e = e
     line_later false e = problem_later (begins_with ws (codes "p")) e
 
--- a line that passes its checks after some items passes them after others, where there is room for it
+-- a line that passes its checks after some items passes them after others, if there may be one more of its part
 pub later_count : (form : Form) (h : Heading) (counts others : Counts) (ws : List (List ℕ)) → first_failing (line_checks form (Some h) counts ws) ≡ None → HasRoom form h others ws →
     first_failing (line_checks form (Some h) others ws) ≡ None
 later_count form h counts others ws passes room = line_later form h ws counts others room (is_skipped ws) passes
@@ -114,14 +114,14 @@ lines-append xs ys =
     ap without_empty_last (split-feed xs []) ∙ without_empty_last-append (slice_split (λ b. eqb b 10) xs) ([] ∷ []) (omega arith) ∙ append-nil (slice_split (λ b. eqb b 10) xs) in
     whole ∙ ap (λ ls. ls ++ lines ys) (sym first)
 
--- the lines of a list that is cut behind a line feed
+-- the lines of bytes that are cut after a line feed
 pub lines_cut : (bytes : List ℕ) (at : ℕ) → at < length bytes → get_or bytes at 0 ≡ 10 → lines bytes ≡ lines (take (at + 1) bytes) ++ lines (drop (at + 1) bytes)
 lines_cut bytes at within feed =
     let front : take (at + 1) bytes ≡ take at bytes ++ 10 ∷ [] = take_more bytes at 0 within ∙ ap (λ b. take at bytes ++ b ∷ []) feed in
     let back : drop at bytes ≡ 10 ∷ drop (at + 1) bytes = drop_more bytes at 0 within ∙ ap (λ b. b ∷ drop (at + 1) bytes) feed in
     ap lines (sym (take-append-drop at bytes) ∙ ap (λ ds. take at bytes ++ ds) back) ∙ lines-append (take at bytes) (drop (at + 1) bytes) ∙ ap (λ ls. lines ls ++ lines (drop (at + 1) bytes)) (sym front)
 
--- sections after one another
+-- sections one after the other
 
 pub no_lines : {A B : Type 0} (a : Item → A) (b : Item → B) (form : Form) (h : Heading) → IsSection a b form h [] [] []
 no_lines a b form h = record {
@@ -154,7 +154,7 @@ sections_after a b form h front back first first' second second' one other = rec
   second_within = within-append form Second h front back one.second_within other.second_within;
 }
 
--- a file of a head and one section whose items are as many as declared
+-- a file of a head and one section with as many items as declared
 
 first_stays : (xs ys : List Heading) (h : Heading) → slice_get xs 0 ≡ Some h → slice_get (xs ++ ys) 0 ≡ Some h
 first_stays [] ys h e = absurd (none-some h e)
@@ -165,7 +165,7 @@ heading_stays form front back h e =
     ap (λ (hs : List Heading). slice_get hs 0) (filter_map-append (λ line. heading form (words line)) front back)
     ∙ first_stays (filter_map (λ line. heading form (words line)) front) (filter_map (λ line. heading form (words line)) back) h e
 
--- an item line at place j leaves room for itself among all items
+-- before an item line there are fewer items of its part than among all lines
 room_at : (form : Form) (part : Part) (ls : List (List ℕ)) (j : ℕ) (ns : List ℕ) → j < length ls → item form part (words (get_or ls j [])) ≡ Some ns → length (items_in form part (take j ls)) < length (items_in form part ls)
 room_at form part ls j ns lt is =
     let whole : ls ≡ take j ls ++ get_or ls j [] ∷ drop (j + 1) ls = sym (take-append-drop j ls) ∙ ap (λ ds. take j ls ++ ds) (drop_more ls j [] lt) in
@@ -191,7 +191,7 @@ module _ {A B : Type 0} (a : Item → A) (b : Item → B) (form : Form) (front l
   count_is First more = ap length (behind_head First more)
   count_is Second more = ap length (behind_head Second more)
 
-  -- line j of the section, after the head and the lines before it
+  -- line j of the section has no fault after the head and the lines before it
   section_clear : (j : ℕ) → j < length ls → line_fault form (front ++ take j ls) (get_or ls j []) ≡ None
   section_clear j lt =
       let passes = section.passes j [] lt in
@@ -226,7 +226,7 @@ module _ {A B : Type 0} (a : Item → A) (b : Item → B) (form : Form) (front l
       at (inl e) = ap (fault_at form file) e ∙ at_end form file ∙ end_clear
       at (inr lt) = let within : ltb i (length file) ≡ true = grind (arith, nat_tests) in rw within (line_clear i lt)
 
-  -- the parts of a file are accepted together
+  -- the file of the head and the section is accepted
   pub sections_accepted : (bytes : List ℕ) → lines bytes ≡ file → IsFile form bytes h
   sections_accepted bytes is = record {
     accepted = subst (λ ls. (i : ℕ) → i ≤ length ls → fault_at form ls i ≡ None) (sym is) clear;
@@ -244,14 +244,14 @@ module _ {A B : Type 0} (a : Item → A) (b : Item → B) (form : Form) (front l
   pub sections_second : (bytes : List ℕ) → lines bytes ≡ file → second ≡ values_in b form Second (lines bytes)
   sections_second bytes is = section.second_is ∙ ap (map (λ ns. b (item_from ns))) (sym (behind_head Second ls)) ∙ ap (values_in b form Second) (sym is)
 
--- a line feed that is found from a place on
+-- the place of a line feed that was found from a place on
 pub feed_from : (bytes : List ℕ) (from at : ℕ) → position (λ b. eqb b 10) (drop from bytes) ≡ Some at → (from + at < length bytes) × (get_or bytes (from + at) 0 ≡ 10)
 feed_from bytes from at e =
     let found = split_at (λ b. eqb b 10) (drop from bytes) at e in
     let within : at < length (drop from bytes) = found.0 in
     (omega (arith, length-drop from bytes, within), sym (get_or-drop from bytes at 0) ∙ eqb-true (get_or (drop from bytes) at 0) 10 found.1)
 
--- one section more
+-- the lines after one more section was cut
 pub more_sections : (bytes : List ℕ) (sections : List (Bor (List ℕ))) (section : Bor (List ℕ)) (rest after : List ℕ) → lines bytes ≡ flat_map (λ (s : Bor (List ℕ)). lines s.now) sections ++ lines rest →
     lines rest ≡ lines section.now ++ lines after → lines bytes ≡ flat_map (λ (s : Bor (List ℕ)). lines s.now) (sections ++ section ∷ []) ++ lines after
 more_sections bytes sections section rest after so_far split =
@@ -260,7 +260,7 @@ more_sections bytes sections section rest after so_far split =
     ∙ ap (λ ls. ls ++ lines after) (ap (λ ls. flat_map (λ (s : Bor (List ℕ)). lines s.now) sections ++ ls) (sym (append-nil (lines section.now)))
     ∙ sym (flat_map-append (λ (s : Bor (List ℕ)). lines s.now) sections (section ∷ [])))
 
--- the lists of one section more
+-- the lists after one more section
 pub lists_more : {A B Y Z : Type 0} (sections : List (Option (Vec A Y × Vec B Z))) (firsts : List (Vec A Y)) (seconds : List (Vec B Z)) (x : Option (Vec A Y × Vec B Z)) (items : Vec A Y × Vec B Z) →
     x ≡ Some items → AreListsOf sections firsts seconds → AreListsOf (sections ++ x ∷ []) (firsts ++ items.0 ∷ []) (seconds ++ items.1 ∷ [])
 lists_more {A} {B} {Y} {Z} sections firsts seconds x items is lists =
@@ -276,7 +276,7 @@ lists_more {A} {B} {Y} {Z} sections firsts seconds x items is lists =
     }
 
 module _ {A B Y Z : Type 0} (a : Item → A) (b : Item → B) (form : Form) (h : Heading) where
-  -- what a worker makes of a section
+  -- the clause on the reading of one section
   abbrev pub IsReadOf : Bor (List ℕ) → Option (Vec A Y × Vec B Z) → Type 0
   IsReadOf section read = MatchOption read (Unit {0}) (λ (items : Vec A Y × Vec B Z). IsSection a b form h (lines section.now) items.0.items items.1.items)
 
@@ -299,7 +299,7 @@ module _ {A B Y Z : Type 0} (a : Item → A) (b : Item → B) (form : Form) (h :
       subst (λ xs. IsSection a b form h (flat_map (λ (s : Bor (List ℕ)). lines s.now) sections) xs (flat_map (λ (list : Vec B Z). list.items) x.1.items)) (sym is.first_is)
       (subst (λ xs. IsSection a b form h (flat_map (λ (s : Bor (List ℕ)). lines s.now) sections) (flat_map first_of read) xs) (sym is.second_is) (gathered sections read zip is.there))
 
--- the value of a file whose sections were all read, and have as many items as are declared
+-- a file has this value if all its sections were read, and have as many items as declared
 pub whole_by_sections : {A B : Type 0} (a : Item → A) (b : Item → B) (form : Form) (bytes rest : List ℕ) (ls : List (List ℕ)) (h : Heading) (first : List A) (second : List B) → BeginsWith form bytes h rest → lines rest ≡ ls →
     IsSection a b form h ls first second → length first ≡ h.items.first → length second ≡ h.items.second → IsFile form bytes h × (first ≡ values_in a form First (lines bytes)) × (second ≡ values_in b form Second (lines bytes))
 whole_by_sections a b form bytes rest ls h first second begins cut section firsts seconds =

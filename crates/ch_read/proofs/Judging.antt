@@ -1,4 +1,4 @@
--- The checks of one line: words that stand before the numbers, and limits on capped numbers.
+-- The checks of one line: the words before the numbers, and the limits on capped numbers.
 use Rattle.std.proofs.Common.{Bor, ◌≡◌, ℕ, zero, suc, ◌-◌, ◌*◌, ◌<◌, ◌≤◌, ◌^◌, ◌⊎◌, inl, inr, ◌&&◌, Bool, true, false, cond, eqb, leb, ltb, List, [], ◌∷◌, ◌++◌, length, map, take, get_or, Option, Some, None, refl, sym, ◌∙◌, ap, arith, append_assoc, lit<, lit≤, zero-mul}
 use Rattle.std.specs.Prelude.{MatchOption, replicate}
 use Rattle.std.specs.List.{list_all}
@@ -21,7 +21,7 @@ use Rattle.ch_read.specs.Checks.{is_node, is_middle, are_nodes, is_weight, first
 use Rattle.ch_read.specs.Reading.{IsOther, IsAfter, AreCapped, greatest, capped_number, item_from, IsItemWithin, IsItem}
 use Rattle.ch_read.proofs.Numbers.{both, length-numbers}
 
--- words before the numbers, some and then more
+-- words before the numbers, in two parts
 
 pub other_front : (front next ws : List (List ℕ)) → IsOther front ws → IsOther (front ++ next) ws
 other_front front next ws other more count = rw append_assoc (other (next ++ more) count)
@@ -31,7 +31,7 @@ pub and_next : (front next ws rest : List (List ℕ)) (o : Option (Bor (List ℕ
 and_next front next ws rest None begins other = λ more count. rw append_assoc (begins (next ++ more) count ∙ other more count)
 and_next front next ws rest (Some after) begins again = λ more count. rw append_assoc (begins (next ++ more) count ∙ again more count)
 
--- the numbers after words that stand before them
+-- the numbers after the words before them
 pub numbers_next : (front ws rest : List (List ℕ)) (count : ℕ) → IsAfter front ws rest → numbers_after front count ws ≡ numbers_after [] count rest
 numbers_next front ws rest count begins = ap (λ hs. numbers_after hs count ws) (sym (append-nil front)) ∙ begins [] count
 
@@ -51,7 +51,7 @@ length-numbers_after (h ∷ hs) (w ∷ ws) count ns e = at (bytes_eq w h) e (len
     at true e more = more e
     at false e more = absurd (none-some ns e)
 
--- a capped number passes a limit exactly where the number does
+-- a capped number passes a limit exactly if the number does
 
 zero_at : (m k : ℕ) → get_or (replicate {A = ℕ} m 0) k 0 ≡ 0
 zero_at zero k = refl
@@ -86,7 +86,7 @@ nodes-capped nodes small (suc k) (n ∷ ns) m le = rw (is_node-capped nodes n sm
 past_limit : (n m : ℕ) → m < n → leb n m ≡ false
 past_limit n m lt = grind (arith, nat_tests)
 
--- what some nodes multiply is no less for it
+-- a weight times a number of nodes above 0 is at least the weight
 no_less : (nodes w : ℕ) → 0 < nodes → w ≤ nodes * w
 no_less nodes w some = grind arith
 
@@ -111,7 +111,7 @@ all_at p (suc k) [] i lt within h = absurd (omega arith)
 all_at p (suc k) (n ∷ ns) zero lt within h = (both (p n) (list_all p (take k ns)) h).0
 all_at p (suc k) (n ∷ ns) (suc i) lt within h = all_at p k ns i (omega arith) (omega arith) (both (p n) (list_all p (take k ns)) h).1
 
--- an item has its nodes among its numbers
+-- an item has at least as many numbers as nodes
 fewer : (form : Form) (part : Part) → node_count form part ≤ item_size form part
 fewer Graph part = lit≤ tt
 fewer (Queries n) part = lit≤ tt
@@ -119,7 +119,7 @@ fewer (Nodes n) part = lit≤ tt
 fewer (Saved n) First = lit≤ tt
 fewer (Saved n) Second = lit≤ tt
 
--- the bounds on an item's numbers that its checks give
+-- the bounds on the numbers of an item, from its checks
 pub record HasBounds (nodes : ℕ) (ns : List ℕ) : Type 0 where
   pub first : get_or ns 0 0 ≤ nodes
   pub first_below : get_or ns 0 0 - 1 < nodes
@@ -138,7 +138,7 @@ node_at nodes k ns i lt within h =
     let each = both (leb 1 (get_or ns i 0)) (leb (get_or ns i 0) nodes) (all_at (is_node nodes) k ns i lt within h) in
     (leb-true 1 (get_or ns i 0) each.0, leb-true (get_or ns i 0) nodes each.1)
 
--- the bounds where one number alone is there
+-- the bounds if there is only one number
 one_number : (nodes : ℕ) (ns : List ℕ) → length ns ≡ 1 → list_all (is_node nodes) (take 1 ns) ≡ true → HasBounds nodes ns
 one_number nodes ns long ends =
     let a = node_at nodes 1 ns 0 (lit< tt) (omega arith) ends in
@@ -224,7 +224,7 @@ module _ (ns : List ℕ) (m : ℕ) where
       let b = bounds form part nodes ns within in
       rw (exact 0 (omega arith), exact 1 (omega arith), exact 2 (omega arith), exact 3 (omega arith), exact 4 (omega arith)) refl
 
--- an item line whose numbers were read
+-- an item line with its numbers as they were read
 pub record HasNumbers (form : Form) (part : Part) (seen : Option Heading) (h : Heading) (count : ℕ) (ws : List (List ℕ)) (values : List ℕ) : Type 0 where
   pub declared : seen ≡ Some h
   pub small : h.nodes < 2 ^ 32

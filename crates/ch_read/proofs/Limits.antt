@@ -1,4 +1,4 @@
--- What an accepted file names is within the limits, and an error is answered both ways.
+-- The value of an accepted file is within the limits. An error is the fault of the bytes, in both directions.
 use Rattle.std.proofs.Common.{◌≡◌, ℕ, ◌-◌, ◌*◌, ◌<◌, ◌≤◌, inl, inr, leb, List, [], ◌∷◌, map, get_or, Option, Some, None, Result, Ok, Err, refl, sym, ◌∙◌, ap, subst, arith}
 use Rattle.std.specs.Prelude.{All, IsErrAnd, Vec, codes, option_map, slice_get, slice_index}
 use Rattle.std.specs.List.{filter_map, cons_option}
@@ -36,7 +36,7 @@ same_fault A f g e = cc
 no_fault : (A : Type 0) (f : ReadFault) → error_of A NoMemory ≡ error_of A (Fault f) → ⊥
 no_fault A f e = cc
 
--- a result that is this error answers each fault where it is the fault of the bytes
+-- if the result is this error, a fault is the result exactly if it is the fault of the bytes, unless memory runs out
 pub fault_both_ways : {A : Type 0} (form : Form) (bytes : List ℕ) (result : Result A ReadError) (e : ReadError) → IsErrAnd result (λ x. x ≡ e) → IsErrorOf form bytes e →
     (f : ReadFault) → AnswersWhere result (Err (Fault f)) (IsFault form bytes f.line f.kind)
 fault_both_ways form bytes (Ok x) e is of f = absurd is
@@ -55,7 +55,7 @@ error_of_items P (Err e) is = is
 
 -- limits
 
--- query files and lists have the nodes of their graph
+-- query files and lists have the number of nodes of their graph
 heading_nodes : (form : Form) (n : ℕ) → ((ns : List ℕ) → (heading_from form ns).nodes ≡ n) → (all : List (List ℕ)) (h : Heading) → heading_in form all ≡ Some h → h.nodes ≡ n
 heading_nodes form n same [] h e = absurd (none-some h e)
 heading_nodes form n same (line ∷ all) h e = at (numbers_after (codes "p" ∷ problem_words form) (problem_size form) (words line)) e (heading_nodes form n same all h)

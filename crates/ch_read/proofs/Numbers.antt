@@ -47,7 +47,7 @@ no_number word e = rw e (at (is_word word))
 pub is_number : (word : List ℕ) → 0 < length word → all_ascii_digits word ≡ true → number word ≡ Some (digits_value 10 word)
 is_number word some e = let long : is_word word ≡ true = grind (arith, nat_tests) in rw (long, e) refl
 
--- one more digit, capped
+-- the capped number after one more digit
 capped_more : (m n d : ℕ) → min (min (min n m * 10) m + d) m ≡ min (n * 10 + d) m
 capped_more m n d = omega arith
 
@@ -108,7 +108,7 @@ length-numbers (w ∷ ws) ns e = at (number w) (numbers ws) refl e (length-numbe
     at (Some m) None k e more = absurd (none-some ns e)
     at (Some m) (Some ms) k e more = ap length (sym (same_Some (m ∷ ms) ns e)) ∙ ap suc (more ms k)
 
--- the invariant of the loop over the words of a line: i words are taken, and the rest is left
+-- the invariant of the loop over the words of a line: i words were taken, and the others are left
 pub record HasTaken (ws left : List (List ℕ)) (i : ℕ) (values : List ℕ) : Type 0 where
   pub taken : List (List ℕ)
   pub ns : List ℕ

@@ -19,11 +19,11 @@ use Rattle.ch_read.specs.Checks.{fault_at, end_fault, first_failing, end_checks,
 use Rattle.ch_read.specs.Names.{arc_from, NamesGraph, NamesQueries, NamesNodes, NamesSaved}
 use Rattle.ch_read.specs.Answers.{HasOneAnswer}
 
--- the fault of the end stands at the place after the last line
+-- the fault of the end is at the place after the last line
 pub at_end : (form : Form) (all : List (List ℕ)) → fault_at form all (length all) ≡ end_fault form all
 at_end form all = let past : ltb (length all) (length all) ≡ false = grind (arith, nat_tests) in rw past refl
 
--- the places below n that have something, as far as the first
+-- no place below n has a value, or one is the first that has
 module _ {K : Type 0} (f : ℕ → Option K) where
   abbrev pub AreClear : ℕ → Type 0
   AreClear n = (i : ℕ) → i < n → f i ≡ None
@@ -95,7 +95,7 @@ accepted_heading form bytes a = at (heading_in form (lines bytes)) refl (sym (at
     at (Some h) e clear = (h, e)
     at None e clear = absurd (none-some NoProblem (sym clear))
 
--- what names a value of each accepted file, and one value of it, gives one answer
+-- a form has one answer if each accepted file has exactly one value
 answers : {A : Type 0} (form : Form) (bytes : List ℕ) (Names : A → Type 0) → (IsAccepted form bytes → (x : A) × Names x) → ((x y : A) → Names x → Names y → x ≡ y) → ((x : A) → Names x → IsAccepted form bytes) →
     HasOneAnswer Names form bytes
 answers form bytes Names value same accepted = record {

@@ -43,7 +43,7 @@ module _ (all : List (List ℕ)) (i : ℕ) (text : List ℕ) (more : List (List 
   pub at_line : (form : Form) (begun : Option Heading) → fault_after form begun all i ≡ first_failing (line_checks form (seen_after form begun (take i all)) (counts_in form (take i all)) (words text))
   at_line form begun = ap (λ (line : List ℕ). first_failing (line_checks form (seen_after form begun (take i all)) (counts_in form (take i all)) (words line))) line_is
 
--- what a line adds to what was read
+-- the items that a line adds
 
 first_of_none : (xs ys : List Heading) → slice_get xs 0 ≡ None → slice_get (xs ++ ys) 0 ≡ slice_get ys 0
 first_of_none [] ys e = refl
@@ -85,7 +85,7 @@ module _ (form : Form) (before : List (List ℕ)) (text : List ℕ) where
       ap (λ its. map (λ ns. of (item_from ns)) its) (items_more part ns found) ∙ map-append (λ ns. of (item_from ns)) (items_in form part before) (ns ∷ [])
       ∙ ap (λ x. values_in of form part before ++ of x ∷ []) (sym is)
 
--- what is within the limits
+-- the items within the limits
 
 pub none_within : (form : Form) (part : Part) (h : Heading) → AreItemsWithin form part h []
 none_within form part h = record { few = omega arith; each = λ k d lt. absurd (omega arith) }
@@ -105,7 +105,7 @@ within_same : (form : Form) (seen : Option Heading) (first second first' second'
 within_same form seen first second first' second' e f within =
     subst (λ its. IsWithin form seen its second') (sym e) (subst (λ its. IsWithin form seen first its) (sym f) within)
 
--- the invariant of the loop: some lines were read and have no fault, and these are what they hold
+-- the invariant of the loop: some lines were read and have no fault, and this is their content
 pub record HasRead {A B : Type 0} (a : Item → A) (b : Item → B) (form : Form) (begun : Option Heading) (bytes rest : List ℕ) (line : ℕ) (seen : Option Heading) (first : List A) (second : List B) : Type 0 where
   pub counted : line ≤ length (lines bytes)
   pub room : line + length rest ≤ length bytes
@@ -132,7 +132,7 @@ nothing_read a b form begun bytes within = record {
   within = within;
 }
 
--- the values are counted, and are as many as the items
+-- the counts are the numbers of values
 pub record AreCounted {A B : Type 0} (counts : Counts) (first : List A) (second : List B) : Type 0 where
   pub first_is : counts.first ≡ length first
   pub second_is : counts.second ≡ length second
@@ -180,7 +180,7 @@ module _ {A B : Type 0} (a : Item → A) (b : Item → B) (form : Form) (begun :
         first = λ i lt. read.clear i (omega arith);
       }
 
-  -- the facts of one more line, after what it holds is known
+  -- the invariant after one more line, from its content
   more : (seen' : Option Heading) (first' : List A) (second' : List B) → first_failing (line_checks form seen counts (words text)) ≡ None → seen' ≡ seen_after form begun (before ++ text ∷ []) →
       first' ≡ values_in a form First (before ++ text ∷ []) → second' ≡ values_in b form Second (before ++ text ∷ []) →
       IsWithin form seen' (items_in form First (before ++ text ∷ [])) (items_in form Second (before ++ text ∷ [])) → HasRead a b form begun bytes after (line + 1) seen' first' second'
@@ -251,7 +251,7 @@ module _ {A B : Type 0} (a : Item → A) (b : Item → B) (form : Form) (begun :
       (subst (λ s. IsWithin form s (items_in form First (before ++ text ∷ [])) (items_in form Second (before ++ text ∷ []))) (sym has.seen_is)
       (within_same form (Some has.declared) _ _ _ _ (items_same form before text First no_other) (items_more form before text Second has.ns has.has) (within.0, within.1, one_more)))
 
--- all lines were read
+-- the result after all lines were read
 pub all_lines : {A B : Type 0} (a : Item → A) (b : Item → B) (form : Form) (begun : Option Heading) (bytes rest : List ℕ) (line : ℕ) (seen : Option Heading) (first : List A) (second : List B) →
     HasRead a b form begun bytes rest line seen first second → true ≡ eqb (length rest) 0 → AreLines a b form begun (lines bytes) line seen first second
 all_lines a b form begun bytes rest line seen first second read none =
@@ -269,11 +269,11 @@ all_lines a b form begun bytes rest line seen first second read none =
       within = subst (λ (ls : List (List ℕ)). IsWithin form seen (items_in form First ls) (items_in form Second ls)) all_taken read.within;
     }
 
--- the fault of a line that nothing was seen before
+-- the fault of a line is its fault with no heading before all lines
 from_start : (form : Form) (all : List (List ℕ)) (i : ℕ) → i < length all → fault_at form all i ≡ fault_after form None all i
 from_start form all i lt = let within : ltb i (length all) ≡ true = grind (arith, nat_tests) in rw within refl
 
--- the first fault of the lines of a file is its first
+-- the first fault of the lines, with no heading before them, is the first fault of the file
 pub error_from_start : (form : Form) (bytes : List ℕ) (e : ReadError) → IsErrorAfter form None bytes e → IsErrorOf form bytes e
 error_from_start form bytes NoMemory is = tt
 error_from_start form bytes (Fault f) is =
@@ -313,7 +313,7 @@ module _ {A B : Type 0} (a : Item → A) (b : Item → B) (form : Form) (bytes :
     within = subst (λ s. IsWithin form s (items_in form First (lines bytes)) (items_in form Second (lines bytes))) passes.1 read.within;
   }
 
--- what the lines of a section hold
+-- the content of the lines of a section
 pub section_read : {A B : Type 0} (a : Item → A) (b : Item → B) (form : Form) (h : Heading) (all : List (List ℕ)) (line : ℕ) (seen : Option Heading) (first : List A) (second : List B) →
     AreLines a b form (Some h) all line seen first second → IsSection a b form h all first second
 section_read a b form h all line seen first second read =
@@ -345,7 +345,7 @@ head_read a b form bytes rest line h read =
       };
     }
 
--- the lines so far are skipped ones
+-- the lines so far were skipped
 abbrev pub HasSkipped : Form → List ℕ → List ℕ → Type 0
 HasSkipped form bytes rest = (line : ℕ) × HasRead {A = Unit {0}} {B = Unit {0}} (λ i. tt) (λ i. tt) form None bytes rest line None [] []
 

@@ -1,4 +1,4 @@
--- The requests of a stream by its parts.
+-- The requests of a stream that comes in parts.
 use Rattle.std.proofs.Common.{◌≡◌, ℕ, ◌<◌, Bool, true, false, eqb, if◌then◌else◌, List, [], ◌∷◌, ◌++◌, length, Option, Some, None, refl, sym, ◌∙◌, ap, subst, zero, suc, arith, length-append}
 use Rattle.std.specs.Prelude.{All, is_none}
 use Rattle.std.specs.List.{slice_split, onto_first}
@@ -11,7 +11,7 @@ use Rattle.ch_read.specs.Requests.{Begun, Told, after_these, line_after, made, n
 use Rattle.ch_read.specs.RequestLaws.{Went, went_on, went, and_then, without_last, last_of, ended_lines, unended, AreToldByParts}
 use Rattle.ch_read.proofs.Splits.{line_before}
 
--- lines, and more lines
+-- some lines and then more lines
 
 pub after_both : (xs ys : List Request) (t : Told) → after_these (xs ++ ys) t ≡ after_these xs (after_these ys t)
 after_both xs ys t = λ i. record { given = append_assoc xs ys t.given i; fault = t.fault }
@@ -46,12 +46,12 @@ told_append n line begun (text ∷ xs) ys = at (text_fault n (line_after line) b
     at None e others = ap whole e ∙ ap (after_these given) others ∙ more_given n given left ys ∙ sym (ap parts e)
     at (Some fault) e others = ap whole e ∙ sym (ap parts e)
 
--- bytes, and more bytes
+-- some bytes and then more bytes
 
 abbrev parts_of : List ℕ → List (List ℕ)
 parts_of bytes = slice_split (λ b. eqb b 10) bytes
 
--- bytes in parts: some that a line feed ends, and a last that none ends, whatever comes after it
+-- the parts of bytes: parts that end with a line feed, and a last part without one, for every continuation
 pub record AreParts (bytes : List ℕ) (ended : List (List ℕ)) (last : List ℕ) : Type 0 where
   pub parts : parts_of bytes ≡ ended ++ last ∷ []
   pub clear : All (λ b. eqb b 10 ≡ false) last
@@ -64,7 +64,7 @@ one_clear : (b : ℕ) (last : List ℕ) → eqb b 10 ≡ false → All (λ c. eq
 one_clear b last e clear zero d lt = e
 one_clear b last e clear (suc k) d lt = clear k d (omega arith)
 
--- a line feed before the parts, or another byte
+-- the parts after a line feed or another byte is put in front
 feed_first : (b : ℕ) (bytes : List ℕ) (ended : List (List ℕ)) (last : List ℕ) → eqb b 10 ≡ true → AreParts bytes ended last → AreParts (b ∷ bytes) ([] ∷ ended) last
 feed_first b bytes ended last e are = record {
   parts = rw e (ap (λ (all : List (List ℕ)). [] ∷ all) are.parts);
@@ -116,7 +116,8 @@ all_before [] parts some = refl
 all_before (part ∷ ended) parts some =
     line_before part (ended ++ parts) (omega (arith, length-append ended parts)) ∙ ap (λ (all : List (List ℕ)). part ∷ all) (all_before ended parts some)
 
--- wherever bytes are cut, the lines are those that end in the first part, and then those of what is left with the second
+-- for each cut of the bytes, the lines are those that end in the first part, and then those of the rest of it with the
+-- second
 pub lines_cut : (bytes more : List ℕ) → lines (bytes ++ more) ≡ ended_lines bytes ++ lines (unended bytes ++ more)
 lines_cut bytes more =
     let are = parts_are bytes in
@@ -126,7 +127,7 @@ lines_cut bytes more =
     let some : 0 < length (parts_of (are.1 ++ more)) = omega (arith, length-slice_split (λ b. eqb b 10) (are.1 ++ more)) in
     rw (ended, last) (ap without_empty_last (parts.more more) ∙ all_before are.0 (parts_of (are.1 ++ more)) some)
 
--- what stands after the last line feed has none
+-- the bytes after the last line feed have no line feed
 pub unended_clear : (bytes : List ℕ) → All (λ b. eqb b 10 ≡ false) (unended bytes)
 unended_clear bytes =
     let are = parts_are bytes in

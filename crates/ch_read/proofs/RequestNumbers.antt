@@ -12,11 +12,11 @@ use Rattle.ch_read.specs.Requests.{Begun, count_or_all, failing_at, is_limit, is
 use Rattle.ch_read.specs.RequestSteps.{IsLimited, PassesAs}
 use Rattle.ch_read.proofs.Judging.{capped_at, length-numbers_after}
 
--- a number below the greatest stands for itself
+-- a capped number within a limit is the number itself
 pub capped_exact : (n m : ℕ) → m < greatest → capped_number n ≤ m → capped_number n ≡ n
 capped_exact n m less within = omega arith
 
--- and so does a limit that is not past the greatest distance
+-- capping a limit does not change whether it is within the greatest distance
 pub limit_capped : (o : Option ℕ) → is_limit (option_map capped_number o) ≡ is_limit o
 limit_capped None = refl
 limit_capped (Some most) = grind (arith, nat_tests)
@@ -38,7 +38,7 @@ without_limit count ws values read =
       sym (ap (option_map capped_number) (slice_get_past ns count (omega arith))),
     )
 
--- or with one
+-- the numbers were read with a limit after them
 pub with_limit : (count : ℕ) (ws : List (List ℕ)) (values : List ℕ) → numbers_after [] count ws ≡ None → AreCapped (numbers_after [] (count + 1) ws) values →
     IsLimited count (numbers_and_limit [] count ws) (record { first = get_or values 0 0; second = get_or values 1 0; within = Some (get_or values count 0) })
 with_limit count ws values none read =
@@ -51,7 +51,7 @@ with_limit count ws values none read =
       ap Some (ap (λ (v : List ℕ). get_or v count 0) read.2 ∙ capped_at ns (5 - length ns) count) ∙ ap (option_map capped_number) (sym (slice_get-get_or ns count 0 (omega arith))),
     )
 
--- places that were read begin as the numbers say
+-- a line of places begins the request that its numbers name
 pub places_read : (line : ℕ) (begun : Begun) (ws : List (List ℕ)) (values : List ℕ) → is_whole begun ≡ true → AreCapped (numbers_after [] 2 ws) values →
     get_or values 0 0 ≤ MOST_LISTED → get_or values 1 0 ≤ MOST_LISTED →
     PassesAs (failing_at line (places_checks begun (numbers_after [] 2 ws))) (numbers_after [] 2 ws) places_from

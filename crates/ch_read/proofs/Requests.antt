@@ -1,4 +1,4 @@
--- Requests as their bytes come.
+-- Requests whose bytes come in parts.
 use Rattle.std.proofs.Common.{subst, ◌≡◌, ℕ, suc, ◌+◌, ◌-◌, ◌<◌, ◌≤◌, Bool, true, false, eqb, leb, ltb, get_or, if◌then◌else◌, List, [], ◌∷◌, ◌++◌, length, take, drop, Option, Some, None, refl, sym, ◌∙◌, ap, arith, length-take, length-drop}
 use Rattle.std.specs.Prelude.{All, IfErr, IsErrAnd, Result, Ok, Err, is_none}
 use Rattle.std.specs.List.{position, position_or_len}
@@ -21,7 +21,7 @@ use Rattle.std.proofs.lemmas.List.Sums.{fails_before_first}
 use Rattle.ch_read.proofs.Splits.{line_to_feed, line_to_end, none_passes, split_at}
 use Rattle.ch_read.proofs.Reading.{one}
 
--- one more node of a request that wants more
+-- a request that wants more nodes stays within its limits after one more
 pub node_added : (n : ℕ) (begun : Begun) (node : ℕ) → IsBegun n begun → node < n → length begun.listed < wanted begun → IsBegun n (with_node begun node)
 node_added n begun node is below room = record {
   listed = All-append (λ v. v < n) begun.listed (node ∷ []) is.listed (one (λ v. v < n) node below);
@@ -53,7 +53,7 @@ whole_lists n begun is whole within =
       cells = rw (sources, targets) is.cells;
     }
 
--- a request that is whole is one on the graph
+-- a whole request is one on the graph
 whole_request : (n : ℕ) (begun : Begun) → IsBegun n begun → wanted begun ≤ length begun.listed → IsRequest n (request_of begun)
 whole_request n begun is whole = at begun.purpose is.purpose
   where
@@ -61,7 +61,7 @@ whole_request n begun is whole = at begun.purpose is.purpose
     at (ForTable within) of = whole_lists n begun is whole within
     at (ForPlaces count) of = let few = is.few in let size = is.sizes.1 in record { each = is.listed; size = omega arith }
 
--- a request that was settled is given with its lists, or wants more
+-- after a line, the request is given with its lists if it is whole, and otherwise it wants more nodes
 pub settled_within : (n : ℕ) (begun new : Begun) (given : Option Request) → IsBegun n begun → settled begun ≡ record { given = at_most_one given; begun = new } → IsGiven n given × IsBegun n new
 settled_within n begun new given is e = at (is_whole begun) refl (sym e)
   where
@@ -86,7 +86,7 @@ settled_within n begun new given is e = at (is_whole begun) refl (sym e)
         given_none None f = tt
         given_none (Some r) f = absurd (omega (arith, ap length f))
 
--- the line that is ahead
+-- the next line
 
 module _ (p : ℕ → Bool) where
   found_before : (xs ys : List ℕ) → position_or_len p xs < length xs → position_or_len p (xs ++ ys) ≡ position_or_len p xs
@@ -111,7 +111,7 @@ module _ (p : ℕ → Bool) where
       let inside : ltb (position_or_len p (xs ++ ys)) (length (xs ++ ys)) ≡ true = grind (arith, nat_tests) in
       (omega arith, rw inside (ap Some (same ∙ at)))
 
--- a line that ends at a line feed is the first whatever comes after
+-- a line that ends with a line feed is the first line, for every continuation
 pub feed_ahead : (xs more : List ℕ) (i : ℕ) → position (λ b. eqb b 10) xs ≡ Some i → lines (xs ++ more) ≡ take i xs ∷ lines (drop (i + 1) xs ++ more)
 feed_ahead xs more i e =
     let found = found_and_more (λ b. eqb b 10) xs more i e in
@@ -126,7 +126,7 @@ pub last_ahead : (xs more : List ℕ) → position (λ b. eqb b 10) xs ≡ None 
 last_ahead xs more e some none =
     rw none (ap lines (append-nil xs) ∙ line_to_end xs e some ∙ ap (λ (r : List ℕ). xs ∷ lines (r ++ [])) (sym (drop_all (length xs) xs (omega arith))))
 
--- what a line tells
+-- the requests and the fault of a line
 
 module _ (n line : ℕ) (begun : Begun) (text : List ℕ) (more : List (List ℕ)) where
   abbrev after_line : Option RequestFault → Told
@@ -140,7 +140,7 @@ module _ (n line : ℕ) (begun : Begun) (text : List ℕ) (more : List (List ℕ
   pub line_faulty : (fault : RequestFault) → text_fault n (line_after line) begun text ≡ Some fault → told n line begun (text ∷ more) ≡ stopping (Some fault)
   line_faulty fault e = ap after_line e
 
--- what was given and what is given next
+-- the requests that were given and those that are given next
 pub gives_more : (ended : Bool) (a b c : Standing) (xs ys : List Request) → Gives ended a b xs → Gives ended b c ys → Gives ended a c (xs ++ ys)
 gives_more ended a b c xs ys first next more comes =
     first more comes ∙ ap (after_these xs) (next more comes) ∙ (λ i. record { given = sym (append_assoc xs ys (ahead c more).given) i; fault = (ahead c more).fault })
@@ -148,7 +148,7 @@ gives_more ended a b c xs ys first next more comes =
 pub feed_within : (xs : List ℕ) (i : ℕ) → position (λ b. eqb b 10) xs ≡ Some i → i < length xs
 feed_within xs i e = (found_and_more (λ b. eqb b 10) xs [] i e).0
 
--- where bytes have no line feed, the first stands past them
+-- if the first bytes have no line feed, the first one comes after them
 feed_past : (xs more : List ℕ) (i : ℕ) → position (λ b. eqb b 10) xs ≡ None → position (λ b. eqb b 10) (xs ++ more) ≡ Some i → length xs ≤ i
 feed_past xs more i none e = at (ltb i (length xs)) refl
   where
@@ -165,7 +165,7 @@ feed_past xs more i none e = at (ltb i (length xs)) refl
     at true lt = let within : i < length xs = grind (arith, nat_tests) in never within
     at false lt = grind (arith, nat_tests)
 
--- a line that has no line feed yet begins with all of its bytes, whatever comes after
+-- bytes without a line feed are the begin of the first line, for every continuation
 begins_long : (xs more : List ℕ) → position (λ b. eqb b 10) xs ≡ None → 0 < length xs → (line : List ℕ) × (rest : List (List ℕ)) × (lines (xs ++ more) ≡ line ∷ rest) × (length xs ≤ length line)
 begins_long xs more none some = at (position (λ b. eqb b 10) (xs ++ more)) refl
   where
@@ -179,7 +179,7 @@ begins_long xs more none some = at (position (λ b. eqb b 10) (xs ++ more)) refl
         let within : i < length (xs ++ more) = feed_within (xs ++ more) i e in
         (take i (xs ++ more), _, line_to_feed (xs ++ more) i e, omega (arith, length-take i (xs ++ more)))
 
--- a line that makes something, and one that is faulty, as what is ahead sees them
+-- the requests and the fault that are ahead, if the next line has no fault and if it has one
 module _ (ended : Bool) (s : Standing) (text : List ℕ) (taken : ℕ) (is : IsLineAhead ended s.pending text taken) where
   pub step_given : (new : Begun) (given : Option Request) → Makes s.nodes (line_after s.line) s.begun new text given → Gives ended s (advanced s new taken) (at_most_one given)
   step_given new given makes more comes = ap (told s.nodes s.line s.begun) (is.0 more comes) ∙ line_made s.nodes s.line s.begun text (lines (drop taken s.pending ++ more)) new given makes
@@ -191,7 +191,7 @@ module _ (ended : Bool) (s : Standing) (text : List ℕ) (taken : ℕ) (is : IsL
   step_faulty (Fault fault) e = λ more comes. ap (told s.nodes s.line s.begun) (is.0 more comes) ∙ line_faulty s.nodes s.line s.begun text (lines (drop taken s.pending ++ more)) fault e
   step_faulty NoMemory e = tt
 
--- a line that is too long already is told as a bad one, whatever comes
+-- a line that is already too long has a fault, for every continuation
 pub step_long : (ended : Bool) (s : Standing) → position (λ b. eqb b 10) s.pending ≡ None → MOST_LINE < length s.pending →
     IsStopped ended s (RequestFault.Line (record { line = line_after s.line; kind = BadLine }))
 step_long ended s none long more comes =
@@ -202,12 +202,12 @@ step_long ended s none long more comes =
     let bad : text_fault s.nodes (line_after s.line) s.begun text ≡ Some (RequestFault.Line (record { line = line_after s.line; kind = BadLine })) = rw past refl in
     ap (told s.nodes s.line s.begun) begins.2 ∙ line_faulty s.nodes s.line s.begun text begins.1 (RequestFault.Line (record { line = line_after s.line; kind = BadLine })) bad
 
--- where no line is ahead, no line feed is
+-- if no line is whole, there is no line feed
 pub no_feed : (ended : Bool) (bytes : List ℕ) → HasNoLine ended bytes → position (λ b. eqb b 10) bytes ≡ None
 no_feed false bytes none = none
 no_feed true bytes none = rw none refl
 
--- an error that is passed on
+-- an error that a call passes on
 pub error_passed : {T : Type 0} (P : RequestError → Type 0) (r : Result T RequestError) (e : RequestError) → IsErrAnd r (λ y. y ≡ e) → P e → IfErr r P
 error_passed P (Ok x) e is holds = tt
 error_passed P (Err y) e is holds = subst P (sym is) holds

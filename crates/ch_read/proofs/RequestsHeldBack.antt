@@ -1,4 +1,4 @@
--- A reader that has no whole line left has given all that the whole lines tell.
+-- A reader without a whole line left has given all requests of the whole lines.
 use Rattle.std.proofs.Common.{◌≡◌, ℕ, suc, ◌+◌, Bool, true, false, cond, eqb, ◌&&◌, if◌then◌else◌, List, [], ◌∷◌, ◌++◌, length, Option, Some, None, refl, sym, ◌∙◌, ap, arith}
 use Rattle.std.specs.Prelude.{All, codes, is_none, filter, position}
 use Rattle.std.specs.List.{slice_split, onto_first}
@@ -24,7 +24,7 @@ use Rattle.ch_read.proofs.RequestLaws.{told_by_parts, unended_clear}
 use Rattle.ch_read.proofs.Reading.{one}
 use Rattle.ch_read.proofs.RequestTurns.{given_in_turn, may_come}
 
--- a line that ends with the letter x: its last word is no number
+-- the last word of a line that ends with the letter x is no number
 
 ends_with_x : List (List ℕ) → Type 0
 ends_with_x parts = (front : List (List ℕ)) × (word : List ℕ) × (parts ≡ front ++ (word ++ 120 ∷ []) ∷ [])
@@ -76,7 +76,7 @@ x_no_numbers (w ∷ front) word = at (number w) (x_no_numbers front word)
     at None e = refl
     at (Some n) e = rw e refl
 
--- no line that ends so has the numbers that an item or a table must have
+-- a line that ends with x does not have the numbers of an item
 x_no_item : (letter : List ℕ) (count : ℕ) (front : List (List ℕ)) (word : List ℕ) → numbers_after (letter ∷ []) (suc count) (front ++ (word ++ 120 ∷ []) ∷ []) ≡ None
 x_no_item letter count [] word = at (bytes_eq (word ++ 120 ∷ []) letter)
   where
@@ -90,11 +90,11 @@ x_no_item letter count (w ∷ front) word = at (bytes_eq w letter) (eqb (length 
     at true false = refl
     at false u = refl
 
--- nor those of a request that may have a limit
+-- a line that ends with x does not have the numbers of a request that may have a limit
 x_no_limited : (letter : List ℕ) (count : ℕ) (front : List (List ℕ)) (word : List ℕ) → numbers_and_limit (letter ∷ []) (suc count) (front ++ (word ++ 120 ∷ []) ∷ []) ≡ None
 x_no_limited letter count front word = let next : suc count + 1 ≡ suc (suc count) = omega arith in rw (x_no_item letter count front word, next) (x_no_item letter (suc count) front word)
 
--- without numbers a line makes nothing
+-- a line without numbers completes no request
 module _ (n : ℕ) (begun : Begun) (ws : List (List ℕ)) where
   made_nothing : item (Queries n) First ws ≡ None → route_numbers ws ≡ None → near_numbers ws ≡ None → table_numbers ws ≡ None → places_numbers ws ≡ None → item (Nodes n) First ws ≡ None →
       (made n begun ws).given ≡ []
@@ -117,11 +117,11 @@ x_made_nothing n begun bytes =
     rw (ws.2) (made_nothing n begun (ws.0 ++ (ws.1 ++ 120 ∷ []) ∷ []) (x_no_item (codes "q") 1 ws.0 ws.1) (x_no_item (codes "r") 1 ws.0 ws.1) (x_no_limited (codes "n") 0 ws.0 ws.1) (x_no_limited (codes "t") 1 ws.0 ws.1)
     (x_no_item (codes "p") 1 ws.0 ws.1) (x_no_item (codes "s") 0 ws.0 ws.1))
 
--- an x ends what stands there, and the next line is unknown
+-- these bytes end the line with an x, and the line after it is unknown
 abbrev x_lines : List ℕ
 x_lines = 120 ∷ 10 ∷ 120 ∷ 10 ∷ []
 
--- no line feed stands there
+-- the bytes have no line feed
 abbrev IsOneLine : List ℕ → Type 0
 IsOneLine bytes = All (λ b. eqb b 10 ≡ false) bytes
 
@@ -130,7 +130,7 @@ x_lines_are bytes clear =
     ap lines (sym (append_assoc bytes (120 ∷ []) (10 ∷ 120 ∷ 10 ∷ [])))
     ∙ ap without_empty_last (slice_split_at (λ b. eqb b 10) (bytes ++ 120 ∷ []) 10 (120 ∷ 10 ∷ []) (All-append (λ b. eqb b 10 ≡ false) bytes (120 ∷ []) clear (one (λ b. eqb b 10 ≡ false) 120 refl)) refl)
 
--- so no request comes of these
+-- after such bytes no request follows
 x_told_nothing : (n line : ℕ) (begun : Begun) (bytes : List ℕ) → IsOneLine bytes → (told n line begun (lines (bytes ++ x_lines))).given ≡ []
 x_told_nothing n line begun bytes clear =
     ap (λ (all : List (List ℕ)). (told n line begun all).given) (x_lines_are bytes clear) ∙ at (text_fault n (line_after line) begun (bytes ++ 120 ∷ [])) refl

@@ -1,4 +1,4 @@
--- The text of an order and legs within the limits names them.
+-- The text of an order and legs within the limits names this order and these legs.
 use Rattle.std.proofs.Common.{◌≡◌, ℕ, zero, suc, ◌+◌, ◌-◌, ◌<◌, ◌≤◌, ◌&&◌, true, false, eqb, leb, ltb, List, [], ◌∷◌, ◌++◌, length, map, take, drop, get_or, Contains, Option, Some, None, refl, sym, ◌∙◌, ap, subst, arith, inl, inr}
 use Rattle.std.specs.Prelude.{codes, decimal, slice_get, option_map}
 use Rattle.std.specs.List.{filter_map, cons_option}
@@ -24,7 +24,7 @@ use Rattle.ch_read.proofs.OneAnswer.{at_end}
 use Rattle.ch_read.proofs.WrittenLines.{Line, IsPlainLine, line_of, text_of, lines_text, decimal_plain, number_decimal}
 use Rattle.ch_read.proofs.WrittenSaved.{middle_number, leg_numbers, heading_line, order_line, leg_line, saved_lines, IsLegWithin, AreWithin, plain_byte, plain_bytes, line_words, numbers_read, order_plain, leg_plain, order_item, leg_item, found_in, none_in, problem_clear, item_clear}
 
--- what is among the first is among all
+-- an element among the first ones is in the list
 contains_take : {X : Type 0} (k : ℕ) (xs : List X) (x : X) → Contains (take k xs) x → Contains xs x
 contains_take k xs x h = subst (λ q. Contains q x) (take-append-drop k xs) (Contains-append_left (take k xs) (drop k xs) x h)
 
@@ -41,7 +41,7 @@ module _ (n : ℕ) (s : OrderAndLegs) (is : AreWithin n s) where
   abbrev head : List ℕ
   head = line_of (heading_line (length s.order) (length s.legs))
 
-  -- the first line, and those of some nodes and legs
+  -- the first line, and then the lines of some nodes and legs
   abbrev body : List ℕ → List SavedLeg → List (List ℕ)
   body os ls = head ∷ (map order_of os ++ map leg_of ls)
 
@@ -63,12 +63,12 @@ module _ (n : ℕ) (s : OrderAndLegs) (is : AreWithin n s) where
       ap (option_map (heading_from (Saved n)))
       (numbers_read (decimal (length s.order) ∷ decimal (length s.legs) ∷ []) (length s.order ∷ length s.legs ∷ []) (number_decimal (length s.order) (omega arith), (number_decimal (length s.legs) (omega arith), tt)))
 
-  -- what it declares holds for all lines
+  -- the first line declares the heading of all lines
   heading_here : (xs : List (List ℕ)) → heading_in (Saved n) (head ∷ xs) ≡ Some declared
   heading_here xs = ap (λ o. slice_get (cons_option o (filter_map (λ line. heading (Saved n) (words line)) xs)) 0) (ap (heading (Saved n)) head_words ∙ head_numbers)
 
   module _ (os : List ℕ) (ls : List SavedLeg) (nodes : (v : ℕ) → Contains os v → v < n) (legs : (l : SavedLeg) → Contains ls l → IsLegWithin n l) where
-    -- the order has its numbers
+    -- the lines of the order have the numbers of its nodes
     first_in : items_in (Saved n) First (body os ls) ≡ map (λ v. (v + 1) ∷ []) os
     first_in =
         let p : List ℕ → Option (List ℕ) = λ line. item (Saved n) First (words line) in
@@ -77,7 +77,7 @@ module _ (n : ℕ) (s : OrderAndLegs) (is : AreWithin n s) where
         ap (λ o. cons_option o (filter_map p (map order_of os ++ map leg_of ls))) (ap (item (Saved n) First) head_words)
         ∙ filter_map-append p (map order_of os) (map leg_of ls) ∙ (λ i. orders i ++ none i) ∙ append-nil (map (λ v. (v + 1) ∷ []) os)
 
-    -- and the legs have theirs
+    -- the lines of the legs have their numbers
     second_in : items_in (Saved n) Second (body os ls) ≡ map leg_numbers ls
     second_in =
         let p : List ℕ → Option (List ℕ) = λ line. item (Saved n) Second (words line) in
@@ -86,7 +86,7 @@ module _ (n : ℕ) (s : OrderAndLegs) (is : AreWithin n s) where
         ap (λ o. cons_option o (filter_map p (map order_of os ++ map leg_of ls))) (ap (item (Saved n) Second) head_words)
         ∙ filter_map-append p (map order_of os) (map leg_of ls) ∙ (λ i. none i ++ found i)
 
-    -- the next node has no fault
+    -- the line of the next node has no fault
     order_clear : (v : ℕ) → v < n → length os < length s.order → line_fault (Saved n) (body os ls) (order_of v) ≡ None
     order_clear v lt few =
         let plain = order_plain n is.small v lt in
@@ -98,7 +98,7 @@ module _ (n : ℕ) (s : OrderAndLegs) (is : AreWithin n s) where
         ∙ item_clear (Saved n) First declared (length (items_in (Saved n) First (body os ls))) (item (Saved n) First (codes "o" ∷ (order_line v).1)) ((v + 1) ∷ []) (order_item n is.small v lt) (omega arith)
         (λ i. ((low i && high i) && true) && true) refl
 
-    -- nor has the next leg
+    -- the line of the next leg has no fault
     leg_clear : (l : SavedLeg) → IsLegWithin n l → length ls < length s.legs → line_fault (Saved n) (body os ls) (leg_of l) ≡ None
     leg_clear l within few =
         let plain = leg_plain n is.small l within in
@@ -173,7 +173,7 @@ module _ (n : ℕ) (s : OrderAndLegs) (is : AreWithin n s) where
       (λ i. line_fault (Saved n) (head ∷ before i) (here i))
       ∙ leg_clear s.order (take k s.legs) is.nodes (legs_first k) (get_or s.legs k no_leg) (is.legs (get_or s.legs k no_leg) (Contains-get_or s.legs k no_leg inside)) (omega arith)
 
-  -- the end has none
+  -- the end has no fault
   end_clear : end_fault (Saved n) all_lines ≡ None
   end_clear =
       let first : leb (length s.order) (length (items_in (Saved n) First (body s.order s.legs))) ≡ true =
@@ -186,11 +186,11 @@ module _ (n : ℕ) (s : OrderAndLegs) (is : AreWithin n s) where
   size_all : length all_lines ≡ suc (length s.order + length s.legs)
   size_all = ap suc (length-append (map order_of s.order) (map leg_of s.legs) ∙ (λ i. length-map s.order order_of i + length-map s.legs leg_of i))
 
-  -- the fault of a line, of those before it
+  -- the fault of a line is the one after the lines before it
   at_place : (i : ℕ) → i < length all_lines → fault_at (Saved n) all_lines i ≡ line_fault (Saved n) (take i all_lines) (get_or all_lines i [])
   at_place i lt = let within : ltb i (length all_lines) ≡ true = lt-ltb i (length all_lines) lt in rw within refl
 
-  -- so no line has one
+  -- no line has a fault
   all_clear : (i : ℕ) → i ≤ length all_lines → fault_at (Saved n) all_lines i ≡ None
   all_clear i le = elim (cases_lt i (length all_lines)) [
     | inl lt ↦ at_place i lt ∙ at i lt
@@ -220,7 +220,7 @@ module _ (n : ℕ) (s : OrderAndLegs) (is : AreWithin n s) where
         ]
       ]
 
-  -- and names the order and the legs
+  -- the text names the order and the legs
   pub reads_back : NamesSaved (text_of (saved_lines s)) n s
   reads_back = record {
     accepted = subst (λ all. (i : ℕ) → i ≤ length all → fault_at (Saved n) all i ≡ None) (sym text_lines) all_clear;

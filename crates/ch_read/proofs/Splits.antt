@@ -11,7 +11,7 @@ use Rattle.std.proofs.lemmas.List.Folds.{prefix_len-append}
 use Rattle.std.proofs.lemmas.List.Sums.{passes_at_first, fails_before_first, prefix_len-le-length}
 use Rattle.ch_read.specs.Words.{lines, words, is_word, is_blank, without_empty_last}
 
--- a list that is cut at its first element that passes
+-- a list that is cut at the first element with p
 module _ (p : ℕ → Bool) where
   pub split_at : (xs : List ℕ) (i : ℕ) → position p xs ≡ Some i → (i < length xs) × (p (get_or xs i 0) ≡ true) × (slice_split p xs ≡ take i xs ∷ slice_split p (drop (i + 1) xs))
   split_at xs i e =
@@ -32,7 +32,7 @@ module _ (p : ℕ → Bool) where
   pub split_none : (xs : List ℕ) → position p xs ≡ None → slice_split p xs ≡ xs ∷ []
   split_none xs e = let past = none_passes xs e in slice_split_none p xs (λ k d lt. fails_before_first p xs k d (omega arith))
 
--- the first element that passes, after a front where none does
+-- the place of the first element with p, after a front without one
 module _ (p : ℕ → Bool) (front back : List ℕ) (none : position p front ≡ None) where
   past_front : position_or_len p (front ++ back) ≡ length front + position_or_len p back
   past_front =
@@ -59,7 +59,7 @@ module _ (p : ℕ → Bool) (front back : List ℕ) (none : position p front ≡
       let outside : ltb (position_or_len p (front ++ back)) (length (front ++ back)) ≡ false = grind (arith, nat_tests) in
       rw outside refl
 
--- a list whose first elements were searched, and none of them passes
+-- a list whose first elements were searched, and none of them has p
 module _ (p : ℕ → Bool) (xs : List ℕ) (searched : ℕ) (inside : searched ≤ length xs) (none : position p (take searched xs) ≡ None) where
   pub found_after : (i : ℕ) → position p (drop searched xs) ≡ Some i → position p xs ≡ Some (searched + i)
   found_after i e =
@@ -83,7 +83,7 @@ line_to_feed xs i e =
     ap without_empty_last (split_at (λ b. eqb b 10) xs i e).2 ∙ line_before (take i xs) (slice_split (λ b. eqb b 10) rest) some
     ∙ ap (λ (more : List ℕ). take i xs ∷ lines more) (sym (take_rest xs (i + 1)))
 
--- without a line feed all is one line
+-- bytes without a line feed are one line
 pub line_to_end : (xs : List ℕ) → position (λ b. eqb b 10) xs ≡ None → 0 < length xs → lines xs ≡ xs ∷ []
 line_to_end xs e some = ap without_empty_last (split_none (λ b. eqb b 10) xs e) ∙ alone xs some
   where

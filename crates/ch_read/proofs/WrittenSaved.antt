@@ -1,4 +1,4 @@
--- The lines of a saved hierarchy that is within the limits have no fault, and name it.
+-- The lines of a saved hierarchy within the limits have no fault, and name it.
 use Rattle.std.proofs.Common.{◌≡◌, ℕ, ◌+◌, ◌<◌, ◌≤◌, ◌^◌, true, false, List, [], ◌∷◌, ◌++◌, length, map, Contains, Option, Some, None, refl, ◌∙◌, ap, arith}
 use Rattle.std.specs.Prelude.{⊤, codes, decimal, is_some, option_map}
 use Rattle.std.specs.List.{filter_map, cons_option}
@@ -42,7 +42,7 @@ order_line v = (codes "o", decimal (v + 1) ∷ [])
 abbrev pub leg_line : SavedLeg → Line
 leg_line l = (codes "l", decimal (l.from + 1) ∷ decimal (l.to + 1) ∷ decimal l.cost.weight ∷ decimal l.cost.arcs ∷ middle_word l.middle ∷ [])
 
--- how many nodes and legs there are, the order, the legs
+-- the lines: the numbers of nodes and legs, then the order, then the legs
 abbrev pub saved_lines : OrderAndLegs → List Line
 saved_lines s = heading_line (length s.order) (length s.legs) ∷ (map order_line s.order ++ map leg_line s.legs)
 
@@ -109,7 +109,7 @@ module _ (n : ℕ) (small : n ≤ MOST_NODES) where
         (decimal_plain (l.from + 1) (fits l.from is.from), (decimal_plain (l.to + 1) (fits l.to is.to), (decimal_plain l.cost.weight (omega arith), (decimal_plain l.cost.arcs (omega arith), (middle_plain l.middle is.middle, tt))))),
       )
 
-  -- and their numbers
+  -- the numbers of the lines of the order
   pub order_item : (v : ℕ) → v < n → item (Saved n) First (codes "o" ∷ (order_line v).1) ≡ Some ((v + 1) ∷ [])
   order_item v lt = numbers_read (order_line v).1 ((v + 1) ∷ []) (number_decimal (v + 1) (fits v lt), tt)
 
@@ -122,7 +122,7 @@ module _ (n : ℕ) (small : n ≤ MOST_NODES) where
         (number_decimal (l.to + 1) (fits l.to is.to), (number_decimal l.cost.weight (omega arith), (number_decimal l.cost.arcs (omega arith), (middle_read l.middle is.middle, tt)))),
       )
 
--- what is found in lines that all hold something, and in those that hold nothing
+-- the values of lines that each have one, and of lines that have none
 module _ {X Y : Type 0} (f : X → List ℕ) (p : List ℕ → Option Y) where
   pub found_in : (q : X → Y) (xs : List X) → ((x : X) → Contains xs x → p (f x) ≡ Some (q x)) → filter_map p (map f xs) ≡ map q xs
   found_in q [] each = refl

@@ -1,4 +1,4 @@
--- What a reader answers.
+-- The results of a reader.
 use Rattle.std.specs.Prelude.{◌≡◌, ℕ, ◌⊎◌, List, Result, Ok, Err, Vec}
 use Rattle.ch_read.specs.declared.fault.ReadFault.{ReadFault}
 use Rattle.ch_read.specs.declared.fault.ReadError.{ReadError}
@@ -6,11 +6,11 @@ use Rattle.ch_read.specs.declared.fault.ReadError.TheVariants.{NoMemory}
 use Rattle.ch_read.specs.declared.form.Form.{Form}
 use Rattle.ch_read.specs.Checks.{IsFault}
 
--- the result is this answer exactly where P holds, memory aside
+-- if the result is this answer, P holds; if P holds, the result is this answer or memory ran out
 abbrev pub AnswersWhere : {A : Type 0} → Result A ReadError → Result A ReadError → Type 0 → Type 0
 AnswersWhere result answer P = (result ≡ answer → P) × (P → (result ≡ answer) ⊎ (result ≡ Err NoMemory))
 
--- a result that has a vector, seen by the vector's items
+-- a result with a vector, as one with the items of the vector
 abbrev pub seen_by_items : {A Z : Type 0} → Result (Vec A Z) ReadError → Result (List A) ReadError
 seen_by_items (Ok v) = Ok v.items
 seen_by_items (Err e) = Err e

@@ -1,4 +1,4 @@
--- The checks of each line in their order, and the first that fails.
+-- The checks of each line in their order, and the first check that fails.
 use Rattle.std.specs.Prelude.{◌≡◌, ℕ, ◌+◌, ◌*◌, ◌-◌, ◌<◌, ◌≤◌, ◌==◌, ◌&&◌, nat_lt, nat_le, Bool, true, false, if◌then◌else◌, List, [], ◌∷◌, length, take, slice_index, slice_index_or, Option, Some, None, is_some, is_none, codes}
 use Rattle.std.specs.List.{list_all}
 use Rattle.std.specs.Option.{option_map_or}
@@ -26,7 +26,7 @@ is_size (Saved n) h = h.nodes == n && nat_le h.items.second MOST_LEGS
 abbrev pub is_node : ℕ → ℕ → Bool
 is_node nodes v = nat_le 1 v && nat_le v nodes
 
--- the middle of a leg is a node, or 0 where there is none; other items have no middle
+-- the middle of a leg is a node, or 0 if there is none; other items have no middle
 abbrev pub is_middle : Form → Part → ℕ → List ℕ → Bool
 is_middle Graph part nodes ns = true
 is_middle (Queries n) part nodes ns = true
@@ -47,7 +47,7 @@ is_weight (Nodes n) part nodes ns = true
 is_weight (Saved n) First nodes ns = true
 is_weight (Saved n) Second nodes ns = nat_le (slice_index ns 2) MOST_WEIGHT && nat_le (slice_index ns 3) MOST_NODES
 
--- comments, whose first word begins with `c`, and lines without words
+-- a comment, whose first word begins with `c`, or a line without words
 abbrev pub is_skipped : List (List ℕ) → Bool
 is_skipped [] = true
 is_skipped (w ∷ ws) = slice_index w 0 == 99
@@ -56,7 +56,7 @@ abbrev pub begins_with : List (List ℕ) → List ℕ → Bool
 begins_with [] word = false
 begins_with (w ∷ ws) word = bytes_eq w word
 
--- a check, and the kind of fault where it fails
+-- a check, and the kind of fault if it fails
 abbrev pub Check : Type 0
 Check = Bool × FaultKind
 
@@ -64,11 +64,11 @@ abbrev pub first_failing : List Check → Option FaultKind
 first_failing [] = None
 first_failing (c ∷ checks) = if c.0 then first_failing checks else Some c.1
 
--- whether there is a value, and it passes the test
+-- whether there is a value that passes the test
 abbrev pub passes : {A : Type 0} → (A → Bool) → Option A → Bool
 passes test o = option_map_or test o false
 
--- the checks of a problem line, where this heading was seen before it or none
+-- the checks of a problem line, after this heading or none
 abbrev pub problem_checks : Form → Option Heading → List (List ℕ) → List Check
 problem_checks form seen ws =
     (is_none seen, SecondProblem)
@@ -76,8 +76,8 @@ problem_checks form seen ws =
     ∷ (passes (is_size form) (heading form ws), Size)
     ∷ []
 
--- the checks of an item line of this part, where this heading and so many items of the part were seen
--- before it, and these are its numbers, if it has the words that it must have
+-- the checks of an item line of this part, after this heading or none and this number of items of the part; `numbers`
+-- are its numbers, if it has the words of its form
 abbrev pub item_checks : Form → Part → Option Heading → ℕ → Option (List ℕ) → List Check
 item_checks form part seen count numbers =
     (is_some seen, NoProblem)
@@ -91,7 +91,7 @@ item_checks form part seen count numbers =
 abbrev pub begins_item : Form → Part → List (List ℕ) → Bool
 begins_item form part ws = passes (begins_with ws) (item_word form part)
 
--- the checks of a line of these words, where this heading and so many items were seen before it
+-- the checks of a line of these words, after this heading or none and these numbers of items
 abbrev pub line_checks : Form → Option Heading → Counts → List (List ℕ) → List Check
 line_checks form seen counts ws =
     if is_skipped ws then []
@@ -107,7 +107,7 @@ end_checks seen counts =
     ∷ (passes (λ h. nat_le h.items.first counts.first && nat_le h.items.second counts.second) seen, TooFew)
     ∷ []
 
--- the fault of this line, judged from the lines before it
+-- the fault of this line, after these lines before it
 abbrev pub line_fault : Form → List (List ℕ) → List ℕ → Option FaultKind
 line_fault form before line =
     first_failing (line_checks form (heading_in form before) (counts_in form before) (words line))
@@ -116,16 +116,16 @@ line_fault form before line =
 abbrev pub end_fault : Form → List (List ℕ) → Option FaultKind
 end_fault form all = first_failing (end_checks (heading_in form all) (counts_in form all))
 
--- the fault of the line at place i, or that after the last line
+-- the fault of the line at place i, or the fault after the last line
 abbrev pub fault_at : Form → List (List ℕ) → ℕ → Option FaultKind
 fault_at form all i =
     if nat_lt i (length all) then line_fault form (take i all) (slice_index_or all i []) else end_fault form all
 
--- no line has a fault, nor has the end
+-- neither a line nor the end has a fault
 abbrev pub IsAccepted : Form → List ℕ → Type 0
 IsAccepted form bytes = (i : ℕ) → i ≤ length (lines bytes) → fault_at form (lines bytes) i ≡ None
 
--- the first line that has a fault, counted from 1 and the end as one more line, has one of this kind
+-- the first line with a fault has this number and this kind; lines count from 1, and the end is one more line
 pub record IsFault (form : Form) (bytes : List ℕ) (line : ℕ) (kind : FaultKind) : Type 0 where
   pub counted : (0 < line) × (line ≤ length (lines bytes) + 1)
   pub kind_is : fault_at form (lines bytes) (line - 1) ≡ Some kind

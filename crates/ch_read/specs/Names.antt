@@ -22,7 +22,7 @@ pair_from ns = (slice_index ns 0 - 1, slice_index ns 1 - 1)
 abbrev pub node_from : List ℕ → ℕ
 node_from ns = slice_index ns 0 - 1
 
--- the node of this number, where 0 stands for none
+-- the node of this number, or `None` for 0
 abbrev pub node_or_none : ℕ → Option ℕ
 node_or_none v = if v == 0 then None else Some (v - 1)
 

@@ -1,4 +1,4 @@
--- What the reader knows of one line.
+-- The clauses on one line.
 use Rattle.std.specs.Prelude.{◌≡◌, ℕ, ◌-◌, ◌^◌, ◌<◌, ◌≤◌, true, List, [], length, map, min, replicate, ◌++◌, slice_index, Option, Some, None, All, ⊤}
 use Rattle.ch_read.specs.declared.fault.FaultKind.{FaultKind}
 use Rattle.ch_read.specs.declared.form.Form.{Form}
@@ -20,15 +20,15 @@ use Rattle.ch_read.specs.declared.fault.ReadError.TheVariants.{Fault, NoMemory}
 abbrev pub greatest : ℕ
 greatest = 2 ^ 64 - 1
 
--- a number as a word of 64 bits: past the limits every value is as good as the greatest
+-- a number as a word of 64 bits: all values past it are past the limits, and become the greatest
 abbrev pub capped_number : ℕ → ℕ
 capped_number n = min n greatest
 
--- the first of the checks to fail answers this kind
+-- the first check that fails has this kind of fault
 abbrev pub Fails : List Check → FaultKind → Type 0
 Fails checks kind = first_failing checks ≡ Some kind
 
--- there are numbers, and the five values are these, capped, and then zeros
+-- there are numbers, and the five values are these numbers, capped, and then zeros
 abbrev pub AreCapped : Option (List ℕ) → List ℕ → Type 0
 AreCapped numbers values = (ns : List ℕ) × (numbers ≡ Some ns) × (values ≡ map capped_number ns ++ replicate (5 - length ns) 0)
 
@@ -36,7 +36,7 @@ AreCapped numbers values = (ns : List ℕ) × (numbers ≡ Some ns) × (values �
 abbrev pub IsOther : List (List ℕ) → List (List ℕ) → Type 0
 IsOther front ws = (more : List (List ℕ)) (count : ℕ) → numbers_after (front ++ more) count ws ≡ None
 
--- the words begin with these, and then come the rest
+-- the words are these and then the rest
 abbrev pub IsAfter : List (List ℕ) → List (List ℕ) → List (List ℕ) → Type 0
 IsAfter front ws rest = (more : List (List ℕ)) (count : ℕ) → numbers_after (front ++ more) count ws ≡ numbers_after more count rest
 
@@ -51,19 +51,19 @@ item_from ns =
       middle = node_or_none (slice_index ns 4);
     }
 
--- the first problem line, which passes its checks and declares this
+-- the line is the first problem line, passes its checks, and declares this heading
 pub record IsProblem (form : Form) (seen : Option Heading) (ws : List (List ℕ)) (h : Heading) : Type 0 where
   pub first : seen ≡ None
   pub declares : heading form ws ≡ Some h
   pub size : is_size form h ≡ true
 
--- the numbers of an item are as many as they must be, and pass the checks on nodes and weight
+-- an item has as many numbers as its form, and they pass the checks on nodes and weight
 pub record IsItemWithin (form : Form) (part : Part) (nodes : ℕ) (ns : List ℕ) : Type 0 where
   pub long : length ns ≡ item_size form part
   pub nodes_are : are_nodes form part nodes ns ≡ true
   pub weight_is : is_weight form part nodes ns ≡ true
 
--- an item of this part, which passes its checks and has these numbers
+-- the line is an item of this part, passes its checks, and has these numbers
 pub record IsItem (form : Form) (part : Part) (seen : Option Heading) (count : ℕ) (numbers : Option (List ℕ)) (i : Item) : Type 0 where
   pub declared : Heading
   pub seen_is : seen ≡ Some declared
@@ -77,7 +77,7 @@ pub record IsItem (form : Form) (part : Part) (seen : Option Heading) (count : �
 abbrev pub IsNoItem : Form → List (List ℕ) → Type 0
 IsNoItem form ws = (item form First ws ≡ None) × (item form Second ws ≡ None)
 
--- a line that passes its checks, and what it holds
+-- the line passes its checks, and has this content
 abbrev pub IsLine : Form → Option Heading → Counts → List (List ℕ) → Line → Type 0
 IsLine form seen counts ws Skipped =
     (first_failing (line_checks form seen counts ws) ≡ None) × (heading form ws ≡ None) × IsNoItem form ws
@@ -90,7 +90,7 @@ IsLine form seen counts ws (OfSecond i) =
     (first_failing (line_checks form seen counts ws) ≡ None) × (heading form ws ≡ None)
     × IsItem form Second seen counts.second (item form Second ws) i × (item form First ws ≡ None)
 
--- the end passes its checks, after this heading
+-- the end passes its checks, and this is the heading
 abbrev pub IsEnd : Option Heading → Counts → Heading → Type 0
 IsEnd seen counts h = (first_failing (end_checks seen counts) ≡ None) × (seen ≡ Some h)
 
@@ -99,23 +99,23 @@ pub record AreItemsWithin (form : Form) (part : Part) (h : Heading) (items : Lis
   pub few : length items ≤ count_of h.items part
   pub each : All (IsItemWithin form part h.nodes) items
 
--- what was read of some lines is within the limits
+-- the items that were read are within the limits
 abbrev pub IsWithin : Form → Option Heading → List (List ℕ) → List (List ℕ) → Type 0
 IsWithin form None first second = (first ≡ []) × (second ≡ [])
 IsWithin form (Some h) first second =
     (is_size form h ≡ true) × AreItemsWithin form First h first × AreItemsWithin form Second h second
 
--- the bytes are accepted, declare this, and are within the limits
+-- the bytes are accepted, declare this heading, and are within the limits
 pub record IsFile (form : Form) (bytes : List ℕ) (h : Heading) : Type 0 where
   pub accepted : IsAccepted form bytes
   pub heading_is : heading_in form (lines bytes) ≡ Some h
   pub within : IsWithin form (Some h) (items_in form First (lines bytes)) (items_in form Second (lines bytes))
 
--- the values of the items of a part of some lines, where each item has the value that `of` gives
+-- the values of the items of a part of some lines; `of` gives the value of an item
 abbrev pub values_in : {T : Type 0} → (Item → T) → Form → Part → List (List ℕ) → List T
 values_in of form part all = map (λ ns. of (item_from ns)) (items_in form part all)
 
--- the error is the first fault of the bytes, or want of memory
+-- the error is the first fault of the bytes, or a lack of memory
 abbrev pub IsErrorOf : Form → List ℕ → ReadError → Type 0
 IsErrorOf form bytes (Fault f) = IsFault form bytes f.line f.kind
 IsErrorOf form bytes NoMemory = ⊤

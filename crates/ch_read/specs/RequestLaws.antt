@@ -1,4 +1,4 @@
--- The requests of a stream by its parts, and in turn.
+-- The requests of a stream that comes in parts, and of a reader that is fed and asked in turn.
 use Rattle.std.specs.Prelude.{◌≡◌, ℕ, ◌==◌, Bool, false, true, if◌then◌else◌, List, [], ◌∷◌, ◌++◌, Some, None, is_none}
 use Rattle.std.specs.List.{slice_split, flat_map}
 use Rattle.ch_read.specs.declared.request.Request.{Request}
@@ -6,7 +6,7 @@ use Rattle.ch_read.specs.declared.request_fault.RequestFault.{RequestFault}
 use Rattle.ch_read.specs.Words.{lines, words}
 use Rattle.ch_read.specs.Requests.{Begun, Told, Standing, after_these, line_after, made, nothing, stopping, text_fault, told, told_by, starting, fed, MayCome, Gives, HasGiven, IsUsedUp, IsStopped}
 
--- where some lines leave a reader: what they told, and the state for the next line
+-- the state of a reader after some lines: their requests and their fault, and the state for the next line
 pub record Went : Type 0 where
   pub told : Told
   pub line : ℕ
@@ -22,7 +22,7 @@ went n line begun (text ∷ more) =
     then went_on (made n begun (words text)).given (went n (line_after line) (made n begun (words text)).begun more)
     else record { told = stopping (text_fault n (line_after line) begun text); line = line; begun = begun }
 
--- what these lines tell after that: nothing where there was a fault
+-- the requests and the fault after more lines; after a fault there are no more
 abbrev pub and_then : ℕ → Went → List (List ℕ) → Told
 and_then n w more = if is_none w.told.fault then after_these w.told.given (told n w.line w.begun more) else w.told
 
@@ -36,18 +36,19 @@ last_of [] = []
 last_of (part ∷ []) = part
 last_of (part ∷ next ∷ parts) = last_of (next ∷ parts)
 
--- the lines that a line feed ends, and what stands after the last line feed
+-- the lines that end with a line feed, and the bytes after the last line feed
 abbrev pub ended_lines : List ℕ → List (List ℕ)
 ended_lines bytes = without_last (slice_split (λ b. b == 10) bytes)
 
 abbrev pub unended : List ℕ → List ℕ
 unended bytes = last_of (slice_split (λ b. b == 10) bytes)
 
--- where the lines that end in these bytes leave a reader
+-- the state of a reader after the lines that end in these bytes
 abbrev pub went_by : ℕ → List ℕ → Went
 went_by n bytes = went n 0 nothing (ended_lines bytes)
 
--- wherever bytes are cut: what they tell is what the lines that end in the first part tell, and then what is left of it tells with the second
+-- for each cut of the bytes: their requests and fault are those of the lines that end in the first part, and then those
+-- of the rest of the first part with the second
 abbrev pub AreToldByParts : Type 0
 AreToldByParts = (n : ℕ) (first second : List ℕ) → told_by n (first ++ second) ≡ and_then n (went_by n first) (lines (unended first ++ second))
 
@@ -61,27 +62,30 @@ bytes_of turns = flat_map (λ turn. turn.0) turns
 abbrev pub given_by : List Turn → List Request
 given_by turns = flat_map (λ turn. turn.1) turns
 
--- by these turns a reader goes from one standing to another
+-- these turns take a reader from one state to another
 abbrev pub GoesBy : List Turn → Standing → Standing → Type 0
 GoesBy [] old new = new ≡ old
 GoesBy (turn ∷ turns) old new = (next : Standing) × Gives false (fed old turn.0) next turn.1 × GoesBy turns next new
 
--- the requests that were given are the first that the bytes tell, and what they tell after these is ahead, whatever is yet to come
+-- for every continuation of the input: the requests that were given are the first requests of the bytes, and the others
+-- and the fault are ahead of the reader
 abbrev pub AreGivenInTurn : Type 0
 AreGivenInTurn = (n : ℕ) (turns : List Turn) (s : Standing) → GoesBy turns (starting n) s → HasGiven false n (bytes_of turns) s (given_by turns)
 
--- where the bytes have ended and all is used up, the requests that were given are all that the bytes tell
+-- when the input has ended and all is used up, the reader has given all requests of the bytes, and they have no fault
 abbrev pub AreGivenToTheEnd : Type 0
 AreGivenToTheEnd =
     (n : ℕ) (turns : List Turn) (s : Standing) → GoesBy turns (starting n) s → (new : Standing) (last : List Request) → Gives true s new last → IsUsedUp true new →
     told_by n (bytes_of turns) ≡ record { given = given_by turns ++ last; fault = None }
 
--- where a fault was met, the requests that were given are all before it, and the bytes tell that fault, whatever is yet to come
+-- for every continuation of the input: when a fault was met, the reader has given all requests before it, and the bytes
+-- have that fault
 abbrev pub AreGivenToTheFault : Type 0
 AreGivenToTheFault =
     (n : ℕ) (turns : List Turn) (s : Standing) → GoesBy turns (starting n) s → (ended : Bool) (new : Standing) (last : List Request) → Gives ended s new last → (fault : RequestFault) → IsStopped ended new fault →
     (more : List ℕ) → MayCome ended more → told_by n (bytes_of turns ++ more) ≡ record { given = given_by turns ++ last; fault = Some fault }
 
--- where no line is whole in what is pending, no request is held back: all were given that the lines tell that ended
+-- if no line is whole in the pending bytes, no request is held back: the reader has given all requests of the lines
+-- that ended
 abbrev pub AreNotHeldBack : Type 0
 AreNotHeldBack = (n : ℕ) (turns : List Turn) (s : Standing) → GoesBy turns (starting n) s → IsUsedUp false s → given_by turns ≡ (went_by n (bytes_of turns)).told.given

@@ -7,7 +7,7 @@ pub record TwoLists : Type 0 where
   pub targets : List ℕ
   pub within : Option ℕ
 
--- the places of near rows, and how many of them a row tells at most, if there is such a number
+-- the places of near rows, and the greatest number of them in a row, if there is one
 pub record PlaceList : Type 0 where
   pub nodes : List ℕ
   pub count : Option ℕ

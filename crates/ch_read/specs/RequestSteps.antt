@@ -1,4 +1,4 @@
--- What the reader of requests knows of one line.
+-- The clauses on one line of requests.
 use Rattle.std.specs.Prelude.{◌≡◌, ℕ, ◌*◌, ◌<◌, ◌≤◌, Bool, true, false, List, [], ◌∷◌, ◌++◌, length, drop, slice_get, slice_index, Option, Some, None, option_map, position, ◌==◌, All, ⊤}
 use Rattle.ch_graph.specs.declared.limits.TheConstants.{MOST_LISTED}
 use Rattle.ch_work.specs.declared.limits.TheConstants.{MOST_CELLS}
@@ -15,12 +15,13 @@ use Rattle.ch_read.specs.Words.{lines, words}
 use Rattle.ch_read.specs.Reading.{capped_number}
 use Rattle.ch_read.specs.Requests.{Begun, Standing, wanted, made, at_most_one, text_fault, line_after, MayCome, Gives, IsUsedUp, IsRequest}
 
--- places have no sources
+-- lists of places have no sources
 abbrev pub IsOf : Purpose → ℕ → Type 0
 IsOf (ForTable within) sources = ⊤
 IsOf (ForPlaces count) sources = sources ≡ 0
 
--- a request that is begun on a graph of n nodes: no more nodes than it wants, and lists within the limits
+-- a request that is begun on a graph of n nodes: it has at most as many nodes as it wants, and its lists are within the
+-- limits
 pub record IsBegun (n : ℕ) (begun : Begun) : Type 0 where
   pub listed : All (λ v. v < n) begun.listed
   pub few : length begun.listed ≤ wanted begun
@@ -28,13 +29,13 @@ pub record IsBegun (n : ℕ) (begun : Begun) : Type 0 where
   pub cells : begun.sources * begun.targets ≤ MOST_CELLS
   pub purpose : IsOf begun.purpose begun.sources
 
--- the first two of the numbers, and the one at this place as a limit, where one stands there; each capped
+-- the first two of the numbers, and the number at this place as a limit, if there is one; each is capped
 abbrev pub IsLimited : ℕ → Option (List ℕ) → Limited → Type 0
 IsLimited place numbers limited =
     (ns : List ℕ) × (numbers ≡ Some ns) × (limited.first ≡ capped_number (slice_index ns 0)) × (limited.second ≡ capped_number (slice_index ns 1))
     × (limited.within ≡ option_map capped_number (slice_get ns place))
 
--- there is no fault, and of the numbers this value is made
+-- there is no fault, and the numbers give this value
 abbrev pub PassesAs : {A : Type 0} → Option RequestFault → Option (List ℕ) → (List ℕ → A) → A → Type 0
 PassesAs fault numbers from value = (fault ≡ None) × (ns : List ℕ) × (numbers ≡ Some ns) × (value ≡ from ns)
 
@@ -42,17 +43,17 @@ PassesAs fault numbers from value = (fault ≡ None) × (ns : List ℕ) × (numb
 abbrev pub FailsAs : Option RequestFault → RequestFault → Type 0
 FailsAs fault is = fault ≡ Some is
 
--- a line has no fault, and makes this request or none
+-- the line has no fault, and completes this request or none
 abbrev pub Makes : ℕ → ℕ → Begun → Begun → List ℕ → Option Request → Type 0
 Makes n line old new text given =
     (text_fault n line old text ≡ None) × (made n old (words text) ≡ record { given = at_most_one given; begun = new })
 
--- the error is this fault, or want of memory
+-- the error is this fault, or a lack of memory
 abbrev pub IsLineError : Option RequestFault → RequestError → Type 0
 IsLineError fault (Fault is) = fault ≡ Some is
 IsLineError fault NoMemory = ⊤
 
--- a line and how many bytes it takes, whatever may come; or no line is there
+-- for every continuation of the input: the first line is `text`, and takes this number of bytes; or no line is whole
 abbrev pub IsLineAhead : Bool → List ℕ → List ℕ → ℕ → Type 0
 IsLineAhead ended bytes text taken =
     ((more : List ℕ) → MayCome ended more → lines (bytes ++ more) ≡ text ∷ lines (drop taken bytes ++ more)) × (0 < taken) × (taken ≤ length bytes)
@@ -61,11 +62,11 @@ abbrev pub HasNoLine : Bool → List ℕ → Type 0
 HasNoLine false bytes = position (λ b. b == 10) bytes ≡ None
 HasNoLine true bytes = bytes ≡ []
 
--- after a line of so many bytes, which left this begun
+-- the state after a line of `taken` bytes, with this request begun
 abbrev pub advanced : Standing → Begun → ℕ → Standing
 advanced s begun taken = record { nodes = s.nodes; line = line_after s.line; begun = begun; pending = drop taken s.pending }
 
--- what one line gave: it makes nothing that is whole, or this request; or there was no line
+-- the result of one line: it completed no request, or this one; or there was no whole line
 abbrev pub IsStep : Bool → Standing → Standing → Step → Type 0
 IsStep ended old new Quiet = Gives ended old new [] × (length new.pending < length old.pending)
 IsStep ended old new (Given r) = Gives ended old new (r ∷ [])

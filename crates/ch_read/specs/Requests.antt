@@ -1,4 +1,5 @@
--- The requests of a stream: queries, tables with their lists, places and near rows, each as soon as it is whole.
+-- The requests of a stream: queries, tables with their lists, places and near rows. Each is given as soon as it is
+-- whole.
 use Rattle.std.specs.Prelude.{◌≡◌, ℕ, ◌+◌, ◌*◌, ◌<◌, ◌≤◌, nat_le, Bool, true, false, ◌&&◌, if◌then◌else◌, List, [], ◌∷◌, ◌++◌, length, take, drop, slice_index, slice_get, ◌==◌, Option, Some, None, is_some, is_none, option_map, codes, All, position, ⊤}
 use Rattle.std.specs.Option.{option_map_or, option_or}
 use Rattle.ch_graph.specs.declared.limits.TheConstants.{MOST_LISTED, MOST_WEIGHT}
@@ -23,8 +24,8 @@ use Rattle.ch_read.specs.Checks.{Check, passes, is_node, is_skipped, begins_with
 use Rattle.ch_read.specs.Names.{pair_from, node_from}
 use Rattle.ch_read.specs.Reading.{capped_number}
 
--- a request whose lists are read: what they are for, how many sources and targets it has, and the nodes listed so far, sources
--- first. Places are targets without sources
+-- a request whose lists are being read: their purpose, the numbers of sources and targets, and the nodes listed so far,
+-- sources first; places are targets without sources
 pub record Begun : Type 0 where
   pub purpose : Purpose
   pub sources : ℕ
@@ -35,15 +36,15 @@ pub record Begun : Type 0 where
 abbrev pub nothing : Begun
 nothing = record { purpose = ForTable None; sources = 0; targets = 0; listed = [] }
 
--- how many nodes its lists have
+-- the number of nodes in its lists
 abbrev pub wanted : Begun → ℕ
 wanted begun = begun.sources + begun.targets
 
--- all that was begun has its nodes
+-- the lists have all their nodes
 abbrev pub is_whole : Begun → Bool
 is_whole begun = nat_le (wanted begun) (length begun.listed)
 
--- the numbers of a line of exactly these words and so many numbers, after which a limit may stand
+-- the numbers of a line of exactly these words and `count` numbers, and then possibly a limit
 abbrev pub numbers_and_limit : List (List ℕ) → ℕ → List (List ℕ) → Option (List ℕ)
 numbers_and_limit front count ws = option_or (numbers_after front count ws) (numbers_after front (count + 1) ws)
 
@@ -63,24 +64,25 @@ places_numbers ws = numbers_after (codes "p" ∷ []) 2 ws
 abbrev pub near_numbers : List (List ℕ) → Option (List ℕ)
 near_numbers ws = numbers_and_limit (codes "n" ∷ []) 1 ws
 
--- a limit that is not past the greatest distance, where there is one
+-- the limit is at most the greatest distance, or there is none
 abbrev pub is_limit : Option ℕ → Bool
 is_limit None = true
 is_limit (Some most) = nat_le most MOST_WEIGHT
 
--- two numbers within the limit of a list: the sizes of two lists, or the size of a list and how many of it are told
+-- two numbers within the limit of a list: the sizes of two lists, or the number of places and the number in a row
 abbrev pub are_listable : List ℕ → Bool
 are_listable ns = nat_le (slice_index ns 0) MOST_LISTED && nat_le (slice_index ns 1) MOST_LISTED
 
--- lists that don't make too many cells
+-- two lists that do not make too many cells
 abbrev pub are_few : List ℕ → Bool
 are_few ns = nat_le (slice_index ns 0 * slice_index ns 1) MOST_CELLS
 
--- a file that declares so many items on a graph of n nodes
+-- the heading of a file of `count` items on a graph of n nodes
 abbrev pub declaring : ℕ → ℕ → Option Heading
 declaring n count = Some (record { nodes = n; items = record { first = count; second = 0 } })
 
--- a request begins where all that was begun has its nodes; a query, with its route or without, is judged as the one item of a query file
+-- a request may begin if the lists before have all their nodes; a query, with its route or without, is judged as the
+-- only item of a query file
 abbrev pub query_checks : ℕ → Begun → Option (List ℕ) → List Check
 query_checks n begun numbers = (is_whole begun, TooFew) ∷ item_checks (Queries n) First (declaring n 1) 0 numbers
 
@@ -99,11 +101,11 @@ near_checks n begun numbers =
     ∷ (passes (λ ns. is_limit (slice_get ns 1)) numbers, Sum)
     ∷ []
 
--- a listed node is judged as the next item of a list of as many as are wanted
+-- a listed node is judged as the next item of a list with the wanted number of nodes
 abbrev pub listed_checks : ℕ → Begun → Option (List ℕ) → List Check
 listed_checks n begun numbers = item_checks (Nodes n) First (declaring n (wanted begun)) (length begun.listed) numbers
 
--- the first of the checks of this line to fail
+-- the fault of the first check of this line that fails
 abbrev pub failing_at : ℕ → List Check → Option RequestFault
 failing_at line checks = option_map (λ kind. Line (record { line = line; kind = kind })) (first_failing checks)
 
@@ -111,7 +113,7 @@ failing_at line checks = option_map (λ kind. Line (record { line = line; kind =
 abbrev pub table_fault : ℕ → Begun → Option (List ℕ) → Option RequestFault
 table_fault line begun numbers = option_or (failing_at line (table_checks begun numbers)) (if passes are_few numbers then None else Some (Cells line))
 
--- the fault of this line, which has these words, on a graph of n nodes, where this was begun before it
+-- the fault of a line of these words on a graph of n nodes, after this was begun
 abbrev pub request_fault : ℕ → ℕ → Begun → List (List ℕ) → Option RequestFault
 request_fault n line begun ws =
     if is_skipped ws then None
@@ -123,16 +125,16 @@ request_fault n line begun ws =
     else if begins_with ws (codes "s") then failing_at line (listed_checks n begun (item (Nodes n) First ws))
     else failing_at line ((false, UnknownLine) ∷ [])
 
--- the fault of this line, comments included: one of more bytes than a line may have is bad whatever its words are
+-- the fault of this line, also of a comment: a line of too many bytes is bad, with any words
 abbrev pub text_fault : ℕ → ℕ → Begun → List ℕ → Option RequestFault
 text_fault n line begun text =
     if nat_le (length text) MOST_LINE then request_fault n line begun (words text) else failing_at line ((false, BadLine) ∷ [])
 
--- the fault of the end, counted as one more line: what was begun and is not whole has too few
+-- the fault of the end, which counts as one more line: lists that do not have all their nodes have too few
 abbrev pub end_of_requests : ℕ → Begun → Option RequestFault
 end_of_requests line begun = failing_at line ((is_whole begun, TooFew) ∷ [])
 
--- what a line makes: the requests that are whole with it, and what is begun after it
+-- the result of a line: the requests that it completes, and the request that is begun after it
 pub record Made : Type 0 where
   pub given : List Request
   pub begun : Begun
@@ -145,7 +147,7 @@ abbrev pub request_for : Purpose → ℕ → List ℕ → Request
 request_for (ForTable within) sources listed = Table (record { sources = take sources listed; targets = drop sources listed; within = within })
 request_for (ForPlaces count) sources listed = Places (record { nodes = listed; count = count })
 
--- what was begun is given as soon as it has its nodes
+-- the request that is begun is given as soon as it has its nodes
 abbrev pub request_of : Begun → Request
 request_of begun = request_for begun.purpose begun.sources begun.listed
 
@@ -165,22 +167,22 @@ near_from ns = (node_from ns, slice_get ns 1)
 abbrev pub row_from : ℕ × Option ℕ → Request
 row_from near = Near near.0 near.1
 
--- a table of K sources and L targets, within R, if that is there
+-- a table of K sources and L targets, within R if there is an R
 abbrev pub table_from : List ℕ → Begun
 table_from ns = record { purpose = ForTable (slice_get ns 2); sources = slice_index ns 0; targets = slice_index ns 1; listed = [] }
 
--- a number of targets, where 0 stands for all
+-- a number of places, or `None` for 0, which stands for all
 abbrev pub count_or_all : ℕ → Option ℕ
 count_or_all k = if k == 0 then None else Some k
 
--- L places, of which K are told
+-- L places, with K in a row
 abbrev pub places_from : List ℕ → Begun
 places_from ns = record { purpose = ForPlaces (count_or_all (slice_index ns 1)); sources = 0; targets = slice_index ns 0; listed = [] }
 
 abbrev pub with_node : Begun → ℕ → Begun
 with_node begun node = record { purpose = begun.purpose; sources = begun.sources; targets = begun.targets; listed = begun.listed ++ node ∷ [] }
 
--- what a line of these words makes, where it has no fault
+-- the result of a line of these words, if it has no fault
 abbrev pub made : ℕ → Begun → List (List ℕ) → Made
 made n begun ws =
     if is_skipped ws then none_made begun
@@ -191,7 +193,8 @@ made n begun ws =
     else if begins_with ws (codes "p") then option_map_or (λ ns. settled (places_from ns)) (places_numbers ws) (none_made begun)
     else option_map_or (λ ns. settled (with_node begun (node_from ns))) (item (Nodes n) First ws) (none_made begun)
 
--- what bytes tell: the requests that are whole before the first fault, and that fault, if there is one
+-- the requests and the fault of some bytes: the requests that are whole before the first fault, and that fault, if
+-- there is one
 pub record Told : Type 0 where
   pub given : List Request
   pub fault : Option RequestFault
@@ -202,11 +205,11 @@ after_these first told = record { given = first ++ told.given; fault = told.faul
 abbrev pub stopping : Option RequestFault → Told
 stopping fault = record { given = []; fault = fault }
 
--- lines count from 1, as far as 64 bits go
+-- the number of the next line; lines count from 1, up to the greatest number of 64 bits
 abbrev pub line_after : ℕ → ℕ
 line_after line = capped_number (line + 1)
 
--- what these lines tell, after so many lines that left this begun
+-- the requests and the fault of these lines, after `line` lines and with this request begun
 abbrev pub told : ℕ → ℕ → Begun → List (List ℕ) → Told
 told n line begun [] = stopping (end_of_requests (line_after line) begun)
 told n line begun (text ∷ more) =
@@ -218,59 +221,62 @@ told n line begun (text ∷ more) =
 abbrev pub told_by : ℕ → List ℕ → Told
 told_by n bytes = told n 0 nothing (lines bytes)
 
--- where a reader stands: after so many lines, which left this begun, with these bytes of the next
+-- the state of a reader: the number of lines that were read, the request that they began, and the bytes after them
 pub record Standing : Type 0 where
   pub nodes : ℕ
   pub line : ℕ
   pub begun : Begun
   pub pending : List ℕ
 
--- a reader that was fed nothing
+-- the state of a reader that was fed nothing
 abbrev pub starting : ℕ → Standing
 starting n = record { nodes = n; line = 0; begun = nothing; pending = [] }
 
--- these bytes come after those that are pending
+-- the state after these bytes were fed: they come after the pending ones
 abbrev pub fed : Standing → List ℕ → Standing
 fed s bytes = record { nodes = s.nodes; line = s.line; begun = s.begun; pending = s.pending ++ bytes }
 
--- what is still to be told, where these bytes are yet to come
+-- the requests and the fault that are ahead, if these bytes follow
 abbrev pub ahead : Standing → List ℕ → Told
 ahead s more = told s.nodes s.line s.begun (lines (s.pending ++ more))
 
--- nothing comes after the end
+-- after the end of the input nothing follows
 abbrev pub MayCome : Bool → List ℕ → Type 0
 MayCome ended more = ended ≡ true → more ≡ []
 
--- the reader gave these requests, and what was ahead of it is they and what is ahead now, whatever is yet to come
+-- for every continuation of the input: the requests and the fault that were ahead are these requests and then those
+-- that are ahead now
 abbrev pub Gives : Bool → Standing → Standing → List Request → Type 0
 Gives ended old new given = (more : List ℕ) → MayCome ended more → ahead old more ≡ after_these given (ahead new more)
 
--- the bytes so far tell the requests that were given, and then what is ahead of the reader, whatever is yet to come
+-- for every continuation of the input: the requests and the fault of the bytes so far are the requests that were given
+-- and then those that are ahead
 abbrev pub HasGiven : Bool → ℕ → List ℕ → Standing → List Request → Type 0
 HasGiven ended n bytes s given = (more : List ℕ) → MayCome ended more → told_by n (bytes ++ more) ≡ after_these given (ahead s more)
 
--- no line is whole in these bytes, which are no more than those of a line; at the end no byte is left, and nothing is begun
+-- no line is whole in the pending bytes, which are at most as many as a line may have; at the end no byte is left, and
+-- the lists have all their nodes
 abbrev pub IsUsedUp : Bool → Standing → Type 0
 IsUsedUp false s = (position (λ b. b == 10) s.pending ≡ None) × (length s.pending ≤ MOST_LINE)
 IsUsedUp true s = (s.pending ≡ []) × (end_of_requests (line_after s.line) s.begun ≡ None)
 
--- this fault comes next, and no request before it
+-- this fault is next, with no request before it
 abbrev pub IsStopped : Bool → Standing → RequestFault → Type 0
 IsStopped ended old fault = (more : List ℕ) → MayCome ended more → ahead old more ≡ record { given = []; fault = Some fault }
 
--- the error is the fault that comes next, or want of memory
+-- the error is the next fault, or a lack of memory
 abbrev pub IsErrorAhead : Bool → Standing → RequestError → Type 0
 IsErrorAhead ended old (Fault fault) = IsStopped ended old fault
 IsErrorAhead ended old NoMemory = ⊤
 
--- lists of the nodes within the limits, which don't make too many cells
+-- lists of nodes of the graph, within the limits, that do not make too many cells
 pub record AreTwoLists (n : ℕ) (lists : TwoLists) : Type 0 where
   pub sources : All (λ v. v < n) lists.sources
   pub targets : All (λ v. v < n) lists.targets
   pub sizes : (length lists.sources ≤ MOST_LISTED) × (length lists.targets ≤ MOST_LISTED)
   pub cells : length lists.sources * length lists.targets ≤ MOST_CELLS
 
--- places of the nodes, within the limit of a list
+-- places at nodes of the graph, within the limit of a list
 pub record ArePlaces (n : ℕ) (places : PlaceList) : Type 0 where
   pub each : All (λ v. v < n) places.nodes
   pub size : length places.nodes ≤ MOST_LISTED
@@ -288,7 +294,7 @@ abbrev pub at_most_one : Option Request → List Request
 at_most_one None = []
 at_most_one (Some r) = r ∷ []
 
--- each request that was given is one on a graph of n nodes
+-- the request that was given, if any, is one on a graph of n nodes
 abbrev pub IsGiven : ℕ → Option Request → Type 0
 IsGiven n None = ⊤
 IsGiven n (Some r) = IsRequest n r

@@ -4,13 +4,13 @@ use Rattle.std.specs.List.{slice_split}
 use Rattle.std.specs.Str.{all_ascii_digits}
 use Rattle.std.specs.Str.Parse.{digits_value}
 
--- no line follows a last line feed
+-- the parts without an empty last one, because no line follows a last line feed
 abbrev pub without_empty_last : List (List ℕ) → List (List ℕ)
 without_empty_last [] = []
 without_empty_last (part ∷ []) = if length part == 0 then [] else part ∷ []
 without_empty_last (part ∷ next ∷ parts) = part ∷ without_empty_last (next ∷ parts)
 
--- what stands between line feeds
+-- the lines are the parts between line feeds
 abbrev pub lines : List ℕ → List (List ℕ)
 lines bytes = without_empty_last (slice_split (λ b. b == 10) bytes)
 
@@ -21,7 +21,7 @@ is_blank b = b == 32 || b == 9 || b == 13 || b == 10
 abbrev pub is_word : List ℕ → Bool
 is_word part = not (length part == 0)
 
--- what stands between blanks
+-- the words are the parts between blanks, without empty ones
 abbrev pub words : List ℕ → List (List ℕ)
 words line = filter is_word (slice_split is_blank line)
 

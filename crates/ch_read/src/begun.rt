@@ -1,4 +1,4 @@
-//! The request that is begun.
+//! The request whose lists are being read.
 ghost use Rattle.std.specs.Prelude.{◌≡◌, ◌≤◌, [], None, length, OnErr, OnOk};
 ghost use Rattle.ch_graph.specs.declared.limits.TheConstants.{MOST_LISTED};
 ghost use Rattle.ch_read.specs.Requests.{at_most_one, is_whole, nothing, request_for, settled, wanted, with_node};
@@ -8,16 +8,17 @@ use std::alloc::{AllocFailed, Global};
 use std::marker::Model;
 use std::mem;
 
-/// What lists are read for.
+/// The purpose of the lists that are being read.
 #[derive(Clone, Copy, Debug, PartialEq, Eq)]
 pub(crate) enum Purpose {
-    /// A table, within a limit of its own, if it has one.
+    /// A table, with its own limit, if it has one.
     Table(Option<u64>),
-    /// Places, of which near rows tell at most so many, or all.
+    /// Places, with the greatest number of them in a near row, or `None` for all.
     Places(Option<u32>),
 }
 
-/// A request whose lists are read, or none. Contracts see what they are for, their sizes and the nodes listed so far.
+/// A request whose lists are being read, or none. Contracts see the purpose of the lists, their sizes, and the
+/// nodes listed so far.
 #[derive(Drop)]
 pub(crate) struct BegunLists {
     purpose: Purpose,
@@ -39,7 +40,7 @@ impl Model for BegunLists {
 }
 
 impl BegunLists {
-    /// No request.
+    /// Makes a value with no request.
     pub(crate) fn none(alloc: Global) -> BegunLists
         ensures { result ≡ nothing }
     {
@@ -51,28 +52,28 @@ impl BegunLists {
         }
     }
 
-    /// How many nodes its lists have.
+    /// Returns the number of nodes in its lists.
     pub(crate) fn wanted(&self) -> u64
         ensures { result ≡ wanted self.now }
     {
         self.sources + self.targets
     }
 
-    /// How many nodes are listed.
+    /// Returns the number of nodes listed so far.
     pub(crate) fn count(&self) -> u64
         ensures { result ≡ length self.now.listed }
     {
         self.listed.len() as u64
     }
 
-    /// Whether all that was begun has its nodes.
+    /// Whether the lists have all their nodes.
     pub(crate) fn is_whole(&self) -> bool
         ensures { result ≡ is_whole self.now }
     {
         self.wanted() <= self.count()
     }
 
-    /// Begins a request of so many sources and targets, where none is begun.
+    /// Begins a request with lists of these sizes. The nodes listed before are dropped.
     pub(crate) fn begin(&mut self, purpose: Purpose, sources: u64, targets: u64)
         requires { (sources ≤ MOST_LISTED) × (targets ≤ MOST_LISTED) }
         ensures { self.new ≡ record { purpose = purpose; sources = sources; targets = targets; listed = [] } }
@@ -91,7 +92,8 @@ impl BegunLists {
         self.listed.push(node)
     }
 
-    /// The request, where it has its nodes: none is begun then.
+    /// Returns the request if it has all its nodes, and `None` otherwise. After a request is returned, none is
+    /// begun.
     pub(crate) fn settle(&mut self, alloc: Global) -> Option<Request>
         requires { length self.old.listed ≤ wanted self.old }
         ensures { settled self.old ≡ record { given = at_most_one result; begun = self.new } }
@@ -109,7 +111,7 @@ impl BegunLists {
     }
 }
 
-/// The request of these lists.
+/// Makes the request of these lists.
 fn request_for(purpose: Purpose, sources: usize, listed: Vec<u32>) -> Request
     requires { sources ≤ length listed.items }
     ensures { result ≡ request_for purpose sources listed.items }

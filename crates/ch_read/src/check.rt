@@ -13,7 +13,7 @@ use crate::lines::split_word;
 use crate::number::{MOST_NUMBERS, numbers_of};
 use ch_graph::limits::{MOST_ARCS, MOST_LEGS, MOST_LISTED, MOST_NODES, MOST_QUERIES, MOST_WEIGHT};
 
-/// What a line that passes its checks holds.
+/// The content of a line that passes its checks.
 #[derive(Drop)]
 pub enum Line {
     /// No word, or a comment.
@@ -25,7 +25,8 @@ pub enum Line {
     Second(Item),
 }
 
-/// Judges a line, where this heading and so many items came before it.
+/// Judges a line. `seen` is the heading before it, if there is one, and `counts` are the numbers of items
+/// before it.
 pub fn check_line(
     form: Form,
     seen: Option<Heading>,
@@ -53,7 +54,8 @@ pub fn check_line(
     Err(FaultKind::UnknownLine)
 }
 
-/// Judges the end of a file, where this heading and so many items came before it.
+/// Judges the end of a file. `seen` is the heading of the file, if there is one, and `counts` are its numbers
+/// of items.
 pub fn check_end(seen: Option<Heading>, counts: Counts) -> Result<Heading, FaultKind>
     ensures { MatchResult result (IsEnd seen counts) (Fails (end_checks seen counts)) }
 {
@@ -73,7 +75,7 @@ pub(crate) fn is_letter(word: &[u8], letter: u8) -> bool
     word.len() == 1 && word[0] == letter
 }
 
-/// Whether a line whose first word is this is an item of the part.
+/// Whether this is the first word of the items of the part.
 fn is_item_word(form: Form, part: Part, word: &[u8]) -> bool
     ensures { result ≡ passes (bytes_eq word.now) (item_word form part) }
 {
@@ -97,7 +99,7 @@ fn check_problem(form: Form, seen: Option<Heading>, rest: &[u8]) -> Result<Headi
     heading_of(form, &values).ok_or(FaultKind::Size)
 }
 
-/// The numbers of a problem line after its `p`.
+/// Returns the numbers of a problem line from the text after its `p`.
 fn problem_numbers(form: Form, rest: &[u8]) -> Option<[u64; MOST_NUMBERS]>
     ensures { let numbers = numbers_after (problem_words form) (problem_size form) (words rest.now) in
         MatchOption result (numbers ≡ None) (AreCapped numbers) }
@@ -105,7 +107,7 @@ fn problem_numbers(form: Form, rest: &[u8]) -> Option<[u64; MOST_NUMBERS]>
     numbers_of(after_problem_words(form, rest)?, form.problem_size())
 }
 
-/// What follows the words of a problem line after its `p`.
+/// Returns the text after the words of a problem line, from the text after its `p`.
 fn after_problem_words(form: Form, rest: &[u8]) -> Option<&[u8]>
     ensures { let front = problem_words form in
         let ws = words rest.now in
@@ -119,7 +121,7 @@ fn after_problem_words(form: Form, rest: &[u8]) -> Option<&[u8]>
     }
 }
 
-/// What follows the words that query files and lists have in common.
+/// Returns the text after the words that query files and lists have in common.
 fn after_auxiliary(rest: &[u8]) -> Option<&[u8]>
     ensures { let front = codes "aux" ∷ codes "sp" ∷ [] in
         let ws = words rest.now in
@@ -128,7 +130,7 @@ fn after_auxiliary(rest: &[u8]) -> Option<&[u8]>
     after_word(after_word(rest, b"aux")?, b"sp")
 }
 
-/// What follows the first word, where it is this word.
+/// Returns the text after the first word if it is this word, and `None` otherwise.
 fn after_word<'a>(text: &'a [u8], word: &[u8]) -> Option<&'a [u8]>
     ensures { let front = word.now ∷ [] in
         let ws = words text.now in
@@ -138,7 +140,7 @@ fn after_word<'a>(text: &'a [u8], word: &[u8]) -> Option<&'a [u8]>
     if first == word { Some(rest) } else { None }
 }
 
-/// What a problem line of these numbers declares, where it is within the limits.
+/// Returns the heading of a problem line with these numbers, or `None` if it is not within the limits.
 fn heading_of(form: Form, values: &[u64; MOST_NUMBERS]) -> Option<Heading>
     ensures { let declared = heading_from form values.now in
         MatchOption result (is_size form declared ≡ false)
@@ -159,7 +161,7 @@ fn heading_of(form: Form, values: &[u64; MOST_NUMBERS]) -> Option<Heading>
     }
 }
 
-/// Judges the rest of an item line after its letter, where so many items of its part came before it.
+/// Judges the rest of an item line after its letter. `count` is the number of items of its part before it.
 pub(crate) fn check_item(
     form: Form,
     part: Part,
@@ -189,7 +191,7 @@ pub(crate) fn check_item(
     Ok(item_of(&values))
 }
 
-/// Whether each node of an item is from 1 to the number of nodes, and a middle that is not 0 as well.
+/// Whether each node of an item is from 1 to the number of nodes. A middle may be 0 too.
 fn are_in_range(form: Form, part: Part, nodes: u32, values: &[u64; MOST_NUMBERS]) -> bool
     ensures { result ≡ are_nodes form part nodes values.now }
 {
@@ -233,7 +235,7 @@ fn is_light(form: Form, part: Part, nodes: u32, values: &[u64; MOST_NUMBERS]) ->
     }
 }
 
-/// The item of these numbers. What an item of its part does not have is 0 among them.
+/// Makes the item of these numbers. A number that the item does not have is 0 among them.
 fn item_of(values: &[u64; MOST_NUMBERS]) -> Item
     requires first { slice_index values.now 0 < 2 ^ 32 }
     requires second { slice_index values.now 1 < 2 ^ 32 }

@@ -1,4 +1,4 @@
-//! What is wrong with a file, and its text.
+//! The faults of files, and their texts.
 ghost use Rattle.std.specs.Prelude.{◌≡◌, Some};
 ghost use Rattle.ch_read.specs.declared.fault.ReadError.TheVariants as ReadError;
 ghost use Rattle.ch_read.specs.Text.{kind_text, fault_text, error_text};
@@ -7,25 +7,25 @@ use std::alloc::AllocFailed;
 use std::error::Error;
 use std::fmt;
 
-/// What is wrong with a line, or with the end of a file.
+/// The kind of a fault of a line, or of the end of a file.
 #[derive(Clone, Copy, Debug, PartialEq, Eq)]
 pub enum FaultKind {
     /// The first word is neither `p` nor a letter of the file's items.
     UnknownLine,
-    /// A problem line has other words than it must have.
+    /// A problem line does not have the words of its form.
     BadProblem,
     /// A problem line comes after another.
     SecondProblem,
     /// An item, or the end, comes before any problem line.
     NoProblem,
-    /// An item has other words than it must have.
+    /// An item does not have the words of its form.
     BadLine,
-    /// A node is not from 1 to the number of nodes, or a middle is past it.
+    /// A node is not from 1 to the number of nodes, or a middle is above the number of nodes.
     NodeRange,
-    /// The number of nodes times the weight is more than 2^60, a leg weighs more or has more than 2^25
-    /// arcs, or the limit of a request is more than 2^60.
+    /// The number of nodes times the weight of an arc is more than 2^60, the weight of a leg is more than 2^60,
+    /// a leg has more than 2^25 arcs, or the limit of a request is more than 2^60.
     Sum,
-    /// A declared number is past its limit, or a hierarchy's nodes are not as many as its graph's.
+    /// A declared number is above its limit, or a hierarchy does not have as many nodes as its graph.
     Size,
     /// There are more items than declared.
     TooMany,
@@ -36,17 +36,17 @@ pub enum FaultKind {
 /// The first fault of a file, by the order of checks in this crate's documentation.
 #[derive(Clone, Copy, Debug, PartialEq, Eq)]
 pub struct ReadFault {
-    /// The line, counted from 1. At the end it is the number of lines and one.
+    /// The line, counted from 1. For the end of the file it is the number of lines plus one.
     pub line: u64,
     pub kind: FaultKind,
 }
 
-/// Why a reader has no value.
+/// The reason why a reader has no value.
 #[derive(Clone, Copy, Debug, PartialEq, Eq)]
 pub enum ReadError {
     /// The file has this fault.
     Fault(ReadFault),
-    /// There was no memory for the items before a fault was met.
+    /// There was no memory for the items, and no line up to there has a fault.
     NoMemory,
 }
 

@@ -1,8 +1,8 @@
-//! The kinds of file, what their problem lines declare, and their items.
+//! The kinds of file, the headings in their problem lines, and their items.
 ghost use Rattle.std.specs.Prelude.{◌≡◌, [], ◌∷◌, option_map};
 ghost use Rattle.ch_read.specs.Forms.{item_word, problem_size, item_size, node_count};
 
-/// A kind of file. All but graphs are read for a graph, whose number of nodes they hold here.
+/// A kind of file. All kinds except graphs are read for a graph, and hold its number of nodes here.
 #[derive(Clone, Copy, Debug, PartialEq, Eq)]
 pub enum Form {
     /// A graph: `p sp N M`, and M lines `a U V W`.
@@ -11,33 +11,34 @@ pub enum Form {
     Queries(u32),
     /// A list of nodes: `p aux sp ss K`, and K lines `s V`.
     Nodes(u32),
-    /// A saved hierarchy: `p ch N L`, and in any mixture N lines `o V` and L lines `l U V W A M`.
+    /// A saved hierarchy: `p ch N L`, and N lines `o V` and L lines `l U V W A M` in any mixture.
     Saved(u32),
 }
 
-/// Which of the two kinds of item of a file. Saved hierarchies alone have the second.
+/// The first or the second kind of item of a file. Only saved hierarchies have the second.
 #[derive(Clone, Copy, Debug, PartialEq, Eq)]
 pub enum Part {
     First,
     Second,
 }
 
-/// How many items there are of each part.
+/// The number of items of each part.
 #[derive(Clone, Copy, Debug, PartialEq, Eq)]
 pub struct Counts {
     pub first: u64,
     pub second: u64,
 }
 
-/// What a problem line declares: the number of nodes, which query files and lists have from their
-/// graph, and how many items of each part there are.
+/// The heading that a problem line declares: the number of nodes, and the number of items of each part. Query
+/// files and lists have the number of nodes of their graph.
 #[derive(Clone, Copy, Debug, PartialEq, Eq)]
 pub struct Heading {
     pub nodes: u32,
     pub items: Counts,
 }
 
-/// The numbers of an item line, its nodes numbered from 0. What an item does not have is 0 or `None`.
+/// The numbers of an item line, with nodes numbered from 0. A number that the item does not have is 0 or
+/// `None`.
 #[derive(Clone, Copy, Debug, PartialEq, Eq)]
 pub struct Item {
     pub first: u32,
@@ -48,7 +49,7 @@ pub struct Item {
 }
 
 impl Form {
-    /// The letter that the item lines of a part begin with, where the form has that part.
+    /// Returns the first letter of the item lines of a part, or `None` if the form does not have the part.
     pub(crate) fn item_letter(self, part: Part) -> Option<u8>
         ensures { item_word self part ≡ option_map (λ letter. letter ∷ []) result }
     {
@@ -64,7 +65,7 @@ impl Form {
         }
     }
 
-    /// How many numbers a problem line has.
+    /// Returns the number of numbers in a problem line.
     pub(crate) fn problem_size(self) -> usize
         ensures { result ≡ problem_size self }
     {
@@ -74,7 +75,7 @@ impl Form {
         }
     }
 
-    /// How many numbers an item line of a part has.
+    /// Returns the number of numbers in an item line of a part.
     pub(crate) fn item_size(self, part: Part) -> usize
         ensures { result ≡ item_size self part }
     {
@@ -86,7 +87,7 @@ impl Form {
         }
     }
 
-    /// How many of the numbers of a part's items are nodes that must be there. They stand first.
+    /// Returns the number of nodes that each item of a part must have. They come first among its numbers.
     pub(crate) fn node_count(self, part: Part) -> usize
         ensures { result ≡ node_count self part }
     {
@@ -100,7 +101,7 @@ impl Form {
 impl Counts {
     ghost use Rattle.ch_read.specs.Forms.{count_of};
 
-    /// So many of each part.
+    /// Makes the counts of both parts.
     pub(crate) fn new(first: usize, second: usize) -> Counts
         ensures { result ≡ record { first = first; second = second } }
     {
@@ -110,7 +111,7 @@ impl Counts {
         }
     }
 
-    /// The count of one part.
+    /// Returns the count of one part.
     pub(crate) fn of(self, part: Part) -> u64
         ensures { result ≡ count_of self part }
     {
@@ -122,7 +123,7 @@ impl Counts {
 }
 
 impl Heading {
-    /// So many nodes, and so many items of each part.
+    /// Makes a heading from the number of nodes and the number of items of each part.
     pub(crate) fn new(nodes: u32, first: u64, second: u64) -> Heading
         ensures { result ≡ record { nodes = nodes; items = record { first = first; second = second } } }
     {

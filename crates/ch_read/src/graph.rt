@@ -14,11 +14,11 @@ use ch_work::{Crew, Gate};
 use std::alloc::Global;
 use std::thread::Threads;
 
-/// The graph that the bytes of a `.gr` file name. The work is linear in the number of bytes, and room
-/// grows by the lines read, whatever the problem line declares.
+/// Reads the graph that the bytes of a `.gr` file name. The time is linear in the number of bytes. Memory grows
+/// with the lines that were read, and not with the numbers in the problem line.
 ///
 /// # Errors
-/// The first fault of the first faulty line, or `NoMemory` where there is no room for the arcs.
+/// The first fault of the first faulty line, or `NoMemory` if there is no memory for the arcs.
 pub fn read_graph(alloc: Global, bytes: &[u8]) -> Result<Graph, ReadError>
     ensures value { (g : Network) → AnswersWhere result (Ok g) (NamesGraph bytes.now g) }
     ensures fault { (f : FaultAt) →
@@ -28,10 +28,11 @@ pub fn read_graph(alloc: Global, bytes: &[u8]) -> Result<Graph, ReadError>
     Ok(Graph::from_judged(heading.nodes, arcs))
 }
 
-/// As [`read_graph`], by the workers of a crew, who share sections of the file. They pass no gate.
+/// Does the same as [`read_graph`] with the workers of a crew, which share sections of the file. They pass no
+/// gate.
 ///
 /// # Errors
-/// As those of [`read_graph`].
+/// The errors of [`read_graph`].
 pub fn read_graph_by<R: Threads + Sync, G: Gate>(
     crew: &Crew<'_, R, G>,
     bytes: &[u8],
@@ -43,10 +44,11 @@ pub fn read_graph_by<R: Threads + Sync, G: Gate>(
     read_graph_in_sections(crew, SECTION, bytes)
 }
 
-/// As [`read_graph_by`], in sections of more than `size` bytes each, but for the last. No answer depends on the size.
+/// Does the same as [`read_graph_by`] in sections of more than `size` bytes each, except the last. The result
+/// does not depend on the size.
 ///
 /// # Errors
-/// As those of [`read_graph`].
+/// The errors of [`read_graph`].
 pub fn read_graph_in_sections<R: Threads + Sync, G: Gate>(
     crew: &Crew<'_, R, G>,
     size: usize,

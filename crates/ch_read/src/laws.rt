@@ -1,4 +1,4 @@
-//! What holds of each list of bytes, whoever reads it.
+//! Laws on lists of bytes, for every reader.
 ghost use Rattle.std.specs.Prelude.{ℕ, List};
 ghost use Rattle.ch_read.specs.declared.form.Form.TheVariants as Form;
 ghost use Rattle.ch_read.specs.Answers.{HasOneAnswer};
@@ -13,14 +13,14 @@ pub fn one_answer()
     ensures saved { (bytes : List ℕ) (n : ℕ) → HasOneAnswer (NamesSaved bytes n) (Form.Saved n) bytes }
 {}
 
-/// Wherever a stream is cut, its requests and its fault are those of the lines that end in the first part, and then
-/// those of what is left of it with the second part.
+/// A stream may be cut anywhere. Its requests and its fault are those of the lines that end in the first part,
+/// and then those of the rest of the first part with the second part.
 pub fn requests_by_parts()
     ensures { AreToldByParts }
 {}
 
-/// Whatever a reader is fed and asked for in turn, it gives the requests that all its bytes tell, in order and each
-/// once: none is held back that is whole, all are given at the end, and before a fault all that come before it.
+/// A reader that is fed and asked in turn gives the requests of all its bytes, in order and each once. It holds
+/// no whole request back. At the end it has given all requests, and at a fault all requests before it.
 pub fn requests_whole_in_turn()
     ensures first { AreGivenInTurn }
     ensures whole { AreNotHeldBack }

@@ -1,16 +1,20 @@
-//! Readers of the four kinds of file, graphs, queries, lists of nodes, and saved hierarchies, and of requests whose
-//! bytes come in parts.
+//! Readers of the four kinds of file (graphs, queries, lists of nodes and saved hierarchies), and a reader of
+//! requests whose bytes come in parts.
 //!
-//! It stands on ch_graph and ch_work. From ch_graph it has graphs, arcs and hierarchies as data, from ch_work the limit on cells. Proved
-//! of it: memory aside, a reader answers the value that the bytes name, exactly where they name one, and the first
-//! fault of the first faulty line, exactly where there is one; each list of bytes names one value or has one fault,
-//! and not both. Workers who read a file in sections answer the same. What a [`RequestReader`] gives is what its bytes tell, however they are cut: each request as soon as
-//! its last line is whole, in order and each once, and then the first fault.
+//! It stands on ch_graph and ch_work. From ch_graph it has graphs, arcs and hierarchies as data, from ch_work
+//! the limit on cells and the crew. These statements are proved:
+//!
+//! - A reader returns a value exactly if the bytes name that value, unless memory runs out.
+//! - It returns a fault exactly if this is the first fault of the first faulty line, unless memory runs out.
+//! - Each list of bytes names one value or has one fault, and not both.
+//! - Workers that read a file in sections return the same.
+//! - A [`RequestReader`] gives the same requests however its bytes are cut. It gives each request once and in
+//!   order, as soon as its last line is whole. Then it returns the first fault.
 //!
 //! # The order of checks
 //!
-//! Lines without words, and those whose first word begins with `c`, are skipped. The others are judged
-//! in order, and the first line that fails a check decides, with the first check that it fails:
+//! A line is skipped if it has no word, or if its first word begins with `c`. The other lines are judged in
+//! order. The first line that fails a check decides, with the first check that it fails:
 //!
 //! | line | check | where it fails |
 //! |---|---|---|
@@ -30,17 +34,18 @@
 //!
 //! # Requests
 //!
-//! A stream of requests has these lines. Nodes are listed by lines `s V`, which follow the line that counts them.
+//! A stream of requests has these lines. Lines `s V` list nodes. They follow the line with their number.
 //!
 //! | line | what it asks for |
 //! |---|---|
 //! | `q S T` | a query |
 //! | `r S T` | a query with its route |
 //! | `t K L`, `t K L R` | a table of the next K listed nodes and then L, sources first; its own limit is R |
-//! | `p L K` | nothing: the next L listed nodes are the places of later near rows, of which K are told, or all where K is 0 |
+//! | `p L K` | nothing: the next L listed nodes are the places of later near rows, with K in a row, or all if K is 0 |
 //! | `n S`, `n S R` | the near row of S among the places that were given last; its own limit is R |
 //!
-//! Lines are skipped as in files, but none has more than [`MOST_LINE`] bytes. The others are judged in order:
+//! Lines are skipped as in files, but no line may have more than [`MOST_LINE`] bytes. The others are judged in
+//! order:
 //!
 //! | line | check | where it fails |
 //! |---|---|---|

@@ -3,14 +3,14 @@ ghost use Rattle.std.specs.Prelude.{◌≡◌, ◌<◌, ◌≤◌, ◌==◌, not
 ghost use Rattle.ch_read.specs.Words.{is_blank, lines, words};
 ghost use Rattle.ch_read.specs.RequestSteps.{HasNoLine, IsLineAhead};
 
-/// Where the first line feed stands.
+/// Returns the place of the first line feed.
 pub(crate) fn line_feed_at(bytes: &[u8]) -> Option<usize>
     ensures { result ≡ position (λ b. b == 10) bytes.now }
 {
     bytes.iter().position(|b| *b == b'\n')
 }
 
-/// The first line, and what follows it.
+/// Returns the first line, and the bytes after it.
 pub fn split_line(bytes: &[u8]) -> (&[u8], &[u8])
     requires { 0 < length bytes.now }
     ensures line { lines bytes.now ≡ result.0.now ∷ lines result.1.now }
@@ -22,28 +22,28 @@ pub fn split_line(bytes: &[u8]) -> (&[u8], &[u8])
     }
 }
 
-/// Whether the byte stands between words.
+/// Whether the byte is a blank, which separates words.
 fn blank(b: u8) -> bool
     ensures { result ≡ is_blank b }
 {
     b == b' ' || b == b'\t' || b == b'\r' || b == b'\n'
 }
 
-/// Where the first blank stands.
+/// Returns the place of the first blank.
 fn blank_at(text: &[u8]) -> Option<usize>
     ensures { result ≡ position is_blank text.now }
 {
     text.iter().position(|b| blank(*b))
 }
 
-/// Where the first word begins.
+/// Returns the place at which the first word begins.
 fn word_at(text: &[u8]) -> Option<usize>
     ensures { result ≡ position (λ b. not (is_blank b)) text.now }
 {
     text.iter().position(|b| !blank(*b))
 }
 
-/// The first word, and what follows it, where there is a word.
+/// Returns the first word and the bytes after it, or `None` if there is no word.
 pub fn split_word(text: &[u8]) -> Option<(&[u8], &[u8])>
     ensures { MatchOption result (words text.now ≡ [])
         (λ (word, rest). (words text.now ≡ word.now ∷ words rest.now) × (0 < length word.now)) }
@@ -56,7 +56,7 @@ pub fn split_word(text: &[u8]) -> Option<(&[u8], &[u8])>
     }
 }
 
-/// Where the first line feed stands, where none stands among the first so many bytes.
+/// Returns the place of the first line feed. The first `searched` bytes have none.
 fn line_feed_past(bytes: &[u8], searched: usize) -> Option<usize>
     requires inside { searched ≤ length bytes.now }
     requires none { position (λ b. b == 10) (take searched bytes.now) ≡ None }
@@ -66,8 +66,9 @@ fn line_feed_past(bytes: &[u8], searched: usize) -> Option<usize>
     Some(searched + at)
 }
 
-/// The first line and how many bytes it takes, where one is whole; at the end the last line needs no line feed.
-/// The first so many bytes are known to have no line feed, and are not searched again.
+/// Returns the first line and the number of its bytes with its line feed, or `None` if no line is whole. At the
+/// end of the input the last line needs no line feed. The first `searched` bytes have no line feed, and are not
+/// searched again.
 pub fn line_ahead(bytes: &[u8], searched: usize, ended: bool) -> Option<(&[u8], usize)>
     requires inside { searched ≤ length bytes.now }
     requires none { position (λ b. b == 10) (take searched bytes.now) ≡ None }

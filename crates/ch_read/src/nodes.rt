@@ -11,11 +11,11 @@ use crate::form::{Form, Item};
 use crate::reader::{FromItem, read_items};
 use std::alloc::Global;
 
-/// The nodes that the bytes of a `.ss` file name, of a graph of `n` nodes, numbered from 0. The work is
-/// linear in the number of bytes, and room grows by the lines read.
+/// Reads the nodes that the bytes of a `.ss` file name, on a graph of `n` nodes. They are numbered from 0. The
+/// time is linear in the number of bytes, and memory grows with the lines that were read.
 ///
 /// # Errors
-/// The first fault of the first faulty line, or `NoMemory` where there is no room for the nodes.
+/// The first fault of the first faulty line, or `NoMemory` if there is no memory for the nodes.
 pub fn read_nodes(alloc: Global, bytes: &[u8], n: u32) -> Result<Vec<u32>, ReadError>
     ensures value { (nodes : List ℕ) →
         AnswersWhere (seen_by_items result) (Ok nodes) (NamesNodes bytes.now n nodes) }

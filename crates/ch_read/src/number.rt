@@ -9,7 +9,7 @@ use crate::lines::split_word;
 /// The most numbers that a line has.
 pub const MOST_NUMBERS: usize = 5;
 
-/// The value of a word of digits, of any length. A value past `u64` is past each limit, and is read as
+/// Returns the value of a word of digits of any length. A value past `u64` is past each limit, and is read as
 /// the greatest `u64`.
 pub fn number_of(word: &[u8]) -> Option<u64>
     requires { 0 < length word.now }
@@ -27,7 +27,8 @@ pub fn number_of(word: &[u8]) -> Option<u64>
     Some(value)
 }
 
-/// The values of the words, where there are exactly `count`, and each is a number.
+/// Returns the values of the words and then zeros, or `None` unless there are exactly `count` words and each is
+/// a number.
 pub fn numbers_of(text: &[u8], count: usize) -> Option<[u64; MOST_NUMBERS]>
     requires { count ≤ 5 }
     ensures { let numbers = numbers_after [] count (words text.now) in

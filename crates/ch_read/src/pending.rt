@@ -1,4 +1,4 @@
-//! The bytes of a stream that were not read yet.
+//! The bytes of a stream that the reader has not read yet.
 ghost use Rattle.std.specs.Prelude.{◌≡◌, ◌<◌, ◌≤◌, ◌↔◌, ◌*◌, ◌++◌, [], None, ◌==◌, length, take, drop, position, vec_len, IsTrue, MatchOption, OnErr, OnOk};
 ghost use Rattle.ch_read.specs.RequestSteps.{HasNoLine, IsLineAhead};
 
@@ -7,13 +7,13 @@ use crate::request::MOST_LINE;
 use std::alloc::{AllocError, Global};
 use std::marker::Model;
 
-/// Bytes of which no whole line was read yet. Contracts see these bytes.
+/// The bytes after the last line that was read. Contracts see these bytes.
 #[derive(Drop)]
 pub(crate) struct Pending {
     bytes: Vec<u8>,
-    // how many of the bytes belong to lines that were read
+    // the number of bytes of lines that were read
     start: usize,
-    // how many of the bytes after these were searched, and no line feed found
+    // the number of bytes after these that were searched and have no line feed
     searched: usize,
 }
 
@@ -29,7 +29,7 @@ impl Model for Pending {
 }
 
 impl Pending {
-    /// No bytes.
+    /// Makes a value without bytes.
     pub(crate) fn new(alloc: Global) -> Pending
         ensures { result ≡ [] }
     {
@@ -40,7 +40,7 @@ impl Pending {
         }
     }
 
-    /// Puts these bytes after the others.
+    /// Appends these bytes.
     pub(crate) fn extend(&mut self, bytes: &[u8]) -> Result<(), AllocError>
         ensures extended { OnOk result (self.new ≡ self.old ++ bytes.now) }
         ensures same { OnErr result (self.new ≡ self.old) }
@@ -49,7 +49,8 @@ impl Pending {
         self.bytes.extend_from_slice(bytes)
     }
 
-    /// The first line and how many bytes it takes, where one is whole; at the end the last line needs no line feed.
+    /// Returns the first line and the number of its bytes with its line feed, or `None` if no line is whole. At
+    /// the end of the input the last line needs no line feed.
     pub(crate) fn line(&self, ended: bool) -> Option<(&[u8], usize)>
         ensures { MatchOption result (HasNoLine ended self.now) (λ (text, taken). IsLineAhead ended self.now text.now taken) }
     {
@@ -63,7 +64,7 @@ impl Pending {
         self.bytes.len() - self.start > MOST_LINE
     }
 
-    /// Remembers that no line feed is here, so that these bytes are not searched again when more have come.
+    /// Remembers that these bytes have no line feed. They are not searched again when more bytes have come.
     pub(crate) fn note_searched(&mut self)
         requires { position (λ b. b == 10) self.old ≡ None }
         ensures { self.new ≡ self.old }
@@ -71,7 +72,7 @@ impl Pending {
         self.searched = self.bytes.len() - self.start;
     }
 
-    /// Goes past the first so many bytes.
+    /// Goes past the first `taken` bytes.
     pub(crate) fn advance(&mut self, taken: usize)
         requires { taken ≤ length self.old }
         ensures { self.new ≡ drop taken self.old }
@@ -81,9 +82,9 @@ impl Pending {
     }
 }
 
-/// Lets go of the first so many bytes where they are at least half of all, and says how many of the first are still
-/// to be passed over. So at most twice as many bytes are kept as are still to be read, and no more are moved
-/// than are let go of.
+/// Drops the first `start` bytes if they are at least half of all. Returns the number of bytes at the front
+/// that are still to be skipped. That is why at most twice as many bytes are kept as are still to be read, and
+/// a call moves at most as many bytes as it drops.
 fn forget(bytes: &mut Vec<u8>, start: usize) -> usize
     requires { start ≤ vec_len bytes.old }
     ensures same { drop result bytes.new.items ≡ drop start bytes.old.items }

@@ -11,11 +11,11 @@ use crate::form::{Form, Item};
 use crate::reader::{FromItem, read_items};
 use std::alloc::Global;
 
-/// The queries that the bytes of a `.p2p` file name: pairs of nodes of a graph of `n` nodes, numbered
-/// from 0. The work is linear in the number of bytes, and room grows by the lines read.
+/// Reads the queries that the bytes of a `.p2p` file name: pairs of nodes of a graph of `n` nodes, which are
+/// numbered from 0. The time is linear in the number of bytes, and memory grows with the lines that were read.
 ///
 /// # Errors
-/// The first fault of the first faulty line, or `NoMemory` where there is no room for the pairs.
+/// The first fault of the first faulty line, or `NoMemory` if there is no memory for the pairs.
 pub fn read_queries(alloc: Global, bytes: &[u8], n: u32) -> Result<Vec<(u32, u32)>, ReadError>
     ensures value { (pairs : List (ℕ × ℕ)) →
         AnswersWhere (seen_by_items result) (Ok pairs) (NamesQueries bytes.now n pairs) }

@@ -26,18 +26,18 @@ impl FromItem for () {
     fn from_item(_item: Item) {}
 }
 
-/// What some lines hold.
+/// The content of some lines.
 #[derive(Drop)]
 pub(crate) struct Content<A, B> {
-    /// How many lines there are.
+    /// The number of lines.
     pub(crate) lines: u64,
-    /// What was declared before the lines or is declared in them.
+    /// The heading that was declared before the lines, or in them.
     pub(crate) seen: Option<Heading>,
     pub(crate) first: Vec<A>,
     pub(crate) second: Vec<B>,
 }
 
-/// What the lines hold, where this was declared before them, or nothing was.
+/// Reads the content of the lines. `begun` is the heading that was declared before them, or `None`.
 pub(crate) fn read_lines<A: FromItem, B: FromItem>(
     alloc: Global,
     form: Form,
@@ -75,7 +75,7 @@ pub(crate) fn read_lines<A: FromItem, B: FromItem>(
     })
 }
 
-/// What a file declares, and the items of its two parts in the order of their lines. A file without a
+/// Reads the heading of a file, and the items of its two parts in the order of their lines. A file without a
 /// second part is read with `()` for `B`.
 pub fn read_items<A: FromItem, B: FromItem>(
     alloc: Global,

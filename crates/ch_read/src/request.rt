@@ -2,10 +2,10 @@
 
 use std::marker::Model;
 
-/// The most bytes of a line of requests, its line feed not counted.
+/// The greatest number of bytes in a line of requests, without its line feed.
 pub const MOST_LINE: usize = 65_536;
 
-/// What is asked of a graph.
+/// A request on a graph.
 #[derive(Debug, Drop)]
 pub enum Request {
     /// The distance from the first node to the second.
@@ -14,13 +14,13 @@ pub enum Request {
     Route(u32, u32),
     /// The distances from each source to each target.
     Table(TableLists),
-    /// The places that later near rows tell of. It tells nothing itself.
+    /// The places for later near rows. The request has no answer of its own.
     Places(NearPlaces),
-    /// Of the places that were given last, those that are nearest to the node, within a limit of its own, if it has one.
+    /// The near row of the node, over the places that were given last. It has a limit of its own, or none.
     Near(u32, Option<u64>),
 }
 
-/// The sources and the targets of a table, and a limit of its own, if it has one.
+/// The sources and the targets of a table, and its own limit, if it has one.
 #[derive(Debug, Drop)]
 pub struct TableLists {
     listed: Vec<u32>,
@@ -42,7 +42,7 @@ impl Model for TableLists {
 impl TableLists {
     ghost use Rattle.std.specs.Prelude.{◌≡◌, ◌≤◌, take, drop, length, vec_len};
 
-    /// The first so many of the nodes as sources, and the others as targets.
+    /// Makes the lists of a table: the first `sources` nodes are the sources, and the others the targets.
     pub(crate) fn new(listed: Vec<u32>, sources: usize, within: Option<u64>) -> TableLists
         requires { sources ≤ vec_len listed }
         ensures { result ≡ record { sources = take sources listed.items; targets = drop sources listed.items; within = within } }
@@ -54,21 +54,21 @@ impl TableLists {
         }
     }
 
-    /// The sources.
+    /// Returns the sources.
     pub fn sources(&self) -> &[u32]
         ensures { result.now ≡ self.now.sources }
     {
         &self.listed[..self.sources]
     }
 
-    /// The targets.
+    /// Returns the targets.
     pub fn targets(&self) -> &[u32]
         ensures { result.now ≡ self.now.targets }
     {
         &self.listed[self.sources..]
     }
 
-    /// The greatest distance that the table tells, where its request names one.
+    /// Returns the greatest distance that the table writes, if its request names one.
     pub fn within(&self) -> Option<u64>
         ensures { result ≡ self.now.within }
     {
@@ -76,7 +76,7 @@ impl TableLists {
     }
 }
 
-/// Places, and how many of them a near row tells at most, if there is such a number.
+/// Places, and the greatest number of them in a near row, if there is one.
 #[derive(Debug, Drop)]
 pub struct NearPlaces {
     nodes: Vec<u32>,
@@ -94,21 +94,21 @@ impl Model for NearPlaces {
 impl NearPlaces {
     ghost use Rattle.std.specs.Prelude.{◌≡◌};
 
-    /// These places, of which a row tells at most so many, or all.
+    /// Makes places of these nodes. A near row has at most `count` of them, or all if `count` is `None`.
     pub(crate) fn new(nodes: Vec<u32>, count: Option<u32>) -> NearPlaces
         ensures { result ≡ record { nodes = nodes.items; count = count } }
     {
         NearPlaces { nodes, count }
     }
 
-    /// The nodes of the places.
+    /// Returns the nodes of the places.
     pub fn nodes(&self) -> &[u32]
         ensures { result.now ≡ self.now.nodes }
     {
         &self.nodes
     }
 
-    /// How many places a row tells at most, or none where it tells all.
+    /// Returns the greatest number of places in a near row, or `None` if a row has all of them.
     pub fn count(&self) -> Option<u32>
         ensures { result ≡ self.now.count }
     {

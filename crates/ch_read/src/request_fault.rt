@@ -1,4 +1,4 @@
-//! What is wrong with a stream of requests, and its text.
+//! The faults of streams of requests, and their texts.
 ghost use Rattle.std.specs.Prelude.{◌≡◌, Some};
 ghost use Rattle.ch_read.specs.declared.request_fault.RequestError.TheVariants as RequestError;
 ghost use Rattle.ch_read.specs.RequestText.{request_error_text, request_fault_text};
@@ -17,12 +17,12 @@ pub enum RequestFault {
     Cells(u64),
 }
 
-/// Why a reader of requests gives none.
+/// The reason why a reader of requests gives no request.
 #[derive(Clone, Copy, Debug, PartialEq, Eq)]
 pub enum RequestError {
-    /// The stream has this fault next.
+    /// The next thing in the stream is this fault.
     Fault(RequestFault),
-    /// There was no memory for a node of a table.
+    /// There was no memory for a listed node.
     NoMemory,
 }
 

@@ -1,4 +1,4 @@
-//! The checks of a line of a stream of requests, and what it makes.
+//! The checks of a line of requests, and its result.
 ghost use Rattle.std.specs.Prelude.{◌≡◌, ◌<◌, ◌≤◌, ◌+◌, ◌*◌, ℕ, [], None, length, IfOk, MatchOption, OnErr, MatchResult};
 ghost use Rattle.ch_read.specs.declared.request_fault.RequestFault.TheVariants as RequestFault;
 ghost use Rattle.ch_read.specs.Words.{words};
@@ -19,7 +19,7 @@ use ch_graph::limits::{MOST_LISTED, MOST_WEIGHT};
 use ch_work::limits::MOST_CELLS;
 use std::alloc::Global;
 
-/// Judges a line, and makes what it makes.
+/// Judges a line. Returns the request that it completes, if any, and updates the request that is begun.
 pub(crate) fn read_line(
     alloc: Global,
     nodes: u32,
@@ -66,7 +66,7 @@ pub(crate) fn read_line(
     Ok(begun.settle(alloc))
 }
 
-/// A fault of this kind at a line.
+/// Makes a fault of this kind at a line.
 pub(crate) fn fault_at(line: u64, kind: FaultKind) -> RequestFault
     ensures { result ≡ RequestFault.Line (record { line = line; kind = kind }) }
 {
@@ -95,7 +95,7 @@ fn check_query(
     }
 }
 
-/// Judges the rest of a line after its `n`: the node, and the limit, if there is one.
+/// Judges the rest of a line after its `n`. Returns the node, and the limit if there is one.
 fn check_near(
     nodes: u32,
     line: u64,
@@ -172,7 +172,7 @@ fn begin_places(line: u64, begun: &mut BegunLists, rest: &[u8]) -> Result<(), Re
     Ok(())
 }
 
-/// How many places are told at most, where 0 stands for all.
+/// Returns the greatest number of places in a near row, or `None` for 0, which stands for all.
 fn count_or_all(count: u32) -> Option<u32>
     ensures { result ≡ count_or_all count }
 {
@@ -193,16 +193,17 @@ fn check_listed(nodes: u32, line: u64, begun: &BegunLists, rest: &[u8]) -> Resul
     }
 }
 
-/// One number or two of a line, and the limit that stands after them, if there is one.
+/// One or two numbers of a line, and the limit after them, if there is one.
 #[derive(Clone, Copy, Debug, PartialEq, Eq)]
 struct Limited {
     first: u64,
-    /// The second, or what stands in its place: the limit or 0.
+    /// The second number. If the line has only one number, it is the limit or 0.
     second: u64,
     within: Option<u64>,
 }
 
-/// The numbers of the words, where there are exactly `count`, or one more, which is the limit.
+/// Returns the numbers of the words, or `None` unless there are exactly `count`, or one more, which is the
+/// limit.
 fn read_limited(rest: &[u8], count: usize) -> Option<Limited>
     requires { count ≤ 2 }
     ensures { let numbers = numbers_and_limit [] count (words rest.now) in MatchOption result (numbers ≡ None) (IsLimited count numbers) }
@@ -227,7 +228,7 @@ fn read_limited(rest: &[u8], count: usize) -> Option<Limited>
     })
 }
 
-/// Whether a limit is not past the greatest distance, where there is one.
+/// Whether a limit is at most the greatest distance, or there is no limit.
 fn is_limit(within: Option<u64>) -> bool
     ensures { result ≡ is_limit within }
 {

@@ -1,4 +1,4 @@
-//! A reader of requests as their bytes come.
+//! A reader of requests, whose bytes come in parts.
 ghost use Rattle.std.specs.Prelude.{◌≡◌, [], None, IfErr, IfOk, OnErr, OnOk};
 ghost use Rattle.ch_read.specs.Requests.{Gives, IsErrorAhead, IsGiven, IsUsedUp, at_most_one, fed, starting};
 ghost use Rattle.ch_read.specs.RequestSteps.{IsGivenBy, IsStep};
@@ -12,18 +12,19 @@ use crate::request_line::{fault_at, read_line};
 use std::alloc::{AllocError, Global};
 use std::marker::Model;
 
-/// What one line gave.
+/// The result of one line.
 #[derive(Drop)]
 enum Step {
-    /// Nothing that is whole.
+    /// The line completed no request.
     Quiet,
     Given(Request),
-    /// There was no line.
+    /// There was no whole line.
     UsedUp,
 }
 
-/// A reader of requests on a graph. Contracts see after how many lines it stands, what these left begun, and the
-/// bytes that it was fed of later ones. No line is kept once it was read, nor is a request that was given.
+/// A reader of requests on a graph. Contracts see the number of lines that were read, the request that these
+/// began, and the bytes after them. The reader keeps no line that it has read, and no request that it has
+/// given.
 #[derive(Drop)]
 pub struct RequestReader {
     nodes: u32,
@@ -44,7 +45,7 @@ impl Model for RequestReader {
 }
 
 impl RequestReader {
-    /// A reader that was fed nothing, of requests on a graph of so many nodes.
+    /// Makes a reader of requests on a graph of `nodes` nodes, without any bytes.
     pub fn new(alloc: Global, nodes: u32) -> RequestReader
         ensures { result ≡ starting nodes }
     {
@@ -56,10 +57,10 @@ impl RequestReader {
         }
     }
 
-    /// Takes the bytes that come next.
+    /// Takes the next bytes.
     ///
     /// # Errors
-    /// `AllocError` where there is no memory for them: none was taken then.
+    /// `AllocError` if there is no memory for the bytes. Then none of them was taken.
     pub fn feed(&mut self, bytes: &[u8]) -> Result<(), AllocError>
         ensures fed { OnOk result (self.new ≡ fed self.old bytes.now) }
         ensures same { OnErr result (self.new ≡ self.old) }
@@ -67,12 +68,12 @@ impl RequestReader {
         self.pending.extend(bytes)
     }
 
-    /// The next request that is whole, or none where no further line is whole. Where the input has ended, its last
-    /// line needs no line feed, and none is answered where all was read.
+    /// Returns the next whole request, or `None` if no line completes one. `ended` says that the input has
+    /// ended: then its last line needs no line feed, and `None` means that everything was read.
     ///
     /// # Errors
-    /// The fault that comes next, which is told again at each further call, or `NoMemory`. The reader then stands
-    /// before the line that met it.
+    /// The next fault, which each further call returns again, or `NoMemory`. The reader then stands before the
+    /// line that met it.
     pub fn next(&mut self, alloc: Global, ended: bool) -> Result<Option<Request>, RequestError>
         ensures nodes { self.new.nodes ≡ self.old.nodes }
         ensures given { IfOk result (λ given. Gives ended self.old self.new (at_most_one given)) }
@@ -90,7 +91,7 @@ impl RequestReader {
         }
     }
 
-    /// Reads a line, where one is whole.
+    /// Reads a line, if one is whole.
     fn step(&mut self, alloc: Global, ended: bool) -> Result<Step, RequestError>
         ensures nodes { self.new.nodes ≡ self.old.nodes }
         ensures step { IfOk result (IsStep ended self.old self.new) }

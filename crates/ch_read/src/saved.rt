@@ -14,12 +14,12 @@ use ch_work::{Crew, Gate};
 use std::alloc::Global;
 use std::thread::Threads;
 
-/// The hierarchy that the bytes of a saved file name, on a graph of `n` nodes, which are numbered from 0
-/// in it. Nothing is promised of it but what the checks of lines say. The work is linear in the number of
-/// bytes, and room grows by the lines read, whatever the problem line declares.
+/// Reads the hierarchy that the bytes of a saved file name, on a graph of `n` nodes, which are numbered from 0.
+/// Only the checks of lines are made, so the hierarchy may be wrong for the graph. The time is linear in the
+/// number of bytes. Memory grows with the lines that were read, and not with the numbers in the problem line.
 ///
 /// # Errors
-/// The first fault of the first faulty line, or `NoMemory` where there is no room for the order or the legs.
+/// The first fault of the first faulty line, or `NoMemory` if there is no memory for the order or the legs.
 pub fn read_saved(alloc: Global, bytes: &[u8], n: u32) -> Result<Saved, ReadError>
     ensures value { (saved : OrderAndLegs) →
         AnswersWhere result (Ok saved) (NamesSaved bytes.now n saved) }
@@ -30,10 +30,11 @@ pub fn read_saved(alloc: Global, bytes: &[u8], n: u32) -> Result<Saved, ReadErro
     Ok(Saved { order, legs })
 }
 
-/// As [`read_saved`], by the workers of a crew, who share sections of the file. They pass no gate.
+/// Does the same as [`read_saved`] with the workers of a crew, which share sections of the file. They pass no
+/// gate.
 ///
 /// # Errors
-/// As those of [`read_saved`].
+/// The errors of [`read_saved`].
 pub fn read_saved_by<R: Threads + Sync, G: Gate>(
     crew: &Crew<'_, R, G>,
     bytes: &[u8],
@@ -47,10 +48,11 @@ pub fn read_saved_by<R: Threads + Sync, G: Gate>(
     read_saved_in_sections(crew, SECTION, bytes, n)
 }
 
-/// As [`read_saved_by`], in sections of more than `size` bytes each, but for the last. No answer depends on the size.
+/// Does the same as [`read_saved_by`] in sections of more than `size` bytes each, except the last. The result
+/// does not depend on the size.
 ///
 /// # Errors
-/// As those of [`read_saved`].
+/// The errors of [`read_saved`].
 pub fn read_saved_in_sections<R: Threads + Sync, G: Gate>(
     crew: &Crew<'_, R, G>,
     size: usize,

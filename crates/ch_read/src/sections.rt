@@ -1,4 +1,4 @@
-//! Files that workers read in sections.
+//! Reads files in sections that workers share.
 ghost use Rattle.std.specs.Prelude.{◌≡◌, ◌<◌, ◌++◌, true, [], List, length, slice_index, Some, IfOk, MatchOption, MatchResult};
 ghost use Rattle.std.specs.List.{flat_map};
 ghost use Rattle.ch_read.specs.declared.form.Part.TheVariants as Part;
@@ -17,11 +17,11 @@ use std::alloc::{AllocError, Global};
 use std::marker::PhantomData;
 use std::thread::Threads;
 
-/// The least number of bytes of a section but for the last, where files are read.
+/// The size in bytes for sections of files. Each section has more bytes, except the last.
 pub(crate) const SECTION: usize = 1 << 20;
 
-/// As [`read_items`], by the workers of a crew, who share sections of at least so many bytes. Where they don't
-/// find all well, the file is read again by one, who tells what is wrong.
+/// Does the same as [`read_items`] with the workers of a crew, which share sections of more than `size` bytes.
+/// If they find a fault, the caller reads the file again to find the first one.
 pub(crate) fn read_items_by<
     R: Threads + Sync,
     G: Gate,
@@ -49,7 +49,7 @@ pub(crate) fn read_items_by<
     read_items(crew.alloc, form, bytes)
 }
 
-/// What a file declares and its items, where all is well with it. It tells nothing of a file with a fault.
+/// Reads the heading and the items of a file without a fault. Returns `None` if the file has a fault.
 fn read_sections<R: Threads + Sync, G: Gate, A: FromItem + Send + Sync, B: FromItem + Send + Sync>(
     crew: &Crew<'_, R, G>,
     size: usize,
@@ -77,7 +77,8 @@ fn read_sections<R: Threads + Sync, G: Gate, A: FromItem + Send + Sync, B: FromI
     }
 }
 
-/// What the problem line declares, and what follows it, where no line up to it has a fault.
+/// Returns the heading of the problem line and the bytes after the line, or `None` if a line up to it has a
+/// fault.
 fn split_head(form: Form, bytes: &[u8]) -> Option<(Heading, &[u8])>
     ensures { MatchOption result (Unit {0}) (λ (heading, rest). BeginsWith form bytes.now heading rest.now) }
 {
@@ -93,7 +94,7 @@ fn split_head(form: Form, bytes: &[u8]) -> Option<(Heading, &[u8])>
     None
 }
 
-/// Where the first line feed from this place on stands.
+/// Returns the place of the first line feed from this place on.
 fn line_feed_from(bytes: &[u8], from: usize) -> Option<usize>
     ensures { MatchOption result (Unit {0}) (λ at. (at < length bytes.now) × (slice_index bytes.now at ≡ 10)) }
 {
@@ -104,7 +105,7 @@ fn line_feed_from(bytes: &[u8], from: usize) -> Option<usize>
     Some(from + at)
 }
 
-/// The first section of more than `size` bytes, which ends with a line feed, and what follows it.
+/// Returns the first section of more than `size` bytes, which ends with a line feed, and the bytes after it.
 fn split_section(bytes: &[u8], size: usize) -> Option<(&[u8], &[u8])>
     ensures { MatchOption result (Unit {0}) (λ (section, rest). (lines bytes.now ≡ lines section.now ++ lines rest.now) × (length rest.now < length bytes.now)) }
 {
@@ -112,7 +113,7 @@ fn split_section(bytes: &[u8], size: usize) -> Option<(&[u8], &[u8])>
     Some((&bytes[..at + 1], &bytes[at + 1..]))
 }
 
-/// The bytes, cut behind line feeds into sections of more than `size` bytes, but for the last.
+/// Cuts the bytes after line feeds into sections of more than `size` bytes each, except the last.
 #[tactic(auto, using(crate::proofs::Cuts::more_sections))]
 fn cut(alloc: Global, bytes: &[u8], size: usize) -> Result<Vec<&[u8]>, AllocError>
     ensures { IfOk result (λ sections. lines bytes.now ≡ flat_map (λ section. lines section.now) sections.items) }
@@ -127,8 +128,9 @@ fn cut(alloc: Global, bytes: &[u8], size: usize) -> Result<Vec<&[u8]>, AllocErro
     Ok(sections)
 }
 
-/// The items of all sections in the order of the sections, of the first part and of the second, where no section has a
-/// fault. The workers share the sections one by one, and pass no gate of the caller, which counts files.
+/// Reads the items of the first part and of the second from all sections, in the order of the sections. Returns
+/// `None` if a section has a fault. The workers share the sections one by one. They do not pass the caller's
+/// gate, because its stage of reading counts files.
 fn lists_by<'a, R: Threads + Sync, G: Gate, A: FromItem + Send + Sync, B: FromItem + Send + Sync>(
     crew: &Crew<'_, R, G>,
     form: Form,
@@ -159,7 +161,7 @@ fn lists_by<'a, R: Threads + Sync, G: Gate, A: FromItem + Send + Sync, B: FromIt
     lists_of(crew.alloc, read)
 }
 
-/// The lists of all sections, where all were read.
+/// Returns the lists of all sections, or `None` if one was not read.
 #[tactic(auto, using(crate::proofs::Cuts::lists_more))]
 fn lists_of<A: Drop, B: Drop>(
     alloc: Global,
@@ -179,7 +181,7 @@ fn lists_of<A: Drop, B: Drop>(
     Ok(Some((firsts, seconds)))
 }
 
-/// The reader of sections after this heading.
+/// The job that reads sections after this heading.
 #[derive(Drop)]
 struct SectionReader<'a, A, B> {
     form: Form,
