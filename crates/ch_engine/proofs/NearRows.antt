@@ -1,4 +1,4 @@
--- Near rows that stand one after the other in arrays.
+-- Near rows in arrays, one after the other.
 use Rattle.std.proofs.Common.{◌≡◌, ℕ, zero, suc, ◌+◌, ◌<◌, ◌≤◌, List, length, get_or, set, inl, inr, refl, sym, ◌∙◌, subst, arith}
 use Rattle.std.proofs.lemmas.List.{get_or-set_same, get_or-set_other}
 use Rattle.std.proofs.lemmas.Bool.{cases_order}
@@ -9,7 +9,7 @@ use Rattle.ch_engine.specs.NearRows.{AreRowsAt, IsKeptRow, IsRowAt, StandsAt, be
 abbrev pub Agree : ℕ → List ℕ → List ℕ → List ℕ → List ℕ → Type 0
 Agree at weights places weights' places' = (k : ℕ) → k < at → (get_or weights' k 0 ≡ get_or weights k 0) × (get_or places' k 0 ≡ get_or places k 0)
 
--- a row that ends before what is written stays
+-- a row stays if it ends before the place from which the arrays change
 row_stays : (held : Held) (s begin end at : ℕ) (weights places weights' places' : List ℕ) → IsRowAt held s begin end weights places → end ≤ at → Agree at weights places weights' places' →
     length weights' ≡ length weights → IsRowAt held s begin end weights' places'
 row_stays held s begin end at weights places weights' places' row low agree long = (
@@ -20,17 +20,17 @@ row_stays held s begin end at weights places weights' places' row low agree long
   λ j inside. let same = agree (begin + j) (omega (arith, low, inside, row.2)) in let stands = row.4 j inside in (same.0 ∙ stands.0, same.1 ∙ stands.1),
 )
 
--- an end that is written moves no begin up to its own row
+-- writing the end of row i keeps the begins of the rows up to i
 begins_stay : (ends : List ℕ) (i end k : ℕ) → k < i + 1 → begin_of (set ends i end) k ≡ begin_of ends k
 begins_stay ends i end zero low = refl
 begins_stay ends i end (suc m) low = get_or-set_other ends i m end 0 (λ same. omega arith)
 
--- the row behind row i begins at its end
+-- the row after row i begins at its end
 pub begin_next : (ends : List ℕ) (i : ℕ) → begin_of ends (i + 1) ≡ get_or ends i 0
 begin_next ends i = let next : i + 1 ≡ suc i = omega arith in subst (λ n. begin_of ends n ≡ get_or ends i 0) (sym next) refl
 
 module _ (held : Held) (sources ends weights places weights' places' : List ℕ) (i begin : ℕ) where
-  -- the rows before stay, and one more stands behind them
+  -- the rows before stay, and one more comes after them
   pub rows_more : AreRowsAt held sources ends weights places i → begin ≡ begin_of ends i → ((k : ℕ) → k < i → get_or ends k 0 ≤ begin) → i < length ends →
       Agree begin weights places weights' places' → length weights' ≡ length weights → (row : List (ℕ × ℕ)) → IsKeptRow held (get_or sources i 0) row → begin + length row ≤ length weights →
       StandsAt begin row weights' places' → AreRowsAt held sources (set ends i (begin + length row)) weights' places' (i + 1)
@@ -47,7 +47,7 @@ module _ (held : Held) (sources ends weights places weights' places' : List ℕ)
         | inr (inr past) ↦ absurd (omega arith)
       ]
 
-  -- no end is past the new one
+  -- no end is above the new one
   pub ends_low : (end : ℕ) → ((k : ℕ) → k < i → get_or ends k 0 ≤ begin) → begin ≤ end → i < length ends → (k : ℕ) → k < i + 1 → get_or (set ends i end) k 0 ≤ end
   ends_low end low more inside k less = elim (cases_order k i) [
     | inl same ↦ subst (λ (n : ℕ). get_or (set ends i end) n 0 ≤ end) (sym same) (let is = get_or-set_same ends i end 0 inside in omega arith)

@@ -1,4 +1,4 @@
--- What the rows of a table tell of its words.
+-- The words of a table, from its rows.
 use Rattle.std.proofs.Common.{◌≡◌, ℕ, zero, suc, ◌*◌, ◌/◌, ◌%◌, ◌<◌, List, [], ◌∷◌, length, get_or, Option, None, sym, subst, arith}
 use Rattle.std.proofs.Math.Nat.{div-lt_iff_lt-mul, mod-lt}
 use Rattle.std.specs.List.{AllZip}
@@ -10,7 +10,7 @@ use Rattle.ch_table.specs.Table.{IsRowBy}
 use Rattle.ch_engine.specs.Cells.{AreRowWords, IsCell, word_of}
 use Rattle.ch_engine.proofs.Bounds.{word_within}
 
--- what is related place by place is so at each place
+-- a relation at each place of two lists holds at this place
 at_place : {X Y : Type 0} (R : X → Y → Type 0) (xs : List X) (ys : List Y) → AllZip R xs ys → (i : ℕ) → i < length xs → (d : X) (e : Y) → R (get_or xs i d) (get_or ys i e)
 at_place R [] [] h i low d e = absurd (omega arith)
 at_place R [] (y ∷ ys) h i low d e = absurd h
@@ -18,21 +18,21 @@ at_place R (x ∷ xs) [] h i low d e = absurd h
 at_place R (x ∷ xs) (y ∷ ys) h zero low d e = h.0
 at_place R (x ∷ xs) (y ∷ ys) h (suc i) low d e = at_place R xs ys h.1 i (omega arith) d e
 
--- where there is a cell there is a column
+-- a table with a cell has a column
 some_column : (rows columns k : ℕ) → k < rows * columns → 0 < columns
 some_column rows zero k low = absurd (omega (arith, low))
 some_column rows (suc n) k low = omega arith
 
 module _ (H : LevelsAndLegs) (limit : Option ℕ) (sources targets : List ℕ) (rows : List (List (Option ℕ))) (all : AllZip (IsRowBy H limit targets) sources rows) where
-  -- there are as many as sources
+  -- there are as many rows as sources
   pub row_count : length rows ≡ length sources
   row_count = zipped_length (IsRowBy H limit targets) sources rows all
 
-  -- each has as many answers as there are targets
+  -- each row has as many answers as there are targets
   pub row_length : (i : ℕ) → i < length sources → length (get_or rows i []) ≡ length targets
   row_length i low = zipped_length (IsDistanceWithin H limit (get_or sources i 0)) targets (get_or rows i []) (at_place (IsRowBy H limit targets) sources rows all i low 0 [])
 
-  -- and each answer's word is that of its cell
+  -- the word of each answer is the word of its cell
   pub cell_word : IsKeptForSome H → (i j : ℕ) → i < length sources → j < length targets → IsCell H limit (get_or sources i 0) (get_or targets j 0) (word_of (get_or (get_or rows i []) j None))
   cell_word kept i j row column =
       let s = get_or sources i 0 in
@@ -41,7 +41,7 @@ module _ (H : LevelsAndLegs) (limit : Option ℕ) (sources targets : List ℕ) (
       = at_place (IsDistanceWithin H limit s) targets (get_or rows i []) (at_place (IsRowBy H limit targets) sources rows all i row 0 []) j column 0 None in
       (within.whole, answer, within.distance, within.cut, word_within H kept s (get_or targets j 0) limit within.whole within.distance answer within.cut)
 
-  -- so the words that stand row after row are those of the cells
+  -- the words, row after row, are the words of the cells
   pub cell_at : IsKeptForSome H → (words : List ℕ) → length words ≡ length sources * length targets → AreRowWords rows (length targets) words → (k : ℕ) → k < length words →
       IsCell H limit (get_or sources (k / length targets) 0) (get_or targets (k % length targets) 0) (get_or words k 0)
   cell_at kept words room are k low =

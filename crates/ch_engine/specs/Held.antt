@@ -1,9 +1,9 @@
--- What an engine holds.
+-- The hierarchy of an engine, and its places.
 use Rattle.std.specs.Prelude.{Option, None, Some}
 use Rattle.ch_hierarchy.specs.Hierarchy.{LevelsAndLegs}
 use Rattle.ch_near.specs.Searched.{Asked}
 
--- a hierarchy, and what is asked of its places where some are kept
+-- a hierarchy, and what is asked of the kept places, if there are some
 pub record Held : Type 0 where
   pub hierarchy : LevelsAndLegs
   pub near : Option Asked

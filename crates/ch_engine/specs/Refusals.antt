@@ -1,4 +1,4 @@
--- When a network is not opened, and a question not answered.
+-- The conditions of the errors: when a network is not opened, and when a question is refused.
 use Rattle.std.specs.Prelude.{◌≡◌, ℕ, ◌*◌, ◌<◌, ◌≤◌, List, length, All, Option, None, ⊤}
 use Rattle.ch_graph.specs.declared.limits.TheConstants.{MOST_LISTED}
 use Rattle.ch_graph.specs.Graph.{Network}
@@ -11,7 +11,7 @@ use Rattle.ch_engine.specs.declared.fault.OpenError.{OpenError}
 use Rattle.ch_engine.specs.declared.fault.Refusal.{Refusal}
 use Rattle.ch_near.specs.Searched.{Asked}
 
--- what the error says is so of the bytes of a graph and of a saved hierarchy
+-- the error is true of the bytes of a graph and of a saved hierarchy
 abbrev pub IsOpenError : List ℕ → List ℕ → OpenError → Type 0
 IsOpenError graph saved OpenError.NoMemory = ⊤
 IsOpenError graph saved (OpenError.BadGraph f) = IsFault Graph graph f.line f.kind
@@ -22,7 +22,7 @@ IsOpenError graph saved (OpenError.WrongSaved f) = (g : Network) × (s : OrderAn
 abbrev pub AreNodes : ℕ → List ℕ → Type 0
 AreNodes n nodes = All (λ node. node < n) nodes
 
--- why as many words as `room` are not written for pairs of nodes
+-- the reason for refusing the distances of pairs of nodes, with room for `room` words
 abbrev pub IsRefusalOfPairs : ℕ → List ℕ → List ℕ → ℕ → Refusal → Type 0
 IsRefusalOfPairs n sources targets room Refusal.NoMemory = ⊥
 IsRefusalOfPairs n sources targets room Refusal.NodeRange = AreNodes n sources × AreNodes n targets → ⊥
@@ -30,7 +30,7 @@ IsRefusalOfPairs n sources targets room Refusal.Lengths = (length sources ≡ ro
 IsRefusalOfPairs n sources targets room Refusal.TooLarge = ⊥
 IsRefusalOfPairs n sources targets room Refusal.NoPlaces = ⊥
 
--- why a table is not written
+-- the reason for refusing a table
 abbrev pub IsRefusalOfTable : ℕ → List ℕ → List ℕ → ℕ → Refusal → Type 0
 IsRefusalOfTable n sources targets room Refusal.NoMemory = ⊤
 IsRefusalOfTable n sources targets room Refusal.NodeRange = AreNodes n sources × AreNodes n targets → ⊥
@@ -38,7 +38,7 @@ IsRefusalOfTable n sources targets room Refusal.Lengths = length sources * lengt
 IsRefusalOfTable n sources targets room Refusal.TooLarge = (length sources ≤ MOST_LISTED) × (length targets ≤ MOST_LISTED) → ⊥
 IsRefusalOfTable n sources targets room Refusal.NoPlaces = ⊥
 
--- why a route is not given
+-- the reason for refusing a route
 abbrev pub IsRefusalOfRoute : ℕ → ℕ → ℕ → Refusal → Type 0
 IsRefusalOfRoute n source target Refusal.NoMemory = ⊤
 IsRefusalOfRoute n source target Refusal.NodeRange = (source < n) × (target < n) → ⊥
@@ -46,7 +46,7 @@ IsRefusalOfRoute n source target Refusal.Lengths = ⊥
 IsRefusalOfRoute n source target Refusal.TooLarge = ⊥
 IsRefusalOfRoute n source target Refusal.NoPlaces = ⊥
 
--- why places are not kept
+-- the reason for refusing places
 abbrev pub IsRefusalOfPlaces : ℕ → List ℕ → Refusal → Type 0
 IsRefusalOfPlaces n places Refusal.NoMemory = ⊤
 IsRefusalOfPlaces n places Refusal.NodeRange = AreNodes n places → ⊥
@@ -54,7 +54,7 @@ IsRefusalOfPlaces n places Refusal.Lengths = ⊥
 IsRefusalOfPlaces n places Refusal.TooLarge = length places ≤ MOST_LISTED → ⊥
 IsRefusalOfPlaces n places Refusal.NoPlaces = ⊥
 
--- why the rows of all nodes are not swept
+-- the reason for refusing the sweep
 abbrev pub IsRefusalOfSweep : Option Asked → Refusal → Type 0
 IsRefusalOfSweep near Refusal.NoMemory = ⊤
 IsRefusalOfSweep near Refusal.NodeRange = ⊥
@@ -62,7 +62,7 @@ IsRefusalOfSweep near Refusal.Lengths = ⊥
 IsRefusalOfSweep near Refusal.TooLarge = ⊥
 IsRefusalOfSweep near Refusal.NoPlaces = near ≡ None
 
--- why no near row is written: there are so many ends, weights and places to write to
+-- the reason for refusing near rows, with arrays of these lengths for ends, weights and places
 abbrev pub IsRefusalOfRows : ℕ → Option Asked → List ℕ → ℕ → ℕ → ℕ → Refusal → Type 0
 IsRefusalOfRows n near sources ends weights places Refusal.NoMemory = ⊥
 IsRefusalOfRows n near sources ends weights places Refusal.NodeRange = AreNodes n sources → ⊥

@@ -1,4 +1,4 @@
-//! A network, and room for the questions of one thread.
+//! Engines: a network, with room for the questions of one thread.
 ghost use Rattle.std.specs.Prelude.{◌≡◌, ◌<◌, length, IfErr, IfOk, None, OnOk, MatchOption, ⊤};
 ghost use Rattle.ch_graph.specs.Graph.{Network as Given};
 ghost use Rattle.ch_hierarchy.specs.Hierarchy.{nodes_of};
@@ -25,13 +25,14 @@ use std::alloc::{AllocError, Global};
 use std::marker::Model;
 use std::sync::Arc;
 
-/// A network, which several engines may share, with room for the questions of one, and with the places that it keeps. Contracts
-/// see the hierarchy and what is asked of the places, so room and places are always those of its own network.
+/// A network, with room for one question at a time, and with the places that the engine keeps. Several engines may
+/// share the network. Contracts see the hierarchy and what is asked of the places. So room and places always belong
+/// to the engine's own network.
 #[derive(Drop)]
 pub struct Engine {
     pub(crate) network: Arc<Network, Global>,
     scratch: Scratch,
-    /// Places that near rows lead to, where some are kept.
+    /// The places of near rows, if some are kept.
     pub(crate) kept: Option<KeptTargets>,
 }
 
@@ -50,11 +51,12 @@ impl Model for Engine {
 }
 
 impl Engine {
-    /// The engine of a graph and of its saved hierarchy, as files have them. The hierarchy is checked against the graph.
+    /// Opens an engine from the bytes of a graph file and of a file with its saved hierarchy. The hierarchy is
+    /// checked against the graph.
     ///
     /// # Errors
-    /// The first fault of the graph, else that of the saved hierarchy's bytes, else its first fault for the graph; or
-    /// `NoMemory`.
+    /// The first fault of the graph's bytes, otherwise that of the saved hierarchy's bytes, otherwise its first fault
+    /// for the graph; or `NoMemory`.
     pub fn open(alloc: Global, graph: &[u8], saved: &[u8]) -> Result<Engine, OpenError>
         ensures value { IfOk result (λ held. (held.near ≡ None) × ((g : Given) × NamesGraph graph.now g × IsKept g held.hierarchy)) }
         ensures error { IfErr result (IsOpenError graph.now saved.now) }
@@ -76,10 +78,10 @@ impl Engine {
         })
     }
 
-    /// A second engine in the same network, with room of its own. It keeps no places.
+    /// Makes a second engine in the same network, with room of its own. It keeps no places.
     ///
     /// # Errors
-    /// `AllocError` where there is no memory, or where more engines share the network than can be counted.
+    /// `AllocError` if there is no memory, or if more engines share the network than can be counted.
     pub fn share(&self, alloc: Global) -> Result<Engine, AllocError>
         ensures { IfOk result (λ held. held ≡ only self.now.hierarchy) }
     {
@@ -92,28 +94,28 @@ impl Engine {
         })
     }
 
-    /// The number of nodes.
+    /// Returns the number of nodes.
     pub fn nodes(&self) -> u32
         ensures { result ≡ nodes_of self.now.hierarchy }
     {
         self.network.hierarchy().nodes()
     }
 
-    /// The text of the hierarchy, as `chtab save` writes it.
+    /// Returns the text of the hierarchy, as `chtab save` writes it.
     ///
     /// # Errors
-    /// `AllocError` where there is no memory.
+    /// `AllocError` if there is no memory.
     pub fn save(&self, alloc: Global) -> Result<Vec<u8>, AllocError>
         ensures { IfOk result (λ text. IsHierarchyText self.now.hierarchy text.items) }
     {
         save_text(alloc, self.network.hierarchy())
     }
 
-    /// Writes the distance from each source to the target at the same place, as a word:
-    /// [`NO_DISTANCE`](crate::NO_DISTANCE) where there is no walk.
+    /// Writes the distance from each source to the target at the same place as a word. The word is
+    /// [`NO_DISTANCE`](crate::NO_DISTANCE) if there is no walk.
     ///
     /// # Errors
-    /// A refusal by lengths that differ, else by a number that is no node; then nothing is written.
+    /// `Lengths` if the lengths differ, otherwise `NodeRange` if a number is no node. Then nothing is written.
     pub fn distances(
         &mut self,
         sources: &[u32],
@@ -157,11 +159,12 @@ impl Engine {
         word_of(answer)
     }
 
-    /// Writes the distance from each source to each target, row after row, as words:
-    /// [`NO_DISTANCE`](crate::NO_DISTANCE) where there is no walk, or none of a weight within the limit.
+    /// Writes the distance from each source to each target, row after row, as words. A word is
+    /// [`NO_DISTANCE`](crate::NO_DISTANCE) if there is no walk, or no walk within the limit.
     ///
     /// # Errors
-    /// A refusal by lengths, else by a number that is no node, else by the size; or `NoMemory`. Then nothing is written.
+    /// `Lengths` if `out` has another length, otherwise `NodeRange` if a number is no node, otherwise `TooLarge` if a
+    /// list is too long; or `NoMemory`. Then nothing is written.
     pub fn table(
         &mut self,
         alloc: Global,
@@ -198,10 +201,10 @@ impl Engine {
         Ok(())
     }
 
-    /// The route from a node to another, or none where there is no walk.
+    /// Returns the route from a node to another, or `None` if there is no walk.
     ///
     /// # Errors
-    /// A refusal by a number that is no node, or `NoMemory`.
+    /// `NodeRange` if a number is no node, or `NoMemory`.
     pub fn route(
         &mut self,
         alloc: Global,

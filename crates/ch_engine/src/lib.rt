@@ -1,10 +1,13 @@
-//! A network that is asked in the caller's own process, by one thread at a time for each engine.
+//! Engines: a network that is asked in the caller's own process. An engine is used by one thread at a time.
 //!
-//! It stands on ch_graph, ch_hierarchy, ch_near, ch_query, ch_read, ch_table and ch_text. It starts no thread. An [`Engine`]
-//! has a hierarchy, which it may share with others, the room for its own searches, and the places that its near rows lead to.
-//! Proved of it: [`Engine::open`] gives a hierarchy that is right for the graph that the bytes name, or an error that is so of
-//! the bytes; distances, tables, routes and near rows are those of each graph for which the hierarchy is right; no call
-//! requires anything of what it is given, and a refusal says what is wrong and leaves all as it was.
+//! It stands on ch_graph, ch_hierarchy, ch_near, ch_query, ch_read, ch_table and ch_text. It starts no thread. An
+//! [`Engine`] has a hierarchy, which other engines may share, room for its own searches, and the places of its near
+//! rows. These statements are proved:
+//!
+//! - [`Engine::open`] gives a hierarchy that is right for the graph that the bytes name, or an error that is true of
+//!   the bytes.
+//! - Distances, tables, routes and near rows are those of each graph for which the hierarchy is right.
+//! - No call requires anything of its arguments. A refusal says what is wrong, and changes nothing.
 #![tactic(auto)]
 
 mod engine;

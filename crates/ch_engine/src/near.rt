@@ -1,4 +1,4 @@
-//! Near rows of an engine, to places that it keeps.
+//! Near rows of an engine, over the places that it keeps.
 ghost use Rattle.std.specs.Prelude.{◌≡◌, ◌+◌, ◌<◌, ◌≤◌, ℕ, length, slice_index, IfErr, IfOk, OnOk, IsSome};
 ghost use Rattle.ch_hierarchy.specs.Hierarchy.{nodes_of};
 ghost use Rattle.ch_engine.specs.Held.{with_places};
@@ -14,11 +14,13 @@ use ch_near::{Direction, KeptTargets};
 use std::alloc::{AllocError, Global};
 
 impl Engine {
-    /// Searches from places and keeps what is found, in place of what was kept: for rows of the first `count` of them in
-    /// order of distance, or of all, and with a limit of those alone whose distance is at most that.
+    /// Searches from places and keeps the results for near rows. They replace the places that were kept. A row has
+    /// the first `count` places in order of distance, or all if `count` is `None`. With a limit it has only the
+    /// places whose distance is at most the limit.
     ///
     /// # Errors
-    /// A refusal by the number of places, else by one that is no node; or `NoMemory`. Then what was kept stays.
+    /// `TooLarge` if there are too many places, otherwise `NodeRange` if a place is no node; or `NoMemory`. Then the
+    /// places that were kept stay.
     pub fn keep_places(
         &mut self,
         alloc: Global,
@@ -42,7 +44,7 @@ impl Engine {
         Ok(())
     }
 
-    /// Makes the rows of all nodes to the places by one sweep and keeps them. Then no row takes a search.
+    /// Makes the rows of all nodes in one sweep, and keeps them. After that no row needs a search.
     ///
     /// # Errors
     /// `NoPlaces` or `NoMemory`.
@@ -59,12 +61,13 @@ impl Engine {
         Ok(())
     }
 
-    /// Writes the rows of sources, one after the other: where each ends, and the distance and the place of each of its pairs.
-    /// It ends before the first row for which there is no room. As much room as a row has pairs is always enough for one:
-    /// that is at most the number of places.
+    /// Writes the rows of sources, one after the other: the end of each row, and the distance and the place of each
+    /// of its pairs. It ends before the first row for which there is no room or no memory. A row has at most as many
+    /// pairs as there are places, so room for that many is always enough for one row.
     ///
     /// # Errors
-    /// A refusal by lengths, else by places that are not kept, else by a number that is no node; then nothing is written.
+    /// `Lengths` if the lengths do not fit, otherwise `NoPlaces` if no places are kept, otherwise `NodeRange` if a
+    /// number is no node. Then nothing is written.
     pub fn near_rows(
         &mut self,
         alloc: Global,
@@ -125,7 +128,7 @@ impl Engine {
         }
     }
 
-    /// Makes the row of a source, where places are kept.
+    /// Makes the row of a source, if places are kept.
     fn near_row(
         &mut self,
         alloc: Global,
@@ -144,7 +147,7 @@ impl Engine {
     }
 }
 
-/// Writes the weights and the places of a row from here on.
+/// Writes the weights and the places of a row from the place `begin` on.
 fn write_row(row: &[(u64, u32)], begin: usize, weights: &mut [u64], places: &mut [u32])
     requires room { begin + length row.now ≤ length weights.old }
     requires lengths { length weights.old ≡ length places.old }

@@ -23,7 +23,7 @@ impl Model for Network {
 }
 
 impl Network {
-    /// The hierarchy.
+    /// Returns the hierarchy.
     pub(crate) fn hierarchy(&self) -> &Hierarchy
         ensures same { result.now ≡ self.now }
         ensures kept { IsKeptForSome self.now }

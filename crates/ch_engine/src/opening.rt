@@ -1,4 +1,4 @@
-//! A hierarchy from bytes, by the caller alone.
+//! Opens a hierarchy from bytes, without workers.
 ghost use Rattle.std.specs.Prelude.{◌≡◌, IfErr, IfOk};
 ghost use Rattle.ch_graph.specs.Graph.{Network as Given, IsWithinLimits};
 ghost use Rattle.ch_hierarchy.specs.Kept.{IsKept};
@@ -11,10 +11,11 @@ use ch_query::check_alone;
 use ch_read::{ReadError, read_graph, read_saved};
 use std::alloc::Global;
 
-/// The hierarchy that the bytes name, where it is right for the graph that the other bytes name.
+/// Returns the hierarchy that the bytes `saved` name, if it is right for the graph that the bytes `graph` name.
 ///
 /// # Errors
-/// The first fault of the graph, else that of the saved hierarchy's bytes, else its first fault for the graph; or `NoMemory`.
+/// The first fault of the graph's bytes, otherwise that of the saved hierarchy's bytes, otherwise its first fault for
+/// the graph; or `NoMemory`.
 pub(crate) fn opened(alloc: Global, graph: &[u8], saved: &[u8]) -> Result<Hierarchy, OpenError>
     ensures value { IfOk result (λ H. (g : Given) × NamesGraph graph.now g × IsWithinLimits g × IsKept g H) }
     ensures error { IfErr result (IsOpenError graph.now saved.now) }
@@ -24,7 +25,7 @@ pub(crate) fn opened(alloc: Global, graph: &[u8], saved: &[u8]) -> Result<Hierar
         Err(ReadError::Fault(fault)) => return Err(OpenError::BadGraph(fault)),
         Err(ReadError::NoMemory) => return Err(OpenError::NoMemory),
     };
-    // The proof learns from this call that the graph keeps the limits.
+    // This call tells the proof that the graph keeps the limits.
     let _ = network.arcs();
     let hierarchy = match read_saved(alloc, saved, network.nodes()) {
         Ok(hierarchy) => hierarchy,

@@ -6,10 +6,10 @@ ghost use Rattle.ch_engine.specs.Refusals.{AreNodes};
 
 use ch_table::Table;
 
-/// The word where there is no distance: none is as great.
+/// The word for no distance. Each distance is less.
 pub const NO_DISTANCE: u64 = u64::MAX;
 
-/// The word of an answer.
+/// Returns the word of an answer.
 pub(crate) fn word_of(answer: Option<u64>) -> u64
     ensures { result ≡ the_word answer }
 {
@@ -19,7 +19,7 @@ pub(crate) fn word_of(answer: Option<u64>) -> u64
     }
 }
 
-/// Whether all numbers are nodes of a network of so many.
+/// Whether all numbers are nodes of a network of `nodes` nodes.
 pub(crate) fn are_nodes(numbers: &[u32], nodes: u32) -> bool
     ensures { IsTrue result ↔ AreNodes nodes numbers.now }
 {
@@ -45,7 +45,7 @@ pub(crate) fn write_table(table: &Table, rows: usize, columns: usize, out: &mut 
     }
 }
 
-/// The row and the column of a cell, of which there are as many as rows times columns.
+/// Returns the row and the column of a cell in a table of `rows` rows and `columns` columns.
 fn place_of(cell: usize, rows: usize, columns: usize) -> (usize, usize)
     requires { cell < rows * columns }
     ensures place { (result.0 ≡ cell / columns) × (result.1 ≡ cell % columns) }
