@@ -1,4 +1,4 @@
--- The names that walks cite.
+-- The names that these proofs by hand use.
 pub use Rattle.std.proofs.Common.{◌≡◌, ℕ, List, [], ◌∷◌, ◌++◌, refl, sym, ap, ◌∙◌, subst, lit<}
 pub use Rattle.std.proofs.raw_atomic.Walks.{proved}
 pub use base.Fraction.{full_share}

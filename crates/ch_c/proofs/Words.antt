@@ -1,4 +1,5 @@
--- The machine's words of a box, of its parts and of an engine behind a pointer without a type: a pointer and an allocator each time.
+-- The machine's words of a box, of its parts, and of an engine behind a pointer without a type. Each is a pointer and
+-- an allocator.
 use Rattle.ch_c.proofs.Steps.{◌≡◌, List, [], ◌∷◌, ◌++◌, refl, Val, vstruct, vcons, vnil, vunit, has_ty, WT, T, ty_ptr, lit<, of_list, ap, ◌∙◌}
 use mathlib.Core.Bool.{true, ◌&&◌}
 use denote.Laws.{Is}
@@ -29,7 +30,7 @@ heap_word alloc = struct.val Heap.the_type heap.the_laws alloc
 abbrev pub word : Ptr → Heap.the_row.Denot → Val
 word p alloc = vstruct (vcons (ptr_val p) (vcons (heap_word alloc) vnil))
 
--- the fields of an erased engine have it
+-- the fields of an erased engine have this word
 pub fields_word : (p : Ptr) (alloc : Heap.the_row.Denot) → Is Fields.the_row (record { at = p; alloc = alloc }) (word p alloc ∷ [])
 fields_word p alloc = ((ptr_val p ∷ [], (heap_word alloc ∷ [], tt)), (refl, (refl, (((vstruct (vcons vunit vnil) ∷ [], tt), (refl, (((vunit ∷ [], tt), (refl, (refl, tt))), tt))), tt))))
 
@@ -44,17 +45,17 @@ heap_laws = let word_is = struct.tells Heap.the_type heap.the_laws in record { v
 abbrev pub box_laws : (R : RattleType) → owning.Laws (Boxed R)
 box_laws R = (struct.RawPtr-laws, (heap_laws, tt))
 
--- a pointer's word is one of its type
+-- the word of a pointer has the type of pointers
 pub ptr_fits : (p : Ptr) → T (has_ty ty_ptr (ptr_val p)) × WT (ptr_val p)
 ptr_fits (block_ptr b o) = (tt, tt)
 ptr_fits null_ptr = (tt, record { fits = lit< tt })
 
--- and so is that of a pointer with its allocator
+-- the word of a pointer with its allocator has their type
 pub word_fits : (p : Ptr) → (T (has_ty ty_ptr (ptr_val p) && true)) × (WT (ptr_val p) × (((Unit {0} × Unit {0}) × Unit {0}) × Unit {0}))
 word_fits (block_ptr b o) = (tt, (tt, (((tt, tt), tt), tt)))
 word_fits null_ptr = (tt, (record { fits = lit< tt }, (((tt, tt), tt), tt)))
 
--- those of a box's parts too
+-- the parts of a box have this word
 pub parts_word : (R : RattleType) (p : Ptr) (alloc : Heap.the_row.Denot) → Is (Parts.the_row R) (record { at = p; alloc = alloc }) (word p alloc ∷ [])
 parts_word R p alloc = fields_word p alloc
 
@@ -67,7 +68,7 @@ pub pair_word : (p : Ptr) (alloc : Heap.the_row.Denot) (vs : List Val) → Is (T
 pair_word p alloc vs is =
     is.1.0 ∙ ap (λ ps. vstruct (of_list (ps ++ (is.0.1.0 ++ []))) ∷ []) is.1.1.0 ∙ ap (λ hs. vstruct (of_list (ptr_val p ∷ (hs ++ []))) ∷ []) (struct.tells Heap.the_type heap.the_laws alloc is.0.1.0 is.1.1.1.0)
 
--- the allocator as a type argument of a call, with its laws, and how it is let go
+-- the allocator as a type argument of a call, with its laws and its drop
 abbrev pub Z : RattleType
 Z = arg (bare (layout Heap.the_row)) no Heap.the_row
 

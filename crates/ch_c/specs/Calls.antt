@@ -1,4 +1,4 @@
--- What the calls for C answer, and what then is so.
+-- The results of the calls for C, and what holds after them.
 use Rattle.std.specs.Prelude.{◌≡◌, ◌⊎◌, ℕ, zero, suc, IsSome, ◌+◌, ◌<◌, ◌≤◌, List, length, take, slice_index, slice_index_or, Option, Some, None}
 use Rattle.ch_graph.specs.declared.arc.InArc.{InArc}
 use Rattle.ch_graph.specs.Graph.{Network}
@@ -53,7 +53,7 @@ kind_number FaultKind.Size = 8
 kind_number FaultKind.TooMany = 9
 kind_number FaultKind.TooFew = 10
 
--- what is told of a hierarchy's fault for its graph: the kind's number and the place
+-- the fault of a hierarchy for its graph, as C sees it: the number of its kind, and the place
 abbrev pub check_fault : CheckFault → Fault
 check_fault CheckFault.Order = record { line = 0; place = 0; kind = 11 }
 check_fault (CheckFault.Pair place) = record { line = 0; place = place; kind = 12 }
@@ -63,14 +63,14 @@ check_fault (CheckFault.Middle place) = record { line = 0; place = place; kind =
 check_fault (CheckFault.Arc place) = record { line = 0; place = place; kind = 16 }
 check_fault (CheckFault.Lower node) = record { line = 0; place = node; kind = 17 }
 
--- what is told of an error of opening
+-- the fault of an error of opening, as C sees it
 abbrev pub fault_of : OpenError → Fault
 fault_of OpenError.NoMemory = record { line = 0; place = 0; kind = 0 }
 fault_of (OpenError.BadGraph f) = record { line = f.line; place = 0; kind = kind_number f.kind }
 fault_of (OpenError.BadSaved f) = record { line = f.line; place = 0; kind = kind_number f.kind }
 fault_of (OpenError.WrongSaved f) = check_fault f
 
--- a closed handle answers that it is closed, and all else stays; an open one answers what is said of its network
+-- a call with a closed handle returns CLOSED, and all else stays; with an open one, this holds of its network
 abbrev pub OfNetwork : Option Held → ℕ → Type 0 → (Held → Type 0) → Type 0
 OfNetwork None status Stays Answers = (status ≡ CLOSED) × Stays
 OfNetwork (Some held) status Stays Answers = Answers held
@@ -89,47 +89,49 @@ abbrev pub IsTableAnswered : LevelsAndLegs → ℕ → List ℕ → List ℕ →
 IsTableAnswered H limit sources targets before after status =
     IsOutcome status (AreTableCells H (Some limit) sources targets after) (λ refusal. (after ≡ before) × IsRefusalOfTable (nodes_of H) sources targets (length before) refusal)
 
--- the nodes of a route from s: s, and where each arc leads
+-- the nodes of a route from s: s, and then the end of each arc
 abbrev pub AreRouteNodes : ℕ → List InArc → List ℕ → Type 0
 AreRouteNodes s arcs nodes = (slice_index nodes 0 ≡ s) × ((k : ℕ) (d : InArc) → k < length arcs → slice_index nodes (k + 1) ≡ (slice_index_or arcs k d).to)
 
--- a route is told with its weight and its number of nodes, and its nodes are written where there is room
+-- the weight of a route and its number of nodes are written, and its nodes if there is room
 abbrev pub IsRouteTold : ℕ → Option Route → Found → List ℕ → List ℕ → ℕ → Type 0
 IsRouteTold s None found before after status = (status ≡ OK) × (found.weight ≡ no_distance) × (found.nodes ≡ 0) × (after ≡ before)
 IsRouteTold s (Some route) found before after status = (found.weight ≡ route.weight) × (found.nodes ≡ length route.arcs + 1)
     × (((status ≡ OK) × (length route.arcs < length after) × AreRouteNodes s route.arcs after) ⊎ ((status ≡ TOO_SHORT) × (length before ≤ length route.arcs) × (after ≡ before)))
 
--- a route, which has at most as many nodes as the network, is told, or refused
+-- a route is written, and has at most as many nodes as the network; or it is refused
 abbrev pub IsRouteAnswered : LevelsAndLegs → ℕ → ℕ → Found → Found → List ℕ → List ℕ → ℕ → Type 0
 IsRouteAnswered H s t found_before found before after status =
     ((answer : Option Route) × IsRouteBy H s t answer × (found.nodes ≤ nodes_of H) × IsRouteTold s answer found before after status)
     ⊎ ((refusal : Refusal) × (status ≡ refusal_status refusal) × (found ≡ found_before) × (after ≡ before) × IsRefusalOfRoute (nodes_of H) s t refusal)
 
--- the length of the hierarchy's text is told, and it is written where there is room
+-- the length of the hierarchy's text is written, and the text if there is room
 abbrev pub IsTextTold : LevelsAndLegs → ℕ → List ℕ → List ℕ → ℕ → Type 0
 IsTextTold H size before after status =
     (text : List ℕ) × IsHierarchyText H text × (size ≡ length text)
     × (((status ≡ OK) × (length text ≤ length after) × (take (length text) after ≡ text)) ⊎ ((status ≡ TOO_SHORT) × (length before < length text) × (after ≡ before)))
 
--- the text is told, or there is no memory for it
+-- the text is written so, or there is no memory for it
 abbrev pub IsSaved : LevelsAndLegs → ℕ → ℕ → List ℕ → List ℕ → ℕ → Type 0
 IsSaved H size_before size before after status =
     IsTextTold H size before after status ⊎ ((status ≡ NO_MEMORY) × (size ≡ size_before) × (after ≡ before))
 
--- an open handle stays; a closed one opens with a hierarchy that is right for the graph, or stays closed and tells an error that is so
+-- an open handle stays; a closed one opens with a hierarchy that is right for the graph, or stays closed with an
+-- error that is true of the bytes
 abbrev pub IsOpening : List ℕ → List ℕ → Option Held → Option Held → Fault → Fault → ℕ → Type 0
 IsOpening graph saved (Some held) after fault_before fault status = (status ≡ IS_OPEN) × (after ≡ Some held) × (fault ≡ fault_before)
 IsOpening graph saved None after fault_before fault status =
     ((status ≡ OK) × ((H : LevelsAndLegs) × (after ≡ Some (only H)) × ((g : Network) × NamesGraph graph g × IsKept g H)) × (fault ≡ fault_before))
     ⊎ ((error : OpenError) × (status ≡ error_status error) × (after ≡ None) × (fault ≡ fault_of error) × IsOpenError graph saved error)
 
--- an open handle is not opened again; else it takes the network of an open one, without its places, or there is no memory
+-- an open handle is not opened again; a closed one gets the network of an open one, without its places, or there is
+-- no memory
 abbrev pub IsSharing : Option Held → Option Held → Option Held → ℕ → Type 0
 IsSharing network (Some held) after status = (status ≡ IS_OPEN) × (after ≡ Some held)
 IsSharing None None after status = (status ≡ CLOSED) × (after ≡ None)
 IsSharing (Some held) None after status = ((status ≡ OK) × (after ≡ Some (only held.hierarchy))) ⊎ ((status ≡ NO_MEMORY) × (after ≡ None))
 
--- the direction of a number: to the places where it is 0, and else from them
+-- the direction for a number: to the places for 0, and otherwise from them
 abbrev pub direction_of : ℕ → Direction
 direction_of zero = To
 direction_of (suc n) = From
@@ -140,24 +142,24 @@ ArePlacesKept is_from places limit count held after status =
     ((status ≡ OK) × (after ≡ Some (with_places held (record { direction = direction_of is_from; targets = places; limit = Some limit; count = Some count }))))
     ⊎ ((refusal : Refusal) × (status ≡ refusal_status refusal) × (after ≡ Some held) × IsRefusalOfPlaces (nodes_of held.hierarchy) places refusal)
 
--- the rows of all nodes are swept where places are kept, or that is refused
+-- the rows of all nodes are made, if places are kept, or the sweep is refused
 abbrev pub IsSwept : Held → ℕ → Type 0
 IsSwept held status = IsOutcome status (IsSome held.near) (IsRefusalOfSweep held.near)
 
--- the status of why no more rows were written
+-- the status for the reason why no more rows were written
 abbrev pub end_status : End → ℕ
 end_status End.All = OK
 end_status End.NoRoom = TOO_SHORT
 end_status End.NoMemory = NO_MEMORY
 
--- what near rows are written to: how many, where each ends, and the weights and places of their pairs
+-- the arrays for near rows: the number of rows, the end of each, and the weights and places of their pairs
 pub record Arrays : Type 0 where
   pub rows : ℕ
   pub ends : List ℕ
   pub weights : List ℕ
   pub places : List ℕ
 
--- near rows are written as far as there is room and memory, or all is as it was and they are refused
+-- near rows are written as far as there is room and memory, or they are refused and all is as before
 abbrev pub AreRowsAnswered : Held → List ℕ → Arrays → Arrays → ℕ → Type 0
 AreRowsAnswered held sources before after status =
     ((end : End) × (status ≡ end_status end) × IsSome held.near × AreRowsWritten held sources after.ends after.weights after.places (record { rows = after.rows; end = end }))

@@ -1,4 +1,4 @@
-//! What an engine answers, as C sees it.
+//! The answers of an engine, as C sees them.
 ghost use Rattle.std.specs.Prelude.{◌≡◌, ◌+◌, ◌<◌, ℕ, length, IfErr, IfOk, Option, None, Some};
 ghost use Rattle.ch_graph.specs.Graph.{Network};
 ghost use Rattle.ch_hierarchy.specs.Kept.{IsKept};
@@ -13,20 +13,20 @@ use ch_graph::InArc;
 use ch_query::Route;
 use std::alloc::Global;
 
-/// What is told of a route beside its nodes.
+/// The facts on a route beside its nodes.
 #[repr(C)]
 #[derive(Clone, Copy, Debug, PartialEq, Eq)]
 pub struct Found {
-    /// The sum of the weights of its arcs, or [`NO_DISTANCE`] where there is no route.
+    /// The sum of the weights of its arcs, or [`NO_DISTANCE`] if there is no route.
     pub weight: u64,
-    /// How many nodes it has, both ends among them; 0 where there is no route.
+    /// The number of its nodes with both ends, or 0 if there is no route.
     pub nodes: u64,
 }
 
-/// An engine on the heap, of a graph and of its saved hierarchy.
+/// Opens an engine on the heap, from the bytes of a graph and of its saved hierarchy.
 ///
 /// # Errors
-/// Those of [`Engine::open`].
+/// The errors of [`Engine::open`].
 pub(crate) fn opened(
     alloc: Global,
     graph: &[u8],
@@ -42,7 +42,7 @@ pub(crate) fn opened(
     }
 }
 
-/// A second engine on the heap in the same network, where there is memory.
+/// Makes a second engine on the heap in the same network, or returns `None` if there is no memory.
 pub(crate) fn shared(alloc: Global, engine: &Engine) -> Option<Box<Engine, Global>>
     ensures { (second : _) → result ≡ Some second → second.value ≡ only engine.now.hierarchy }
 {
@@ -55,7 +55,7 @@ pub(crate) fn shared(alloc: Global, engine: &Engine) -> Option<Box<Engine, Globa
     }
 }
 
-/// Writes the distance from each source to the target at the same place, and answers a status.
+/// Writes the distance from each source to the target at the same place. Returns a status.
 pub(crate) fn write_distances(
     engine: &mut Engine,
     sources: &[u32],
@@ -71,7 +71,8 @@ pub(crate) fn write_distances(
     }
 }
 
-/// Writes the distances from each source to each target that are at most the limit, row after row, and answers a status.
+/// Writes the distances from each source to each target, row after row. A distance above the limit is written as
+/// none. Returns a status.
 pub(crate) fn write_table(
     alloc: Global,
     engine: &mut Engine,
@@ -89,7 +90,7 @@ pub(crate) fn write_table(
     }
 }
 
-/// Writes the route from a node to another where there is room for its nodes, and answers a status.
+/// Writes the route from a node to another, and its nodes if there is room. Returns a status.
 pub(crate) fn write_route(
     alloc: Global,
     engine: &mut Engine,
@@ -124,7 +125,7 @@ fn tell_route(source: u32, answer: Option<Route>, found: &mut Found, nodes: &mut
     OK
 }
 
-/// Writes the source and where each arc leads.
+/// Writes the source, and then the end of each arc.
 fn write_nodes(source: u32, arcs: &[InArc], nodes: &mut [u32])
     requires { length arcs.now < length nodes.old }
     ensures nodes { AreRouteNodes source arcs.now nodes.new }
@@ -136,7 +137,7 @@ fn write_nodes(source: u32, arcs: &[InArc], nodes: &mut [u32])
     }
 }
 
-/// Writes the text of the hierarchy where there is room for it, and its length; and answers a status.
+/// Writes the length of the hierarchy's text, and the text if there is room. Returns a status.
 pub(crate) fn write_saved(alloc: Global, engine: &Engine, size: &mut u64, out: &mut [u8]) -> u32
     ensures { IsSaved engine.now.hierarchy size.old size.new out.old out.new result }
 {

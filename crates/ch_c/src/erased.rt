@@ -1,4 +1,4 @@
-//! An engine behind a pointer whose type names none, as C can hold it.
+//! An engine behind a pointer to bytes, which C can hold.
 ghost use Rattle.std.specs.Prelude.{◌≡◌, IsSome, Option, None, Some};
 ghost use Rattle.ch_engine.specs.declared.engine.Engine.{Engine as Network};
 ghost use Rattle.ch_c.specs.Erased.{coded_network, owns_network};
@@ -23,7 +23,7 @@ impl Model for ErasedEngine {
 }
 
 impl ErasedEngine {
-    /// No engine.
+    /// Makes a value without an engine.
     pub(crate) fn none(alloc: Global) -> ErasedEngine
         ensures { result.network ≡ None }
     {
@@ -33,7 +33,7 @@ impl ErasedEngine {
         }
     }
 
-    /// The engine of a raw box.
+    /// Takes the engine of a raw box.
     pub(crate) fn of(engine: RawBox<Engine>) -> ErasedEngine
         ensures { result.network ≡ Some engine.value }
     {
@@ -44,7 +44,7 @@ impl ErasedEngine {
         }
     }
 
-    /// The box of the engine.
+    /// Returns the engine in its box.
     pub(crate) fn into_box(self) -> Box<Engine, Global>
         requires { IsSome self.network }
         ensures { self.network ≡ Some result.value }

@@ -1,4 +1,4 @@
-//! What C learns of a file that is refused.
+//! The fault of a refused file, as C sees it.
 ghost use Rattle.std.specs.Prelude.{◌≡◌};
 ghost use Rattle.ch_c.specs.Calls.{error_status, fault_of as the_fault, check_fault, kind_number as the_number};
 
@@ -7,19 +7,19 @@ use ch_engine::OpenError;
 use ch_hierarchy::CheckFault;
 use ch_read::{FaultKind, ReadFault};
 
-/// The first fault of a file. What it does not have is 0.
+/// The first fault of a file. A number that the fault does not have is 0.
 #[repr(C)]
 #[derive(Clone, Copy, Debug, PartialEq, Eq)]
 pub struct Fault {
     /// The line of the file, counted from 1.
     pub line: u64,
-    /// The place of the leg, of the arc or of the node that is at fault, counted from 0.
+    /// The place of the leg, the arc or the node with the fault, counted from 0.
     pub place: u64,
-    /// What is wrong: `chtab_fault_kind` of `include/chtab.h`.
+    /// The kind: a `chtab_fault_kind` of `include/chtab.h`.
     pub kind: u32,
 }
 
-/// The number of an error.
+/// Returns the status of an error.
 pub(crate) fn status_of_error(error: &OpenError) -> u32
     ensures { result ≡ error_status error.now }
 {
@@ -31,7 +31,7 @@ pub(crate) fn status_of_error(error: &OpenError) -> u32
     }
 }
 
-/// What is told of an error.
+/// Returns the fault of an error.
 pub(crate) fn fault_of(error: OpenError) -> Fault
     ensures { result ≡ the_fault error }
 {

@@ -1,4 +1,4 @@
-//! What C holds, and what it calls.
+//! The handle that C holds, and the calls that it makes.
 ghost use Rattle.std.specs.Prelude.{◌≡◌, ◌↔◌, IsSome, MatchOption, None, Some, ⊤};
 ghost use Rattle.ch_hierarchy.specs.Hierarchy.{nodes_of};
 ghost use Rattle.ch_c.specs.Calls.{ArePairsAnswered, ArePlacesKept, AreRowsAnswered, IsOpening, IsRouteAnswered, IsSaved, IsSharing, IsSwept, IsTableAnswered, OfNetwork};
@@ -18,7 +18,7 @@ use std::mem;
 /// The version: millions for the first number of `VERSION`, thousands for the second.
 const VERSION: u32 = 1_001_000;
 
-/// What C holds of an engine: 16 bytes, all 0 where it is closed.
+/// The handle of an engine that C holds: 16 bytes, which are all 0 if it is closed.
 #[repr(C)]
 #[derive(Drop)]
 pub struct Handle {
@@ -37,7 +37,7 @@ impl Handle {
         }
     }
 
-    /// Puts an engine into a closed handle, so that none is lost.
+    /// Puts an engine into a closed handle. An open one would lose its engine.
     fn put(&mut self, engine: Box<Engine, Global>)
         requires { self.old.engine.network ≡ None }
         ensures { self.new.engine.network ≡ Some engine.value }
@@ -48,7 +48,7 @@ impl Handle {
         };
     }
 
-    /// Takes the engine out of an open handle, which then is closed.
+    /// Takes the engine out of an open handle, which is then closed. Returns `None` if the handle is closed already.
     fn take(&mut self, alloc: Global) -> Option<Box<Engine, Global>>
         ensures taken { MatchOption result (self.old.engine.network ≡ None) (λ engine. self.old.engine.network ≡ Some engine.value) }
         ensures closed { self.new.engine.network ≡ None }
@@ -61,7 +61,7 @@ impl Handle {
     }
 }
 
-/// The version of the library.
+/// Returns the version of the library.
 #[unsafe(no_mangle)]
 pub extern "C" fn chtab_version() -> u32
     ensures { result ≡ 1001000 }
@@ -69,7 +69,7 @@ pub extern "C" fn chtab_version() -> u32
     VERSION
 }
 
-/// Opens a closed handle with a graph and its saved hierarchy, which is checked against the graph.
+/// Opens a closed handle with a graph and its saved hierarchy. The hierarchy is checked against the graph.
 #[unsafe(no_mangle)]
 pub extern "C" fn chtab_open(
     alloc: Global,
@@ -118,7 +118,7 @@ pub extern "C" fn chtab_share(alloc: Global, handle: &mut Handle, other: &mut Ha
     }
 }
 
-/// Closes a handle, and gives its memory back.
+/// Closes an open handle, and gives its memory back.
 #[unsafe(no_mangle)]
 pub extern "C" fn chtab_close(alloc: Global, handle: &mut Handle) -> u32
     ensures status { MatchOption handle.old.engine.network (result ≡ CLOSED) (λ _. result ≡ OK) }
@@ -147,7 +147,7 @@ pub extern "C" fn chtab_nodes(alloc: Global, handle: &mut Handle, nodes: &mut u3
     OK
 }
 
-/// Writes the text of the hierarchy where there is room for it, and its length.
+/// Writes the length of the hierarchy's text, and the text if there is room.
 #[unsafe(no_mangle)]
 pub extern "C" fn chtab_save(
     alloc: Global,
@@ -186,7 +186,8 @@ pub extern "C" fn chtab_distances(
     status
 }
 
-/// Writes the distances from each source to each target that are at most the limit, row after row.
+/// Writes the distances from each source to each target, row after row. A distance above the limit is written as
+/// none.
 #[unsafe(no_mangle)]
 pub extern "C" fn chtab_table(
     alloc: Global,
@@ -207,7 +208,7 @@ pub extern "C" fn chtab_table(
     status
 }
 
-/// Writes the route from a node to another: its weight, how many nodes it has, and these where there is room.
+/// Writes the route from a node to another: its weight, its number of nodes, and the nodes if there is room.
 #[unsafe(no_mangle)]
 pub extern "C" fn chtab_route(
     alloc: Global,
@@ -228,7 +229,7 @@ pub extern "C" fn chtab_route(
     status
 }
 
-/// Keeps places, in place of those before, to which near rows lead.
+/// Keeps places for near rows. They replace the places before.
 #[unsafe(no_mangle)]
 pub extern "C" fn chtab_near_places(
     alloc: Global,
@@ -248,7 +249,7 @@ pub extern "C" fn chtab_near_places(
     status
 }
 
-/// Makes and keeps the rows of all nodes to the kept places by one sweep.
+/// Makes the rows of all nodes over the kept places in one sweep, and keeps them.
 #[unsafe(no_mangle)]
 pub extern "C" fn chtab_near_sweep(alloc: Global, handle: &mut Handle) -> u32
     ensures answered { OfNetwork handle.old.engine.network result ⊤ (λ held. IsSwept held result) }
@@ -262,7 +263,8 @@ pub extern "C" fn chtab_near_sweep(alloc: Global, handle: &mut Handle) -> u32
     status
 }
 
-/// Writes the rows of sources to the kept places: how many rows, where each ends, and the weights and places of their pairs.
+/// Writes the rows of sources over the kept places: the number of rows, the end of each, and the weights and places
+/// of their pairs.
 #[unsafe(no_mangle)]
 pub extern "C" fn chtab_near_rows(
     alloc: Global,

@@ -1,9 +1,10 @@
-//! The calls of the library for C: an engine of `ch_engine` behind a handle of 16 bytes that the caller keeps.
+//! The calls of the library for C: an engine of `ch_engine` behind a handle of 16 bytes, which the caller keeps.
 //!
-//! It stands on ch_engine, ch_graph, ch_hierarchy, ch_near, ch_query, ch_read, ch_text, core, std_alloc and std_heap. Its
-//! exports are what `include/chtab.h` declares, and nothing else. None requires anything: an open or a closed handle, lengths,
-//! nodes, sizes and bytes are tested inside, and a number answers. Proved of each: what is so where it answers 0, what is so
-//! where it refuses, and what its handle then holds.
+//! It stands on ch_engine, ch_graph, ch_hierarchy, ch_near, ch_query, ch_read, ch_text, core, std_alloc and std_heap.
+//! It exports the calls that `include/chtab.h` declares, and nothing else.
+//!
+//! No call requires anything: it tests handles, lengths, nodes, sizes and bytes itself, and returns a status. It is
+//! proved for each call what holds if it returns 0, what holds if it refuses, and what its handle then holds.
 #![tactic(auto)]
 
 mod answers;

@@ -7,7 +7,7 @@ use ch_engine::{End, Engine};
 use ch_near::Direction;
 use std::alloc::Global;
 
-/// The direction of a number: to the places where it is 0, and else from them.
+/// Returns the direction for a number: to the places for 0, and otherwise from them.
 fn direction_of(is_from: u32) -> Direction
     ensures { result ≡ the_direction is_from }
 {
@@ -18,7 +18,7 @@ fn direction_of(is_from: u32) -> Direction
     }
 }
 
-/// Keeps places, and answers a status.
+/// Keeps places. Returns a status.
 pub(crate) fn keep_places(
     alloc: Global,
     engine: &mut Engine,
@@ -36,7 +36,7 @@ pub(crate) fn keep_places(
     }
 }
 
-/// Sweeps the rows of all nodes, and answers a status.
+/// Makes the rows of all nodes in one sweep. Returns a status.
 pub(crate) fn sweep(alloc: Global, engine: &mut Engine) -> u32
     ensures swept { IsSwept engine.old result }
     ensures same { engine.new ≡ engine.old }
@@ -47,7 +47,7 @@ pub(crate) fn sweep(alloc: Global, engine: &mut Engine) -> u32
     }
 }
 
-/// Writes the rows of sources as far as there is room and memory, and answers a status.
+/// Writes the rows of sources as far as there is room and memory. Returns a status.
 pub(crate) fn write_rows(
     alloc: Global,
     engine: &mut Engine,
@@ -69,7 +69,7 @@ pub(crate) fn write_rows(
     }
 }
 
-/// The number of why no more rows were written.
+/// Returns the status for the reason why no more rows were written.
 fn status_of_end(end: End) -> u32
     ensures { result ≡ end_status end }
 {

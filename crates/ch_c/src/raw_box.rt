@@ -1,4 +1,4 @@
-//! A box taken apart, with all that it owns.
+//! A box that is taken apart, with all that it owns.
 ghost use Rattle.std.specs.Prelude.{◌≡◌};
 ghost use Rattle.ch_c.specs.Erased.{owns_boxed};
 
@@ -18,7 +18,7 @@ impl<T> Model for RawBox<T> {
 }
 
 impl<T: Drop> RawBox<T> {
-    /// The parts of a box.
+    /// Takes a box apart.
     pub(crate) fn of(whole: Box<T, Global>) -> RawBox<T>
         ensures { result.value ≡ whole.value }
     {

@@ -1,10 +1,10 @@
-//! The numbers that calls answer.
+//! The statuses that calls return.
 ghost use Rattle.std.specs.Prelude.{◌≡◌};
 ghost use Rattle.ch_c.specs.Calls.{refusal_status};
 
 use ch_engine::Refusal;
 
-/// The call did what it is for.
+/// The call is done.
 pub(crate) const OK: u32 = 0;
 
 /// There was no memory.
@@ -19,13 +19,13 @@ pub(crate) const IS_OPEN: u32 = 3;
 /// A node is not below the number of nodes.
 pub(crate) const NODE_RANGE: u32 = 4;
 
-/// Lengths do not fit one another.
+/// The lengths do not fit one another.
 pub(crate) const LENGTHS: u32 = 5;
 
-/// There are more sources, targets or places than a list takes.
+/// There are more sources, targets or places than a list may have.
 pub(crate) const TOO_LARGE: u32 = 6;
 
-/// There is less room than a route has nodes, rows have pairs or a text has bytes.
+/// There is not enough room for the nodes of a route, the pairs of near rows, or the bytes of a text.
 pub(crate) const TOO_SHORT: u32 = 7;
 
 /// The bytes of the graph are faulty.
@@ -40,7 +40,7 @@ pub(crate) const WRONG_SAVED: u32 = 10;
 /// No places are kept.
 pub(crate) const NO_PLACES: u32 = 11;
 
-/// The number of a refusal.
+/// Returns the status of a refusal.
 pub(crate) fn status_of(refusal: Refusal) -> u32
     ensures { result ≡ refusal_status refusal }
 {

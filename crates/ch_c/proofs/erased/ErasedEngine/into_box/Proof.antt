@@ -1,4 +1,4 @@
--- The box owns what the pointer's memory holds.
+-- The box owns the memory behind the pointer.
 use Rattle.ch_c.proofs.Steps.{◌≡◌, [], ◌∷◌, refl, sym, ap, ◌∙◌, proved, full_share, id⊢, emp, ftrue, fact, fact_i, tables, ‵, raw, ◌⊛◌, some, later, at_ret, ◌$◌, ◌∵◌, !, qed, done, move, keep, drop, use0, use1, use2, split, join, fsplit, feq_i, pick, await, rewrite, suffices, enter, of_opd, stop, fld, whole, sub, no_more, and_then, first, blocks, exec, returns, alloc_all, pass_all, free_all, look_at, get, get_in, sets, lands_last, env, yes, no, plain, nothing, owned, heard, peeks, calls_at_last, triple_of, framed, Stays, walk_of, says, stay_dropped, Goes-dropped, ends_at}
 use Rattle.std.specs.Prelude.{Option, None, Some, IsSome}
 use Rattle.std.proofs.lemmas.Bool.{false≢true}
@@ -46,7 +46,7 @@ LX = arg_laws (bare (layout Engine.the_row)) no Engine.the_row engine.the_row_la
 abbrev Whole : RattleType
 Whole = Box.the_row Engine.the_row Heap.the_row ghosts
 
--- what is there
+-- the value of an option that has one
 the_some : {A : Type 0} (o : Option A) → IsSome o → (x : A) × (o ≡ Some x)
 the_some None is = absurd (false≢true is)
 the_some (Some x) is = (x, refl)
