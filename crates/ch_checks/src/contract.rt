@@ -139,7 +139,7 @@ fn worked_hierarchies_are_built(rt: HostRuntime) -> Result<(), Fail> {
     expect(&rt, rt.alloc(), 3, by, &LONG_SHORTCUT)
 }
 
-/// The hierarchies of a star, a ring, and a loop with a tail. The order by difference gives others.
+/// The hierarchies of a star, a ring, and a ring with a tail. The order by difference gives others.
 #[test]
 fn worked_hierarchies_are_built_by_depth(rt: HostRuntime) -> Result<(), Fail> {
     let star = Example {

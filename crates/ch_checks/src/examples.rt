@@ -97,7 +97,7 @@ pub(crate) const TRIANGLE: Example = Example {
     legs: &[(1, 2, 0, 1, 0), (1, 3, 0, 1, 0), (2, 3, 0, 1, 0)],
 };
 
-/// A loop without weight, and a tail.
+/// A ring of weight 0, and a tail.
 pub(crate) const TAIL: Example = Example {
     nodes: 4,
     arcs: &[(1, 2, 0), (2, 3, 0), (3, 1, 0), (3, 4, 2)],

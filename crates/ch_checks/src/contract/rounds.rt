@@ -1,4 +1,4 @@
-//! Hierarchies by rounds of small graphs that were drawn at random, as a separate program computes them from the
+//! Hierarchies by rounds of small random graphs. A separate program computed the expected ones from the
 //! definitions.
 ghost use Rattle.ch_contract.specs.Legs.{IsHopBound};
 
@@ -23,7 +23,8 @@ fn built_by_rounds(rt: HostRuntime) -> Result<(), Fail> {
     expect_of_plans(&rt, rt.alloc(), 16, &SIXTEEN_HOPS)
 }
 
-/// Builds the hierarchy of the graph by several workers and in several pieces, and expects the same of each plan.
+/// Builds the hierarchy of the graph with several numbers of workers and sizes of pieces. Expects the same
+/// of each plan.
 fn expect_of_plans<R: Threads + Abort + Sync>(
     rt: &R,
     alloc: Global,
@@ -46,7 +47,7 @@ fn expect_of_plans<R: Threads + Abort + Sync>(
     Ok(())
 }
 
-/// It holds when any one request for memory is refused.
+/// It holds if any one request for memory is refused.
 #[test]
 fn built_by_rounds_refused_in_turn(rt: HostRuntime) -> Result<(), Fail> {
     let ring = Example {
@@ -66,7 +67,8 @@ fn built_by_rounds_refused_in_turn(rt: HostRuntime) -> Result<(), Fail> {
     expect(&rt, rt.alloc(), 5, OrderBy::Rounds, &ring)
 }
 
-/// Of a star the opening has a piece for each node, and so has each job of a round, while at least `wide` nodes are left.
+/// On a star the opening has a piece for each node, and each job of a round has a piece for each of its
+/// nodes.
 #[test]
 fn rounds_are_shared_in_pieces(rt: HostRuntime) -> Result<(), Fail> {
     let graph = graph(rt.alloc(), STAR.nodes, STAR.arcs)?;

@@ -4,7 +4,7 @@ use std::alloc::{AllocError, Global};
 use std::process::Abort;
 use std::test::Fail;
 
-/// Feeds these bytes, a second time where memory was refused the first time.
+/// Feeds these bytes, a second time if the first call was refused memory.
 fn feed(reader: &mut RequestReader, bytes: &[u8]) -> Result<(), AllocError> {
     match reader.feed(bytes) {
         Err(_) => reader.feed(bytes),
@@ -12,7 +12,7 @@ fn feed(reader: &mut RequestReader, bytes: &[u8]) -> Result<(), AllocError> {
     }
 }
 
-/// The next request, asked for a second time where memory was refused the first time.
+/// Asks for the next request, a second time if the first call was refused memory.
 fn next(
     alloc: Global,
     reader: &mut RequestReader,
@@ -32,7 +32,7 @@ fn expect_query<R: Abort>(rt: &R, given: Option<Request>, nodes: (u32, u32)) {
     }
 }
 
-/// Expects a table of these nodes, within this limit of its own.
+/// Expects a table of these nodes, with this limit of its own.
 fn expect_table<R: Abort>(
     rt: &R,
     given: Option<Request>,
@@ -50,7 +50,7 @@ fn expect_table<R: Abort>(
     }
 }
 
-/// Expects these places, with this count of targets in a row.
+/// Expects these places, with this greatest number of them in a row.
 fn expect_places<R: Abort>(rt: &R, given: Option<Request>, nodes: &[u32], count: Option<u32>) {
     match given {
         Some(Request::Places(places)) => {
@@ -61,7 +61,7 @@ fn expect_places<R: Abort>(rt: &R, given: Option<Request>, nodes: &[u32], count:
     }
 }
 
-/// Expects a near row of this node within this limit of its own.
+/// Expects a near row of this node, with this limit of its own.
 fn expect_near<R: Abort>(rt: &R, given: Option<Request>, near: (u32, Option<u64>)) {
     match given {
         Some(Request::Near(source, within)) => assert_eq!(rt; (source, within), near),
@@ -158,7 +158,7 @@ fn a_longest_line_comes_one_by_one(rt: HostRuntime) -> Result<(), Fail> {
     Ok(())
 }
 
-/// Bytes are moved no oftener than lines are let go of, so this takes time in the number of bytes.
+/// The reader moves at most as many bytes as it drops. So the time is linear in the number of bytes.
 #[test]
 fn bytes_come_between_two_hundred_thousand_requests(rt: HostRuntime) -> Result<(), Fail> {
     let alloc = rt.alloc();

@@ -3,7 +3,7 @@ use Rattle.ch_work.specs.Owed.{HasPaid}
 use Rattle.ch_work.specs.Passes.{view_of, IsPassOf}
 use Rattle.ch_checks.proofs.work.cells.FallingCellJob.piece.Given as goal
 
--- what the items so far owe
+-- one of the items so far owes x to the first cell
 abbrev pub Owed : ℕ → ℕ → ℕ → ℕ → Type 0
 Owed from to cell x = (item : ℕ) × (from ≤ item) × (item < to) × (cell ≡ 0) × (x + 2 * item ≡ 9)
 
