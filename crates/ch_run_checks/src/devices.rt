@@ -12,7 +12,7 @@ use std::test::Fail;
 
 const TEXT: &[u8] = b"d 1 3 9\nd 3 1 -\n";
 
-/// How many bytes of the text a device moves at most in one call: one, a few, or all.
+/// The greatest numbers of bytes that a device moves in one call: one, a few, or all of the text.
 const PARTS: [usize; 3] = [1, 3, 1000];
 
 #[test]

@@ -1,4 +1,4 @@
-//! Files, what a run is asked for with them, and such runs over devices in memory.
+//! The files of a run, the task of a run, and runs over devices in memory.
 ghost use Rattle.ch_contract.specs.Legs.{IsHopBound};
 
 use ch_run::{
@@ -8,7 +8,7 @@ use ch_run::{
 use std::alloc::{AllocError, Global};
 use std::thread::Threads;
 
-/// What a run is asked for.
+/// The task of a run, with the bytes of its lists, queries or requests.
 #[derive(Clone, Copy)]
 pub enum Asked<'a> {
     Hierarchy,
@@ -30,10 +30,10 @@ pub struct Files<'a> {
 /// The answer of a run, and its output.
 pub type Ended = (Result<(), RunFault>, MemoryOutput);
 
-/// How many bytes the devices of a run move at most in one call.
+/// The greatest number of bytes that a device of a run moves in one call.
 const MOST: usize = 4096;
 
-/// Runs what is asked for, over devices in memory.
+/// Makes the run of this task over devices in memory.
 pub(crate) fn run<R: Threads + Sync>(
     rt: &R,
     alloc: Global,

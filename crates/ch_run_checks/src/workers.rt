@@ -9,7 +9,7 @@ use std::process::Abort;
 use std::test::Fail;
 use std::thread::Threads;
 
-/// How many bytes the devices of a run move at most in one call.
+/// The greatest number of bytes that a device of a run moves in one call.
 const MOST: usize = 4096;
 
 /// Makes a crew of two workers that share pieces of one item and pass this gate.
