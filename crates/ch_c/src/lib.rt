@@ -3,8 +3,9 @@
 //! It stands on ch_engine, ch_graph, ch_hierarchy, ch_near, ch_query, ch_read, ch_text, core, std_alloc and std_heap.
 //! It exports the calls that `include/chtab.h` declares, and nothing else.
 //!
-//! No call requires anything: it tests handles, lengths, nodes, sizes and bytes itself, and returns a status. It is
-//! proved for each call what holds if it returns 0, what holds if it refuses, and what its handle then holds.
+//! No call requires anything: it tests handles, lengths, nodes, sizes and bytes itself, and returns a status.
+//! Each call is proved: it does its task if it returns 0, a refusal is right, and the handle holds the right
+//! engine in each case.
 #![tactic(auto)]
 
 mod answers;

@@ -2,7 +2,7 @@
 //!
 //! - Calls succeed if there is memory.
 //! - Results have values that were worked out elsewhere, and faults have their texts.
-//! - After a refusal of memory, what was lent is usable.
+//! - After a refusal of memory, the values that were lent are usable.
 //! - Workers do pieces at the same time.
 //!
 //! The crate has only tests, so the crates below are proved once. It stands on ch_contract, ch_engine, ch_graph,

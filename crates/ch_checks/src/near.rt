@@ -15,8 +15,8 @@ use std::process::Abort;
 use std::test::Fail;
 use std::thread::Threads;
 
-/// What is asked for, and the rows of all nodes: pairs of a distance and a place, which is counted from 0.
-/// Targets are counted from 1.
+/// A question, and the rows of all nodes: pairs of a distance and a place, which is counted from 0. Targets are
+/// counted from 1.
 #[derive(Clone, Copy)]
 struct Case<'a> {
     roads: Example<'a>,

@@ -13,8 +13,8 @@ pub record IsPairThrough (n : ℕ) (L : Legs) (v : ℕ) (s : Shortcut) : Type 0 
   pub weight : s.cost.weight ≤ MOST_WEIGHT
   pub arcs : s.cost.arcs < n
 
--- the list is enough for v: it has all shortcuts of v, and its members are sums of two legs through v; none costs more
--- than a leg between the same two nodes
+-- the list is enough for v: it has all shortcuts of v, and its members are sums of two legs through v. No
+-- member costs more than a leg between the same two nodes
 pub record AreEnough (n h : ℕ) (L : Legs) (v : ℕ) (list : List Shortcut) : Type 0 where
   pub pairs : (s : Shortcut) → Contains list s → IsPairThrough n L v s
   pub no_dearer : (s : Shortcut) (l : Label) → Contains list s → L s.from s.to ≡ Some l → IsAtMost s.cost l.cost

@@ -1,4 +1,4 @@
--- Small graphs, on which the definitions are computed.
+-- Small graphs for computing the definitions.
 use Rattle.std.specs.Prelude.{ℕ, ◌-◌, [], ◌∷◌, Some, None}
 use Rattle.ch_graph.specs.declared.arc.InArc.{InArc}
 use Rattle.ch_graph.specs.declared.cost.Cost.{Cost}

@@ -14,8 +14,8 @@ pub record IsLight (limit : ℕ) (c : Cost) : Type 0 where
   pub weight : c.weight ≤ MOST_WEIGHT
   pub arcs : c.arcs ≤ MOST_NODES
 
--- a bound on chains (the cost of two legs), or the cost of a chain that keeps the bound and has at most as many legs as
--- a witness may have
+-- a bound on chains, which is the cost of two legs; or the cost of a chain within the bound, with at most as
+-- many legs as a witness
 pub record IsHeld (limit : ℕ) (c : Cost) : Type 0 where
   pub limited : c.weight ≤ 2 * limit
   pub weight : c.weight ≤ MOST_WEIGHT

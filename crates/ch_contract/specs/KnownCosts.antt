@@ -16,8 +16,8 @@ pub record ChainStart : Type 0 where
   pub node : ℕ
   pub cost : Cost
 
--- what a search knows: the least cost of each node, the nodes whose cost was lowered, and the next front, which has
--- nodes with their costs
+-- the knowledge of a search: the least cost of each node, the nodes whose cost was lowered, and the next front,
+-- which has nodes with their costs
 pub record Known : Type 0 where
   pub costs : List Cost
   pub touched : List ℕ

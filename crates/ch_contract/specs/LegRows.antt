@@ -11,10 +11,10 @@ label_of l = record { cost = l.cost; middle = l.middle }
 abbrev pub row_leg : List Leg → ℕ → Option Label
 row_leg legs x = option_map label_of (find (λ l. l.node == x) legs)
 
--- the legs from v, each at the node to which it leads
+-- the legs from v, each at its end
 abbrev pub AreLegsFrom : Legs → ℕ → List Leg → Type 0
 AreLegsFrom L v legs = IsRow legs × ((x : ℕ) → row_leg legs x ≡ L v x)
 
--- the legs to v, each at the node from which it comes
+-- the legs to v, each at its start
 abbrev pub AreLegsTo : Legs → ℕ → List Leg → Type 0
 AreLegsTo L v legs = IsRow legs × ((x : ℕ) → row_leg legs x ≡ L x v)

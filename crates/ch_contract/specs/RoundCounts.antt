@@ -9,7 +9,7 @@ pub record AreCounted (n h : ℕ) (L : Legs) (nodes before after : List ℕ) : T
   pub anew : (x : ℕ) → Contains nodes x → IsCount n h L x (slice_index after x)
   pub kept : (x : ℕ) → (Contains nodes x → ⊥) → slice_index after x ≡ slice_index before x
 
--- the nodes whose shortcuts are counted after a round: none while fewer than seven tenths of the n nodes are
--- contracted, then once all the rest, and after that the neighbours of each round
+-- the nodes whose shortcuts are counted after a round. While fewer than seven tenths of the n nodes are
+-- contracted, these are none. Then they are once all the rest, and after that the neighbours of each round
 abbrev pub due_of : ℕ → ℕ → ℕ → List ℕ → List ℕ → List ℕ
 due_of n before after near rest = if nat_lt (10 * after) (7 * n) then [] else (if nat_lt (10 * before) (7 * n) then rest else near)

@@ -29,8 +29,9 @@ depth_before rounds L (suc r) x = depth_after_round (L r) (round_at rounds r) (d
 abbrev pub is_early : ℕ → List (List ℕ) → ℕ → Bool
 is_early n rounds r = nat_lt (10 * length (nodes_before rounds r)) (7 * n)
 
--- whether the shortcuts of x are counted after the first r rounds: all nodes are counted at the opening, no node while
--- it is early, all nodes after the first round that is no longer early, and then the neighbours of each round
+-- whether the shortcuts of x are counted after the first r rounds. At the opening all nodes are counted, and
+-- while it is early none. After the first round that is no longer early all are counted, and then the
+-- neighbours of each round
 abbrev pub is_counted : ℕ → List (List ℕ) → (ℕ → Legs) → ℕ → ℕ → Bool
 is_counted n rounds L zero x = true
 is_counted n rounds L (suc r) x = not (is_early n rounds (suc r)) && (is_early n rounds r || list_any (λ v. are_neighbours (L r) v x) (round_at rounds r))
@@ -61,8 +62,8 @@ pub record AreRounds (g : Network) (h : ℕ) (rounds : List (List ℕ)) (L : ℕ
   pub legs : (r : ℕ) → r < length rounds → ContractsRound g.nodes h (L r) (round_at rounds r) (L (r + 1))
   pub all : (x : ℕ) → x < g.nodes → Contains (concat rounds) x
 
--- levels count the nodes from 1, round after round, and in a round by number; a node's up legs are the legs from it
--- just before its round, and its down legs the legs to it
+-- levels count the nodes from 1, round after round, and in a round by number. A node's up legs are the legs
+-- from it just before its round, and its down legs the legs to it
 pub record IsHierarchyOfRounds (g : Network) (H : LevelsAndLegs) (rounds : List (List ℕ)) (L : ℕ → Legs) : Type 0 where
   pub sizes : (length H.level ≡ g.nodes) × (length H.up ≡ g.nodes) × (length H.down ≡ g.nodes)
   pub level : (i : ℕ) → i < g.nodes → slice_index H.level (slice_index (concat rounds) i) ≡ i + 1

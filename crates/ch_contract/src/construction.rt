@@ -48,10 +48,10 @@ pub fn build<R: Threads + Sync, G: Gate>(
 /// Builds the contraction hierarchy of a graph in this order, where a witness has at most `hops` legs. In each
 /// order it is kept for the graph, so distances are the same. For workers and errors see [`build`].
 ///
-/// By [`OrderBy::Rounds`] workers share each round in four jobs over nodes: the keys of the remaining nodes,
-/// the choice of the round, the shortcuts of the round, and the counts of shortcuts. The caller does a job of
-/// fewer than `crew.plan.wide()` nodes alone. Before each round the gate's `watch` receives the number of
-/// contracted nodes.
+/// By [`OrderBy::Rounds`] workers share each round in four jobs over nodes. These compute the keys of the
+/// remaining nodes, choose the round, find its shortcuts, and count shortcuts. The caller does a job of fewer
+/// than `crew.plan.wide()` nodes alone. Before each round the gate's `watch` receives the number of contracted
+/// nodes.
 pub fn build_by<R: Threads + Sync, G: Gate>(
     crew: &Crew<'_, R, G>,
     graph: &Graph,
@@ -97,8 +97,8 @@ const NODE_WORDS: usize = 12;
 const ARC_WORDS: usize = 8;
 
 /// Asks at once for about as much memory as building will take, and gives it back. If there is less memory,
-/// building fails now and not after most nodes are contracted. The clause passes on what the calls on the graph
-/// ensure: it keeps the limits.
+/// building fails now and not after most nodes are contracted. The clause says that the graph keeps the limits.
+/// It follows from the calls on the graph.
 fn ask_ahead(alloc: Global, graph: &Graph) -> Result<(), AllocError>
     ensures { IsWithinLimits graph.now }
 {

@@ -11,8 +11,7 @@ use ch_hierarchy::Leg;
 use ch_work::ListJob;
 use std::alloc::{AllocError, Global};
 
-/// The job that says of each node whether it comes before all others within two legs. These nodes make the
-/// round.
+/// The job that tests whether each node comes before all others within two legs. These nodes make the round.
 #[derive(Drop)]
 pub(crate) struct FirstJob<'a> {
     pub(crate) remaining: &'a Remaining,

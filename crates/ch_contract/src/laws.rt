@@ -1,4 +1,4 @@
-//! Laws, each of which is the contract of a function that does nothing, and worked examples of the definitions.
+//! Laws, and worked examples of the definitions. Each is the contract of a function that does nothing.
 
 pub mod keeping;
 pub mod one_order;

@@ -85,8 +85,7 @@ impl LegLists {
         Ok(())
     }
 
-    /// Puts an arc in as the leg of `node` at `other`. If the leg that is there weighs less, its weight is
-    /// kept.
+    /// Puts an arc in as the leg of `node` at `other`. If there is a leg that weighs less, its weight is kept.
     pub(crate) fn put_arc(&mut self, node: u32, other: u32, weight: u64) -> Result<(), AllocError>
         requires node { node < length self.old.rows }
         requires rows { AreRows self.old.rows }

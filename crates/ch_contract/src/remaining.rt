@@ -72,7 +72,7 @@ impl Remaining {
         self.light
     }
 
-    /// Returns the legs from `v`, ordered by the node to which they lead. It takes no memory.
+    /// Returns the legs from `v`, ordered by their ends. It takes no memory.
     pub fn out_legs(&self, v: u32) -> &[Leg]
         requires { v < self.now.nodes }
         ensures { AreLegsFrom (legs_of self.now) v result.now }
@@ -80,7 +80,7 @@ impl Remaining {
         self.outs.at(v)
     }
 
-    /// Returns the legs to `v`, ordered by the node from which they come. It takes no memory.
+    /// Returns the legs to `v`, ordered by their starts. It takes no memory.
     pub fn in_legs(&self, v: u32) -> &[Leg]
         requires { v < self.now.nodes }
         ensures { AreLegsTo (legs_of self.now) v result.now }

@@ -9,7 +9,7 @@ use Rattle.ch_engine.specs.NearRows.{AreRowsAt, IsKeptRow, IsRowAt, StandsAt, be
 abbrev pub Agree : ℕ → List ℕ → List ℕ → List ℕ → List ℕ → Type 0
 Agree at weights places weights' places' = (k : ℕ) → k < at → (get_or weights' k 0 ≡ get_or weights k 0) × (get_or places' k 0 ≡ get_or places k 0)
 
--- a row stays if it ends before the place from which the arrays change
+-- a row stays if the arrays change only after its end
 row_stays : (held : Held) (s begin end at : ℕ) (weights places weights' places' : List ℕ) → IsRowAt held s begin end weights places → end ≤ at → Agree at weights places weights' places' →
     length weights' ≡ length weights → IsRowAt held s begin end weights' places'
 row_stays held s begin end at weights places weights' places' row low agree long = (

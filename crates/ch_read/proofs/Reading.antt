@@ -219,7 +219,7 @@ module _ {A B : Type 0} (a : Item → A) (b : Item → B) (form : Form) (begun :
       (within_same form (Some h) [] [] _ _ (items_same form before text First no_item.0 ∙ none.0) (items_same form before text Second no_item.1 ∙ none.1)
       (problem.size, none_within form First h, none_within form Second h))
 
-  -- the limits of what was read before an item
+  -- the items before an item are within the limits
   before_item : (h : Heading) → seen ≡ Some h → IsWithin form (Some h) (items_in form First before) (items_in form Second before)
   before_item h is = subst (λ s. IsWithin form s (items_in form First before) (items_in form Second before)) is read.within
 

@@ -116,8 +116,8 @@ all_before [] parts some = refl
 all_before (part ∷ ended) parts some =
     line_before part (ended ++ parts) (omega (arith, length-append ended parts)) ∙ ap (λ (all : List (List ℕ)). part ∷ all) (all_before ended parts some)
 
--- for each cut of the bytes, the lines are those that end in the first part, and then those of the rest of it with the
--- second
+-- for each cut of the bytes, the lines are those that end in the first part, and then those of the rest of it
+-- with the second part
 pub lines_cut : (bytes more : List ℕ) → lines (bytes ++ more) ≡ ended_lines bytes ++ lines (unended bytes ++ more)
 lines_cut bytes more =
     let are = parts_are bytes in

@@ -76,8 +76,8 @@ problem_checks form seen ws =
     ∷ (passes (is_size form) (heading form ws), Size)
     ∷ []
 
--- the checks of an item line of this part, after this heading or none and this number of items of the part; `numbers`
--- are its numbers, if it has the words of its form
+-- the checks of an item line of this part, after this heading or none and after `count` items of the part.
+-- `numbers` are the numbers of the line, if it has the words of its form
 abbrev pub item_checks : Form → Part → Option Heading → ℕ → Option (List ℕ) → List Check
 item_checks form part seen count numbers =
     (is_some seen, NoProblem)

@@ -64,7 +64,7 @@ numbers_after [] count ws = if length ws == count then numbers ws else None
 numbers_after (h ∷ hs) count [] = None
 numbers_after (h ∷ hs) count (w ∷ ws) = if bytes_eq w h then numbers_after hs count ws else None
 
--- the heading that the numbers of a problem line declare; query files and lists have the number of nodes
+-- the heading that the numbers of a problem line declare. Query files and lists have the number of nodes
 -- of their graph, and the order of a saved hierarchy has all its nodes
 abbrev pub heading_from : Form → List ℕ → Heading
 heading_from Graph ns = record { nodes = slice_index ns 0; items = record { first = slice_index ns 1; second = 0 } }

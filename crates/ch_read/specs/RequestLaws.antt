@@ -47,8 +47,8 @@ unended bytes = last_of (slice_split (λ b. b == 10) bytes)
 abbrev pub went_by : ℕ → List ℕ → Went
 went_by n bytes = went n 0 nothing (ended_lines bytes)
 
--- for each cut of the bytes: their requests and fault are those of the lines that end in the first part, and then those
--- of the rest of the first part with the second
+-- for each cut: the requests and the fault are those of the lines that end in the first part, then those of its rest
+-- with the second part
 abbrev pub AreToldByParts : Type 0
 AreToldByParts = (n : ℕ) (first second : List ℕ) → told_by n (first ++ second) ≡ and_then n (went_by n first) (lines (unended first ++ second))
 

@@ -254,8 +254,8 @@ Gives ended old new given = (more : List ℕ) → MayCome ended more → ahead o
 abbrev pub HasGiven : Bool → ℕ → List ℕ → Standing → List Request → Type 0
 HasGiven ended n bytes s given = (more : List ℕ) → MayCome ended more → told_by n (bytes ++ more) ≡ after_these given (ahead s more)
 
--- no line is whole in the pending bytes, which are at most as many as a line may have; at the end no byte is left, and
--- the lists have all their nodes
+-- no line is whole in the pending bytes, and these fit into a line. At the end no byte is left, and the lists
+-- have all their nodes
 abbrev pub IsUsedUp : Bool → Standing → Type 0
 IsUsedUp false s = (position (λ b. b == 10) s.pending ≡ None) × (length s.pending ≤ MOST_LINE)
 IsUsedUp true s = (s.pending ≡ []) × (end_of_requests (line_after s.line) s.begun ≡ None)

@@ -22,8 +22,11 @@ pub enum FaultKind {
     BadLine,
     /// A node is not from 1 to the number of nodes, or a middle is above the number of nodes.
     NodeRange,
-    /// The number of nodes times the weight of an arc is more than 2^60, the weight of a leg is more than 2^60,
-    /// a leg has more than 2^25 arcs, or the limit of a request is more than 2^60.
+    /// A number is too large:
+    ///
+    /// - The number of nodes times the weight of an arc is more than 2^60.
+    /// - A leg weighs more than 2^60, or has more than 2^25 arcs.
+    /// - The limit of a request is more than 2^60.
     Sum,
     /// A declared number is above its limit, or a hierarchy does not have as many nodes as its graph.
     Size,

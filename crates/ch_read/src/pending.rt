@@ -83,8 +83,8 @@ impl Pending {
 }
 
 /// Drops the first `start` bytes if they are at least half of all. Returns the number of bytes at the front
-/// that are still to be skipped. That is why at most twice as many bytes are kept as are still to be read, and
-/// a call moves at most as many bytes as it drops.
+/// that are still to be skipped. At most half of the kept bytes are to be skipped, and a call moves at most as
+/// many bytes as it drops.
 fn forget(bytes: &mut Vec<u8>, start: usize) -> usize
     requires { start ≤ vec_len bytes.old }
     ensures same { drop result bytes.new.items ≡ drop start bytes.old.items }

@@ -1,4 +1,4 @@
--- The costs for which held costs of each form stand.
+-- The costs of held costs, in each form.
 use Rattle.std.proofs.Common.{◌≡◌, ℕ, ◌<◌, Bool, true, false, List, [], ◌∷◌, ◌++◌, length, map, set, get_or, All, Contains, sym, ◌∙◌, ap, subst, arith, inl, inr}
 use Rattle.std.specs.Prelude.{◌⊎◌, ◌≢◌, if◌then◌else◌}
 use Rattle.std.proofs.lemmas.Bool.{cases_eq}
@@ -13,7 +13,7 @@ use Rattle.ch_contract.specs.HeldCosts.{never, IsLight, IsHeld, IsAddend}
 use Rattle.ch_contract.specs.KnownCosts.{known_in, known_at, AreTouched, known_of, chain_start_of, Lowers, IsOnly}
 use Rattle.ch_contract.proofs.code.Lowering.{lowers_here, lowers_none}
 
--- the known cost of a node is the one for which its held cost stands
+-- the known cost of a node is the cost of its held cost
 pub known_cost_of : {K : Type 0} (cost : K → Cost) (h : KnownCosts K) (x : ℕ) (d : K) → x < length h.costs.items → known_at (known_of cost h) x ≡ cost (get_or h.costs.items x d)
 known_cost_of cost h x d lt = get_or-map cost h.costs.items x d never lt
 

@@ -118,7 +118,7 @@ module _ (n : ℕ) (L : Legs) (lists : List (List Leg)) (s : Wanted) (hops : ℕ
         ),
       )
 
-  -- the search meets the last legs of a chain exactly where there is a witness
+  -- the search meets the last legs of a chain exactly if there is a witness
   pub met_is_witness : IsMet h lists s.avoided start most hops ↔ HasWitness L s.avoided start s.end most hops
   met_is_witness = (met_found, λ w. met_by w.0 w.1)
 

@@ -1,4 +1,4 @@
--- The pointer loses its type, and owns what the parts owned.
+-- The pointer loses its type, and owns the same as the parts.
 use Rattle.ch_c.proofs.Steps.{[], ◌∷◌, refl, proved, ftrue, ‵, ◌⊛◌, id⊢, use1, ◌$◌, ◌∵◌, !, qed, done, drop, keep, split, join, fsplit, fjoin, suffices, enter, of_opd, stop, fld, whole, sub, no_more, and_then, agg, returns, alloc_all, pass_all, free_all, look_at, get, get_in, sets, yes, plain, nothing, owned, Stays, walk_of, says, stay_dropped, Goes-dropped, ends_at}
 use Rattle.std.specs.Prelude.{Some}
 use denote.Struct.Laws as struct

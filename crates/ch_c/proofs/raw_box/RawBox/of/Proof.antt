@@ -1,4 +1,4 @@
--- The parts of a box own what it owned.
+-- The parts of a box own the same as the box.
 use Rattle.ch_c.proofs.Steps.{◌≡◌, [], ◌∷◌, refl, ap, proved, full_share, id⊢, emp, ftrue, fact, fact_i, tables, ‵, raw, ◌⊛◌, some, later, ◌$◌, ◌∵◌, !, qed, done, move, keep, drop, use0, use1, use2, split, join, fjoin, pick, await, suffices, enter, of_opd, stop, fld, whole, sub, no_more, and_then, agg, returns, alloc_all, pass_all, free_all, look_at, get, get_in, sets, lands_as, no, plain, nothing, owned, facts, only, calls_at, triple_of, framed, Stays, walk_of, says, stay_dropped, ends_at}
 use mir.Syntax.{Args, Dict, a_type, dcons, dnil}
 use mir.MapTy.{inst_fn}
