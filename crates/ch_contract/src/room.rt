@@ -1,4 +1,4 @@
-//! The rooms for judging nodes: for finding the shortcuts of a node, and counting them and the legs that touch
+//! Rooms for judging nodes. To judge a node is to find its shortcuts, and to count them and the legs that touch
 //! it.
 ghost use Rattle.std.specs.Prelude.{◌≡◌, ℕ, ◌<◌, ◌++◌, ◌∷◌, [], length, IfOk, IfSome, OnOk, slice_index};
 ghost use Rattle.ch_contract.specs.Legs.{Legs, IsHopBound, turned_legs};

@@ -62,7 +62,7 @@ impl<K: HeldCost> WitnessSearch<K> {
         }
     }
 
-    /// Gives an idle search room for `nodes` nodes, if it has none.
+    /// Gives an idle search room for exactly `nodes` nodes, unless it has that already.
     pub(crate) fn fit(&mut self, alloc: Global, nodes: u32) -> Result<(), AllocError>
         requires { IsIdle (known_of K.cost self.old.known) }
         ensures { OnOk result (IsClean nodes (known_of K.cost self.new.known)) }
