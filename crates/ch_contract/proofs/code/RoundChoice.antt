@@ -16,7 +16,7 @@ split_none P = record {
   count = refl;
 }
 
--- one more number at the end of an ordered list
+-- an ordered list stays in order when a number above all others is appended
 pub ordered_push : (xs : List ℕ) (y : ℕ) → AllPairs ◌<◌ xs → ((x : ℕ) → Contains xs x → x < y) → AllPairs ◌<◌ (xs ++ y ∷ [])
 ordered_push xs y ordered below =
     pairs_append ◌<◌ xs (y ∷ []) ordered (λ i j d lt inside. absurd (omega arith))
