@@ -125,7 +125,8 @@ uint32_t chtab_version(void);
 
 /* Opens a closed handle with a graph and its saved hierarchy: the bytes of the two files. `chtab save` makes the second,
  * but you may take both from anywhere: faulty files are refused. The call checks the hierarchy against the graph, and that
- * takes some time: open once, and ask often. You may free the bytes afterwards.
+ * takes some time: open once, and ask often. If `saved_len` is 0, the call builds the hierarchy itself, by depth. That takes
+ * 3 to 15 microseconds a node of a road network, and nothing can break it off. You may free the bytes afterwards.
  * Errors: CHTAB_IS_OPEN, CHTAB_NO_MEMORY, CHTAB_BAD_GRAPH, CHTAB_BAD_SAVED, CHTAB_WRONG_SAVED. All of these except the
  * first write `fault`; it is all 0 for CHTAB_NO_MEMORY. Otherwise `fault` stays. */
 uint32_t chtab_open(chtab *handle, const uint8_t *graph, size_t graph_len, const uint8_t *saved, size_t saved_len,

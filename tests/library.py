@@ -112,11 +112,11 @@ def run_example(tally, folder, saved):
 
 
 def refuse_memory(tally, folder, saved):
-    """Each request for memory of each call is refused in turn, and no memory is left."""
+    """Each request for memory of each call is refused in turn, and no memory is left. So is each one of an opening that builds."""
     built = done("gcc", "-std=c89", *WARNINGS, REFUSALS, f"-I{MADE}/include", MADE / "lib/libchtab.a", "-Wl,--wrap=malloc,--wrap=realloc", "-o", folder / "refusals")
     tally.expect(built.returncode == 0 and not built.stderr, f"{REFUSALS.name}: {built.stderr}")
-    for graph, hierarchy in saved.items():
-        answer = done(*(VALGRIND if shutil.which("valgrind") and graph is GRAPHS[0] else ()), folder / "refusals", graph, hierarchy)
+    for graph, *hierarchy in *saved.items(), (GRAPHS[0],):
+        answer = done(*(VALGRIND if shutil.which("valgrind") and graph is GRAPHS[0] else ()), folder / "refusals", graph, *hierarchy)
         refused = re.fullmatch(r"(\d+) requests refused\n", answer.stdout)
         tally.expect(answer.returncode == 0 and not answer.stderr and refused, f"{REFUSALS.name} on {graph.name}: {answer.stdout}{answer.stderr}")
         tally.passed += int(refused[1]) if refused else 0
@@ -176,6 +176,14 @@ def compare_answers(tally, folder, library, graph, hierarchy):
         wanted = 0, distance, len(nodes), nodes
         status, weight, length, came = library.route(handle, source, target, count)
         tally.expect((status, weight, length, came[:length]) == wanted, f"{graph.name}: the route from {source} to {target}")
+    library.close(handle)
+
+
+def compare_built(tally, library, graph):
+    """Without a saved hierarchy, one is built: the one that `chtab save --deep` writes."""
+    status, handle, _ = library.open(graph.read_bytes(), b"")
+    owed = run(["save", "--deep", graph], graph.parent).out
+    tally.expect((status, *library.save(handle, len(owed))) == (0, 0, len(owed), owed), f"{graph.name}: the hierarchy that is built")
     library.close(handle)
 
 
@@ -240,6 +248,8 @@ def ask_in_threads(tally, library, graph, hierarchy):
 LINE, OF_LINE = b"p sp 3 2\na 1 2 4\na 2 3 5\n", b"p ch 3 2\no 1\no 2\no 3\nl 1 2 4 1 0\nl 2 3 5 1 0\n"
 FAULTY = (
     (b"", OF_LINE, "BAD_GRAPH", (1, 0, 4)),
+    (b"", b"", "BAD_GRAPH", (1, 0, 4)),
+    (LINE, b"\n", "BAD_SAVED", (1, 0, 1)),
     (LINE + b"a 1 2 3\n", OF_LINE, "BAD_GRAPH", (4, 0, 9)),
     (LINE.replace(b"a 2 3", b"a 2 4"), OF_LINE, "BAD_GRAPH", (3, 0, 6)),
     (LINE, OF_LINE.replace(b"p ch 3", b"p ch 4"), "BAD_SAVED", (1, 0, 8)),
@@ -293,6 +303,7 @@ def main():
         for graph in GRAPHS:
             compare_answers(tally, folder, library, graph, saved[graph])
             compare_near(tally, folder, library, graph, saved[graph])
+            compare_built(tally, library, graph)
         ask_in_threads(tally, library, GRAPHS[1], saved[GRAPHS[1]])
     fuzzed = done(sys.executable, ROOT / "tests/library/fuzz.py", calls, 1)
     passed, failed = map(int, (re.search(r"(\d+) passed, (\d+) failed$", fuzzed.stdout.strip()) or re.match("(0) (1)", "0 1")).groups())

@@ -1,6 +1,8 @@
 /* Refuses each request for memory of each call in turn, alone and with all that come after it.
  *
- *   refusals GRAPH SAVED
+ *   refusals GRAPH [SAVED]
+ *
+ * Without SAVED the hierarchy is built, and only opening is tried.
  *
  * Each call answers what it answers with ample memory, or CHTAB_NO_MEMORY; then its handle and its outputs are as before, and the same call
  * made again is answered. Link it with the archive and `-Wl,--wrap=malloc,--wrap=realloc`. It prints how many requests it refused. */
@@ -178,12 +180,8 @@ static uint8_t *bytes_of(const char *path, size_t *len) {
     return bytes;
 }
 
-int main(int count, char **words) {
+static void refuse_questions(void) {
     uint32_t nodes = 0, k;
-    if (count != 3) return 2;
-    g.graph = bytes_of(words[1], &g.graph_len);
-    g.saved = bytes_of(words[2], &g.saved_len);
-    refuse_each(open_network, close_network, "open");
     expect(open_network() == CHTAB_OK && chtab_nodes(&g.network, &nodes) == CHTAB_OK, "open");
     for (k = 0; k < 8; k++) g.ends[k] = k * (nodes - 1) / 7;
     refuse_each(share_network, close_other, "share");
@@ -198,6 +196,14 @@ int main(int count, char **words) {
     refuse_each(sweep_rows, keep_all_places, "sweep");
     refuse_each(write_rows, NULL, "near rows");
     close_network();
+}
+
+int main(int count, char **words) {
+    if (count != 2 && count != 3) return 2;
+    g.graph = bytes_of(words[1], &g.graph_len);
+    g.saved = count == 3 ? bytes_of(words[2], &g.saved_len) : (uint8_t *)malloc(1);
+    refuse_each(open_network, close_network, "open");
+    if (count == 3) refuse_questions();
     free(g.graph);
     free(g.saved);
     printf("%ld requests refused\n", refused);

@@ -1,12 +1,9 @@
 -- The results of the calls for C, and the state after them.
 use Rattle.std.specs.Prelude.{◌≡◌, ◌⊎◌, ℕ, zero, suc, IsSome, ◌+◌, ◌<◌, ◌≤◌, List, length, take, slice_index, slice_index_or, Option, Some, None}
 use Rattle.ch_graph.specs.declared.arc.InArc.{InArc}
-use Rattle.ch_graph.specs.Graph.{Network}
 use Rattle.ch_hierarchy.specs.declared.fault.CheckFault.{CheckFault}
 use Rattle.ch_hierarchy.specs.Hierarchy.{LevelsAndLegs, nodes_of}
-use Rattle.ch_hierarchy.specs.Kept.{IsKept}
 use Rattle.ch_read.specs.declared.fault.FaultKind.{FaultKind}
-use Rattle.ch_read.specs.Names.{NamesGraph}
 use Rattle.ch_query.specs.declared.routes.Route.{Route}
 use Rattle.ch_query.specs.Routes.{IsRouteBy}
 use Rattle.ch_text.specs.SaveText.{IsHierarchyText}
@@ -19,6 +16,7 @@ use Rattle.ch_engine.specs.declared.written.End.TheVariants as End
 use Rattle.ch_engine.specs.declared.written.Written.{Written}
 use Rattle.ch_engine.specs.Held.{Held, only, with_places}
 use Rattle.ch_engine.specs.NearRows.{AreRowsWritten}
+use Rattle.ch_engine.specs.Opened.{IsOpened}
 use Rattle.ch_engine.specs.Cells.{ArePairCells, AreTableCells, no_distance}
 use Rattle.ch_engine.specs.Refusals.{IsOpenError, IsRefusalOfPairs, IsRefusalOfPlaces, IsRefusalOfRoute, IsRefusalOfRows, IsRefusalOfSweep, IsRefusalOfTable}
 use Rattle.ch_c.specs.declared.faults.Fault.{Fault}
@@ -121,7 +119,7 @@ IsSaved H size_before size before after status =
 abbrev pub IsOpening : List ℕ → List ℕ → Option Held → Option Held → Fault → Fault → ℕ → Type 0
 IsOpening graph saved (Some held) after fault_before fault status = (status ≡ IS_OPEN) × (after ≡ Some held) × (fault ≡ fault_before)
 IsOpening graph saved None after fault_before fault status =
-    ((status ≡ OK) × ((H : LevelsAndLegs) × (after ≡ Some (only H)) × ((g : Network) × NamesGraph graph g × IsKept g H)) × (fault ≡ fault_before))
+    ((status ≡ OK) × ((H : LevelsAndLegs) × (after ≡ Some (only H)) × IsOpened graph saved H) × (fault ≡ fault_before))
     ⊎ ((error : OpenError) × (status ≡ error_status error) × (after ≡ None) × (fault ≡ fault_of error) × IsOpenError graph saved error)
 
 -- an open handle is not opened again; a closed one gets the network of an open one, without its places, or there is

@@ -1,9 +1,7 @@
 //! The answers of an engine, as C sees them.
 ghost use Rattle.std.specs.Prelude.{◌≡◌, ◌+◌, ◌<◌, ℕ, length, IfErr, IfOk, Option, None, Some};
-ghost use Rattle.ch_graph.specs.Graph.{Network};
-ghost use Rattle.ch_hierarchy.specs.Kept.{IsKept};
-ghost use Rattle.ch_read.specs.Names.{NamesGraph};
 ghost use Rattle.ch_engine.specs.Held.{only};
+ghost use Rattle.ch_engine.specs.Opened.{IsOpened};
 ghost use Rattle.ch_engine.specs.Refusals.{IsOpenError};
 ghost use Rattle.ch_c.specs.Calls.{ArePairsAnswered, AreRouteNodes, IsRouteAnswered, IsRouteTold, IsSaved, IsTableAnswered};
 
@@ -32,7 +30,7 @@ pub(crate) fn opened(
     graph: &[u8],
     saved: &[u8],
 ) -> Result<Box<Engine, Global>, OpenError>
-    ensures value { IfOk result (λ engine. (engine.value.near ≡ None) × ((g : Network) × NamesGraph graph.now g × IsKept g engine.value.hierarchy)) }
+    ensures value { IfOk result (λ engine. (engine.value.near ≡ None) × IsOpened graph.now saved.now engine.value.hierarchy) }
     ensures error { IfErr result (IsOpenError graph.now saved.now) }
 {
     let engine = Engine::open(alloc, graph, saved)?;

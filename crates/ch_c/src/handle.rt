@@ -69,7 +69,8 @@ pub extern "C" fn chtab_version() -> u32
     VERSION
 }
 
-/// Opens a closed handle with a graph and its saved hierarchy. The hierarchy is checked against the graph.
+/// Opens a closed handle with a graph and its saved hierarchy. The hierarchy is checked against the graph. If
+/// `saved` is empty, the hierarchy is built by depth.
 #[unsafe(no_mangle)]
 pub extern "C" fn chtab_open(
     alloc: Global,

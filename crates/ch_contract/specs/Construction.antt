@@ -1,10 +1,14 @@
 -- A hierarchy that is being built one node after the other.
-use Rattle.std.specs.Prelude.{◌≡◌, ◌≤◌, ℕ, All, length, slice_index}
+use Rattle.std.specs.Prelude.{◌≡◌, ◌+◌, ◌≤◌, ℕ, All, List, None, length, slice_index, slice_set}
 use Rattle.ch_graph.specs.declared.limits.TheConstants.{MOST_NODES}
 use Rattle.ch_hierarchy.specs.Rows.{row}
 use Rattle.ch_contract.specs.declared.construction.Construction.{Construction}
 use Rattle.ch_contract.specs.Progress.{Progress}
-use Rattle.ch_contract.specs.Remaining.{legs_of}
+use Rattle.ch_contract.specs.Legs.{turned_legs}
+use Rattle.ch_contract.specs.Contraction.{Contracts}
+use Rattle.ch_contract.specs.Measures.{AreDeepened}
+use Rattle.ch_contract.specs.Priorities.{neighbours_in}
+use Rattle.ch_contract.specs.Remaining.{legs_of, IsSetAside}
 use Rattle.ch_contract.specs.Rooms.{IsIdleRoom, IsReady}
 
 -- the progress of the construction: the rows are the legs that were set aside
@@ -23,3 +27,17 @@ pub record IsSized (c : Construction) : Type 0 where
 -- the caller's room is ready to judge nodes with the remaining legs, and the workers' rooms are idle
 abbrev pub IsJudging : ℕ → Construction → Type 0
 IsJudging h c = IsReady c.remaining.nodes h (legs_of c.remaining) c.room × All IsIdleRoom c.rooms.items
+
+-- v is contracted and out of the queue, and its neighbours lie deeper; all else is as before, also the priorities of the
+-- neighbours
+pub record IsTaken (h : ℕ) (before : Construction) (v : ℕ) (neighbours : List ℕ) (after : Construction) : Type 0 where
+  pub nodes : after.remaining.nodes ≡ before.remaining.nodes
+  pub legs : Contracts before.remaining.nodes h (legs_of before.remaining) v (legs_of after.remaining)
+  pub up : IsSetAside (legs_of before.remaining) v before.remaining.ups after.remaining.ups
+  pub down : IsSetAside (turned_legs (legs_of before.remaining)) v before.remaining.downs after.remaining.downs
+  pub listed : neighbours ≡ neighbours_in (row after.remaining.ups v) (row after.remaining.downs v)
+  pub deeper : AreDeepened neighbours (slice_index before.depths.items v + 1) before.depths.items after.depths.items
+  pub waiting : after.waiting ≡ slice_set before.waiting v None
+  pub levels : after.levels.items ≡ before.levels.items
+  pub contracted : after.contracted ≡ before.contracted
+  pub ready : IsJudging h after

@@ -1,5 +1,9 @@
 //! Builds the hierarchy of a graph in each order. Here the nodes are contracted one after the other; rounds are
 //! in a module of their own.
+mod alone;
+
+pub use alone::build_alone;
+
 ghost use Rattle.std.specs.Prelude.{◌≡◌, ◌<◌, ◌≤◌, ◌++◌, IfOk, OnOk, map};
 ghost use Rattle.ch_graph.specs.Graph.{IsWithinLimits};
 ghost use Rattle.ch_contract.specs.Legs.{IsHopBound};
@@ -134,7 +138,7 @@ impl Construction {
     ghost use Rattle.ch_contract.specs.Remaining.{legs_of};
     ghost use Rattle.ch_hierarchy.specs.Hierarchy.{LevelsAndLegs, IsLevelled};
     ghost use Rattle.ch_contract.specs.Progress.{AreAll, IsNext, IsOpen, IsStep};
-    ghost use Rattle.ch_contract.specs.Construction.{IsSized, IsJudging, progress_of};
+    ghost use Rattle.ch_contract.specs.Construction.{IsSized, IsJudging, IsTaken, progress_of};
 
     /// Starts the construction of the hierarchy of a graph. No node is contracted yet.
     fn open<R: Threads + Sync, G: Gate>(
@@ -177,7 +181,7 @@ impl Construction {
 
     /// Contracts a node, and keeps its level and its legs.
     fn contract<R: Threads + Sync, G: Gate>(
-        mut self,
+        self,
         crew: &Crew<'_, R, G>,
         node: u32,
         hops: u32,
@@ -195,31 +199,53 @@ impl Construction {
         ensures step { IfOk result (λ c. IsStep by self.remaining.nodes hops (progress_of self) node (progress_of c)) }
         ensures ready { IfOk result (IsJudging hops) }
     {
-        let remaining = self.remaining;
-        self.remaining = self.room.contract(crew.alloc, remaining, node, hops)?;
-        let _ = self.waiting.remove(node);
-        let neighbours = neighbours(
-            crew.alloc,
-            self.remaining.up_legs(node),
-            self.remaining.down_legs(node),
-        )?;
-        deepen(&mut self.depths, neighbours.as_slice(), node);
+        let (mut taken, neighbours) = self.take(crew.alloc, node, hops)?;
         let job = PriorityJob {
-            remaining: &self.remaining,
-            depths: self.depths.as_slice(),
+            remaining: &taken.remaining,
+            depths: taken.depths.as_slice(),
             hops,
             by,
         };
         job.refresh(
             crew,
             neighbours.as_slice(),
-            &mut self.room,
-            &mut self.rooms,
-            &mut self.waiting,
+            &mut taken.room,
+            &mut taken.rooms,
+            &mut taken.waiting,
         )?;
-        self.contracted += 1;
-        self.levels[node as usize] = self.contracted;
-        Ok(self)
+        taken.contracted += 1;
+        taken.levels[node as usize] = taken.contracted;
+        Ok(taken)
+    }
+
+    /// Contracts a node, takes it out of the queue, and lays its neighbours deeper. Returns the neighbours too. Their
+    /// priorities are still those from before.
+    fn take(
+        mut self,
+        alloc: Global,
+        node: u32,
+        hops: u32,
+    ) -> Result<(Construction, Vec<u32>), AllocError>
+        requires sizes { IsSized self }
+        requires limits { AreLegsWithin self.remaining.nodes (legs_of self.remaining) }
+        requires node { node < self.remaining.nodes }
+        requires count { self.contracted < self.remaining.nodes }
+        requires depth { slice_index self.depths.items node ≤ self.contracted }
+        requires ready { IsJudging hops self }
+        requires hops { IsHopBound hops }
+        ensures sizes { IfOk result (λ r. IsSized r.0) }
+        ensures taken { IfOk result (λ r. IsTaken hops self node r.1.items r.0) }
+    {
+        let remaining = self.remaining;
+        self.remaining = self.room.contract(alloc, remaining, node, hops)?;
+        let _ = self.waiting.remove(node);
+        let neighbours = neighbours(
+            alloc,
+            self.remaining.up_legs(node),
+            self.remaining.down_legs(node),
+        )?;
+        deepen(&mut self.depths, neighbours.as_slice(), node);
+        Ok((self, neighbours))
     }
 
     /// Returns the hierarchy when every node is contracted. It first frees the memory that the hierarchy does

@@ -32,7 +32,7 @@ mod witness_search;
 mod witness_searches;
 
 pub use ch_hierarchy::{CheckError, CheckFault, Hierarchy, Leg, assemble};
-pub use construction::{build, build_by};
+pub use construction::{build, build_alone, build_by};
 pub use measure::OrderBy;
 pub use remaining::{Remaining, Removed};
 pub use shortcut::Shortcut;

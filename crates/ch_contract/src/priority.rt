@@ -46,6 +46,30 @@ pub(crate) fn opening_queue<R: Threads + Sync, G: Gate>(
     Ok(waiting)
 }
 
+/// Returns the queue of all nodes, each with its priority, as [`opening_queue`] does. The caller computes them alone.
+pub(crate) fn opening_queue_alone(
+    alloc: Global,
+    remaining: &Remaining,
+    depths: &[u32],
+    hops: u32,
+    by: OrderBy,
+) -> Result<KeyQueue<i64>, AllocError>
+    requires hops { IsHopBound hops }
+    requires depths { length depths.now ≡ remaining.now.nodes }
+    ensures { IfOk result (ArePriorities (IsPriorityIn by remaining.now hops depths.now) remaining.now.nodes) }
+{
+    let nodes = all_nodes(alloc, remaining.nodes())?;
+    let job = PriorityJob {
+        remaining,
+        depths,
+        hops,
+        by,
+    };
+    let mut waiting = KeyQueue::new(alloc, remaining.nodes())?;
+    job.set_in_turn(alloc, nodes.as_slice(), &mut waiting)?;
+    Ok(waiting)
+}
+
 /// Returns the nodes in order of number.
 pub(crate) fn all_nodes(alloc: Global, nodes: u32) -> Result<Vec<u32>, AllocError>
     ensures { IfOk result (λ list. list.items ≡ range_with_len 0 nodes) }
@@ -145,8 +169,30 @@ impl PriorityJob<'_> {
         Ok(())
     }
 
-    /// Gives these nodes the priorities that they have now. The nodes are judged in this room.
-    fn refresh_here(
+    /// Gives these nodes the priorities that they have now, one after the other in a room of their own. The room forgets
+    /// the shortcuts of a node before it judges the next, because few of these nodes are contracted soon.
+    pub(crate) fn set_in_turn(
+        &self,
+        alloc: Global,
+        nodes: &[u32],
+        waiting: &mut KeyQueue<i64>,
+    ) -> Result<(), AllocError>
+        requires nodes { All (λ x. x < self.now.remaining.now.nodes) nodes.now }
+        requires size { length waiting.old ≡ self.now.remaining.now.nodes }
+        ensures { OnOk result (AreRefreshed
+            (IsPriorityIn self.now.by self.now.remaining.now self.now.hops self.now.depths.now)
+            nodes.now waiting.old waiting.new) }
+    {
+        let mut room = Room::new(alloc);
+        for node in nodes {
+            let priority = self.value(alloc, &mut room, node)?;
+            waiting.set(*node, priority);
+        }
+        Ok(())
+    }
+
+    /// Gives these nodes the priorities that they have now, judged in this room.
+    pub(crate) fn refresh_here(
         &self,
         alloc: Global,
         nodes: &[u32],

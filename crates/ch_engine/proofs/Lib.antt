@@ -2,3 +2,4 @@ mod Filled
 mod Bounds
 mod Rows
 pub mod NearRows
+mod WhichHierarchy

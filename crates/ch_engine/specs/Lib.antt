@@ -2,3 +2,4 @@ pub mod Cells
 pub mod Held
 pub mod NearRows
 pub mod Refusals
+pub mod Opened

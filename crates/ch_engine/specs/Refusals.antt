@@ -1,5 +1,5 @@
 -- The conditions of the errors: when a network is not opened, and when a question is refused.
-use Rattle.std.specs.Prelude.{◌≡◌, ℕ, ◌*◌, ◌<◌, ◌≤◌, List, length, All, Option, None, ⊤}
+use Rattle.std.specs.Prelude.{◌≡◌, ◌≢◌, ℕ, ◌*◌, ◌<◌, ◌≤◌, List, [], length, All, Option, None, ⊤}
 use Rattle.ch_graph.specs.declared.limits.TheConstants.{MOST_LISTED}
 use Rattle.ch_graph.specs.Graph.{Network}
 use Rattle.ch_graph.specs.Saved.{OrderAndLegs}
@@ -15,7 +15,7 @@ use Rattle.ch_near.specs.Searched.{Asked}
 abbrev pub IsOpenError : List ℕ → List ℕ → OpenError → Type 0
 IsOpenError graph saved OpenError.NoMemory = ⊤
 IsOpenError graph saved (OpenError.BadGraph f) = IsFault Graph graph f.line f.kind
-IsOpenError graph saved (OpenError.BadSaved f) = (g : Network) × NamesGraph graph g × IsFault (Saved g.nodes) saved f.line f.kind
+IsOpenError graph saved (OpenError.BadSaved f) = (saved ≢ []) × ((g : Network) × NamesGraph graph g × IsFault (Saved g.nodes) saved f.line f.kind)
 IsOpenError graph saved (OpenError.WrongSaved f) = (g : Network) × (s : OrderAndLegs) × NamesGraph graph g × NamesSaved saved g.nodes s × IsFirstFault g s f
 
 -- the numbers are nodes of a network of n nodes

@@ -1,13 +1,11 @@
 //! Engines: a network, with room for the questions of one thread.
 ghost use Rattle.std.specs.Prelude.{◌≡◌, ◌<◌, length, IfErr, IfOk, None, OnOk, MatchOption, ⊤};
-ghost use Rattle.ch_graph.specs.Graph.{Network as Given};
 ghost use Rattle.ch_hierarchy.specs.Hierarchy.{nodes_of};
-ghost use Rattle.ch_hierarchy.specs.Kept.{IsKept};
 ghost use Rattle.ch_query.specs.Distance.{IsKeptForSome};
 ghost use Rattle.ch_query.specs.Routes.{IsRouteBy};
-ghost use Rattle.ch_read.specs.Names.{NamesGraph};
 ghost use Rattle.ch_text.specs.SaveText.{IsHierarchyText};
 ghost use Rattle.ch_engine.specs.Held.{only};
+ghost use Rattle.ch_engine.specs.Opened.{IsOpened};
 ghost use Rattle.ch_engine.specs.Cells.{ArePairCells, AreTableCells, IsCell};
 ghost use Rattle.ch_engine.specs.Refusals.{AreNodes, IsOpenError, IsRefusalOfPairs, IsRefusalOfRoute, IsRefusalOfTable};
 
@@ -52,13 +50,14 @@ impl Model for Engine {
 
 impl Engine {
     /// Opens an engine from the bytes of a graph file and of a file with its saved hierarchy. The hierarchy is
-    /// checked against the graph.
+    /// checked against the graph. If `saved` is empty, the hierarchy is built by depth. That takes some 3 to 15
+    /// microseconds a node of a road network.
     ///
     /// # Errors
     /// The first fault of the graph's bytes, otherwise that of the saved hierarchy's bytes, otherwise its first fault
     /// for the graph; or `NoMemory`.
     pub fn open(alloc: Global, graph: &[u8], saved: &[u8]) -> Result<Engine, OpenError>
-        ensures value { IfOk result (λ held. (held.near ≡ None) × ((g : Given) × NamesGraph graph.now g × IsKept g held.hierarchy)) }
+        ensures value { IfOk result (λ held. (held.near ≡ None) × IsOpened graph.now saved.now held.hierarchy) }
         ensures error { IfErr result (IsOpenError graph.now saved.now) }
     {
         let hierarchy = opened(alloc, graph, saved)?;

@@ -25,7 +25,7 @@ use Rattle.ch_contract.specs.Remaining.{legs_of, IsSetAside}
 use Rattle.ch_contract.specs.Progress.{IsNext, IsOpen, IsStep, AreAll}
 use Rattle.ch_contract.specs.Priorities.{ArePriorities, AreRefreshed, has_node, neighbours_in}
 use Rattle.ch_contract.specs.Measures.{IsPriorityIn, AreDeepened}
-use Rattle.ch_contract.specs.Construction.{progress_of, IsSized}
+use Rattle.ch_contract.specs.Construction.{progress_of, IsSized, IsTaken}
 use Rattle.ch_contract.proofs.theory.OneInTurn.{one_map}
 use Rattle.ch_contract.proofs.theory.Counts.{rows_touching, count_most}
 use Rattle.ch_contract.proofs.code.Neighbours.{neighbour_listed, not_listed, neighbour_within}
@@ -76,6 +76,40 @@ pub record IsStepped (by : OrderBy) (h : ℕ) (before : Construction) (v : ℕ) 
   pub refreshed : AreRefreshed (IsPriorityIn by after.remaining h after.depths.items) (neighbours_in (row after.remaining.ups v) (row after.remaining.downs v)) (slice_set before.waiting v None) after.waiting
   pub contracted : after.contracted ≡ before.contracted + 1
   pub levels : after.levels.items ≡ slice_set before.levels.items v after.contracted
+
+-- a construction keeps its sizes when a node is taken
+pub sized_taken : (h : ℕ) (before : Construction) (v : ℕ) (list : List ℕ) (after : Construction) → IsSized before → IsTaken h before v list after → IsSized after
+sized_taken h before v list after sizes t =
+    let nodes = t.nodes in
+    record {
+      nodes = let count = sizes.nodes in omega arith;
+      keys = ap length t.waiting ∙ length-set before.waiting v None ∙ sizes.keys ∙ sym nodes;
+      depths = t.deeper.size ∙ sizes.depths ∙ sym nodes;
+      levels = ap length t.levels ∙ sizes.levels ∙ sym nodes;
+      ups = t.up.size ∙ sizes.ups ∙ sym nodes;
+      downs = t.down.size ∙ sizes.downs ∙ sym nodes;
+    }
+
+-- what is refreshed, of lists as they are lent
+pub lent_refreshed : (IsOf : List ℕ → ℕ → ℤ → Type 0) (depths deep nodes lent : List ℕ) (old after : List (Option ℤ)) → deep ≡ depths → lent ≡ nodes → AreRefreshed (IsOf deep) lent old after → AreRefreshed (IsOf depths) nodes old after
+lent_refreshed IsOf depths deep nodes lent old after d a r = subst (λ l. AreRefreshed (IsOf depths) l old after) a (subst (λ e. AreRefreshed (IsOf e) lent old after) d r)
+
+-- the step is made once a node is taken, its neighbours have the priorities of now, and its level is kept
+pub stepped_taken : (by : OrderBy) (h : ℕ) (before : Construction) (v : ℕ) (list : List ℕ) (taken after : Construction) → IsTaken h before v list taken → after.remaining ≡ taken.remaining → after.depths.items ≡ taken.depths.items →
+    after.contracted ≡ taken.contracted + 1 → after.levels.items ≡ slice_set taken.levels.items v after.contracted →
+    AreRefreshed (IsPriorityIn by taken.remaining h taken.depths.items) list taken.waiting after.waiting → IsStepped by h before v after
+stepped_taken by h before v list taken after t remaining depths contracted levels refreshed =
+    let Refreshed : List ℕ → List (Option ℤ) → Type 0 = λ l old. AreRefreshed (IsPriorityIn by taken.remaining h taken.depths.items) l old after.waiting in
+    record {
+      nodes = ap (λ r. r.nodes) remaining ∙ t.nodes;
+      legs = rw remaining t.legs;
+      up = rw remaining t.up;
+      down = rw remaining t.down;
+      deeper = rw (remaining, depths) (subst (λ l. AreDeepened l (slice_index before.depths.items v + 1) before.depths.items taken.depths.items) t.listed t.deeper);
+      refreshed = rw (remaining, depths) (subst (λ l. Refreshed l (slice_set before.waiting v None)) t.listed (subst (λ w. Refreshed list w) t.waiting refreshed));
+      contracted = contracted ∙ ap (λ k. k + 1) t.contracted;
+      levels = levels ∙ ap (λ l. slice_set l v after.contracted) t.levels;
+    }
 
 -- a node is no neighbour of itself
 not_own : (n : ℕ) (L : Legs) (v : ℕ) → AreLegsWithin n L → are_neighbours L v v ≡ false

@@ -6,24 +6,20 @@ use Rattle.std.proofs.lemmas.List.FromFn.{length-range_with_len}
 use Rattle.ch_graph.specs.declared.limits.TheConstants.{MOST_NODES}
 use Rattle.ch_contract.specs.Priorities.{AreRefreshed}
 use Rattle.ch_contract.specs.Measures.{IsPriorityIn}
-use Rattle.ch_contract.proofs.code.KeptPriorities.{numbers_below, all_refreshed}
+use Rattle.ch_contract.proofs.code.KeptPriorities.{numbers_within, all_refreshed}
 use Rattle.ch_contract.proofs.priority.opening_queue.Goals as goal
-
--- the numbers of the list that is lent are below n
-within : (n count : ℕ) (items lent : List ℕ) → lent ≡ items → items ≡ range_with_len 0 count → count ≡ n → All (λ x. x < n) lent
-within n count items lent a b e = subst (All (λ x. x < n)) (sym (a ∙ b ∙ ap (range_with_len 0) e)) (numbers_below n)
 
 few : (n count : ℕ) (items lent : List ℕ) → lent ≡ items → items ≡ range_with_len 0 count → count ≡ n → n ≤ MOST_NODES → length lent < 2 ^ 32
 few n count items lent a b e most = omega (arith, ap length (a ∙ b ∙ ap (range_with_len 0) e), length-range_with_len 0 n)
 
 pub run_list_in-requires-clause-takes : goal.run_list_in-requires-clause-takes
-run_list_in-requires-clause-takes g c lifetimes bounds = within _ _ _ _ c.as_slice.ensures.value c.in_ok-nodes.ensures c.nodes.ensures.nodes
+run_list_in-requires-clause-takes g c lifetimes bounds = numbers_within _ _ _ _ c.as_slice.ensures.value c.in_ok-nodes.ensures c.nodes.ensures.nodes
 
 pub run_list_in-requires-clause-length : goal.run_list_in-requires-clause-length
 run_list_in-requires-clause-length g c lifetimes bounds = few _ _ _ _ c.as_slice.ensures.value c.in_ok-nodes.ensures c.nodes.ensures.nodes c.nodes.ensures.count
 
 pub set_all-requires-clause-nodes : goal.set_all-requires-clause-nodes
-set_all-requires-clause-nodes g c = within _ _ _ _ c.as_slice-2.ensures.value c.in_ok-nodes.ensures c.nodes.ensures.nodes
+set_all-requires-clause-nodes g c = numbers_within _ _ _ _ c.as_slice-2.ensures.value c.in_ok-nodes.ensures c.nodes.ensures.nodes
 
 pub returns-clause-queue : goal.returns-clause-queue
 returns-clause-queue g c =
