@@ -24,8 +24,7 @@ def degrees(x, y):
 
 def metres_between(longitudes, latitudes, others, other_latitudes):
     """Along the sphere, of each pair of places."""
-    chords = numpy.linalg.norm(points(longitudes, latitudes) - points(others, other_latitudes), axis=1)
-    return 2 * sphere.RADIUS * numpy.arcsin(numpy.minimum(1, chords / 2))
+    return sphere.metres_of(numpy.linalg.norm(points(longitudes, latitudes) - points(others, other_latitudes), axis=1))
 
 
 def tidied(lines):

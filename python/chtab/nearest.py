@@ -23,10 +23,8 @@ class Tree:
 
     def nearest(self, longitudes, latitudes):
         """The nearest node to each place, and the metres between them, as arrays."""
-        import numpy
-
         chords, found = self.tree.query(points(longitudes, latitudes))
-        return self.nodes[found], 2 * sphere.RADIUS * numpy.arcsin(numpy.minimum(1, chords / 2))
+        return self.nodes[found], sphere.metres_of(chords)
 
 
 def points(longitudes, latitudes):

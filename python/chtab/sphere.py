@@ -13,3 +13,10 @@ def point(longitude, latitude):
 def metres(chord):
     """Along the sphere between two points of the sphere of radius 1 whose straight distance is `chord`."""
     return 2 * RADIUS * math.asin(min(1.0, chord / 2))
+
+
+def metres_of(chords):
+    """The same of an array of straight distances."""
+    import numpy
+
+    return 2 * RADIUS * numpy.arcsin(numpy.minimum(1, chords / 2))
