@@ -15,7 +15,6 @@ import pathlib
 import pickle
 import re
 import shutil
-import signal
 import subprocess
 import threading
 import time
@@ -30,7 +29,6 @@ from helpers.nearness import dense, small_portions
 from helpers.packages import PYTHON, run_checks
 from helpers.running import PROGRAM, ROOT
 import chtab
-from chtab import files
 
 FIRST, FIRST_SAVED = ROOT / "examples" / "first.gr", ROOT / "examples" / "first.ch"
 GRAPH = f"{COUNTRY}.gr"
@@ -106,7 +104,7 @@ def what_c_would_misread_is_refused():
     for wrong in (
         None, [0, 1], (0, 1), "01", b"\0" * 8, right.astype(numpy.int32), right.astype(numpy.int64), right.astype(float), right.astype(">u4"),
         numpy.arange(4, dtype=numpy.uint32)[::2], right[::-1], right.reshape(1, 2), right.reshape(2, 1), numpy.ma.masked_array(right),
-        numpy.array([0, None]), memoryview(right), (ctypes.c_uint32 * 2)(0, 1),
+        numpy.array([0, None]), memoryview(right), (ctypes.c_uint32 * 2)(0, 1), numpy.arange(9, dtype=numpy.uint8)[1:].view(numpy.uint32),
     ):
         for call in handle.distances, handle.table:
             raises(TypeError, call, wrong, right)
@@ -385,35 +383,20 @@ def what_is_dropped_is_freed():
         assert growth(in_thread, 300) < MOST_GROWTH and len(network._engine.handles) == 1
 
 
-def what_is_long_hears_ctrl_c():
-    """A table and near rows are broken off between two of their parts, long before they would end; the next question is answered."""
-    def alarm(number, frame):
-        raise KeyboardInterrupt
+def routes_are_those_of_what_was_opened():
+    """Also where the graph's file is another one since, with the same weights along a route or without its arcs: the file isn't read again."""
+    import numpy
 
-    with of_country() as network:
-        nodes = list(range(1, network.nodes + 1)) * 8
-        for call in network.table, network.near, lambda sources, targets: network.sum_within(1, 2**60, sources, targets):
-            begun, before = time.monotonic(), signal.signal(signal.SIGALRM, alarm)
-            try:
-                signal.setitimer(signal.ITIMER_REAL, 0.5)
-                raises(KeyboardInterrupt, call, nodes, nodes)
-            finally:
-                signal.setitimer(signal.ITIMER_REAL, 0)
-                signal.signal(signal.SIGALRM, before)
-            took = time.monotonic() - begun
-            assert took < 20 and network.distances([(5, 5)]).tolist() == [0] and network.near([5], [5]).weights.tolist() == [0], took
-
-
-def routes_of_another_graph_are_found_out():
-    """Arcs are weighed by the graph's file. Where it has changed since it was opened, no route is told by it."""
-    shutil.copy(FIRST, "own.gr")
-    for old, new in ("a 1 2 4", "a 1 2 3"), ("a 2 3 5", "a 3 2 5"), ("p sp 3 2", "p sp 3 0"):
+    for old, new in ("a 1 2 4\na 2 3 5", "a 1 2 5\na 2 3 4"), ("a 2 3 5", "a 3 2 5"), ("a 2 3 5\n", ""):
         shutil.copy(FIRST, "own.gr")
         with chtab.Network.open("own.gr", saved=FIRST_SAVED, program=PROGRAM, library=make()) as network:
-            text = FIRST.read_text().replace(old, new)
-            pathlib.Path("own.gr").write_text(text if "0" not in new else "p sp 3 0\n")
-            raises(chtab.ProgramFault, network.routes, [(1, 3)], told="has changed")
-            assert network.distances([(1, 3)]).tolist() == [9]
+            assert old in FIRST.read_text()
+            pathlib.Path("own.gr").write_text(FIRST.read_text().replace(old, new))
+            [route] = network.routes([(1, 3)])
+            assert route == (1, 3, 9, [1, 2, 3], [4, 5]), route
+            walks = network._queries.walks(numpy.array([[1, 3], [3, 1], [2, 2], [2, 3]]))
+            assert (walks.weights.tolist(), walks.firsts.tolist(), walks.arc_weights.tolist()) == ([9, -1, 0, 5], [0, 2, 2, 2, 3], [4, 5, 5])
+            assert (walks.tails.tolist(), walks.heads.tolist(), walks.tails.dtype) == ([1, 2, 2], [2, 3, 3], numpy.int64)
 
 
 # Which way is taken.
@@ -442,7 +425,9 @@ def it_is_taken_where_it_fits():
         assert is_by_library(chtab.Network.open(FIRST, saved=FIRST_SAVED, program=program, library=True)), program
         assert not is_by_library(chtab.Network.open(FIRST, saved=FIRST_SAVED, program=program, library=False)), program
         assert is_by_library(chtab.Network.from_arrays([1, 2], [2, 3], [4, 5], program=program)), program
-        for more, told in ({}, "saved hierarchy"), ({"saved": FIRST_SAVED, "timeout": 5}, "timeout"), ({"saved": FIRST_SAVED, "workers": 2}, "workers"):
+        assert not is_by_library(chtab.Network.open(FIRST, saved=FIRST_SAVED, program=program, timeout=5))
+        assert is_by_library(chtab.Network.open(FIRST, saved=FIRST_SAVED, program=program, timeout=5, library=True))
+        for more, told in ({}, "saved hierarchy"), ({"saved": FIRST_SAVED, "workers": 2}, "workers"):
             assert not is_by_library(chtab.Network.open(FIRST, program=program, **more))
             raises(chtab.ChtabError, lambda: chtab.Network.open(FIRST, program=program, library=True, **more), told=told)
     first = {"saved": FIRST_SAVED, "program": PROGRAM}
@@ -455,7 +440,7 @@ def it_is_taken_where_it_fits():
         os.utime("checkout/crates/ch_c/src/handle.rt", (made, made))
         assert is_by_library(chtab.Network.open(FIRST, saved=FIRST_SAVED, program="checkout/chtab")) == is_taken, seconds
     assert is_by_library(pickle.loads(pickle.dumps(chtab.Network.open(FIRST, **first, library=os.path.relpath(make())))))
-    for wrong, kind in (3, TypeError), (None, TypeError), ("none.so", chtab.ChtabError), (FIRST, chtab.ChtabError):
+    for wrong, kind in (3, TypeError), (None, TypeError), (0, TypeError), (1, TypeError), (1.0, TypeError), ("none.so", chtab.ChtabError), (FIRST, chtab.ChtabError):
         raises(kind, lambda: chtab.Network.open(FIRST, **first, library=wrong))
 
 
@@ -489,8 +474,8 @@ GROUPS = (
             numbers_are_those_of_the_header, calls_are_those_of_the_header, what_c_would_misread_is_refused, nodes_are_those_of_the_network,
             faults_are_told_as_by_the_program, a_closed_handle_answers_nothing, each_thread_has_a_handle,
             near_rows_of_threads_have_handles_of_their_own, near_rows_come_in_portions, threads_ask_while_it_is_closed,
-            a_forked_process_opens_it_anew, the_end_of_the_interpreter_waits_for_nothing, what_is_dropped_is_freed, what_is_long_hears_ctrl_c,
-            routes_of_another_graph_are_found_out, it_is_taken_where_it_fits, another_library_is_not_taken,
+            a_forked_process_opens_it_anew, the_end_of_the_interpreter_waits_for_nothing, what_is_dropped_is_freed,
+            routes_are_those_of_what_was_opened, it_is_taken_where_it_fits, another_library_is_not_taken,
         ],
     ),
 )

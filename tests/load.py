@@ -15,6 +15,7 @@ import os
 import pathlib
 import random
 import re
+import shutil
 import signal
 import socket
 import subprocess
@@ -22,11 +23,13 @@ import sys
 import time
 import urllib.parse
 
-from helpers import running
+from helpers import running, serving
+from helpers.in_process import make
 from helpers.moods import STANDIN, mood
 from helpers.packages import PYTHON, run_checks
 from helpers.running import PROGRAM, ROOT
 from helpers.serving import COUNTRY, SERVICE, ask, by_both, faulty_service, send, service
+from helpers.ways import saved_for
 
 sys.path.insert(0, str(ROOT / "python"))
 
@@ -153,7 +156,7 @@ def idle_clients(address, count=20):
 
 
 def fifty_clients_while_runs_are_killed(*words):
-    """No answer is wrong, none is lost, also while runs are killed twice, and memory is steady from half of the time on."""
+    """No answer is wrong, none is lost, also while the runs that there are are killed twice, and memory is steady from half of the time on."""
     country = Country(20, "load")
     with service(COUNTRY, *words) as (child, address), idle_clients(address), concurrent.futures.ThreadPoolExecutor(CLIENTS) as clients:
         until = time.monotonic() + SECONDS
@@ -161,7 +164,7 @@ def fifty_clients_while_runs_are_killed(*words):
         for _ in range(2):
             time.sleep(SECONDS / 4)
             runs = runs_below(child.pid)
-            assert runs
+            assert bool(runs) != serving.IS_BY_LIBRARY
             for number in runs:
                 os.kill(number, signal.SIGKILL)
         held = memory_of(own := [child.pid, *processes_below(child.pid)])
@@ -220,13 +223,13 @@ def processes_are_begun_anew():
     with service(COUNTRY, "--processes", "2") as (child, address):
         first, second = (number for number in processes_below(child.pid) if name_of(number) != "chtab")
         os.kill(first, signal.SIGKILL)
-        until = time.monotonic() + 30
-        while (first in (below := processes_below(child.pid)) or len(below) < 4) and time.monotonic() < until:
+        until, count = time.monotonic() + 30, 2 if serving.IS_BY_LIBRARY else 4
+        while (first in (below := processes_below(child.pid)) or len(below) < count) and time.monotonic() < until:
             time.sleep(0.1)
         assert all(ask(address, f"{ROUTE}?overview=false")[0] == 200 for _ in range(10))
         assert "is begun anew" in open("told").read()
         below = processes_below(child.pid)
-        assert second in below and len(below) == 4, below
+        assert second in below and len(below) == count, below
         child.kill()
         until = time.monotonic() + 20
         while any(name_of(number) for number in below) and time.monotonic() < until:
@@ -236,6 +239,41 @@ def processes_are_begun_anew():
     words = [PYTHON, ROOT / "tools" / "page.py", "--port", 0, "--processes", 2, "--program", PROGRAM, "--saved", "none.ch", COUNTRY]
     done = subprocess.run(list(map(str, words)), capture_output=True, text=True, timeout=60)
     assert done.returncode == 1 and "saved" in done.stderr and "Traceback" not in done.stderr and not done.stdout, done
+
+
+def the_library_answers_where_it_fits():
+    """By itself where it stands beside the program and a hierarchy is saved, for one worker; never with `--pipe`. With it there are no runs."""
+    os.mkdir("beside")
+    shutil.copy(PROGRAM, "beside/chtab")
+    shutil.copy(make(), "beside/libchtab.so.1")
+    saved = "--saved", saved_for(f"{COUNTRY}.gr")
+    for words, runs in (
+        (saved, 0), ((*saved, "--library"), 0), ((*saved, "--processes", 2), 0), ((*saved, "--pipe"), 1), ((*saved, "--workers", 2), 1), ((), 1),
+        ((*saved, "--pipe", "--processes", 2), 2),
+    ):
+        with service(COUNTRY, *words, program="beside/chtab") as (child, address):
+            assert ask(address, f"{ROUTE}?overview=false")[0] == 200 and len(runs_below(child.pid)) == runs, words
+            text = send(address, "/metrics")[2].decode()
+            assert f"\nchtab_engines {runs or len(processes_below(child.pid)) or 1}\n" in text, text
+    line = [PYTHON, ROOT / "tools" / "page.py", "--program", PROGRAM, "--library", "--pipe", COUNTRY]
+    done = subprocess.run(list(map(str, line)), capture_output=True, text=True)
+    assert done.returncode == 2 and "not allowed with" in done.stderr, done
+
+
+def what_takes_too_long_is_broken_off():
+    """The library is asked in parts, and its time is looked at between them: a client is told, and the next one has its answer."""
+    many = ";".join(f"{VADUZ[0] + place / 10_000:.6f},{VADUZ[1]:.6f}" for place in range(100))
+    saved = saved_for(f"{COUNTRY}.gr")
+    with service(COUNTRY, "--library", make(), "--saved", saved, "--timeout", "0.001") as (_, address):
+        status, value = ask(address, f"/table/v1/car/{many}?annotations=distance")
+        assert (status, value["message"]) == (504, "the answer took too long"), (status, value)
+        until = time.monotonic() + 30
+        while ask(address, f"{ROUTE}?overview=false")[0] != 200:
+            assert time.monotonic() < until
+    with service(COUNTRY, "--library", make(), "--saved", saved) as (_, address):
+        status, value = ask(address, f"/table/v1/car/{many}?annotations=distance")
+        assert status == 200 and len(value["distances"][99]) == 100
+    assert open("told").read() == "", open("told").read()
 
 
 def requests_are_counted_and_logged():
@@ -334,9 +372,9 @@ def the_unit_is_one_of_systemd():
 GROUPS = (
     (SERVICE, [
         *by_both(fifty_clients_while_runs_are_killed, also_by_several_processes, processes_are_begun_anew), an_address_takes_its_share,
-        it_ends_once_it_has_answered,
+        it_ends_once_it_has_answered, the_library_answers_where_it_fits, what_takes_too_long_is_broken_off,
     ]),
-    ((*SERVICE, "python3-prometheus-client"), [requests_are_counted_and_logged]),
+    ((*SERVICE, "python3-prometheus-client"), by_both(requests_are_counted_and_logged)),
     ((*SERVICE, "nginx", "openssl", "curl"), [nginx_stands_before_it]),
     ((*SERVICE, "systemd"), [the_unit_is_one_of_systemd]),
 )

@@ -5,7 +5,6 @@ Rows are compared with those that all distances of scipy's and networkx's own se
 left out. The last line is 'N passed, N failed'.
 """
 import concurrent.futures
-import contextlib
 import gc
 import multiprocessing
 import os
@@ -13,7 +12,6 @@ import pathlib
 import pickle
 import signal
 import subprocess
-import sys
 import threading
 import time
 
@@ -25,7 +23,7 @@ from helpers.columns import drawn, forms_of, labels_drawn, least_of
 from helpers.commands import raises, temporary
 from helpers.in_process import make
 from helpers.moods import STANDIN, asked, lives_on, living, mood, nears, noted
-from helpers.nearness import dense_owed, rows_owed, rows_told, sums_owed
+from helpers.nearness import dense_owed, rows_owed, rows_told, small_blocks, sums_owed
 from helpers.packages import PYTHON, run_checks
 from helpers.running import PROGRAM, ROOT
 from helpers.ways import both
@@ -205,19 +203,6 @@ def one_run_answers_what_is_small():
 
 
 # Blocks.
-
-
-@contextlib.contextmanager
-def small_blocks(length, pairs):
-    """Blocks of so few sources and targets."""
-    from chtab import near_blocks
-
-    before = near_blocks.LENGTH, near_blocks.PAIRS
-    near_blocks.LENGTH, near_blocks.PAIRS = length, pairs
-    try:
-        yield
-    finally:
-        near_blocks.LENGTH, near_blocks.PAIRS = before
 
 
 def blocks_answer_as_one_run():

@@ -306,7 +306,8 @@ REFUSED = (
     *((f"/table/v1/car/{PLAIN}?{query}", code, told) for query, code, told in (
         ("fallback_speed=10", "InvalidOptions", "fallback_speed: not supported"), ("fallback_coordinate=input", "InvalidOptions", "fallback_coordinate: not"),
         ("scale_factor=0", "InvalidOptions", "scale_factor"), ("scale_factor=-1", "InvalidQuery", "scale_factor"), ("scale_factor=x", "InvalidQuery", "scale_factor"),
-        ("scale_factor=NaN", "InvalidQuery", "scale_factor"), ("sources=2", "InvalidOptions", "from 0 to 1"), ("sources=-1", "InvalidQuery", "sources"),
+        ("scale_factor=NaN", "InvalidQuery", "scale_factor"), ("scale_factor=1000000000.1", "InvalidOptions", "at most 1,000,000,000"),
+        ("scale_factor=" + "9" * 308, "InvalidOptions", "at most 1,000,000,000"), ("sources=2", "InvalidOptions", "from 0 to 1"), ("sources=-1", "InvalidQuery", "sources"),
         ("sources=0;", "InvalidQuery", "sources"), ("sources=", "InvalidQuery", "sources"), ("destinations=0,1", "InvalidQuery", "destinations"),
         ("destinations=0;1;0", "InvalidOptions", "more than"), ("sources=99999999999", "InvalidQuery", "sources"), ("annotations=speed", "InvalidQuery", "annotations"),
         ("annotations=true", "InvalidQuery", "annotations"), ("steps=true", "InvalidQuery", "steps: not an option of table"),
@@ -332,6 +333,8 @@ def what_is_refused():
             status, value = raw_answer(address, raw)
             assert status == 400 and value["code"] == "InvalidUrl", (raw[:40], value)
         assert get(address, f"/route/v1/car/{PLAIN}")[0] == 200
+        most, one = (answer(address, "table", [VADUZ, ESCHEN], scale_factor=scale)["durations"][0][1] for scale in ("1000000000", "1"))
+        assert math.isclose(most, 1e9 * one, rel_tol=1e-6), (most, one)
         status, _, text = send(address, f"/route/v1/car/{PLAIN}", {})
         assert (status, set(json.loads(text))) == (405, {"code", "message"}), text
     assert open("told").read() == "", open("told").read()
@@ -405,8 +408,10 @@ def another_site():
 MORE = *SERVICE, "python3-polyline"
 GROUPS = (
     (MORE, [
-        *by_both(durations_are_those_of_the_program, routes_have_lines, steps_and_annotations, tables_have_rows_of_sources),
-        nearest_roads, addresses_are_read, what_is_refused, *by_both(places_without_a_way),
+        *by_both(
+            durations_are_those_of_the_program, routes_have_lines, steps_and_annotations, tables_have_rows_of_sources, nearest_roads, addresses_are_read,
+            what_is_refused, places_without_a_way,
+        ),
     ]),
     (BROWSER, [other_sites_and_the_page]),
 )

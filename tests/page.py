@@ -19,7 +19,7 @@ import time
 from helpers import running
 from helpers.packages import PYTHON, run_checks
 from helpers.running import PROGRAM, ROOT
-from helpers.serving import BROWSER, COUNTRY, SERVICE, Keys, ask, browser, faulty_service, send, service, shown_page
+from helpers.serving import BROWSER, COUNTRY, SERVICE, Keys, ask, browser, by_both, faulty_service, send, service, shown_page
 from helpers.writing import write_graph
 
 sys.path.insert(0, str(ROOT / "python"))
@@ -470,11 +470,11 @@ def places_are_called_as_the_page_calls_them():
 
 GROUPS = (
     (SERVICE, [
-        requests_are_answered, faults_are_told_in_a_line, clients_that_go_away, fifty_clients_for_a_minute, a_full_queue_and_a_program_that_dies,
-        a_service_ends_well, what_browsers_are_told,
+        *by_both(requests_are_answered, faults_are_told_in_a_line, clients_that_go_away), fifty_clients_for_a_minute,
+        a_full_queue_and_a_program_that_dies, a_service_ends_well, what_browsers_are_told,
     ]),
     (BROWSER, [
-        a_page_with_routes_and_reach, a_page_where_there_is_no_way, a_page_by_keyboard_alone, names_are_never_run,
+        *by_both(a_page_with_routes_and_reach), a_page_where_there_is_no_way, a_page_by_keyboard_alone, names_are_never_run,
         html_that_gets_in_is_not_run, places_are_called_as_the_page_calls_them,
     ]),
 )

@@ -197,8 +197,27 @@ def many_clients_get_their_own_answers():
             assert sum(clients.map(work, range(50))) == 0
 
 
+def numbers_that_are_none_are_refused():
+    """Numbers past any range, of hundreds of digits, and what JSON has no word for: each is a fault of the client's, with a line."""
+    huge, place = "1" + "0" * 400, json.dumps(VADUZ)
+    with service() as address:
+        for path, body, told in (
+            ("route", f'{{"from": [{huge}, 47], "to": {place}}}', "longitude of from"), ("route", f'{{"from": {place}, "to": [9, -{huge}]}}', "latitude of to"),
+            ("route", f'{{"from": {place}, "to": [NaN, 47]}}', "longitude of to"), ("route", f'{{"from": {place}, "to": [1e999, 47]}}', "longitude of to"),
+            ("table", f'{{"sources": [{place}], "targets": [{place}], "within": {huge}}}', "within"), ("reach", f'{{"from": {place}, "limits": [{huge}]}}', "a limit"),
+            ("reach", f'{{"from": {place}, "limits": [-Infinity]}}', "a limit"), ("reach", f'{{"from": {place}, "limits": [true]}}', "a limit"),
+            ("table", f'{{"sources": [{place}], "targets": [[9.5, {"9" * 5_000}]]}}', "JSON"),
+        ):
+            connection = http.client.HTTPConnection(address.hostname, address.port, timeout=60)
+            with contextlib.closing(connection):
+                connection.request("POST", f"/api/{path}", body)
+                answer = connection.getresponse()
+                text = answer.read().decode()
+                assert answer.status == 400 and told in json.loads(text)["error"], (body[:60], answer.status, text)
+
+
 def what_the_library_lacks_is_told():
-    """A service that is to answer routes by the library for C, and can't: it ends with status 1 and a line."""
+    """A service that is to answer by the library for C, and can't: it ends with status 1 and a line."""
     for words, told in (
         (["--library", make()], "saved hierarchy"), (["--library", "none.so", "--saved", FIRST_SAVED], "is not chtab's library for C"),
         (["--library", make(), "--saved", FIRST_SAVED], "saved"), (["--library", "--saved", FIRST_SAVED], "`packaging/library` makes it"),
@@ -211,8 +230,8 @@ def what_the_library_lacks_is_told():
 SERVICE = "python3-aiohttp", "python3-numpy", "python3-scipy", "python3-shapely", "libjs-leaflet"
 GROUPS = (
     (SERVICE, [
-        health_is_told_at_once, pages_of_other_sites_may_ask, clients_that_do_nothing_are_dropped, ports_that_are_none, what_the_library_lacks_is_told,
-        *by_both(places_that_are_too_far, many_clients_get_their_own_answers),
+        health_is_told_at_once, clients_that_do_nothing_are_dropped, ports_that_are_none, what_the_library_lacks_is_told,
+        *by_both(places_that_are_too_far, pages_of_other_sites_may_ask, many_clients_get_their_own_answers, numbers_that_are_none_are_refused),
     ]),
 )
 

@@ -6,7 +6,7 @@ import numpy
 
 from chtab import near_blocks, near_rows, sums
 from chtab.near_runs import NearQuestion
-from chtab.node_queries import MOST
+from chtab.node_queries import limit_in, whole_limit
 from chtab.routes import NO_WALK
 
 DIRECTIONS = "to", "from"
@@ -158,10 +158,10 @@ class Accessibility:
         >>> near = network.near(None, hospitals, count=3, within=1_800_000)        # doctest: +SKIP
         >>> near.to_frame().groupby("source")["weight"].mean()                     # doctest: +SKIP
         """
-        question = NearQuestion(
-            None if sources is None else self._nodes("sources", sources), self._nodes("targets", targets),
-            None if count is None else near_blocks.count_in("count", count), limit_in(within), is_from(direction),
-        )
+        sources_asked, targets_asked = None if sources is None else self._nodes("sources", sources), self._nodes("targets", targets)
+        # No row has more than all targets: numpy has no greater numbers than those of 64 bits.
+        most = None if count is None else min(near_blocks.count_in("count", count), max(1, len(targets_asked)))
+        question = NearQuestion(sources_asked, targets_asked, most, limit_in(within), is_from(direction))
         rows = near_blocks.rows(self._near, question, workers)
         labels = self._layers.labels
         return Near(rows, self.labels if sources is None else labels.of(question.sources), labels.of(question.targets))
@@ -268,18 +268,6 @@ class Accessibility:
         question = NearQuestion(None if sources is None else self._nodes("sources", sources), nodes, None, most, is_from(direction))
         found = sums.sums(self._near, question, values, limits, decay, workers)
         return found[:, 0] if numpy.ndim(within) == 0 else found
-
-
-def limit_in(within):
-    """A limit, None where there is none."""
-    return None if within is None else whole_limit(within)
-
-
-def whole_limit(limit):
-    """The greatest whole number up to a limit: no weight lies between."""
-    if not 0 <= limit <= MOST:
-        raise ValueError("a limit is from 0 to 2^60")
-    return int(limit)
 
 
 def is_from(direction):

@@ -104,8 +104,11 @@ def labels_in(name, column):
     array = array_of(name, column)
     if array.size == 0:
         return array.astype(numpy.int64)
-    if array.dtype.kind == "i" or array.dtype.kind == "u" and array.max() <= GREATEST:
+    # numpy compares its own numbers of 64 bits with Python's as decimal ones.
+    if array.dtype.kind == "i" or array.dtype.kind == "u" and int(array.max()) <= GREATEST:
         return array.astype(numpy.int64)
+    if array.dtype.kind == "u":
+        return integers_like(name, array, array.reshape(-1).tolist())
     if array.dtype.kind == "U":
         return array.astype(object)
     if array.dtype.kind != "O":
@@ -146,10 +149,10 @@ def objects_like(array, values):
 
 def integers_like(name, array, values):
     """Integers in the shape of an array: of int64 where all of them are. One of too many bits is a fault."""
-    try:
+    # Numbers of numpy are made Python's, because numpy would take one past 2^63 for another.
+    values = list(map(int, values))
+    with contextlib.suppress(OverflowError):
         return numpy.array(values, numpy.int64).reshape(array.shape)
-    except OverflowError:
-        values = list(map(int, values))
     place = next((place for place, value in enumerate(values) if value.bit_length() > MOST_BITS), None)
     if place is not None:
         raise refused(name, row_of(array, place), f"{told(values[place])} is no label; one has at most {MOST_BITS:,} bits")
@@ -174,7 +177,7 @@ def numbers_in(name, column):
         raise refused(name, 0, f"{told(array[0])} is neither an integer nor a float")
     if array.dtype.kind == "f":
         return array.astype(numpy.longdouble)
-    place = first_of(array > GREATEST) if array.dtype.kind == "u" else None
+    place = first_of(array > numpy.uint64(GREATEST)) if array.dtype.kind == "u" else None
     if place is not None:
         raise refused(name, place, f"{array[place]} is too large")
     return array.astype(numpy.int64)
@@ -190,8 +193,8 @@ def numbers_of_objects(name, values):
         return numpy.array(values).astype(numpy.longdouble)
     if all(map(is_integer, kinds)):
         with contextlib.suppress(OverflowError):
-            return numpy.array(values, numpy.int64)
-    place = next((place for place, value in enumerate(values) if is_integer(type(value)) and not LEAST <= value <= GREATEST), None)
+            return numpy.array([*map(int, values)], numpy.int64)
+    place = next((place for place, value in enumerate(values) if is_integer(type(value)) and not LEAST <= int(value) <= GREATEST), None)
     if place is not None:
         raise refused(name, place, f"{told(values[place])} is {'too large' if values[place] > 0 else 'below 0'}")
     return numpy.array([*map(numpy.longdouble, values)], numpy.longdouble)

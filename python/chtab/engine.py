@@ -1,5 +1,6 @@
 """What is asked of the program: distances, routes and tables, by runs of `chtab ask` that are kept."""
 import collections
+import contextlib
 import os
 import threading
 from dataclasses import dataclass
@@ -7,12 +8,14 @@ from dataclasses import dataclass
 from chtab import answers, files, forks
 from chtab.child import Child, see_to
 from chtab.errors import ChtabError, ProgramFault
+from chtab.stamps import Stamps
 
 # The options of a run that answers distances and tables, and of one that answers routes too.
 PLAIN, ROUTES = (), ("--routes",)
 # Queries that are sent together: for distances, and for routes, which are as long as they have arcs.
 MANY, FEW = 1 << 16, 1 << 10
 CLOSED = "the network is closed"
+WITHIN = "this thread has asked a question that is not answered yet"
 
 
 def within_options(limit):
@@ -56,6 +59,10 @@ class Setting:
         """The words of a run that tells near rows of the nodes in these files."""
         return [self.program, "near", *options, *self.words(), self.graph, *lists]
 
+    def stamps(self):
+        """What tells the files from those that are written in their place later."""
+        return Stamps(self.graph, self.saved)
+
     def words(self):
         """The options of each run: its threads and its hierarchy."""
         saved = () if self.saved is None else ("--saved", self.saved)
@@ -68,9 +75,11 @@ class Run:
     The child is begun by the first question. One whose exchange was broken off is ended before the next question, and another is begun.
     """
 
-    def __init__(self, setting, nodes, options, before, tally):
-        self.setting, self.nodes, self.options, self.before, self.tally = setting, nodes, options, before, tally
-        self.lock, self.child = threading.Lock(), None
+    def __init__(self, engine, options, before):
+        self.setting, self.nodes, self.stamps, self.tally = engine.setting, engine.nodes, engine.stamps, engine.tally
+        self.options, self.before = options, before
+        # The thread that holds the lock may come again: the handler of a signal asks, or closes, in the middle of a question.
+        self.lock, self.is_held, self.child = threading.RLock(), False, None
         # Whether it made way for another, and whether it was ended at once.
         self.is_over, self.is_killed = False, False
 
@@ -81,6 +90,18 @@ class Run:
     def limit(self):
         """What its tables leave out is above this; None where they leave out nothing."""
         return int(self.options[1]) if self.options[:1] == ("--within",) else None
+
+    @contextlib.contextmanager
+    def held(self):
+        """Holds the lock for a question. One in the middle of another is refused."""
+        with self.lock:
+            if self.is_held:
+                raise ChtabError(WITHIN)
+            self.is_held = True
+            try:
+                yield
+            finally:
+                self.is_held = False
 
     def ask(self, question):
         """The value of the answer to a question, or of None when the child has loaded."""
@@ -97,6 +118,7 @@ class Run:
         while self.before:
             self.before[-1].end()
             self.before.pop()
+        self.stamps.see_that_same()
         self.child = Child(self.setting.command(self.options), self.nodes, self.has_routes)
         self.tally["begun"] += 1
         if self.is_killed:
@@ -116,7 +138,8 @@ class Run:
         """Ends the child, as soon as it has answered what is under way."""
         self.is_over = True
         with self.lock:
-            if self.child is not None:
+            # A question of this thread itself ends the child that is killed.
+            if self.child is not None and not self.is_held:
                 self.child.close()
 
 
@@ -136,14 +159,14 @@ class Engine:
         if setting.saved is not None:
             # The program doesn't name a file that it can't open; this fault does, as that of the graph.
             open(setting.saved, "rb").close()
-        self.setting, self.nodes = setting, files.count_nodes(setting.graph)
+        self.setting, self.stamps, self.nodes = setting, setting.stamps(), files.count_nodes(setting.graph)
         self.is_closed = False
         self.leave_parent()
         forks.follow(self)
 
     def leave_parent(self):
         """Begins with no run, and with a lock that nobody holds: in a process that was forked too."""
-        self.lock, self.runs = threading.Lock(), {}
+        self.lock, self.runs = threading.RLock(), {}
         self.owner, self.tally = os.getpid(), collections.Counter()
 
     def load(self, with_routes=False):
@@ -197,7 +220,7 @@ class Engine:
             self.leave_parent()
         while True:
             run = self.run_of(kinds)
-            with run.lock:
+            with run.held():
                 if run.is_killed:
                     raise ChtabError(CLOSED)
                 if run.is_over:
@@ -221,7 +244,7 @@ class Engine:
             else:
                 # Without room a run for tables of any limit is begun, not one for this limit: two limits would take turns.
                 kind = kinds[0] if has_room or len(kinds) < 3 else kinds[1]
-                run = Run(self.setting, self.nodes, kind, [] if has_room else [self.retired()], self.tally)
+                run = Run(self, kind, [] if has_room else [self.retired()])
             self.runs[kind] = run
             return run
 

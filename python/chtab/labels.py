@@ -33,13 +33,12 @@ class Numbers:
         if isinstance(given, numpy.ma.MaskedArray):
             given = columns.array_of(name, given)
         column = numpy.asarray(given)
-        if column.size and not (numpy.issubdtype(column.dtype, numpy.integer) or is_whole(column)):
+        if column.size and not (column.dtype.kind in "iu" or column.dtype.kind == "f" and is_whole(column)):
             raise ValueError("a node is a whole number")
-        column = column.astype(numpy.int64)
         outside = column[(column < 1) | (column > self.count)]
         if outside.size:
-            raise ValueError(f"node {outside.flat[0]} is not from 1 to {self.count:,}")
-        return column
+            raise ValueError(f"node {outside.flat[0]:.17g} is not from 1 to {self.count:,}")
+        return column.astype(numpy.int64)
 
     def of(self, nodes):
         """The labels of an array of nodes."""
@@ -51,11 +50,8 @@ class Numbers:
 
 
 def is_whole(column):
-    """Whether all numbers of a column are whole and those of 64 bits."""
-    try:
-        return bool(numpy.all((column == numpy.floor(column)) & (abs(column) < 2**63)))
-    except TypeError:
-        return False
+    """Whether all numbers of a column of decimal numbers are whole."""
+    return bool(numpy.isfinite(column).all() and (column == numpy.floor(column)).all())
 
 
 class Labels:

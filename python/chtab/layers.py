@@ -4,6 +4,7 @@ import threading
 
 from chtab import files, forks, nearest
 from chtab.errors import ChtabError
+from chtab.stamps import Stamps
 
 
 class Layers:
@@ -23,7 +24,7 @@ class Layers:
         base = os.path.splitext(path)[0]
         self.path = path
         self.paths = {"coordinates": coordinates or beside(base + ".co"), "bends": bends or beside(base + ".bends"), "labelling": labelling}
-        self.kept = {}
+        self.kept, self.stamps = {}, Stamps(path, *self.paths.values())
         self.leave_parent()
         forks.follow(self)
 
@@ -40,10 +41,19 @@ class Layers:
                 self.kept[name] = make()
             return self.kept[name]
 
+    def read_file(self, name, make):
+        """The same of what a file is read for, as long as the files are those of the beginning."""
+        def read():
+            found = make()
+            self.stamps.see_that_same()
+            return found
+
+        return self.read(name, read)
+
     @property
     def graph(self):
         """The arcs, as `files.read_graph` gives them."""
-        return self.read("graph", lambda: files.read_graph(self.path))
+        return self.read_file("graph", lambda: files.read_graph(self.path))
 
     @property
     def coordinates(self):
@@ -51,7 +61,7 @@ class Layers:
         path = self.paths["coordinates"]
         if path is None:
             raise ChtabError(f"{self.path} has no file of coordinates beside it; name one by `coordinates`")
-        return self.read("coordinates", lambda: files.read_coordinates(path))
+        return self.read_file("coordinates", lambda: files.read_coordinates(path))
 
     @property
     def labelling(self):
@@ -61,7 +71,7 @@ class Layers:
 
             return read_labelling(self.paths["labelling"], self.path)
 
-        return None if self.paths["labelling"] is None else self.read("labelling", make)
+        return None if self.paths["labelling"] is None else self.read_file("labelling", make)
 
     @property
     def labels(self):
@@ -88,7 +98,7 @@ class Layers:
             path = self.paths["bends"]
             return Roads(self.graph, self.coordinates, files.read_bends(path) if path else None)
 
-        return self.read("roads", make)
+        return self.read_file("roads", make)
 
     def lines_of(self, routes):
         """For each route of `files.Answer` the places that it passes, in degrees: with the bends of its roads, where they are known."""

@@ -1,7 +1,7 @@
 """The library for C in this process, by ctypes: `include/chtab.h` describes its calls.
 
 C trusts its caller. So nothing is handed to it here that was not checked before: each array is one of numpy, of the right kind of numbers, in one
-piece, and as long as the call is told; what is written to may be written to; and nodes are numbers of 32 bits.
+piece, at an address for such numbers, and as long as the call is told; what is written to may be written to; and nodes are numbers of 32 bits.
 """
 import ctypes
 import functools
@@ -111,7 +111,7 @@ def loaded(path):
 
 def address(array, kind, is_written=False):
     """Where the numbers of an array stand. One that C would not read as is meant is refused."""
-    if type(array) is not numpy.ndarray or array.dtype != kind or array.ndim != 1 or not array.flags.c_contiguous:
+    if type(array) is not numpy.ndarray or array.dtype != kind or array.ndim != 1 or not (array.flags.c_contiguous and array.flags.aligned):
         what = f"{array.dtype} of shape {array.shape}" if isinstance(array, numpy.ndarray) else type(array).__name__
         raise TypeError(f"the library takes a column of {numpy.dtype(kind)} in one piece, not {what}")
     if is_written and not array.flags.writeable:
@@ -150,8 +150,7 @@ class Handle:
 
     def __init__(self, calls):
         self.calls, self.block, self.lock = calls, Block(), threading.RLock()
-        self.at, self.found = ctypes.byref(self.block), Found()
-        self.room = numpy.empty(ROOM, numpy.uint32)
+        self.at, self.room = ctypes.byref(self.block), ROOM
         # What is opened from here on is closed, whatever breaks this off. At the end of the interpreter threads may still be in a call.
         weakref.finalize(self, close, calls.chtab_close, self.block, os.getpid()).atexit = False
 
@@ -226,20 +225,21 @@ class Handle:
         """The weight of a route between two nodes, from 0 on, and its nodes, uint32; -1 and no nodes where there is no walk."""
         if not (0 <= source < 2**32 and 0 <= target < 2**32):
             raise ValueError("a node is a number of 32 bits")
+        # What is written to is this call's own, because the handler of a signal may ask before it is read.
+        found, nodes = Found(), numpy.empty(self.room, numpy.uint32)
         with self.lock:
-            status = self.find(source, target)
+            status = self.find(source, target, found, nodes)
             if status == TOO_SHORT:
-                self.room = numpy.empty(max(self.found.nodes, 2 * len(self.room)), numpy.uint32)
-                status = self.find(source, target)
-            see_that_done(status)
-            weight = self.found.weight
-            return -1 if weight == NO_DISTANCE else weight, self.room[:self.found.nodes].copy()
+                self.room = max(found.nodes, 2 * self.room)
+                nodes = numpy.empty(self.room, numpy.uint32)
+                status = self.find(source, target, found, nodes)
+        see_that_done(status)
+        return -1 if found.weight == NO_DISTANCE else found.weight, nodes[:found.nodes].copy()
 
-    def find(self, source, target):
-        """Writes the route into the room, where it is long enough."""
-        at = address(self.room, numpy.uint32, True)
-        return self.calls.chtab_route(self.at, source, target, ctypes.byref(self.found), at, len(self.room))
-
+    def find(self, source, target, found, nodes):
+        """Writes the route, where there is room for its nodes."""
+        at = address(nodes, numpy.uint32, True)
+        return self.calls.chtab_route(self.at, source, target, ctypes.byref(found), at, len(nodes))
 
     def keep_places(self, places, limit=NO_LIMIT, count=ALL, is_from=False):
         """Searches from places, a column of uint32, nodes from 0 on, and keeps what is found in place of what was kept: for rows of at most

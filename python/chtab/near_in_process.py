@@ -4,8 +4,10 @@ import contextlib
 import numpy
 
 from chtab import library, near_rows
-from chtab.errors import ChtabError
+from chtab.child import Deadline
+from chtab.errors import ChtabError, ProgramFault, unasked
 from chtab.in_process import TOGETHER
+from chtab.interruptible import LONG, interruptible
 from chtab.near_runs import NearRuns
 
 # What one call of the library gives at most: pairs, and with them rows that it copies.
@@ -47,15 +49,17 @@ class NearInProcess:
         sources = numpy.arange(self.nodes, dtype=numpy.uint32) if question.sources is None else library.nodes_of(question.sources, self.nodes)
         most = len(targets) if question.count is None else min(question.count, len(targets))
         with self.engine.near_handle() as handle:
-            handle.keep_places(targets, *limits_of(question), question.is_from)
-            is_swept = len(sources) >= SHARE * self.nodes and self.has_few(handle, most)
-            if is_swept:
-                handle.sweep()
+            deadline = Deadline(self.setting.timeout)
+            interruptible(len(targets), handle.keep_places, targets, *limits_of(question), question.is_from)
+            is_swept = len(sources) >= SHARE * self.nodes and self.has_few(handle, most) and is_swept_by(handle)
             start, together = 0, PAIRS if is_swept else TOGETHER
             while start < len(sources):
                 self.see_that_there()
+                deadline.milliseconds()
                 some = sources[start:start + together]
-                ends, weights, places = handle.near_rows(some, min(len(some) * most, max(most, PAIRS)))
+                ends, weights, places = interruptible(len(some), handle.near_rows, some, min(len(some) * most, max(most, PAIRS)))
+                if not len(ends):
+                    raise unasked()
                 yield start, near_rows.Rows(numpy.append(0, ends), places, weights)
                 start += len(ends)
 
@@ -80,6 +84,15 @@ class NearInProcess:
     def kill(self):
         """Refuses what is asked from now on. A call of the library that is under way ends by itself."""
         self.is_closed = True
+
+
+def is_swept_by(handle):
+    """Sweeps, unless there is no memory for all rows at once; whether that was done. The samples may have had fewer pairs than most rows."""
+    try:
+        interruptible(LONG, handle.sweep)
+    except ProgramFault:
+        return False
+    return True
 
 
 def limits_of(question):

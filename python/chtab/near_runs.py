@@ -140,13 +140,13 @@ class NearRuns:
     is_at_hand = False
 
     def __init__(self, setting, nodes):
-        self.setting, self.nodes, self.is_closed = setting, nodes, False
+        self.setting, self.nodes, self.stamps, self.is_closed = setting, nodes, setting.stamps(), False
         self.leave_parent()
         forks.follow(self)
 
     def leave_parent(self):
         """Begins with no run, and with a lock that nobody holds: in a process that was forked too."""
-        self.lock, self.under_way = threading.Lock(), set()
+        self.lock, self.under_way = threading.RLock(), set()
 
     def see_that_there(self):
         """Refuses a network that is closed, and a program that lacks the command."""
@@ -176,6 +176,7 @@ class NearRuns:
         with self.lock:
             if self.is_closed:
                 raise ChtabError(CLOSED)
+            self.stamps.see_that_same()
             run = NearRun(self.setting.near_command(question.options(), lists))
             self.under_way.add(run)
         try:
@@ -189,6 +190,7 @@ class NearRuns:
     def apart(self):
         """The same for one call, which ends its runs alone. They have ended after the `with`."""
         runs = NearRuns(self.setting, self.nodes)
+        runs.stamps = self.stamps
         with self.lock:
             if self.is_closed:
                 raise ChtabError(CLOSED)

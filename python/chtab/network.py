@@ -36,8 +36,7 @@ class Network(BetweenPlaces, Accessibility):
         self._opened, self._folder = opened, folder
         self._layers = opened.layers(known)
         self.nodes = files.count_nodes(opened.setting.graph)
-        layers = self._layers
-        self._engine = choosing.engine_of(opened.setting, opened.library, lambda: layers.graph)
+        self._engine = choosing.engine_of(opened.setting, opened.library)
         self._near = near_of(self._engine)
         self._queries = NodeQueries(self._engine, self._near)
         self._trips = Trips(self._queries, self._layers)
@@ -64,6 +63,7 @@ class Network(BetweenPlaces, Accessibility):
             Threads of the program, from 1 to 64; 1 where it is not given.
         timeout : float, optional
             The seconds that an answer may take; None: any. Loading is not counted, except where a call runs the program anew, as `near` does.
+            A run of the program is ended at once. Where the library for C answers, the time is looked at between its calls.
         load : bool
             Whether the graph is read now, as it is where this is not given. Without it the first question does so.
         routes : bool
@@ -74,9 +74,9 @@ class Network(BetweenPlaces, Accessibility):
             tables, one for routes, and one for tables within limits up to each power of two, whose searches end at the limit.
         library : "auto", bool or path
             Whether the library for C answers in this process, and no run of the program: sooner, above all one question at a time. It opens a
-            graph by its saved hierarchy, and needs `timeout` and `workers` as they are where they are not given. "auto", as it is where this is
-            not given: where it fits, and `libchtab.so.1` stands beside the program. True, or the path of the library: it answers, or an error
-            says why it can't. False: a run of the program, in a process apart, which can be ended at any time.
+            graph by its saved hierarchy, and has one worker. "auto", as it is where this is not given: where it fits, `timeout` is not given,
+            and `libchtab.so.1` stands beside the program. True, or the path of the library: it answers, or an error says why it can't. False:
+            a run of the program, in a process apart, which can be ended at any time.
 
         Returns
         -------

@@ -1,6 +1,4 @@
 """Distances, tables and routes between nodes by their numbers, in arrays, over the runs of one engine."""
-import math
-
 import numpy
 
 from chtab import blocks, engine
@@ -32,8 +30,7 @@ class NodeQueries:
 
     def table(self, sources, targets, within=None):
         """The weights from each node of one array to each of another, int64 (k, l), -1 where there is no walk, or none of at most `within`."""
-        if within is not None and not 0 <= within <= MOST:
-            raise ValueError("a limit is from 0 to 2^60")
+        within = limit_in(within)
         table = numpy.empty((len(sources), len(targets)), numpy.int64)
         for block in blocks.cut(sources, targets):
             cells = self.runs.cells(block.sources, block.targets, shared_limit(within))
@@ -67,6 +64,18 @@ class NodeQueries:
         return numpy.concatenate([numpy.zeros(0, numpy.int64), *cells])
 
 
+def limit_in(within):
+    """A limit, None where there is none."""
+    return None if within is None else whole_limit(within)
+
+
+def whole_limit(limit):
+    """The greatest whole number up to a limit: no weight lies between. numpy compares it exactly, which it does with few other numbers."""
+    if not 0 <= limit <= MOST:
+        raise ValueError("a limit is from 0 to 2^60")
+    return int(limit)
+
+
 def shared_limit(within):
     """The limit of the run that makes tables within this one: the next power of two. What lies between is left out afterwards."""
-    return None if within is None else 1 << max(math.ceil(within) - 1, 0).bit_length()
+    return None if within is None else 1 << max(within - 1, 0).bit_length()

@@ -4,9 +4,10 @@ from dataclasses import dataclass
 
 from chtab import engine, making
 from chtab.child import see_to
-from chtab.choosing import Short
+from chtab.choosing import AUTO
 from chtab.layers import Layers
 from chtab.program import program_of
+from chtab.stamps import stamp_of
 
 
 @dataclass(frozen=True)
@@ -19,12 +20,13 @@ class Running:
     load: bool = True
     routes: bool = False
     runs: int = 1
-    library: object = "auto"
+    library: object = AUTO
 
     def __post_init__(self):
         if self.runs < 1:
             raise ValueError("there is at least one run")
-        if self.library not in ("auto", True, False) and not isinstance(self.library, Short):
+        # No other value is one of these, though 1 and `numpy.True_` are equal to True.
+        if not isinstance(self.library, bool) and self.library != AUTO:
             object.__setattr__(self, "library", os.path.abspath(self.library))
 
     def setting(self, graph, saved):
@@ -40,17 +42,16 @@ class Opening:
     coordinates: str | None = None
     bends: str | None = None
     labelling: str | None = None
-    # The size of the graph and when it was written, in nanoseconds: a network of another one at its place is another network.
+    # What tells the graph from another one: a network of another one at its place is another network.
     stamp: tuple | None = None
     # Whether the library for C answers: `Network.open` has the meaning.
-    library: object = "auto"
+    library: object = AUTO
 
     def layers(self, known=None):
         """The layers, with those that are known already. Labels are read at once, because the graph may be another one later."""
         layers = Layers(self.setting.graph, self.coordinates, self.bends, self.labelling)
         layers.kept.update(known or {})
-        if self.labelling is not None:
-            layers.labels
+        layers.labels
         return layers
 
 
@@ -71,11 +72,6 @@ def of_folder(folder, running, saved=None, coordinates=None, bends=None):
     for path in filter(None, (graph, saved, labelling, coordinates, bends)):
         open(path, "rb").close()
     return Opening(running.setting(graph, saved), coordinates, bends, labelling, stamp_of(graph), running.library)
-
-
-def stamp_of(path):
-    found = os.stat(path)
-    return found.st_size, found.st_mtime_ns
 
 
 def made(arcs, folder, running):

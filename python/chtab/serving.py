@@ -15,7 +15,6 @@ from aiohttp import web
 
 from chtab.connections import Connections
 from chtab.recording import recorder
-from chtab.service import Service
 
 ENDING = signal.SIGINT, signal.SIGTERM
 # Seconds before a process that ended by itself is begun anew, and between two notes on how things stand.

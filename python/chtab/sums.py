@@ -37,8 +37,10 @@ def values_in(values, targets, nodes_of, count):
     if targets is None and hasattr(values, "keys"):
         targets, values = (values.index, values) if hasattr(values, "index") else ([*values.keys()], [*values.values()])
     nodes = numpy.arange(1, count + 1) if targets is None else nodes_of("targets", targets)
-    found = numpy.full(len(nodes), values) if numpy.ndim(values) == 0 else values
-    found = columns.numbers_in("values", found).astype(float)
+    if numpy.ndim(values) == 0:
+        one = values[()] if isinstance(values, numpy.ndarray) else values
+        values = numpy.repeat(columns.numbers_in("values", [one]), len(nodes))
+    found = columns.numbers_in("values", values).astype(float)
     place = columns.first_of(~numpy.isfinite(found))
     if place is not None:
         raise columns.refused("values", place, f"{found[place]} is no value")
@@ -68,7 +70,7 @@ def sums_of(rows, values, limits, share):
     """The same of some rows."""
     owners, found = rows.owners(), numpy.zeros((len(rows), len(limits)))
     for column, limit in enumerate(limits):
-        is_near = rows.weights <= limit
+        is_near = rows.weights <= int(limit)
         counted = values[rows.places[is_near]] * share(rows.weights[is_near], limit)
         found[:, column] = numpy.bincount(owners[is_near], counted, len(rows))
     return found

@@ -7,7 +7,7 @@ import numpy
 from chtab import near_rows
 from chtab.legs import FAR, legs_between, table_ways, totals, ways_between
 from chtab.near_runs import NearQuestion
-from chtab.node_queries import MOST
+from chtab.node_queries import limit_in
 from chtab.routes import NO_WALK, Trip
 
 # Trips whose routes are asked for together.
@@ -42,7 +42,7 @@ class Trips:
 
     def table(self, starts, ends, within=None):
         """What `Network.trip_table` answers."""
-        best, _ = table_ways(self, starts, ends, within)
+        best, _ = table_ways(self, starts, ends, limit_in(within))
         return numpy.where(best < FAR, best, NO_WALK)
 
     def routes(self, starts, ends):
@@ -67,8 +67,7 @@ class Trips:
     def reach(self, spot, within=None):
         """What `Network.reach` answers."""
         see_that_one(spot)
-        if within is not None and not 0 <= within <= MOST:
-            raise ValueError("a limit is from 0 to 2^60")
+        within = limit_in(within)
         outs = spot.out_nodes[0] > 0
         nodes, added = spot.out_nodes[0][outs], spot.out_weights[0][outs]
         limit = FAR - 1 if within is None else within
@@ -91,7 +90,7 @@ class Trips:
     def by_near(self, nodes, added, within):
         """The same by near rows of all nodes."""
         found = numpy.full(len(self.roads.places), FAR)
-        own = None if within is None else int(within) - int(added.min(initial=0))
+        own = None if within is None else within - int(added.min(initial=0))
         if not len(nodes) or own is not None and own < 0:
             return found
         for start, rows in near_rows.portions(self.queries.near, NearQuestion(None, nodes, within=own, is_from=True)):
@@ -106,7 +105,7 @@ class Trips:
         from chtab import reach
 
         see_that_one(spot)
-        if not len(limits) or min(limits) <= 0:
+        if not len(limits) or not all(limit > 0 for limit in limits):
             raise ValueError("a limit of reach is above 0")
         return reach.polygons(self.roads, spot, self.reach(spot, max(limits)), limits)
 

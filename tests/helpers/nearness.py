@@ -51,3 +51,16 @@ def small_portions(pairs, swept, together):
     finally:
         for name, number in zip(names, before):
             setattr(near_in_process, name, number)
+
+
+@contextlib.contextmanager
+def small_blocks(length, pairs):
+    """Blocks of so few sources and targets."""
+    from chtab import near_blocks
+
+    before = near_blocks.LENGTH, near_blocks.PAIRS
+    near_blocks.LENGTH, near_blocks.PAIRS = length, pairs
+    try:
+        yield
+    finally:
+        near_blocks.LENGTH, near_blocks.PAIRS = before

@@ -27,18 +27,18 @@ class Keys:
     ARROW_LEFT, ARROW_UP, ARROW_RIGHT, ARROW_DOWN = "\ue012", "\ue013", "\ue014", "\ue015"
 
 
-# Whether services with the built program answer routes by the library for C.
+# Whether services with the built program answer by the library for C.
 IS_BY_LIBRARY = False
 
 
 def words_of_library(out, program):
-    """The words that let a service answer routes by the library for C, where that is asked for."""
+    """The words that let a service answer by the library for C, where that is asked for."""
     saved = saved_for(f"{out}.gr") if IS_BY_LIBRARY and program == PROGRAM else None
     return [] if saved is None else ["--library", make(), "--saved", saved]
 
 
 def by_both(*checks):
-    """These checks with services that ask the program alone, and with services that answer routes by the library for C."""
+    """These checks with services that ask a run of the program, and with services that ask the library for C."""
     def other(check):
         @functools.wraps(check)
         def by():

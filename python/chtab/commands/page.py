@@ -57,10 +57,13 @@ def words_of(words):
     parser.add_argument(
         "--processes", type=processes_of, default=1, metavar="N", help="how many processes answer, 1 to 64 (1); each holds the network in memory"
     )
-    parser.add_argument(
+    engines = parser.add_mutually_exclusive_group()
+    engines.add_argument(
         "--library", nargs="?", const="", metavar="FILE",
-        help="answer routes by the library for C in each process (FILE, or libchtab.so.1 beside the program), and all else by the program; it needs --saved",
+        help="answer by the library for C in each process (FILE, or libchtab.so.1 beside the program), or end with the reason why it can't; "
+             "without this and --pipe it is taken if it stands there and --saved is given",
     )
+    engines.add_argument("--pipe", action="store_true", help="answer by a run of the program beside each process, which can be ended at any time")
     parser.add_argument("--log", metavar="FILE", help="write a line for each request to the end of FILE; '-' is standard output")
     parser.add_argument(
         "--proxy", metavar="ADDRESS", help="the address of your proxy, such as 127.0.0.1; its header X-Forwarded-For names the client that asks"
@@ -73,11 +76,19 @@ def words_of(words):
     return parser.parse_args(words)
 
 
+def chosen(words):
+    """Whether the library answers, or its file; without words about it, whether it fits."""
+    from chtab import choosing
+
+    if words.library is not None:
+        return words.library or True
+    return not words.pipe and choosing.fits(words.program, words.saved, words.workers)
+
+
 def main(words):
     """Serves the page that the words ask for, until a signal ends it."""
     import asyncio
 
-    from chtab.choosing import Short
     from chtab.metrics import Metrics
     from chtab.network import Network
     from chtab.recording import log_to
@@ -97,8 +108,7 @@ def main(words):
     metrics = Metrics(words.processes)
     sys.setswitchinterval(TURN)
     more = {"program": words.program, "workers": words.workers, "timeout": words.timeout, "load": words.processes == 1}
-    chosen = False if words.library is None else Short(words.library or None)
-    with Network.open(words.out + ".gr", words.saved, routes=True, library=chosen, **more) as network:
+    with Network.open(words.out + ".gr", words.saved, routes=True, library=chosen(words), **more) as network:
         def service(row):
             network._engine.load(with_routes=True)
             return Service(network, title, places, words.tiles, limits, words.cors, words.profile, words.proxy, metrics, row)

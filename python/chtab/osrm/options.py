@@ -7,6 +7,8 @@ from chtab.osrm.refusal import Refusal, unsupported
 
 NUMBER = re.compile(r"\d+(?:\.\d*)?|\.\d+", re.ASCII)
 INDEX = re.compile(r"\d{1,9}", re.ASCII)
+# By greater factors durations might be no numbers of JSON.
+MOST_SCALE = 1_000_000_000
 ROUTE_ANNOTATIONS = "duration", "distance", "nodes"
 OTHER_ANNOTATIONS = "datasources", "weight", "speed"
 
@@ -155,8 +157,8 @@ def table(reader):
     reader.refuse("fallback_speed", "fallback_coordinate")
     annotations = reader.choice("annotations", "duration", "distance", "duration,distance", "distance,duration")
     scale = reader.number("scale_factor", reader.take("scale_factor", "1"))
-    if not scale:
-        raise Refusal("InvalidOptions", "scale_factor: a number above 0")
+    if not 0 < scale <= MOST_SCALE:
+        raise Refusal("InvalidOptions", f"scale_factor: a number above 0, at most {MOST_SCALE:,}")
     return Table(reader.indices("sources"), reader.indices("destinations"), "duration" in annotations, "distance" in annotations, scale)
 
 

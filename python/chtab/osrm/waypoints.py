@@ -1,7 +1,6 @@
 """Where coordinates were taken to: OSRM's waypoints, the names of nodes, and coordinates that lie near no road."""
 import numpy
 
-from chtab import files
 from chtab.osrm.refusal import Refusal
 from chtab.places import length_text
 

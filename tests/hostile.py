@@ -1,0 +1,359 @@
+#!/usr/bin/python3
+"""Tests the Python package by what a hostile caller does: numbers of each kind past each range, files that are changed while they are open, and
+what happens in the middle of a question: a signal, a question in between, a fork, an end of its time, a lack of memory.
+
+What needs a package that is missing is told and left out. The last line is 'N passed, N failed'.
+"""
+import contextlib
+import itertools
+import os
+import pathlib
+import signal
+import time
+import types
+
+# First of all, since it puts the package on the path.
+from helpers.maps import COUNTRY
+
+from helpers import running, ways
+from helpers.commands import raises
+from helpers.in_process import make
+from helpers.moods import STANDIN, mood
+from helpers.nearness import rows_told, small_blocks, small_portions
+from helpers.packages import run_checks
+from helpers.running import PROGRAM, ROOT
+from helpers.ways import both
+import chtab
+from chtab import files
+
+FIRST, FIRST_SAVED = ROOT / "examples" / "first.gr", ROOT / "examples" / "first.ch"
+GRAPH = f"{COUNTRY}.gr"
+PATIENCE = 120
+
+
+def by_library(graph, saved, **more):
+    """A network by the library for C."""
+    return chtab.Network.open(graph, saved=saved, program=PROGRAM, library=make(), **more)
+
+
+def of_country(**more):
+    return by_library(GRAPH, ways.saved_for(GRAPH), **more)
+
+
+@contextlib.contextmanager
+def alarm(handler, seconds):
+    """Has a signal handled in so many seconds."""
+    before = signal.signal(signal.SIGALRM, handler)
+    signal.setitimer(signal.ITIMER_REAL, seconds)
+    try:
+        yield
+    finally:
+        signal.setitimer(signal.ITIMER_REAL, 0)
+        signal.signal(signal.SIGALRM, before)
+
+
+def interrupt(number, frame):
+    raise KeyboardInterrupt
+
+
+# By both ways, and by runs of the program.
+
+
+def nodes_are_whole_numbers():
+    """Whole decimal numbers are nodes, of any kind and order of bytes. Truths, times and texts are none; numbers past 2^63 are told as they are."""
+    import numpy
+
+    with chtab.Network.open(FIRST, program=PROGRAM) as network:
+        for kind in "i1", "u2", "<i4", ">i4", ">u8", "f2", ">f8", "g":
+            columns = numpy.array([1, 9, 3, 9], kind)[::2], numpy.array([[3], [1]], kind)[:, 0]
+            assert network.distances(*columns).tolist() == [9, -1] and network.table(*columns).tolist() == [[9, 0], [0, -1]], kind
+        for wrong in [True], numpy.array([1], bool), numpy.array([1], "m8[s]"), numpy.array([1], "M8[s]"), [1.5], [numpy.nan], [numpy.inf], ["1"], [1j], [None], \
+                [2**64]:
+            for call in network.distances, network.table, network.near:
+                raises(ValueError, call, wrong, [1], told="a node is a whole number")
+                raises(ValueError, call, [1], wrong, told="a node is a whole number")
+        for wrong in 0, -1, 4, 2**32 + 1, 2**63 - 1, -2**63:
+            raises(ValueError, network.table, [1, wrong], [2], told=f"node {wrong:.17g} is not from 1 to 3")
+        for wrong in 2**63, 2**64 - 1:
+            raises(ValueError, network.table, [1], numpy.array([2, wrong], numpy.uint64), told=f"node {wrong:.17g} is not")
+        read_only = numpy.array([1, 3])
+        read_only.flags.writeable = False
+        assert network.distances(read_only, read_only[::-1]).tolist() == [9, -1] and network.table(numpy.array(1), numpy.array(3)).tolist() == [[9]]
+        raises(ValueError, network.distances, [1, 2], [3], told="2 sources and 1 targets")
+        raises(ValueError, network.distances, numpy.array(1), told="shape (n, 2)")
+
+
+def limits_are_exact():
+    """Past 2^53 too, of each kind of number: what is farther by one is left out, and what is just as far is not."""
+    import fractions
+
+    import numpy
+
+    far = 2**53 + 1
+    files.write_graph("far.gr", 3, [(1, 2, far), (2, 3, 1)])
+    with chtab.Network.open("far.gr", program=PROGRAM) as network:
+        for within in far, numpy.int64(far), numpy.uint64(far), fractions.Fraction(2 * far + 1, 2):
+            assert network.table([1], [2, 3], within).tolist() == [[far, -1]], repr(within)
+            assert network.near([1], [2, 3], within=within).weights.tolist() == [far], repr(within)
+        for within in far - 1, float(far - 1), numpy.float64(far - 1), numpy.uint64(far - 1), numpy.float32(far - 1):
+            assert network.table([1], [2, 3], within).tolist() == [[-1, -1]], repr(within)
+            assert network.near([1], [2, 3], within=within).weights.tolist() == [], repr(within)
+        assert network.table([1], [2, 3], 2**60).tolist() == [[far, far + 1]] and network.table([1], [1, 2], 0).tolist() == [[0, -1]]
+        limits = [float(far - 1), far, numpy.int64(far), 2.0**54, 2**60]
+        assert network.sum_within([1, 1], limits, [1], [2, 3]).tolist() == [[0, 1, 1, 2, 2]]
+        for within in -1, 2**60 + 1, float("nan"), float("inf"), numpy.float64("nan"), numpy.int64(-1), numpy.uint64(2**63):
+            for call in lambda: network.table([1], [2], within), lambda: network.near([1], [2], within=within), lambda: network.sum_within(1, [5, within]):
+                raises(ValueError, call, told="a limit is from 0 to 2^60")
+
+
+def what_is_out_of_size_is_taken_or_refused():
+    """Counts that no row has and no number of numpy holds, also where rows are put together of parts; a value that is masked; one value of any kind."""
+    import numpy
+
+    arcs = ["a", "b", "c", "a"], ["b", "c", "a", "c"], [4, 5, 1, 10]
+    with chtab.Network.from_arrays(*arcs, program=PROGRAM) as network:
+        for count in 2**31, 2**32, 2**63, 2**70, numpy.int64(2**62):
+            for length in 2, 2**16:
+                with small_blocks(length, 10):
+                    near = network.near(None, ["c", "b", "c"], count)
+                    assert rows_told(near) == rows_told(network.near(None, ["c", "b", "c"])) and near.offsets.dtype == numpy.int64, (count, length)
+        raises(MemoryError, lambda: network.nearest_of(["a"], ["b"], 2**50))
+        assert network.nearest_of(["a"], ["b"], 1).weights.tolist() == [[4]]
+        for masked in numpy.ma.masked, numpy.ma.array(5, mask=True), None, "5", True, 5j, float("nan"), numpy.float64("inf"):
+            for targets in (None, ["b"]):
+                raises(chtab.DataFault, network.sum_within, masked, 5, None, targets, told="values")
+        for value in 2, 2.0, numpy.int8(2), numpy.float32(2), numpy.array(2), numpy.array(2.0, ">f4"), numpy.uint64(2):
+            assert network.sum_within(value, 5).tolist() == [4, 4, 6], repr(value)
+        for values in numpy.uint64(2**63), [numpy.uint64(2**63), 1, 2], numpy.array([2**63, 1, 2], numpy.uint64), [2**63, 1.5, 2]:
+            raises(chtab.DataFault, network.sum_within, values, 5, told="too large")
+
+
+def labels_are_of_any_size():
+    """Integers past 2^63 are labels, as Python has them or as numpy does, in lists and in arrays; none is taken for another."""
+    import numpy
+
+    large, wide = [2**63 + 5, 2**64 - 1, 7], numpy.array([2**63 + 5, 2**64 - 1, 7], numpy.uint64)
+    for ends in large, wide, list(wide), numpy.array(large, object):
+        with chtab.Network.from_arrays(ends, [*ends[1:], ends[0]], [4, 5, 6], program=PROGRAM) as network:
+            assert network.labels.tolist() == sorted(large), ends
+            for asked in large, wide, list(wide):
+                assert network.distances(asked, asked[::-1]).tolist() == [9, 0, 6] and network.routes(asked[:1], asked[1:2])[0].nodes == large[:2]
+            for other in [5 - 2**63], [-1], [2**63], numpy.array([2**63], numpy.uint64), [numpy.uint64(2**63 + 6)]:
+                raises(chtab.DataFault, network.distances, other, [7], told="no node has the label")
+    with chtab.Network.from_arrays([1, 2], [2, 1], [4, 5], program=PROGRAM) as network:
+        raises(chtab.DataFault, network.near, [numpy.uint64(2**64 - 1)], [1], told="no node has the label 18446744073709551615")
+    for weights in [numpy.uint64(2**63)], numpy.array([2**63 + 5], numpy.uint64), [2**63]:
+        raises(chtab.DataFault, lambda: chtab.Network.from_arrays([1], [2], weights, program=PROGRAM), told="too large")
+
+
+def a_graph_that_was_changed_is_not_asked_on():
+    """A graph that was written anew is refused by whatever would read it later: a process that is forked, and what stands beside the answers. What
+    was read of the one before answers on."""
+    for change in "a 1 2 5\n", "a 1 2 4 \n":
+        pathlib.Path("own.gr").write_text(FIRST.read_text())
+        with chtab.Network.open("own.gr", program=PROGRAM) as network:
+            assert network.distances([(1, 3)]).tolist() == [9]
+            time.sleep(0.02)
+            pathlib.Path("own.gr").write_text(FIRST.read_text().replace("a 1 2 4\n", change))
+            child = os.fork()
+            if not child:
+                try:
+                    for call in network.distances, network.routes, network.near:
+                        raises(chtab.ProgramFault, call, [1], [3], told="own.gr has changed since it was opened")
+                    os._exit(0)
+                finally:
+                    os._exit(1)
+            assert os.waitpid(child, 0)[1] == 0 and network.distances([(1, 3)]).tolist() == [9] == network.table([1], [3])[0].tolist()
+            raises(chtab.ProgramFault, lambda: network.graph, told="has changed")
+        with chtab.Network.open("own.gr", program=PROGRAM, load=False) as network:
+            network.graph
+            pathlib.Path("own.gr").write_text(FIRST.read_text())
+            raises(chtab.ProgramFault, network.distances, [(1, 3)], told="has changed")
+
+
+def a_signal_may_close_what_is_asked():
+    """Its handler closes the network in the middle of a question of the same thread, which then fails. Nothing waits for itself."""
+    with mood("slow=5"), chtab.Network.open(FIRST, program=STANDIN, load=False) as slow, of_country() as quick:
+        nodes = list(range(1, quick.nodes + 1)) * 8
+        for network, call in (slow, lambda: slow.distances([(1, 3)])), (quick, lambda: quick.table(nodes, nodes)):
+            with alarm(lambda *_: network.close(), 0.7):
+                begun = time.monotonic()
+                raises(chtab.ChtabError, call, told="the network is closed")
+                assert time.monotonic() - begun < 4
+
+
+def a_question_within_a_question_of_a_run_is_refused():
+    """The handler of a signal asks the run that its thread waits for: it is told so, and the first question is answered."""
+    with mood("slow=1.5"), chtab.Network.open(FIRST, program=STANDIN, load=False) as network:
+        told = []
+
+        def asks(*_):
+            told.append(raises(chtab.ChtabError, network.distances, [(1, 2)], told="not answered yet"))
+
+        with alarm(asks, 0.7):
+            assert network.distances([(1, 3)]).tolist() == [9] and len(told) == 1
+        assert network.distances([(1, 2)]).tolist() == [4]
+
+
+# By the library for C.
+
+
+def a_question_within_another_spoils_none():
+    """The handler of a signal may ask while its thread is in a call: both have their answers."""
+    from chtab import library
+
+    handle = library.Handle(library.loaded(make()))
+    handle.open(FIRST.read_bytes(), FIRST_SAVED.read_bytes())
+    find, inner = handle.find, []
+
+    def asks_in_between(*words):
+        status, handle.find = find(*words), find
+        inner.append(handle.route(1, 2))
+        return status
+
+    for room in 1_024, 1, 2:
+        handle.find = asks_in_between
+        weight, nodes = handle.route(0, 2)
+        assert (weight, nodes.tolist()) == (9, [0, 1, 2]), (weight, nodes)
+        assert (inner[-1][0], inner[-1][1].tolist()) == (5, [1, 2]), inner[-1]
+        handle.room = room
+
+
+def a_fork_within_a_question_takes_no_handle():
+    """A process that is forked while near rows come ends the question, and its next one by handles of its own."""
+    with by_library(FIRST, FIRST_SAVED) as network:
+        child = []
+
+        def decay(weights):
+            if not child:
+                child.append(os.fork())
+            return weights * 0.5
+
+        found = network.sum_within(1, 9, decay=decay).tolist()
+        if not child[0]:
+            is_right = found == [6.5, 2.5, 0.0] == network.sum_within(1, 9, decay=lambda weights: weights * 0.5).tolist()
+            is_own = network._engine.begun == 1 and [handle in network._engine.handles for handle in network._engine.spare] == [True]
+            os._exit(0 if is_right and is_own else 1)
+        assert os.waitpid(child[0], 0)[1] == 0 and found == [6.5, 2.5, 0.0] and len(network._engine.spare) == 1, found
+
+
+def a_sweep_without_memory_is_left_out():
+    """Then the rows come by searches, whatever the samples said of them."""
+    import numpy
+
+    from chtab import library
+
+    def refused(handle):
+        raise chtab.ProgramFault("chtab: out of memory", 3)
+
+    with of_country() as network:
+        wanted, sweep = network.near(None, [1, 2, 3], 2), library.Handle.sweep
+        library.Handle.sweep = refused
+        try:
+            found = network.near(None, [1, 2, 3], 2)
+        finally:
+            library.Handle.sweep = sweep
+        assert all(numpy.array_equal(getattr(found, name), getattr(wanted, name)) for name in ("offsets", "places", "weights"))
+
+
+def a_call_of_seconds_hears_ctrl_c():
+    """Each call of the library that may take long is broken off within a second, and what it leaves behind answers on."""
+    import hashlib
+
+    from chtab import library
+
+    def slow(call):
+        """The call behind some seconds of C that hears no signal."""
+        def late(*words):
+            hashlib.pbkdf2_hmac("sha256", b"", b"", 6_000_000)
+            return call(*words)
+
+        return late
+
+    nodes = list(range(1, 601))
+    for name, call in (
+        ("open", lambda: of_country().close()), ("distances", lambda: network.distances(nodes, nodes)), ("table", lambda: network.table(nodes, nodes)),
+        ("keep_places", lambda: network.near([1], nodes, 1)), ("sweep", lambda: network.near(None, nodes, 1)), ("near_rows", lambda: network.near(nodes, [1])),
+    ):
+        with of_country() as network:
+            wanted, own = network.table(nodes[:9], nodes[:9]), getattr(library.Handle, name)
+            setattr(library.Handle, name, slow(own))
+            begun = time.monotonic()
+            try:
+                with alarm(interrupt, 0.3):
+                    raises(KeyboardInterrupt, call)
+                    took = time.monotonic() - begun
+            finally:
+                setattr(library.Handle, name, own)
+            assert took < 1.3, (name, took)
+            assert (network.table(nodes[:9], nodes[:9]) == wanted).all() and network.near([5], [5]).weights.tolist() == [0], name
+
+
+def a_library_that_gives_nothing_is_no_endless_loop():
+    """One that opens another number of nodes, or gives no row, is not asked on."""
+    import numpy
+
+    from chtab import library
+
+    nothing = numpy.zeros(0, numpy.int64)
+    for name, other in ("nodes", lambda handle: 4), ("near_rows", lambda handle, sources, pairs: (nothing, nothing, nothing)):
+        own = getattr(library.Handle, name)
+        setattr(library.Handle, name, other)
+        try:
+            raises(chtab.ProgramFault, lambda: by_library(FIRST, FIRST_SAVED).near([1], [2]), told="not asked for")
+        finally:
+            setattr(library.Handle, name, own)
+
+
+def what_is_long_hears_ctrl_c():
+    """A table and near rows are broken off, long before they would end; the next question is answered."""
+    with of_country() as network:
+        nodes = list(range(1, network.nodes + 1)) * 8
+        for call in network.table, network.near, lambda sources, targets: network.sum_within(1, 2**60, sources, targets):
+            begun = time.monotonic()
+            with alarm(interrupt, 0.5):
+                raises(KeyboardInterrupt, call, nodes, nodes)
+            took = time.monotonic() - begun
+            assert took < 3 and network.distances([(5, 5)]).tolist() == [0] and network.near([5], [5]).weights.tolist() == [0], took
+
+
+def time_is_looked_at_between_calls():
+    """By a clock that goes on a second with each look: a question of more calls than it has seconds is broken off, by each kind of call; the next
+    one is answered. Other networks have no time."""
+    from chtab import child
+
+    nodes, clock = list(range(1, 3_001)) * 12, child.time
+    with of_country(timeout=4) as network, of_country() as other, small_portions(1 << 20, 0, 1_000):
+        wanted = other.distances(nodes, nodes[::-1])
+        child.time = types.SimpleNamespace(monotonic=itertools.count().__next__)
+        try:
+            for call in (
+                lambda: network.distances(nodes, nodes[::-1]), lambda: network.table([1], nodes), lambda: network.routes([(1, 2)] * 9),
+                lambda: network.near(nodes, [1]), lambda: network.sum_within(1, 2**60, nodes, [1]), lambda: network.nearest_of(nodes, [1]),
+            ):
+                raises(chtab.TimedOut, call, told="longer than 4 seconds")
+                assert network.distances([(5, 5)]).tolist() == [0] and network.near([5], [5]).weights.tolist() == [0]
+                assert network.routes([(5, 5)])[0].weight == 0 and network.table([5], [5]).tolist() == [[0]]
+            assert (other.distances(nodes, nodes[::-1]) == wanted).all() and len(other.near(nodes, [1])) == len(nodes)
+        finally:
+            child.time = clock
+
+
+GROUPS = (
+    (
+        ("python3-numpy",),
+        [
+            *both(
+                nodes_are_whole_numbers, limits_are_exact, what_is_out_of_size_is_taken_or_refused, labels_are_of_any_size,
+                a_graph_that_was_changed_is_not_asked_on,
+            ),
+            a_signal_may_close_what_is_asked, a_question_within_a_question_of_a_run_is_refused, a_question_within_another_spoils_none,
+            a_fork_within_a_question_takes_no_handle, a_sweep_without_memory_is_left_out, a_library_that_gives_nothing_is_no_endless_loop,
+            what_is_long_hears_ctrl_c, a_call_of_seconds_hears_ctrl_c, time_is_looked_at_between_calls,
+        ],
+    ),
+)
+
+if __name__ == "__main__":
+    running.build()
+    run_checks(GROUPS)
