@@ -383,8 +383,9 @@ def what_is_dropped_is_freed():
         assert growth(in_thread, 300) < MOST_GROWTH and len(network._engine.handles) == 1
 
 
-def routes_are_those_of_what_was_opened():
-    """Also where the graph's file is another one since, with the same weights along a route or without its arcs: the file isn't read again."""
+def routes_of_another_graph_are_found_out():
+    """Arcs are weighed by the graph's file. Where it is another one since it was opened, no route is told by it, also if the weights of its arcs
+    have the same sum. Arcs that were read before go on to be right."""
     import numpy
 
     for old, new in ("a 1 2 4\na 2 3 5", "a 1 2 5\na 2 3 4"), ("a 2 3 5", "a 3 2 5"), ("a 2 3 5\n", ""):
@@ -392,8 +393,13 @@ def routes_are_those_of_what_was_opened():
         with chtab.Network.open("own.gr", saved=FIRST_SAVED, program=PROGRAM, library=make()) as network:
             assert old in FIRST.read_text()
             pathlib.Path("own.gr").write_text(FIRST.read_text().replace(old, new))
-            [route] = network.routes([(1, 3)])
-            assert route == (1, 3, 9, [1, 2, 3], [4, 5]), route
+            raises(chtab.ProgramFault, network.routes, [(1, 3)], told="own.gr has changed")
+            assert network.distances([(1, 3)]).tolist() == [9]
+            pathlib.Path("own.gr").write_text(FIRST.read_text())
+        with chtab.Network.open("own.gr", saved=FIRST_SAVED, program=PROGRAM, library=make()) as network:
+            assert network.routes([(1, 3)])[0] == (1, 3, 9, [1, 2, 3], [4, 5])
+            pathlib.Path("own.gr").write_text(FIRST.read_text().replace(old, new))
+            assert network.routes([(1, 3), (2, 3)])[:] == [(1, 3, 9, [1, 2, 3], [4, 5]), (2, 3, 5, [2, 3], [5])]
             walks = network._queries.walks(numpy.array([[1, 3], [3, 1], [2, 2], [2, 3]]))
             assert (walks.weights.tolist(), walks.firsts.tolist(), walks.arc_weights.tolist()) == ([9, -1, 0, 5], [0, 2, 2, 2, 3], [4, 5, 5])
             assert (walks.tails.tolist(), walks.heads.tolist(), walks.tails.dtype) == ([1, 2, 2], [2, 3, 3], numpy.int64)
@@ -475,7 +481,7 @@ GROUPS = (
             faults_are_told_as_by_the_program, a_closed_handle_answers_nothing, each_thread_has_a_handle,
             near_rows_of_threads_have_handles_of_their_own, near_rows_come_in_portions, threads_ask_while_it_is_closed,
             a_forked_process_opens_it_anew, the_end_of_the_interpreter_waits_for_nothing, what_is_dropped_is_freed,
-            routes_are_those_of_what_was_opened, it_is_taken_where_it_fits, another_library_is_not_taken,
+            routes_of_another_graph_are_found_out, it_is_taken_where_it_fits, another_library_is_not_taken,
         ],
     ),
 )

@@ -248,7 +248,7 @@ def the_library_answers_where_it_fits():
     shutil.copy(make(), "beside/libchtab.so.1")
     saved = "--saved", saved_for(f"{COUNTRY}.gr")
     for words, runs in (
-        (saved, 0), ((*saved, "--library"), 0), ((*saved, "--processes", 2), 0), ((*saved, "--pipe"), 1), ((*saved, "--workers", 2), 1), ((), 1),
+        (saved, 0), (("--library", *saved), 0), ((*saved, "--processes", 2), 0), ((*saved, "--pipe"), 1), ((*saved, "--workers", 2), 1), ((), 1),
         ((*saved, "--pipe", "--processes", 2), 2),
     ):
         with service(COUNTRY, *words, program="beside/chtab") as (child, address):

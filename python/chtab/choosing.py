@@ -7,7 +7,7 @@ from chtab.program import program_of
 AUTO = "auto"
 
 
-def engine_of(setting, choice):
+def engine_of(setting, choice, graph):
     """The engine of a setting: the library in this process where it is chosen and fits, and else runs of the program.
 
     Parameters
@@ -17,13 +17,15 @@ def engine_of(setting, choice):
     choice : bool or str
         True, or the path of the library: the library, and an error where it doesn't fit. False: the program. "auto": the library where it fits
         and no time is set, because only a run can be ended at once.
+    graph : call
+        What `files.read_graph` gives of the graph, when it is first needed.
     """
     if choice is False or choice == AUTO and setting.timeout is not None:
         return engine.Engine(setting)
     path = library.beside(setting.program) if choice in (AUTO, True) else choice
     lack = lack_of(setting, path)
     if lack is None:
-        return InProcess(setting, library.loaded(path))
+        return InProcess(setting, library.loaded(path), graph)
     if choice == AUTO:
         return engine.Engine(setting)
     raise ChtabError(f"the library can't answer: {lack}")

@@ -9,7 +9,7 @@ import numpy
 
 from chtab import engine, files, forks, library
 from chtab.child import Deadline
-from chtab.errors import ChtabError, unasked
+from chtab.errors import ChtabError, ProgramFault, unasked
 from chtab.interruptible import LONG, interruptible
 from chtab.walks import Walks
 
@@ -46,11 +46,11 @@ class InProcess:
     A process that was forked opens the network anew with its first question, and leaves the handles of its parent alone.
     """
 
-    def __init__(self, setting, calls):
+    def __init__(self, setting, calls, graph):
         for path in setting.graph, setting.saved:
             open(path, "rb").close()
-        self.setting, self.calls, self.stamps = setting, calls, setting.stamps()
-        self.nodes, self.is_closed = files.count_nodes(setting.graph), False
+        self.setting, self.calls, self.graph, self.stamps = setting, calls, graph, setting.stamps()
+        self.nodes, self.is_closed, self.arcs = files.count_nodes(setting.graph), False, None
         self.leave_parent()
         forks.follow(self)
 
@@ -180,10 +180,7 @@ class InProcess:
     @timed
     def distances(self, pairs):
         """The distances of pairs of nodes, an array (n, 2): int64 (n,), -1 where there is no walk."""
-        return self.between(*library.nodes_of(pairs, self.nodes).T.copy())
-
-    def between(self, sources, targets):
-        """The distances from each node of a column to the one beside it in another, from 0 on."""
+        sources, targets = library.nodes_of(pairs, self.nodes).T.copy()
         parts = [slice(start, start + TOGETHER) for start in range(0, len(sources), TOGETHER)]
         found = [self.call(len(sources[part]), self.handle().distances, sources[part], targets[part]) for part in parts]
         return found[0] if len(found) == 1 else numpy.concatenate([numpy.zeros(0, numpy.int64), *found])
@@ -215,6 +212,8 @@ class InProcess:
                 found.append(files.Answer(source, target, None, None, None))
                 continue
             weights = self.arc_weights(nodes[:-1], nodes[1:])
+            if weights.sum() != weight:
+                raise self.changed()
             found.append(files.Answer(source, target, weight, (nodes + 1).tolist(), weights.tolist()))
         return found
 
@@ -225,12 +224,36 @@ class InProcess:
         found = [self.call(1, self.handle().route, source, target) for source, target in pairs]
         weights = numpy.array([weight for weight, _ in found], numpy.int64)
         counts = [max(len(nodes) - 1, 0) for _, nodes in found]
-        nothing = numpy.zeros(0, numpy.uint32)
+        nothing = numpy.zeros(0, numpy.int64)
         tails, heads = (numpy.concatenate([nothing, *(nodes[part] for _, nodes in found)]) for part in (slice(-1), slice(1, None)))
         firsts = numpy.append(0, numpy.cumsum(counts, dtype=numpy.int64))
-        return Walks(weights, firsts, *(nodes.astype(numpy.int64) + 1 for nodes in (tails, heads)), self.arc_weights(tails, heads))
+        walks = Walks(weights, firsts, tails + 1, heads + 1, self.arc_weights(tails, heads))
+        if (walks.sums(walks.arc_weights)[weights >= 0] != weights[weights >= 0]).any():
+            raise self.changed()
+        return walks
 
     def arc_weights(self, tails, heads):
-        """The weights of arcs of routes, between nodes from 0 on. Each is the distance between its ends, because over a shorter way between these
-        the route would be shorter."""
-        return self.between(tails, heads)
+        """The weights of arcs of routes, between nodes from 0 on. Of several arcs between two nodes a route takes the one of least weight."""
+        if self.arcs is None:
+            self.arcs = least_arcs(self.graph(), self.nodes)
+        keys, weights = self.arcs
+        wanted = tails.astype(numpy.int64) * self.nodes + heads
+        places = keys.searchsorted(wanted)
+        if (keys[places] != wanted).any():
+            raise self.changed()
+        return weights[places]
+
+    def changed(self):
+        """The fault of a graph whose arcs are not those that the library opened."""
+        return ProgramFault(f"{self.setting.graph} has changed since it was opened", 1)
+
+
+def least_arcs(graph, count):
+    """The keys of the pairs of nodes between which a graph has an arc, in order, and the weight of the least arc of each. Behind them stands a
+    key that no pair has, so that each key that is looked for has a place."""
+    tails, heads, weights = (numpy.array(column, numpy.int64) for column in (graph.tails, graph.heads, graph.weights))
+    keys = (tails - 1) * count + heads - 1
+    order = numpy.lexsort([weights, keys])
+    keys, weights = keys[order], weights[order]
+    is_first = numpy.append(True, keys[1:] != keys[:-1])[:len(keys)]
+    return numpy.append(keys[is_first], numpy.iinfo(numpy.int64).max), numpy.append(weights[is_first], 0)

@@ -36,7 +36,8 @@ class Network(BetweenPlaces, Accessibility):
         self._opened, self._folder = opened, folder
         self._layers = opened.layers(known)
         self.nodes = files.count_nodes(opened.setting.graph)
-        self._engine = choosing.engine_of(opened.setting, opened.library)
+        layers = self._layers
+        self._engine = choosing.engine_of(opened.setting, opened.library, lambda: layers.graph)
         self._near = near_of(self._engine)
         self._queries = NodeQueries(self._engine, self._near)
         self._trips = Trips(self._queries, self._layers)
