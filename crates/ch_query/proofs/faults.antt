@@ -4,5 +4,4 @@ pub mod LegCosts
 pub mod ArcRows
 pub mod Pairs
 pub mod Firsts
-pub mod Found
 pub mod Checked

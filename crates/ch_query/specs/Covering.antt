@@ -1,5 +1,5 @@
 -- Two searches that look for a way up and down within a bound.
-use Rattle.std.specs.Prelude.{◌≡◌, ◌≢◌, ℕ, ◌<◌, ◌≤◌, Contains, Bool, true, false, List, [], ◌∷◌, Option, Some, None, MatchOption}
+use Rattle.std.specs.Prelude.{◌≡◌, ◌≢◌, ℕ, ◌<◌, Contains, Bool, true, false, List, Option, Some}
 use Rattle.ch_graph.specs.declared.cost.Cost.{Cost}
 use Rattle.ch_graph.specs.Cost.{IsAtMost, IsBelow, cost_sum, cost_at}
 use Rattle.ch_hierarchy.specs.Hierarchy.{LevelsAndLegs, nodes_of}
@@ -34,21 +34,6 @@ pub record IsFirstUncovered (H : LevelsAndLegs) (v : ℕ) : Type 0 where
   pub within : v < nodes_of H
   pub fails : IsCovered H v → ⊥
   pub first : (u : ℕ) → u < v → IsCovered H u
-
--- the nodes of the range are covered
-abbrev pub AreCovered : LevelsAndLegs → ℕ → ℕ → Type 0
-AreCovered H from to = (v : ℕ) → from ≤ v → v < to → IsCovered H v
-
--- the first node of the range that is not covered, or none
-abbrev pub IsFirstUncoveredOf : LevelsAndLegs → ℕ → ℕ → Option ℕ → Type 0
-IsFirstUncoveredOf H from to first =
-    MatchOption first (AreCovered H from to) (λ v. (from ≤ v) × (v < to) × (IsCovered H v → ⊥) × AreCovered H from v)
-
--- the first number in the list, or none
-abbrev pub first_some : List (Option ℕ) → Option ℕ
-first_some [] = None
-first_some (None ∷ xs) = first_some xs
-first_some (Some v ∷ xs) = Some v
 
 -- each key is more than this cost
 abbrev pub IsPastCost : List (Option Cost) → Cost → Type 0

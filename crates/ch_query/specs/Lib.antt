@@ -23,3 +23,4 @@ pub mod SearchSpace
 pub mod SearchSpaceLaws
 pub mod Checking
 pub mod Covering
+pub mod Finding

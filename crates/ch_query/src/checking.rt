@@ -1,5 +1,5 @@
 //! The check whether a saved hierarchy of any origin is right for a graph.
-ghost use Rattle.std.specs.Prelude.{◌≡◌, ◌<◌, ℕ, All, IfErr, IfOk, MatchOption};
+ghost use Rattle.std.specs.Prelude.{◌≡◌, ◌<◌, ◌^◌, ℕ, All, IfErr, IfOk, MatchOption, length};
 ghost use Rattle.ch_hierarchy.specs.declared.fault.CheckFault.{CheckFault as AnyFault};
 ghost use Rattle.ch_hierarchy.specs.declared.fault.CheckFault.TheVariants as CheckFault;
 ghost use Rattle.ch_hierarchy.specs.declared.fault.CheckError.TheVariants as CheckError;
@@ -11,12 +11,12 @@ ghost use Rattle.ch_query.specs.Checking.{IsArcIfBase, IsIfFault, IsOkWhere, Nam
 ghost use Rattle.ch_query.specs.Covering.{IsFirstUncovered};
 
 use crate::founding::{first_false_shortcut, first_unserved, first_without_arc};
-use crate::founding_jobs::{are_served, are_sums, have_arcs};
+use crate::founding_jobs::{first_false_shortcut_by, first_unserved_by, first_without_arc_by};
 use crate::lower::{first_uncovered, first_uncovered_alone};
 use ch_graph::{Graph, Saved};
 use ch_hierarchy::{CheckError, CheckFault, Hierarchy, assemble};
 use ch_work::{Crew, Gate, Stage};
-use std::alloc::Global;
+use std::alloc::{AllocError, Global};
 use std::thread::Threads;
 
 /// Returns the hierarchy that a saved one names, if it is right for the graph.
@@ -97,7 +97,7 @@ fn founded(alloc: Global, graph: &Graph, saved: &Saved) -> Result<Hierarchy, Che
     }
 }
 
-/// Like [`founded`], by the workers of a crew. If they find a fault, one worker looks for the first one.
+/// Like [`founded`], by the workers of a crew.
 fn founded_by<R: Threads + Sync, G: Gate>(
     crew: &Crew<'_, R, G>,
     graph: &Graph,
@@ -106,36 +106,17 @@ fn founded_by<R: Threads + Sync, G: Gate>(
     ensures value { IfOk result (NamesFounded graph.now saved.now) }
     ensures fault { IfErr result (IsIfFault (IsFirstFault graph.now saved.now)) }
 {
-    if crew.plan.workers() > 1 {
-        if let Some(hierarchy) = founded_by_all(crew, graph, saved)? {
-            return Ok(hierarchy);
-        }
-    }
-    founded(crew.alloc, graph, saved)
-}
-
-/// Returns the hierarchy that a saved one names, if the workers of a crew find no fault.
-fn founded_by_all<R: Threads + Sync, G: Gate>(
-    crew: &Crew<'_, R, G>,
-    graph: &Graph,
-    saved: &Saved,
-) -> Result<Option<Hierarchy>, CheckError>
-    ensures value { IfOk result (λ found. MatchOption found (Unit {0}) (NamesFounded graph.now saved.now)) }
-    ensures fault { IfErr result (IsIfFault (IsFirstFault graph.now saved.now)) }
-{
     let legs = saved.legs.as_slice();
-    let arcs = graph.arcs();
-    if u32::try_from(legs.len()).is_err() || u32::try_from(arcs.len()).is_err() {
-        return Ok(None);
+    // Pieces are counted in 32 bits.
+    if u32::try_from(legs.len()).is_err() {
+        return founded(crew.alloc, graph, saved);
     }
-    if !have_arcs(crew, graph, legs)? {
-        return Ok(None);
-    }
+    let baseless = first_without_arc_by(crew, graph, legs)?;
     let hierarchy = assemble(crew.alloc, graph, saved)?;
-    if !are_sums(crew, &hierarchy, legs)? || !are_served(crew, &hierarchy, arcs)? {
-        return Ok(None);
+    match first_unfounded_by(crew, graph, saved, &hierarchy, baseless)? {
+        Some(fault) => Err(CheckError::Fault(fault)),
+        None => Ok(hierarchy),
     }
-    Ok(Some(hierarchy))
 }
 
 /// Returns the first fault of a leg or an arc with respect to the named hierarchy. `baseless` is the place
@@ -161,6 +142,32 @@ fn first_unfounded(
         return Some(CheckFault::Arc(place));
     }
     None
+}
+
+/// Like [`first_unfounded`], by the workers of a crew.
+fn first_unfounded_by<R: Threads + Sync, G: Gate>(
+    crew: &Crew<'_, R, G>,
+    graph: &Graph,
+    saved: &Saved,
+    hierarchy: &Hierarchy,
+    baseless: Option<usize>,
+) -> Result<Option<CheckFault>, AllocError>
+    requires named { NamesFor graph.now saved.now hierarchy.now }
+    requires bases { MatchOption baseless (All (IsArcIfBase graph.now) saved.now.legs) (IsFirstFailing (IsArcIfBase graph.now) saved.now.legs) }
+    requires count { length saved.now.legs < 2 ^ 32 }
+    ensures { IfOk result (λ found. MatchOption found (NamesFounded graph.now saved.now hierarchy.now) (IsFirstFault graph.now saved.now)) }
+{
+    if let Some(place) = baseless {
+        return Ok(Some(CheckFault::Base(place)));
+    }
+    let legs = saved.legs.as_slice();
+    if let Some(place) = first_false_shortcut_by(crew, hierarchy, legs)? {
+        return Ok(Some(CheckFault::Middle(place)));
+    }
+    if let Some(place) = first_unserved_by(crew, hierarchy, graph.arcs())? {
+        return Ok(Some(CheckFault::Arc(place)));
+    }
+    Ok(None)
 }
 
 /// Returns the hierarchy if all pairs of legs through lower nodes are covered.

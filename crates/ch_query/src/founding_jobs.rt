@@ -1,17 +1,17 @@
-//! The workers' part of founding: whether all legs of a saved hierarchy and all arcs of a graph are well.
-//!
-//! The workers only find out whether there is a fault. The functions of `founding` find the first one.
-ghost use Rattle.std.specs.Prelude.{◌<◌, ◌^◌, ◌↔◌, All, Contains, IfOk, IsTrue, length};
+//! The first leg of a saved hierarchy, or arc of a graph, that is not right, looked for by workers.
+ghost use Rattle.std.specs.Prelude.{◌≡◌, ◌<◌, ◌^◌, All, Contains, IfOk, MatchOption, length, slice_index_or};
 ghost use Rattle.ch_graph.specs.declared.arc.InArc.{InArc as AnyArc};
-ghost use Rattle.ch_graph.specs.Graph.{Network, IsWithinLimits};
+ghost use Rattle.ch_graph.specs.declared.saved.SavedLeg.{SavedLeg as AnyLeg};
+ghost use Rattle.ch_hierarchy.specs.Assembling.{IsFirstFailing};
 ghost use Rattle.ch_hierarchy.specs.Hierarchy.{nodes_of};
-ghost use Rattle.ch_query.specs.Checking.{AreArcRows, IsArcIfBase, IsSumIfShortcut, IsServed};
+ghost use Rattle.ch_query.specs.Checking.{IsArcIfBase, IsSumIfShortcut, IsServed};
 
 use crate::arcs::arc_rows;
+use crate::finding::{ItemCheck, first_wrong};
 use crate::founding::{is_arc_if_base, is_served, is_sum_if_shortcut};
 use ch_graph::{Graph, InArc, Rows, SavedLeg};
 use ch_hierarchy::Hierarchy;
-use ch_work::{Crew, Gate, ListJob, Open, Plan, run_list};
+use ch_work::{Crew, Gate, Open, Plan};
 use std::alloc::{AllocError, Global};
 use std::marker::Model;
 use std::thread::Threads;
@@ -30,141 +30,152 @@ fn by_pieces<'a, R, G>(crew: &Crew<'a, R, G>) -> Crew<'a, R, Open> {
     }
 }
 
-/// Whether all of these are `true`.
-fn are_all_true(found: &[bool]) -> bool
-    ensures { IsTrue result ↔ All IsTrue found.now }
-{
-    for is_true in found {
-        if !is_true {
-            return false;
-        }
-    }
-    true
-}
-
-/// The job that looks for the arc of each leg without a middle.
+/// The check of legs without a middle: each is an arc of the graph.
 #[derive(Drop)]
-struct BaseJob<'a> {
+struct ArcCheck<'a> {
+    graph: &'a Graph,
     rows: &'a Rows<InArc>,
+    legs: &'a [SavedLeg],
 }
 
-impl ListJob for BaseJob<'_> {
-    type Item = SavedLeg;
+impl<'a> Model for ArcCheck<'a> {
+    ghost use Rattle.std.specs.Prelude.{List};
+    ghost use Rattle.ch_graph.specs.declared.saved.SavedLeg.{SavedLeg as AnyLeg};
+    ghost use Rattle.ch_graph.specs.Graph.{Network, IsWithinLimits};
+    ghost use Rattle.ch_query.specs.Checking.{AreArcRows};
 
+    ghost Value = { Network × List AnyLeg };
+
+    ghost view = { λ check. (check.graph.now, check.legs.now) };
+
+    ghost invariant = { λ check. IsWithinLimits check.graph.now × AreArcRows check.graph.now check.rows.now };
+}
+
+impl ItemCheck for ArcCheck<'_> {
     type Room = ();
 
-    type Out = bool;
+    ghost size = { λ check. length check.1 };
 
-    ghost takes = { λ job leg. (g : Network) × AreArcRows g job.rows.now };
+    ghost right = { λ check place. (d : AnyLeg) → IsArcIfBase check.0 (slice_index_or check.1 place d) };
 
-    ghost meaning = { λ job leg is. (g : Network) → IsWithinLimits g → AreArcRows g job.rows.now → (IsTrue is ↔ IsArcIfBase g leg) };
-
-    ghost clean = { λ job room. Unit {0} };
+    ghost clean = { λ check room. Unit {0} };
 
     fn room(&self, _alloc: Global) -> Result<(), AllocError> {
         Ok(())
     }
 
-    fn value(&self, _alloc: Global, _room: &mut (), leg: &SavedLeg) -> Result<bool, AllocError> {
-        Ok(is_arc_if_base(self.rows, *leg))
+    fn is_right(&self, _room: &mut (), place: u32) -> bool {
+        is_arc_if_base(self.rows, self.legs[place as usize])
     }
 }
 
-/// The job that compares each leg that has a middle with the two legs of that middle.
+/// The check of legs with a middle: each is the sum of the two legs of that middle.
 #[derive(Drop)]
-struct SumJob<'a> {
+struct SumCheck<'a> {
     hierarchy: &'a Hierarchy,
+    legs: &'a [SavedLeg],
 }
 
-impl ListJob for SumJob<'_> {
-    type Item = SavedLeg;
-
+impl ItemCheck for SumCheck<'_> {
     type Room = ();
 
-    type Out = bool;
+    ghost size = { λ check. length check.legs.now };
 
-    ghost takes = { λ job leg. Unit {0} };
+    ghost right = { λ check place. (d : AnyLeg) → IsSumIfShortcut check.hierarchy.now (slice_index_or check.legs.now place d) };
 
-    ghost meaning = { λ job leg is. IsTrue is ↔ IsSumIfShortcut job.hierarchy.now leg };
-
-    ghost clean = { λ job room. Unit {0} };
+    ghost clean = { λ check room. Unit {0} };
 
     fn room(&self, _alloc: Global) -> Result<(), AllocError> {
         Ok(())
     }
 
-    fn value(&self, _alloc: Global, _room: &mut (), leg: &SavedLeg) -> Result<bool, AllocError> {
-        Ok(is_sum_if_shortcut(self.hierarchy, *leg))
+    fn is_right(&self, _room: &mut (), place: u32) -> bool {
+        is_sum_if_shortcut(self.hierarchy, self.legs[place as usize])
     }
 }
 
-/// The job that looks for the leg of each arc.
+/// The check of arcs: each has its leg.
 #[derive(Drop)]
-struct ServedJob<'a> {
+struct ServedCheck<'a> {
     hierarchy: &'a Hierarchy,
+    arcs: &'a [InArc],
+    ghost ends: { (a : AnyArc) → Contains arcs.now a → (a.from < nodes_of hierarchy.now) × (a.to < nodes_of hierarchy.now) },
 }
 
-impl ListJob for ServedJob<'_> {
-    type Item = InArc;
-
+impl ItemCheck for ServedCheck<'_> {
     type Room = ();
 
-    type Out = bool;
+    ghost size = { λ check. length check.arcs.now };
 
-    ghost takes = { λ job arc. (arc.from < nodes_of job.hierarchy.now) × (arc.to < nodes_of job.hierarchy.now) };
+    ghost right = { λ check place. (d : AnyArc) → IsServed check.hierarchy.now (slice_index_or check.arcs.now place d) };
 
-    ghost meaning = { λ job arc is. IsTrue is ↔ IsServed job.hierarchy.now arc };
-
-    ghost clean = { λ job room. Unit {0} };
+    ghost clean = { λ check room. Unit {0} };
 
     fn room(&self, _alloc: Global) -> Result<(), AllocError> {
         Ok(())
     }
 
-    fn value(&self, _alloc: Global, _room: &mut (), arc: &InArc) -> Result<bool, AllocError> {
-        Ok(is_served(self.hierarchy, *arc))
+    fn is_right(&self, _room: &mut (), place: u32) -> bool {
+        is_served(self.hierarchy, self.arcs[place as usize])
     }
 }
 
-/// Whether each leg without a middle is an arc of the graph.
-pub(crate) fn have_arcs<R: Threads + Sync, G: Gate>(
+/// Like [`first_without_arc`](crate::founding::first_without_arc), by the workers of a crew.
+pub(crate) fn first_without_arc_by<R: Threads + Sync, G: Gate>(
     crew: &Crew<'_, R, G>,
     graph: &Graph,
     legs: &[SavedLeg],
-) -> Result<bool, AllocError>
+) -> Result<Option<usize>, AllocError>
     requires { length legs.now < 2 ^ 32 }
-    ensures { IfOk result (λ have. IsTrue have ↔ All (IsArcIfBase graph.now) legs.now) }
+    ensures { IfOk result (λ found. MatchOption found (All (IsArcIfBase graph.now) legs.now) (IsFirstFailing (IsArcIfBase graph.now) legs.now)) }
 {
     // This call tells the proof that the graph keeps the limits.
     let _ = graph.arcs();
     let rows = arc_rows(crew.alloc, graph)?;
-    let found = run_list(&by_pieces(crew), legs, &BaseJob { rows: &rows })?;
-    Ok(are_all_true(&found))
+    let check = ArcCheck {
+        graph,
+        rows: &rows,
+        legs,
+    };
+    let first = first_wrong(&by_pieces(crew), legs.len() as u32, &check)?;
+    Ok(place_of(first))
 }
 
-/// Whether each leg with a middle is the sum of the two legs of that middle.
-pub(crate) fn are_sums<R: Threads + Sync, G: Gate>(
+/// Like [`first_false_shortcut`](crate::founding::first_false_shortcut), by the workers of a crew.
+pub(crate) fn first_false_shortcut_by<R: Threads + Sync, G: Gate>(
     crew: &Crew<'_, R, G>,
     hierarchy: &Hierarchy,
     legs: &[SavedLeg],
-) -> Result<bool, AllocError>
+) -> Result<Option<usize>, AllocError>
     requires { length legs.now < 2 ^ 32 }
-    ensures { IfOk result (λ are. IsTrue are ↔ All (IsSumIfShortcut hierarchy.now) legs.now) }
+    ensures { IfOk result (λ found. MatchOption found (All (IsSumIfShortcut hierarchy.now) legs.now) (IsFirstFailing (IsSumIfShortcut hierarchy.now) legs.now)) }
 {
-    let found = run_list(&by_pieces(crew), legs, &SumJob { hierarchy })?;
-    Ok(are_all_true(&found))
+    let check = SumCheck { hierarchy, legs };
+    let first = first_wrong(&by_pieces(crew), legs.len() as u32, &check)?;
+    Ok(place_of(first))
 }
 
-/// Whether each arc that is no loop has a leg that costs at most as much.
-pub(crate) fn are_served<R: Threads + Sync, G: Gate>(
+/// Like [`first_unserved`](crate::founding::first_unserved), by the workers of a crew.
+pub(crate) fn first_unserved_by<R: Threads + Sync, G: Gate>(
     crew: &Crew<'_, R, G>,
     hierarchy: &Hierarchy,
     arcs: &[InArc],
-) -> Result<bool, AllocError>
+) -> Result<Option<usize>, AllocError>
     requires ends { (a : AnyArc) → Contains arcs.now a → (a.from < nodes_of hierarchy.now) × (a.to < nodes_of hierarchy.now) }
     requires length { length arcs.now < 2 ^ 32 }
-    ensures { IfOk result (λ are. IsTrue are ↔ All (IsServed hierarchy.now) arcs.now) }
+    ensures { IfOk result (λ found. MatchOption found (All (IsServed hierarchy.now) arcs.now) (IsFirstFailing (IsServed hierarchy.now) arcs.now)) }
 {
-    let found = run_list(&by_pieces(crew), arcs, &ServedJob { hierarchy })?;
-    Ok(are_all_true(&found))
+    let check = ServedCheck { hierarchy, arcs };
+    let first = first_wrong(&by_pieces(crew), arcs.len() as u32, &check)?;
+    Ok(place_of(first))
+}
+
+/// The place in a list of an item.
+fn place_of(item: Option<u32>) -> Option<usize>
+    ensures { result ≡ item }
+{
+    match item {
+        Some(item) => Some(item as usize),
+        None => None,
+    }
 }

@@ -24,6 +24,7 @@ mod arcs;
 mod checking;
 mod covering;
 mod descent;
+mod finding;
 mod founding;
 mod founding_jobs;
 mod labels;

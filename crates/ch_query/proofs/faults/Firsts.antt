@@ -1,51 +1,82 @@
--- The first node that is not covered, from the results of the pieces.
-use Rattle.std.proofs.Common.{◌≡◌, ℕ, ◌+◌, ◌*◌, ◌<◌, ◌≤◌, min, List, [], ◌∷◌, length, Option, Some, None, MatchOption, subst, arith, inl, inr}
+-- The first item that is not right, from what is known of each piece.
+use Rattle.std.proofs.Common.{get_or, ◌≡◌, ℕ, ◌+◌, ◌*◌, ◌<◌, ◌≤◌, min, List, [], ◌∷◌, length, All, Option, Some, None, MatchOption, subst, arith, inl, inr}
+use Rattle.std.specs.Prelude.{◌↔◌, Bool, IsTrue, Result, Ok, Err, IfOk}
 use Rattle.std.proofs.lemmas.Bool.{cases_lt}
+use Rattle.std.proofs.lemmas.List.{get_or_default}
+use Rattle.ch_hierarchy.specs.Assembling.{IsFirstFailing}
 use Rattle.ch_hierarchy.specs.Hierarchy.{LevelsAndLegs, nodes_of}
 use Rattle.ch_hierarchy.specs.Kept.{IsCovered}
 use Rattle.ch_work.specs.Pieces.{pieces_of, MeanEach, AreValues}
 use Rattle.ch_work.proofs.PieceLists.{covers}
-use Rattle.ch_query.specs.Covering.{AreCovered, IsFirstUncoveredOf, IsFirstUncovered, first_some}
+use Rattle.ch_query.specs.Covering.{IsFirstUncovered}
+use Rattle.ch_query.specs.Finding.{HoldsIn, IsFirstWithout, IsWithoutBelow, first_some}
 
-module _ (H : LevelsAndLegs) (n : ℕ) where
-  -- if all nodes of the first piece are covered, the first that is not is in a later piece
-  after_covered : (a b : ℕ) → a ≤ b → (first : Option ℕ) → AreCovered H a (min b n) → IsFirstUncoveredOf H b n first → IsFirstUncoveredOf H a n first
-  after_covered a b le None here after = λ v from to. elim (cases_lt v b) [
-    | inl less ↦ here v from (omega arith)
-    | inr more ↦ after v more to
-  ]
-  after_covered a b le (Some u) here after =
-      let from = after.0 in
-      let to = after.1 in (
-        omega arith,
-        to,
-        after.2,
-        λ v ge lt. elim (cases_lt v b) [
-          | inl less ↦ here v ge (omega arith)
-          | inr more ↦ after.3 v more lt
-        ],
-      )
+-- it holds for one more number
+pub holds_more : (P : ℕ → Type 0) (from v : ℕ) → HoldsIn P from v → P v → HoldsIn P from (v + 1)
+holds_more P from v before here u ge lt = elim (cases_lt u v) [
+  | inl less ↦ before u ge less
+  | inr more ↦ let same : v ≡ u = omega arith in subst P same here
+]
 
-  module _ (p : ℕ) where
-    -- the same from piece k on
-    first_from : (k : ℕ) (firsts : List (Option ℕ)) → n ≤ (k + length firsts) * p → MeanEach (IsFirstUncoveredOf H) n p k firsts → IsFirstUncoveredOf H (k * p) n (first_some firsts)
-    first_from k [] le h = λ v from to. absurd (omega (arith, le))
-    first_from k (None ∷ firsts) le h =
-        let next : (k + 1) * p ≡ k * p + p = omega arith in
-        let rest = first_from (k + 1) firsts (omega (arith, le)) h.1 in
-        after_covered (k * p) (k * p + p) (omega arith) (first_some firsts) h.0 (subst (λ i. IsFirstUncoveredOf H i n (first_some firsts)) next rest)
-    first_from k (Some u ∷ firsts) le h = let to = h.0.1 in (h.0.0, omega arith, h.0.2, h.0.3)
+-- what is known of all items, unless memory ran out, is the first of them
+pub first_of_known : (P : ℕ → Type 0) (n : ℕ) {E : Type 0} (r : Result (Option ℕ) E) → IfOk r (IsWithoutBelow P 0 n) → IfOk r (IsFirstWithout P 0 n)
+first_of_known P n (Ok None) h = h
+first_of_known P n (Ok (Some v)) h = (omega arith, h.0, h.1, h.2)
+first_of_known P n (Err e) h = tt
 
--- the first node below n is the first of all nodes
-pub first_of_nodes : (H : LevelsAndLegs) (n : ℕ) (first : Option ℕ) → n ≡ nodes_of H → IsFirstUncoveredOf H 0 n first →
+module _ (P : ℕ → Type 0) (n p : ℕ) where
+  -- if P holds before piece k, what is known of the pieces from k on gives the first number of all
+  first_from : (k : ℕ) (known : List (Option ℕ)) → n ≤ (k + length known) * p → HoldsIn P 0 (min (k * p) n) → MeanEach (IsWithoutBelow P) n p k known → IsFirstWithout P 0 n (first_some known)
+  first_from k [] le before h = λ v from to. before v from (omega (arith, le))
+  first_from k (None ∷ known) le before h =
+      let next : (k + 1) * p ≡ k * p + p = omega arith in
+      let now : HoldsIn P 0 (min ((k + 1) * p) n) = λ v from to. elim (cases_lt v (min (k * p) n)) [
+        | inl less ↦ before v from less
+        | inr more ↦ h.0 v (omega arith) (omega arith)
+      ] in
+      first_from (k + 1) known (omega (arith, le)) now h.1
+  first_from k (Some u ∷ known) le before h = (
+    omega arith,
+    (let to = h.0.0 in omega arith),
+    h.0.1,
+    λ v from lt. elim (cases_lt v (min (k * p) n)) [
+      | inl less ↦ before v from less
+      | inr more ↦ let to = h.0.0 in h.0.2 v (omega arith) lt
+    ],
+  )
+
+-- what is known of pieces that cover all items gives the first of all items
+pub first_of_all : (P : ℕ → Type 0) (n p : ℕ) (known : List (Option ℕ)) → 0 < p → AreValues (IsWithoutBelow P) n p 0 (pieces_of n p) known → IsFirstWithout P 0 n (first_some known)
+first_of_all P n p known positive h =
+    let all : n ≤ (0 + length known) * p = rw h.0 (covers n p positive) in
+    first_from P n p 0 known all (λ v from to. absurd (omega (arith, to))) h.1
+
+-- the first node that is not covered, of all nodes
+first_of_nodes : (H : LevelsAndLegs) (n : ℕ) (first : Option ℕ) → n ≡ nodes_of H → IsFirstWithout (IsCovered H) 0 n first →
     MatchOption first ((v : ℕ) → v < nodes_of H → IsCovered H v) (IsFirstUncovered H)
 first_of_nodes H n None count h = λ v lt. h v (omega arith) (omega (arith, count))
 first_of_nodes H n (Some u) count h = let to = h.1 in record { within = omega (arith, count); fails = h.2; first = λ v lt. h.3 v (omega arith) lt }
 
--- the first result of pieces that cover all nodes is the first of all nodes
-pub first_of_all : (H : LevelsAndLegs) (n p : ℕ) (firsts : List (Option ℕ)) → n ≡ nodes_of H → 0 < p → AreValues (IsFirstUncoveredOf H) n p 0 (pieces_of n p) firsts →
-    MatchOption (first_some firsts) ((v : ℕ) → v < nodes_of H → IsCovered H v) (IsFirstUncovered H)
-first_of_all H n p firsts count positive h =
-    let start : 0 * p ≡ 0 = omega arith in
-    let all : n ≤ (0 + length firsts) * p = rw h.0 (covers n p positive) in
-    first_of_nodes H n (first_some firsts) count (subst (λ i. IsFirstUncoveredOf H i n (first_some firsts)) start (first_from H n p 0 firsts all h.1))
+-- the same of a search that may run out of memory
+pub nodes_named : (H : LevelsAndLegs) (n : ℕ) {E : Type 0} (r : Result (Option ℕ) E) → n ≡ nodes_of H → IfOk r (IsFirstWithout (IsCovered H) 0 n) →
+    IfOk r (λ first. MatchOption first ((v : ℕ) → v < nodes_of H → IsCovered H v) (IsFirstUncovered H))
+nodes_named H n (Ok first) count h = first_of_nodes H n first count h
+nodes_named H n (Err e) count h = tt
+
+module _ {X : Type 0} (P : X → Type 0) (xs : List X) where
+  -- P holds for the element at this place
+  abbrev pub HoldsAt : ℕ → Type 0
+  HoldsAt i = (d : X) → P (get_or xs i d)
+
+  -- a test of the element at a place
+  pub tells_at : (b : Bool) (i : ℕ) (e : X) → i < length xs → (IsTrue b ↔ P (get_or xs i e)) → (IsTrue b ↔ HoldsAt i)
+  tells_at b i e lt tells = (λ yes d. subst P (get_or_default xs i e d lt) (tells.0 yes), λ h. tells.1 (h e))
+
+  -- the first element of a list for which P does not hold
+  pub listed : (first : Option ℕ) → IsFirstWithout HoldsAt 0 (length xs) first → MatchOption first (All P xs) (IsFirstFailing P xs)
+  listed None h = λ i d lt. h i (omega arith) lt d
+  listed (Some i) h = record {
+    within = h.1;
+    fails = λ d holds. h.2 (λ e. subst P (get_or_default xs i d e h.1) holds);
+    before = λ j d lt. h.3 j (omega arith) lt d;
+  }

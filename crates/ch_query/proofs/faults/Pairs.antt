@@ -1,8 +1,7 @@
 -- Pairs of legs through a lower node.
-use Rattle.std.proofs.Common.{get_or, ◌≡◌, ℕ, ◌+◌, ◌<◌, ◌≤◌, List, [], length, Contains, refl, sym, subst, arith, inl, inr}
+use Rattle.std.proofs.Common.{get_or, ◌≡◌, ℕ, ◌<◌, ◌≤◌, List, [], length, Contains, refl, sym, subst, arith, inl, inr}
 use Rattle.std.specs.Prelude.{◌≢◌}
 use Rattle.std.proofs.lemmas.List.Elements.{Contains-get_or}
-use Rattle.std.proofs.lemmas.Bool.{cases_lt}
 use Rattle.ch_graph.specs.declared.cost.Cost.{Cost}
 use Rattle.ch_graph.specs.Cost.{IsAtMost, cost_sum, no_cost}
 use Rattle.ch_graph.proofs.CostSums.{cost_sum-no_cost}
@@ -17,7 +16,7 @@ use Rattle.ch_query.specs.Search.{IsUpwardCost}
 use Rattle.ch_query.specs.Side.{rows_of}
 use Rattle.ch_hierarchy.specs.Kept.{MeetsWithin, IsCovered}
 use Rattle.ch_query.specs.Checking.{HasLeg}
-use Rattle.ch_query.specs.Covering.{AreCovered, IsCoveredFrom}
+use Rattle.ch_query.specs.Covering.{IsCoveredFrom}
 use Rattle.ch_query.proofs.one_side.Expanding.{leg_up, reached_by_leg}
 use Rattle.ch_query.proofs.faults.FirstFailing.{all_read}
 use Rattle.ch_query.proofs.two_sides.ConnectedSearches.{meeting_within}
@@ -67,10 +66,3 @@ pub row_leg_up : (H : LevelsAndLegs) → IsLevelled H → (side : Side) (v : ℕ
 row_leg_up H k side v legs i d e lt =
     let has = subst (λ xs. Contains xs (get_or legs i d)) e (Contains-get_or legs i d lt) in
     (has, leg_up H k side v (get_or legs i d) has)
-
--- one more node is covered
-pub covered_more : (H : LevelsAndLegs) (from v : ℕ) → AreCovered H from v → IsCovered H v → AreCovered H from (v + 1)
-covered_more H from v before here u ge lt = elim (cases_lt u v) [
-  | inl less ↦ before u ge less
-  | inr more ↦ let same : v ≡ u = omega arith in subst (IsCovered H) same here
-]

@@ -1,5 +1,5 @@
-use Rattle.ch_query.proofs.faults.Firsts.{first_of_nodes}
+use Rattle.ch_query.proofs.faults.Firsts.{nodes_named}
 use Rattle.ch_query.proofs.lower.first_uncovered_alone.Goals as goal
 
 pub returns : goal.returns
-returns c = first_of_nodes c.args.hierarchy.now c.nodes-nodes.result c.first_uncovered_of.result c.nodes-nodes.ensures.nodes c.first_uncovered_of.ensures.first
+returns c = nodes_named c.args.hierarchy.now _ c.first_wrong_alone.result c.nodes.ensures.nodes c.first_wrong_alone.ensures
