@@ -2,6 +2,7 @@
 
 mod candidates;
 mod contraction;
+pub(crate) mod judging;
 mod light;
 mod opening;
 mod shortcuts;

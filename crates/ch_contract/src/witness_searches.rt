@@ -12,10 +12,12 @@ ghost use Rattle.ch_hierarchy.specs.Rows.{row};
 use crate::held_cost::Word;
 use crate::measure::Measure;
 use crate::remaining::Remaining;
+use crate::remaining::judging::Judging;
 use crate::shortcut::Shortcut;
 use crate::witness_search::WitnessSearch;
 use ch_graph::Cost;
 use std::alloc::{AllocError, Global};
+use std::marker::PhantomData;
 
 /// The searches of one worker. Each gets its room when it is first used.
 #[derive(Drop)]
@@ -85,9 +87,21 @@ impl WitnessSearches {
         let touching = remaining.touched(node);
         if remaining.is_light() && touching.are_light() {
             self.words.fit(alloc, remaining.nodes())?;
-            return remaining.fill_shortcuts(&mut self.words, list, &touching, hops);
+            let judging = Judging {
+                remaining,
+                touching,
+                hops,
+                form: PhantomData,
+            };
+            return judging.fill(&mut self.words, list);
         }
         self.pairs.fit(alloc, remaining.nodes())?;
-        remaining.fill_shortcuts(&mut self.pairs, list, &touching, hops)
+        let judging = Judging {
+            remaining,
+            touching,
+            hops,
+            form: PhantomData,
+        };
+        judging.fill(&mut self.pairs, list)
     }
 }

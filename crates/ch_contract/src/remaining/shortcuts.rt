@@ -1,28 +1,22 @@
 //! The shortcuts that the contraction of a node would put in, and its priority.
-ghost use Rattle.std.specs.Prelude.{◌≡◌, ◌+◌, ◌<◌, ◌≤◌, ◌^◌, All, IfOk, IsTrue, OnOk, Some};
-ghost use Rattle.ch_contract.specs.declared.held_cost.TheConstants.{MOST_LIGHT};
+ghost use Rattle.std.specs.Prelude.{◌≡◌, ◌<◌, ◌≤◌, ◌^◌, IfOk, OnOk};
 ghost use Rattle.ch_hierarchy.specs.Rows.{row};
-ghost use Rattle.ch_contract.specs.Legs.{Legs, IsHopBound, IsLegWithin};
+ghost use Rattle.ch_contract.specs.Legs.{IsHopBound};
 ghost use Rattle.ch_contract.specs.Contraction.{AreShortcuts, IsPriority, count_touching};
-ghost use Rattle.ch_contract.specs.LegRows.{AreLegsFrom, AreLegsTo, label_of};
-ghost use Rattle.ch_contract.specs.Rounds.{AreShortcutsAmong};
+ghost use Rattle.ch_contract.specs.LegRows.{AreLegsFrom, AreLegsTo};
 ghost use Rattle.ch_contract.specs.Measures.{IsMeasure};
-ghost use Rattle.ch_contract.specs.ShortcutLists.{legs_touching, AreTouching, AreShortcutsBefore, IsShortcutBetween};
-ghost use Rattle.ch_contract.specs.HeldCosts.{IsHeld};
 ghost use Rattle.ch_contract.specs.KnownCosts.{known_of, IsClean, AreLegsUpTo};
-ghost use Rattle.ch_contract.specs.Candidates.{IsKnown, IsMostFor};
 ghost use Rattle.ch_contract.specs.Remaining.{legs_of};
 
 use crate::held_cost::HeldCost;
 use crate::measure::{Measure, OrderBy};
 use crate::remaining::Remaining;
-use crate::remaining::candidates::{candidate_cost, most_cost};
-use crate::remaining::light::are_light_legs;
+use crate::remaining::judging::{Judging, Touching};
 use crate::shortcut::Shortcut;
-use crate::witness_search::{Wanted, WitnessSearch};
+use crate::witness_search::WitnessSearch;
 use ch_graph::Cost;
-use ch_hierarchy::Leg;
 use std::alloc::AllocError;
+use std::marker::PhantomData;
 
 impl Remaining {
     /// Returns the shortcuts that the contraction of `v` would put in, ordered by their ends. A shortcut is the
@@ -39,7 +33,13 @@ impl Remaining {
         let mut search: WitnessSearch<Cost> = WitnessSearch::new(self.alloc, self.nodes())?;
         let mut list = Vec::new(self.alloc);
         let touching = self.touching(v);
-        self.fill_shortcuts(&mut search, &mut list, &touching, hops)?;
+        let judging = Judging {
+            remaining: self,
+            touching,
+            hops,
+            form: PhantomData,
+        };
+        judging.fill(&mut search, &mut list)?;
         Ok(list)
     }
 
@@ -78,7 +78,13 @@ impl Remaining {
         // This call tells the proof that the legs keep the limits.
         let _ = self.nodes();
         let touching = self.touching(v);
-        self.fill_shortcuts(search, list, &touching, hops)?;
+        let judging = Judging {
+            remaining: self,
+            touching,
+            hops,
+            form: PhantomData,
+        };
+        judging.fill(search, list)?;
         let legs = touching.up.len() + touching.down.len();
         Ok(Measure {
             shortcuts: list.len() as u64,
@@ -124,120 +130,5 @@ impl Remaining {
             up: self.up_legs(node),
             down: self.down_legs(node),
         }
-    }
-
-    /// Fills `list` with the shortcuts of a node with these legs, which may have been set aside. The search is
-    /// made in `search`. It takes memory only if `search` or `list` has to grow.
-    pub(crate) fn fill_shortcuts<K: HeldCost>(
-        &self,
-        search: &mut WitnessSearch<K>,
-        list: &mut Vec<Shortcut>,
-        touching: &Touching<'_>,
-        hops: u32,
-    ) -> Result<(), AllocError>
-        requires hops { IsHopBound hops }
-        requires light { AreLegsUpTo K.limit (legs_of self.now) }
-        requires touching { AreTouching self.now.nodes K.limit touching.now.node touching.now.up.now touching.now.down.now }
-        requires clean { IsClean self.now.nodes (known_of K.cost search.old.known) }
-        ensures list { OnOk result (AreShortcutsAmong self.now.nodes hops
-            (legs_touching touching.now.node touching.now.up.now touching.now.down.now) (legs_of self.now) touching.now.node list.new.items) }
-        ensures clean { OnOk result (IsClean self.now.nodes (known_of K.cost search.new.known)) }
-    {
-        list.clear();
-        for first in touching.down {
-            self.push_shortcuts(search, list, touching, *first, hops)?;
-        }
-        Ok(())
-    }
-
-    /// Appends the shortcuts of a node that begin with this leg to it. One search finds all of them.
-    fn push_shortcuts<K: HeldCost>(
-        &self,
-        search: &mut WitnessSearch<K>,
-        list: &mut Vec<Shortcut>,
-        touching: &Touching<'_>,
-        first: Leg,
-        hops: u32,
-    ) -> Result<(), AllocError>
-        requires hops { IsHopBound hops }
-        requires light { AreLegsUpTo K.limit (legs_of self.now) }
-        requires touching { AreTouching self.now.nodes K.limit touching.now.node touching.now.up.now touching.now.down.now }
-        requires first { legs_touching touching.now.node touching.now.up.now touching.now.down.now first.node touching.now.node ≡ Some (label_of first) }
-        requires clean { IsClean self.now.nodes (known_of K.cost search.old.known) }
-        requires list { AreShortcutsBefore self.now.nodes hops (legs_touching touching.now.node touching.now.up.now touching.now.down.now)
-            (legs_of self.now) touching.now.node first.node 0 list.old.items }
-        ensures list { OnOk result
-            (AreShortcutsBefore self.now.nodes hops (legs_touching touching.now.node touching.now.up.now touching.now.down.now)
-            (legs_of self.now) touching.now.node (first.node + 1) 0 list.new.items) }
-        ensures clean { OnOk result (IsClean self.now.nodes (known_of K.cost search.new.known)) }
-    {
-        let nodes = self.nodes();
-        let Some(most) = most_cost(nodes, first, touching.up) else {
-            return Ok(());
-        };
-        let wanted = Wanted {
-            end: first.node,
-            avoided: touching.node,
-            most,
-        };
-        self.reach(search, wanted, hops)?;
-        for second in touching.up {
-            if let Some(shortcut) = self.shortcut(search, wanted, first, *second, hops) {
-                list.push(shortcut)?;
-            }
-        }
-        search.clear();
-        Ok(())
-    }
-
-    /// Returns the shortcut for a leg to the avoided node and a leg from it, or `None` if there is none.
-    /// `search` knows the chains from the first node.
-    fn shortcut<K: HeldCost>(
-        &self,
-        search: &WitnessSearch<K>,
-        wanted: Wanted,
-        first: Leg,
-        second: Leg,
-        hops: u32,
-    ) -> Option<Shortcut>
-        requires hops { IsHopBound hops }
-        requires light { AreLegsUpTo K.limit (legs_of self.now) }
-        requires end { wanted.end ≡ first.node }
-        requires first { IsLegWithin self.now.nodes first.node wanted.avoided (label_of first) × (first.cost.weight ≤ K.limit) }
-        requires second { IsLegWithin self.now.nodes wanted.avoided second.node (label_of second) × (second.cost.weight ≤ K.limit) }
-        requires known { IsKnown self.now wanted hops (known_of K.cost search.now.known) }
-        requires held { IsHeld K.limit wanted.most }
-        requires most { IsMostFor self.now.nodes first wanted.most second }
-        ensures { (L : Legs) → L first.node wanted.avoided ≡ Some (label_of first) → L wanted.avoided second.node ≡ Some (label_of second) →
-            IsShortcutBetween self.now.nodes hops L (legs_of self.now) wanted.avoided first.node second.node result }
-    {
-        let nodes = self.nodes();
-        let cost = candidate_cost(nodes, first, second)?;
-        if self.is_witnessed(search, wanted, second.node, cost, hops) {
-            return None;
-        }
-        Some(Shortcut {
-            from: first.node,
-            to: second.node,
-            cost,
-        })
-    }
-}
-
-/// A node, with the legs from it and the legs to it.
-#[derive(Clone, Copy)]
-pub(crate) struct Touching<'a> {
-    pub(crate) node: u32,
-    pub(crate) up: &'a [Leg],
-    pub(crate) down: &'a [Leg],
-}
-
-impl Touching<'_> {
-    /// Whether all these legs are light enough for searches over words.
-    pub(crate) fn are_light(&self) -> bool
-        ensures up { IsTrue result → All (λ l. l.cost.weight ≤ MOST_LIGHT) self.now.up.now }
-        ensures down { IsTrue result → All (λ l. l.cost.weight ≤ MOST_LIGHT) self.now.down.now }
-    {
-        are_light_legs(self.up) && are_light_legs(self.down)
     }
 }

@@ -5,18 +5,22 @@ use Rattle.ch_contract.specs.Contraction.{AreShortcuts, count_touching}
 use Rattle.ch_contract.specs.Remaining.{legs_of}
 use Rattle.ch_contract.proofs.theory.Counts.{rows_touching, touching_most, shortcuts_most}
 use Rattle.ch_contract.proofs.code.Touching.{are_touching, own_shortcuts}
-use Rattle.ch_contract.proofs.remaining.Remaining.measure_in.Goals.{In_ok-fill_shortcuts}
+use Rattle.ch_contract.proofs.remaining.Remaining.measure_in.Goals.{In_ok-fill}
 use Rattle.ch_contract.proofs.remaining.Remaining.measure_in.Goals as goal
 
-pub fill_shortcuts-requires-clause-touching : goal.fill_shortcuts-requires-clause-touching
-fill_shortcuts-requires-clause-touching g c = are_touching (legs_of c.args.self.now) _ _ _ c.touching-touching.ensures.up c.touching-touching.ensures.down _ _ c.nodes.ensures.limits c.requires.light
+pub invariant_of-judging : goal.invariant_of-judging
+invariant_of-judging g c = record {
+  bound = c.requires.hops;
+  light = c.requires.light;
+  touches = are_touching (legs_of c.args.self.now) _ _ _ c.touching-touching.ensures.up c.touching-touching.ensures.down _ _ c.nodes.ensures.limits c.requires.light;
+}
 
 -- the list has the shortcuts of the node
-listed : (g : _) (c : In_ok-fill_shortcuts g) → AreShortcuts c.args.self.now.nodes c.args.hops (legs_of c.args.self.now) c.args.v c.fill_shortcuts.new.list.items
+listed : (g : _) (c : In_ok-fill g) → AreShortcuts c.args.self.now.nodes c.args.hops (legs_of c.args.self.now) c.args.v c.fill.new.list.items
 listed g c =
     let t = c.touching-touching in
-    subst (λ v. AreShortcuts c.args.self.now.nodes c.args.hops (legs_of c.args.self.now) v c.fill_shortcuts.new.list.items) t.ensures.node
-    (own_shortcuts (legs_of c.args.self.now) t.result.node t.result.up.now t.result.down.now t.ensures.up t.ensures.down _ _ _ c.in_ok-fill_shortcuts.ensures.list)
+    subst (λ v. AreShortcuts c.args.self.now.nodes c.args.hops (legs_of c.args.self.now) v c.fill.new.list.items) t.ensures.node
+    (own_shortcuts (legs_of c.args.self.now) t.result.node t.result.up.now t.result.down.now t.ensures.up t.ensures.down _ _ _ c.in_ok-fill.ensures.list)
 
 pub invariant_of-result : goal.invariant_of-result
 invariant_of-result g c =
@@ -25,7 +29,7 @@ invariant_of-result g c =
     let known = c.nodes.ensures in
     let t = c.touching-touching in
     let count = rows_touching n t.result.node L t.result.up.now t.result.down.now known.limits t.ensures.up t.ensures.down in
-    let few = shortcuts_most n c.args.hops L c.args.v c.fill_shortcuts.new.list.items known.limits (listed g (goal.at.invariant_of-result g c).In_ok-fill_shortcuts) in
+    let few = shortcuts_most n c.args.hops L c.args.v c.fill.new.list.items known.limits (listed g (goal.at.invariant_of-result g c).In_ok-fill) in
     let square : n * n ≤ 2 ^ 50 = mul-le-mul {n₁ = n} {m₁ = n} {n₂ = MOST_NODES} {m₂ = MOST_NODES} known.count known.count in
     record { small = (omega (arith, few, square, c.len.ensures), omega (arith, count, touching_most n L t.result.node, known.count)) }
 
@@ -34,7 +38,7 @@ returns-clause-measure g c =
     let t = c.touching-touching in
     let count = rows_touching c.args.self.now.nodes t.result.node (legs_of c.args.self.now) t.result.up.now t.result.down.now c.nodes.ensures.limits t.ensures.up t.ensures.down in
     let same = ap (count_touching c.args.self.now.nodes (legs_of c.args.self.now)) t.ensures.node in
-    (c.fill_shortcuts.new.list.items, listed g (goal.at.returns-clause-measure g c).In_ok-fill_shortcuts, omega arith, omega arith)
+    (c.fill.new.list.items, listed g (goal.at.returns-clause-measure g c).In_ok-fill, omega arith, omega arith)
 
 pub returns-clause-list : goal.returns-clause-list
-returns-clause-list g c = listed g (goal.at.returns-clause-list g c).In_ok-fill_shortcuts
+returns-clause-list g c = listed g (goal.at.returns-clause-list g c).In_ok-fill

@@ -5,13 +5,18 @@ use Rattle.ch_contract.proofs.code.LightLegs.{within_light}
 use Rattle.ch_contract.proofs.code.Touching.{are_touching, own_shortcuts}
 use Rattle.ch_contract.proofs.remaining.Remaining.shortcuts.Goals as goal
 
-pub fill_shortcuts-requires-clause-touching : goal.fill_shortcuts-requires-clause-touching
-fill_shortcuts-requires-clause-touching c =
+pub invariant_of-judging : goal.invariant_of-judging
+invariant_of-judging c =
     let limits = c.nodes.ensures.limits in
-    are_touching (legs_of c.args.self.now) _ _ _ c.touching-touching.ensures.up c.touching-touching.ensures.down _ _ limits (within_light _ _ limits)
+    let light = within_light _ _ limits in
+    record {
+      bound = c.requires.hops;
+      light = light;
+      touches = are_touching (legs_of c.args.self.now) _ _ _ c.touching-touching.ensures.up c.touching-touching.ensures.down _ _ limits light;
+    }
 
 pub returns : goal.returns
 returns c =
     let t = c.touching-touching in
-    subst (λ v. AreShortcuts c.args.self.now.nodes c.args.hops (legs_of c.args.self.now) v c.fill_shortcuts.new.list.items) t.ensures.node
-    (own_shortcuts (legs_of c.args.self.now) t.result.node t.result.up.now t.result.down.now t.ensures.up t.ensures.down _ _ _ c.in_ok-fill_shortcuts.ensures.list)
+    subst (λ v. AreShortcuts c.args.self.now.nodes c.args.hops (legs_of c.args.self.now) v c.fill.new.list.items) t.ensures.node
+    (own_shortcuts (legs_of c.args.self.now) t.result.node t.result.up.now t.result.down.now t.ensures.up t.ensures.down _ _ _ c.in_ok-fill.ensures.list)

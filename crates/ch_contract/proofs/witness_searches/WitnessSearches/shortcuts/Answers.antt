@@ -11,9 +11,13 @@ lent : (n limit v w : ℕ) (up down above below : List Leg) → w ≡ v → abov
 lent n limit v w up down above below a b d are =
     subst (λ z. AreTouching n limit z above below) (sym a) (subst (λ z. AreTouching n limit v z below) (sym b) (subst (AreTouching n limit v up) (sym d) are))
 
-pub fill_shortcuts-requires-clause-touching : goal.fill_shortcuts-requires-clause-touching
-fill_shortcuts-requires-clause-touching c =
+pub invariant_of-judging : goal.invariant_of-judging
+invariant_of-judging c =
     let t = c.touched-touching in
-    lighter_touching c.args.remaining.now.nodes MOST_LIGHT MOST_WEIGHT t.result.node t.result.up.now t.result.down.now
-    (lent _ _ _ _ _ _ _ _ t.ensures.node t.ensures.up t.ensures.down c.requires.touching)
-    (c.are_light.ensures.up c.if-are_light.true) (c.are_light.ensures.down c.if-are_light.true)
+    record {
+      bound = c.requires.hops;
+      light = c.is_light.ensures c.if-is_light.true;
+      touches = lighter_touching c.args.remaining.now.nodes MOST_LIGHT MOST_WEIGHT t.result.node t.result.up.now t.result.down.now
+          (lent _ _ _ _ _ _ _ _ t.ensures.node t.ensures.up t.ensures.down c.requires.touching)
+          (c.are_light.ensures.up c.if-are_light.true) (c.are_light.ensures.down c.if-are_light.true);
+    }
