@@ -24,4 +24,5 @@ pub mod SetEach
 pub mod RoundChoice
 pub mod NearRound
 pub mod RoundLists
+pub mod KeptKeys
 pub mod RoundCalls

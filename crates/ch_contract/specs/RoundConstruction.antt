@@ -1,9 +1,10 @@
--- A hierarchy that is being built by rounds.
-use Rattle.std.specs.Prelude.{◌≡◌, ◌+◌, ◌<◌, ◌≤◌, length, slice_index, All, AllPairs}
+-- A hierarchy by rounds under construction.
+use Rattle.std.specs.Prelude.{◌≡◌, ℕ, ◌+◌, ◌<◌, ◌≤◌, length, pos, slice_index, slice_index_or, All, AllPairs, Contains}
 use Rattle.ch_graph.specs.declared.limits.TheConstants.{MOST_NODES}
 use Rattle.ch_hierarchy.specs.Rows.{row}
 use Rattle.ch_contract.specs.declared.rounds.ConstructionByRounds.{ConstructionByRounds}
 use Rattle.ch_contract.specs.Remaining.{legs_of}
+use Rattle.ch_contract.specs.RoundChoice.{IsKeyIn}
 use Rattle.ch_contract.specs.RoundProgress.{RoundProgress}
 
 -- the progress of the construction: the rows are the legs that were set aside
@@ -22,3 +23,7 @@ pub record IsSizedByRounds (c : ConstructionByRounds) : Type 0 where
   pub levels : length c.levels.items ≡ c.remaining.nodes
   pub ups : length c.remaining.ups ≡ c.remaining.nodes
   pub downs : length c.remaining.downs ≡ c.remaining.nodes
+
+-- each remaining node has its key
+abbrev pub AreKeysNow : ConstructionByRounds → Type 0
+AreKeysNow c = (x : ℕ) → Contains c.left.items x → IsKeyIn c.remaining c.counts.items c.depths.items x (slice_index_or c.keys.items x (pos 0))

@@ -1,5 +1,5 @@
--- The nodes whose shortcuts are counted after a round.
-use Rattle.std.specs.Prelude.{◌≡◌, ℕ, ◌*◌, nat_lt, if◌then◌else◌, List, [], length, slice_index, Contains}
+-- Which nodes have their shortcuts counted after a round, and whose keys may differ then.
+use Rattle.std.specs.Prelude.{◌≡◌, ℕ, ◌*◌, ◌&&◌, not, nat_lt, if◌then◌else◌, List, [], length, slice_index, Contains}
 use Rattle.ch_contract.specs.Legs.{Legs}
 use Rattle.ch_contract.specs.RoundProgress.{IsCount}
 
@@ -13,3 +13,7 @@ pub record AreCounted (n h : ℕ) (L : Legs) (nodes before after : List ℕ) : T
 -- contracted, these are none. Then they are once all the rest, and after that the neighbours of each round
 abbrev pub due_of : ℕ → ℕ → ℕ → List ℕ → List ℕ → List ℕ
 due_of n before after near rest = if nat_lt (10 * after) (7 * n) then [] else (if nat_lt (10 * before) (7 * n) then rest else near)
+
+-- the nodes whose keys may differ after a round, of n nodes: the rest where all of it was counted, and else the neighbours of the round
+abbrev pub stale_of : ℕ → ℕ → ℕ → List ℕ → List ℕ → List ℕ
+stale_of n before after near rest = if nat_lt (10 * before) (7 * n) && not (nat_lt (10 * after) (7 * n)) then rest else near

@@ -1,15 +1,14 @@
-//! The choice of a round: the keys of the remaining nodes, and their split into the round and the rest.
-ghost use Rattle.std.specs.Prelude.{◌≡◌, ℕ, ◌^◌, ◌<◌, ◌≤◌, ◌↔◌, ◌++◌, ◌∷◌, [], if◌then◌else◌, All, AllPairs, Contains, IfOk, IsTrue, OnOk, length, pos, slice_index, slice_index_or};
+//! The choice of a round: the keys of nodes, and the split of those that are left into the round and the rest.
+ghost use Rattle.std.specs.Prelude.{◌≡◌, ℕ, ◌^◌, ◌<◌, ◌≤◌, ◌↔◌, ◌++◌, ◌∷◌, [], if◌then◌else◌, All, AllPairs, IfOk, IsTrue, OnOk, length, slice_index};
 ghost use Rattle.std.specs.List.{AllZip};
 ghost use Rattle.ch_contract.specs.FirstAround.{IsFirstBy};
 ghost use Rattle.ch_contract.specs.Remaining.{legs_of};
-ghost use Rattle.ch_contract.specs.RoundChoice.{IsKeyIn, IsSplit};
+ghost use Rattle.ch_contract.specs.RoundChoice.{AreKeyed, IsKeyIn, IsSplit};
 
 use crate::first_around::FirstJob;
 use crate::measure::{Measure, OrderBy};
 use crate::remaining::Remaining;
-use crate::set_each::set_each;
-use ch_work::{Crew, Gate, ListJob, run_list};
+use ch_work::{Crew, Gate, run_list};
 use std::alloc::{AllocError, Global};
 use std::thread::Threads;
 
@@ -38,10 +37,10 @@ impl Split {
     }
 }
 
-/// The job that computes the keys of nodes. A round is chosen by these keys. A key is twice the last count of
-/// the node's shortcuts, less the number of legs that touch it now, plus its depth.
+/// What the keys of nodes are made of, by which a round is chosen: twice the last count of a node's shortcuts, less the
+/// number of legs that touch it now, plus its depth.
 #[derive(Drop)]
-pub(crate) struct KeyJob<'a> {
+pub(crate) struct KeyParts<'a> {
     pub(crate) remaining: &'a Remaining,
     /// By node: the last count of its shortcuts.
     pub(crate) counts: &'a [u64],
@@ -51,30 +50,8 @@ pub(crate) struct KeyJob<'a> {
     ghost deep: { length depths.now ≡ remaining.now.nodes },
 }
 
-impl ListJob for KeyJob<'_> {
-    type Item = u32;
-
-    type Room = ();
-
-    type Out = i64;
-
-    ghost takes = { λ job x. (x < job.remaining.now.nodes) × (slice_index job.counts.now x ≤ 2 ^ 50) };
-
-    ghost meaning = { λ job x k. IsKeyIn job.remaining.now job.counts.now job.depths.now x k };
-
-    ghost clean = { λ job room. Unit {0} };
-
-    fn room(&self, _alloc: Global) -> Result<(), AllocError> {
-        Ok(())
-    }
-
-    fn value(&self, _alloc: Global, _room: &mut (), item: &u32) -> Result<i64, AllocError> {
-        Ok(self.key(*item))
-    }
-}
-
-impl KeyJob<'_> {
-    /// Returns the key of a node.
+impl KeyParts<'_> {
+    /// The key of a node.
     fn key(&self, node: u32) -> i64
         requires node { node < self.now.remaining.now.nodes }
         requires count { slice_index self.now.counts.now node ≤ 2 ^ 50 }
@@ -88,37 +65,37 @@ impl KeyJob<'_> {
         OrderBy::Rounds.key(measure, self.depths[place])
     }
 
-    /// Writes the keys of the remaining nodes into `keys`, and splits these nodes into the next round and the
-    /// rest. The nodes of the round come before all others within two legs.
-    pub(crate) fn choose<R: Threads + Sync, G: Gate>(
-        &self,
-        crew: &Crew<'_, R, G>,
-        left: &[u32],
-        keys: &mut [i64],
-    ) -> Result<Split, AllocError>
-        requires nodes { All (λ x. (x < self.now.remaining.now.nodes) × (slice_index self.now.counts.now x ≤ 2 ^ 50)) left.now }
-        requires count { length left.now < 2 ^ 32 }
-        requires ordered { AllPairs ◌<◌ left.now }
+    /// Writes the keys that these nodes have now.
+    pub(crate) fn refresh(&self, nodes: &[u32], keys: &mut [i64])
+        requires nodes { All (λ x. (x < self.now.remaining.now.nodes) × (slice_index self.now.counts.now x ≤ 2 ^ 50)) nodes.now }
         requires size { length keys.old ≡ self.now.remaining.now.nodes }
-        ensures size { length keys.new ≡ length keys.old }
-        ensures keys { IfOk result (λ s. (x : ℕ) → Contains left.now x →
-            IsKeyIn self.now.remaining.now self.now.counts.now self.now.depths.now x (slice_index_or keys.new x (pos 0))) }
-        ensures split { IfOk result (λ s. IsSplit (IsFirstBy keys.new (legs_of self.now.remaining.now)) left.now s.round.items s.rest.items) }
+        ensures { AreKeyed self.now.remaining.now self.now.counts.now self.now.depths.now nodes.now keys.old keys.new }
     {
-        let values = run_list(crew, left, self)?;
-        set_each(keys, left, values.as_slice());
-        let job = FirstJob {
-            remaining: self.remaining,
-            keys: &*keys,
-        };
-        let firsts = run_list(crew, left, &job)?;
-        job.split(crew.alloc, left, firsts.as_slice())
+        for node in nodes {
+            keys[*node as usize] = self.key(*node);
+        }
     }
 }
 
 impl FirstJob<'_> {
-    /// Splits nodes into those that come before all others within two legs, and the rest. The flag at a node's
-    /// place says whether it does.
+    /// Splits the nodes that are left into those of the next round, which come before all others within two legs, and the
+    /// rest.
+    pub(crate) fn choose<R: Threads + Sync, G: Gate>(
+        &self,
+        crew: &Crew<'_, R, G>,
+        left: &[u32],
+    ) -> Result<Split, AllocError>
+        requires nodes { All (λ x. x < self.now.remaining.now.nodes) left.now }
+        requires count { length left.now < 2 ^ 32 }
+        requires ordered { AllPairs ◌<◌ left.now }
+        ensures { IfOk result (λ s. IsSplit (IsFirstBy self.now.keys.now (legs_of self.now.remaining.now)) left.now s.round.items s.rest.items) }
+    {
+        let firsts = run_list(crew, left, self)?;
+        self.split(crew.alloc, left, firsts.as_slice())
+    }
+
+    /// Splits nodes into those that come before all others within two legs, and the rest. The flags at the same places say
+    /// which do.
     fn split(&self, alloc: Global, nodes: &[u32], firsts: &[bool]) -> Result<Split, AllocError>
         requires firsts { AllZip (λ x b. IsTrue b ↔ IsFirstBy self.now.keys.now (legs_of self.now.remaining.now) x) nodes.now firsts.now }
         requires ordered { AllPairs ◌<◌ nodes.now }

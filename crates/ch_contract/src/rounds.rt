@@ -6,16 +6,19 @@ ghost use Rattle.ch_contract.specs.Legs.{AreLegsWithin, IsHopBound, turned_legs}
 ghost use Rattle.ch_contract.specs.Order.{are_neighbours};
 ghost use Rattle.ch_contract.specs.Rounds.{AreApart, ContractsRound, depth_after_round};
 ghost use Rattle.ch_contract.specs.RoundOrder.{IsHierarchyByRounds};
-ghost use Rattle.ch_contract.specs.RoundCounts.{AreCounted, due_of};
+ghost use Rattle.ch_contract.specs.RoundCounts.{AreCounted, due_of, stale_of};
 ghost use Rattle.ch_contract.specs.Remaining.{legs_of};
 ghost use Rattle.ch_contract.specs.TakenOut.{AreSetAside};
 ghost use Rattle.ch_contract.specs.Rooms.{IsIdleRoom};
+ghost use Rattle.ch_contract.specs.FirstAround.{IsFirstBy};
+ghost use Rattle.ch_contract.specs.RoundChoice.{IsSplit};
 
+use crate::first_around::FirstJob;
 use crate::order::{deepen, neighbours};
 use crate::priority::all_nodes;
 use crate::remaining::{BothRows, Remaining};
 use crate::room::Room;
-use crate::round_choice::{KeyJob, Split};
+use crate::round_choice::{KeyParts, Split};
 use crate::round_jobs::{CountJob, ShortcutJob};
 use crate::set_each::{rank, set_each};
 use ch_graph::Graph;
@@ -57,7 +60,7 @@ struct ConstructionByRounds {
     counts: Vec<u64>,
     /// By node: its depth.
     depths: Vec<u32>,
-    /// By node: the last key that was computed for it, and 0 before the first round.
+    /// By node: its key, where it is left.
     keys: Vec<i64>,
     /// The level of each contracted node, and 0 for each remaining node.
     levels: Vec<u32>,
@@ -68,7 +71,7 @@ struct ConstructionByRounds {
 impl ConstructionByRounds {
     ghost use Rattle.ch_hierarchy.specs.Hierarchy.{LevelsAndLegs, IsLevelled};
     ghost use Rattle.ch_contract.specs.RoundProgress.{IsRoundsOpen, IsRoundStep, IsRoundsEnd};
-    ghost use Rattle.ch_contract.specs.RoundConstruction.{IsSizedByRounds, round_progress_of};
+    ghost use Rattle.ch_contract.specs.RoundConstruction.{AreKeysNow, IsSizedByRounds, round_progress_of};
 
     /// Starts the construction of the hierarchy of a graph. No node is contracted yet.
     fn open<R: Threads + Sync, G: Gate>(
@@ -80,6 +83,7 @@ impl ConstructionByRounds {
         ensures sizes { IfOk result IsSizedByRounds }
         ensures nodes { IfOk result (λ c. c.remaining.nodes ≡ graph.now.nodes) }
         ensures begun { IfOk result (λ c. IsRoundsOpen graph.now hops (round_progress_of c)) }
+        ensures keys { IfOk result AreKeysNow }
         ensures rooms { IfOk result (λ c. All IsIdleRoom c.rooms.items) }
     {
         let remaining = Remaining::open(crew.alloc, graph)?;
@@ -97,7 +101,13 @@ impl ConstructionByRounds {
             &mut counts,
         )?;
         let depths = vec![in crew.alloc; 0u32; nodes as usize]?;
-        let keys = vec![in crew.alloc; 0i64; nodes as usize]?;
+        let mut keys = vec![in crew.alloc; 0i64; nodes as usize]?;
+        let parts = KeyParts {
+            remaining: &remaining,
+            counts: counts.as_slice(),
+            depths: depths.as_slice(),
+        };
+        parts.refresh(left.as_slice(), &mut keys);
         let levels = vec![in crew.alloc; 0u32; nodes as usize]?;
         Ok(ConstructionByRounds {
             remaining,
@@ -123,23 +133,15 @@ impl ConstructionByRounds {
         requires near { (v x : ℕ) → are_neighbours (legs_of self.remaining) v x ≡ true → Contains self.left.items x }
         requires counts { All (λ x. slice_index self.counts.items x ≤ 2 ^ 50) self.left.items }
         requires depths { (x : ℕ) → slice_index self.depths.items x ≤ self.contracted }
+        requires keys { AreKeysNow self }
         requires rooms { All IsIdleRoom self.rooms.items }
         ensures sizes { IfOk result IsSizedByRounds }
         ensures nodes { IfOk result (λ c. c.remaining.nodes ≡ self.remaining.nodes) }
+        ensures keys { IfOk result AreKeysNow }
         ensures step { IfOk result (λ c. (nodes : List ℕ) × IsRoundStep self.remaining.nodes hops (round_progress_of self) nodes (round_progress_of c)) }
         ensures rooms { IfOk result (λ c. All IsIdleRoom c.rooms.items) }
     {
-        let job = KeyJob {
-            remaining: &self.remaining,
-            counts: self.counts.as_slice(),
-            depths: self.depths.as_slice(),
-        };
-        let crew_of_left = crew_for(crew, self.left.len());
-        let Split { round, rest } = job.choose(
-            &crew_of_left,
-            self.left.as_slice(),
-            &mut self.keys,
-        )?;
+        let Split { round, rest } = self.choose(crew)?;
         let nodes = round.as_slice();
         let near = deepen_around(crew.alloc, &self.remaining, nodes, &mut self.depths)?;
         let remaining = self.remaining;
@@ -147,13 +149,11 @@ impl ConstructionByRounds {
         rank(&mut self.levels, nodes, self.contracted);
         let before = self.contracted;
         self.contracted += nodes.len() as u32;
-        let due = due(
-            self.remaining.nodes(),
-            before,
-            self.contracted,
-            near.as_slice(),
-            rest.as_slice(),
-        );
+        let now = self.contracted;
+        let all = self.remaining.nodes();
+        let around = near.as_slice();
+        let waiting = rest.as_slice();
+        let due = due(all, before, now, around, waiting);
         count(
             crew,
             &self.remaining,
@@ -162,12 +162,30 @@ impl ConstructionByRounds {
             &mut self.rooms,
             &mut self.counts,
         )?;
+        let parts = KeyParts {
+            remaining: &self.remaining,
+            counts: self.counts.as_slice(),
+            depths: self.depths.as_slice(),
+        };
+        parts.refresh(stale(all, before, now, around, waiting), &mut self.keys);
         self.left = rest;
         Ok(self)
     }
 
-    /// Returns the hierarchy when every node is contracted. It first frees the memory that the hierarchy does
-    /// not need.
+    /// Splits the nodes that are left into those of the next round and the rest.
+    fn choose<R: Threads + Sync, G: Gate>(&self, crew: &Crew<'_, R, G>) -> Result<Split, AllocError>
+        requires sizes { IsSizedByRounds self.now }
+        ensures { IfOk result (λ s. IsSplit (IsFirstBy self.now.keys.items (legs_of self.now.remaining)) self.now.left.items s.round.items s.rest.items) }
+    {
+        let job = FirstJob {
+            remaining: &self.remaining,
+            keys: self.keys.as_slice(),
+        };
+        let crew_of_left = crew_for(crew, self.left.len() / LOOKS_AT_ONCE);
+        job.choose(&crew_of_left, self.left.as_slice())
+    }
+
+    /// The hierarchy, once every node is contracted. What it doesn't need is freed first.
     fn finish(self) -> Result<Hierarchy, AllocError>
         requires sizes { IsSizedByRounds self }
         requires none { length self.left.items ≡ 0 }
@@ -194,8 +212,10 @@ impl ConstructionByRounds {
     }
 }
 
-/// Returns the crew for a job over `nodes` nodes: the caller alone if these are fewer than `crew.plan.wide()`,
-/// and otherwise all workers.
+/// As many nodes are looked at, when a round is chosen, in the time of the search for the shortcuts of one.
+const LOOKS_AT_ONCE: usize = 64;
+
+/// The crew for a job over so many nodes: the caller alone where these are few, and else all workers.
 fn crew_for<'a, R, G>(crew: &Crew<'a, R, G>, nodes: usize) -> Crew<'a, R, G> {
     let plan = if nodes < crew.plan.wide() as usize {
         Plan::new(1, crew.plan.piece(), crew.plan.wide())
@@ -278,6 +298,17 @@ fn due<'a>(nodes: u32, before: u32, after: u32, near: &'a [u32], rest: &'a [u32]
         return &rest[0..0];
     }
     if is_early(before, nodes) {
+        return rest;
+    }
+    near
+}
+
+/// The nodes whose keys may differ after a round, of those near it and those that are left: all that are left where the
+/// shortcuts of all were counted, and else those near it.
+fn stale<'a>(nodes: u32, before: u32, after: u32, near: &'a [u32], rest: &'a [u32]) -> &'a [u32]
+    ensures { result.now ≡ stale_of nodes before after near.now rest.now }
+{
+    if is_early(before, nodes) && !is_early(after, nodes) {
         return rest;
     }
     near

@@ -19,9 +19,13 @@ use Rattle.ch_contract.specs.RoundProgress.{IsCount, IsKeyNow, is_due, IsRoundSt
 use Rattle.ch_contract.specs.FirstAround.{ComesBeforeBy, IsFirstBy}
 use Rattle.ch_contract.specs.TakenOut.{AreSetAside}
 use Rattle.ch_contract.specs.SetEach.{AreRanked}
-use Rattle.ch_contract.specs.RoundChoice.{IsKeyIn, IsSplit}
-use Rattle.ch_contract.specs.RoundCounts.{AreCounted, due_of}
-use Rattle.ch_contract.specs.RoundConstruction.{round_progress_of, IsSizedByRounds}
+use Rattle.ch_contract.specs.RoundChoice.{AreKeyed, IsKeyIn, IsSplit}
+use Rattle.ch_contract.specs.RoundCounts.{AreCounted, due_of, stale_of}
+use Rattle.ch_contract.specs.RoundConstruction.{round_progress_of, AreKeysNow, IsSizedByRounds}
+use Rattle.ch_hierarchy.proofs.theory.Ordered.{contains_or_not}
+use Rattle.ch_contract.specs.declared.measure.OrderBy.TheVariants.{Rounds}
+use Rattle.ch_contract.specs.Contraction.{count_touching, key_by}
+use Rattle.ch_contract.proofs.code.KeptKeys.{any_of, touching_kept, depth_kept, not_stale}
 use Rattle.ch_contract.proofs.theory.OneInTurn.{one_map}
 use Rattle.ch_contract.proofs.theory.RoundFirst.{before_self}
 use Rattle.ch_contract.proofs.theory.RoundOrders.{both_before, within_flip}
@@ -43,7 +47,7 @@ pub record IsSteppedByRound (h : ℕ) (before after : ConstructionByRounds) (nod
   pub counted : AreCounted before.remaining.nodes h (legs_of after.remaining) (due_of before.remaining.nodes before.contracted after.contracted near after.left.items) before.counts.items after.counts.items
   pub ranked : AreRanked nodes before.contracted before.levels.items after.levels.items
   pub contracted : after.contracted ≡ before.contracted + length nodes
-  pub keys_size : length after.keys.items ≡ length before.keys.items
+  pub rekeyed : AreKeyed after.remaining after.counts.items after.depths.items (stale_of before.remaining.nodes before.contracted after.contracted near after.left.items) before.keys.items after.keys.items
 
 -- the nodes of a round are apart
 pub split_apart : (keys : List ℤ) (L : Legs) (left nodes rest : List ℕ) → IsSplit (IsFirstBy keys L) left nodes rest → AreApart L nodes
@@ -158,13 +162,43 @@ module _ (h : ℕ) (before after : ConstructionByRounds) (nodes near : List ℕ)
         count = let all = sizes.count in let some = s.split.count in let more = s.contracted in omega arith;
         counts = s.counted.size ∙ sizes.counts ∙ sym count;
         depths = s.deep ∙ sizes.depths ∙ sym count;
-        keys = s.keys_size ∙ sizes.keys ∙ sym count;
+        keys = s.rekeyed.size ∙ sizes.keys ∙ sym count;
         levels = s.ranked.size ∙ sizes.levels ∙ sym count;
         ups = s.up.size ∙ sizes.ups ∙ sym count;
         downs = s.down.size ∙ sizes.downs ∙ sym count;
       }
 
--- when no node remains, the hierarchy has the levels and the rows of all nodes
+  -- and each node that is left has its key
+  pub keyed_by_round : keys ≡ before.keys.items → AreKeysNow after
+  keyed_by_round same x left =
+      let n : ℕ = before.remaining.nodes in
+      let rest : List ℕ = after.left.items in
+      elim (contains_or_not (stale_of n before.contracted after.contracted near rest) x) [
+        | inl has ↦ s.rekeyed.anew x has
+        | inr away ↦
+            let quiet = not_stale (nat_lt (10 * after.contracted) (7 * n)) (nat_lt (10 * before.contracted) (7 * n)) near rest x left away in
+            let was = (s.split.waits x).0 left in
+            let out : Contains nodes x → ⊥ = λ c. was.1 ((s.split.first x).0 c).1 in
+            let far : (v : ℕ) → Contains nodes v → are_neighbours (legs_of before.remaining) v x ≡ true → ⊥ = λ v c e. quiet.0 ((s.around x).1 (any_of (λ z. are_neighbours (legs_of before.remaining) z x) nodes v c e)) in
+            let own : slice_index_or before.keys.items x (pos 0) ≡ key_by Rounds (slice_index before.counts.items x) (count_touching n (legs_of before.remaining) x) (slice_index before.depths.items x) =
+            subst (λ (l : List ℤ). IsKeyIn before.remaining before.counts.items before.depths.items x (slice_index_or l x (pos 0))) same (s.keyed x was.0) in
+            let count : slice_index after.counts.items x ≡ slice_index before.counts.items x = s.counted.kept x quiet.1 in
+            let touching : count_touching after.remaining.nodes (legs_of after.remaining) x ≡ count_touching n (legs_of before.remaining) x =
+            ap (λ m. count_touching m (legs_of after.remaining) x) s.count ∙ touching_kept n h (legs_of before.remaining) (legs_of after.remaining) nodes s.legs x out far in
+            let deep : slice_index after.depths.items x ≡ slice_index before.depths.items x =
+            s.depths x ∙ depth_kept n h (legs_of before.remaining) (legs_of after.remaining) nodes s.legs x out far (λ y. slice_index before.depths.items y) in
+            s.rekeyed.kept x away ∙ own ∙ sym (λ t. key_by Rounds (count t) (touching t) (deep t))
+      ]
+
+-- the nodes whose keys are written are nodes with small counts
+pub stale_below : (P : ℕ → Type 0) (n before after : ℕ) (near rest : List ℕ) → ((x : ℕ) → Contains near x → P x) → ((x : ℕ) → Contains rest x → P x) → All P (stale_of n before after near rest)
+stale_below P n before after near rest first second = at (nat_lt (10 * before) (7 * n) && not (nat_lt (10 * after) (7 * n)))
+  where
+    at : (b : Bool) → All P (if b then rest else near)
+    at true = λ k d lt. second (get_or rest k d) (Contains-get_or rest k d lt)
+    at false = λ k d lt. first (get_or near k d) (Contains-get_or near k d lt)
+
+-- once no node is left, the levels and the rows are those of all nodes
 pub rounds_end : (c : ConstructionByRounds) (H : LevelsAndLegs) → IsSizedByRounds c → length c.left.items ≡ 0 → H.level ≡ c.levels.items → H.up ≡ c.remaining.ups → H.down ≡ c.remaining.downs → IsRoundsEnd c.remaining.nodes (round_progress_of c) H
 rounds_end c H sizes none level up down = record {
   none = λ x has. let inside = has.1 in absurd (omega arith);

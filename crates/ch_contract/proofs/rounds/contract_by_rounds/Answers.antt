@@ -15,7 +15,7 @@ use Rattle.ch_contract.proofs.rounds.contract_by_rounds.Goals as goal
 pub loop-construction-init : goal.loop-construction-init
 loop-construction-init g c =
     let first = c.in_ok-construction.ensures in
-    (first.sizes, first.nodes, ([], λ r. opening c.args.graph.now, rounds_at_start c.args.graph.now c.args.hops _ first.begun), first.rooms)
+    (first.sizes, first.nodes, ([], λ r. opening c.args.graph.now, rounds_at_start c.args.graph.now c.args.hops _ first.begun), first.rooms, first.keys)
 
 pub contract-requires-clause-limits : goal.contract-requires-clause-limits
 contract-requires-clause-limits g c lifetimes bounds =
@@ -37,6 +37,9 @@ contract-requires-clause-counts g c lifetimes bounds k d lt =
 
 pub contract-requires-clause-depths : goal.contract-requires-clause-depths
 contract-requires-clause-depths g c lifetimes bounds = rounds_depth c.loop-construction.invariant.2.2
+
+pub contract-requires-clause-keys : goal.contract-requires-clause-keys
+contract-requires-clause-keys g c lifetimes bounds = c.loop-construction.invariant.4
 
 pub loop-construction-smaller : goal.loop-construction-smaller
 loop-construction-smaller g c =
@@ -61,6 +64,7 @@ loop-construction-preserved g c =
       next.nodes ∙ i.1,
       (i.2.0 ++ nodes ∷ [], then_legs (length i.2.0) i.2.1 (legs_of c.in_ok-construction-2.construction.remaining), rounds_next c.requires.limits c.requires.hops i.2.2 more step),
       next.rooms,
+      next.keys,
     )
 
 pub finish-requires-clause-levelled : goal.finish-requires-clause-levelled

@@ -2,7 +2,7 @@ use Rattle.std.proofs.Common.{◌≡◌, ℕ, List, length}
 use Rattle.std.specs.Prelude.{All}
 use Rattle.ch_contract.specs.Legs.{Legs}
 use Rattle.ch_contract.specs.Rooms.{IsIdleRoom}
-use Rattle.ch_contract.specs.RoundConstruction.{IsSizedByRounds, round_progress_of}
+use Rattle.ch_contract.specs.RoundConstruction.{AreKeysNow, IsSizedByRounds, round_progress_of}
 use Rattle.ch_contract.proofs.theory.RoundsMade.{IsAfterRounds}
 use Rattle.ch_contract.proofs.rounds.contract_by_rounds.Given as goal
 
@@ -12,6 +12,7 @@ invariant-loop-construction g l =
     × (l.construction.remaining.nodes ≡ l.graph.nodes)
     × ((rounds : List (List ℕ)) × (L : ℕ → Legs) × IsAfterRounds l.graph l.hops rounds L (round_progress_of l.construction))
     × All IsIdleRoom l.construction.rooms.items
+    × AreKeysNow l.construction
 
 abbrev pub decreases-loop-construction : goal.decreases-loop-construction
 decreases-loop-construction g l = length l.construction.left.items
