@@ -21,6 +21,10 @@ pub record AreRefreshed (IsOf : ℕ → ℤ → Type 0) (nodes : List ℕ) (befo
 abbrev pub has_node : List Leg → ℕ → Bool
 has_node legs x = list_any (λ l. l.node == x) legs
 
+-- the nodes of these legs, but those to which one of the others leads
+abbrev pub other_nodes : List Leg → List Leg → List ℕ
+other_nodes others legs = map (λ l. l.node) (filter (λ l. not (has_node others l.node)) legs)
+
 -- the nodes of the legs from a node and then those of the legs to it, each once
 abbrev pub neighbours_in : List Leg → List Leg → List ℕ
-neighbours_in up down = map (λ l. l.node) up ++ map (λ l. l.node) (filter (λ l. not (has_node up l.node)) down)
+neighbours_in up down = map (λ l. l.node) up ++ other_nodes up down

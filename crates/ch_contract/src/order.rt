@@ -1,6 +1,6 @@
 //! The neighbours of a contracted node, and their depths.
-ghost use Rattle.std.specs.Prelude.{◌≡◌, ◌+◌, ◌<◌, ◌^◌, All, IfOk, length, slice_index};
-ghost use Rattle.ch_contract.specs.Priorities.{has_node, neighbours_in};
+ghost use Rattle.std.specs.Prelude.{◌≡◌, ◌+◌, ◌++◌, ◌∷◌, [], ◌<◌, ◌^◌, if◌then◌else◌, All, IfOk, OnOk, length, slice_index};
+ghost use Rattle.ch_contract.specs.Priorities.{has_node, neighbours_in, other_nodes};
 ghost use Rattle.ch_contract.specs.Measures.{AreDeepened};
 
 use ch_hierarchy::Leg;
@@ -18,6 +18,42 @@ pub(crate) fn neighbours(alloc: Global, up: &[Leg], down: &[Leg]) -> Result<Vec<
                 .map(|leg| leg.node),
         )
         .collect(alloc)
+}
+
+/// Puts the nodes of the legs from a node and of those to it, each once, at the end of the list.
+pub(crate) fn push_neighbours(
+    list: &mut Vec<u32>,
+    up: &[Leg],
+    down: &[Leg],
+) -> Result<(), AllocError>
+    ensures { OnOk result (list.new.items ≡ list.old.items ++ neighbours_in up.now down.now) }
+{
+    push_nodes(list, up, &up[0..0])?;
+    push_nodes(list, down, up)?;
+    Ok(())
+}
+
+/// Puts the nodes of these legs at the end of the list, but those to which one of the others leads.
+fn push_nodes(list: &mut Vec<u32>, legs: &[Leg], others: &[Leg]) -> Result<(), AllocError>
+    ensures { OnOk result (list.new.items ≡ list.old.items ++ other_nodes others.now legs.now) }
+{
+    list.reserve(legs.len())?;
+    for leg in legs {
+        push_unless(list, leg.node, has_node(others, leg.node))?;
+    }
+    Ok(())
+}
+
+/// Puts a node at the end of the list, unless it is there.
+#[inline]
+fn push_unless(list: &mut Vec<u32>, node: u32, is_there: bool) -> Result<(), AllocError>
+    ensures { OnOk result (list.new.items ≡ (if is_there then list.old.items else list.old.items ++ node ∷ [])) }
+{
+    if is_there {
+        return Ok(());
+    }
+    list.push(node)?;
+    Ok(())
 }
 
 /// Whether a leg of the list has this node.

@@ -22,6 +22,8 @@ pub(crate) struct Room {
     pub(crate) judged: Vec<u32>,
     /// The shortcuts of these nodes, at the same places. The lists after them are spare.
     pub(crate) lists: Vec<Vec<Shortcut>>,
+    /// Room for the shortcuts of one node that are not kept here.
+    pub(crate) passing: Vec<Shortcut>,
 }
 
 impl Room {
@@ -35,6 +37,7 @@ impl Room {
             searches: WitnessSearches::new(alloc),
             judged: Vec::new(alloc),
             lists: Vec::new(alloc),
+            passing: Vec::new(alloc),
         }
     }
 

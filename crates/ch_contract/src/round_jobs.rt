@@ -82,9 +82,9 @@ impl ListJob for ShortcutJob<'_> {
         room: &mut Room,
         item: &u32,
     ) -> Result<Vec<Shortcut>, AllocError> {
-        let mut list = Vec::new(alloc);
+        let list = &mut room.passing;
         room.searches
-            .shortcuts(alloc, self.remaining, &mut list, *item, self.hops)?;
-        Ok(list)
+            .shortcuts(alloc, self.remaining, list, *item, self.hops)?;
+        Vec::from_slice(alloc, room.passing.as_slice())
     }
 }

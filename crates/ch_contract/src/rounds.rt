@@ -14,7 +14,7 @@ ghost use Rattle.ch_contract.specs.FirstAround.{IsFirstBy};
 ghost use Rattle.ch_contract.specs.RoundChoice.{IsSplit};
 
 use crate::first_around::FirstJob;
-use crate::order::{deepen, neighbours};
+use crate::order::{deepen, push_neighbours};
 use crate::priority::all_nodes;
 use crate::remaining::{BothRows, Remaining};
 use crate::room::Room;
@@ -250,8 +250,13 @@ fn deepen_around(
     // This call tells the proof that the legs keep the limits.
     let _ = remaining.nodes();
     let mut near = Vec::new(alloc);
+    let mut around = Vec::new(alloc);
     for node in nodes {
-        let mut around = neighbours(alloc, remaining.out_legs(*node), remaining.in_legs(*node))?;
+        push_neighbours(
+            &mut around,
+            remaining.out_legs(*node),
+            remaining.in_legs(*node),
+        )?;
         deepen(depths, around.as_slice(), *node);
         near.append(&mut around)?;
     }

@@ -1,14 +1,16 @@
 -- The neighbours of a node, listed from its rows, and their depths.
-use Rattle.std.proofs.Common.{◌≡◌, ℕ, ◌+◌, ◌<◌, Bool, true, false, not, List, [], ◌∷◌, ◌++◌, length, get_or, set, take, max, map, Option, Some, None, refl, sym, ◌∙◌, ap, subst, arith, inl, inr, Contains, length-set, get_or-set_same, get_or-set_other}
-use Rattle.std.specs.Prelude.{◌≢◌, ◌==◌, ◌||◌, filter, is_some, slice_index}
+use Rattle.std.proofs.Common.{◌≡◌, ℕ, ◌+◌, ◌<◌, Bool, true, false, not, List, [], ◌∷◌, ◌++◌, length, get_or, set, take, max, map, Option, Some, None, refl, sym, ◌∙◌, ap, subst, arith, inl, inr, Contains, append-nil, append_assoc, length-set, get_or-set_same, get_or-set_other}
+use Rattle.std.specs.Prelude.{◌≢◌, ◌==◌, ◌||◌, if◌then◌else◌, filter, is_some, slice_index}
 use Rattle.std.proofs.lemmas.Bool.{cases_eq, eqb-true, false≢true}
 use Rattle.std.proofs.lemmas.List.{take_more}
-use Rattle.std.proofs.lemmas.List.Elements.{Contains-append_left, Contains-append_right, Contains-append_cases, Contains-push, Contains-push_cases}
+use Rattle.std.proofs.lemmas.List.Elements.{filter-append, Contains-append_left, Contains-append_right, Contains-append_cases, Contains-push, Contains-push_cases}
 use Rattle.ch_hierarchy.specs.declared.leg.Leg.{Leg}
 use Rattle.ch_contract.specs.Legs.{Label, Legs, AreLegsWithin}
 use Rattle.ch_contract.specs.Order.{are_neighbours}
 use Rattle.ch_contract.specs.LegRows.{AreLegsFrom, AreLegsTo, label_of, row_leg}
-use Rattle.ch_contract.specs.Priorities.{has_node, neighbours_in}
+use Rattle.ch_contract.specs.Priorities.{has_node, neighbours_in, other_nodes}
+use Rattle.ch_hierarchy.proofs.theory.NoLeg.{no_leg}
+use Rattle.std.proofs.lemmas.List.{map-append}
 use Rattle.ch_contract.specs.Measures.{AreDeepened}
 use Rattle.ch_graph.proofs.Lists.{contains_head, contains_tail, contains_map, contains_map_of, contains_filter, contains_filter_of}
 use Rattle.ch_hierarchy.proofs.theory.Ordered.{contains_or_not}
@@ -22,6 +24,30 @@ node_found (k ∷ legs) x e = at (k.node == x) refl e (node_found legs x)
     at : (b : Bool) → (k.node == x) ≡ b → (b || has_node legs x) ≡ true → (has_node legs x ≡ true → (l : Leg) × Contains legs l × (l.node ≡ x)) → (l : Leg) × Contains (k ∷ legs) l × (l.node ≡ x)
     at true t f more = (k, contains_head k legs, eqb-true k.node x t)
     at false t f more = let r = more f in (r.0, contains_tail r.0 k legs r.1, r.2)
+
+-- where no other leg is, the nodes of all legs are listed
+pub all_others : (legs : List Leg) → other_nodes [] legs ≡ map (λ (k : Leg). k.node) legs
+all_others [] = refl
+all_others (k ∷ legs) = ap (λ l. k.node ∷ l) (all_others legs)
+
+-- the node of one more leg
+pub others_more : (list middle after : List ℕ) (legs others : List Leg) (i : ℕ) → i < length legs → middle ≡ list ++ other_nodes others (take i legs) →
+    after ≡ (if has_node others (get_or legs i no_leg).node then middle else middle ++ (get_or legs i no_leg).node ∷ []) → after ≡ list ++ other_nodes others (take (i + 1) legs)
+others_more list middle after legs others i lt known pushed =
+    let k : Leg = get_or legs i no_leg in
+    let more : other_nodes others (take (i + 1) legs) ≡ other_nodes others (take i legs) ++ other_nodes others (k ∷ []) =
+    ap (other_nodes others) (take_more legs i no_leg lt)
+    ∙ ap (map (λ (l : Leg). l.node)) (filter-append (λ (l : Leg). not (has_node others l.node)) (take i legs) (k ∷ []))
+    ∙ map-append (λ (l : Leg). l.node) (filter (λ (l : Leg). not (has_node others l.node)) (take i legs)) (filter (λ (l : Leg). not (has_node others l.node)) (k ∷ [])) in
+    pushed
+    ∙ ap (λ l. if has_node others k.node then l else l ++ k.node ∷ []) known
+    ∙ at (has_node others k.node)
+    ∙ append_assoc list (other_nodes others (take i legs)) (other_nodes others (k ∷ []))
+    ∙ ap (λ l. list ++ l) (sym more)
+  where
+    at : (b : Bool) → (if b then list ++ other_nodes others (take i legs) else (list ++ other_nodes others (take i legs)) ++ (get_or legs i no_leg).node ∷ []) ≡ (list ++ other_nodes others (take i legs)) ++ map (λ (l : Leg). l.node) (if not b then (get_or legs i no_leg) ∷ [] else [])
+    at true = sym (append-nil (list ++ other_nodes others (take i legs)))
+    at false = refl
 
 module _ (L : Legs) (v : ℕ) (up down : List Leg) (from : AreLegsFrom L v up) (to : AreLegsTo L v down) where
   -- x is listed

@@ -1,4 +1,4 @@
-use Rattle.std.proofs.Common.{◌≡◌, ◌<◌, ◌≤◌, ℕ, List, [], length, get_or, take, refl, sym, ◌∙◌, subst, arith}
+use Rattle.std.proofs.Common.{◌≡◌, ◌+◌, ◌++◌, ◌<◌, ◌≤◌, ℕ, List, [], length, get_or, take, refl, sym, ◌∙◌, ap, subst, arith}
 use Rattle.std.specs.Prelude.{All, slice_index}
 use Rattle.std.proofs.lemmas.List.{take_all, length-take-le}
 use Rattle.ch_contract.specs.Remaining.{legs_of}
@@ -10,12 +10,12 @@ use Rattle.ch_contract.proofs.code.NearRound.{AreNear, near_none, near_few, near
 use Rattle.ch_contract.proofs.rounds.deepen_around.Goals as goal
 
 pub loop-node-init : goal.loop-node-init
-loop-node-init c = (refl, λ x. refl, subst (AreNear (legs_of c.args.remaining.now) []) (sym c.new-near.ensures.items) (near_none (legs_of c.args.remaining.now)))
+loop-node-init c = (refl, λ x. refl, subst (AreNear (legs_of c.args.remaining.now) []) (sym c.new-near.ensures.items) (near_none (legs_of c.args.remaining.now)), c.new-around.ensures.items)
 
 pub deepen-requires-clause-nodes : goal.deepen-requires-clause-nodes
 deepen-requires-clause-nodes c =
     let n = c.args.remaining.now.nodes in
-    let list : c.as_slice.result.now ≡ neighbours_in c.out_legs.result.now c.in_legs.result.now = c.as_slice.ensures.value ∙ c.in_ok-around.ensures in
+    let list : c.as_slice.result.now ≡ neighbours_in c.out_legs.result.now c.in_legs.result.now = c.as_slice.ensures.value ∙ c.in_ok-push_neighbours.ensures ∙ ap (λ l. l ++ neighbours_in c.out_legs.result.now c.in_legs.result.now) c.loop-node.invariant.3 in
     subst (λ m. All (λ x. x < m) c.as_slice.result.now) (sym (c.loop-node.invariant.0 ∙ c.requires.size))
     (neighbours_within n (legs_of c.args.remaining.now) _ c.out_legs.result.now c.in_legs.result.now c.as_slice.result.now c.out_legs.ensures c.in_legs.ensures c.nodes.ensures.limits list)
 
@@ -43,12 +43,13 @@ loop-node-preserved c =
     let i = c.loop-node.node-index in
     let up = c.out_legs.result.now in
     let down = c.in_legs.result.now in
-    let list : c.as_slice.result.now ≡ neighbours_in up down = c.as_slice.ensures.value ∙ c.in_ok-around.ensures in
+    let list : c.as_slice.result.now ≡ neighbours_in up down = c.as_slice.ensures.value ∙ c.in_ok-push_neighbours.ensures ∙ ap (λ l. l ++ neighbours_in c.out_legs.result.now c.in_legs.result.now) c.loop-node.invariant.3 in
     let near = near_more n L nodes c.nodes.ensures.limits c.requires.apart i c.loop-node-test.true up down c.out_legs.ensures c.in_legs.ensures c.loop-node.near.items c.loop-node.invariant.2 in
     let deep = deepened_near n L nodes c.nodes.ensures.limits c.requires.apart i c.loop-node-test.true up down c.out_legs.ensures c.in_legs.ensures c.args.depths.now c.loop-node.depths _ c.as_slice.result.now list c.loop-node.invariant.1 c.deepen.ensures in (
       c.deepen.ensures.size ∙ c.loop-node.invariant.0,
       deep,
-      rw (c.in_ok-append.ensures.items, c.in_ok-around.ensures) near,
+      subst (AreNear L (take (i + 1) nodes)) (sym (c.in_ok-append.ensures.items ∙ ap (λ l. c.loop-node.near.items ++ l) (c.in_ok-push_neighbours.ensures ∙ ap (λ l. l ++ neighbours_in up down) c.loop-node.invariant.3))) near,
+      c.in_ok-append.ensures.other_items,
     )
 
 pub returns-clause-size : goal.returns-clause-size

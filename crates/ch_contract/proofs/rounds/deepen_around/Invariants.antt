@@ -1,4 +1,4 @@
-use Rattle.std.proofs.Common.{◌≡◌, ℕ, length, take}
+use Rattle.std.proofs.Common.{◌≡◌, ℕ, [], length, take}
 use Rattle.std.specs.Prelude.{slice_index}
 use Rattle.ch_contract.specs.Rounds.{depth_after_round}
 use Rattle.ch_contract.specs.Remaining.{legs_of}
@@ -10,3 +10,4 @@ invariant-loop-node l =
     (length l.depths ≡ length l.fn.depths)
     × ((x : ℕ) → slice_index l.depths x ≡ depth_after_round (legs_of l.remaining) (take l.node-index l.nodes) (λ y. slice_index l.fn.depths y) x)
     × AreNear (legs_of l.remaining) (take l.node-index l.nodes) l.near.items
+    × (l.around.items ≡ [])
