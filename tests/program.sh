@@ -386,6 +386,34 @@ PYTHON
 compare "a closed pipe, status" 141 "$?"
 compare "a closed pipe, standard error" "" "$(cat err.txt)"
 
+# Reads of the program itself, without the script that starts it, by a library that is loaded before it: the one of `refusals.py`.
+program=$root/crates/chtab/out/chtab
+"$(dirname "$(rt doc)")/toolchain/bin/clang" -fuse-ld=lld -shared -fPIC -O2 -nostdlib -o refusing.so "$root/tests/helpers/refusing.c"
+
+# expect_read NAME STATUS OUT ERR READ ERROR WORD..: the program on these words, where a read has this error: the one of this number, counted from 1.
+expect_read() {
+  local name=$1 status=$2 out=$3 err=$4 read=$5 error=$6
+  shift 6
+  LD_PRELOAD=$PWD/refusing.so REFUSE_READ=$read REFUSE_WITH=$error "$program" "$@" >out.txt 2>err.txt
+  compare "$name, status" "$status" "$?"
+  compare "$name, standard output" "$out" "$(cat out.txt)"
+  compare "$name, standard error" "$err" "$(cat err.txt)"
+}
+
+# The graph is read by the first two reads, of which the second finds its end, and so is each other file after it.
+interrupted=4
+failed=5
+answers=$("$root/chtab" dist "$g" "$q")
+for read in 1 2 3 4; do
+  expect_read "read $read is interrupted" 0 "$answers" "" $read $interrupted dist "$g" "$q"
+done
+expect_read "a graph that can't be read" 3 "" "chtab: cannot read graph" 1 $failed dist "$g" "$q"
+expect_read "queries that can't be read" 3 "" "chtab: cannot read queries" 3 $failed dist "$g" "$q"
+expect_read "queries that can't be read to their end" 3 "" "chtab: cannot read queries" 4 $failed dist "$g" "$q"
+expect_read "a saved hierarchy that can't be read" 3 "" "chtab: cannot read saved" 3 $failed dist --saved "$ch" "$g" "$q"
+expect_read "a saved hierarchy, and queries that can't be read" 3 "" "chtab: cannot read queries" 5 $failed dist --saved "$ch" "$g" "$q"
+expect_read "targets that can't be read" 3 "" "chtab: cannot read targets" 5 $failed table "$g" one.ss three.ss
+
 printf 'q 1 3\nt 1 2\ns 2\ns 3\ns 1\n' >requests.txt
 expect "requests" 0 $'d 1 3 9\nt 2 5 -' "" ask --saved "$ch" "$g" <requests.txt
 expect "requests, by a hierarchy that is built" 0 $'d 1 3 9\nt 2 5 -' "" ask "$g" <requests.txt

@@ -1,3 +1,3 @@
 pub mod Opening
-pub mod Unread
+pub mod Read
 pub mod Whole

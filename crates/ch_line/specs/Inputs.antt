@@ -1,5 +1,5 @@
 -- The question that inputs ask, and how a run over them ends.
-use Rattle.std.specs.Prelude.{◌≡◌, ◌⊎◌, ◌↔◌, ◌<◌, ℕ, [], List, Option, Some, None, Result, Err, IfErr, IsErrAnd, ⊤, option_map}
+use Rattle.std.specs.Prelude.{◌≡◌, ◌⊎◌, ◌↔◌, ◌<◌, ℕ, [], ◌∷◌, ◌++◌, List, Option, Some, None, Result, Err, IfErr, IsErrAnd, ⊤, option_map}
 use Rattle.ch_read.specs.declared.fault.ReadFault.{ReadFault}
 use Rattle.ch_hierarchy.specs.declared.fault.CheckFault.{CheckFault}
 use Rattle.ch_run.specs.declared.fault.Which.{Which}
@@ -8,7 +8,7 @@ use Rattle.ch_run.specs.declared.options.Options.{Options}
 use Rattle.ch_run.specs.Ask.{IsOfAsk, ServesBy}
 use Rattle.ch_run.specs.DistRun.{HasQueriesRefused, IsAnsweredBy, IsOfDist}
 use Rattle.ch_run.specs.NearRun.{HasNearTargetsRefused, IsNearBy, IsOfNear, listed_in, sources_failures}
-use Rattle.ch_run.specs.Run.{Delivers, IsGraphRefused, IsWrite, Reading, reading}
+use Rattle.ch_run.specs.Run.{Delivers, IsGraphRefused, IsWrite, Reading, ReadsOnce, reading}
 use Rattle.ch_run.specs.SaveRun.{IsOfSave, IsSavedBy}
 use Rattle.ch_run.specs.Source.{HasCheckRefused, HasSavedRefused, IsOfLoading, saved_in, source_failures}
 use Rattle.ch_run.specs.TableRun.{HasCellsRefused, HasSourcesRefused, HasTargetsRefused, IsOfTable, IsTabledBy}
@@ -136,27 +136,31 @@ pub record AreFresh {I : Type 0} (failed : I → ℕ) (inputs : Inputs I) : Type
   pub source : source_failures failed inputs.source ≡ 0
   pub asked : AreFreshAsked failed inputs.asked
 
--- this input has a state in which more of its reads have failed
-abbrev pub HasFailed : {I : Type 0} → (I → ℕ) → I → Type 0
-HasFailed {I} failed old = (new : I) × (failed old < failed new)
+-- an input with what it is, where there is one
+abbrev pub input_if : {I : Type 0} → Which → Option I → List (Which × I)
+input_if which None = []
+input_if which (Some input) = (which, input) ∷ []
 
--- `which` names this input, and a read of it failed
-abbrev pub IsFailed : {I : Type 0} → (I → ℕ) → Which → I → Which → Type 0
-IsFailed failed is input which = (is ≡ which) × HasFailed failed input
+-- the inputs that ask something, each with what it is, in the order in which they are opened
+abbrev pub asked_inputs : {I : Type 0} → Asked I → List (Which × I)
+asked_inputs (Asked.Queries queries) = (Which.Queries, queries) ∷ []
+asked_inputs (Asked.Table sources targets) = (Which.Sources, sources) ∷ (Which.Targets, targets) ∷ []
+asked_inputs (Asked.Near sources targets) = input_if Which.Sources (listed_in sources) ++ (Which.Targets, targets) ∷ []
+asked_inputs Asked.Hierarchy = []
+asked_inputs Asked.Requests = []
 
--- `which` names this input, there is one, and a read of it failed
-abbrev pub IsFailedIf : {I : Type 0} → (I → ℕ) → Which → Option I → Which → Type 0
-IsFailedIf failed is None which = ⊥
-IsFailedIf failed is (Some input) which = IsFailed failed is input which
+-- all inputs
+abbrev pub inputs_in : {I : Type 0} → Inputs I → List (Which × I)
+inputs_in inputs = ((Which.Graph, inputs.graph) ∷ input_if Which.Saved (saved_in inputs.source)) ++ asked_inputs inputs.asked
 
--- `which` names a file of the question, and a read of it failed
-abbrev pub IsFailedAsked : {I : Type 0} → (I → ℕ) → Asked I → Which → Type 0
-IsFailedAsked failed (Asked.Queries queries) which = IsFailed failed Which.Queries queries which
-IsFailedAsked failed (Asked.Table sources targets) which = IsFailed failed Which.Sources sources which ⊎ IsFailed failed Which.Targets targets which
-IsFailedAsked failed (Asked.Near sources targets) which = IsFailedIf failed Which.Sources (listed_in sources) which ⊎ IsFailed failed Which.Targets targets which
-IsFailedAsked failed Asked.Hierarchy which = ⊥
-IsFailedAsked failed Asked.Requests which = ⊥
+-- an input is still the one that it was, its fault is told exactly where a read of it failed, and then it is read no more
+pub record IsRead {I : Type 0} (origin failed : I → ℕ) (result : Result Unit RunFault) (which : Which) (old new : I) : Type 0 where
+  pub same : origin new ≡ origin old
+  pub once : ReadsOnce which result failed old new
 
--- `which` names one of the inputs, and a read of it failed
-abbrev pub HasFailedRead : {I : Type 0} → (I → ℕ) → Inputs I → Which → Type 0
-HasFailedRead failed inputs which = IsFailed failed Which.Graph inputs.graph which ⊎ IsFailedIf failed Which.Saved (saved_in inputs.source) which ⊎ IsFailedAsked failed inputs.asked which
+-- so it is with each of these inputs
+abbrev pub AreRead : {I : Type 0} → (origin failed : I → ℕ) → Result Unit RunFault → (old new : List (Which × I)) → Type 0
+AreRead origin failed result [] [] = ⊤
+AreRead origin failed result [] (new ∷ news) = ⊥
+AreRead origin failed result (old ∷ olds) [] = ⊥
+AreRead origin failed result (old ∷ olds) (new ∷ news) = (new.0 ≡ old.0) × IsRead origin failed result old.0 old.1 new.1 × AreRead origin failed result olds news

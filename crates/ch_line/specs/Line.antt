@@ -1,5 +1,5 @@
 -- The task of a line, the files that it opens, and how its run ends.
-use Rattle.std.specs.Prelude.{◌≡◌, ◌⊎◌, ℕ, [], ◌∷◌, ◌++◌, List, Option, Some, None, Result, Err, IsErrAnd, ⊤, option_map, if◌then◌else◌}
+use Rattle.std.specs.Prelude.{◌≡◌, ◌⊎◌, ℕ, [], ◌∷◌, ◌++◌, List, Option, Some, None, Result, Ok, Err, IsErrAnd, ⊤, option_map, if◌then◌else◌}
 use Rattle.std.specs.String.{string_bytes}
 use Rattle.ch_contract.specs.declared.measure.OrderBy.TheVariants.{Difference, Depth}
 use Rattle.ch_near.specs.declared.direction.Direction.TheVariants.{To, From}
@@ -11,9 +11,9 @@ use Rattle.ch_run.specs.Run.{Reading, WritesOnce}
 use Rattle.ch_words.specs.declared.line.Choices.{Choices}
 use Rattle.ch_words.specs.declared.line.Line.{Line}
 use Rattle.ch_words.specs.declared.line.Tool.{Tool}
-use Rattle.ch_line.specs.declared.inputs.Inputs.{Inputs}
+use Rattle.ch_line.specs.declared.files.OpenFault.{OpenFault}
 use Rattle.ch_line.specs.Files.{FileState, bytes_of}
-use Rattle.ch_line.specs.Inputs.{Question, Task, EndsFor, HasFailedRead, Writes, task_of, whole_of}
+use Rattle.ch_line.specs.Inputs.{AreRead, EndsFor, Question, Task, Writes, whole_of}
 
 -- the options of a run, as the words choose them. `--deep` chooses the order of depth, and `--from` the distances from the
 -- targets
@@ -80,11 +80,15 @@ abbrev pub saved_files : Option (List ℕ) → List File
 saved_files None = []
 saved_files (Some saved) = (Which.Saved, saved) ∷ []
 
--- the files of a tool's question, in the order in which they are opened
+-- the files of two lists
+abbrev pub list_files : List ℕ → List ℕ → List File
+list_files sources targets = (Which.Sources, sources) ∷ (Which.Targets, targets) ∷ []
+
+-- the files that ask something, in the order in which they are opened
 abbrev pub asked_files : Tool → List File
 asked_files (Tool.Dist graph queries) = (Which.Queries, string_bytes queries) ∷ []
-asked_files (Tool.Table graph sources targets) = (Which.Sources, string_bytes sources) ∷ (Which.Targets, string_bytes targets) ∷ []
-asked_files (Tool.Near graph sources targets) = (Which.Sources, string_bytes sources) ∷ (Which.Targets, string_bytes targets) ∷ []
+asked_files (Tool.Table graph sources targets) = list_files (string_bytes sources) (string_bytes targets)
+asked_files (Tool.Near graph sources targets) = list_files (string_bytes sources) (string_bytes targets)
 asked_files (Tool.NearAll graph targets) = (Which.Targets, string_bytes targets) ∷ []
 asked_files (Tool.Save graph) = []
 asked_files (Tool.Ask graph) = []
@@ -138,18 +142,49 @@ abbrev pub EndsAtMissing : {T : Type 0} → (List ℕ → FileState) → List Fi
 EndsAtMissing known [] result = ⊤
 EndsAtMissing known (file ∷ files) result = AtMissing (known file.1) file.0 (EndsAtMissing known files result) result
 
--- a read of an input that was opened for the line failed
-abbrev pub HasReadFailed : {I : Type 0} → (I → Option (List ℕ)) → (I → ℕ) → (List ℕ → FileState) → Line → Which → Type 0
-HasReadFailed {I} left failed known line which = (inputs : Inputs I) × (task_of left inputs ≡ line_task known line) × HasFailedRead failed inputs which
+-- the fault of a run, where the file of this input isn't opened
+abbrev pub open_fault : Which → OpenFault → RunFault
+open_fault which OpenFault.Refused = RunFault.Device which
+open_fault which OpenFault.Memory = RunFault.Memory
 
--- the promise of `run_line` on the run of a line: the output, where the run ends, and the failures that were counted.
--- The files, the requests and the output each have their own functions for known bytes and for counts of failures
-pub record IsRunOf {I J O : Type 0} (left : I → Option (List ℕ)) (failures : I → ℕ) (known : List ℕ → FileState) (left_requests : J → Option (List ℕ)) (failed_requests : J → ℕ)
-    (taken : O → Option (List ℕ)) (failed idle : O → ℕ) (line : Line) (requests requests' : J) (old new : O) (result : Result Unit RunFault) : Type 0 where
+-- this file isn't opened, and that is the fault
+abbrev pub IsRefused : {F I : Type 0} → (opens : F → List ℕ → Result I OpenFault → F → Type 0) → File → (old new : F) → RunFault → Type 0
+IsRefused opens file old new fault = (refusal : OpenFault) × opens old file.1 (Err refusal) new × (fault ≡ open_fault file.0 refusal)
+
+-- these files are opened in turn up to one that isn't, and that is the fault
+abbrev pub StopsOpening : {F I : Type 0} → (opens : F → List ℕ → Result I OpenFault → F → Type 0) → List File → (old new : F) → RunFault → Type 0
+StopsOpening opens [] old new fault = ⊥
+StopsOpening {F} {I} opens (file ∷ files) old new fault =
+    IsRefused opens file old new fault ⊎ ((input : I) × (mid : F) × opens old file.1 (Ok input) mid × StopsOpening opens files mid new fault)
+
+-- these files, and no other, are opened in turn, as these inputs
+abbrev pub AreOpened : {F I : Type 0} → (opens : F → List ℕ → Result I OpenFault → F → Type 0) → List File → List (Which × I) → (old new : F) → Type 0
+AreOpened opens [] [] old new = new ≡ old
+AreOpened opens [] (input ∷ inputs) old new = ⊥
+AreOpened opens (file ∷ files) [] old new = ⊥
+AreOpened {F} opens (file ∷ files) (input ∷ inputs) old new = (input.0 ≡ file.0) × (mid : F) × opens old file.1 (Ok input.1) mid × AreOpened opens files inputs mid new
+
+-- these inputs are closed in turn, as they were left, and no file is opened
+abbrev pub AreClosed : {F I : Type 0} → (closes : F → I → F → Type 0) → List (Which × I) → (old new : F) → Type 0
+AreClosed closes [] old new = new ≡ old
+AreClosed {F} closes (input ∷ inputs) old new = (mid : F) × closes old input.1 mid × AreClosed closes inputs mid new
+
+-- what the run of a line does with its files, and with no other: one of them isn't opened, and that is the fault; or all are opened in
+-- turn, each is read, its fault told exactly where a read of it failed, and all are closed
+abbrev pub UsesFiles : {F I : Type 0} → (opens : F → List ℕ → Result I OpenFault → F → Type 0) → (closes : F → I → F → Type 0) → (origin failed : I → ℕ) → List File → (old new : F) → Result Unit RunFault → Type 0
+UsesFiles {F} {I} opens closes origin failed files old new result =
+    IsErrAnd result (StopsOpening opens files old new)
+    ⊎ ((opened left : List (Which × I)) × (mid : F) × AreOpened opens files opened old mid × AreRead origin failed result opened left × AreClosed closes left mid new)
+
+-- the run of a line, as `run_line` owes it: what the output took, where it ends, which files it used, and which faults were counted. Files and
+-- requests tell their bytes and count their failures, each in its own way
+pub record IsRunOf {F I J O : Type 0} (opens : F → List ℕ → Result I OpenFault → F → Type 0) (closes : F → I → F → Type 0) (origin failures : I → ℕ) (known : List ℕ → FileState)
+    (left_requests : J → Option (List ℕ)) (failed_requests : J → ℕ) (taken : O → Option (List ℕ)) (failed idle : O → ℕ)
+    (line : Line) (files files' : F) (requests requests' : J) (old new : O) (result : Result Unit RunFault) : Type 0 where
   pub written : IsNotBegun known (line_files line) requests requests' old new result
       ⊎ Writes (options_for line.choices) (line_task known line) left_requests failed_requests taken requests requests' old new result
   pub missing : EndsAtMissing known (line_files line) result
   pub ends : EndsFor (line_task known line) result ⊎ IsErrAnd result (IsUnopened known (line_files line))
-  pub unread : (which : Which) → result ≡ Err (RunFault.Device which) → IsUnopened known (line_files line) (RunFault.Device which) ⊎ (which ≡ Which.Requests) ⊎ HasReadFailed left failures known line which
+  pub used : UsesFiles opens closes origin failures (line_files line) files files' result
   pub requests_once : CountsAtMostOne (failed_requests requests) (failed_requests requests')
   pub output : WritesOnce result failed idle old new

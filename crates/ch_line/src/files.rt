@@ -1,7 +1,8 @@
 //! Files that are opened by their names.
 
-ghost use Rattle.std.specs.Prelude.{◌≡◌, ℕ, List, IfOk};
+ghost use Rattle.std.specs.Prelude.{◌≡◌, ℕ, List, Result, IfOk};
 ghost use Rattle.ch_line.specs.Files.{FileState, Opens};
+ghost use Rattle.ch_line.specs.declared.files.OpenFault.{OpenFault as FaultOf};
 
 mod memory;
 
@@ -17,18 +18,31 @@ pub enum OpenFault {
     Memory,
 }
 
-/// Opens files by their names.
+/// What opens files by their names, and closes them.
 ///
-/// An implementation says what contracts know of each name (`known`). For files in memory they know
-/// which names have a file, and its bytes. For the system's files they know nothing.
+/// Each implementation says what it tells of a name: one over memory tells which names have a file, and its bytes; one
+/// over the system's files tells nothing.
+///
+/// What a call may do has a name here and no meaning. So a clause over any files tells which files were opened and closed.
 pub trait Files {
     type Input: Input + Drop;
 
     // the state of the file of this name, as far as contracts know it
     ghost known: { Self → List ℕ → FileState };
+    // what one opening may do: the files before, the name, the answer, and the files after
+    ghost opens: { Self → List ℕ → Result Self.Input FaultOf → Self → Type 0 };
+    // what one closing may do: the files before, the opened file as it was left, and the files after
+    ghost closes: { Self → Self.Input → Self → Type 0 };
 
     /// Opens the file of this name, at its first byte.
-    fn open(&self, name: &str) -> Result<Self::Input, OpenFault>
+    fn open(&mut self, name: &str) -> Result<Self::Input, OpenFault>
         ensures fresh { IfOk result (λ input. Self.Input.failed input ≡ 0) }
-        ensures bytes { Opens Self.Input.left (known self.now name.now) result };
+        ensures bytes { Opens Self.Input.left (known self.old name.now) result }
+        ensures known { known self.new ≡ known self.old }
+        ensures made { opens self.old name.now result self.new };
+
+    /// Closes a file that was opened.
+    fn close(&mut self, input: Self::Input)
+        ensures known { known self.new ≡ known self.old }
+        ensures made { closes self.old input self.new };
 }

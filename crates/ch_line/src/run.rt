@@ -1,14 +1,14 @@
 //! The run that a line asks for, over files that are opened by their names.
 
-ghost use Rattle.std.specs.Prelude.{◌≡◌, ◌⊎◌, Err, IfErr, IfOk, IsErrAnd, option_map};
+ghost use Rattle.std.specs.Prelude.{◌≡◌, ◌⊎◌, ◌∷◌, [], Ok, IfErr, IfOk, IsErrAnd, option_map};
 ghost use Rattle.ch_text.specs.Device.{CanCountOneMore, CountsAtMostOne};
+ghost use Rattle.ch_run.specs.NearRun.{listed_in};
 ghost use Rattle.ch_run.specs.Run.{WritesOnce};
 ghost use Rattle.ch_run.specs.Source.{saved_in, source_failures};
-ghost use Rattle.ch_run.specs.declared.fault.Which.{Which as WhichInput};
 ghost use Rattle.ch_words.specs.Line.{IsAllowed};
 ghost use Rattle.ch_line.specs.Files.{bytes_of};
-ghost use Rattle.ch_line.specs.Inputs.{AreFresh, AreFreshAsked, EndsFor, Writes, question_of, task_of, whole_of};
-ghost use Rattle.ch_line.specs.Line.{EndsAtMissing, HasReadFailed, IsNotBegun, IsNotOpened, IsUnopened, MayAllBeThere, MayBeThere, asked_files, file_reading, graph_name, line_files, line_task, options_for, saved_files, saved_for, saved_name, tool_question};
+ghost use Rattle.ch_line.specs.Inputs.{AreFresh, AreFreshAsked, EndsFor, Writes, asked_inputs, input_if, inputs_in, question_of, task_of, whole_of};
+ghost use Rattle.ch_line.specs.Line.{AreClosed, AreOpened, EndsAtMissing, IsNotBegun, IsNotOpened, IsRefused, IsUnopened, MayAllBeThere, MayBeThere, StopsOpening, UsesFiles, asked_files, file_reading, graph_name, line_files, line_task, list_files, options_for, saved_files, saved_for, saved_name, tool_question};
 
 use crate::files::{Files, OpenFault};
 use crate::inputs::{Asked, Inputs, run_inputs};
@@ -19,16 +19,15 @@ use ch_words::{Choices, Line, Tool};
 use std::alloc::Global;
 use std::thread::Threads;
 
-/// Runs a line. It opens the graph first, then the saved hierarchy if there is one, and then the other
-/// files in the order of the arguments. It reads no file before all are open. It reads the requests only
-/// if the line asks for answers to them, and otherwise leaves them alone.
+/// Does what a line asks for. All of its files are opened, in the order of the arguments, before one is read, and no other is. The requests are
+/// read where it asks that they be answered, and else left alone.
 ///
 /// # Errors
 /// The fault of the first file that can't be opened, or of the run.
 pub fn run_line<R: Threads + Sync, F: Files, J: Input, O: Output, G: Gate>(
     rt: &R,
     alloc: Global,
-    files: &F,
+    files: &mut F,
     requests: &mut J,
     output: &mut O,
     line: &Line,
@@ -39,31 +38,37 @@ pub fn run_line<R: Threads + Sync, F: Files, J: Input, O: Output, G: Gate>(
     requires failures { CanCountOneMore (O.failed output.old) }
     requires zeros { CanCountOneMore (O.idle output.old) }
 
-    // The output takes what the line asks for, of the files that it names. If one of them isn't opened,
-    // nothing is read or written.
-    ensures written { IsNotBegun (F.known files.now) (line_files line.now) requests.old requests.new output.old output.new result
-        ⊎ Writes (options_for line.now.choices) (line_task (F.known files.now) line.now) J.left J.failed O.taken requests.old requests.new output.old output.new result }
+    // What is written is what the line asks for, of the files that it names; where one of them isn't opened, nothing is.
+    ensures written { IsNotBegun (F.known files.old) (line_files line.now) requests.old requests.new output.old output.new result
+        ⊎ Writes (options_for line.now.choices) (line_task (F.known files.old) line.now) J.left J.failed O.taken requests.old requests.new output.old output.new result }
 
-    // A missing file ends the run before anything is read. A file is refused only for a fault that it
-    // has. If an input can't be read, it wasn't opened or a read of it failed.
-    ensures missing { EndsAtMissing (F.known files.now) (line_files line.now) result }
-    ensures ends { EndsFor (line_task (F.known files.now) line.now) result ⊎ IsErrAnd result (IsUnopened (F.known files.now) (line_files line.now)) }
-    ensures unread { (which : WhichInput) → result ≡ Err (RunFault.Device which) →
-        IsUnopened (F.known files.now) (line_files line.now) (RunFault.Device which) ⊎ (which ≡ Which.Requests)
-        ⊎ HasReadFailed F.Input.left F.Input.failed (F.known files.now) line.now which }
+    // A missing file ends it before anything is read, and otherwise a fault is of what the files hold.
+    ensures missing { EndsAtMissing (F.known files.old) (line_files line.now) result }
+    ensures ends { EndsFor (line_task (F.known files.old) line.now) result ⊎ IsErrAnd result (IsUnopened (F.known files.old) (line_files line.now)) }
+
+    // The files that are opened, read and closed are the line's, and no other; and a device's fault is told exactly where a read of that file failed.
+    ensures files { UsesFiles F.opens F.closes F.Input.origin F.Input.failed (line_files line.now) files.old files.new result }
 
     // A read or a write that failed is not tried again. A failed write is reported.
     ensures requests_once { CountsAtMostOne (J.failed requests.old) (J.failed requests.new) }
     ensures output { WritesOnce result O.failed O.idle output.old output.new }
 {
-    let inputs = open_inputs(files, line)?;
+    let mut inputs = open_inputs(files, line)?;
     let crew = Crew {
         rt,
         alloc,
         plan: line.plan,
         gate,
     };
-    run_inputs(&crew, inputs, requests, output, &options_of(&line.choices))
+    let result = run_inputs(
+        &crew,
+        &mut inputs,
+        requests,
+        output,
+        &options_of(&line.choices),
+    );
+    close_inputs(files, inputs);
+    result
 }
 
 /// Returns the options of a run, as the words choose them.
@@ -93,13 +98,15 @@ pub fn options_of(choices: &Choices) -> Options
 /// other files in the order of the arguments.
 ///
 /// # Errors
-/// `Device` of the first file that can't be opened, or `Memory`.
-pub fn open_inputs<F: Files>(files: &F, line: &Line) -> Result<Inputs<F::Input>, RunFault>
+/// `Device` of the first that can't be opened, or `Memory`.
+pub fn open_inputs<F: Files>(files: &mut F, line: &Line) -> Result<Inputs<F::Input>, RunFault>
     ensures fresh { IfOk result (AreFresh F.Input.failed) }
-    ensures asked { IfOk result (λ inputs. task_of F.Input.left inputs ≡ line_task (F.known files.now) line.now) }
-    ensures there { IfOk result (λ _. MayAllBeThere (F.known files.now) (line_files line.now)) }
-    ensures missing { EndsAtMissing (F.known files.now) (line_files line.now) result }
-    ensures unopened { IfErr result (IsUnopened (F.known files.now) (line_files line.now)) }
+    ensures asked { IfOk result (λ inputs. task_of F.Input.left inputs ≡ line_task (F.known files.old) line.now) }
+    ensures there { IfOk result (λ _. MayAllBeThere (F.known files.old) (line_files line.now)) }
+    ensures missing { EndsAtMissing (F.known files.old) (line_files line.now) result }
+    ensures unopened { IfErr result (IsUnopened (F.known files.old) (line_files line.now)) }
+    ensures opened { IfOk result (λ inputs. AreOpened F.opens (line_files line.now) (inputs_in inputs) files.old files.new) }
+    ensures stopped { IfErr result (StopsOpening F.opens (line_files line.now) files.old files.new) }
 {
     let graph = open_input(files, graph_of(&line.tool), Which::Graph)?;
     let source = open_source(files, saved_of(line))?;
@@ -136,13 +143,16 @@ fn saved_of(line: &Line) -> Option<&str>
 }
 
 /// Opens a saved hierarchy, if one is named.
-fn open_source<F: Files>(files: &F, saved: Option<&str>) -> Result<Source<F::Input>, RunFault>
+fn open_source<F: Files>(files: &mut F, saved: Option<&str>) -> Result<Source<F::Input>, RunFault>
     ensures fresh { IfOk result (λ source. source_failures F.Input.failed source ≡ 0) }
     ensures bytes { IfOk result (λ source. option_map (λ input. whole_of (F.Input.left input)) (saved_in source)
-        ≡ option_map (file_reading (F.known files.now)) (option_map (λ name. name.now) saved.entry)) }
-    ensures there { IfOk result (λ _. MayAllBeThere (F.known files.now) (saved_files (option_map (λ name. name.now) saved.entry))) }
-    ensures missing { EndsAtMissing (F.known files.now) (saved_files (option_map (λ name. name.now) saved.entry)) result }
-    ensures unopened { IfErr result (IsUnopened (F.known files.now) (saved_files (option_map (λ name. name.now) saved.entry))) }
+        ≡ option_map (file_reading (F.known files.old)) (option_map (λ name. name.now) saved.entry)) }
+    ensures there { IfOk result (λ _. MayAllBeThere (F.known files.old) (saved_files (option_map (λ name. name.now) saved.entry))) }
+    ensures missing { EndsAtMissing (F.known files.old) (saved_files (option_map (λ name. name.now) saved.entry)) result }
+    ensures unopened { IfErr result (IsUnopened (F.known files.old) (saved_files (option_map (λ name. name.now) saved.entry))) }
+    ensures opened { IfOk result (λ source. AreOpened F.opens (saved_files (option_map (λ name. name.now) saved.entry)) (input_if Which.Saved (saved_in source)) files.old files.new) }
+    ensures stopped { IfErr result (StopsOpening F.opens (saved_files (option_map (λ name. name.now) saved.entry)) files.old files.new) }
+    ensures known { F.known files.new ≡ F.known files.old }
 {
     match saved {
         Some(name) => Ok(Source::Saved(open_input(files, name, Which::Saved)?)),
@@ -150,13 +160,15 @@ fn open_source<F: Files>(files: &F, saved: Option<&str>) -> Result<Source<F::Inp
     }
 }
 
-/// Opens the files of the tool's question, in the order of the arguments.
-fn open_asked<F: Files>(files: &F, tool: &Tool) -> Result<Asked<F::Input>, RunFault>
+/// Opens the files that ask something, in the order of the arguments.
+fn open_asked<F: Files>(files: &mut F, tool: &Tool) -> Result<Asked<F::Input>, RunFault>
     ensures fresh { IfOk result (AreFreshAsked F.Input.failed) }
-    ensures asked { IfOk result (λ asked. question_of F.Input.left asked ≡ tool_question (file_reading (F.known files.now)) tool.now) }
-    ensures there { IfOk result (λ _. MayAllBeThere (F.known files.now) (asked_files tool.now)) }
-    ensures missing { EndsAtMissing (F.known files.now) (asked_files tool.now) result }
-    ensures unopened { IfErr result (IsUnopened (F.known files.now) (asked_files tool.now)) }
+    ensures asked { IfOk result (λ asked. question_of F.Input.left asked ≡ tool_question (file_reading (F.known files.old)) tool.now) }
+    ensures there { IfOk result (λ _. MayAllBeThere (F.known files.old) (asked_files tool.now)) }
+    ensures missing { EndsAtMissing (F.known files.old) (asked_files tool.now) result }
+    ensures unopened { IfErr result (IsUnopened (F.known files.old) (asked_files tool.now)) }
+    ensures opened { IfOk result (λ asked. AreOpened F.opens (asked_files tool.now) (asked_inputs asked) files.old files.new) }
+    ensures stopped { IfErr result (StopsOpening F.opens (asked_files tool.now) files.old files.new) }
 {
     match tool {
         Tool::Dist { queries, .. } => Ok(Asked::Queries(open_input(
@@ -169,8 +181,7 @@ fn open_asked<F: Files>(files: &F, tool: &Tool) -> Result<Asked<F::Input>, RunFa
             targets,
             ..
         } => {
-            let sources = open_input(files, sources.as_str(), Which::Sources)?;
-            let targets = open_input(files, targets.as_str(), Which::Targets)?;
+            let Lists { sources, targets } = open_lists(files, sources.as_str(), targets.as_str())?;
             Ok(Asked::Table { sources, targets })
         }
         Tool::Near {
@@ -178,8 +189,8 @@ fn open_asked<F: Files>(files: &F, tool: &Tool) -> Result<Asked<F::Input>, RunFa
             targets,
             ..
         } => {
-            let sources = Sources::Listed(open_input(files, sources.as_str(), Which::Sources)?);
-            let targets = open_input(files, targets.as_str(), Which::Targets)?;
+            let Lists { sources, targets } = open_lists(files, sources.as_str(), targets.as_str())?;
+            let sources = Sources::Listed(sources);
             Ok(Asked::Near { sources, targets })
         }
         Tool::NearAll { targets, .. } => {
@@ -192,16 +203,99 @@ fn open_asked<F: Files>(files: &F, tool: &Tool) -> Result<Asked<F::Input>, RunFa
     }
 }
 
+/// Two lists of nodes that were opened.
+#[derive(Drop)]
+struct Lists<I: Drop> {
+    sources: I,
+    targets: I,
+}
+
+/// Opens a list of sources, and then one of targets.
+fn open_lists<F: Files>(
+    files: &mut F,
+    sources: &str,
+    targets: &str,
+) -> Result<Lists<F::Input>, RunFault>
+    ensures fresh { IfOk result (λ lists. (F.Input.failed lists.sources ≡ 0) × (F.Input.failed lists.targets ≡ 0)) }
+    ensures sources { IfOk result (λ lists. F.Input.left lists.sources ≡ bytes_of (F.known files.old sources.now)) }
+    ensures targets { IfOk result (λ lists. F.Input.left lists.targets ≡ bytes_of (F.known files.old targets.now)) }
+    ensures there { IfOk result (λ _. MayAllBeThere (F.known files.old) (list_files sources.now targets.now)) }
+    ensures missing { EndsAtMissing (F.known files.old) (list_files sources.now targets.now) result }
+    ensures unopened { IfErr result (IsUnopened (F.known files.old) (list_files sources.now targets.now)) }
+    ensures opened { IfOk result (λ lists. AreOpened F.opens (list_files sources.now targets.now)
+        ((Which.Sources, lists.sources) ∷ (Which.Targets, lists.targets) ∷ []) files.old files.new) }
+    ensures stopped { IfErr result (StopsOpening F.opens (list_files sources.now targets.now) files.old files.new) }
+{
+    let sources = open_input(files, sources, Which::Sources)?;
+    let targets = open_input(files, targets, Which::Targets)?;
+    Ok(Lists { sources, targets })
+}
+
 /// Opens the file of an input.
-fn open_input<F: Files>(files: &F, name: &str, which: Which) -> Result<F::Input, RunFault>
+fn open_input<F: Files>(files: &mut F, name: &str, which: Which) -> Result<F::Input, RunFault>
     ensures fresh { IfOk result (λ input. F.Input.failed input ≡ 0) }
-    ensures bytes { IfOk result (λ input. F.Input.left input ≡ bytes_of (F.known files.now name.now)) }
-    ensures there { IfOk result (λ _. MayBeThere (F.known files.now name.now)) }
-    ensures unopened { IfErr result (IsNotOpened (F.known files.now name.now) which) }
+    ensures bytes { IfOk result (λ input. F.Input.left input ≡ bytes_of (F.known files.old name.now)) }
+    ensures there { IfOk result (λ _. MayBeThere (F.known files.old name.now)) }
+    ensures unopened { IfErr result (IsNotOpened (F.known files.old name.now) which) }
+    ensures opened { IfOk result (λ input. F.opens files.old name.now (Ok input) files.new) }
+    ensures stopped { IfErr result (IsRefused F.opens (which, name.now) files.old files.new) }
+    ensures known { F.known files.new ≡ F.known files.old }
 {
     match files.open(name) {
         Ok(input) => Ok(input),
         Err(OpenFault::Refused) => Err(RunFault::Device(which)),
         Err(OpenFault::Memory) => Err(RunFault::Memory),
+    }
+}
+
+/// Closes the files of a line, in the order in which they were opened.
+fn close_inputs<F: Files>(files: &mut F, inputs: Inputs<F::Input>)
+    ensures { AreClosed F.closes (inputs_in inputs) files.old files.new }
+{
+    let Inputs {
+        graph,
+        source,
+        asked,
+    } = inputs;
+    files.close(graph);
+    close_source(files, source);
+    close_asked(files, asked);
+}
+
+/// Closes a saved hierarchy, if there is one.
+fn close_source<F: Files>(files: &mut F, source: Source<F::Input>)
+    ensures { AreClosed F.closes (input_if Which.Saved (saved_in source)) files.old files.new }
+{
+    match source {
+        Source::Saved(saved) => files.close(saved),
+        Source::Built => {}
+    }
+}
+
+/// Closes the files that ask something.
+fn close_asked<F: Files>(files: &mut F, asked: Asked<F::Input>)
+    ensures { AreClosed F.closes (asked_inputs asked) files.old files.new }
+{
+    match asked {
+        Asked::Queries(queries) => files.close(queries),
+        Asked::Table { sources, targets } => {
+            files.close(sources);
+            files.close(targets);
+        }
+        Asked::Near { sources, targets } => {
+            close_sources(files, sources);
+            files.close(targets);
+        }
+        Asked::Hierarchy | Asked::Requests => {}
+    }
+}
+
+/// Closes a list of sources, if there is one.
+fn close_sources<F: Files>(files: &mut F, sources: Sources<F::Input>)
+    ensures { AreClosed F.closes (input_if Which.Sources (listed_in sources)) files.old files.new }
+{
+    match sources {
+        Sources::Listed(sources) => files.close(sources),
+        Sources::All => {}
     }
 }

@@ -1,5 +1,5 @@
 -- The promises of a run that writes near rows.
-use Rattle.std.specs.Prelude.{◌≡◌, ◌⊎◌, ℕ, ◌<◌, ◌≤◌, List, length, All, Option, Some, None, Result}
+use Rattle.std.specs.Prelude.{◌≡◌, ◌⊎◌, ℕ, ◌<◌, ◌≤◌, List, length, All, Option, Some, None, Result, option_map}
 use Rattle.ch_graph.specs.declared.limits.TheConstants.{MOST_LISTED}
 use Rattle.ch_read.specs.declared.fault.ReadFault.{ReadFault}
 use Rattle.ch_run.specs.declared.fault.Which.{Which}
@@ -22,7 +22,11 @@ abbrev pub sources_failures : {J : Type 0} → (J → ℕ) → Sources J → ℕ
 sources_failures failed Each = 0
 sources_failures failed (Listed input) = failed input
 
--- the reading of the list of sources, if one is read
+-- which input it is
+abbrev pub sources_origin : {J : Type 0} → (J → ℕ) → Sources J → Option ℕ
+sources_origin origin sources = option_map origin (listed_in sources)
+
+-- its reading
 abbrev pub sources_reading : {J : Type 0} → (J → Option (List ℕ)) → Sources J → Sources J → Option Reading
 sources_reading left old new = reading_if left (listed_in old) (listed_in new)
 

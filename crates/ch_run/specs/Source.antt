@@ -1,5 +1,5 @@
 -- Where the hierarchy of a run comes from, and the promises on a saved one.
-use Rattle.std.specs.Prelude.{◌≡◌, ◌⊎◌, ℕ, if◌then◌else◌, [], ◌∷◌, List, Option, Some, None, Result, Err, ⊤}
+use Rattle.std.specs.Prelude.{◌≡◌, ◌⊎◌, ℕ, if◌then◌else◌, [], ◌∷◌, List, Option, Some, None, Result, Err, ⊤, option_map}
 use Rattle.ch_graph.specs.Graph.{Network, IsWithinLimits}
 use Rattle.ch_graph.specs.Saved.{OrderAndLegs}
 use Rattle.ch_read.specs.declared.fault.ReadFault.{ReadFault}
@@ -29,7 +29,11 @@ abbrev pub source_failures : {S : Type 0} → (S → ℕ) → Source S → ℕ
 source_failures failed Built = 0
 source_failures failed (Saved input) = failed input
 
--- the reading of the saved hierarchy, if one is read
+-- which input it is
+abbrev pub source_origin : {S : Type 0} → (S → ℕ) → Source S → Option ℕ
+source_origin origin source = option_map origin (saved_in source)
+
+-- its reading
 abbrev pub source_reading : {S : Type 0} → (S → Option (List ℕ)) → Source S → Source S → Option Reading
 source_reading left old new = reading_if left (saved_in old) (saved_in new)
 

@@ -90,9 +90,17 @@ fn expect<R: Threads + Abort + Sync>(
     requires { IsAllowed line.now }
 {
     let mut output = MemoryOutput::new(alloc, 256, 256)?;
-    let files = MemoryFiles::new(&FILES, 7);
+    let mut files = MemoryFiles::new(&FILES, 7);
     let mut requests = MemoryInput::new(REQUESTS, 7);
-    let result = run_line(rt, alloc, &files, &mut requests, &mut output, line, &Open);
+    let result = run_line(
+        rt,
+        alloc,
+        &mut files,
+        &mut requests,
+        &mut output,
+        line,
+        &Open,
+    );
     assert_eq!(rt; result, Ok(()));
     assert_eq!(rt; output.bytes(), text);
     Ok(())

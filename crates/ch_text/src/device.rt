@@ -38,6 +38,8 @@ pub trait Input {
     ghost failed: { Self → ℕ };
     // the bytes that are left, if they are known
     ghost left: { Self → Option (List ℕ) };
+    // which input it is. A read leaves that, so a clause over any input tells an input from others
+    ghost origin: { Self → ℕ } = { λ _. 0 };
 
     /// Reads into the front of `buffer`, and returns the number of bytes read.
     ///
@@ -47,7 +49,8 @@ pub trait Input {
         requires { CanCountOneMore (failed self.old) }
         ensures fits { IfOk result (λ n. n ≤ length buffer.new) }
         ensures failures { failed self.new ≡ failed self.old + failures_in result }
-        ensures bytes { GivesBytes (left self.old) (left self.new) result buffer.new };
+        ensures bytes { GivesBytes (left self.old) (left self.new) result buffer.new }
+        ensures same { origin self.new ≡ origin self.old };
 
     /// Returns how many reads have failed.
     fn failures(&self) -> u64
@@ -140,6 +143,7 @@ pub fn read_all<I: Input>(alloc: Global, input: &mut I) -> Result<Vec<u8>, ReadA
     requires { CanCountOneMore (I.failed input.old) }
     ensures bytes { IfOk result (λ bytes. HasGiven (I.left input.old) (I.left input.new) bytes.items) }
     ensures failures { I.failed input.new ≡ I.failed input.old + failed_reads result }
+    ensures same { I.origin input.new ≡ I.origin input.old }
 {
     let mut buffer = buffer_of(alloc, ROOM)?;
     let mut bytes = Vec::new(alloc);

@@ -212,7 +212,18 @@ IsToldOf kind (LineFault.Help _) = kind ≡ DisplayHelp
 IsToldOf kind (LineFault.Refused _) = (kind ≢ DisplayHelp) × (kind ≢ OutOfMemory)
 IsToldOf kind LineFault.NoMemory = ⊤
 
--- `near` is given a wrong number of lists. It reads one with `--all`, and otherwise two
+-- a value that shows this, where that is known, is shown as this text
+abbrev pub IsShownAs : Option Text → Text → Type 0
+IsShownAs None text = ⊤
+IsShownAs (Some shown) text = text ≡ shown
+
+-- the text of a fault is what an error shows
+abbrev pub IsToldBy : Option Text → LineFault → Type 0
+IsToldBy shown (LineFault.Help text) = IsShownAs shown (string_bytes text)
+IsToldBy shown (LineFault.Refused text) = IsShownAs shown (string_bytes text)
+IsToldBy shown LineFault.NoMemory = ⊤
+
+-- `near` is given other lists than it reads: with `--all` one, and else two
 abbrev pub HasOtherLists : List Row → Type 0
 HasOtherLists given = (all : Bool) × IsFlagIn given (codes "all") all × (length (lists_in given) ≢ (if all then 1 else 2))
 

@@ -1,8 +1,10 @@
 //! Why the words give no line.
 
-ghost use Rattle.std.specs.Prelude.{◌≡◌};
+ghost use Rattle.std.specs.Prelude.{◌≡◌, IfOk};
+ghost use Rattle.std.specs.String.{string_bytes};
 ghost use Rattle.clap.specs.Words.{kind_of};
-ghost use Rattle.ch_words.specs.Line.{IsRefusedFor, IsToldOf, line_status_of};
+ghost use Rattle.clap.specs.declared.error.kind.ErrorKind.{ErrorKind as KindOf};
+ghost use Rattle.ch_words.specs.Line.{IsRefusedFor, IsShownAs, IsToldBy, IsToldOf, line_status_of};
 
 use clap::error::ErrorKind;
 use std::alloc::{AllocError, Global};
@@ -63,15 +65,42 @@ pub fn refused(alloc: Global, text: &str) -> LineFault
     }
 }
 
-/// Returns the fault to report for an error of clap.
-pub(crate) fn fault_of(alloc: Global, error: &clap::Error) -> LineFault
-    ensures { IsToldOf (kind_of error.now) result }
+/// An error that says why words aren't read: clap's.
+///
+/// What it shows has a name here and no meaning, since clap's contracts give it none. So no code can make up what an error shows.
+pub(crate) trait Refusal {
+    // the kind of the error
+    ghost kind: { Self → KindOf };
+
+    /// Gives the kind of the error.
+    fn reason(&self) -> ErrorKind
+        ensures { result ≡ kind self.now };
+}
+
+impl Refusal for clap::Error {
+    ghost kind = { kind_of };
+
+    fn reason(&self) -> ErrorKind {
+        self.kind()
+    }
+}
+
+/// Gives the text that a value shows.
+fn text_of<D: fmt::Display>(alloc: Global, shown: &D) -> Result<String, AllocError>
+    ensures { IfOk result (λ text. IsShownAs (D.output shown.now) (string_bytes text)) }
 {
-    let kind = error.kind();
-    let Ok(text) = format!(in alloc; "{error}") else {
+    format!(in alloc; "{shown}")
+}
+
+/// The fault that is told for an error: its text is the one that the error shows.
+pub(crate) fn fault_of<E: Refusal + fmt::Display>(alloc: Global, error: &E) -> LineFault
+    ensures kind { IsToldOf (E.kind error.now) result }
+    ensures text { IsToldBy (E.output error.now) result }
+{
+    let Ok(text) = text_of(alloc, error) else {
         return LineFault::NoMemory;
     };
-    match kind {
+    match error.reason() {
         ErrorKind::OutOfMemory => LineFault::NoMemory,
         ErrorKind::DisplayHelp => LineFault::Help(text),
         _ => LineFault::Refused(text),

@@ -6,6 +6,7 @@ use Rattle.ch_text.specs.Device.{CountsFault, HasTaken}
 use Rattle.ch_run.specs.Fault.{status_of, fault_text as run_fault_text}
 use Rattle.ch_run.specs.Run.{IsWrite}
 use Rattle.ch_words.specs.declared.line.Line.{Line}
+use Rattle.ch_line.specs.declared.files.OpenFault.{OpenFault}
 use Rattle.ch_line.specs.Files.{FileState}
 use Rattle.ch_line.specs.Line.{IsRunOf}
 use Rattle.ch_words.specs.declared.fault.LineFault.{LineFault}
@@ -50,14 +51,14 @@ AnswersFault taken failed idle (LineFault.Help text) old new answer = (written :
 AnswersFault taken failed idle (LineFault.Refused text) old new answer = (answer ≡ Err (ProgramFault.Line (LineFault.Refused text))) × (new ≡ old)
 AnswersFault taken failed idle LineFault.NoMemory old new answer = (answer ≡ Err (ProgramFault.Line LineFault.NoMemory)) × (new ≡ old)
 
--- the words give a line, and the answer is the result of its run. Or the words have a fault, the program answers it, and the
--- requests are unchanged
-abbrev pub IsAnswer : {I J O : Type 0} → (I → Option (List ℕ)) → (I → ℕ) → (List ℕ → FileState) → (J → Option (List ℕ)) → (J → ℕ)
-    → (O → Option (List ℕ)) → (O → ℕ) → (O → ℕ) → List (List ℕ) → J → J → O → O → Result Unit ProgramFault → Type 0
-IsAnswer left failures known left_requests failed_requests taken failed idle words requests requests' old new answer =
+-- the words say a line, and the answer is how its run ended; or they have a fault, which is answered, no file is opened, and the requests
+-- are as they were
+abbrev pub IsAnswer : {F I J O : Type 0} → (F → List ℕ → Result I OpenFault → F → Type 0) → (F → I → F → Type 0) → (I → ℕ) → (I → ℕ) → (List ℕ → FileState)
+    → (J → Option (List ℕ)) → (J → ℕ) → (O → Option (List ℕ)) → (O → ℕ) → (O → ℕ) → List (List ℕ) → F → F → J → J → O → O → Result Unit ProgramFault → Type 0
+IsAnswer opens closes origin failures known left_requests failed_requests taken failed idle words files files' requests requests' old new answer =
     ((line : Line) × (result : Result Unit RunFault) × IsReadFrom words line
-    × IsRunOf left failures known left_requests failed_requests taken failed idle line requests requests' old new result × (answer ≡ answer_of result))
-    ⊎ ((fault : LineFault) × IsFaultOf words fault × (requests' ≡ requests) × AnswersFault taken failed idle fault old new answer)
+    × IsRunOf opens closes origin failures known left_requests failed_requests taken failed idle line files files' requests requests' old new result × (answer ≡ answer_of result))
+    ⊎ ((fault : LineFault) × IsFaultOf words fault × (files' ≡ files) × (requests' ≡ requests) × AnswersFault taken failed idle fault old new answer)
 
 -- the errors took this text, or its first bytes if a write failed
 abbrev pub IsTold : {E : Type 0} → (E → Option (List ℕ)) → (E → ℕ) → (E → ℕ) → List ℕ → E → E → Type 0

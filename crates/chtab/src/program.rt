@@ -19,12 +19,11 @@ use std::thread::Threads;
 /// that the signal of a closed pipe has ended.
 pub const CLOSED_PIPE: u8 = 141;
 
-/// The system below the program: it starts threads, gives memory, and opens files by their names.
+/// What the program runs on: what starts threads, and memory.
 #[derive(Drop)]
-pub struct System<'r, 'f, R, F> {
+pub struct System<'r, R> {
     pub rt: &'r R,
     pub alloc: Global,
-    pub files: &'f F,
 }
 
 /// Why the program ends with no answer.
@@ -47,7 +46,8 @@ pub enum ProgramFault {
 /// [`CLOSED_PIPE`] it writes no line. It reads the requests only if the words ask for answers to them.
 /// It tells the gate whether the words ask for progress.
 pub fn run<R: Threads + Sync, F: Files, J: Input, O: Output, E: Output, G: Watch>(
-    system: &System<'_, '_, R, F>,
+    system: &System<'_, R>,
+    files: &mut F,
     requests: &mut J,
     output: &mut O,
     errors: &mut E,
@@ -61,18 +61,19 @@ pub fn run<R: Threads + Sync, F: Files, J: Input, O: Output, E: Output, G: Watch
     requires error_zeros { CanCountOneMore (E.idle errors.old) }
     ensures { (answer : Result Unit FaultOf)
         × MatchResult words
-        (λ list. IsAnswer F.Input.left F.Input.failed (F.known system.now.files.now) J.left J.failed O.taken O.failed O.idle
-        (map string_bytes list.items) requests.old requests.new output.old output.new answer)
-        (λ fault. (requests.new ≡ requests.old) × AnswersFault O.taken O.failed O.idle fault output.old output.new answer)
+        (λ list. IsAnswer F.opens F.closes F.Input.origin F.Input.failed (F.known files.old) J.left J.failed O.taken O.failed O.idle
+        (map string_bytes list.items) files.old files.new requests.old requests.new output.old output.new answer)
+        (λ fault. (files.new ≡ files.old) × (requests.new ≡ requests.old) × AnswersFault O.taken O.failed O.idle fault output.old output.new answer)
         × IsEnd E.taken E.failed E.idle (O.closed output.new) answer errors.old errors.new result }
 {
-    let answer = answer_to(system, requests, output, words, gate);
+    let answer = answer_to(system, files, requests, output, words, gate);
     end(errors, &answer, output.is_closed())
 }
 
 /// Answers the words, or answers why there are none.
 fn answer_to<R: Threads + Sync, F: Files, J: Input, O: Output, G: Watch>(
-    system: &System<'_, '_, R, F>,
+    system: &System<'_, R>,
+    files: &mut F,
     requests: &mut J,
     output: &mut O,
     words: Result<Vec<String>, LineFault>,
@@ -82,19 +83,20 @@ fn answer_to<R: Threads + Sync, F: Files, J: Input, O: Output, G: Watch>(
     requires failures { CanCountOneMore (O.failed output.old) }
     requires zeros { CanCountOneMore (O.idle output.old) }
     ensures { MatchResult words
-        (λ list. IsAnswer F.Input.left F.Input.failed (F.known system.now.files.now) J.left J.failed O.taken O.failed O.idle
-        (map string_bytes list.items) requests.old requests.new output.old output.new result)
-        (λ fault. (requests.new ≡ requests.old) × AnswersFault O.taken O.failed O.idle fault output.old output.new result) }
+        (λ list. IsAnswer F.opens F.closes F.Input.origin F.Input.failed (F.known files.old) J.left J.failed O.taken O.failed O.idle
+        (map string_bytes list.items) files.old files.new requests.old requests.new output.old output.new result)
+        (λ fault. (files.new ≡ files.old) × (requests.new ≡ requests.old) × AnswersFault O.taken O.failed O.idle fault output.old output.new result) }
 {
     match words {
-        Ok(words) => answer_words(system, requests, output, &words, gate),
+        Ok(words) => answer_words(system, files, requests, output, &words, gate),
         Err(fault) => answer_fault(output, fault),
     }
 }
 
 /// Runs the line that the words give, or answers their fault.
 fn answer_words<R: Threads + Sync, F: Files, J: Input, O: Output, G: Watch>(
-    system: &System<'_, '_, R, F>,
+    system: &System<'_, R>,
+    files: &mut F,
     requests: &mut J,
     output: &mut O,
     words: &[String],
@@ -103,10 +105,10 @@ fn answer_words<R: Threads + Sync, F: Files, J: Input, O: Output, G: Watch>(
     requires requests { CanCountOneMore (J.failed requests.old) }
     requires failures { CanCountOneMore (O.failed output.old) }
     requires zeros { CanCountOneMore (O.idle output.old) }
-    ensures { IsAnswer F.Input.left F.Input.failed (F.known system.now.files.now) J.left J.failed O.taken O.failed O.idle
-        (map string_bytes words.now) requests.old requests.new output.old output.new result }
+    ensures { IsAnswer F.opens F.closes F.Input.origin F.Input.failed (F.known files.old) J.left J.failed O.taken O.failed O.idle
+        (map string_bytes words.now) files.old files.new requests.old requests.new output.old output.new result }
 {
-    let System { rt, alloc, files } = *system;
+    let System { rt, alloc } = *system;
     match line_of(alloc, words) {
         Ok(line) => {
             gate.begin(line.progress);

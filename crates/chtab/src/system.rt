@@ -1,10 +1,9 @@
 //! The system's side of the program: its words, its files and its streams.
 //!
-//! The contract of [`run`] holds for every reader and all writers. It says something about bytes only if
-//! these are known, as the bytes of `std`'s streams in memory are. No contract of `std` says which words
-//! there are, or which bytes a file has.
+//! What is proved of [`run`] holds over any files, any reader and any writers. It has content where these tell their bytes, as files
+//! and streams in memory do. No contract of `std` tells which words there are, and which bytes a file of the system has.
 
-ghost use Rattle.std.specs.Prelude.{◌≡◌, None, MatchResult, Result, map};
+ghost use Rattle.std.specs.Prelude.{◌≡◌, None, MatchResult, Result, map, ⊤};
 ghost use Rattle.std.specs.String.{string_bytes};
 ghost use Rattle.ch_line.specs.Files.{FileState};
 ghost use Rattle.ch_text.specs.Device.{CanCountOneMore};
@@ -24,11 +23,20 @@ use std::{env, fs, rt};
 
 /// The system's files. Contracts know nothing of them.
 #[derive(Drop)]
-struct SystemFiles<'a, R: rt::Files> {
+pub struct SystemFiles<'a, R: rt::Files> {
     rt: &'a R,
 }
 
-/// A file of the system. Contracts do not know its bytes.
+impl<'a, R: rt::Files> SystemFiles<'a, R> {
+    /// The files of this system.
+    pub fn new(rt: &'a R) -> Self
+        ensures { result.rt ≡ rt }
+    {
+        SystemFiles { rt }
+    }
+}
+
+/// A file of the system, of whose bytes nothing is told.
 #[derive(Drop)]
 pub struct SystemFile<D: Read + Drop> {
     input: ReaderInput<D>,
@@ -53,7 +61,11 @@ impl<'a, R: rt::Files> Files for SystemFiles<'a, R> {
 
     ghost known = { λ _ _. FileState.Untold };
 
-    fn open(&self, name: &str) -> Result<SystemFile<R::File>, OpenFault> {
+    ghost opens = { λ _ _ _ _. ⊤ };
+
+    ghost closes = { λ _ _ _. ⊤ };
+
+    fn open(&mut self, name: &str) -> Result<SystemFile<R::File>, OpenFault> {
         match fs::open(self.rt, name) {
             Ok(file) => Ok(SystemFile {
                 input: ReaderInput::new(file),
@@ -62,6 +74,8 @@ impl<'a, R: rt::Files> Files for SystemFiles<'a, R> {
             Err(_) => Err(OpenFault::Refused),
         }
     }
+
+    fn close(&mut self, _input: SystemFile<R::File>) {}
 }
 
 impl Timer for HostRuntime {
@@ -90,11 +104,11 @@ pub fn words_of<R: Env + AllocGlobal>(rt: &R) -> Result<Vec<String>, LineFault> 
     }
 }
 
-/// Runs the program on these words, over the system's files and these streams, and returns its exit
-/// status. Reports of progress go to `terminal`. It gets them if the words ask for them, or if it is a
-/// terminal and a stage takes long.
-pub fn run<R, J, O, E, T>(
+/// Runs the program over these words, these files and these streams, and gives its exit status. The terminal is also
+/// told how far a long run is, where it is one.
+pub fn run<R, F, J, O, E, T>(
     rt: &R,
+    files: &mut F,
     words: Result<Vec<String>, LineFault>,
     requests: &mut ReaderInput<J>,
     output: &mut WriterOutput<O>,
@@ -102,7 +116,8 @@ pub fn run<R, J, O, E, T>(
     terminal: &T,
 ) -> u8
 where
-    R: rt::Files + Threads + Timer + AllocGlobal,
+    R: Threads + Timer + AllocGlobal,
+    F: Files,
     J: Read + Drop,
     O: Write + Drop,
     E: Write + Drop,
@@ -114,11 +129,11 @@ where
     requires error_zeros { CanCountOneMore (⟦<WriterOutput<E> as Output>⟧.idle errors.old) }
     ensures { (answer : Result Unit FaultOf)
         × MatchResult words
-        (λ list. IsAnswer ⟦<SystemFile<R::File> as Input>⟧.left ⟦<SystemFile<R::File> as Input>⟧.failed (λ _. FileState.Untold)
+        (λ list. IsAnswer F.opens F.closes F.Input.origin F.Input.failed (F.known files.old)
         ⟦<ReaderInput<J> as Input>⟧.left ⟦<ReaderInput<J> as Input>⟧.failed
         ⟦<WriterOutput<O> as Output>⟧.taken ⟦<WriterOutput<O> as Output>⟧.failed ⟦<WriterOutput<O> as Output>⟧.idle
-        (map string_bytes list.items) requests.old requests.new output.old output.new answer)
-        (λ fault. (requests.new ≡ requests.old)
+        (map string_bytes list.items) files.old files.new requests.old requests.new output.old output.new answer)
+        (λ fault. (files.new ≡ files.old) × (requests.new ≡ requests.old)
         × AnswersFault ⟦<WriterOutput<O> as Output>⟧.taken ⟦<WriterOutput<O> as Output>⟧.failed ⟦<WriterOutput<O> as Output>⟧.idle fault output.old output.new answer)
         × IsEnd ⟦<WriterOutput<E> as Output>⟧.taken ⟦<WriterOutput<E> as Output>⟧.failed ⟦<WriterOutput<E> as Output>⟧.idle
         (⟦<WriterOutput<O> as Output>⟧.closed output.new) answer errors.old errors.new result }
@@ -127,7 +142,6 @@ where
     let system = System {
         rt,
         alloc: rt.alloc(),
-        files: &SystemFiles { rt },
     };
-    program::run(&system, requests, output, errors, words, &watcher)
+    program::run(&system, files, requests, output, errors, words, &watcher)
 }

@@ -1,10 +1,10 @@
 //! Files in memory, for tests. Contracts know their bytes.
 
 ghost use Rattle.std.specs.Prelude.{◌≡◌, ◌<◌, ℕ, List};
-ghost use Rattle.ch_line.specs.Files.{state_among};
+ghost use Rattle.ch_line.specs.Files.{Opens, state_among};
 
 use super::{Files, OpenFault};
-use ch_run::MemoryInput;
+use ch_run::{Input, MemoryInput};
 
 /// A file in memory.
 #[derive(Clone, Copy, Debug)]
@@ -37,7 +37,12 @@ impl<'a> Files for MemoryFiles<'a> {
 
     ghost known = { λ files name. state_among files.files.now name };
 
-    fn open(&self, name: &str) -> Result<MemoryInput<'a>, OpenFault> {
+    // An opening gives what is known of the name, and neither call changes the files.
+    ghost opens = { λ old name result new. Opens ⟦<MemoryInput<'a> as Input>⟧.left (state_among old.files.now name) result × (new ≡ old) };
+
+    ghost closes = { λ old _ new. new ≡ old };
+
+    fn open(&mut self, name: &str) -> Result<MemoryInput<'a>, OpenFault> {
         for file in self.files {
             if file.name == name {
                 return Ok(MemoryInput::new(file.bytes, self.most));
@@ -45,4 +50,6 @@ impl<'a> Files for MemoryFiles<'a> {
         }
         Err(OpenFault::Refused)
     }
+
+    fn close(&mut self, _input: MemoryInput<'a>) {}
 }

@@ -5,7 +5,7 @@ ghost use Rattle.ch_text.specs.Device.{CanCountOneMore};
 ghost use Rattle.ch_run.specs.declared.source.Source.TheVariants as SourceOf;
 ghost use Rattle.ch_run.specs.Ask.{IsOfAsk, ServesBy};
 ghost use Rattle.ch_run.specs.Run.{IsGraphRefused, Reads, ReadsOnce, WritesOnce, reading};
-ghost use Rattle.ch_run.specs.Source.{IsOfLoading, ReadsSource, source_failures, source_reading};
+ghost use Rattle.ch_run.specs.Source.{IsOfLoading, ReadsSource, source_failures, source_origin, source_reading};
 
 use super::answering::Answering;
 use super::loading::loaded_from;
@@ -64,6 +64,10 @@ pub fn run_ask<R: Threads + Sync, I: Input, S: Input + Drop, J: Input, O: Output
     ensures source { ReadsSource (reading I.left graph.old graph.new) result S.left S.failed source.old source.new }
     ensures requests { ReadsOnce Which.Requests result J.failed requests.old requests.new }
     ensures output { WritesOnce result O.failed O.idle output.old output.new }
+
+    // The graph and the saved hierarchy are still the inputs that they were.
+    ensures same_graph { I.origin graph.new ≡ I.origin graph.old }
+    ensures same_source { source_origin S.origin source.new ≡ source_origin S.origin source.old }
 {
     let loaded = loaded_from(crew, graph, source)?;
     let order = options.building_order();

@@ -9,7 +9,7 @@ ghost use Rattle.ch_text.specs.Device.{CanCountOneMore};
 ghost use Rattle.ch_run.specs.declared.source.Source.TheVariants as SourceOf;
 ghost use Rattle.ch_run.specs.DistRun.{AcceptsQueries, HasQueriesRefused, IsAnsweredBy, IsOfDist};
 ghost use Rattle.ch_run.specs.Run.{Delivers, IsGraphRefused, Reads, ReadsAfter, WritesAfter, reading};
-ghost use Rattle.ch_run.specs.Source.{AcceptsLoaded, IsOfRoutes, ReadsSource, source_failures, source_reading};
+ghost use Rattle.ch_run.specs.Source.{AcceptsLoaded, IsOfRoutes, ReadsSource, source_failures, source_origin, source_reading};
 ghost use Rattle.ch_run.specs.Text.{IsTextBy, writes_routes};
 
 use super::inputs::queries_from;
@@ -70,6 +70,11 @@ pub fn run_dist<R: Threads + Sync, I: Input, S: Input + Drop, J: Input, O: Outpu
     ensures output { WritesAfter
         (AcceptsQueries (reading I.left graph.old graph.new) (source_reading S.left source.old source.new) (reading J.left queries.old queries.new))
         result O.failed O.idle output.old output.new }
+
+    // Each input is still the one that it was.
+    ensures same_graph { I.origin graph.new ≡ I.origin graph.old }
+    ensures same_source { source_origin S.origin source.new ≡ source_origin S.origin source.old }
+    ensures same_queries { J.origin queries.new ≡ J.origin queries.old }
 {
     let loaded = loaded_from(crew, graph, source)?;
     let queries = queries_from(crew.alloc, queries, &loaded.graph)?;

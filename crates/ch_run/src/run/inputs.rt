@@ -24,6 +24,7 @@ pub(crate) fn graph_from<R: Threads + Sync, I: Input, G: Gate>(
     ensures refused { (fault : FaultAt) → result ≡ Err (RunFault.Read Which.Graph fault) → IsGraphRefused (reading I.left input.old input.new) fault }
     ensures device { (result ≡ Err (RunFault.Device Which.Graph)) ↔ (I.failed input.old < I.failed input.new) }
     ensures once { CountsAtMostOne (I.failed input.old) (I.failed input.new) }
+    ensures same { I.origin input.new ≡ I.origin input.old }
     ensures of_input { IfErr result (IsOf Which.Graph) }
 {
     let bytes = bytes_from(crew.alloc, input, Which::Graph)?;
@@ -46,6 +47,7 @@ pub(crate) fn queries_from<I: Input>(
     ensures refused { (fault : FaultAt) → result ≡ Err (RunFault.Read Which.Queries fault) → IsQueriesRefused (reading I.left input.old input.new) graph.now.nodes fault }
     ensures device { (result ≡ Err (RunFault.Device Which.Queries)) ↔ (I.failed input.old < I.failed input.new) }
     ensures once { CountsAtMostOne (I.failed input.old) (I.failed input.new) }
+    ensures same { I.origin input.new ≡ I.origin input.old }
     ensures of_input { IfErr result (IsOf Which.Queries) }
 {
     let bytes = bytes_from(alloc, input, Which::Queries)?;
@@ -69,6 +71,7 @@ pub(crate) fn nodes_from<I: Input>(
     ensures refused { (fault : FaultAt) → result ≡ Err (RunFault.Read which fault) → IsListRefused (reading I.left input.old input.new) graph.now.nodes fault }
     ensures device { (result ≡ Err (RunFault.Device which)) ↔ (I.failed input.old < I.failed input.new) }
     ensures once { CountsAtMostOne (I.failed input.old) (I.failed input.new) }
+    ensures same { I.origin input.new ≡ I.origin input.old }
     ensures of_input { IfErr result (IsOf which) }
 {
     let bytes = bytes_from(alloc, input, which)?;
@@ -89,6 +92,7 @@ pub(crate) fn bytes_from<I: Input>(
     ensures unread { IfErr result (IsUnread which) }
     ensures device { (result ≡ Err (RunFault.Device which)) ↔ (I.failed input.old < I.failed input.new) }
     ensures once { CountsAtMostOne (I.failed input.old) (I.failed input.new) }
+    ensures same { I.origin input.new ≡ I.origin input.old }
 {
     match read_all(alloc, input) {
         Ok(bytes) => Ok(bytes),

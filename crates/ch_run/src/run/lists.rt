@@ -48,6 +48,8 @@ pub(crate) fn lists_from<J: Input, L: Input>(
     ensures targets_once { CountsAtMostOne (L.failed targets.old) (L.failed targets.new) }
     ensures targets_unread { (targets.new ≡ targets.old)
         ⊎ (GoesPast Which.Sources result × AcceptsList (reading J.left sources.old sources.new) graph.now.nodes) }
+    ensures same_sources { J.origin sources.new ≡ J.origin sources.old }
+    ensures same_targets { L.origin targets.new ≡ L.origin targets.old }
 {
     let sources = nodes_from(alloc, sources, graph, Which::Sources)?;
     let targets = nodes_from(alloc, targets, graph, Which::Targets)?;

@@ -7,7 +7,7 @@ ghost use Rattle.ch_hierarchy.specs.Kept.{IsKept};
 ghost use Rattle.ch_contract.specs.Legs.{IsHopBound};
 ghost use Rattle.ch_text.specs.Device.{CanCountOneMore, CountsAtMostOne};
 ghost use Rattle.ch_run.specs.Run.{AcceptsGraph, GoesPast, IsGraphRefused, IsOf, Reads, reading};
-ghost use Rattle.ch_run.specs.Source.{AreChecked, AreLoaded, HasCheckRefused, HasSavedRefused, IsOfChecked, IsOfLoading, IsSavedRefused, IsServing, ReadsSaved, ReadsSource, source_failures, source_reading};
+ghost use Rattle.ch_run.specs.Source.{AreChecked, AreLoaded, HasCheckRefused, HasSavedRefused, IsOfChecked, IsOfLoading, IsSavedRefused, IsServing, ReadsSaved, ReadsSource, source_failures, source_origin, source_reading};
 
 use super::inputs::{bytes_from, graph_from};
 use crate::fault::{RunFault, Which};
@@ -48,6 +48,8 @@ pub(crate) fn loaded_from<R: Threads + Sync, I: Input, S: Input + Drop, G: Gate>
     ensures own { IfErr result (IsOfLoading (source_reading S.left source.old source.new)) }
     ensures graph { Reads Which.Graph result I.left I.failed graph.old graph.new IsGraphRefused }
     ensures source { ReadsSource (reading I.left graph.old graph.new) result S.left S.failed source.old source.new }
+    ensures same_graph { I.origin graph.new ≡ I.origin graph.old }
+    ensures same_source { source_origin S.origin source.new ≡ source_origin S.origin source.old }
 {
     match source {
         Source::Built => {
@@ -93,6 +95,8 @@ fn checked_from<R: Threads + Sync, I: Input, S: Input, G: Gate>(
     ensures saved_once { CountsAtMostOne (S.failed saved.old) (S.failed saved.new) }
     ensures saved_unread { (saved.new ≡ saved.old)
         ⊎ (GoesPast Which.Graph result × AcceptsGraph (reading I.left graph.old graph.new)) }
+    ensures same_graph { I.origin graph.new ≡ I.origin graph.old }
+    ensures same_saved { S.origin saved.new ≡ S.origin saved.old }
 {
     crew.gate.watch(Stage::Reading, 0, 2);
     let graph = graph_from(crew, graph)?;
@@ -159,6 +163,7 @@ fn saved_from<R: Threads + Sync, S: Input, G: Gate>(
     ensures refused { (fault : FaultAt) → result ≡ Err (RunFault.Read Which.Saved fault) → IsSavedRefused (reading S.left input.old input.new) graph.now.nodes fault }
     ensures device { (result ≡ Err (RunFault.Device Which.Saved)) ↔ (S.failed input.old < S.failed input.new) }
     ensures once { CountsAtMostOne (S.failed input.old) (S.failed input.new) }
+    ensures same { S.origin input.new ≡ S.origin input.old }
     ensures of_input { IfErr result (IsOf Which.Saved) }
     ensures unchecked { (fault : FaultOf) → result ≡ Err (RunFault.Check fault) → ⊥ }
 {

@@ -5,9 +5,9 @@ ghost use Rattle.ch_contract.specs.Legs.{IsHopBound};
 ghost use Rattle.ch_hierarchy.specs.Kept.{IsKept};
 ghost use Rattle.ch_text.specs.Device.{CanCountOneMore};
 ghost use Rattle.ch_run.specs.declared.source.Source.TheVariants as SourceOf;
-ghost use Rattle.ch_run.specs.NearRun.{AcceptsNearSources, AcceptsNodeLists, AreNodeLists, HasNearTargetsRefused, IsNearBy, IsOfNear, ReadsSources, sources_failures, sources_reading};
+ghost use Rattle.ch_run.specs.NearRun.{AcceptsNearSources, AcceptsNodeLists, AreNodeLists, HasNearTargetsRefused, IsNearBy, IsOfNear, ReadsSources, sources_failures, sources_origin, sources_reading};
 ghost use Rattle.ch_run.specs.Run.{Delivers, IsGraphRefused, Reads, ReadsAfter, WritesAfter, reading};
-ghost use Rattle.ch_run.specs.Source.{AcceptsLoaded, ReadsSource, source_failures, source_reading};
+ghost use Rattle.ch_run.specs.Source.{AcceptsLoaded, ReadsSource, source_failures, source_origin, source_reading};
 ghost use Rattle.ch_run.specs.TableRun.{HasSourcesRefused};
 ghost use Rattle.ch_run.specs.Text.{IsNearTextFor};
 
@@ -93,6 +93,12 @@ pub fn run_near<
         (AcceptsNodeLists (reading I.left graph.old graph.new) (source_reading S.left source.old source.new)
         (sources_reading J.left sources.old sources.new) (reading L.left targets.old targets.new))
         result O.failed O.idle output.old output.new }
+
+    // Each input is still the one that it was.
+    ensures same_graph { I.origin graph.new ≡ I.origin graph.old }
+    ensures same_source { source_origin S.origin source.new ≡ source_origin S.origin source.old }
+    ensures same_sources { sources_origin J.origin sources.new ≡ sources_origin J.origin sources.old }
+    ensures same_targets { L.origin targets.new ≡ L.origin targets.old }
 {
     let loaded = loaded_from(crew, graph, source)?;
     let lists = node_lists_from(crew.alloc, sources, targets, &loaded.graph)?;

@@ -3,7 +3,7 @@ ghost use Rattle.std.specs.Prelude.{◌≡◌, ◌<◌, ◌↔◌, ◌⊎◌, []
 ghost use Rattle.ch_read.specs.declared.fault.ReadFault.{ReadFault as FaultAt};
 ghost use Rattle.ch_text.specs.Device.{CanCountOneMore, CountsAtMostOne};
 ghost use Rattle.ch_run.specs.Lists.{AcceptsList, HaveTargetsRefused};
-ghost use Rattle.ch_run.specs.NearRun.{AcceptsAnySources, AreNodeLists, HaveNearTargetsRefused, IsOfNodeLists, ReadsNodeLists, ReadsSources, sources_failures, sources_reading};
+ghost use Rattle.ch_run.specs.NearRun.{AcceptsAnySources, AreNodeLists, HaveNearTargetsRefused, IsOfNodeLists, ReadsNodeLists, ReadsSources, sources_failures, sources_origin, sources_reading};
 ghost use Rattle.ch_text.specs.NearText.{nodes_in_order};
 ghost use Rattle.ch_run.specs.Run.{GoesPast, IsListRefused, IsOf, ReadsAfter, ReadsNodes, reading};
 
@@ -33,6 +33,8 @@ pub(crate) fn node_lists_from<J: Input + Drop, L: Input>(
     ensures targets { ReadsAfter (Which.Sources ∷ []) (AcceptsAnySources (sources_reading J.left sources.old sources.new) graph.now.nodes)
         Which.Targets result L.left L.failed targets.old targets.new
         (λ list. HaveNearTargetsRefused (sources_reading J.left sources.old sources.new) list graph.now.nodes) }
+    ensures same_sources { sources_origin J.origin sources.new ≡ sources_origin J.origin sources.old }
+    ensures same_targets { L.origin targets.new ≡ L.origin targets.old }
 {
     match sources {
         Sources::All => all_nodes_and(alloc, targets, graph),
@@ -66,6 +68,8 @@ fn listed_and<J: Input, L: Input>(
     ensures targets_once { CountsAtMostOne (L.failed targets.old) (L.failed targets.new) }
     ensures targets_unread { (targets.new ≡ targets.old)
         ⊎ (GoesPast Which.Sources result × AcceptsList (reading J.left sources.old sources.new) graph.now.nodes) }
+    ensures same_sources { J.origin sources.new ≡ J.origin sources.old }
+    ensures same_targets { L.origin targets.new ≡ L.origin targets.old }
 {
     let sources = nodes_from(alloc, sources, graph, Which::Sources)?;
     let targets = nodes_from(alloc, targets, graph, Which::Targets)?;
@@ -81,6 +85,7 @@ fn all_nodes_and<L: Input>(alloc: Global, targets: &mut L, graph: &Graph) -> Res
     ensures refused { (fault : FaultAt) → result ≡ Err (RunFault.Read Which.Targets fault) → IsListRefused (reading L.left targets.old targets.new) graph.now.nodes fault }
     ensures device { (result ≡ Err (RunFault.Device Which.Targets)) ↔ (L.failed targets.old < L.failed targets.new) }
     ensures once { CountsAtMostOne (L.failed targets.old) (L.failed targets.new) }
+    ensures same { L.origin targets.new ≡ L.origin targets.old }
     ensures of_input { IfErr result (IsOf Which.Targets) }
 {
     let targets = nodes_from(alloc, targets, graph, Which::Targets)?;

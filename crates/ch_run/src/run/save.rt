@@ -1,5 +1,5 @@
 //! Runs that save the hierarchy of a graph.
-ghost use Rattle.std.specs.Prelude.{IfErr};
+ghost use Rattle.std.specs.Prelude.{◌≡◌, IfErr};
 ghost use Rattle.ch_contract.specs.Legs.{IsHopBound};
 ghost use Rattle.ch_text.specs.Device.{CanCountOneMore};
 ghost use Rattle.ch_run.specs.Run.{AcceptsGraph, Delivers, IsGraphRefused, Reads, WritesAfter, reading};
@@ -46,6 +46,9 @@ pub fn run_save<R: Threads + Sync, I: Input, O: Output, G: Gate>(
     ensures own { IfErr result IsOfSave }
     ensures graph { Reads Which.Graph result I.left I.failed graph.old graph.new IsGraphRefused }
     ensures output { WritesAfter (AcceptsGraph (reading I.left graph.old graph.new)) result O.failed O.idle output.old output.new }
+
+    // The graph is still the input that it was.
+    ensures same_graph { I.origin graph.new ≡ I.origin graph.old }
 {
     crew.gate.watch(Stage::Reading, 0, 1);
     let graph = graph_from(crew, graph)?;

@@ -8,7 +8,7 @@ ghost use Rattle.ch_text.specs.TableText.{IsTableText};
 ghost use Rattle.ch_run.specs.declared.source.Source.TheVariants as SourceOf;
 ghost use Rattle.ch_run.specs.Lists.{AreLists};
 ghost use Rattle.ch_run.specs.Run.{Delivers, IsGraphRefused, Reads, ReadsAfter, WritesAfter, reading};
-ghost use Rattle.ch_run.specs.Source.{AcceptsLoaded, ReadsSource, source_failures, source_reading};
+ghost use Rattle.ch_run.specs.Source.{AcceptsLoaded, ReadsSource, source_failures, source_origin, source_reading};
 ghost use Rattle.ch_run.specs.TableRun.{AcceptsLists, AcceptsSources, HasCellsRefused, HasSourcesRefused, HasTargetsRefused, IsOfTable, IsTabledBy};
 
 use super::lists::{Lists, lists_from};
@@ -90,6 +90,12 @@ pub fn run_table<
         (AcceptsLists (reading I.left graph.old graph.new) (source_reading S.left source.old source.new)
         (reading J.left sources.old sources.new) (reading L.left targets.old targets.new))
         result O.failed O.idle output.old output.new }
+
+    // Each input is still the one that it was.
+    ensures same_graph { I.origin graph.new ≡ I.origin graph.old }
+    ensures same_source { source_origin S.origin source.new ≡ source_origin S.origin source.old }
+    ensures same_sources { J.origin sources.new ≡ J.origin sources.old }
+    ensures same_targets { L.origin targets.new ≡ L.origin targets.old }
 {
     let loaded = loaded_from(crew, graph, source)?;
     let lists = lists_from(crew.alloc, sources, targets, &loaded.graph)?;

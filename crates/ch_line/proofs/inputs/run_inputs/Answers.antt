@@ -1,7 +1,10 @@
-use Rattle.std.proofs.Common.{refl}
+use Rattle.std.proofs.Common.{[], ◌∷◌, ◌++◌, refl}
 use Rattle.std.proofs.lemmas.Result.{IfErr-weaker}
 use Rattle.std.proofs.Math.Logic.{⊎_map}
-use Rattle.ch_line.proofs.Unread.{hierarchy-unread, near-unread, queries-unread, requests-unread, table-unread}
+use Rattle.ch_run.specs.declared.fault.Which.{Which}
+use Rattle.ch_run.specs.NearRun.{listed_in}
+use Rattle.ch_line.specs.Inputs.{AreRead, input_if}
+use Rattle.ch_line.proofs.Read.{source-read, source-unread, sources-read}
 use Rattle.ch_line.proofs.Whole.{answered-whole, cells-refused, delivers-weaker, err-weaker, list-refused, loading-whole, near-refused, near-whole, node-lists-whole, none-refused, queries-refused, saved-refused, saved-whole, served-whole, source-whole, sources-refused, sources-whole, tabled-whole, targets-refused, to-whole}
 use Rattle.ch_line.proofs.inputs.run_inputs.Goals as goal
 
@@ -26,10 +29,17 @@ returns-in-Queries-clause-ends g c =
       asked_refused = λ fault same. queries-refused _ _ _ _ whole _ _ fault (e.queries.reads.refused fault same);
     })
 
-pub returns-in-Queries-clause-unread : goal.returns-in-Queries-clause-unread
-returns-in-Queries-clause-unread g c =
+pub returns-in-Queries-clause-read : goal.returns-in-Queries-clause-read
+returns-in-Queries-clause-read g c =
     let e = c.run_dist.ensures in
-    rw c.in-Queries.is (queries-unread _ _ c.run_dist.result _ _ _ e.graph.once.device.0 _ _ e.source _ _ e.own e.queries.reads.once.device.0)
+    let old = (Which.Queries, c.in-Queries.queries) ∷ [] in
+    let new = (Which.Queries, c.run_dist.new.queries) ∷ [] in
+    let queries : AreRead g.I.Input.origin g.I.Input.failed c.run_dist.result old new = (refl, record { same = e.same_queries; once = e.queries.reads.once }, tt) in
+    rw c.in-Queries.is (
+      refl,
+      record { same = e.same_graph; once = e.graph.once },
+      source-read g.I.Input.left g.I.Input.origin g.I.Input.failed c.run_dist.result old new queries _ c.args.inputs.now.source c.run_dist.new.source e.source e.same_source,
+    )
 
 pub returns-in-Table-clause-written : goal.returns-in-Table-clause-written
 returns-in-Table-clause-written g c =
@@ -56,10 +66,18 @@ returns-in-Table-clause-ends g c =
       };
     })
 
-pub returns-in-Table-clause-unread : goal.returns-in-Table-clause-unread
-returns-in-Table-clause-unread g c =
+pub returns-in-Table-clause-read : goal.returns-in-Table-clause-read
+returns-in-Table-clause-read g c =
     let e = c.run_table.ensures in
-    rw c.in-Table.is (table-unread _ _ c.run_table.result _ _ _ e.graph.once.device.0 _ _ e.source _ _ _ _ e.own e.sources.reads.once.device.0 e.targets.reads.once.device.0)
+    let old = (Which.Sources, c.in-Table.from) ∷ (Which.Targets, c.in-Table.to) ∷ [] in
+    let new = (Which.Sources, c.run_table.new.sources) ∷ (Which.Targets, c.run_table.new.targets) ∷ [] in
+    let lists : AreRead g.I.Input.origin g.I.Input.failed c.run_table.result old new =
+    (refl, record { same = e.same_sources; once = e.sources.reads.once }, (refl, record { same = e.same_targets; once = e.targets.reads.once }, tt)) in
+    rw c.in-Table.is (
+      refl,
+      record { same = e.same_graph; once = e.graph.once },
+      source-read g.I.Input.left g.I.Input.origin g.I.Input.failed c.run_table.result old new lists _ c.args.inputs.now.source c.run_table.new.source e.source e.same_source,
+    )
 
 pub returns-in-Near-clause-written : goal.returns-in-Near-clause-written
 returns-in-Near-clause-written g c =
@@ -87,10 +105,20 @@ returns-in-Near-clause-ends g c =
       };
     })
 
-pub returns-in-Near-clause-unread : goal.returns-in-Near-clause-unread
-returns-in-Near-clause-unread g c =
+pub returns-in-Near-clause-read : goal.returns-in-Near-clause-read
+returns-in-Near-clause-read g c =
     let e = c.run_near.ensures in
-    rw c.in-Near.is (near-unread _ _ c.run_near.result _ _ _ e.graph.once.device.0 _ _ e.source _ _ _ _ _ _ _ e.own e.sources e.targets.reads.once.device.0)
+    let target = (Which.Targets, c.in-Near.to) ∷ [] in
+    let target-new = (Which.Targets, c.run_near.new.targets) ∷ [] in
+    let targets : AreRead g.I.Input.origin g.I.Input.failed c.run_near.result target target-new = (refl, record { same = e.same_targets; once = e.targets.reads.once }, tt) in
+    let lists = sources-read g.I.Input.left g.I.Input.origin g.I.Input.failed c.run_near.result target target-new targets _ _ _ c.in-Near.from c.run_near.new.sources e.sources e.same_sources in
+    let old = input_if Which.Sources (listed_in c.in-Near.from) ++ target in
+    let new = input_if Which.Sources (listed_in c.run_near.new.sources) ++ target-new in
+    rw c.in-Near.is (
+      refl,
+      record { same = e.same_graph; once = e.graph.once },
+      source-read g.I.Input.left g.I.Input.origin g.I.Input.failed c.run_near.result old new lists _ c.args.inputs.now.source c.run_near.new.source e.source e.same_source,
+    )
 
 pub returns-in-Hierarchy-clause-written : goal.returns-in-Hierarchy-clause-written
 returns-in-Hierarchy-clause-written g c =
@@ -111,13 +139,17 @@ returns-in-Hierarchy-clause-ends g c =
       asked_refused = tt;
     })
 
-pub returns-in-Hierarchy-clause-unread : goal.returns-in-Hierarchy-clause-unread
-returns-in-Hierarchy-clause-unread g c =
+pub returns-in-Hierarchy-clause-read : goal.returns-in-Hierarchy-clause-read
+returns-in-Hierarchy-clause-read g c =
     let e = c.run_save.ensures in
-    rw c.in-Hierarchy.is (hierarchy-unread _ c.run_save.result _ _ _ e.own e.graph.once.device.0)
+    rw c.in-Hierarchy.is (
+      refl,
+      record { same = e.same_graph; once = e.graph.once },
+      source-unread g.I.Input.origin g.I.Input.failed c.run_save.result [] [] tt e.own c.args.inputs.now.source,
+    )
 
-pub returns-clause-written : goal.returns-clause-written
-returns-clause-written g c =
+pub returns-in-Requests-clause-written : goal.returns-in-Requests-clause-written
+returns-in-Requests-clause-written g c =
     let e = c.run_ask.ensures in
     let whole = source-whole _ _ _ _ _ _ e.source in
     rw c.in-Requests.is (record {
@@ -125,8 +157,8 @@ returns-clause-written g c =
       device = e.requests.device;
     })
 
-pub returns-clause-ends : goal.returns-clause-ends
-returns-clause-ends g c =
+pub returns-in-Requests-clause-ends : goal.returns-in-Requests-clause-ends
+returns-in-Requests-clause-ends g c =
     let e = c.run_ask.ensures in
     let whole = source-whole _ _ _ _ _ _ e.source in
     rw c.in-Requests.is (record {
@@ -136,7 +168,11 @@ returns-clause-ends g c =
       asked_refused = tt;
     })
 
-pub returns-clause-unread : goal.returns-clause-unread
-returns-clause-unread g c =
+pub returns-in-Requests-clause-read : goal.returns-in-Requests-clause-read
+returns-in-Requests-clause-read g c =
     let e = c.run_ask.ensures in
-    rw c.in-Requests.is (requests-unread _ _ c.run_ask.result _ _ _ e.graph.once.device.0 _ _ e.source e.own)
+    rw c.in-Requests.is (
+      refl,
+      record { same = e.same_graph; once = e.graph.once },
+      source-read g.I.Input.left g.I.Input.origin g.I.Input.failed c.run_ask.result [] [] tt _ c.args.inputs.now.source c.run_ask.new.source e.source e.same_source,
+    )

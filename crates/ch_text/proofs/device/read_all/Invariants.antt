@@ -6,6 +6,7 @@ abbrev pub invariant-loop-bytes : goal.invariant-loop-bytes
 invariant-loop-bytes g l = record {
   room : 0 < vec_len l.buffer;
   failed : g.I.Input.failed l.input ≡ g.I.Input.failed l.initial.input;
+  same : g.I.Input.origin l.input ≡ g.I.Input.origin l.initial.input;
   given : GivenSoFar (g.I.Input.left l.initial.input) (g.I.Input.left l.input) l.bytes.items;
 }
 

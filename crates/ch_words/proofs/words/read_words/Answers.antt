@@ -8,7 +8,7 @@ use Rattle.ch_words.proofs.words.read_words.Goals as goal
 
 pub returns-in-Err-clause-fault : goal.returns-in-Err-clause-fault
 returns-in-Err-clause-fault c =
-    fault-told _ _ _ c.fault_of.ensures
+    fault-told _ _ _ c.fault_of.ensures.kind
     (of-faults (λ kinds. HasKind kinds c.in-Err.error) _ _ c.in_ok-command.ensures c.in-Err.ensures.kinds)
 
 pub returns-clause-read : goal.returns-clause-read

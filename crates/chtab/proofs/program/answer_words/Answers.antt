@@ -12,7 +12,7 @@ returns-in-Ok g c =
         written = run.written;
         missing = run.missing;
         ends = run.ends;
-        unread = run.unread;
+        used = run.files;
         requests_once = run.requests_once;
         output = run.output;
       },
