@@ -2,8 +2,6 @@
 //! in a module of their own.
 mod alone;
 
-pub use alone::build_alone;
-
 ghost use Rattle.std.specs.Prelude.{◌≡◌, ◌<◌, ◌≤◌, ◌++◌, IfOk, OnOk, map};
 ghost use Rattle.ch_graph.specs.Graph.{IsWithinLimits};
 ghost use Rattle.ch_contract.specs.Legs.{IsHopBound};
@@ -16,6 +14,7 @@ use crate::priority::{PriorityJob, opening_queue};
 use crate::remaining::{BothRows, Remaining};
 use crate::room::Room;
 use crate::rounds::contract_by_rounds;
+pub use alone::build_alone;
 use ch_graph::Graph;
 use ch_hierarchy::Hierarchy;
 use ch_queue::KeyQueue;
