@@ -167,6 +167,23 @@ def nodes_are_those_of_the_network():
         raises(ValueError, network._engine.tables, [([1], [4])], told="not from 1 to 3")
 
 
+def a_hierarchy_is_built_where_none_is_saved():
+    """By the library too: its distances, cells and routes are those of the program, and its text is that of the order by depth."""
+    from chtab import library
+
+    ends = [(1 + 37 * place % 3154, 1 + 101 * place % 3154) for place in range(300)]
+    answers = []
+    for way in False, make():
+        with chtab.Network.open(GRAPH, program=PROGRAM, library=way) as network:
+            assert is_by_library(network) == (way is not False)
+            cells = network.table(*([node for node, _ in ends[:20]],) * 2)
+            answers.append((list(network.distances(ends)), [list(row) for row in cells], [getattr(route, "nodes", None) for route in network.routes(ends[:50])]))
+    assert answers[0] == answers[1]
+    built = library.Handle(library.loaded(make()))
+    built.open(pathlib.Path(GRAPH).read_bytes())
+    assert built.save() == subprocess.run([PROGRAM, "save", "--deep", GRAPH], capture_output=True, check=True).stdout
+
+
 def faults_are_told_as_by_the_program():
     """Of graphs and hierarchies: one text and one status by both ways, and by the library the line or the place, and the kind."""
     graph, saved = FIRST.read_text(), FIRST_SAVED.read_text()
@@ -433,9 +450,11 @@ def it_is_taken_where_it_fits():
         assert is_by_library(chtab.Network.from_arrays([1, 2], [2, 3], [4, 5], program=program)), program
         assert not is_by_library(chtab.Network.open(FIRST, saved=FIRST_SAVED, program=program, timeout=5))
         assert is_by_library(chtab.Network.open(FIRST, saved=FIRST_SAVED, program=program, timeout=5, library=True))
-        for more, told in ({}, "saved hierarchy"), ({"saved": FIRST_SAVED, "workers": 2}, "workers"):
-            assert not is_by_library(chtab.Network.open(FIRST, program=program, **more))
-            raises(chtab.ChtabError, lambda: chtab.Network.open(FIRST, program=program, library=True, **more), told=told)
+        assert not is_by_library(chtab.Network.open(FIRST, program=program))
+        assert is_by_library(chtab.Network.open(FIRST, program=program, library=True))
+        two = {"saved": FIRST_SAVED, "workers": 2, "program": program}
+        assert not is_by_library(chtab.Network.open(FIRST, **two))
+        raises(chtab.ChtabError, lambda: chtab.Network.open(FIRST, **two, library=True), told="workers")
     first = {"saved": FIRST_SAVED, "program": PROGRAM}
     assert not is_by_library(chtab.Network.open(FIRST, **first))
     raises(chtab.ChtabError, lambda: chtab.Network.open(FIRST, **first, library=True), told="`packaging/library` makes it")
@@ -478,7 +497,7 @@ GROUPS = (
         ("python3-numpy",),
         [
             numbers_are_those_of_the_header, calls_are_those_of_the_header, what_c_would_misread_is_refused, nodes_are_those_of_the_network,
-            faults_are_told_as_by_the_program, a_closed_handle_answers_nothing, each_thread_has_a_handle,
+            a_hierarchy_is_built_where_none_is_saved, faults_are_told_as_by_the_program, a_closed_handle_answers_nothing, each_thread_has_a_handle,
             near_rows_of_threads_have_handles_of_their_own, near_rows_come_in_portions, threads_ask_while_it_is_closed,
             a_forked_process_opens_it_anew, the_end_of_the_interpreter_waits_for_nothing, what_is_dropped_is_freed,
             routes_of_another_graph_are_found_out, it_is_taken_where_it_fits, another_library_is_not_taken,

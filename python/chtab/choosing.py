@@ -15,12 +15,12 @@ def engine_of(setting, choice, graph):
     setting : engine.Setting
         The files, and how the program would run.
     choice : bool or str
-        True, or the path of the library: the library, and an error where it doesn't fit. False: the program. "auto": the library where it fits
-        and no time is set, because only a run can be ended at once.
+        True, or the path of the library: the library, and an error where it doesn't fit. False: the program. "auto": the library where it fits,
+        no time is set, and a saved hierarchy is given. Only a run can be ended at once, also while it builds.
     graph : call
         What `files.read_graph` gives of the graph, when it is first needed.
     """
-    if choice is False or choice == AUTO and setting.timeout is not None:
+    if choice is False or choice == AUTO and (setting.timeout is not None or setting.saved is None):
         return engine.Engine(setting)
     path = library.beside(setting.program) if choice in (AUTO, True) else choice
     lack = lack_of(setting, path)
@@ -32,17 +32,15 @@ def engine_of(setting, choice, graph):
 
 
 def fits(program, saved, workers):
-    """Whether the library stands beside a program, and can answer for a network in the way that runs would have these options."""
+    """Whether the library stands beside a program, and answers for a network with a saved hierarchy as runs with these options would."""
     setting = engine.Setting(program_of(program), "", saved, workers)
-    return lack_of(setting, library.beside(setting.program)) is None
+    return saved is not None and lack_of(setting, library.beside(setting.program)) is None
 
 
 def lack_of(setting, path):
     """Why the library does not fit a setting, None where it does."""
     if path is None:
         return f"there is no {library.NAME} beside the program {setting.program}, or it is older than the sources; `packaging/library` makes it"
-    if setting.saved is None:
-        return "it opens a graph by its saved hierarchy; give `saved`, which `chtab save` writes"
     if setting.workers != 1:
         return "it starts no threads, and a call has one worker; leave `workers` out, and ask from threads of your own"
     try:

@@ -37,6 +37,11 @@ class OfThread(threading.local):
     handle, deadline = None, Deadline(None)
 
 
+def files_of(setting):
+    """The files that the library opens: the graph, and the saved hierarchy if there is one."""
+    return [path for path in (setting.graph, setting.saved) if path is not None]
+
+
 class InProcess:
     """Answers as `engine.Engine` gives them, by the library. Calls may come from several threads, and from processes that were forked.
 
@@ -47,7 +52,7 @@ class InProcess:
     """
 
     def __init__(self, setting, calls, graph):
-        for path in setting.graph, setting.saved:
+        for path in files_of(setting):
             open(path, "rb").close()
         self.setting, self.calls, self.graph, self.stamps = setting, calls, graph, setting.stamps()
         self.nodes, self.is_closed, self.arcs = files.count_nodes(setting.graph), False, None
@@ -77,7 +82,7 @@ class InProcess:
     def opened(self):
         """The first handle."""
         contents = []
-        for path in self.setting.graph, self.setting.saved:
+        for path in files_of(self.setting):
             with open(path, "rb") as file:
                 contents.append(file.read())
         # Looked at behind the files: what was read is what was there at first.

@@ -157,13 +157,19 @@ class Handle:
     def __reduce__(self):
         raise TypeError("a handle is neither copied nor pickled")
 
-    def open(self, graph, saved):
-        """Opens the network of a graph and its saved hierarchy, the bytes of both files. What is wrong with them is a `ProgramFault`."""
-        if type(graph) is not bytes or type(saved) is not bytes:
+    def open(self, graph, saved=None):
+        """Opens the network of a graph and its saved hierarchy, the bytes of both files. Without `saved` the library builds a hierarchy by depth.
+
+        What is wrong with the files is a `ProgramFault`.
+        """
+        if type(graph) is not bytes or saved is not None and type(saved) is not bytes:
             raise TypeError("files are bytes")
-        fault = Fault()
+        # The library builds a hierarchy if it gets no bytes. An empty file is a fault, so the library gets a line that no file may have.
+        given, fault = b"" if saved is None else saved or b"\n", Fault()
         with self.lock:
-            status = self.calls.chtab_open(self.at, graph, len(graph), saved, len(saved), ctypes.byref(fault))
+            status = self.calls.chtab_open(self.at, graph, len(graph), given, len(given), ctypes.byref(fault))
+        if status == BAD_SAVED and not saved:
+            fault.kind = KINDS.index("no problem line")
         if status:
             raise fault_of(status, fault)
 

@@ -74,10 +74,10 @@ class Network(BetweenPlaces, Accessibility):
             everything: the first route ends a run that tells no routes, and begins one that does. With more there is one for distances and
             tables, one for routes, and one for tables within limits up to each power of two, whose searches end at the limit.
         library : "auto", bool or path
-            Whether the library for C answers in this process, and no run of the program: sooner, above all one question at a time. It opens a
-            graph by its saved hierarchy, and has one worker. "auto", as it is where this is not given: where it fits, `timeout` is not given,
-            and `libchtab.so.1` stands beside the program. True, or the path of the library: it answers, or an error says why it can't. False:
-            a run of the program, in a process apart, which can be ended at any time.
+            Whether the library for C answers in this process, and no run of the program: sooner, above all one question at a time. It has one
+            worker. "auto", as it is where this is not given: where it fits, `saved` is given, `timeout` is not, and `libchtab.so.1` stands
+            beside the program. True, or the path of the library: it answers, or an error says why it can't. Without `saved` it builds the
+            hierarchy, and nothing can break that off. False: a run of the program, in a process apart, which can be ended at any time.
 
         Returns
         -------
