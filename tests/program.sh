@@ -518,18 +518,41 @@ expect_worked "of two nodes where paths meet the lesser is taken" "p sp 4 4,a 1 
 expect_worked "at weight 0 the fewest arcs are taken" "p sp 3 3,a 1 2 0,a 2 3 0,a 1 3 0" "p aux sp p2p 1,q 1 3" \
   "d 1 3 0,r 1,a 1 3 0" "p ch 3 3,o 1,o 2,o 3,l 1 2 0 1 0,l 1 3 0 1 0,l 2 3 0 1 0"
 expect_worked "no node repeats" "p sp 4 4,a 1 2 0,a 2 3 0,a 3 1 0,a 3 4 2" "p aux sp p2p 1,q 1 4" \
-  "d 1 4 2,r 3,a 1 2 0,a 2 3 0,a 3 4 2" "p ch 4 5,o 1,o 2,o 3,o 4,l 1 2 0 1 0,l 3 1 0 1 0,l 2 3 0 1 0,l 3 2 0 2 1,l 3 4 2 1 0"
+  "d 1 4 2,r 3,a 1 2 0,a 2 3 0,a 3 4 2" "p ch 4 5,o 1,o 2,o 3,o 4,l 1 2 0 1 0,l 3 1 0 1 0,l 2 3 0 1 0,l 3 2 0 2 1,l 3 4 2 1 0" \
+  "p ch 4 5,o 4,o 1,o 2,o 3,l 3 4 2 1 0,l 1 2 0 1 0,l 3 1 0 1 0,l 2 3 0 1 0,l 3 2 0 2 1"
 expect_worked "the fewer arcs win over the lesser number" "p sp 5 5,a 1 5 0,a 5 3 0,a 1 2 0,a 2 4 0,a 4 3 0" "p aux sp p2p 1,q 1 3" \
-  "d 1 3 0,r 2,a 1 5 0,a 5 3 0"
+  "d 1 3 0,r 2,a 1 5 0,a 5 3 0" "p ch 5 5,o 1,o 3,o 2,o 4,o 5,l 1 2 0 1 0,l 1 5 0 1 0,l 4 3 0 1 0,l 5 3 0 1 0,l 2 4 0 1 0"
+around="p ch 5 5,o 1,o 3,o 4,o 2,o 5,l 1 2 1 1 0,l 1 4 0 1 0,l 2 3 1 1 0,l 5 3 0 1 0,l 4 5 0 1 0"
 expect_worked "a way around at weight 0" "p sp 5 5,a 1 2 1,a 2 3 1,a 1 4 0,a 4 5 0,a 5 3 0" "p aux sp p2p 1,q 1 3" \
-  "d 1 3 0,r 3,a 1 4 0,a 4 5 0,a 5 3 0" "p ch 5 5,o 1,o 3,o 4,o 2,o 5,l 1 2 1 1 0,l 1 4 0 1 0,l 2 3 1 1 0,l 5 3 0 1 0,l 4 5 0 1 0"
+  "d 1 3 0,r 3,a 1 4 0,a 4 5 0,a 5 3 0" "$around"
 for hops in 2 3; do
   expect "a way around, at most $hops hops" 0 $'d 1 3 0\nr 3\na 1 4 0\na 4 5 0\na 5 3 0' "" dist --routes --hops $hops worked.gr worked.p2p
+  expect "a way around, at most $hops hops, saved" 0 "${around//,/$'\n'}" "" save --hops $hops worked.gr
 done
 expect_worked "a ring" "p sp 5 5,a 1 2 1,a 2 3 1,a 3 4 1,a 4 5 1,a 5 1 1" "p aux sp p2p 4,q 5 4,q 1 5,q 3 2,q 2 2" \
   "d 5 4 4,r 4,a 5 1 1,a 1 2 1,a 2 3 1,a 3 4 1,d 1 5 4,r 4,a 1 2 1,a 2 3 1,a 3 4 1,a 4 5 1,d 3 2 4,r 4,a 3 4 1,a 4 5 1,a 5 1 1,a 1 2 1,d 2 2 0,r 0" \
   "p ch 5 8,o 1,o 2,o 3,o 4,o 5,l 1 2 1 1 0,l 5 1 1 1 0,l 2 3 1 1 0,l 5 2 2 2 1,l 3 4 1 1 0,l 5 3 3 3 2,l 4 5 1 1 0,l 5 4 4 4 3" \
   "p ch 5 8,o 1,o 3,o 2,o 4,o 5,l 1 2 1 1 0,l 5 1 1 1 0,l 3 4 1 1 0,l 2 3 1 1 0,l 2 4 2 2 3,l 5 2 2 2 1,l 4 5 1 1 0,l 5 4 4 4 2"
+# Each arc is light, and each shortcut heavy: a search for witnesses then goes over from words to pairs.
+arc=$((1 << 29))
+expect_worked "a heavy ring" "p sp 5 5,a 1 2 $arc,a 2 3 $arc,a 3 4 $arc,a 4 5 $arc,a 5 1 $arc" "p aux sp p2p 1,q 2 2" "d 2 2 0,r 0" \
+  "p ch 5 8,o 1,o 2,o 3,o 4,o 5,l 1 2 $arc 1 0,l 5 1 $arc 1 0,l 2 3 $arc 1 0,l 5 2 $((2 * arc)) 2 1,l 3 4 $arc 1 0,l 5 3 $((3 * arc)) 3 2,l 4 5 $arc 1 0,l 5 4 $((4 * arc)) 4 3" \
+  "p ch 5 8,o 1,o 3,o 2,o 4,o 5,l 1 2 $arc 1 0,l 5 1 $arc 1 0,l 3 4 $arc 1 0,l 2 3 $arc 1 0,l 2 4 $((2 * arc)) 2 3,l 5 2 $((2 * arc)) 2 1,l 4 5 $arc 1 0,l 5 4 $((4 * arc)) 4 2"
+# A long way there and back between nodes 1 and 16, a short way around it, and nodes that hang on the short way. Two legs stand for as many arcs
+# together as there are nodes, so they are no shortcut: with it the hierarchy would have 93 legs.
+python3 -c '
+from pathlib import Path
+from helpers.writing import write_graph
+from oracles.rules import hierarchy_text
+arcs = [(19, 1, 1), (1, 20, 1), (16, 18, 1), (18, 16, 1), (19, 17, 1), (17, 23, 0), (23, 20, 0), (19, 21, 0), (21, 22, 0), (22, 23, 0)]
+arcs += [arc for node in range(1, 16) for arc in ((node, node + 1, 1), (node + 1, node, 1))]
+arcs += [arc for node in range(19, 24) for arc in ((2 * node - 14, node, 0), (node, 2 * node - 13, 0))]
+write_graph(Path("long.gr"), 33, arcs)
+Path("long.ch").write_text(hierarchy_text(33, arcs, 3, False))
+'
+expect "a shortcut of too many arcs" 0 "$(cat long.ch)" "" save --hops 3 long.gr
+compare "a shortcut of too many arcs, legs" "p ch 33 91" "$(head -n 1 long.ch)"
+
 expect_worked "one node" "p sp 1 0" "p aux sp p2p 1,q 1 1" "d 1 1 0,r 0" "p ch 1 0,o 1"
 expect_worked "the greatest weight of two nodes" "p sp 2 1,a 1 2 576460752303423488" "p aux sp p2p 1,q 1 2" \
   "d 1 2 576460752303423488,r 1,a 1 2 576460752303423488"

@@ -10,4 +10,15 @@ macro_rules! again {
     };
 }
 
+/// Makes a call that may answer a fault, and makes it a second time if the first answered this refusal.
+macro_rules! again_after {
+    ($refusal:path, $call:expr) => {
+        match $call {
+            Err($refusal) => $call?,
+            answer => answer?,
+        }
+    };
+}
+
 pub(crate) use again;
+pub(crate) use again_after;

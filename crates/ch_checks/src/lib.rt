@@ -1,12 +1,12 @@
 //! Tests of the crates below the runs, through their public calls. They test what no clause says.
 //!
 //! - Calls succeed if there is memory.
-//! - Results have values that were worked out elsewhere, and faults have their texts.
 //! - After a refusal of memory, the values that were lent are usable.
-//! - Workers do pieces at the same time.
+//! - Hierarchies by rounds are those of a separate program.
+//! - Pieces pass the gate as often as they should, and workers do pieces at the same time.
 //!
-//! The crate has only tests, so the crates below are proved once. It stands on ch_contract, ch_engine, ch_graph,
-//! ch_hierarchy, ch_lists, ch_near, ch_query, ch_queue, ch_read, ch_table and ch_work.
+//! The crate has only tests, so the crates below are proved once. It stands on ch_contract, ch_graph, ch_hierarchy,
+//! ch_lists, ch_near, ch_query, ch_queue, ch_read, ch_table, ch_text and ch_work.
 #![tactic(auto)]
 
 #[cfg(test)]
@@ -15,8 +15,6 @@ mod again;
 mod contract;
 #[cfg(test)]
 mod crew;
-#[cfg(test)]
-mod engine;
 #[cfg(test)]
 mod examples;
 #[cfg(test)]

@@ -7,42 +7,6 @@ use std::alloc::AllocError;
 use std::process::Abort;
 use std::test::Fail;
 
-#[test]
-fn lists_change_and_go_on_after_packing(rt: HostRuntime) -> Result<(), Fail> {
-    let mut lists = Lists::with_rooms(rt.alloc(), &[0, 2, 1, 5], 'a')?;
-    assert_eq!(rt; lists.list_count(), 4);
-    for letter in ['e', 'd', 'c', 'b'] {
-        lists.insert(1, 0, letter)?;
-    }
-    lists.insert(2, 0, 'z')?;
-    lists.insert(0, 0, 'g')?;
-    assert_eq!(rt; lists.at(1), ['b', 'c', 'd', 'e'].as_slice());
-    lists.remove(1, 1);
-    lists.hand_over(1, 2);
-    lists.pack()?;
-    assert_eq!(rt; lists.room(), 4);
-    assert_eq!(rt; lists.at(0), ['g'].as_slice());
-    assert_eq!(rt; lists.at(1), [].as_slice());
-    assert_eq!(rt; lists.at(2), ['b', 'd', 'e'].as_slice());
-    lists.insert(1, 0, 'h')?;
-    assert_eq!(rt; lists.at(1), ['h'].as_slice());
-    assert_eq!(rt; lists.at(2), ['b', 'd', 'e'].as_slice());
-    Ok(())
-}
-
-#[test]
-fn the_first_lists_are_skipped(rt: HostRuntime) -> Result<(), Fail> {
-    let mut lists = Lists::with_rooms(rt.alloc(), &[1, 1, 0], 'a')?;
-    lists.insert(0, 0, 'b')?;
-    lists.insert(2, 0, 'c')?;
-    let mut rest = lists.skip(1);
-    assert_eq!(rt; rest.list_count(), 2);
-    rest.insert(0, 0, 'd')?;
-    assert_eq!(rt; rest.at(0), ['d'].as_slice());
-    assert_eq!(rt; rest.at(1), ['c'].as_slice());
-    Ok(())
-}
-
 /// Inserts `value` at the front of a list, a second time if the first call is refused memory. A refusal
 /// leaves the lists as they were.
 fn insert_again<R: Abort>(rt: &R, lists: &mut Lists<u64>, list: u32, value: u64) -> Result<(), Fail>

@@ -76,18 +76,6 @@ fn expect_numbers<R: Threads + Abort + Sync>(
     Ok(())
 }
 
-#[test]
-fn every_plan_gives_the_same_numbers_in_order(rt: HostRuntime) -> Result<(), Fail> {
-    for workers in [1, 2, 64] {
-        for piece in [1, 3, 1000] {
-            for items in [0, 1, 7, 10] {
-                expect_numbers(&rt, rt.alloc(), items, &Plan::new(workers, piece, 64))?;
-            }
-        }
-    }
-    Ok(())
-}
-
 /// A piece that is refused memory ends only its own worker. The other worker does the rest, and the call
 /// answers that memory ran out.
 #[test]

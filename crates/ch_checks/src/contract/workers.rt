@@ -1,33 +1,66 @@
-//! How workers share the work of [`build`]: the pieces that pass the gate, and two pieces at once.
+//! How workers share the work of building: the pieces that pass the gate, and two pieces at once.
 use crate::crew::crew;
-use crate::examples::{STAR, graph};
-use ch_contract::build;
+use crate::examples::STAR;
+use ch_contract::{OrderBy, build_by};
+use ch_read::read_graph;
 use ch_work::{CountingGate, MeetingGate, Plan};
+use std::alloc::Global;
+use std::process::Abort;
 use std::test::Fail;
+use std::thread::Threads;
+
+/// Expects how often each of four pieces passes the gate when the hierarchy of the star is built.
+fn expect_passes<R: Threads + Abort + Sync>(
+    rt: &R,
+    alloc: Global,
+    by: OrderBy,
+    plan: &Plan,
+    expected: [u64; 4],
+) -> Result<(), Fail> {
+    let graph = read_graph(alloc, STAR.0)?;
+    let gate = CountingGate::new(alloc, 4)?;
+    build_by(&crew(rt, alloc, plan, &gate), &graph, 5, by)?;
+    for (piece, count) in expected.iter().enumerate() {
+        assert_eq!(rt; gate.passes(piece as u32), Some(*count), "piece {piece}");
+    }
+    Ok(())
+}
 
 /// The nodes of a star of four nodes have one neighbour, two, one and none when they are contracted.
 #[test]
 fn neighbours_are_shared_where_they_are_many(rt: HostRuntime) -> Result<(), Fail> {
-    let graph = graph(rt.alloc(), STAR.nodes, STAR.arcs)?;
+    let by = OrderBy::Difference;
     for workers in [1, 2, 64] {
         for (wide, expected) in [(1, [4, 2, 1, 1]), (2, [2, 2, 1, 1]), (3, [1, 1, 1, 1])] {
-            let gate = CountingGate::new(rt.alloc(), 4)?;
             let plan = Plan::new(workers, 1, wide);
-            build(&crew(&rt, rt.alloc(), &plan, &gate), &graph, 5)?;
-            for (piece, expected) in (0..4).zip(&expected) {
-                assert_eq!(rt; gate.passes(piece), Some(*expected), "wide {wide}");
-            }
+            expect_passes(&rt, rt.alloc(), by, &plan, expected)?;
         }
+    }
+    Ok(())
+}
+
+/// Of a star the opening has a piece for each node, and so has each job of a round, while at least `wide`
+/// nodes are left.
+#[test]
+fn rounds_are_shared_in_pieces(rt: HostRuntime) -> Result<(), Fail> {
+    for workers in [1, 2, 64] {
+        let plan = Plan::new(workers, 1, 1);
+        expect_passes(&rt, rt.alloc(), OrderBy::Rounds, &plan, [14, 7, 5, 3])?;
     }
     Ok(())
 }
 
 #[test]
 fn two_pieces_at_once(rt: HostRuntime) -> Result<(), Fail> {
-    let graph = graph(rt.alloc(), STAR.nodes, STAR.arcs)?;
+    let graph = read_graph(rt.alloc(), STAR.0)?;
     let gate = MeetingGate::new();
     let plan = Plan::new(2, 1, 64);
-    build(&crew(&rt, rt.alloc(), &plan, &gate), &graph, 5)?;
+    build_by(
+        &crew(&rt, rt.alloc(), &plan, &gate),
+        &graph,
+        5,
+        OrderBy::Difference,
+    )?;
     assert!(rt; gate.has_met());
     Ok(())
 }

@@ -139,20 +139,6 @@ fn run_successors<R: Threads + Sync>(
     )
 }
 
-#[test]
-fn a_list_has_its_values_in_order(rt: HostRuntime) -> Result<(), Fail> {
-    let alloc = rt.alloc();
-    for workers in [1, 2, 64] {
-        for piece in [1, 2, 1000] {
-            let plan = Plan::new(workers, piece, 64);
-            let list = run_successors(&rt, alloc, &[3, 0, 9, 9, 1], &plan)?;
-            assert_eq!(rt; list.as_slice(), [4, 1, 10, 10, 2].as_slice());
-            assert!(rt; run_successors(&rt, alloc, &[], &plan)?.is_empty());
-        }
-    }
-    Ok(())
-}
-
 /// Returns the successors of two lists, in rooms that stay.
 fn in_rooms_that_stay<R: Threads + Sync>(
     rt: &R,
