@@ -35,8 +35,8 @@ fn built<R: Threads + Sync>(
     Ok(again!(save_text(alloc, &hierarchy)))
 }
 
-/// Builds the hierarchy of the graph by several workers and in several pieces, and expects the same text of
-/// each plan.
+/// Builds the hierarchy of the graph with several numbers of workers and sizes of pieces. Expects the same
+/// text of each plan.
 fn expect<R: Threads + Abort + Sync>(
     rt: &R,
     alloc: Global,

@@ -39,8 +39,8 @@ fn neighbours_are_shared_where_they_are_many(rt: HostRuntime) -> Result<(), Fail
     Ok(())
 }
 
-/// Of a star the opening has a piece for each node, and so has each job of a round, while at least `wide`
-/// nodes are left.
+/// On a star the opening has a piece for each node, and each job of a round has a piece for each of its
+/// nodes.
 #[test]
 fn rounds_are_shared_in_pieces(rt: HostRuntime) -> Result<(), Fail> {
     for workers in [1, 2, 64] {

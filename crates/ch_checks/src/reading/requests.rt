@@ -4,7 +4,7 @@ use ch_read::{MOST_LINE, Request, RequestError, RequestReader};
 use std::alloc::{AllocError, Global};
 use std::test::Fail;
 
-/// The next request, asked for a second time if memory was refused the first time.
+/// Asks for the next request, a second time if the first call was refused memory.
 fn next(
     alloc: Global,
     reader: &mut RequestReader,
