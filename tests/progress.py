@@ -53,8 +53,14 @@ FILES = {
     "nodes.gr": "p sp 40 39\n" + "".join(f"a {node} {node + 1} 1\n" for node in range(1, 40)),
     "queries.p2p": "p aux sp p2p 30\n" + "".join(f"q 1 {node}\n" for node in range(1, 31)),
     "list.ss": "p aux sp ss 20\n" + "".join(f"s {node}\n" for node in range(1, 21)),
-    **{f"{nodes}.gr": f"p sp {nodes} 0\n" for nodes in (1, 4_096, 10_000, 1_000_001)},
+    **{f"{nodes}.gr": f"p sp {nodes} 0\n" for nodes in (1, 4_096, 10_000, 65_536, 1_000_001)},
 }
+
+# Runs with many steps, and the nodes that they contract. Two workers build by rounds.
+MANY_STEPS = [
+    *((["save", "--piece", "1048576", f"{nodes}.gr"], nodes) for nodes in (1, 4_096, 10_000, 1_000_001)),
+    (["table", "--workers", "2", "--piece", "1048576", "65536.gr", "list.ss", "list.ss"], 65_536),
+]
 
 LINE = re.compile(r"chtab: ([a-z ]+), (\d{1,3}(?:,\d{3})*) of (\d{1,3}(?:,\d{3})*) (files|pieces|nodes)(?:, about (\d+) (s|min|h) left)?")
 STEPS_OF = {"reading": "files", "building": "nodes"}
@@ -179,12 +185,12 @@ def check_unread_clock(tally, refusing, words):
 
 def check_readings(tally, refusing):
     """A stage of many steps reads the clock some thousand times."""
-    for nodes in 1, 4_096, 10_000, 1_000_001:
-        answer, counts = refusing.run(["save", "--progress", "--piece", "1048576", f"{nodes}.gr"], CLOCK_STEP=1_000)
+    for words, nodes in MANY_STEPS:
+        answer, counts = refusing.run([*words, "--progress"], CLOCK_STEP=1_000)
         told = [read(line) for line in answer.err.decode().splitlines()]
         built = [line.done for line in told if line and line.stage == "building" and line.all == nodes]
         is_right = None not in told and len(told) == counts.clock and built == sorted(set(built)) and built[0] == 0
-        tally.expect(is_right and min(nodes, 4_096) <= len(built) <= 8_192, f"{nodes} nodes: {len(built)} readings, {answer.err[:200]}")
+        tally.expect(is_right and min(nodes, 4_096) <= len(built) <= 8_192, f"{words}: {len(built)} readings, {answer.err[:200]}")
 
 
 def main():

@@ -21,7 +21,7 @@ pub record AreRefreshed (IsOf : ℕ → ℤ → Type 0) (nodes : List ℕ) (befo
 abbrev pub has_node : List Leg → ℕ → Bool
 has_node legs x = list_any (λ l. l.node == x) legs
 
--- the nodes of these legs, but those to which one of the others leads
+-- the nodes of these legs, except those that one of the others leads to
 abbrev pub other_nodes : List Leg → List Leg → List ℕ
 other_nodes others legs = map (λ l. l.node) (filter (λ l. not (has_node others l.node)) legs)
 

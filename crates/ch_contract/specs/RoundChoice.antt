@@ -8,13 +8,13 @@ use Rattle.ch_contract.specs.Remaining.{RemainingLegs, legs_of}
 abbrev pub IsKeyIn : RemainingLegs → List ℕ → List ℕ → ℕ → ℤ → Type 0
 IsKeyIn r counts depths x k = k ≡ key_by Rounds (slice_index counts x) (count_touching r.nodes (legs_of r) x) (slice_index depths x)
 
--- the keys of these nodes are written, and those of the others stay
+-- the keys of these nodes are written, and the other keys stay
 pub record AreKeyed (r : RemainingLegs) (counts depths nodes : List ℕ) (before after : List ℤ) : Type 0 where
   pub size : length after ≡ length before
   pub anew : (x : ℕ) → Contains nodes x → IsKeyIn r counts depths x (slice_index_or after x (pos 0))
   pub kept : (x : ℕ) → (Contains nodes x → ⊥) → slice_index_or after x (pos 0) ≡ slice_index_or before x (pos 0)
 
--- the nodes for which this holds are in the round, and the others are in the rest, each in order of number
+-- the nodes with IsFirst are in the round and the others in the rest; both are in order of number
 pub record IsSplit (IsFirst : ℕ → Type 0) (nodes round rest : List ℕ) : Type 0 where
   pub ordered : AllPairs ◌<◌ round × AllPairs ◌<◌ rest
   pub first : (x : ℕ) → Contains round x ↔ (Contains nodes x × IsFirst x)

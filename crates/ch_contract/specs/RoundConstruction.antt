@@ -1,4 +1,4 @@
--- A hierarchy by rounds under construction.
+-- A hierarchy that is being built by rounds.
 use Rattle.std.specs.Prelude.{◌≡◌, ℕ, ◌+◌, ◌<◌, ◌≤◌, length, pos, slice_index, slice_index_or, All, AllPairs, Contains}
 use Rattle.ch_graph.specs.declared.limits.TheConstants.{MOST_NODES}
 use Rattle.ch_hierarchy.specs.Rows.{row}

@@ -1,4 +1,4 @@
--- Which nodes have their shortcuts counted after a round, and whose keys may differ then.
+-- The nodes whose shortcuts are counted after a round, and the nodes whose keys may change by it.
 use Rattle.std.specs.Prelude.{◌≡◌, ℕ, ◌*◌, ◌&&◌, not, nat_lt, if◌then◌else◌, List, [], length, slice_index, Contains}
 use Rattle.ch_contract.specs.Legs.{Legs}
 use Rattle.ch_contract.specs.RoundProgress.{IsCount}
@@ -14,6 +14,6 @@ pub record AreCounted (n h : ℕ) (L : Legs) (nodes before after : List ℕ) : T
 abbrev pub due_of : ℕ → ℕ → ℕ → List ℕ → List ℕ → List ℕ
 due_of n before after near rest = if nat_lt (10 * after) (7 * n) then [] else (if nat_lt (10 * before) (7 * n) then rest else near)
 
--- the nodes whose keys may differ after a round, of n nodes: the rest where all of it was counted, and else the neighbours of the round
+-- the nodes whose keys may change by a round, of n nodes. If all remaining nodes were counted, they are these; otherwise they are the neighbours of the round
 abbrev pub stale_of : ℕ → ℕ → ℕ → List ℕ → List ℕ → List ℕ
 stale_of n before after near rest = if nat_lt (10 * before) (7 * n) && not (nat_lt (10 * after) (7 * n)) then rest else near

@@ -20,7 +20,7 @@ pub(crate) fn neighbours(alloc: Global, up: &[Leg], down: &[Leg]) -> Result<Vec<
         .collect(alloc)
 }
 
-/// Puts the nodes of the legs from a node and of those to it, each once, at the end of the list.
+/// Appends the nodes of the legs from a node and of the legs to it, each node once.
 pub(crate) fn push_neighbours(
     list: &mut Vec<u32>,
     up: &[Leg],
@@ -33,7 +33,7 @@ pub(crate) fn push_neighbours(
     Ok(())
 }
 
-/// Puts the nodes of these legs at the end of the list, but those to which one of the others leads.
+/// Appends the nodes of these legs, except those that one of the others leads to.
 fn push_nodes(list: &mut Vec<u32>, legs: &[Leg], others: &[Leg]) -> Result<(), AllocError>
     ensures { OnOk result (list.new.items ≡ list.old.items ++ other_nodes others.now legs.now) }
 {
@@ -44,7 +44,7 @@ fn push_nodes(list: &mut Vec<u32>, legs: &[Leg], others: &[Leg]) -> Result<(), A
     Ok(())
 }
 
-/// Puts a node at the end of the list, unless it is there.
+/// Appends a node, unless it is there.
 #[inline]
 fn push_unless(list: &mut Vec<u32>, node: u32, is_there: bool) -> Result<(), AllocError>
     ensures { OnOk result (list.new.items ≡ (if is_there then list.old.items else list.old.items ++ node ∷ [])) }

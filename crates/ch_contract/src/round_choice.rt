@@ -1,4 +1,4 @@
-//! The choice of a round: the keys of nodes, and the split of those that are left into the round and the rest.
+//! The choice of a round: the keys of nodes, and the split of the remaining nodes into the round and the rest.
 ghost use Rattle.std.specs.Prelude.{◌≡◌, ℕ, ◌^◌, ◌<◌, ◌≤◌, ◌↔◌, ◌++◌, ◌∷◌, [], if◌then◌else◌, All, AllPairs, IfOk, IsTrue, OnOk, length, slice_index};
 ghost use Rattle.std.specs.List.{AllZip};
 ghost use Rattle.ch_contract.specs.FirstAround.{IsFirstBy};
@@ -37,8 +37,8 @@ impl Split {
     }
 }
 
-/// What the keys of nodes are made of, by which a round is chosen: twice the last count of a node's shortcuts, less the
-/// number of legs that touch it now, plus its depth.
+/// What the keys of nodes are computed from. A round is chosen by these keys. A key is twice the last count of
+/// the node's shortcuts, less the number of legs that touch it now, plus its depth.
 #[derive(Drop)]
 pub(crate) struct KeyParts<'a> {
     pub(crate) remaining: &'a Remaining,
@@ -51,7 +51,7 @@ pub(crate) struct KeyParts<'a> {
 }
 
 impl KeyParts<'_> {
-    /// The key of a node.
+    /// Returns the key of a node.
     fn key(&self, node: u32) -> i64
         requires node { node < self.now.remaining.now.nodes }
         requires count { slice_index self.now.counts.now node ≤ 2 ^ 50 }
@@ -78,8 +78,8 @@ impl KeyParts<'_> {
 }
 
 impl FirstJob<'_> {
-    /// Splits the nodes that are left into those of the next round, which come before all others within two legs, and the
-    /// rest.
+    /// Splits the remaining nodes into the next round and the rest. The nodes of the round come before all
+    /// others within two legs.
     pub(crate) fn choose<R: Threads + Sync, G: Gate>(
         &self,
         crew: &Crew<'_, R, G>,
@@ -94,8 +94,8 @@ impl FirstJob<'_> {
         self.split(crew.alloc, left, firsts.as_slice())
     }
 
-    /// Splits nodes into those that come before all others within two legs, and the rest. The flags at the same places say
-    /// which do.
+    /// Splits nodes into those that come before all others within two legs, and the rest. The flag at a node's
+    /// place says whether it does.
     fn split(&self, alloc: Global, nodes: &[u32], firsts: &[bool]) -> Result<Split, AllocError>
         requires firsts { AllZip (λ x b. IsTrue b ↔ IsFirstBy self.now.keys.now (legs_of self.now.remaining.now) x) nodes.now firsts.now }
         requires ordered { AllPairs ◌<◌ nodes.now }

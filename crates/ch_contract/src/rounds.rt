@@ -60,7 +60,7 @@ struct ConstructionByRounds {
     counts: Vec<u64>,
     /// By node: its depth.
     depths: Vec<u32>,
-    /// By node: its key, where it is left.
+    /// By node: its key, if it remains.
     keys: Vec<i64>,
     /// The level of each contracted node, and 0 for each remaining node.
     levels: Vec<u32>,
@@ -172,7 +172,7 @@ impl ConstructionByRounds {
         Ok(self)
     }
 
-    /// Splits the nodes that are left into those of the next round and the rest.
+    /// Splits the remaining nodes into the next round and the rest.
     fn choose<R: Threads + Sync, G: Gate>(&self, crew: &Crew<'_, R, G>) -> Result<Split, AllocError>
         requires sizes { IsSizedByRounds self.now }
         ensures { IfOk result (λ s. IsSplit (IsFirstBy self.now.keys.items (legs_of self.now.remaining)) self.now.left.items s.round.items s.rest.items) }
@@ -185,7 +185,8 @@ impl ConstructionByRounds {
         job.choose(&crew_of_left, self.left.as_slice())
     }
 
-    /// The hierarchy, once every node is contracted. What it doesn't need is freed first.
+    /// Returns the hierarchy when every node is contracted. It first frees the memory that the hierarchy does
+    /// not need.
     fn finish(self) -> Result<Hierarchy, AllocError>
         requires sizes { IsSizedByRounds self }
         requires none { length self.left.items ≡ 0 }
@@ -212,10 +213,11 @@ impl ConstructionByRounds {
     }
 }
 
-/// As many nodes are looked at, when a round is chosen, in the time of the search for the shortcuts of one.
+/// The choice of a round looks at this many nodes in about the time in which the shortcuts of one node are searched for.
 const LOOKS_AT_ONCE: usize = 64;
 
-/// The crew for a job over so many nodes: the caller alone where these are few, and else all workers.
+/// Returns the crew for a job over `nodes` nodes: the caller alone if these are fewer than `crew.plan.wide()`,
+/// and otherwise all workers.
 fn crew_for<'a, R, G>(crew: &Crew<'a, R, G>, nodes: usize) -> Crew<'a, R, G> {
     let plan = if nodes < crew.plan.wide() as usize {
         Plan::new(1, crew.plan.piece(), crew.plan.wide())
@@ -308,8 +310,8 @@ fn due<'a>(nodes: u32, before: u32, after: u32, near: &'a [u32], rest: &'a [u32]
     near
 }
 
-/// The nodes whose keys may differ after a round, of those near it and those that are left: all that are left where the
-/// shortcuts of all were counted, and else those near it.
+/// Returns the nodes whose keys may change by a round. If the shortcuts of all remaining nodes were counted after
+/// it, they are the rest. Otherwise they are the nodes near the round.
 fn stale<'a>(nodes: u32, before: u32, after: u32, near: &'a [u32], rest: &'a [u32]) -> &'a [u32]
     ensures { result.now ≡ stale_of nodes before after near.now rest.now }
 {

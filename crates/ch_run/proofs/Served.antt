@@ -24,7 +24,7 @@ use Rattle.ch_graph.specs.Graph.{Network}
 use Rattle.ch_hierarchy.specs.Hierarchy.{LevelsAndLegs}
 use Rattle.ch_contract.specs.declared.measure.OrderBy.{OrderBy}
 use Rattle.ch_run.specs.declared.options.Options.{Options}
-use Rattle.ch_run.specs.Source.{IsServing, order_built}
+use Rattle.ch_run.specs.Source.{IsServing, order_built, order_for_queries}
 use Rattle.ch_run.specs.Text.{writes_routes}
 use Rattle.ch_run.proofs.Texts.{text_in}
 use Rattle.ch_run.proofs.Inputs.{of_one}
@@ -411,9 +411,9 @@ module _ (P Q : TextOf) (so : (places : PlaceList) (request : Request) (text : L
   served_weaker n requests old new (Err (RunFault.Read Which.Saved f)) h = absurd h
   served_weaker n requests old new (Err (RunFault.Check f)) h = absurd h
 
--- if each query is answered with its route, the hierarchy is built in the order of the options
-pub built_wanted : (options : Options) → options.routes ≡ true → order_built options ≡ options.order
-built_wanted options e = rw e refl
+-- the hierarchy that answers a list of queries with their routes is built in the order of the options
+pub wanted_for_queries : (options : Options) (workers nodes : ℕ) → options.routes ≡ true → order_for_queries options workers nodes ≡ options.order
+wanted_for_queries options workers nodes e = rw e refl
 
 -- an answer to a request by the hierarchy that serves is one by a hierarchy that serves
 pub asked_in : (options : Options) (g : Network) (h : Option LevelsAndLegs) (H : LevelsAndLegs) → IsServing (order_built options) options.hops g h H → (places : PlaceList) (request : Request) (text : List ℕ) →

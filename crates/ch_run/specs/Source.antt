@@ -1,5 +1,5 @@
 -- Where the hierarchy of a run comes from, and the promises on a saved one.
-use Rattle.std.specs.Prelude.{◌≡◌, ◌⊎◌, ℕ, if◌then◌else◌, [], ◌∷◌, List, Option, Some, None, Result, Err, ⊤, option_map}
+use Rattle.std.specs.Prelude.{◌≡◌, ◌⊎◌, ℕ, ◌||◌, nat_lt, if◌then◌else◌, [], ◌∷◌, List, Option, Some, None, Result, Err, ⊤, option_map}
 use Rattle.ch_graph.specs.Graph.{Network, IsWithinLimits}
 use Rattle.ch_graph.specs.Saved.{OrderAndLegs}
 use Rattle.ch_read.specs.declared.fault.ReadFault.{ReadFault}
@@ -10,11 +10,12 @@ use Rattle.ch_hierarchy.specs.declared.fault.CheckFault.{CheckFault}
 use Rattle.ch_hierarchy.specs.Hierarchy.{LevelsAndLegs}
 use Rattle.ch_hierarchy.specs.Saved.{NamesKept, IsFirstFault}
 use Rattle.ch_contract.specs.declared.measure.OrderBy.{OrderBy}
-use Rattle.ch_contract.specs.declared.measure.OrderBy.TheVariants.{Depth}
+use Rattle.ch_contract.specs.declared.measure.OrderBy.TheVariants.{Depth, Rounds}
 use Rattle.ch_contract.specs.Built.{IsHierarchyBy}
 use Rattle.ch_run.specs.declared.fault.Which.{Which}
 use Rattle.ch_run.specs.declared.fault.RunFault.{RunFault}
 use Rattle.ch_run.specs.declared.options.Options.{Options}
+use Rattle.ch_run.specs.declared.options.TheConstants.{ROUND_NODES}
 use Rattle.ch_run.specs.declared.source.Source.{Source}
 use Rattle.ch_run.specs.declared.source.Source.TheVariants.{Built, Saved}
 use Rattle.ch_run.specs.Run.{AcceptsGraph, Reading, ReadsAfter, ReadsAll, ReadsGraph, IsOf, reading, reading_if}
@@ -69,10 +70,19 @@ abbrev pub IsServing : OrderBy → ℕ → Network → Option LevelsAndLegs → 
 IsServing by hops g None K = IsHierarchyBy by g hops K
 IsServing by hops g (Some H) K = K ≡ H
 
--- the order in which a run builds the hierarchy that answers queries. If each query is answered with its route, it is the order of the
--- options. Otherwise it is the order of depth, which answers sooner
+-- the order in which a run builds the hierarchy that answers requests. If each query is answered with its route, it is the order of the
+-- options. Otherwise it is the order of depth
 abbrev pub order_built : Options → OrderBy
 order_built options = if options.routes then options.order else Depth
+
+-- the order in which this many workers build a hierarchy of a graph with this many nodes, where no answer depends on the order: by rounds if
+-- there are at least two workers and the graph is large, and otherwise by depth
+abbrev pub quick_order : ℕ → ℕ → OrderBy
+quick_order workers nodes = if nat_lt workers 2 || nat_lt nodes ROUND_NODES then Depth else Rounds
+
+-- the order in which this many workers build the hierarchy that answers a list of queries
+abbrev pub order_for_queries : Options → ℕ → ℕ → OrderBy
+order_for_queries options workers nodes = if options.routes then options.order else quick_order workers nodes
 
 -- the hierarchy that routes go by, with these options
 abbrev pub IsOfRoutes : Options → Network → Option LevelsAndLegs → LevelsAndLegs → Type 0

@@ -1,5 +1,8 @@
 //! The options of a run, and their limits.
 
+ghost use Rattle.std.specs.Prelude.{◌≡◌};
+ghost use Rattle.ch_run.specs.Source.{quick_order};
+
 pub use ch_contract::OrderBy;
 use ch_graph::limits;
 pub use ch_near::Direction;
@@ -37,12 +40,11 @@ pub struct Options {
 }
 
 impl Options {
-    ghost use Rattle.std.specs.Prelude.{◌≡◌};
-    ghost use Rattle.ch_run.specs.Source.{order_built};
+    ghost use Rattle.ch_run.specs.Source.{order_built, order_for_queries};
 
-    /// Returns the order in which to build the hierarchy that answers queries. With routes it is the
-    /// order of the options. Without routes it is the order of depth, because distances are the same in
-    /// each order and this one is fast.
+    /// Returns the order in which to build the hierarchy that answers requests. With routes it is the
+    /// order of the options. Without routes it is the order of depth. A request may ask for its route, and
+    /// that is the same for every number of workers.
     pub(crate) fn building_order(&self) -> OrderBy
         ensures { result ≡ order_built self.now }
     {
@@ -51,5 +53,33 @@ impl Options {
         } else {
             OrderBy::Depth
         }
+    }
+
+    /// Returns the order in which `workers` workers build the hierarchy that answers a list of queries, on a
+    /// graph of `nodes` nodes. With routes it is the order of the options. Without routes it is the quick
+    /// order.
+    pub(crate) fn order_for_queries(&self, workers: u32, nodes: u32) -> OrderBy
+        ensures { result ≡ order_for_queries self.now workers nodes }
+    {
+        if !self.routes {
+            return quick_order(workers, nodes);
+        }
+        self.order
+    }
+}
+
+/// The least number of nodes of a graph that is contracted by rounds where no answer depends on the order.
+pub(crate) const ROUND_NODES: u32 = 65_536;
+
+/// Returns the order in which `workers` workers build a hierarchy soonest, on a graph of `nodes` nodes. It is
+/// for answers that are the same in each order. Workers share the work of rounds, so these need at least two
+/// workers and a large graph.
+pub(crate) fn quick_order(workers: u32, nodes: u32) -> OrderBy
+    ensures { result ≡ quick_order workers nodes }
+{
+    if workers < 2 || nodes < ROUND_NODES {
+        OrderBy::Depth
+    } else {
+        OrderBy::Rounds
     }
 }

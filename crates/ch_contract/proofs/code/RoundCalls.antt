@@ -168,7 +168,7 @@ module _ (h : ℕ) (before after : ConstructionByRounds) (nodes near : List ℕ)
         downs = s.down.size ∙ sizes.downs ∙ sym count;
       }
 
-  -- and each node that is left has its key
+  -- and each remaining node has its key
   pub keyed_by_round : keys ≡ before.keys.items → AreKeysNow after
   keyed_by_round same x left =
       let n : ℕ = before.remaining.nodes in
@@ -198,7 +198,7 @@ stale_below P n before after near rest first second = at (nat_lt (10 * before) (
     at true = λ k d lt. second (get_or rest k d) (Contains-get_or rest k d lt)
     at false = λ k d lt. first (get_or near k d) (Contains-get_or near k d lt)
 
--- once no node is left, the levels and the rows are those of all nodes
+-- when no node remains, the hierarchy has the levels and the rows of all nodes
 pub rounds_end : (c : ConstructionByRounds) (H : LevelsAndLegs) → IsSizedByRounds c → length c.left.items ≡ 0 → H.level ≡ c.levels.items → H.up ≡ c.remaining.ups → H.down ≡ c.remaining.downs → IsRoundsEnd c.remaining.nodes (round_progress_of c) H
 rounds_end c H sizes none level up down = record {
   none = λ x has. let inside = has.1 in absurd (omega arith);

@@ -1,4 +1,4 @@
--- Keys that are written one after the other, and the split of the nodes that are left into a round and the rest.
+-- Keys that are written one after the other, and the split of the remaining nodes into a round and the rest.
 use Rattle.std.proofs.Common.{◌≡◌, ℕ, ◌+◌, ◌<◌, Bool, true, false, List, [], ◌∷◌, ◌++◌, length, get_or, set, take, refl, sym, ◌∙◌, subst, arith, inl, inr, Contains, length-set, get_or-set_same, get_or-set_other}
 use Rattle.std.specs.Prelude.{◌↔◌, if◌then◌else◌, slice_index_or, AllPairs, IsTrue, ℤ, pos}
 use Rattle.std.proofs.lemmas.Bool.{cases_eq, true≢false}

@@ -13,7 +13,7 @@ use Rattle.ch_contract.proofs.code.KeptPriorities.{zipped_at}
 size_more : (nodes : List ℕ) (i : ℕ) → i < length nodes → length (take (i + 1) nodes) ≡ i + 1
 size_more nodes i lt = length-take-le (i + 1) nodes (omega arith)
 
--- what is none of the first i + 1 is not the last of them, and none of those before
+-- a number that is none of the first i + 1 nodes is not node i, and none of the first i
 pub away_both : (nodes : List ℕ) (i x : ℕ) → i < length nodes → (Contains (take (i + 1) nodes) x → ⊥) → (x ≢ get_or nodes i 0) × (Contains (take i nodes) x → ⊥)
 away_both nodes i x lt away =
     let more = take_more nodes i 0 lt in

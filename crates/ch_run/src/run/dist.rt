@@ -99,6 +99,7 @@ fn text_of<R: Threads + Sync, G: Gate>(
     if options.plain {
         return plain_text(crew.alloc, &loaded.graph, queries, crew.gate);
     }
-    let hierarchy = loaded.hierarchy(crew, options.hops, options.building_order())?;
+    let order = options.order_for_queries(crew.plan.workers(), loaded.graph.nodes());
+    let hierarchy = loaded.hierarchy(crew, options.hops, order)?;
     answers_by(crew, &hierarchy, queries, options.routes)
 }

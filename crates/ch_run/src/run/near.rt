@@ -17,7 +17,7 @@ use super::near_texts::near_by;
 use super::node_lists::node_lists_from;
 use super::output::write_text;
 use crate::fault::{RunFault, Which};
-use crate::options::{Options, OrderBy};
+use crate::options::{Options, quick_order};
 use crate::plan::{Crew, Gate};
 use crate::source::Source;
 use crate::sources::Sources;
@@ -119,6 +119,7 @@ fn near_of<R: Threads + Sync, G: Gate>(
     requires lists { AreNodeLists loaded.graph.nodes lists.now.sources.items lists.now.targets.items }
     ensures { IfOk result (λ text. IsNearTextFor options.now loaded.graph lists.now.sources.items lists.now.targets.items text.items) }
 {
-    let hierarchy = loaded.hierarchy(crew, options.hops, OrderBy::Depth)?;
+    let order = quick_order(crew.plan.workers(), loaded.graph.nodes());
+    let hierarchy = loaded.hierarchy(crew, options.hops, order)?;
     near_by(crew, &hierarchy, &lists.sources, &lists.targets, options)
 }

@@ -16,7 +16,7 @@ use super::loading::{Loaded, loaded_from};
 use super::output::write_text;
 use super::texts::table_by;
 use crate::fault::{RunFault, Which};
-use crate::options::{Options, OrderBy};
+use crate::options::{Options, quick_order};
 use crate::plan::{Crew, Gate};
 use crate::source::Source;
 use ch_text::{Input, Output};
@@ -116,7 +116,8 @@ fn table_of<R: Threads + Sync, G: Gate>(
     requires lists { AreLists loaded.graph.nodes lists.now.sources.items lists.now.targets.items }
     ensures { IfOk result (λ text. IsTableText loaded.graph options.now.within lists.now.sources.items lists.now.targets.items text.items) }
 {
-    let hierarchy = loaded.hierarchy(crew, options.hops, OrderBy::Depth)?;
+    let order = quick_order(crew.plan.workers(), loaded.graph.nodes());
+    let hierarchy = loaded.hierarchy(crew, options.hops, order)?;
     table_by(
         crew,
         &hierarchy,
