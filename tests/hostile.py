@@ -8,8 +8,11 @@ import contextlib
 import itertools
 import os
 import pathlib
+import resource
 import signal
+import threading
 import time
+import traceback
 import types
 
 # First of all, since it puts the package on the path.
@@ -219,6 +222,114 @@ def a_question_within_another_spoils_none():
         handle.room = room
 
 
+def threads_share_one_handle():
+    """Calls of several threads by one handle wait for one another: each has its own answer, also while the handle is closed."""
+    import numpy
+
+    from chtab import library
+
+    handle = library.Handle(library.loaded(make()))
+    handle.open(pathlib.Path(GRAPH).read_bytes(), ways.saved_for(GRAPH).read_bytes())
+    draw, wrong = numpy.random.default_rng(2), []
+    asked = [draw.integers(0, handle.nodes(), (2, 30)).astype(numpy.uint32) for _ in range(4)]
+    owed = [(handle.table(*each), [handle.route(*map(int, pair))[1].tolist() for pair in each.T]) for each in asked]
+
+    def work(place, until_closed):
+        own, (table, routes) = asked[place], owed[place]
+        try:
+            while time.monotonic() < until or until_closed:
+                found = [handle.route(*map(int, pair))[1].tolist() for pair in own.T]
+                if not ((handle.table(*own) == table).all() and (handle.distances(*own) == table.diagonal()).all() and found == routes):
+                    wrong.append(place)
+        except chtab.ChtabError as fault:
+            if str(fault) != "the network is closed" or not until_closed:
+                wrong.append(fault)
+
+    for until_closed in False, True:
+        until = time.monotonic() + 1
+        threads = [threading.Thread(target=work, args=(place, until_closed)) for place in range(4)]
+        for thread in threads:
+            thread.start()
+        if until_closed:
+            time.sleep(0.3)
+            handle.close()
+        for thread in threads:
+            thread.join(PATIENCE)
+        assert not wrong and not any(thread.is_alive() for thread in threads), wrong
+
+
+def a_child_asks_on_when_its_parent_has_closed():
+    """And the parent when its child has closed, or was killed in the middle of a question."""
+    for first in "parent", "child", "killed":
+        with by_library(FIRST, FIRST_SAVED) as network:
+            assert network.distances([(1, 3)]).tolist() == [9]
+            (closed, tell), (_, told) = os.pipe(), os.pipe()
+            child = os.fork()
+            if not child:
+                if first == "child":
+                    network.close()
+                    os._exit(0)
+                while first == "killed":
+                    network.table(range(1, 4), range(1, 4))
+                    os.write(told, b".")
+                os.read(closed, 1)
+                os._exit(0 if network.distances([(1, 3)]).tolist() == [9] and network.near([1], [3]).weights.tolist() == [9] else 1)
+            if first == "parent":
+                network.close()
+                os.write(tell, b".")
+            elif first == "killed":
+                time.sleep(0.1)
+                os.kill(child, signal.SIGKILL)
+            status = os.waitpid(child, 0)[1]
+            assert status == (signal.SIGKILL if first == "killed" else 0), (first, status)
+            if first != "parent":
+                assert network.distances([(1, 3)]).tolist() == [9] and network.near([1], [3]).weights.tolist() == [9]
+
+
+def a_lack_of_memory_is_told_and_over():
+    """Whatever is refused memory says so, and the same question is answered once there is some; threads can't be begun then either."""
+    import numpy
+
+    with of_country() as network:
+        nodes = numpy.arange(1, 1_501)
+        calls = lambda: network.table(nodes, nodes), lambda: network.near(None, nodes).weights, lambda: network.near(nodes, nodes, 900).places, \
+            lambda: network.distances(nodes, nodes[::-1])
+        wanted, count = [call() for call in calls], 0
+        child = os.fork()
+        if not child:
+            # It ends by itself, whatever it waits for.
+            signal.alarm(PATIENCE)
+            try:
+                network.distances([(1, 2)])
+                for spare in range(4_000_000, 90_000_000, 20_000_000):
+                    for call, owed in zip(calls, wanted):
+                        with little_memory(spare):
+                            try:
+                                assert numpy.array_equal(call(), owed)
+                            except (MemoryError, chtab.ProgramFault) as fault:
+                                assert isinstance(fault, MemoryError) or (str(fault), fault.status) == ("chtab: out of memory", 3), fault
+                                count += 1
+                        assert numpy.array_equal(call(), owed)
+                os._exit(0 if count > 4 else 2)
+            except BaseException:
+                traceback.print_exc()
+            finally:
+                os._exit(1)
+        assert os.waitpid(child, 0)[1] == 0
+
+
+@contextlib.contextmanager
+def little_memory(spare):
+    """Within, this process gets so many bytes more than it has."""
+    before = resource.getrlimit(resource.RLIMIT_AS)
+    held = int(pathlib.Path("/proc/self/statm").read_text().split()[0]) * resource.getpagesize()
+    resource.setrlimit(resource.RLIMIT_AS, (held + spare, before[1]))
+    try:
+        yield
+    finally:
+        resource.setrlimit(resource.RLIMIT_AS, before)
+
+
 def a_fork_within_a_question_takes_no_handle():
     """A process that is forked while near rows come ends the question, and its next one by handles of its own."""
     with by_library(FIRST, FIRST_SAVED) as network:
@@ -348,6 +459,7 @@ GROUPS = (
                 a_graph_that_was_changed_is_not_asked_on,
             ),
             a_signal_may_close_what_is_asked, a_question_within_a_question_of_a_run_is_refused, a_question_within_another_spoils_none,
+            threads_share_one_handle, a_child_asks_on_when_its_parent_has_closed, a_lack_of_memory_is_told_and_over,
             a_fork_within_a_question_takes_no_handle, a_sweep_without_memory_is_left_out, a_library_that_gives_nothing_is_no_endless_loop,
             what_is_long_hears_ctrl_c, a_call_of_seconds_hears_ctrl_c, time_is_looked_at_between_calls,
         ],

@@ -195,7 +195,7 @@ def a_graph_that_was_changed_is_told():
         routes = network.routes([(1, 2_000)])
         text = pathlib.Path("crossings.gr").read_text().splitlines()
         pathlib.Path("crossings.gr").write_text("".join(f"{line}1\n" if line.startswith("a") else f"{line}\n" for line in text))
-        raises(chtab.ChtabError, routes.to_geojson, told="the file of the graph was changed")
+        raises(chtab.ChtabError, routes.to_geojson, told="has changed since it was opened")
 
 
 def what_is_no_place_is_refused():

@@ -3,35 +3,65 @@
 Python hears a signal between two steps of its own, and a call of C is one step. So the main thread, which signals come to, lets another thread
 make a long call, and waits for it.
 """
-import concurrent.futures
+import _thread
 import threading
+import weakref
 
 # Searches in a network that are worth a thread. On a country of 24 million nodes so many take less than a second.
 LONG = 1 << 9
+# Seconds after which a thread is looked for that had no memory to begin or to tell of its end.
+PATIENCE = 1.0
+
+
+class Course:
+    """A call under way: what came of it, and a lock that is held until it ends. Without memory nothing may be made then, so all is made before."""
+
+    def __init__(self):
+        self.value = self.fault = None
+        self.is_made = False
+        self.ended = _thread.allocate_lock()
+        self.ended.acquire()
+
+    def make(self, call, words, alive):
+        """Makes the call. `alive` is there as long as the thread is."""
+        try:
+            self.value = call(*words)
+            self.is_made = True
+        except BaseException as fault:
+            self.fault = fault
+        finally:
+            del call, words, alive
+            self.ended.release()
+
+
+class Alive:
+    """What a thread keeps until it ends."""
 
 
 def interruptible(searches, call, *words):
-    """The value of a call that makes so many searches. If a signal breaks off the wait, the call ends by itself later, and its value is dropped."""
+    """The value of a call that makes so many searches. If a signal breaks off the wait, the call ends by itself later, and its value is dropped.
+
+    A thread of `threading` isn't used, because its beginning waits for ever where there is no memory.
+    """
     if searches < LONG or threading.current_thread() is not threading.main_thread():
         return call(*words)
-    done = concurrent.futures.Future()
+    course, alive = Course(), Alive()
+    seen = weakref.ref(alive)
     try:
-        threading.Thread(target=make, args=(done, call, words), daemon=True).start()
+        _thread.start_new_thread(course.make, (call, words, alive))
     except RuntimeError:
         # No thread can be begun, or the interpreter ends.
         return call(*words)
+    del alive
+    while not course.ended.acquire(timeout=PATIENCE) and seen() is not None:
+        pass
+    if course.is_made:
+        return course.value
+    if course.fault is None:
+        # The thread had no memory for its first step.
+        return call(*words)
     try:
-        return done.result()
+        raise course.fault
     finally:
-        # The traceback of a fault would keep it.
-        del done
-
-
-def make(done, call, words):
-    """Makes a call, and tells what comes of it."""
-    try:
-        done.set_result(call(*words))
-    except BaseException as fault:
-        done.set_exception(fault)
-    finally:
-        del done, call, words
+        # The traceback of the fault would keep it.
+        del course
