@@ -53,8 +53,8 @@ pub fn build<R: Threads + Sync, G: Gate>(
 ///
 /// By [`OrderBy::Rounds`] workers share each round in four jobs over nodes. These compute the keys of the
 /// remaining nodes, choose the round, find its shortcuts, and count shortcuts. The caller does a job of fewer
-/// than `crew.plan.wide()` nodes alone. Before each round the gate's `watch` receives the number of contracted
-/// nodes.
+/// than `crew.plan.wide()` nodes alone. Before each round the gate's `watch` receives, one after the other, all
+/// numbers of contracted nodes that it has not received yet.
 pub fn build_by<R: Threads + Sync, G: Gate>(
     crew: &Crew<'_, R, G>,
     graph: &Graph,

@@ -40,12 +40,23 @@ pub(crate) fn contract_by_rounds<R: Threads + Sync, G: Gate>(
 {
     let nodes = graph.nodes();
     let mut construction = ConstructionByRounds::open(crew, graph, hops)?;
+    let mut reported = 0;
     while !construction.left.is_empty() {
-        crew.gate
-            .watch(Stage::Building, construction.contracted, nodes);
+        let next = construction.contracted.saturating_add(1);
+        report(crew.gate, reported, next, nodes);
+        reported = next;
         construction = construction.contract(crew, hops)?;
     }
+    report(crew.gate, reported, nodes, nodes);
     construction.finish()
+}
+
+/// Reports each number of contracted nodes from `from` up to but not including `to`, of `nodes`. So progress
+/// is reported as often as if nodes were contracted one after the other.
+fn report<G: Gate>(gate: &G, from: u32, to: u32, nodes: u32) {
+    for contracted in from..to {
+        gate.watch(Stage::Building, contracted, nodes);
+    }
 }
 
 /// A hierarchy that is being built: some rounds are contracted.
@@ -214,7 +225,7 @@ impl ConstructionByRounds {
 }
 
 /// The choice of a round looks at this many nodes in about the time in which the shortcuts of one node are searched for.
-const LOOKS_AT_ONCE: usize = 64;
+const LOOKS_AT_ONCE: usize = 256;
 
 /// Returns the crew for a job over `nodes` nodes: the caller alone if these are fewer than `crew.plan.wide()`,
 /// and otherwise all workers.

@@ -6,13 +6,13 @@ use Rattle.ch_contract.specs.RoundConstruction.{AreKeysNow, IsSizedByRounds, rou
 use Rattle.ch_contract.proofs.theory.RoundsMade.{IsAfterRounds}
 use Rattle.ch_contract.proofs.rounds.contract_by_rounds.Given as goal
 
-abbrev pub invariant-loop-construction : goal.invariant-loop-construction
-invariant-loop-construction g l =
+abbrev pub invariant-loop-next : goal.invariant-loop-next
+invariant-loop-next g l =
     IsSizedByRounds l.construction
     × (l.construction.remaining.nodes ≡ l.graph.nodes)
     × ((rounds : List (List ℕ)) × (L : ℕ → Legs) × IsAfterRounds l.graph l.hops rounds L (round_progress_of l.construction))
     × All IsIdleRoom l.construction.rooms.items
     × AreKeysNow l.construction
 
-abbrev pub decreases-loop-construction : goal.decreases-loop-construction
-decreases-loop-construction g l = length l.construction.left.items
+abbrev pub decreases-loop-next : goal.decreases-loop-next
+decreases-loop-next g l = length l.construction.left.items
