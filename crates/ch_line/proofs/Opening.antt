@@ -98,27 +98,27 @@ pub same-task : (a b : Task) → a.graph ≡ b.graph → a.saved ≡ b.saved →
 same-task a b graph saved question = λ i. record { graph = graph i; saved = saved i; question = question i }
 
 module _ {F I : Type 0} (opens : F → List ℕ → Result I OpenFault → F → Type 0) where
-  -- files that are opened, and then more
+  -- files are opened, and then more files: together they are opened as one list
   pub opened-more : (files more : List File) (xs ys : List (Which × I)) (old mid new : F) → AreOpened opens files xs old mid → AreOpened opens more ys mid new → AreOpened opens (files ++ more) (xs ++ ys) old new
   opened-more [] more [] ys old mid new are also = subst (λ (start : F). AreOpened opens more ys start new) are also
   opened-more [] more (x ∷ xs) ys old mid new are also = absurd are
   opened-more (file ∷ files) more [] ys old mid new are also = absurd are
   opened-more (file ∷ files) more (x ∷ xs) ys old mid new are also = (are.0, are.1, are.2, opened-more files more xs ys are.1 mid new are.3 also)
 
-  -- and then one that isn't
+  -- files are opened, and the run stops at one of those behind them
   pub opened-stops : (files more : List File) (xs : List (Which × I)) (old mid new : F) (e : RunFault) → AreOpened opens files xs old mid → StopsOpening opens more mid new e → StopsOpening opens (files ++ more) old new e
   opened-stops [] more [] old mid new e are stops = subst (λ (start : F). StopsOpening opens more start new e) are stops
   opened-stops [] more (x ∷ xs) old mid new e are stops = absurd are
   opened-stops (file ∷ files) more [] old mid new e are stops = absurd are
   opened-stops (file ∷ files) more (x ∷ xs) old mid new e are stops = inr (x.1, are.1, are.2, opened-stops files more xs are.1 mid new e are.3 stops)
 
-  -- one of the first that isn't
+  -- the run stops at one of the first files
   pub stops-first : (files more : List File) (old new : F) (e : RunFault) → StopsOpening opens files old new e → StopsOpening opens (files ++ more) old new e
   stops-first [] more old new e stops = absurd stops
   stops-first (file ∷ files) more old new e (inl refused) = inl refused
   stops-first (file ∷ files) more old new e (inr later) = inr (later.0, later.1, later.2, stops-first files more later.1 new e later.3)
 
--- inputs that are closed, and then more
+-- inputs are closed, and then more inputs: together they are closed as one list
 pub closed-more : {F I : Type 0} (closes : F → I → F → Type 0) (xs ys : List (Which × I)) (old mid new : F) → AreClosed closes xs old mid → AreClosed closes ys mid new → AreClosed closes (xs ++ ys) old new
 closed-more closes [] ys old mid new are also = subst (λ start. AreClosed closes ys start new) are also
 closed-more closes (x ∷ xs) ys old mid new are also = (are.0, are.1, closed-more closes xs ys are.0 mid new are.2 also)

@@ -1,4 +1,4 @@
--- Which inputs a run reads, and whose fault it tells.
+-- Which inputs a run reads, and which failed reads it reports.
 use Rattle.std.proofs.Common.{◌≡◌, ◌⊎◌, ◌<◌, ℕ, List, ◌++◌, Option, refl, inl, inr, arith}
 use Rattle.std.specs.Prelude.{Result, IfErr}
 use Rattle.ch_read.specs.declared.fault.ReadFault.{ReadFault}
@@ -14,7 +14,7 @@ use Rattle.ch_run.proofs.Writes.{ends_in}
 use Rattle.ch_line.specs.Inputs.{AreRead, input_if}
 
 module _ {I : Type 0} (left : I → Option (List ℕ)) (origin failed : I → ℕ) (r : Result Unit RunFault) (olds news : List (Which × I)) (more : AreRead origin failed r olds news) where
-  -- a saved hierarchy is read, where there is one, and then more
+  -- a saved hierarchy is read, if there is one, and then the other inputs
   pub source-read : (graph : Reading) (old new : Source I) → ReadsSource graph r left failed old new → source_origin origin new ≡ source_origin origin old →
       AreRead origin failed r (input_if Which.Saved (saved_in old) ++ olds) (input_if Which.Saved (saved_in new) ++ news)
   source-read graph Source.Built Source.Built reads same = more
@@ -22,7 +22,7 @@ module _ {I : Type 0} (left : I → Option (List ℕ)) (origin failed : I → �
   source-read graph (Source.Saved old) Source.Built reads same = absurd reads
   source-read graph (Source.Saved old) (Source.Saved new) reads same = (refl, record { same = cc; once = reads.lines.reads.once }, more)
 
-  -- so is a list of sources
+  -- a list of sources is read, if there is one, and then the other inputs
   pub sources-read : (earlier : List Which) (accepted : Type 0) (P : Reading → ReadFault → Type 0) (old new : Sources I) → ReadsSources earlier accepted r left failed old new P → sources_origin origin new ≡ sources_origin origin old →
       AreRead origin failed r (input_if Which.Sources (listed_in old) ++ olds) (input_if Which.Sources (listed_in new) ++ news)
   sources-read earlier accepted P Sources.All Sources.All reads same = more
@@ -30,7 +30,7 @@ module _ {I : Type 0} (left : I → Option (List ℕ)) (origin failed : I → �
   sources-read earlier accepted P (Sources.Listed old) Sources.All reads same = absurd reads
   sources-read earlier accepted P (Sources.Listed old) (Sources.Listed new) reads same = (refl, record { same = cc; once = reads.reads.once }, more)
 
--- a run that saves a hierarchy reads no saved one
+-- `save` reports no failed read of a saved hierarchy
 no-saved : IsOfSave (RunFault.Device Which.Saved) → ⊥
 no-saved (inl own) = cc
 no-saved (inr write) = write

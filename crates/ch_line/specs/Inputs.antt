@@ -136,12 +136,12 @@ pub record AreFresh {I : Type 0} (failed : I → ℕ) (inputs : Inputs I) : Type
   pub source : source_failures failed inputs.source ≡ 0
   pub asked : AreFreshAsked failed inputs.asked
 
--- an input with what it is, where there is one
+-- this input, and which input it is, or nothing if there is no input
 abbrev pub input_if : {I : Type 0} → Which → Option I → List (Which × I)
 input_if which None = []
 input_if which (Some input) = (which, input) ∷ []
 
--- the inputs that ask something, each with what it is, in the order in which they are opened
+-- the inputs of a question, each with which input it is, in the order in which the run opens them
 abbrev pub asked_inputs : {I : Type 0} → Asked I → List (Which × I)
 asked_inputs (Asked.Queries queries) = (Which.Queries, queries) ∷ []
 asked_inputs (Asked.Table sources targets) = (Which.Sources, sources) ∷ (Which.Targets, targets) ∷ []
@@ -149,16 +149,16 @@ asked_inputs (Asked.Near sources targets) = input_if Which.Sources (listed_in so
 asked_inputs Asked.Hierarchy = []
 asked_inputs Asked.Requests = []
 
--- all inputs
+-- all inputs of a line, in the order in which the run opens them
 abbrev pub inputs_in : {I : Type 0} → Inputs I → List (Which × I)
 inputs_in inputs = ((Which.Graph, inputs.graph) ∷ input_if Which.Saved (saved_in inputs.source)) ++ asked_inputs inputs.asked
 
--- an input is still the one that it was, its fault is told exactly where a read of it failed, and then it is read no more
+-- the input is still the same one. The run reports a failed read of it exactly if there was one, and does not try it again
 pub record IsRead {I : Type 0} (origin failed : I → ℕ) (result : Result Unit RunFault) (which : Which) (old new : I) : Type 0 where
   pub same : origin new ≡ origin old
   pub once : ReadsOnce which result failed old new
 
--- so it is with each of these inputs
+-- the lists have the same inputs, and each of them is read in this way
 abbrev pub AreRead : {I : Type 0} → (origin failed : I → ℕ) → Result Unit RunFault → (old new : List (Which × I)) → Type 0
 AreRead origin failed result [] [] = ⊤
 AreRead origin failed result [] (new ∷ news) = ⊥

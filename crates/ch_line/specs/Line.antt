@@ -80,11 +80,11 @@ abbrev pub saved_files : Option (List ℕ) → List File
 saved_files None = []
 saved_files (Some saved) = (Which.Saved, saved) ∷ []
 
--- the files of two lists
+-- the files of a list of sources and a list of targets
 abbrev pub list_files : List ℕ → List ℕ → List File
 list_files sources targets = (Which.Sources, sources) ∷ (Which.Targets, targets) ∷ []
 
--- the files that ask something, in the order in which they are opened
+-- the files of a tool's question, in the order in which the run opens them
 abbrev pub asked_files : Tool → List File
 asked_files (Tool.Dist graph queries) = (Which.Queries, string_bytes queries) ∷ []
 asked_files (Tool.Table graph sources targets) = list_files (string_bytes sources) (string_bytes targets)
@@ -142,42 +142,42 @@ abbrev pub EndsAtMissing : {T : Type 0} → (List ℕ → FileState) → List Fi
 EndsAtMissing known [] result = ⊤
 EndsAtMissing known (file ∷ files) result = AtMissing (known file.1) file.0 (EndsAtMissing known files result) result
 
--- the fault of a run, where the file of this input isn't opened
+-- the fault that a run ends in if this input's file can't be opened
 abbrev pub open_fault : Which → OpenFault → RunFault
 open_fault which OpenFault.Refused = RunFault.Device which
 open_fault which OpenFault.Memory = RunFault.Memory
 
--- this file isn't opened, and that is the fault
+-- this file can't be opened, and the run ends in that fault
 abbrev pub IsRefused : {F I : Type 0} → (opens : F → List ℕ → Result I OpenFault → F → Type 0) → File → (old new : F) → RunFault → Type 0
 IsRefused opens file old new fault = (refusal : OpenFault) × opens old file.1 (Err refusal) new × (fault ≡ open_fault file.0 refusal)
 
--- these files are opened in turn up to one that isn't, and that is the fault
+-- the run opens these files in turn, up to one that it can't open. Then it ends in that fault
 abbrev pub StopsOpening : {F I : Type 0} → (opens : F → List ℕ → Result I OpenFault → F → Type 0) → List File → (old new : F) → RunFault → Type 0
 StopsOpening opens [] old new fault = ⊥
 StopsOpening {F} {I} opens (file ∷ files) old new fault =
     IsRefused opens file old new fault ⊎ ((input : I) × (mid : F) × opens old file.1 (Ok input) mid × StopsOpening opens files mid new fault)
 
--- these files, and no other, are opened in turn, as these inputs
+-- the run opens these files in turn, and no other file. These are their inputs
 abbrev pub AreOpened : {F I : Type 0} → (opens : F → List ℕ → Result I OpenFault → F → Type 0) → List File → List (Which × I) → (old new : F) → Type 0
 AreOpened opens [] [] old new = new ≡ old
 AreOpened opens [] (input ∷ inputs) old new = ⊥
 AreOpened opens (file ∷ files) [] old new = ⊥
 AreOpened {F} opens (file ∷ files) (input ∷ inputs) old new = (input.0 ≡ file.0) × (mid : F) × opens old file.1 (Ok input.1) mid × AreOpened opens files inputs mid new
 
--- these inputs are closed in turn, as they were left, and no file is opened
+-- the run closes these inputs in turn, each in the state in which it was left. It opens no file
 abbrev pub AreClosed : {F I : Type 0} → (closes : F → I → F → Type 0) → List (Which × I) → (old new : F) → Type 0
 AreClosed closes [] old new = new ≡ old
 AreClosed {F} closes (input ∷ inputs) old new = (mid : F) × closes old input.1 mid × AreClosed closes inputs mid new
 
--- what the run of a line does with its files, and with no other: one of them isn't opened, and that is the fault; or all are opened in
--- turn, each is read, its fault told exactly where a read of it failed, and all are closed
+-- the run of a line uses these files and no other. If one can't be opened, the run ends in that fault. Otherwise it opens all of them in
+-- turn and reads them. It reports a failed read of a file exactly if there was one. At the end it closes all of them in turn
 abbrev pub UsesFiles : {F I : Type 0} → (opens : F → List ℕ → Result I OpenFault → F → Type 0) → (closes : F → I → F → Type 0) → (origin failed : I → ℕ) → List File → (old new : F) → Result Unit RunFault → Type 0
 UsesFiles {F} {I} opens closes origin failed files old new result =
     IsErrAnd result (StopsOpening opens files old new)
     ⊎ ((opened left : List (Which × I)) × (mid : F) × AreOpened opens files opened old mid × AreRead origin failed result opened left × AreClosed closes left mid new)
 
--- the run of a line, as `run_line` owes it: what the output took, where it ends, which files it used, and which faults were counted. Files and
--- requests tell their bytes and count their failures, each in its own way
+-- the promises of `run_line`: what the output took, the fault at the end, the files that were used, and the failures that were counted.
+-- Files and requests have different types, so each has its own bytes and its own count of failures
 pub record IsRunOf {F I J O : Type 0} (opens : F → List ℕ → Result I OpenFault → F → Type 0) (closes : F → I → F → Type 0) (origin failures : I → ℕ) (known : List ℕ → FileState)
     (left_requests : J → Option (List ℕ)) (failed_requests : J → ℕ) (taken : O → Option (List ℕ)) (failed idle : O → ℕ)
     (line : Line) (files files' : F) (requests requests' : J) (old new : O) (result : Result Unit RunFault) : Type 0 where

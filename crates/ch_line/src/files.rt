@@ -18,20 +18,21 @@ pub enum OpenFault {
     Memory,
 }
 
-/// What opens files by their names, and closes them.
+/// Opens files by their names, and closes them.
 ///
-/// Each implementation says what it tells of a name: one over memory tells which names have a file, and its bytes; one
-/// over the system's files tells nothing.
+/// Each implementation says what contracts know of a name (`known`). With files in memory, they know which names
+/// have a file, and its bytes. With the system's files, they know nothing.
 ///
-/// What a call may do has a name here and no meaning. So a clause over any files tells which files were opened and closed.
+/// A clause over any files names what a call may do (`opens`, `closes`), but gives it no meaning. That is why such a
+/// clause says exactly which files were opened and closed.
 pub trait Files {
     type Input: Input + Drop;
 
     // the state of the file of this name, as far as contracts know it
     ghost known: { Self → List ℕ → FileState };
-    // what one opening may do: the files before, the name, the answer, and the files after
+    // what a call of `open` may relate: the files before, the name, the answer, and the files after
     ghost opens: { Self → List ℕ → Result Self.Input FaultOf → Self → Type 0 };
-    // what one closing may do: the files before, the opened file as it was left, and the files after
+    // what a call of `close` may relate: the files before, the opened file as it was left, and the files after
     ghost closes: { Self → Self.Input → Self → Type 0 };
 
     /// Opens the file of this name, at its first byte.

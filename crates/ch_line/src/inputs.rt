@@ -11,7 +11,7 @@ use ch_run::{
 };
 use std::thread::Threads;
 
-/// The opened files of a line: the graph, a saved hierarchy if there is one, and the files that ask.
+/// The opened files of a line: the graph, a saved hierarchy if there is one, and the files of the question.
 #[derive(Drop)]
 pub struct Inputs<I: Drop> {
     pub graph: I,
@@ -52,10 +52,11 @@ pub fn run_inputs<R: Threads + Sync, I: Input + Drop, J: Input, O: Output, G: Ga
     requires zeros { CanCountOneMore (O.idle output.old) }
     requires hops { IsHopBound options.now.hops }
 
-    // What is written is the text that is asked for, all of it or its first bytes, or the answers to requests; nothing else is.
+    // The output takes the text of the question, whole or its first bytes, or the answers to requests. It takes
+    // nothing else.
     ensures written { Writes options.now (task_of I.left inputs.old) J.left J.failed O.taken requests.old requests.new output.old output.new result }
 
-    // A file is refused for what it holds, and its device's fault is told exactly where a read of it failed.
+    // A file is refused only for its content. A failed read of a file is reported exactly if there was one.
     ensures ends { EndsFor (task_of I.left inputs.old) result }
     ensures read { AreRead I.origin I.failed result (inputs_in inputs.old) (inputs_in inputs.new) }
 

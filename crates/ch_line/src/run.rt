@@ -19,8 +19,9 @@ use ch_words::{Choices, Line, Tool};
 use std::alloc::Global;
 use std::thread::Threads;
 
-/// Does what a line asks for. All of its files are opened, in the order of the arguments, before one is read, and no other is. The requests are
-/// read where it asks that they be answered, and else left alone.
+/// Makes the run that a line asks for. It opens all files of the line before it reads one, in the order of
+/// [`open_inputs`], and opens no other file.
+/// It reads the requests only if it answers them, and otherwise leaves them alone.
 ///
 /// # Errors
 /// The fault of the first file that can't be opened, or of the run.
@@ -38,15 +39,17 @@ pub fn run_line<R: Threads + Sync, F: Files, J: Input, O: Output, G: Gate>(
     requires failures { CanCountOneMore (O.failed output.old) }
     requires zeros { CanCountOneMore (O.idle output.old) }
 
-    // What is written is what the line asks for, of the files that it names; where one of them isn't opened, nothing is.
+    // The output takes the text that the line asks for, made of the files that it names. If one of them can't be
+    // opened, the output takes nothing.
     ensures written { IsNotBegun (F.known files.old) (line_files line.now) requests.old requests.new output.old output.new result
         ⊎ Writes (options_for line.now.choices) (line_task (F.known files.old) line.now) J.left J.failed O.taken requests.old requests.new output.old output.new result }
 
-    // A missing file ends it before anything is read, and otherwise a fault is of what the files hold.
+    // A missing file ends the run. A run that has opened all files refuses one only for its content.
     ensures missing { EndsAtMissing (F.known files.old) (line_files line.now) result }
     ensures ends { EndsFor (line_task (F.known files.old) line.now) result ⊎ IsErrAnd result (IsUnopened (F.known files.old) (line_files line.now)) }
 
-    // The files that are opened, read and closed are the line's, and no other; and a device's fault is told exactly where a read of that file failed.
+    // The run opens, reads and closes the files of the line, and no other. It reports a failed read of a file
+    // exactly if there was one.
     ensures files { UsesFiles F.opens F.closes F.Input.origin F.Input.failed (line_files line.now) files.old files.new result }
 
     // A read or a write that failed is not tried again. A failed write is reported.
@@ -98,7 +101,7 @@ pub fn options_of(choices: &Choices) -> Options
 /// other files in the order of the arguments.
 ///
 /// # Errors
-/// `Device` of the first that can't be opened, or `Memory`.
+/// `Device` of the first file that can't be opened, or `Memory`.
 pub fn open_inputs<F: Files>(files: &mut F, line: &Line) -> Result<Inputs<F::Input>, RunFault>
     ensures fresh { IfOk result (AreFresh F.Input.failed) }
     ensures asked { IfOk result (λ inputs. task_of F.Input.left inputs ≡ line_task (F.known files.old) line.now) }
@@ -160,7 +163,7 @@ fn open_source<F: Files>(files: &mut F, saved: Option<&str>) -> Result<Source<F:
     }
 }
 
-/// Opens the files that ask something, in the order of the arguments.
+/// Opens the files of a tool's question, in the order of the arguments.
 fn open_asked<F: Files>(files: &mut F, tool: &Tool) -> Result<Asked<F::Input>, RunFault>
     ensures fresh { IfOk result (AreFreshAsked F.Input.failed) }
     ensures asked { IfOk result (λ asked. question_of F.Input.left asked ≡ tool_question (file_reading (F.known files.old)) tool.now) }
@@ -203,14 +206,14 @@ fn open_asked<F: Files>(files: &mut F, tool: &Tool) -> Result<Asked<F::Input>, R
     }
 }
 
-/// Two lists of nodes that were opened.
+/// The opened files of a list of sources and a list of targets.
 #[derive(Drop)]
 struct Lists<I: Drop> {
     sources: I,
     targets: I,
 }
 
-/// Opens a list of sources, and then one of targets.
+/// Opens a list of sources, and then a list of targets.
 fn open_lists<F: Files>(
     files: &mut F,
     sources: &str,
@@ -272,7 +275,7 @@ fn close_source<F: Files>(files: &mut F, source: Source<F::Input>)
     }
 }
 
-/// Closes the files that ask something.
+/// Closes the files of a question.
 fn close_asked<F: Files>(files: &mut F, asked: Asked<F::Input>)
     ensures { AreClosed F.closes (asked_inputs asked) files.old files.new }
 {

@@ -37,7 +37,7 @@ impl<'a> Files for MemoryFiles<'a> {
 
     ghost known = { λ files name. state_among files.files.now name };
 
-    // An opening gives what is known of the name, and neither call changes the files.
+    // `open` answers what is known of the name. Neither call changes the files.
     ghost opens = { λ old name result new. Opens ⟦<MemoryInput<'a> as Input>⟧.left (state_among old.files.now name) result × (new ≡ old) };
 
     ghost closes = { λ old _ new. new ≡ old };

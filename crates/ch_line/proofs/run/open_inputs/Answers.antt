@@ -62,7 +62,7 @@ returns-clause-missing g c =
     goes-on known (line_files c.args.line.now) _ (all-there known ((Which.Graph, graph_name tool) ∷ saved_files (saved_for tool (saved_name c.args.line.now))) (asked_files tool)
     (rw c.graph_of.ensures at c.in_ok-graph.ensures.there, rw (c.saved_of.ensures, c.open_input.ensures.known) at c.in_ok-source.ensures.there) (rw (c.open_source.ensures.known, c.open_input.ensures.known) at c.in_ok-asked.ensures.there))
 
--- the files that were opened, and the one that wasn't
+-- the files that are opened before one that can't be opened
 pub returns-in_err-graph-clause-stopped : goal.returns-in_err-graph-clause-stopped
 returns-in_err-graph-clause-stopped g c = own_as _ _ _ c.from_residual.ensures.1 (inl (rw c.graph_of.ensures at c.in_err-graph.ensures.stopped))
 
