@@ -212,18 +212,18 @@ IsToldOf kind (LineFault.Help _) = kind ≡ DisplayHelp
 IsToldOf kind (LineFault.Refused _) = (kind ≢ DisplayHelp) × (kind ≢ OutOfMemory)
 IsToldOf kind LineFault.NoMemory = ⊤
 
--- a value that shows this, where that is known, is shown as this text
+-- this text is the text that a value shows, if that is known
 abbrev pub IsShownAs : Option Text → Text → Type 0
 IsShownAs None text = ⊤
 IsShownAs (Some shown) text = text ≡ shown
 
--- the text of a fault is what an error shows
+-- the fault has no text, or its text is the text that an error shows, if that is known
 abbrev pub IsToldBy : Option Text → LineFault → Type 0
 IsToldBy shown (LineFault.Help text) = IsShownAs shown (string_bytes text)
 IsToldBy shown (LineFault.Refused text) = IsShownAs shown (string_bytes text)
 IsToldBy shown LineFault.NoMemory = ⊤
 
--- `near` is given other lists than it reads: with `--all` one, and else two
+-- `near` is given a wrong number of lists: it takes one with `--all`, and two without it
 abbrev pub HasOtherLists : List Row → Type 0
 HasOtherLists given = (all : Bool) × IsFlagIn given (codes "all") all × (length (lists_in given) ≢ (if all then 1 else 2))
 

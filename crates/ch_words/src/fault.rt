@@ -65,14 +65,15 @@ pub fn refused(alloc: Global, text: &str) -> LineFault
     }
 }
 
-/// An error that says why words aren't read: clap's.
+/// An error of clap, which says why the words give no line.
 ///
-/// What it shows has a name here and no meaning, since clap's contracts give it none. So no code can make up what an error shows.
+/// Clap's contracts don't say which text an error shows. Here that text has a name and no meaning. That is why no
+/// code can make it up.
 pub(crate) trait Refusal {
     // the kind of the error
     ghost kind: { Self → KindOf };
 
-    /// Gives the kind of the error.
+    /// Returns the kind of the error.
     fn reason(&self) -> ErrorKind
         ensures { result ≡ kind self.now };
 }
@@ -85,14 +86,14 @@ impl Refusal for clap::Error {
     }
 }
 
-/// Gives the text that a value shows.
+/// Returns the text that a value shows.
 fn text_of<D: fmt::Display>(alloc: Global, shown: &D) -> Result<String, AllocError>
     ensures { IfOk result (λ text. IsShownAs (D.output shown.now) (string_bytes text)) }
 {
     format!(in alloc; "{shown}")
 }
 
-/// The fault that is told for an error: its text is the one that the error shows.
+/// Returns the fault for an error, with the text that the error shows, or `NoMemory`.
 pub(crate) fn fault_of<E: Refusal + fmt::Display>(alloc: Global, error: &E) -> LineFault
     ensures kind { IsToldOf (E.kind error.now) result }
     ensures text { IsToldBy (E.output error.now) result }
