@@ -38,7 +38,7 @@ pub trait Input {
     ghost failed: { Self → ℕ };
     // the bytes that are left, if they are known
     ghost left: { Self → Option (List ℕ) };
-    // which input it is. A read leaves that, so a clause over any input tells an input from others
+    // the number of the input. Reads keep it, so a clause can say that an input is still the same one
     ghost origin: { Self → ℕ } = { λ _. 0 };
 
     /// Reads into the front of `buffer`, and returns the number of bytes read.
