@@ -51,8 +51,8 @@ AnswersFault taken failed idle (LineFault.Help text) old new answer = (written :
 AnswersFault taken failed idle (LineFault.Refused text) old new answer = (answer ≡ Err (ProgramFault.Line (LineFault.Refused text))) × (new ≡ old)
 AnswersFault taken failed idle LineFault.NoMemory old new answer = (answer ≡ Err (ProgramFault.Line LineFault.NoMemory)) × (new ≡ old)
 
--- the words say a line, and the answer is how its run ended; or they have a fault, which is answered, no file is opened, and the requests
--- are as they were
+-- the words give a line, and the answer is the answer of its run. Or the words have a fault, and the program answers it. Then it opens no
+-- file, and the requests are unchanged
 abbrev pub IsAnswer : {F I J O : Type 0} → (F → List ℕ → Result I OpenFault → F → Type 0) → (F → I → F → Type 0) → (I → ℕ) → (I → ℕ) → (List ℕ → FileState)
     → (J → Option (List ℕ)) → (J → ℕ) → (O → Option (List ℕ)) → (O → ℕ) → (O → ℕ) → List (List ℕ) → F → F → J → J → O → O → Result Unit ProgramFault → Type 0
 IsAnswer opens closes origin failures known left_requests failed_requests taken failed idle words files files' requests requests' old new answer =

@@ -19,7 +19,7 @@ use std::thread::Threads;
 /// that the signal of a closed pipe has ended.
 pub const CLOSED_PIPE: u8 = 141;
 
-/// What the program runs on: what starts threads, and memory.
+/// The threads and the memory that the program runs on.
 #[derive(Drop)]
 pub struct System<'r, R> {
     pub rt: &'r R,

@@ -1,7 +1,8 @@
 //! The system's side of the program: its words, its files and its streams.
 //!
-//! What is proved of [`run`] holds over any files, any reader and any writers. It has content where these tell their bytes, as files
-//! and streams in memory do. No contract of `std` tells which words there are, and which bytes a file of the system has.
+//! The contract of [`run`] holds for all files, every reader and all writers. It says something about bytes only
+//! if these are known, as the bytes of files and of `std`'s streams in memory are. No contract of `std` says
+//! which words there are, or which bytes a file of the system has.
 
 ghost use Rattle.std.specs.Prelude.{◌≡◌, None, MatchResult, Result, map, ⊤};
 ghost use Rattle.std.specs.String.{string_bytes};
@@ -28,7 +29,7 @@ pub struct SystemFiles<'a, R: rt::Files> {
 }
 
 impl<'a, R: rt::Files> SystemFiles<'a, R> {
-    /// The files of this system.
+    /// Makes the files of this system.
     pub fn new(rt: &'a R) -> Self
         ensures { result.rt ≡ rt }
     {
@@ -36,7 +37,7 @@ impl<'a, R: rt::Files> SystemFiles<'a, R> {
     }
 }
 
-/// A file of the system, of whose bytes nothing is told.
+/// A file of the system. Contracts do not know its bytes.
 #[derive(Drop)]
 pub struct SystemFile<D: Read + Drop> {
     input: ReaderInput<D>,
@@ -104,8 +105,9 @@ pub fn words_of<R: Env + AllocGlobal>(rt: &R) -> Result<Vec<String>, LineFault> 
     }
 }
 
-/// Runs the program over these words, these files and these streams, and gives its exit status. The terminal is also
-/// told how far a long run is, where it is one.
+/// Runs the program on these words, over these files and these streams, and returns its exit status. Reports of
+/// progress go to `terminal`. It gets them if the words ask for them, or if it is a terminal and a stage takes
+/// long.
 pub fn run<R, F, J, O, E, T>(
     rt: &R,
     files: &mut F,
