@@ -22,11 +22,11 @@ abbrev pub sources_failures : {J : Type 0} → (J → ℕ) → Sources J → ℕ
 sources_failures failed Each = 0
 sources_failures failed (Listed input) = failed input
 
--- which input it is
+-- the number of the input of the list of sources, if one is read
 abbrev pub sources_origin : {J : Type 0} → (J → ℕ) → Sources J → Option ℕ
 sources_origin origin sources = option_map origin (listed_in sources)
 
--- its reading
+-- the reading of the list of sources, if one is read
 abbrev pub sources_reading : {J : Type 0} → (J → Option (List ℕ)) → Sources J → Sources J → Option Reading
 sources_reading left old new = reading_if left (listed_in old) (listed_in new)
 

@@ -30,11 +30,11 @@ abbrev pub source_failures : {S : Type 0} → (S → ℕ) → Source S → ℕ
 source_failures failed Built = 0
 source_failures failed (Saved input) = failed input
 
--- which input it is
+-- the number of the input of the saved hierarchy, if one is read
 abbrev pub source_origin : {S : Type 0} → (S → ℕ) → Source S → Option ℕ
 source_origin origin source = option_map origin (saved_in source)
 
--- its reading
+-- the reading of the saved hierarchy, if one is read
 abbrev pub source_reading : {S : Type 0} → (S → Option (List ℕ)) → Source S → Source S → Option Reading
 source_reading left old new = reading_if left (saved_in old) (saved_in new)
 
@@ -70,13 +70,13 @@ abbrev pub IsServing : OrderBy → ℕ → Network → Option LevelsAndLegs → 
 IsServing by hops g None K = IsHierarchyBy by g hops K
 IsServing by hops g (Some H) K = K ≡ H
 
--- the order in which a run builds the hierarchy that answers requests. If each query is answered with its route, it is the order of the
--- options. Otherwise it is the order of depth
+-- the order in which a run builds the hierarchy that answers requests. With routes it is the order of the options. Without routes it is
+-- the order of depth
 abbrev pub order_built : Options → OrderBy
 order_built options = if options.routes then options.order else Depth
 
--- the order in which this many workers build a hierarchy of a graph with this many nodes, where no answer depends on the order: by rounds if
--- there are at least two workers and the graph is large, and otherwise by depth
+-- the order in which this many workers build a hierarchy of a graph with this many nodes, if no answer depends on the order. It is by rounds
+-- if there are at least two workers and the graph is large, and otherwise by depth
 abbrev pub quick_order : ℕ → ℕ → OrderBy
 quick_order workers nodes = if nat_lt workers 2 || nat_lt nodes ROUND_NODES then Depth else Rounds
 

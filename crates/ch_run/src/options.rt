@@ -44,7 +44,7 @@ impl Options {
 
     /// Returns the order in which to build the hierarchy that answers requests. With routes it is the
     /// order of the options. Without routes it is the order of depth. A request may ask for its route, and
-    /// that is the same for every number of workers.
+    /// that route is the same for every number of workers.
     pub(crate) fn building_order(&self) -> OrderBy
         ensures { result ≡ order_built self.now }
     {
@@ -56,8 +56,7 @@ impl Options {
     }
 
     /// Returns the order in which `workers` workers build the hierarchy that answers a list of queries, on a
-    /// graph of `nodes` nodes. With routes it is the order of the options. Without routes it is the quick
-    /// order.
+    /// graph of `nodes` nodes. With routes it is the order of the options. Without routes it is [`quick_order`].
     pub(crate) fn order_for_queries(&self, workers: u32, nodes: u32) -> OrderBy
         ensures { result ≡ order_for_queries self.now workers nodes }
     {
@@ -68,12 +67,12 @@ impl Options {
     }
 }
 
-/// The least number of nodes of a graph that is contracted by rounds where no answer depends on the order.
+/// The least number of nodes at which a graph is contracted by rounds, if no answer depends on the order.
 pub(crate) const ROUND_NODES: u32 = 65_536;
 
-/// Returns the order in which `workers` workers build a hierarchy soonest, on a graph of `nodes` nodes. It is
-/// for answers that are the same in each order. Workers share the work of rounds, so these need at least two
-/// workers and a large graph.
+/// Returns the order in which `workers` workers build a hierarchy of a graph of `nodes` nodes in the least time.
+/// It is for answers that do not depend on the order. Workers share the work of rounds, so rounds need at least
+/// two workers and a large graph.
 pub(crate) fn quick_order(workers: u32, nodes: u32) -> OrderBy
     ensures { result ≡ quick_order workers nodes }
 {

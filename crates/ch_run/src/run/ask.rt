@@ -65,7 +65,7 @@ pub fn run_ask<R: Threads + Sync, I: Input, S: Input + Drop, J: Input, O: Output
     ensures requests { ReadsOnce Which.Requests result J.failed requests.old requests.new }
     ensures output { WritesOnce result O.failed O.idle output.old output.new }
 
-    // The graph and the saved hierarchy are still the inputs that they were.
+    // The graph and the saved hierarchy are still the same inputs.
     ensures same_graph { I.origin graph.new ≡ I.origin graph.old }
     ensures same_source { source_origin S.origin source.new ≡ source_origin S.origin source.old }
 {

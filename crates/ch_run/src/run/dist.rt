@@ -71,7 +71,7 @@ pub fn run_dist<R: Threads + Sync, I: Input, S: Input + Drop, J: Input, O: Outpu
         (AcceptsQueries (reading I.left graph.old graph.new) (source_reading S.left source.old source.new) (reading J.left queries.old queries.new))
         result O.failed O.idle output.old output.new }
 
-    // Each input is still the one that it was.
+    // Each input is still the same one.
     ensures same_graph { I.origin graph.new ≡ I.origin graph.old }
     ensures same_source { source_origin S.origin source.new ≡ source_origin S.origin source.old }
     ensures same_queries { J.origin queries.new ≡ J.origin queries.old }

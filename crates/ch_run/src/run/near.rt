@@ -94,7 +94,7 @@ pub fn run_near<
         (sources_reading J.left sources.old sources.new) (reading L.left targets.old targets.new))
         result O.failed O.idle output.old output.new }
 
-    // Each input is still the one that it was.
+    // Each input is still the same one.
     ensures same_graph { I.origin graph.new ≡ I.origin graph.old }
     ensures same_source { source_origin S.origin source.new ≡ source_origin S.origin source.old }
     ensures same_sources { sources_origin J.origin sources.new ≡ sources_origin J.origin sources.old }

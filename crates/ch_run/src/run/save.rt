@@ -47,7 +47,7 @@ pub fn run_save<R: Threads + Sync, I: Input, O: Output, G: Gate>(
     ensures graph { Reads Which.Graph result I.left I.failed graph.old graph.new IsGraphRefused }
     ensures output { WritesAfter (AcceptsGraph (reading I.left graph.old graph.new)) result O.failed O.idle output.old output.new }
 
-    // The graph is still the input that it was.
+    // The graph is still the same input.
     ensures same_graph { I.origin graph.new ≡ I.origin graph.old }
 {
     crew.gate.watch(Stage::Reading, 0, 1);
