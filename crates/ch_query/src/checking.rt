@@ -97,7 +97,7 @@ fn founded(alloc: Global, graph: &Graph, saved: &Saved) -> Result<Hierarchy, Che
     }
 }
 
-/// Like [`founded`], by the workers of a crew.
+/// Returns the same as [`founded`]. The workers of a crew share the checks.
 fn founded_by<R: Threads + Sync, G: Gate>(
     crew: &Crew<'_, R, G>,
     graph: &Graph,
@@ -107,7 +107,7 @@ fn founded_by<R: Threads + Sync, G: Gate>(
     ensures fault { IfErr result (IsIfFault (IsFirstFault graph.now saved.now)) }
 {
     let legs = saved.legs.as_slice();
-    // Pieces are counted in 32 bits.
+    // Workers count legs in 32 bits. The caller checks longer lists alone.
     if u32::try_from(legs.len()).is_err() {
         return founded(crew.alloc, graph, saved);
     }
@@ -144,7 +144,7 @@ fn first_unfounded(
     None
 }
 
-/// Like [`first_unfounded`], by the workers of a crew.
+/// Returns the same as [`first_unfounded`]. The workers of a crew share the checks.
 fn first_unfounded_by<R: Threads + Sync, G: Gate>(
     crew: &Crew<'_, R, G>,
     graph: &Graph,

@@ -1,4 +1,4 @@
-//! The first of many items that is not right, looked for by one worker or several.
+//! Finds the first of many items that is not right, with one worker or several.
 ghost use Rattle.std.specs.Prelude.{ℕ, ◌≡◌, ◌<◌, ◌≤◌, ◌↔◌, IfOk, IfSome, IsTrue};
 ghost use Rattle.ch_query.specs.Finding.{IsFirstWithout, IsWithoutBelow, first_some};
 
@@ -6,15 +6,15 @@ use ch_work::{Crew, Gate, RoomJob, run_pieces_with_rooms};
 use std::alloc::{AllocError, Global};
 use std::thread::Threads;
 
-/// A check of numbered items, each by itself. It is done in a room, such as that of a search.
+/// A check of numbered items, one item at a time. A worker checks items in a room, such as the room of a search.
 pub(crate) trait ItemCheck: Sync {
-    /// What a worker needs for its items.
+    /// The room in which a worker checks its items.
     type Room: Send + Drop;
 
     /// The number of items.
     ghost size: { Self → ℕ };
 
-    /// What has to hold of an item.
+    /// The property that makes an item right.
     ghost right: { Self → ℕ → Type 0 };
 
     /// The condition on a room before an item.
@@ -27,7 +27,7 @@ pub(crate) trait ItemCheck: Sync {
     fn room(&self, alloc: Global) -> Result<Self::Room, AllocError>
         ensures { IfOk result (λ room. clean self.now room) };
 
-    /// Whether the item is right. It leaves the room clean.
+    /// Returns whether the item is right. Leaves the room clean.
     fn is_right(&self, room: &mut Self::Room, item: u32) -> bool
         requires inside { item < size self.now }
         requires clean { clean self.now room.old }
@@ -35,18 +35,18 @@ pub(crate) trait ItemCheck: Sync {
         ensures clean { clean self.now room.new };
 }
 
-/// A worker's room, and the wrong item that it found, if it found one.
+/// A worker's room, and the wrong item that the worker found, if it found one.
 #[derive(Drop)]
 struct Finder<R> {
     room: R,
     found: Option<u32>,
 }
 
-/// The ranges of items of a check, as a job.
+/// The job that checks ranges of items.
 ///
-/// A worker that has found a wrong item passes over each later range that it claims. So it soon has claimed
-/// all ranges that are left, and the others end when they have done theirs. The value of a range is the
-/// first wrong item of it, or an earlier one.
+/// A worker that has found a wrong item does not check the later ranges that it claims. It soon claims all ranges
+/// that are left, and the other workers end after the ranges that they have. The value of a range is its first
+/// wrong item, or an earlier wrong item.
 #[derive(Drop)]
 struct CheckRanges<'a, C> {
     check: &'a C,
@@ -90,7 +90,7 @@ impl<'a, C: ItemCheck> RoomJob for CheckRanges<'a, C> {
     }
 }
 
-/// Returns the first number among the values of the ranges.
+/// Returns the first number among the values of the ranges, or `None` if there is none.
 fn first_of(known: &[Option<u32>]) -> Option<u32>
     ensures { result ≡ first_some known.now }
 {
@@ -102,8 +102,8 @@ fn first_of(known: &[Option<u32>]) -> Option<u32>
     None
 }
 
-/// Returns the first item that is not right, or `None` if all of them are. The workers share the items as
-/// the plan says, each in a room of its own.
+/// Returns the first item that is not right, or `None` if all items are right. Workers share the items as the
+/// plan says. Each worker has a room of its own.
 ///
 /// # Errors
 /// `AllocError` if the call or a room is refused memory.
@@ -121,7 +121,7 @@ pub(crate) fn first_wrong<R: Threads + Sync, G: Gate, C: ItemCheck>(
     Ok(first_of(&known))
 }
 
-/// Like [`first_wrong`], by the caller alone.
+/// Returns the same as [`first_wrong`]. The caller checks all items alone.
 ///
 /// # Errors
 /// `AllocError` if the room is refused memory.

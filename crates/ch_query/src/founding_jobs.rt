@@ -1,4 +1,4 @@
-//! The first leg of a saved hierarchy, or arc of a graph, that is not right, looked for by workers.
+//! Finds the first leg of a saved hierarchy, or the first arc of a graph, that is not right. Workers share the check.
 ghost use Rattle.std.specs.Prelude.{◌≡◌, ◌<◌, ◌^◌, All, Contains, IfOk, MatchOption, length, slice_index_or};
 ghost use Rattle.ch_graph.specs.declared.arc.InArc.{InArc as AnyArc};
 ghost use Rattle.ch_graph.specs.declared.saved.SavedLeg.{SavedLeg as AnyLeg};
@@ -30,7 +30,7 @@ fn by_pieces<'a, R, G>(crew: &Crew<'a, R, G>) -> Crew<'a, R, Open> {
     }
 }
 
-/// The check of legs without a middle: each is an arc of the graph.
+/// Checks that each leg without a middle is an arc of the graph.
 #[derive(Drop)]
 struct ArcCheck<'a> {
     graph: &'a Graph,
@@ -69,7 +69,7 @@ impl ItemCheck for ArcCheck<'_> {
     }
 }
 
-/// The check of legs with a middle: each is the sum of the two legs of that middle.
+/// Checks that each leg with a middle is the sum of the two legs of that middle.
 #[derive(Drop)]
 struct SumCheck<'a> {
     hierarchy: &'a Hierarchy,
@@ -94,7 +94,7 @@ impl ItemCheck for SumCheck<'_> {
     }
 }
 
-/// The check of arcs: each has its leg.
+/// Checks that each arc is a loop, or has a leg that costs at most as much.
 #[derive(Drop)]
 struct ServedCheck<'a> {
     hierarchy: &'a Hierarchy,
@@ -120,7 +120,7 @@ impl ItemCheck for ServedCheck<'_> {
     }
 }
 
-/// Like [`first_without_arc`](crate::founding::first_without_arc), by the workers of a crew.
+/// Returns the same as [`first_without_arc`](crate::founding::first_without_arc). The workers of a crew share the legs.
 pub(crate) fn first_without_arc_by<R: Threads + Sync, G: Gate>(
     crew: &Crew<'_, R, G>,
     graph: &Graph,
@@ -141,7 +141,8 @@ pub(crate) fn first_without_arc_by<R: Threads + Sync, G: Gate>(
     Ok(place_of(first))
 }
 
-/// Like [`first_false_shortcut`](crate::founding::first_false_shortcut), by the workers of a crew.
+/// Returns the same as [`first_false_shortcut`](crate::founding::first_false_shortcut). The workers of a crew
+/// share the legs.
 pub(crate) fn first_false_shortcut_by<R: Threads + Sync, G: Gate>(
     crew: &Crew<'_, R, G>,
     hierarchy: &Hierarchy,
@@ -155,7 +156,7 @@ pub(crate) fn first_false_shortcut_by<R: Threads + Sync, G: Gate>(
     Ok(place_of(first))
 }
 
-/// Like [`first_unserved`](crate::founding::first_unserved), by the workers of a crew.
+/// Returns the same as [`first_unserved`](crate::founding::first_unserved). The workers of a crew share the arcs.
 pub(crate) fn first_unserved_by<R: Threads + Sync, G: Gate>(
     crew: &Crew<'_, R, G>,
     hierarchy: &Hierarchy,
@@ -170,7 +171,7 @@ pub(crate) fn first_unserved_by<R: Threads + Sync, G: Gate>(
     Ok(place_of(first))
 }
 
-/// The place in a list of an item.
+/// Returns the item as a place in a list.
 fn place_of(item: Option<u32>) -> Option<usize>
     ensures { result ≡ item }
 {

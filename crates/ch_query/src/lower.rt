@@ -73,7 +73,7 @@ fn is_covered(hierarchy: &Hierarchy, sides: &mut Sides, node: u32) -> bool
     true
 }
 
-/// The check of the nodes. A node is right if it is covered.
+/// Checks that each node is covered.
 ///
 /// A node is not covered if some pair of legs through it, between different nodes, has no way around it.
 /// Every way up and down between these nodes then costs more than the pair.

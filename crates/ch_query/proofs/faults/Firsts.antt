@@ -1,4 +1,4 @@
--- The first item that is not right, from what is known of each piece.
+-- The first item that is not right, from the values of all pieces.
 use Rattle.std.proofs.Common.{get_or, ◌≡◌, ℕ, ◌+◌, ◌*◌, ◌<◌, ◌≤◌, min, List, [], ◌∷◌, length, All, Option, Some, None, MatchOption, subst, arith, inl, inr}
 use Rattle.std.specs.Prelude.{◌↔◌, Bool, IsTrue, Result, Ok, Err, IfOk}
 use Rattle.std.proofs.lemmas.Bool.{cases_lt}
@@ -11,21 +11,21 @@ use Rattle.ch_work.proofs.PieceLists.{covers}
 use Rattle.ch_query.specs.Covering.{IsFirstUncovered}
 use Rattle.ch_query.specs.Finding.{HoldsIn, IsFirstWithout, IsWithoutBelow, first_some}
 
--- it holds for one more number
+-- P holds for one more number of the range
 pub holds_more : (P : ℕ → Type 0) (from v : ℕ) → HoldsIn P from v → P v → HoldsIn P from (v + 1)
 holds_more P from v before here u ge lt = elim (cases_lt u v) [
   | inl less ↦ before u ge less
   | inr more ↦ let same : v ≡ u = omega arith in subst P same here
 ]
 
--- what is known of all items, unless memory ran out, is the first of them
+-- a number that is known for the range from 0 is the first of it; memory may have run out
 pub first_of_known : (P : ℕ → Type 0) (n : ℕ) {E : Type 0} (r : Result (Option ℕ) E) → IfOk r (IsWithoutBelow P 0 n) → IfOk r (IsFirstWithout P 0 n)
 first_of_known P n (Ok None) h = h
 first_of_known P n (Ok (Some v)) h = (omega arith, h.0, h.1, h.2)
 first_of_known P n (Err e) h = tt
 
 module _ (P : ℕ → Type 0) (n p : ℕ) where
-  -- if P holds before piece k, what is known of the pieces from k on gives the first number of all
+  -- if P holds before piece k, the values of the pieces from k on give the first number of all
   first_from : (k : ℕ) (known : List (Option ℕ)) → n ≤ (k + length known) * p → HoldsIn P 0 (min (k * p) n) → MeanEach (IsWithoutBelow P) n p k known → IsFirstWithout P 0 n (first_some known)
   first_from k [] le before h = λ v from to. before v from (omega (arith, le))
   first_from k (None ∷ known) le before h =
@@ -45,19 +45,19 @@ module _ (P : ℕ → Type 0) (n p : ℕ) where
     ],
   )
 
--- what is known of pieces that cover all items gives the first of all items
+-- the values of pieces that cover all items give the first of all items
 pub first_of_all : (P : ℕ → Type 0) (n p : ℕ) (known : List (Option ℕ)) → 0 < p → AreValues (IsWithoutBelow P) n p 0 (pieces_of n p) known → IsFirstWithout P 0 n (first_some known)
 first_of_all P n p known positive h =
     let all : n ≤ (0 + length known) * p = rw h.0 (covers n p positive) in
     first_from P n p 0 known all (λ v from to. absurd (omega (arith, to))) h.1
 
--- the first node that is not covered, of all nodes
+-- the first of all nodes that is not covered
 first_of_nodes : (H : LevelsAndLegs) (n : ℕ) (first : Option ℕ) → n ≡ nodes_of H → IsFirstWithout (IsCovered H) 0 n first →
     MatchOption first ((v : ℕ) → v < nodes_of H → IsCovered H v) (IsFirstUncovered H)
 first_of_nodes H n None count h = λ v lt. h v (omega arith) (omega (arith, count))
 first_of_nodes H n (Some u) count h = let to = h.1 in record { within = omega (arith, count); fails = h.2; first = λ v lt. h.3 v (omega arith) lt }
 
--- the same of a search that may run out of memory
+-- the same for a search that may run out of memory
 pub nodes_named : (H : LevelsAndLegs) (n : ℕ) {E : Type 0} (r : Result (Option ℕ) E) → n ≡ nodes_of H → IfOk r (IsFirstWithout (IsCovered H) 0 n) →
     IfOk r (λ first. MatchOption first ((v : ℕ) → v < nodes_of H → IsCovered H v) (IsFirstUncovered H))
 nodes_named H n (Ok first) count h = first_of_nodes H n first count h
@@ -68,7 +68,7 @@ module _ {X : Type 0} (P : X → Type 0) (xs : List X) where
   abbrev pub HoldsAt : ℕ → Type 0
   HoldsAt i = (d : X) → P (get_or xs i d)
 
-  -- a test of the element at a place
+  -- a test of one element holds exactly if P holds at its place
   pub tells_at : (b : Bool) (i : ℕ) (e : X) → i < length xs → (IsTrue b ↔ P (get_or xs i e)) → (IsTrue b ↔ HoldsAt i)
   tells_at b i e lt tells = (λ yes d. subst P (get_or_default xs i e d lt) (tells.0 yes), λ h. tells.1 (h e))
 
