@@ -28,8 +28,8 @@ pub record IsSized (c : Construction) : Type 0 where
 abbrev pub IsJudging : ℕ → Construction → Type 0
 IsJudging h c = IsReady c.remaining.nodes h (legs_of c.remaining) c.room × All IsIdleRoom c.rooms.items
 
--- v is contracted and out of the queue, and its neighbours lie deeper; all else is as before, also the priorities of the
--- neighbours
+-- v is contracted and out of the queue, and its neighbours lie deeper. All else is unchanged, and so are the priorities of
+-- the neighbours
 pub record IsTaken (h : ℕ) (before : Construction) (v : ℕ) (neighbours : List ℕ) (after : Construction) : Type 0 where
   pub nodes : after.remaining.nodes ≡ before.remaining.nodes
   pub legs : Contracts before.remaining.nodes h (legs_of before.remaining) v (legs_of after.remaining)

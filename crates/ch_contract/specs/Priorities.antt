@@ -21,7 +21,7 @@ pub record AreRefreshed (IsOf : ℕ → ℤ → Type 0) (nodes : List ℕ) (befo
 abbrev pub has_node : List Leg → ℕ → Bool
 has_node legs x = list_any (λ l. l.node == x) legs
 
--- the nodes of these legs, except those that one of the others leads to
+-- the nodes of these legs that are not nodes of the other legs
 abbrev pub other_nodes : List Leg → List Leg → List ℕ
 other_nodes others legs = map (λ l. l.node) (filter (λ l. not (has_node others l.node)) legs)
 

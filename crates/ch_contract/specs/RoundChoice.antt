@@ -8,7 +8,7 @@ use Rattle.ch_contract.specs.Remaining.{RemainingLegs, legs_of}
 abbrev pub IsKeyIn : RemainingLegs → List ℕ → List ℕ → ℕ → ℤ → Type 0
 IsKeyIn r counts depths x k = k ≡ key_by Rounds (slice_index counts x) (count_touching r.nodes (legs_of r) x) (slice_index depths x)
 
--- the keys of these nodes are written, and the other keys stay
+-- each of these nodes has its present key, and the other keys are unchanged
 pub record AreKeyed (r : RemainingLegs) (counts depths nodes : List ℕ) (before after : List ℤ) : Type 0 where
   pub size : length after ≡ length before
   pub anew : (x : ℕ) → Contains nodes x → IsKeyIn r counts depths x (slice_index_or after x (pos 0))

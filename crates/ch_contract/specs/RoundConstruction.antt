@@ -24,6 +24,6 @@ pub record IsSizedByRounds (c : ConstructionByRounds) : Type 0 where
   pub ups : length c.remaining.ups ≡ c.remaining.nodes
   pub downs : length c.remaining.downs ≡ c.remaining.nodes
 
--- each remaining node has its key
+-- the key that is kept for each remaining node is its present key
 abbrev pub AreKeysNow : ConstructionByRounds → Type 0
 AreKeysNow c = (x : ℕ) → Contains c.left.items x → IsKeyIn c.remaining c.counts.items c.depths.items x (slice_index_or c.keys.items x (pos 0))

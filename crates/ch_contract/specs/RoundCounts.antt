@@ -1,4 +1,4 @@
--- The nodes whose shortcuts are counted after a round, and the nodes whose keys may change by it.
+-- The nodes whose shortcuts are counted after a round, and the nodes whose keys the round may change.
 use Rattle.std.specs.Prelude.{◌≡◌, ℕ, ◌*◌, ◌&&◌, not, nat_lt, if◌then◌else◌, List, [], length, slice_index, Contains}
 use Rattle.ch_contract.specs.Legs.{Legs}
 use Rattle.ch_contract.specs.RoundProgress.{IsCount}
@@ -14,6 +14,6 @@ pub record AreCounted (n h : ℕ) (L : Legs) (nodes before after : List ℕ) : T
 abbrev pub due_of : ℕ → ℕ → ℕ → List ℕ → List ℕ → List ℕ
 due_of n before after near rest = if nat_lt (10 * after) (7 * n) then [] else (if nat_lt (10 * before) (7 * n) then rest else near)
 
--- the nodes whose keys may change by a round, of n nodes. If all remaining nodes were counted, they are these; otherwise they are the neighbours of the round
+-- the nodes whose keys a round may change: all the rest if the shortcuts of all the rest were counted, and else its neighbours
 abbrev pub stale_of : ℕ → ℕ → ℕ → List ℕ → List ℕ → List ℕ
 stale_of n before after near rest = if nat_lt (10 * before) (7 * n) && not (nat_lt (10 * after) (7 * n)) then rest else near

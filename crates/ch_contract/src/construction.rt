@@ -51,10 +51,12 @@ pub fn build<R: Threads + Sync, G: Gate>(
 /// Builds the contraction hierarchy of a graph in this order, where a witness has at most `hops` legs. In each
 /// order it is kept for the graph, so distances are the same. For workers and errors see [`build`].
 ///
-/// By [`OrderBy::Rounds`] workers share each round in four jobs over nodes. These compute the keys of the
-/// remaining nodes, choose the round, find its shortcuts, and count shortcuts. The caller does a job of fewer
-/// than `crew.plan.wide()` nodes alone. Before each round the gate's `watch` receives, one after the other, all
-/// numbers of contracted nodes that it has not received yet.
+/// By [`OrderBy::Rounds`] workers share three jobs of each round: to choose its nodes, to find its shortcuts, and
+/// to count shortcuts. The caller does a job of fewer than `crew.plan.wide()` nodes alone. It chooses a round alone
+/// from fewer than 256 times as many nodes.
+///
+/// Before each round, and after the last, the gate's `watch` receives the numbers of contracted nodes that it has
+/// not received yet. They come in order, from 0 to one less than the number of all nodes.
 pub fn build_by<R: Threads + Sync, G: Gate>(
     crew: &Crew<'_, R, G>,
     graph: &Graph,
@@ -217,8 +219,8 @@ impl Construction {
         Ok(taken)
     }
 
-    /// Contracts a node, takes it out of the queue, and lays its neighbours deeper. Returns the neighbours too. Their
-    /// priorities are still those from before.
+    /// Contracts a node, takes it out of the queue, and raises the depths of its neighbours. Returns the neighbours
+    /// too. Their priorities are unchanged.
     fn take(
         mut self,
         alloc: Global,

@@ -33,7 +33,7 @@ pub(crate) fn push_neighbours(
     Ok(())
 }
 
-/// Appends the nodes of these legs, except those that one of the others leads to.
+/// Appends the nodes of these legs that are not nodes of the other legs.
 fn push_nodes(list: &mut Vec<u32>, legs: &[Leg], others: &[Leg]) -> Result<(), AllocError>
     ensures { OnOk result (list.new.items ≡ list.old.items ++ other_nodes others.now legs.now) }
 {
@@ -44,7 +44,7 @@ fn push_nodes(list: &mut Vec<u32>, legs: &[Leg], others: &[Leg]) -> Result<(), A
     Ok(())
 }
 
-/// Appends a node, unless it is there.
+/// Appends a node if `is_there` is false.
 #[inline]
 fn push_unless(list: &mut Vec<u32>, node: u32, is_there: bool) -> Result<(), AllocError>
     ensures { OnOk result (list.new.items ≡ (if is_there then list.old.items else list.old.items ++ node ∷ [])) }

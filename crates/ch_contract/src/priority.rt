@@ -46,7 +46,8 @@ pub(crate) fn opening_queue<R: Threads + Sync, G: Gate>(
     Ok(waiting)
 }
 
-/// Returns the queue of all nodes, each with its priority, as [`opening_queue`] does. The caller computes them alone.
+/// Returns the queue of all nodes, each with its priority, as [`opening_queue`] does. The caller computes the
+/// priorities alone.
 pub(crate) fn opening_queue_alone(
     alloc: Global,
     remaining: &Remaining,
@@ -169,8 +170,8 @@ impl PriorityJob<'_> {
         Ok(())
     }
 
-    /// Gives these nodes the priorities that they have now, one after the other in a room of their own. The room forgets
-    /// the shortcuts of a node before it judges the next, because few of these nodes are contracted soon.
+    /// Gives these nodes the priorities that they have now, one after the other, in a new room. The room forgets the
+    /// shortcuts of a node before it judges the next one, because few of these nodes are contracted soon.
     pub(crate) fn set_in_turn(
         &self,
         alloc: Global,
@@ -191,7 +192,7 @@ impl PriorityJob<'_> {
         Ok(())
     }
 
-    /// Gives these nodes the priorities that they have now, judged in this room.
+    /// Gives these nodes the priorities that they have now. The nodes are judged in this room.
     pub(crate) fn refresh_here(
         &self,
         alloc: Global,

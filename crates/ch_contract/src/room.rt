@@ -22,7 +22,7 @@ pub(crate) struct Room {
     pub(crate) judged: Vec<u32>,
     /// The shortcuts of these nodes, at the same places. The lists after them are spare.
     pub(crate) lists: Vec<Vec<Shortcut>>,
-    /// Room for the shortcuts of one node that are not kept here.
+    /// Room for the shortcuts of one node of a round, which are copied from here.
     pub(crate) passing: Vec<Shortcut>,
 }
 

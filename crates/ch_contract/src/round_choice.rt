@@ -37,7 +37,7 @@ impl Split {
     }
 }
 
-/// What the keys of nodes are computed from. A round is chosen by these keys. A key is twice the last count of
+/// The values that give the keys of nodes. A round is chosen by these keys. A key is twice the last count of
 /// the node's shortcuts, less the number of legs that touch it now, plus its depth.
 #[derive(Drop)]
 pub(crate) struct KeyParts<'a> {

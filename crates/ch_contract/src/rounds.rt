@@ -51,8 +51,8 @@ pub(crate) fn contract_by_rounds<R: Threads + Sync, G: Gate>(
     construction.finish()
 }
 
-/// Reports each number of contracted nodes from `from` up to but not including `to`, of `nodes`. So progress
-/// is reported as often as if nodes were contracted one after the other.
+/// Reports the numbers of contracted nodes from `from` to `to` - 1, one after the other. There are `nodes` nodes.
+/// So progress is reported as often as if nodes were contracted one after the other.
 fn report<G: Gate>(gate: &G, from: u32, to: u32, nodes: u32) {
     for contracted in from..to {
         gate.watch(Stage::Building, contracted, nodes);
@@ -71,7 +71,7 @@ struct ConstructionByRounds {
     counts: Vec<u64>,
     /// By node: its depth.
     depths: Vec<u32>,
-    /// By node: its key, if it remains.
+    /// By node: its key, as long as it remains.
     keys: Vec<i64>,
     /// The level of each contracted node, and 0 for each remaining node.
     levels: Vec<u32>,
@@ -224,7 +224,7 @@ impl ConstructionByRounds {
     }
 }
 
-/// The choice of a round looks at this many nodes in about the time in which the shortcuts of one node are searched for.
+/// The number of nodes that the choice of a round looks at in about the time of one node's search for shortcuts.
 const LOOKS_AT_ONCE: usize = 256;
 
 /// Returns the crew for a job over `nodes` nodes: the caller alone if these are fewer than `crew.plan.wide()`,
@@ -321,8 +321,8 @@ fn due<'a>(nodes: u32, before: u32, after: u32, near: &'a [u32], rest: &'a [u32]
     near
 }
 
-/// Returns the nodes whose keys may change by a round. If the shortcuts of all remaining nodes were counted after
-/// it, they are the rest. Otherwise they are the nodes near the round.
+/// Returns the nodes whose keys a round may change. They are all remaining nodes, `rest`, if the shortcuts of all
+/// of these were counted after it. Otherwise they are the neighbours of the round, `near`.
 fn stale<'a>(nodes: u32, before: u32, after: u32, near: &'a [u32], rest: &'a [u32]) -> &'a [u32]
     ensures { result.now ≡ stale_of nodes before after near.now rest.now }
 {

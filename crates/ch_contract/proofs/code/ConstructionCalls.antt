@@ -90,11 +90,11 @@ sized_taken h before v list after sizes t =
       downs = t.down.size ∙ sizes.downs ∙ sym nodes;
     }
 
--- what is refreshed, of lists as they are lent
+-- a refreshed queue stays one if lists are replaced by equal lists
 pub lent_refreshed : (IsOf : List ℕ → ℕ → ℤ → Type 0) (depths deep nodes lent : List ℕ) (old after : List (Option ℤ)) → deep ≡ depths → lent ≡ nodes → AreRefreshed (IsOf deep) lent old after → AreRefreshed (IsOf depths) nodes old after
 lent_refreshed IsOf depths deep nodes lent old after d a r = subst (λ l. AreRefreshed (IsOf depths) l old after) a (subst (λ e. AreRefreshed (IsOf e) lent old after) d r)
 
--- the step is made once a node is taken, its neighbours have the priorities of now, and its level is kept
+-- a step is made if a node is taken, its neighbours get their present priorities, and its level is kept
 pub stepped_taken : (by : OrderBy) (h : ℕ) (before : Construction) (v : ℕ) (list : List ℕ) (taken after : Construction) → IsTaken h before v list taken → after.remaining ≡ taken.remaining → after.depths.items ≡ taken.depths.items →
     after.contracted ≡ taken.contracted + 1 → after.levels.items ≡ slice_set taken.levels.items v after.contracted →
     AreRefreshed (IsPriorityIn by taken.remaining h taken.depths.items) list taken.waiting after.waiting → IsStepped by h before v after

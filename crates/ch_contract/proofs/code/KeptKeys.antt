@@ -1,4 +1,4 @@
--- What a round leaves of a node that is none of its nodes and no neighbour of them: its legs, its depth, its count and its key.
+-- A node that is neither in a round nor a neighbour of it keeps its legs, its depth, its count and its key.
 use Rattle.std.proofs.Common.{◌≡◌, ℕ, ◌+◌, ◌*◌, ◌≤◌, ◌^◌, Bool, true, false, List, [], ◌∷◌, Some, None, Contains, refl, sym, ◌∙◌, ap, subst, arith, inl, inr}
 use Rattle.std.specs.Prelude.{◌↔◌, ◌&&◌, ◌||◌, not, if◌then◌else◌, is_some, max, slice_index}
 use Rattle.std.specs.List.{list_any}
@@ -19,7 +19,7 @@ use Rattle.ch_contract.proofs.theory.Counts.{count_same, shortcuts_most}
 use Rattle.ch_contract.proofs.theory.Contracting.{override_cases}
 use Rattle.ch_contract.proofs.theory.RoundLegs.{found, none_of, neighbour_in, neighbour_out}
 
--- a test that a member passes finds one
+-- if a member passes a test, the list has a member that passes it
 pub any_of : (p : ℕ → Bool) (xs : List ℕ) (v : ℕ) → Contains xs v → p v ≡ true → list_any p xs ≡ true
 any_of p [] v c t = absurd (contains_none v c)
 any_of p (x ∷ xs) v c t = elim (contains_cons x v xs c) [
@@ -36,15 +36,15 @@ any_of p (x ∷ xs) v c t = elim (contains_cons x v xs c) [
     right false rest e = e
 
 module _ (n h : ℕ) (L M : Legs) (nodes : List ℕ) (c : ContractsRound n h L nodes M) (x : ℕ) (away : Contains nodes x → ⊥) (far : (v : ℕ) → Contains nodes v → are_neighbours L v x ≡ true → ⊥) where
-  -- it has no leg to a node of the round
+  -- x has no leg to a node of the round
   far_out : (v : ℕ) → Contains nodes v → L x v ≡ None
   far_out v is = none_unless (L x v) (λ l e. far v is (neighbour_in L v x l e))
 
-  -- nor from one
+  -- x has no leg from a node of the round
   far_in : (v : ℕ) → Contains nodes v → L v x ≡ None
   far_in v is = none_unless (L v x) (λ l e. far v is (neighbour_out L v x l e))
 
-  -- its legs stay when the nodes are taken out
+  -- x keeps its legs when the nodes are taken out
   away_out : (w : ℕ) → legs_away nodes L x w ≡ L x w
   away_out w = at (is_one_of nodes w) refl
     where
@@ -59,7 +59,7 @@ module _ (n h : ℕ) (L M : Legs) (nodes : List ℕ) (c : ContractsRound n h L n
       at true e = rw e (sym (far_in w (found nodes w e)))
       at false e = rw (e, none_of nodes x away) refl
 
-  -- and when shortcuts are put in, none of which leads from it
+  -- no shortcut leads from x, so x keeps the legs from it when shortcuts are put in
   put_out : (todo : List ℕ) (K : Legs) → ((v : ℕ) → Contains todo v → Contains nodes v) → (w : ℕ) → legs_with_shortcuts todo c.0 K x w ≡ K x w
   put_out [] K all w = refl
   put_out (v ∷ todo) K all w =
@@ -72,7 +72,7 @@ module _ (n h : ℕ) (L M : Legs) (nodes : List ℕ) (c : ContractsRound n h L n
             absurd (far v here (neighbour_in L v x legs.0 (subst (λ z. L z v ≡ Some legs.0) s.2 legs.2)))
       ]
 
-  -- or to it
+  -- no shortcut leads to x, so x keeps the legs to it when shortcuts are put in
   put_in : (todo : List ℕ) (K : Legs) → ((v : ℕ) → Contains todo v → Contains nodes v) → (w : ℕ) → legs_with_shortcuts todo c.0 K w x ≡ K w x
   put_in [] K all w = refl
   put_in (v ∷ todo) K all w =
@@ -85,7 +85,7 @@ module _ (n h : ℕ) (L M : Legs) (nodes : List ℕ) (c : ContractsRound n h L n
             absurd (far v here (neighbour_out L v x legs.1 (subst (λ z. L v z ≡ Some legs.1) s.3 legs.3)))
       ]
 
-  -- so as many legs touch it
+  -- x keeps the number of legs that touch it
   pub touching_kept : count_touching n M x ≡ count_touching n L x
   touching_kept =
       let out : (y : ℕ) → M x y ≡ L x y = λ y. c.2 x y ∙ put_out nodes (legs_away nodes L) (λ v is. is) y ∙ away_out y in
@@ -94,7 +94,7 @@ module _ (n h : ℕ) (L M : Legs) (nodes : List ℕ) (c : ContractsRound n h L n
       let ins = count_same n (λ y. is_some (M y x)) (λ y. is_some (L y x)) (λ y lt. ap is_some (into y)) in
       omega arith
 
-  -- and it lies as deep
+  -- x keeps its depth
   depth_far : (todo : List ℕ) (depth : ℕ → ℕ) → ((v : ℕ) → Contains todo v → Contains nodes v) → depth_after_round L todo depth x ≡ depth x
   depth_far [] depth all = refl
   depth_far (v ∷ todo) depth all = depth_far todo (next_depth L v depth) (λ y is. all y (contains_tail y v todo is)) ∙ at (are_neighbours L v x) refl
@@ -114,14 +114,14 @@ not_stale true false near rest x has away = (away, λ c. contains_none x c)
 not_stale false true near rest x has away = absurd (away has)
 not_stale false false near rest x has away = (away, away)
 
--- a count is small
+-- a count is at most 2^50
 pub count_small : (n h : ℕ) (M : Legs) (x k : ℕ) → AreLegsWithin n M → n ≤ MOST_NODES → IsCount n h M x k → k ≤ 2 ^ 50
 count_small n h M x k limits few count =
     let most = shortcuts_most n h M x count.0 limits count.1 in
     let square : n * n ≤ 2 ^ 50 = mul-le-mul {n₁ = n} {m₁ = n} {n₂ = MOST_NODES} {m₂ = MOST_NODES} few few in
     omega (arith, most, square, count.2)
 
--- counts stay small
+-- counts stay at most 2^50
 pub counts_small : (n h : ℕ) (M : Legs) (due before after : List ℕ) (x : ℕ) → AreLegsWithin n M → n ≤ MOST_NODES → AreCounted n h M due before after → slice_index before x ≤ 2 ^ 50 → slice_index after x ≤ 2 ^ 50
 counts_small n h M due before after x limits few counted small = elim (contains_or_not due x) [
   | inl has ↦ count_small n h M x (slice_index after x) limits few (counted.anew x has)

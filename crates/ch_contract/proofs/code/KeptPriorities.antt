@@ -25,11 +25,11 @@ numbers_below n k d lt =
     let within : k < n = omega (arith, length-range_with_len 0 n) in
     omega (arith, get_or-range_with_len 0 n k d within)
 
--- a list of the numbers below n, as it is lent
+-- if a lent list has the numbers below n, its members are below n
 pub numbers_within : (n count : ℕ) (items lent : List ℕ) → lent ≡ items → items ≡ range_with_len 0 count → count ≡ n → All (λ x. x < n) lent
 numbers_within n count items lent a b e = subst (All (λ x. x < n)) (sym (a ∙ b ∙ ap (range_with_len 0) e)) (numbers_below n)
 
--- each number below n is among the numbers below n
+-- each number below n is in the list of the numbers below n
 pub number_among : (n x : ℕ) → x < n → Contains (range_with_len 0 n) x
 number_among n x lt =
     let at : get_or (range_with_len 0 n) x 0 ≡ x = omega (arith, get_or-range_with_len 0 n x 0 lt) in

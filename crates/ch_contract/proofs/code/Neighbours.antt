@@ -25,12 +25,12 @@ node_found (k ∷ legs) x e = at (k.node == x) refl e (node_found legs x)
     at true t f more = (k, contains_head k legs, eqb-true k.node x t)
     at false t f more = let r = more f in (r.0, contains_tail r.0 k legs r.1, r.2)
 
--- where no other leg is, the nodes of all legs are listed
+-- if there are no other legs, the nodes of all legs are listed
 pub all_others : (legs : List Leg) → other_nodes [] legs ≡ map (λ (k : Leg). k.node) legs
 all_others [] = refl
 all_others (k ∷ legs) = ap (λ l. k.node ∷ l) (all_others legs)
 
--- the node of one more leg
+-- the list after the node of one more leg
 pub others_more : (list middle after : List ℕ) (legs others : List Leg) (i : ℕ) → i < length legs → middle ≡ list ++ other_nodes others (take i legs) →
     after ≡ (if has_node others (get_or legs i no_leg).node then middle else middle ++ (get_or legs i no_leg).node ∷ []) → after ≡ list ++ other_nodes others (take (i + 1) legs)
 others_more list middle after legs others i lt known pushed =

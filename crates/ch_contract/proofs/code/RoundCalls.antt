@@ -168,7 +168,7 @@ module _ (h : ℕ) (before after : ConstructionByRounds) (nodes near : List ℕ)
         downs = s.down.size ∙ sizes.downs ∙ sym count;
       }
 
-  -- and each remaining node has its key
+  -- after the round each remaining node has its key
   pub keyed_by_round : keys ≡ before.keys.items → AreKeysNow after
   keyed_by_round same x left =
       let n : ℕ = before.remaining.nodes in
@@ -190,7 +190,7 @@ module _ (h : ℕ) (before after : ConstructionByRounds) (nodes near : List ℕ)
             s.rekeyed.kept x away ∙ own ∙ sym (λ t. key_by Rounds (count t) (touching t) (deep t))
       ]
 
--- the nodes whose keys are written are nodes with small counts
+-- a property of the neighbours of the round and of the rest is a property of all nodes whose keys are written
 pub stale_below : (P : ℕ → Type 0) (n before after : ℕ) (near rest : List ℕ) → ((x : ℕ) → Contains near x → P x) → ((x : ℕ) → Contains rest x → P x) → All P (stale_of n before after near rest)
 stale_below P n before after near rest first second = at (nat_lt (10 * before) (7 * n) && not (nat_lt (10 * after) (7 * n)))
   where

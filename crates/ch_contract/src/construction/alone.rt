@@ -14,8 +14,9 @@ use ch_graph::Graph;
 use ch_hierarchy::Hierarchy;
 use std::alloc::{AllocError, Global};
 
-/// Returns the contraction hierarchy of a graph by depth, where a witness has at most `hops` legs. It is the one of
-/// [`build_by`](crate::build_by). The caller builds it alone: it starts no thread, and nobody hears how far it is.
+/// Builds the contraction hierarchy of a graph by depth, where a witness has at most `hops` legs. It is the hierarchy
+/// that [`build_by`](crate::build_by) builds. The caller builds it alone: no thread is started, and no progress is
+/// reported.
 ///
 /// # Errors
 /// `AllocError` if there is no memory. What was made is dropped, and the graph is as it was.
@@ -40,7 +41,7 @@ impl Construction {
     ghost use Rattle.ch_contract.specs.Progress.{IsOpen, IsStep};
     ghost use Rattle.ch_contract.specs.Construction.{IsSized, IsJudging, progress_of};
 
-    /// Begins a construction by depth, of which no node is contracted yet.
+    /// Starts a construction by depth. No node is contracted yet.
     fn open_alone(alloc: Global, graph: &Graph, hops: u32) -> Result<Construction, AllocError>
         requires { IsHopBound hops }
         ensures sizes { IfOk result IsSized }
@@ -67,7 +68,7 @@ impl Construction {
         })
     }
 
-    /// Contracts a node, and keeps its level and its legs. The order is the one by depth.
+    /// Contracts a node in the order by depth, and keeps its level and its legs.
     fn contract_alone(self, alloc: Global, node: u32, hops: u32) -> Result<Construction, AllocError>
         requires sizes { IsSized self }
         requires limits { AreLegsWithin self.remaining.nodes (legs_of self.remaining) }

@@ -16,7 +16,7 @@ use ch_hierarchy::Leg;
 use std::alloc::AllocError;
 use std::marker::PhantomData;
 
-/// A node, with the legs from it and those to it.
+/// A node, with the legs from it and the legs to it.
 #[derive(Clone, Copy)]
 pub(crate) struct Touching<'a> {
     pub(crate) node: u32,
@@ -36,8 +36,8 @@ impl Touching<'_> {
 
 /// The legs and the bound of a search for the shortcuts of one node.
 ///
-/// The legs that touch the node may have been set aside. Witnesses consist of the legs that are left, and have at most
-/// `hops` of them. All these legs are light enough for searches that hold costs in the form `K`.
+/// The legs that touch the node may have been set aside. Witnesses consist of remaining legs, and have at most `hops`
+/// legs. All these legs are light enough for searches that hold costs in the form `K`.
 #[derive(Drop)]
 pub(crate) struct Judging<'a, K: HeldCost> {
     pub(crate) remaining: &'a Remaining,
@@ -113,8 +113,8 @@ impl<'a, K: HeldCost> Judging<'a, K> {
         Ok(())
     }
 
-    /// Returns the shortcut for two legs, the first to the avoided node and the second from it. The chains from the first
-    /// node are known.
+    /// Returns the shortcut for a leg to the avoided node and a leg from it, or `None` if there is none.
+    /// `search` knows the chains from the first node.
     fn shortcut(
         &self,
         search: &WitnessSearch<K>,

@@ -19,7 +19,7 @@ use Rattle.std.proofs.lemmas.List.Elements.{All-contains}
 use Rattle.ch_contract.proofs.rounds.ConstructionByRounds.contract.Goals.{In_ok-round, In_ok-count}
 use Rattle.ch_contract.proofs.rounds.ConstructionByRounds.contract.Goals as goal
 
--- what the keys split
+-- the keys split the remaining nodes into the round and the rest
 split : (g : _) (c : In_ok-round g) → IsSplit (IsFirstBy c.args.self.keys.items (legs_of c.args.self.remaining)) c.args.self.left.items c.in_ok-round.field-0.round.items c.in_ok-round.field-0.rest.items
 split g c = c.in_ok-round.ensures
 
@@ -75,7 +75,7 @@ count-requires-clause-nodes g c lifetimes bounds =
     (subst (All (λ x. x < n)) (sym c.as_slice-around.ensures.value) near) (subst (All (λ x. x < n)) (sym c.as_slice-waiting.ensures.value) rest)) in
     subst (λ m. All (λ x. x < m) c.due-due.result.now) (sym c.in_ok-self.ensures.nodes) lent
 
--- what it is after the round
+-- the construction after the round, with these keys
 abbrev after : (g : _) (c : In_ok-count g) → List ℤ → ConstructionByRounds
 after g c keys = record {
   remaining = c.in_ok-self.field-0;
@@ -106,13 +106,13 @@ counted g c =
     let second = subst (λ (l : List ℕ). AreCounted n c.args.hops M l c.deref_mut-3.result.now c.count.new.counts) due first in
     subst (λ (l : List ℕ). AreCounted n c.args.hops M (due_of n before now near c.in_ok-round.field-0.rest.items) l c.count.new.counts) c.deref_mut-3.ensures.value second
 
--- the keys that are written, and those of the others
+-- the nodes whose keys may change get their present keys, and the other keys stay
 abbrev IsRekeyed : (g : _) (c : In_ok-count g) → List ℤ → Type 0
 IsRekeyed g c keys =
     AreKeyed c.in_ok-self.field-0 (with_items c.args.self.counts c.count.new.counts).items (with_items c.args.self.depths c.deepen_around.new.depths).items
     (stale_of c.args.self.remaining.nodes c.args.self.contracted (c.args.self.contracted + length c.as_slice-nodes.result.now) c.in_ok-near.near.items c.in_ok-round.field-0.rest.items) c.args.self.keys.items (with_items c.args.self.keys keys).items
 
--- its parts
+-- the parts of the step
 stepped : (g : _) (c : In_ok-count g) (keys : List ℤ) → IsRekeyed g c keys → IsSteppedByRound c.args.hops c.args.self (after g c keys) c.as_slice-nodes.result.now c.in_ok-near.near.items c.args.self.keys.items
 stepped g c keys rekeyed =
     let n = c.args.self.remaining.nodes in
@@ -169,7 +169,7 @@ refresh-requires-clause-nodes g c =
     subst (λ m. All (λ x. (x < m) × (slice_index c.as_slice.result.now x ≤ 2 ^ 50)) c.stale.result.now) (sym c.in_ok-self.ensures.nodes)
     (subst (λ (l : List ℕ). All (λ x. (x < n) × (slice_index l x ≤ 2 ^ 50)) c.stale.result.now) (sym c.as_slice.ensures.value) (subst (All P) (sym list) all))
 
--- the keys that are written
+-- `refresh` writes these keys
 rekeyed : (g : _) (c : goal.After-drop-round-2 g) → IsRekeyed g (goal.at.returns-clause-sizes g c).In_ok-count c.refresh.new.keys
 rekeyed g c =
     let n = c.args.self.remaining.nodes in
