@@ -1,4 +1,4 @@
--- Which of the two hierarchies an engine opens with.
+-- Which hierarchy an engine opens with: a saved one, or one that is built.
 use Rattle.std.proofs.Common.{◌≡◌, ◌≢◌, ℕ, List, [], ◌∷◌, length, refl, ap, arith}
 use Rattle.ch_graph.specs.Graph.{Network}
 use Rattle.ch_graph.specs.Saved.{OrderAndLegs}
@@ -10,16 +10,16 @@ use Rattle.ch_read.specs.Names.{NamesSaved}
 use Rattle.ch_engine.specs.declared.opening.TheConstants.{BUILT_HOPS}
 use Rattle.ch_engine.specs.Opened.{IsSavedOrBuilt}
 
--- without bytes it is the one by depth
+-- without bytes it is the hierarchy by depth
 pub built : (g : Network) (bytes : List ℕ) (H : LevelsAndLegs) → length bytes ≡ 0 → IsHierarchyBy Depth g BUILT_HOPS H → IsSavedOrBuilt g bytes H
 built g [] H none by = by
 built g (byte ∷ bytes) H none by = absurd (omega (arith, none))
 
--- with bytes it is the one that they name
+-- with bytes it is the hierarchy that they name
 pub saved_named : (g : Network) (bytes : List ℕ) (s : OrderAndLegs) (H : LevelsAndLegs) → length bytes ≢ 0 → NamesSaved bytes g.nodes s → NamesHierarchy s H → IsSavedOrBuilt g bytes H
 saved_named g [] s H some named of = absurd (some refl)
 saved_named g (byte ∷ bytes) s H some named of = (s, named, of)
 
--- a list that is empty has no element
+-- a list whose length is not 0 is not empty
 pub some_bytes : (bytes : List ℕ) → length bytes ≢ 0 → bytes ≢ []
 some_bytes bytes some none = some (ap length none)

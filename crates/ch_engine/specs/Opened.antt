@@ -10,11 +10,11 @@ use Rattle.ch_contract.specs.Built.{IsHierarchyBy}
 use Rattle.ch_read.specs.Names.{NamesGraph, NamesSaved}
 use Rattle.ch_engine.specs.declared.opening.TheConstants.{BUILT_HOPS}
 
--- the hierarchy that the bytes of a saved one name, or where there are no bytes, the one by depth
+-- the hierarchy that the bytes of a saved one name. Without bytes it is the hierarchy by depth
 abbrev pub IsSavedOrBuilt : Network → List ℕ → LevelsAndLegs → Type 0
 IsSavedOrBuilt g [] H = IsHierarchyBy Depth g BUILT_HOPS H
 IsSavedOrBuilt g (byte ∷ bytes) H = (s : OrderAndLegs) × NamesSaved (byte ∷ bytes) g.nodes s × NamesHierarchy s H
 
--- a hierarchy that is right for the graph that the bytes name, saved or built
+-- the hierarchy is right for the graph that the bytes name. It is saved or built
 abbrev pub IsOpened : List ℕ → List ℕ → LevelsAndLegs → Type 0
 IsOpened graph saved H = (g : Network) × NamesGraph graph g × IsWithinLimits g × IsKept g H × IsSavedOrBuilt g saved H

@@ -50,8 +50,8 @@ impl Model for Engine {
 
 impl Engine {
     /// Opens an engine from the bytes of a graph file and of a file with its saved hierarchy. The hierarchy is
-    /// checked against the graph. If `saved` is empty, the hierarchy is built by depth. That takes some 3 to 15
-    /// microseconds a node of a road network.
+    /// checked against the graph. If `saved` is empty, the hierarchy is built by depth. On road networks this takes
+    /// about 3 to 15 microseconds per node.
     ///
     /// # Errors
     /// The first fault of the graph's bytes, otherwise that of the saved hierarchy's bytes, otherwise its first fault

@@ -10,11 +10,11 @@ use ch_query::check_alone;
 use ch_read::{ReadError, read_graph, read_saved};
 use std::alloc::Global;
 
-/// The most legs of a witness if a hierarchy is built. The command line takes the same number if none is given.
+/// The most legs of a witness, if the hierarchy is built. The command line uses the same number by default.
 const BUILT_HOPS: u32 = 5;
 
-/// Returns a hierarchy that is right for the graph that the bytes `graph` name. If there are bytes `saved`, it is the one that
-/// they name. If there are none, it is built by depth.
+/// Returns a hierarchy that is right for the graph that the bytes `graph` name. If `saved` is not empty, its bytes name
+/// the hierarchy. If `saved` is empty, the hierarchy is built by depth.
 ///
 /// # Errors
 /// The first fault of the graph's bytes, otherwise that of the saved hierarchy's bytes, otherwise its first fault for
