@@ -10,7 +10,7 @@ macro_rules! again {
     };
 }
 
-/// Makes a call that may answer a fault, and makes it a second time if the first answered this refusal.
+/// Makes a call that may end in a fault, and makes it a second time if the first call ended in this refusal.
 macro_rules! again_after {
     ($refusal:path, $call:expr) => {
         match $call {

@@ -1,4 +1,4 @@
-//! Hierarchies that are built. Their texts are compared, as `chtab save` writes them.
+//! Hierarchies that are built. The tests compare their texts, as `chtab save` writes them.
 ghost use Rattle.std.specs.Prelude.{◌≡◌, IfOk};
 ghost use Rattle.ch_contract.specs.Legs.{IsHopBound};
 
@@ -36,7 +36,7 @@ fn built<R: Threads + Sync>(
 }
 
 /// Builds the hierarchy of the graph with several numbers of workers and sizes of pieces. Expects the same
-/// text of each plan.
+/// text with each plan.
 fn expect<R: Threads + Abort + Sync>(
     rt: &R,
     alloc: Global,
@@ -59,7 +59,7 @@ fn expect<R: Threads + Abort + Sync>(
     Ok(())
 }
 
-/// The ring by rounds.
+/// The ring, and its hierarchy by rounds.
 const RING_BY_ROUNDS: Files = (
     RING_ARCS,
     b"p ch 5 8\no 1\no 3\no 5\no 2\no 4\nl 1 2 1 1 0\nl 5 1 1 1 0\nl 3 4 1 1 0\nl 2 3 1 1 0\n\

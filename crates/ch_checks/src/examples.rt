@@ -1,4 +1,4 @@
-//! Small networks as files, and the hierarchies that are read from them.
+//! Small networks as files, and the hierarchies in these files.
 ghost use Rattle.std.specs.Prelude.{IfOk};
 ghost use Rattle.ch_query.specs.Distance.{IsKeptForSome};
 
@@ -13,10 +13,10 @@ use std::alloc::Global;
 use std::test::Fail;
 use std::thread::Threads;
 
-/// The bytes of a graph file, and those of a file with its hierarchy.
+/// The bytes of a graph file, and the bytes of a file with its hierarchy.
 pub(crate) type Files = (&'static [u8], &'static [u8]);
 
-/// A line of three nodes, from the first to the last.
+/// A line of three nodes, with arcs from the first to the last.
 pub(crate) const LINE: Files = (
     b"p sp 3 2\na 1 2 4\na 2 3 5\n",
     b"p ch 3 2\no 1\no 2\no 3\nl 1 2 4 1 0\nl 2 3 5 1 0\n",
@@ -33,7 +33,7 @@ pub(crate) const STAR: Files = (
 /// A ring of five nodes, whose arcs weigh 1 and lead one way.
 pub(crate) const RING_ARCS: &[u8] = b"p sp 5 5\na 1 2 1\na 2 3 1\na 3 4 1\na 4 5 1\na 5 1 1\n";
 
-/// The last node of the ring has a leg of 1 to 4 arcs to each other node.
+/// The ring and its hierarchy. The last node has a leg of 1 to 4 arcs to each other node.
 pub(crate) const RING: Files = (
     RING_ARCS,
     b"p ch 5 8\no 1\no 2\no 3\no 4\no 5\nl 1 2 1 1 0\nl 5 1 1 1 0\nl 2 3 1 1 0\nl 5 2 2 2 1\n\

@@ -7,8 +7,8 @@ use ch_graph::{Graph, Rows, plain_distance, sort_by_key};
 use std::alloc::{AllocError, Global};
 use std::test::Fail;
 
-/// Returns the distance from one end of the line to the other, and how many values are sorted and how many
-/// rows are built.
+/// Returns the distance from one end of the line to the other, the number of values that are sorted, and the
+/// number of rows that are built.
 fn asked(alloc: Global, line: &Graph) -> Result<(Option<u64>, usize, u32), AllocError>
     requires { line.now.nodes ≡ 3 }
 {

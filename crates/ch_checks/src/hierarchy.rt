@@ -1,4 +1,4 @@
-//! The hierarchies that saved ones name.
+//! Hierarchies that are assembled from saved ones.
 use crate::again::again_after;
 use crate::examples::{RING, read};
 use ch_hierarchy::{CheckError, assemble};

@@ -14,8 +14,8 @@ use std::process::Abort;
 use std::test::Fail;
 use std::thread::Threads;
 
-/// Expects the rows of the ring's last two nodes from searches: the first two places by distance, and then
-/// by place. Two places are the same.
+/// Searches for the rows of the ring's last two nodes, and expects the two nearest places of each. Places at
+/// equal distances are in order of number. Two of the three places have the same node.
 fn expect_searched<R: Threads + Abort + Sync>(
     rt: &R,
     alloc: Global,

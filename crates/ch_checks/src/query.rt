@@ -24,8 +24,8 @@ const STALLING: Files = (
       l 2 3 1 1 0\nl 3 2 1 1 0\n",
 );
 
-/// Returns the weight of the route from one end of the long road to the other, and how many entries the
-/// spread of an end has, its search space, and that on the other side.
+/// Returns the weight of the route from one end of the long road to the other. Then come the numbers of entries
+/// of the spread of an end, of its search space, and of its search space on the other side.
 fn asked(alloc: Global, roads: &Hierarchy, scratch: &mut Scratch) -> Result<[u64; 4], AllocError>
     requires kept { IsKeptForSome roads.now }
     requires nodes { nodes_of roads.now ≡ 3 }
@@ -48,8 +48,8 @@ fn asked(alloc: Global, roads: &Hierarchy, scratch: &mut Scratch) -> Result<[u64
     ])
 }
 
-/// Returns the same. If a call is refused memory, all are made a second time, in the room that the refusal
-/// left.
+/// Returns the same as [`asked`]. If a call is refused memory, all calls are made a second time. They use the
+/// scratch that the refused call left.
 fn asked_again(alloc: Global, roads: &Hierarchy) -> Result<[u64; 4], AllocError>
     requires kept { IsKeptForSome roads.now }
     requires nodes { nodes_of roads.now ≡ 3 }
@@ -61,7 +61,8 @@ fn asked_again(alloc: Global, roads: &Hierarchy) -> Result<[u64; 4], AllocError>
     }
 }
 
-/// A node has no entry in a search space if a higher node shows a lighter way to it. In a spread it has one.
+/// A node has no entry in a search space if a higher node shows a lighter way to it. In a spread it has an
+/// entry.
 ///
 /// It holds if any one request for memory is refused. The call that is refused answers that memory ran out.
 /// Made again with what it was lent, it answers as with enough memory.
@@ -74,8 +75,8 @@ fn refused_in_turn(rt: HostRuntime) -> Result<(), Fail> {
     Ok(())
 }
 
-/// Returns the answers to two queries on the ring. It asks three times, at last in the scratches that the
-/// call before left.
+/// Returns the answers to two queries on the ring. It asks three times. The last call uses the scratches that the
+/// second call left.
 fn answered<R: Threads + Sync>(
     rt: &R,
     alloc: Global,
@@ -96,8 +97,8 @@ fn answered<R: Threads + Sync>(
     answer_all_in(&crew, ring, &mut scratches, &queries, routes)
 }
 
-/// Queries are answered by one worker, by two workers that share them, and in scratches that stay. It holds
-/// if any one request for memory is refused.
+/// One worker answers the queries, or two workers share them. The last call uses scratches that are kept. It
+/// holds if any one request for memory is refused.
 #[test]
 fn answered_refused_in_turn(rt: HostRuntime) -> Result<(), Fail> {
     let alloc = rt.alloc();

@@ -7,7 +7,7 @@ use ch_read::{ReadError, read_graph, read_nodes, read_queries, read_saved};
 use std::alloc::Global;
 use std::test::Fail;
 
-/// Reads a file of each form, and returns how many items each has.
+/// Reads a file of each form, and returns the number of items in each.
 fn read_each(alloc: Global) -> Result<[usize; 4], ReadError> {
     let graph = read_graph(alloc, b"p sp 2 2\na 1 2 7\na 2 1 8\n")?;
     let queries = read_queries(alloc, b"p aux sp p2p 2\nq 1 3\nq 3 1\n", 3)?;

@@ -14,7 +14,7 @@ use std::process::Abort;
 use std::test::Fail;
 use std::thread::Threads;
 
-/// Makes the ring's table of three sources, of which two are the same, and two targets.
+/// Makes the ring's table of three sources and two targets. Two of the sources are the same node.
 fn make<R: Threads + Sync, G: Gate>(
     rt: &R,
     alloc: Global,
@@ -29,8 +29,8 @@ fn make<R: Threads + Sync, G: Gate>(
     table(&crew, ring, &[0, 0, 4], &[3, 4], None)
 }
 
-/// Expects how often each piece passes the gate if `workers` workers make the table. Each node is a piece of
-/// its own.
+/// Makes the table with `workers` workers, and expects how often each piece passes the gate. Each node is a
+/// piece of its own.
 fn expect_passes<R: Threads + Abort + Sync>(
     rt: &R,
     alloc: Global,
@@ -58,7 +58,7 @@ fn gates_passed(rt: HostRuntime) -> Result<(), Fail> {
     expect_passes(&rt, rt.alloc(), 4, [3, 3, 2, 1])
 }
 
-/// Returns how many entries a bucket up and a bucket down the ring has.
+/// Fills buckets up and buckets down the ring. Returns the number of entries of one of each.
 fn filled(alloc: Global, ring: &Hierarchy) -> Result<(usize, usize), AllocError>
     requires kept { IsKeptForSome ring.now }
     requires nodes { nodes_of ring.now ≡ 5 }
@@ -68,7 +68,7 @@ fn filled(alloc: Global, ring: &Hierarchy) -> Result<(usize, usize), AllocError>
     Ok((up.at(3).len(), down.at(4).len()))
 }
 
-/// Expects the last row of the table that so many workers make.
+/// Makes the table with `workers` workers, and expects its last row.
 fn expect<R: Threads + Abort + Sync>(
     rt: &R,
     alloc: Global,

@@ -9,8 +9,8 @@ use ch_graph::{Cost, Graph};
 use std::alloc::{AllocError, Global};
 use std::test::Fail;
 
-/// Returns what is asked of the middle of the star: whether two others have a witness, how many shortcuts
-/// it has, its priority, and how many legs its contraction removes.
+/// Asks about the middle of the star. Returns whether two other nodes have a witness, the number of its
+/// shortcuts, its priority, and the number of legs from it that its contraction removes.
 fn asked(alloc: Global, star: &Graph) -> Result<(bool, usize, i64, usize), AllocError>
     requires { star.now.nodes ≡ 4 }
 {
@@ -24,7 +24,7 @@ fn asked(alloc: Global, star: &Graph) -> Result<(bool, usize, i64, usize), Alloc
 }
 
 /// It holds if any one request for memory is refused. The call that is refused answers that memory ran out.
-/// A refused contraction drops the legs, so they are opened again. Then all answer as with enough memory.
+/// A refused contraction drops the legs, so the second call opens them again. It answers as with enough memory.
 #[test]
 fn refused_in_turn(rt: HostRuntime) -> Result<(), Fail> {
     let alloc = rt.alloc();

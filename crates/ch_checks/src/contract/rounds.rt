@@ -16,7 +16,7 @@ fn built_by_rounds(rt: HostRuntime) -> Result<(), Fail> {
     expect(&rt, rt.alloc(), 16, by, SIXTEEN_HOPS)
 }
 
-/// No node.
+/// A graph without nodes.
 const EMPTY: Files = (b"p sp 0 0\n", b"p ch 0 0\n");
 
 /// Rounds of 2, 2, 1, 1, 1, 1, 1, 1 and 1 nodes.

@@ -9,7 +9,7 @@ use std::process::Abort;
 use std::test::Fail;
 use std::thread::Threads;
 
-/// Expects how often each of four pieces passes the gate when the hierarchy of the star is built.
+/// Builds the hierarchy of the star. Expects how often each of the first four pieces passes the gate.
 fn expect_passes<R: Threads + Abort + Sync>(
     rt: &R,
     alloc: Global,
@@ -39,7 +39,7 @@ fn neighbours_are_shared_where_they_are_many(rt: HostRuntime) -> Result<(), Fail
     Ok(())
 }
 
-/// On a star the opening has a piece for each node, and each job of a round has a piece for each of its
+/// On a star the opening has a piece for each node. Each job of a round has a piece for each of the job's
 /// nodes.
 #[test]
 fn rounds_are_shared_in_pieces(rt: HostRuntime) -> Result<(), Fail> {

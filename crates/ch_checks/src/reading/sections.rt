@@ -8,7 +8,7 @@ use std::alloc::AllocError;
 use std::test::Fail;
 use std::thread::Threads;
 
-/// Reads the files of the ring in sections of this size, and returns how many arcs and legs they have.
+/// Reads the files of the ring in sections of this size, and returns the numbers of arcs and legs.
 fn read_by<R: Threads + Sync>(
     crew: &Crew<'_, R, CountingGate>,
     size: usize,

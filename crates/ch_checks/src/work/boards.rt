@@ -1,4 +1,4 @@
-//! Boards: a look shows the offers of others, and numbers end.
+//! Boards: a look shows the offers of others, and at the end no number is left to claim.
 use ch_work::Board;
 use std::test::Fail;
 
