@@ -30,9 +30,9 @@ pub trait Files {
 
     // the state of the file of this name, as far as contracts know it
     ghost known: { Self → List ℕ → FileState };
-    // what a call of `open` may relate: the files before, the name, the answer, and the files after
+    // the calls of `open` that may happen: the files before, the name, the answer, and the files after
     ghost opens: { Self → List ℕ → Result Self.Input FaultOf → Self → Type 0 };
-    // what a call of `close` may relate: the files before, the opened file as it was left, and the files after
+    // the calls of `close` that may happen: the files before, the opened file as it was left, and the files after
     ghost closes: { Self → Self.Input → Self → Type 0 };
 
     /// Opens the file of this name, at its first byte.
