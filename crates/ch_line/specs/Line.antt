@@ -170,7 +170,7 @@ AreClosed closes [] old new = new ≡ old
 AreClosed {F} closes (input ∷ inputs) old new = (mid : F) × closes old input.1 mid × AreClosed closes inputs mid new
 
 -- the run of a line uses these files and no other. If one can't be opened, the run ends in that fault. Otherwise it opens all of them in
--- turn and reads them. It reports a failed read of a file exactly if there was one. At the end it closes all of them in turn
+-- turn. It reports a failed read of a file exactly if there was one. At the end it closes all of them in turn
 abbrev pub UsesFiles : {F I : Type 0} → (opens : F → List ℕ → Result I OpenFault → F → Type 0) → (closes : F → I → F → Type 0) → (origin failed : I → ℕ) → List File → (old new : F) → Result Unit RunFault → Type 0
 UsesFiles {F} {I} opens closes origin failed files old new result =
     IsErrAnd result (StopsOpening opens files old new)

@@ -20,8 +20,8 @@ use std::alloc::Global;
 use std::thread::Threads;
 
 /// Makes the run that a line asks for. It opens all files of the line before it reads one, in the order of
-/// [`open_inputs`], and opens no other file.
-/// It reads the requests only if it answers them, and otherwise leaves them alone.
+/// [`open_inputs`], and opens no other file. It reads the requests only if it answers them, and otherwise leaves
+/// them alone.
 ///
 /// # Errors
 /// The fault of the first file that can't be opened, or of the run.
