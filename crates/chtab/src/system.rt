@@ -1,8 +1,8 @@
 //! The system's side of the program: its words, its files and its streams.
 //!
 //! The contract of [`run`] holds for all files, every reader and all writers. It says something about bytes only
-//! if these are known, as the bytes of files and of `std`'s streams in memory are. No contract of `std` says
-//! which words there are, or which bytes a file of the system has.
+//! if these are known, as the bytes of files in memory and of `std`'s streams in memory are. No contract of `std`
+//! says which words there are, or which bytes a file of the system has.
 
 ghost use Rattle.std.specs.Prelude.{◌≡◌, None, MatchResult, Result, map, ⊤};
 ghost use Rattle.std.specs.String.{string_bytes};
