@@ -31,7 +31,7 @@ pub struct SystemFiles<'a, R: rt::Files> {
 impl<'a, R: rt::Files> SystemFiles<'a, R> {
     /// Makes the files of this system.
     pub fn new(rt: &'a R) -> Self
-        ensures { result.rt ≡ rt }
+        ensures { result.rt ≡ rt.entry }
     {
         SystemFiles { rt }
     }
