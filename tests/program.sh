@@ -400,19 +400,19 @@ expect_read() {
   compare "$name, standard error" "$err" "$(cat err.txt)"
 }
 
-# The graph is read by the first two reads, of which the second finds its end, and so is each other file after it.
+# Two reads take the graph: the second finds its end. Then two reads take each other file, in order. The numbers of errors are those of Linux.
 interrupted=4
-failed=5
+device_failed=5
 answers=$("$root/chtab" dist "$g" "$q")
 for read in 1 2 3 4; do
   expect_read "read $read is interrupted" 0 "$answers" "" $read $interrupted dist "$g" "$q"
 done
-expect_read "a graph that can't be read" 3 "" "chtab: cannot read graph" 1 $failed dist "$g" "$q"
-expect_read "queries that can't be read" 3 "" "chtab: cannot read queries" 3 $failed dist "$g" "$q"
-expect_read "queries that can't be read to their end" 3 "" "chtab: cannot read queries" 4 $failed dist "$g" "$q"
-expect_read "a saved hierarchy that can't be read" 3 "" "chtab: cannot read saved" 3 $failed dist --saved "$ch" "$g" "$q"
-expect_read "a saved hierarchy, and queries that can't be read" 3 "" "chtab: cannot read queries" 5 $failed dist --saved "$ch" "$g" "$q"
-expect_read "targets that can't be read" 3 "" "chtab: cannot read targets" 5 $failed table "$g" one.ss three.ss
+expect_read "a graph that can't be read" 3 "" "chtab: cannot read graph" 1 $device_failed dist "$g" "$q"
+expect_read "queries that can't be read" 3 "" "chtab: cannot read queries" 3 $device_failed dist "$g" "$q"
+expect_read "queries that can't be read to their end" 3 "" "chtab: cannot read queries" 4 $device_failed dist "$g" "$q"
+expect_read "a saved hierarchy that can't be read" 3 "" "chtab: cannot read saved" 3 $device_failed dist --saved "$ch" "$g" "$q"
+expect_read "a saved hierarchy, and queries that can't be read" 3 "" "chtab: cannot read queries" 5 $device_failed dist --saved "$ch" "$g" "$q"
+expect_read "targets that can't be read" 3 "" "chtab: cannot read targets" 5 $device_failed table "$g" one.ss three.ss
 
 printf 'q 1 3\nt 1 2\ns 2\ns 3\ns 1\n' >requests.txt
 expect "requests" 0 $'d 1 3 9\nt 2 5 -' "" ask --saved "$ch" "$g" <requests.txt
