@@ -249,7 +249,7 @@ LINE, OF_LINE = b"p sp 3 2\na 1 2 4\na 2 3 5\n", b"p ch 3 2\no 1\no 2\no 3\nl 1 
 FAULTY = (
     (b"", OF_LINE, "BAD_GRAPH", (1, 0, 4)),
     (b"", b"", "BAD_GRAPH", (1, 0, 4)),
-    (LINE, b"\n", "BAD_SAVED", (1, 0, 1)),
+    (LINE, b"\n", "BAD_SAVED", (2, 0, 4)),
     (LINE + b"a 1 2 3\n", OF_LINE, "BAD_GRAPH", (4, 0, 9)),
     (LINE.replace(b"a 2 3", b"a 2 4"), OF_LINE, "BAD_GRAPH", (3, 0, 6)),
     (LINE, OF_LINE.replace(b"p ch 3", b"p ch 4"), "BAD_SAVED", (1, 0, 8)),

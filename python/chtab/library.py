@@ -164,12 +164,12 @@ class Handle:
         """
         if type(graph) is not bytes or saved is not None and type(saved) is not bytes:
             raise TypeError("files are bytes")
-        # The library builds a hierarchy if it gets no bytes. An empty file is a fault, so the library gets a line that no file may have.
+        # The library builds a hierarchy if it gets no bytes. A file without bytes is a fault, so the library gets an empty line in its place.
         given, fault = b"" if saved is None else saved or b"\n", Fault()
         with self.lock:
             status = self.calls.chtab_open(self.at, graph, len(graph), given, len(given), ctypes.byref(fault))
         if status == BAD_SAVED and not saved:
-            fault.kind = KINDS.index("no problem line")
+            fault.line = 1
         if status:
             raise fault_of(status, fault)
 

@@ -151,6 +151,10 @@ static uint32_t write_rows(void) {
     return status;
 }
 
+/* Whether the call goes on without some of its memory, if that request alone is refused. Building does so: it packs its lists of legs, and
+ * asks again. */
+static int goes_on = 0;
+
 /* Refuses one request more or less each time, until the call meets no refusal. */
 static void refuse_each(uint32_t (*call)(void), void (*undo)(void), const char *told) {
     long at;
@@ -161,7 +165,7 @@ static void refuse_each(uint32_t (*call)(void), void (*undo)(void), const char *
             granted = at;
             status = call();
             granted = -1;
-            expect(status == (refused == before ? CHTAB_OK : CHTAB_NO_MEMORY), told);
+            expect(status == (refused == before ? CHTAB_OK : CHTAB_NO_MEMORY) || (status == CHTAB_OK && goes_on && !all_after), told);
             if (status == CHTAB_OK && undo) undo();
             if (refused == before) break;
         }
@@ -202,6 +206,7 @@ int main(int count, char **words) {
     if (count != 2 && count != 3) return 2;
     g.graph = bytes_of(words[1], &g.graph_len);
     g.saved = count == 3 ? bytes_of(words[2], &g.saved_len) : (uint8_t *)malloc(1);
+    goes_on = count == 2;
     refuse_each(open_network, close_network, "open");
     if (count == 3) refuse_questions();
     free(g.graph);
