@@ -140,7 +140,7 @@ def what_c_would_misread_is_refused():
     nothing = numpy.zeros(0, numpy.uint32)
     assert handle.distances(nothing, nothing).tolist() == [] and handle.table(nothing, right).shape == (0, 2) and handle.table(right, nothing).shape == (2, 0)
     assert [part.tolist() for part in handle.near_rows(nothing, 0)] == [[]] * 3 and [part.tolist() for part in handle.near_rows(right, 2)] == [[2], [0, 4], [0, 1]]
-    for words in (None, b""), ("p sp 0 0\n", b""), (b"", bytearray()), (b"", None):
+    for words in (None, b""), ("p sp 0 0\n", b""), (b"", bytearray()), (None, None):
         raises(TypeError, handle_of().open, *words)
     assert handle.save() == FIRST_SAVED.read_bytes() and handle_of(GRAPH, ways.saved_for(GRAPH)).save() == ways.saved_for(GRAPH).read_bytes()
     assert handle.route(0, 2)[0] == 9 and handle.route(0, 2)[1].tolist() == [0, 1, 2] and handle.route(2, 0)[0] == -1
@@ -175,7 +175,7 @@ def a_hierarchy_is_built_where_none_is_saved():
     answers = []
     for way in False, make():
         with chtab.Network.open(GRAPH, program=PROGRAM, library=way) as network:
-            assert is_by_library(network) == (way is not False)
+            assert (type(network._engine).__name__ == "InProcess") == (way is not False)
             cells = network.table(*([node for node, _ in ends[:20]],) * 2)
             answers.append((list(network.distances(ends)), [list(row) for row in cells], [getattr(route, "nodes", None) for route in network.routes(ends[:50])]))
     assert answers[0] == answers[1]
