@@ -81,6 +81,9 @@ def chosen(words):
     from chtab import choosing
 
     if words.library is not None:
+        # The library would build one, but no time limit ends that.
+        if words.saved is None:
+            raise ChtabError("--library needs a saved hierarchy: give --saved, the file of `chtab save`")
         return words.library or True
     return not words.pipe and choosing.fits(words.program, words.saved, words.workers)
 
