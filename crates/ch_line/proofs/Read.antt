@@ -1,5 +1,5 @@
 -- Which inputs a run reads, and which failed reads it reports.
-use Rattle.std.proofs.Common.{◌≡◌, ◌⊎◌, ◌<◌, ℕ, List, ◌++◌, Option, refl, inl, inr, arith}
+use Rattle.std.proofs.Common.{◌≡◌, ◌<◌, ℕ, List, ◌++◌, Option, refl, inl, inr, arith}
 use Rattle.std.specs.Prelude.{Result, IfErr}
 use Rattle.ch_read.specs.declared.fault.ReadFault.{ReadFault}
 use Rattle.ch_run.specs.declared.fault.RunFault.{RunFault}

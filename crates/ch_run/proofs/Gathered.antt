@@ -9,11 +9,9 @@ use Rattle.ch_hierarchy.specs.Kept.{IsKept}
 use Rattle.ch_near.proofs.GraphRows.{row_of_graph}
 use Rattle.ch_near.specs.Direction.{facing}
 use Rattle.ch_hierarchy.specs.Hierarchy.{LevelsAndLegs}
-use Rattle.ch_query.specs.Answers.{AreQueries}
 use Rattle.ch_near.specs.declared.direction.Direction.{Direction}
 use Rattle.ch_near.specs.Near.{IsNearRow, IsNearestRow, Wanted, wanted_within}
 use Rattle.ch_read.specs.declared.request.Request.{Request}
-use Rattle.ch_read.specs.declared.request.Request.TheVariants.{Near}
 use Rattle.ch_read.specs.RequestLists.{PlaceList}
 use Rattle.ch_read.specs.Requests.{IsRequest}
 use Rattle.ch_run.specs.declared.options.Options.{Options}

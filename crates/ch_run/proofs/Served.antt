@@ -1,6 +1,6 @@
 -- Requests that are read and answered as they come.
-use Rattle.std.proofs.Common.{◌≡◌, ℕ, ◌<◌, ◌==◌, Bool, true, false, not, ◌&&◌, List, [], ◌∷◌, ◌++◌, length, take, Option, Some, None, Result, Ok, Err, inl, inr, refl, sym, ap, ◌∙◌, subst, arith, append_assoc}
-use Rattle.std.specs.Prelude.{IfErr, IsErrAnd, IsNone, OnOk, map, is_ok, is_err, if◌then◌else◌}
+use Rattle.std.proofs.Common.{◌≡◌, ℕ, ◌<◌, ◌==◌, Bool, true, false, not, List, [], ◌∷◌, ◌++◌, length, take, Option, Some, None, Result, Ok, Err, inl, inr, refl, sym, ap, ◌∙◌, subst, arith, append_assoc}
+use Rattle.std.specs.Prelude.{IfErr, IsErrAnd, OnOk, is_ok, is_err, if◌then◌else◌}
 use Rattle.std.proofs.lemmas.Bool.{eqb-true}
 use Rattle.std.proofs.lemmas.List.{append-nil}
 use Rattle.ch_read.specs.declared.request.Request.{Request}
@@ -22,7 +22,6 @@ use Rattle.ch_run.specs.declared.run.batch.Then.TheVariants.{More, Nothing, Stop
 use Rattle.ch_run.specs.Serving.{Answers, GivesUntil, IsOfAnswering, IsToldAfter, end_of, request_refusal}
 use Rattle.ch_graph.specs.Graph.{Network}
 use Rattle.ch_hierarchy.specs.Hierarchy.{LevelsAndLegs}
-use Rattle.ch_contract.specs.declared.measure.OrderBy.{OrderBy}
 use Rattle.ch_run.specs.declared.options.Options.{Options}
 use Rattle.ch_run.specs.Source.{IsServing, order_built, order_for_queries}
 use Rattle.ch_run.specs.Text.{writes_routes}

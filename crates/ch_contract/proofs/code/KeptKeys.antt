@@ -1,17 +1,16 @@
 -- A node that is neither in a round nor a neighbour of it keeps its legs, its depth, its count and its key.
 use Rattle.std.proofs.Common.{◌≡◌, ℕ, ◌+◌, ◌*◌, ◌≤◌, ◌^◌, Bool, true, false, List, [], ◌∷◌, Some, None, Contains, refl, sym, ◌∙◌, ap, subst, arith, inl, inr}
-use Rattle.std.specs.Prelude.{◌↔◌, ◌&&◌, ◌||◌, not, if◌then◌else◌, is_some, max, slice_index}
+use Rattle.std.specs.Prelude.{◌&&◌, ◌||◌, not, if◌then◌else◌, is_some, max, slice_index}
 use Rattle.std.specs.List.{list_any}
 use Rattle.std.proofs.Math.Nat.{mul-le-mul}
 use Rattle.std.proofs.lemmas.Bool.{true≢false}
 use Rattle.ch_graph.specs.declared.limits.TheConstants.{MOST_NODES}
 use Rattle.ch_graph.proofs.Lists.{contains_none, contains_head, contains_tail, contains_cons}
 use Rattle.ch_hierarchy.proofs.theory.Ordered.{contains_or_not}
-use Rattle.ch_contract.specs.declared.shortcut.Shortcut.{Shortcut}
 use Rattle.ch_contract.specs.Legs.{Legs, AreLegsWithin}
 use Rattle.ch_contract.specs.Contraction.{count_touching, leg_after_shortcuts}
 use Rattle.ch_contract.specs.Order.{are_neighbours, next_depth}
-use Rattle.ch_contract.specs.Rounds.{is_one_of, legs_away, legs_with_shortcuts, AreShortcutsAmong, ContractsRound, depth_after_round}
+use Rattle.ch_contract.specs.Rounds.{is_one_of, legs_away, legs_with_shortcuts, ContractsRound, depth_after_round}
 use Rattle.ch_contract.specs.RoundProgress.{IsCount}
 use Rattle.ch_contract.specs.RoundCounts.{AreCounted}
 use Rattle.ch_contract.proofs.theory.RowLegs.{none_unless}

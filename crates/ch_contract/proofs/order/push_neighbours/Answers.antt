@@ -1,4 +1,4 @@
-use Rattle.std.proofs.Common.{◌≡◌, ◌++◌, ◌∙◌, append_assoc, sym, ap, map}
+use Rattle.std.proofs.Common.{◌++◌, ◌∙◌, append_assoc, ap, map}
 use Rattle.ch_hierarchy.specs.declared.leg.Leg.{Leg}
 use Rattle.ch_contract.specs.Priorities.{other_nodes}
 use Rattle.ch_contract.proofs.code.Neighbours.{all_others}

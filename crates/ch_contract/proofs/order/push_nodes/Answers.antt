@@ -1,4 +1,4 @@
-use Rattle.std.proofs.Common.{◌≡◌, ◌≤◌, ◌++◌, ◌∷◌, [], ◌∙◌, append-nil, sym, ap, length, get_or, take, arith}
+use Rattle.std.proofs.Common.{◌≤◌, ◌++◌, ◌∷◌, [], ◌∙◌, append-nil, sym, ap, length, get_or, arith}
 use Rattle.std.specs.Prelude.{if◌then◌else◌}
 use Rattle.ch_hierarchy.proofs.theory.NoLeg.{no_leg}
 use Rattle.std.proofs.lemmas.List.{take_all}

@@ -1,5 +1,4 @@
 use Rattle.std.proofs.Common.{inl, inr, rules, subst}
-use Rattle.std.proofs.Math.Logic.{⊎_map}
 use Rattle.ch_line.proofs.Opening.{goes-on, passed-on}
 use Rattle.ch_line.specs.Inputs.{EndsFor, Task, Writes, inputs_in}
 use Rattle.ch_line.specs.Line.{line_files}

@@ -1,5 +1,5 @@
-use Rattle.std.proofs.Common.{◌≡◌, ◌+◌, ◌<◌, ◌≤◌, ◌^◌, ℕ, List, refl, sym, ◌∙◌, ap, subst, length, get_or, arith}
-use Rattle.std.specs.Prelude.{All, AllPairs, Contains, slice_index, slice_index_or, pos, ℤ}
+use Rattle.std.proofs.Common.{◌≡◌, ◌+◌, ◌<◌, ◌≤◌, ◌^◌, ℕ, List, refl, sym, ◌∙◌, ap, subst, length, arith}
+use Rattle.std.specs.Prelude.{All, AllPairs, Contains, slice_index, ℤ}
 use Rattle.std.specs.Vec.{with_items}
 use Rattle.std.proofs.lemmas.List.{with_items_is}
 use Rattle.ch_contract.specs.Rounds.{AreApart, depth_after_round}
@@ -8,7 +8,7 @@ use Rattle.ch_contract.specs.RoundCounts.{AreCounted, due_of, stale_of}
 use Rattle.ch_contract.specs.declared.rounds.ConstructionByRounds.{ConstructionByRounds}
 use Rattle.ch_contract.specs.Remaining.{legs_of}
 use Rattle.ch_contract.specs.FirstAround.{IsFirstBy}
-use Rattle.ch_contract.specs.RoundChoice.{AreKeyed, IsKeyIn, IsSplit}
+use Rattle.ch_contract.specs.RoundChoice.{AreKeyed, IsSplit}
 use Rattle.ch_contract.proofs.code.RoundCalls.{IsSteppedByRound, split_apart, split_left, split_rest, near_below, due_below, stepped_by_round, sized_by_round, keyed_by_round, stale_below}
 use Rattle.ch_contract.proofs.code.KeptKeys.{counts_small}
 use Rattle.ch_contract.proofs.code.NearRound.{any_found}

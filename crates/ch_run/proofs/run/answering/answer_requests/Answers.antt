@@ -1,11 +1,10 @@
-use Rattle.std.proofs.Common.{◌≡◌, ◌++◌, ℕ, List, Result, Ok, Err, length, take, drop, sym, ap, ◌∙◌, subst, append_assoc, arith, length-drop}
+use Rattle.std.proofs.Common.{◌≡◌, ◌++◌, ℕ, List, Ok, Err, length, take, drop, sym, ap, ◌∙◌, subst, append_assoc, arith, length-drop}
 use Rattle.std.specs.Prelude.{All}
 use Rattle.std.proofs.lemmas.List.{take-append-drop, take_rest}
 use Rattle.std.proofs.lemmas.List.Elements.{All-drop}
 use Rattle.ch_read.specs.RequestLists.{PlaceList}
 use Rattle.ch_read.specs.declared.request.Request.{Request}
 use Rattle.ch_read.specs.Requests.{IsRequest}
-use Rattle.ch_run.specs.declared.fault.RunFault.{RunFault}
 use Rattle.ch_run.specs.Ask.{IsTextOfRequest, places_after}
 use Rattle.ch_run.specs.Serving.{Answers, WritesMore, places_of}
 use Rattle.ch_run.proofs.Answered.{answers_passed, more_own, written_answers}

@@ -1,4 +1,4 @@
-use Rattle.std.proofs.Common.{◌≡◌, inl, inr, refl}
+use Rattle.std.proofs.Common.{inl, inr, refl}
 use Rattle.ch_run.specs.Ask.{IsRequestText, IsTextOfRequest}
 use Rattle.ch_run.specs.Source.{IsServing, order_built}
 use Rattle.ch_run.specs.declared.fault.Which.{Which}

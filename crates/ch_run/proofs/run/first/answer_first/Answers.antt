@@ -1,4 +1,4 @@
-use Rattle.std.proofs.Common.{◌≡◌, List, drop, sym, subst, ◌∙◌}
+use Rattle.std.proofs.Common.{List, drop, sym, subst, ◌∙◌}
 use Rattle.std.proofs.lemmas.Result.{IfOk-weaker}
 use Rattle.ch_read.specs.declared.request.Request.{Request}
 use Rattle.ch_read.specs.declared.request.Request.TheVariants.{Places, Table}

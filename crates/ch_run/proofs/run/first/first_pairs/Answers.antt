@@ -1,4 +1,4 @@
-use Rattle.std.proofs.Common.{◌≡◌, ◌<◌, ◌∷◌, refl, sym, ◌∙◌, ap, length, subst}
+use Rattle.std.proofs.Common.{◌<◌, ◌∷◌, refl, sym, ◌∙◌, ap, length, subst}
 use Rattle.ch_query.specs.Answers.{AreQueries}
 use Rattle.ch_run.specs.Ask.{IsTextOfRequest}
 use Rattle.ch_run.specs.Serving.{asked_for, places_of}

@@ -1,6 +1,6 @@
 use Rattle.std.proofs.Common.{◌≡◌, ◌<◌, ◌∷◌, ◌++◌, [], ℕ, List, Some, length, refl, sym, ap, ◌∙◌, subst}
 use Rattle.std.specs.Prelude.{All}
-use Rattle.ch_hierarchy.specs.Hierarchy.{LevelsAndLegs, nodes_of}
+use Rattle.ch_hierarchy.specs.Hierarchy.{nodes_of}
 use Rattle.ch_near.specs.Direction.{facing}
 use Rattle.ch_near.specs.Near.{Wanted}
 use Rattle.ch_run.specs.Ask.{IsTextOfRequest}

@@ -1,10 +1,8 @@
-use Rattle.std.proofs.Common.{◌≡◌, ◌++◌, [], ℕ, ◌<◌, List, length, map, Vec, refl, sym, ap, ◌∙◌, subst}
+use Rattle.std.proofs.Common.{ℕ, ◌<◌, length, map, Vec, sym, ap, ◌∙◌, subst}
 use Rattle.std.specs.declared.alloc.Global.{Global}
 use Rattle.std.specs.Prelude.{All}
-use Rattle.std.specs.List.{flat_map, zip}
 use Rattle.ch_graph.proofs.Lists.{zipped_length, zipped_map}
 use Rattle.ch_near.specs.Near.{Wanted, wanted_within}
-use Rattle.ch_text.specs.NearText.{near_row_text}
 use Rattle.ch_run.proofs.Nears.{IsWantedRow, items, rows_places}
 use Rattle.ch_run.proofs.run.first.rows_text.Goals as goal
 

@@ -1,10 +1,10 @@
-use Rattle.std.proofs.Common.{◌≡◌, ◌++◌, List, Ok, Err, Result, [], refl, sym, ap, ◌∙◌, subst}
+use Rattle.std.proofs.Common.{◌++◌, List, Ok, Err, Result, [], refl, sym, ap, ◌∙◌, subst}
 use Rattle.ch_read.specs.RequestLists.{PlaceList}
 use Rattle.ch_read.specs.declared.request.Request.{Request}
 use Rattle.ch_run.specs.Ask.{IsTextOfRequest, places_after}
 use Rattle.ch_run.specs.Serving.{Answers, GivesUntil, end_of, places_of}
 use Rattle.ch_run.specs.declared.fault.RunFault.{RunFault}
-use Rattle.ch_run.proofs.Answered.{answers_end, answers_err, answers_more, answers_none}
+use Rattle.ch_run.proofs.Answered.{answers_end, answers_err, answers_none}
 use Rattle.ch_run.specs.declared.fault.RunFault.TheVariants.{Memory}
 use Rattle.ch_run.specs.declared.run.batch.Then.TheVariants.{Stop}
 use Rattle.ch_run.proofs.Counted.{counted_batch, counted_well}
