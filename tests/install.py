@@ -306,12 +306,12 @@ def check_package(tally, folder):
     """The package is made, and tried in a root of its own where that may be done."""
     for words in ["--fast"], ["one", "two"]:
         tally.expect(said([ROOT / "packaging" / "deb", *words], folder)[0] == 2, f"packaging/deb {words} is not refused")
-    status, out, err = said([ROOT / "packaging" / "deb", "none"], folder)
-    tally.expect((status, out) == (1, "") and "none" in err, f"packaging/deb into no folder: {status} {out} {err}")
     lacking = [name for name in ("dpkg-deb", "rt") if not shutil.which(name)] + missing("help2man", "python3-numpy")
     if lacking:
         print(f"left out: Debian's package needs {', '.join(lacking)}")
         return
+    status, out, err = said([ROOT / "packaging" / "deb", "none"], folder)
+    tally.expect((status, out) == (1, "") and "none" in err, f"packaging/deb into no folder: {status} {out} {err}")
     status, out, err = said([ROOT / "packaging" / "deb", folder], folder)
     tally.expect(status == 0 and Path(out.strip()).is_file(), f"packaging/deb: {status} {out} {err}")
     if status == 0:
