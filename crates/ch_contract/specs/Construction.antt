@@ -1,10 +1,10 @@
 -- A hierarchy that is being built one node after the other.
-use Rattle.std.specs.Prelude.{◌≡◌, ◌+◌, ◌≤◌, ℕ, All, List, None, length, slice_index, slice_set}
+use Rattle.std.specs.Prelude.{◌≡◌, ◌+◌, ◌<◌, ◌≤◌, ℕ, All, List, None, length, slice_index, slice_set}
 use Rattle.ch_graph.specs.declared.limits.TheConstants.{MOST_NODES}
 use Rattle.ch_hierarchy.specs.Rows.{row}
 use Rattle.ch_contract.specs.declared.construction.Construction.{Construction}
 use Rattle.ch_contract.specs.Progress.{Progress}
-use Rattle.ch_contract.specs.Legs.{turned_legs}
+use Rattle.ch_contract.specs.Legs.{AreLegsWithin, IsHopBound, turned_legs}
 use Rattle.ch_contract.specs.Contraction.{Contracts}
 use Rattle.ch_contract.specs.Measures.{AreDeepened}
 use Rattle.ch_contract.specs.Priorities.{neighbours_in}
@@ -27,6 +27,16 @@ pub record IsSized (c : Construction) : Type 0 where
 -- the caller's room is ready to judge nodes with the remaining legs, and the workers' rooms are idle
 abbrev pub IsJudging : ℕ → Construction → Type 0
 IsJudging h c = IsReady c.remaining.nodes h (legs_of c.remaining) c.room × All IsIdleRoom c.rooms.items
+
+-- v can be contracted next, where a witness has at most h legs
+pub record IsReadyFor (h : ℕ) (c : Construction) (v : ℕ) : Type 0 where
+  pub hops : IsHopBound h
+  pub sizes : IsSized c
+  pub limits : AreLegsWithin c.remaining.nodes (legs_of c.remaining)
+  pub node : v < c.remaining.nodes
+  pub count : c.contracted < c.remaining.nodes
+  pub depth : slice_index c.depths.items v ≤ c.contracted
+  pub ready : IsJudging h c
 
 -- v is contracted and out of the queue, and its neighbours lie deeper. All else is unchanged, and so are the priorities of
 -- the neighbours

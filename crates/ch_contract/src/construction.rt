@@ -139,7 +139,7 @@ impl Construction {
     ghost use Rattle.ch_contract.specs.Remaining.{legs_of};
     ghost use Rattle.ch_hierarchy.specs.Hierarchy.{LevelsAndLegs, IsLevelled};
     ghost use Rattle.ch_contract.specs.Progress.{AreAll, IsNext, IsOpen, IsStep};
-    ghost use Rattle.ch_contract.specs.Construction.{IsSized, IsJudging, IsTaken, progress_of};
+    ghost use Rattle.ch_contract.specs.Construction.{IsSized, IsJudging, IsReadyFor, IsTaken, progress_of};
 
     /// Starts the construction of the hierarchy of a graph. No node is contracted yet.
     fn open<R: Threads + Sync, G: Gate>(
@@ -188,13 +188,7 @@ impl Construction {
         hops: u32,
         by: OrderBy,
     ) -> Result<Construction, AllocError>
-        requires sizes { IsSized self }
-        requires limits { AreLegsWithin self.remaining.nodes (legs_of self.remaining) }
-        requires node { node < self.remaining.nodes }
-        requires count { self.contracted < self.remaining.nodes }
-        requires depth { slice_index self.depths.items node ≤ self.contracted }
-        requires ready { IsJudging hops self }
-        requires hops { IsHopBound hops }
+        requires next { IsReadyFor hops self node }
         ensures sizes { IfOk result IsSized }
         ensures nodes { IfOk result (λ c. c.remaining.nodes ≡ self.remaining.nodes) }
         ensures step { IfOk result (λ c. IsStep by self.remaining.nodes hops (progress_of self) node (progress_of c)) }
@@ -227,13 +221,7 @@ impl Construction {
         node: u32,
         hops: u32,
     ) -> Result<(Construction, Vec<u32>), AllocError>
-        requires sizes { IsSized self }
-        requires limits { AreLegsWithin self.remaining.nodes (legs_of self.remaining) }
-        requires node { node < self.remaining.nodes }
-        requires count { self.contracted < self.remaining.nodes }
-        requires depth { slice_index self.depths.items node ≤ self.contracted }
-        requires ready { IsJudging hops self }
-        requires hops { IsHopBound hops }
+        requires next { IsReadyFor hops self node }
         ensures sizes { IfOk result (λ r. IsSized r.0) }
         ensures taken { IfOk result (λ r. IsTaken hops self node r.1.items r.0) }
     {

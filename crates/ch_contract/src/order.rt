@@ -10,14 +10,9 @@ use std::alloc::{AllocError, Global};
 pub(crate) fn neighbours(alloc: Global, up: &[Leg], down: &[Leg]) -> Result<Vec<u32>, AllocError>
     ensures { IfOk result (λ list. list.items ≡ neighbours_in up.now down.now) }
 {
-    up.iter()
-        .map(|leg| leg.node)
-        .chain(
-            down.iter()
-                .filter(|leg| !has_node(up, leg.node))
-                .map(|leg| leg.node),
-        )
-        .collect(alloc)
+    let mut list = Vec::new(alloc);
+    push_neighbours(&mut list, up, down)?;
+    Ok(list)
 }
 
 /// Appends the nodes of the legs from a node and of the legs to it, each node once.

@@ -39,7 +39,7 @@ impl Construction {
     ghost use Rattle.ch_contract.specs.Legs.{AreLegsWithin};
     ghost use Rattle.ch_contract.specs.Remaining.{legs_of};
     ghost use Rattle.ch_contract.specs.Progress.{IsOpen, IsStep};
-    ghost use Rattle.ch_contract.specs.Construction.{IsSized, IsJudging, progress_of};
+    ghost use Rattle.ch_contract.specs.Construction.{IsSized, IsJudging, IsReadyFor, progress_of};
 
     /// Starts a construction by depth. No node is contracted yet.
     fn open_alone(alloc: Global, graph: &Graph, hops: u32) -> Result<Construction, AllocError>
@@ -70,13 +70,7 @@ impl Construction {
 
     /// Contracts a node in the order by depth, and keeps its level and its legs.
     fn contract_alone(self, alloc: Global, node: u32, hops: u32) -> Result<Construction, AllocError>
-        requires sizes { IsSized self }
-        requires limits { AreLegsWithin self.remaining.nodes (legs_of self.remaining) }
-        requires node { node < self.remaining.nodes }
-        requires count { self.contracted < self.remaining.nodes }
-        requires depth { slice_index self.depths.items node ≤ self.contracted }
-        requires ready { IsJudging hops self }
-        requires hops { IsHopBound hops }
+        requires next { IsReadyFor hops self node }
         ensures sizes { IfOk result IsSized }
         ensures nodes { IfOk result (λ c. c.remaining.nodes ≡ self.remaining.nodes) }
         ensures step { IfOk result (λ c. IsStep OrderBy.Depth self.remaining.nodes hops (progress_of self) node (progress_of c)) }

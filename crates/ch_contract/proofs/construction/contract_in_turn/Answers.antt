@@ -4,7 +4,7 @@ use Rattle.ch_contract.specs.Legs.{AreLegsWithin}
 use Rattle.ch_contract.specs.Progress.{IsStep, AreAll}
 use Rattle.ch_contract.specs.Construction.{progress_of}
 use Rattle.ch_contract.specs.Remaining.{legs_of}
-use Rattle.ch_contract.proofs.theory.StepsMade.{steps_at_start, steps_next, steps_count, steps_at_end, steps_within, steps_depth, steps_levelled}
+use Rattle.ch_contract.proofs.theory.StepsMade.{steps_at_start, steps_next, steps_count, steps_node, steps_at_end, steps_within, steps_depth, steps_levelled}
 use Rattle.ch_contract.proofs.construction.contract_in_turn.Goals as goal
 
 pub loop-node-init : goal.loop-node-init
@@ -12,20 +12,18 @@ loop-node-init g c =
     let first = c.in_ok-construction.ensures in
     (first.sizes, first.nodes, steps_at_start _ _ _ _ (first.sizes.levels ∙ first.nodes) first.begun, first.ready)
 
-pub contract-requires-clause-limits : goal.contract-requires-clause-limits
-contract-requires-clause-limits g c lifetimes bounds =
+pub contract-requires-clause-next : goal.contract-requires-clause-next
+contract-requires-clause-next g c lifetimes bounds =
     let i = c.loop-node.invariant in
-    subst (λ n. AreLegsWithin n (legs_of c.loop-node.construction.remaining)) (sym i.1) (steps_within _ _ _ _ i.2)
-
-pub contract-requires-clause-count : goal.contract-requires-clause-count
-contract-requires-clause-count g c lifetimes bounds =
-    let i = c.loop-node.invariant in
-    omega (arith, i.1, steps_count _ _ _ _ _ i.2 c.in-Some.ensures)
-
-pub contract-requires-clause-depth : goal.contract-requires-clause-depth
-contract-requires-clause-depth g c lifetimes bounds =
-    let i = c.loop-node.invariant in
-    steps_depth _ _ _ _ c.in-Some.node i.2
+    record {
+      hops = c.requires;
+      sizes = i.0;
+      limits = subst (λ n. AreLegsWithin n (legs_of c.loop-node.construction.remaining)) (sym i.1) (steps_within _ _ _ _ i.2);
+      node = omega (arith, i.1, steps_node _ _ _ _ _ i.2 c.in-Some.ensures);
+      count = omega (arith, i.1, steps_count _ _ _ _ _ i.2 c.in-Some.ensures);
+      depth = steps_depth _ _ _ _ c.in-Some.node i.2;
+      ready = i.3;
+    }
 
 pub loop-node-smaller : goal.loop-node-smaller
 loop-node-smaller g c =

@@ -10,13 +10,13 @@ pub refresh-requires-clause-nodes : goal.refresh-requires-clause-nodes
 refresh-requires-clause-nodes g c lifetimes bounds =
     let t = c.in_ok-taken.ensures.taken in
     let list = c.as_slice-2.ensures.value ∙ t.listed in
-    subst (λ n. All (λ x. x < n) c.as_slice-2.result.now) (sym t.nodes) (neighbours_within _ _ _ _ _ _ t.up.legs t.down.legs c.requires.limits list)
+    subst (λ n. All (λ x. x < n) c.as_slice-2.result.now) (sym t.nodes) (neighbours_within _ _ _ _ _ _ t.up.legs t.down.legs c.requires.next.limits list)
 
 pub refresh-requires-clause-count : goal.refresh-requires-clause-count
 refresh-requires-clause-count g c lifetimes bounds =
     let t = c.in_ok-taken.ensures.taken in
-    let few = neighbours_count _ _ _ _ _ _ c.requires.limits t.up.legs t.down.legs (c.as_slice-2.ensures.value ∙ t.listed) in
-    let most = c.requires.sizes.nodes in
+    let few = neighbours_count _ _ _ _ _ _ c.requires.next.limits t.up.legs t.down.legs (c.as_slice-2.ensures.value ∙ t.listed) in
+    let most = c.requires.next.sizes.nodes in
     omega arith
 
 pub refresh-requires-clause-ready : goal.refresh-requires-clause-ready
@@ -35,5 +35,5 @@ returns-clause-step g c =
       contracted = taken.contracted + 1;
     } in
     let anew = lent_refreshed (λ d. IsPriorityIn c.args.by taken.remaining c.args.hops d) _ _ _ _ _ _ c.as_slice.ensures.value c.as_slice-2.ensures.value c.in_ok-refresh.ensures.anew in
-    stepped c.args.by c.args.hops c.args.self c.args.node last c.requires.node c.requires.limits c.requires.sizes
+    stepped c.args.by c.args.hops c.args.self c.args.node last c.requires.next.node c.requires.next.limits c.requires.next.sizes
     (stepped_taken c.args.by c.args.hops c.args.self c.args.node _ taken last c.in_ok-taken.ensures.taken refl refl refl refl anew)

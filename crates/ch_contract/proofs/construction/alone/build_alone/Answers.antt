@@ -6,7 +6,7 @@ use Rattle.ch_contract.specs.Progress.{IsStep, AreAll}
 use Rattle.ch_contract.specs.Construction.{progress_of}
 use Rattle.ch_contract.specs.Remaining.{legs_of}
 use Rattle.ch_contract.proofs.theory.BuiltKept.{hierarchies_kept}
-use Rattle.ch_contract.proofs.theory.StepsMade.{steps_at_start, steps_next, steps_count, steps_at_end, steps_within, steps_depth, steps_levelled}
+use Rattle.ch_contract.proofs.theory.StepsMade.{steps_at_start, steps_next, steps_count, steps_node, steps_at_end, steps_within, steps_depth, steps_levelled}
 use Rattle.ch_contract.proofs.construction.alone.build_alone.Goals as goal
 
 pub loop-node-init : goal.loop-node-init
@@ -14,20 +14,20 @@ loop-node-init c =
     let first = c.in_ok-construction.ensures in
     (first.sizes, first.nodes, steps_at_start _ _ _ _ (first.sizes.levels ∙ first.nodes) first.begun, first.ready)
 
-pub contract_alone-requires-clause-limits : goal.contract_alone-requires-clause-limits
-contract_alone-requires-clause-limits c =
+pub contract_alone-requires : goal.contract_alone-requires
+contract_alone-requires c =
     let i = c.loop-node.invariant in
-    subst (λ n. AreLegsWithin n (legs_of c.loop-node.construction.remaining)) (sym i.1) (steps_within _ _ _ _ i.2)
-
-pub contract_alone-requires-clause-count : goal.contract_alone-requires-clause-count
-contract_alone-requires-clause-count c =
-    let i = c.loop-node.invariant in
-    omega (arith, i.1, steps_count _ _ _ _ _ i.2 c.in-Some.ensures)
-
-pub contract_alone-requires-clause-depth : goal.contract_alone-requires-clause-depth
-contract_alone-requires-clause-depth c =
-    let i = c.loop-node.invariant in
-    steps_depth _ _ _ _ c.in-Some.node i.2
+    record {
+      next = record {
+        hops = c.requires.hops;
+        sizes = i.0;
+        limits = subst (λ n. AreLegsWithin n (legs_of c.loop-node.construction.remaining)) (sym i.1) (steps_within _ _ _ _ i.2);
+        node = omega (arith, i.1, steps_node _ _ _ _ _ i.2 c.in-Some.ensures);
+        count = omega (arith, i.1, steps_count _ _ _ _ _ i.2 c.in-Some.ensures);
+        depth = steps_depth _ _ _ _ c.in-Some.node i.2;
+        ready = i.3;
+      };
+    }
 
 pub loop-node-smaller : goal.loop-node-smaller
 loop-node-smaller c =
