@@ -1,12 +1,7 @@
-//! Devices. An input is read to its end and a text is written whole, over calls that move few bytes, are
-//! interrupted, or fail.
+//! Devices. An input is read to its end and a text is written whole, over calls that move few bytes or fail.
 ghost use Rattle.std.specs.Prelude.{◌≡◌};
 
-use ch_run::{
-    Input, MemoryInput, MemoryOutput, Output, ReadAllFault, ReaderInput, WriterOutput, read_all,
-    write_all,
-};
-use std::io::{self, ErrorKind, Read, Write};
+use ch_run::{Input, MemoryInput, MemoryOutput, Output, ReadAllFault, read_all, write_all};
 use std::process::Abort;
 use std::test::Fail;
 
@@ -92,117 +87,5 @@ fn a_text_is_written_whole_or_up_to_a_write_that_fails(rt: HostRuntime) -> Resul
     // An output that is full takes no byte.
     let output = MemoryOutput::new(rt.alloc(), 5, 3)?;
     expect_taken(&rt, output, 5, (0, 1), false);
-    Ok(())
-}
-
-/// A reader and a writer that are interrupted at every other call.
-#[derive(Drop)]
-struct Interrupted {
-    bytes: Vec<u8>,
-    given: usize,
-    is_now: bool,
-}
-
-impl Interrupted {
-    fn turn(&mut self) -> io::Result<()> {
-        self.is_now = !self.is_now;
-        if self.is_now {
-            return Err(io::Error::from(ErrorKind::Interrupted));
-        }
-        Ok(())
-    }
-}
-
-impl Read for Interrupted {
-    fn read(&mut self, buffer: &mut [u8]) -> io::Result<usize> {
-        self.turn()?;
-        match (self.bytes.get(self.given), buffer.first_mut()) {
-            (Some(byte), Some(room)) => {
-                *room = *byte;
-                self.given = self.given.saturating_add(1);
-                Ok(1)
-            }
-            _ => Ok(0),
-        }
-    }
-}
-
-impl Write for Interrupted {
-    fn write(&mut self, bytes: &[u8]) -> io::Result<usize> {
-        self.turn()?;
-        match bytes.first() {
-            Some(byte) => {
-                self.bytes.push(*byte)?;
-                Ok(1)
-            }
-            None => Ok(0),
-        }
-    }
-
-    fn flush(&mut self) -> io::Result<()> {
-        Ok(())
-    }
-}
-
-#[test]
-fn an_interrupted_call_is_made_again(rt: HostRuntime) -> Result<(), Fail> {
-    let reader = Interrupted {
-        bytes: TEXT.to_vec(rt.alloc())?,
-        given: 0,
-        is_now: false,
-    };
-    let mut input = ReaderInput::new(reader);
-    assert_eq!(rt; read_all(rt.alloc(), &mut input)?.as_slice(), TEXT);
-    assert_eq!(rt; input.failures(), 0);
-
-    let mut writer = Interrupted {
-        bytes: Vec::new(rt.alloc()),
-        given: 0,
-        is_now: false,
-    };
-    let mut output = WriterOutput::new(&mut writer);
-    assert_eq!(rt; write_all(&mut output, TEXT), Ok(()));
-    assert_eq!(rt; (output.failures(), output.zeros()), (0, 0));
-    assert_eq!(rt; writer.bytes.as_slice(), TEXT);
-    Ok(())
-}
-
-/// A reader and a writer whose calls fail with an error of this kind.
-#[derive(Drop)]
-struct Broken {
-    kind: ErrorKind,
-}
-
-impl Read for Broken {
-    fn read(&mut self, _buffer: &mut [u8]) -> io::Result<usize> {
-        Err(io::Error::from(self.kind))
-    }
-}
-
-impl Write for Broken {
-    fn write(&mut self, _bytes: &[u8]) -> io::Result<usize> {
-        Err(io::Error::from(self.kind))
-    }
-
-    fn flush(&mut self) -> io::Result<()> {
-        Ok(())
-    }
-}
-
-/// A broken pipe closes the output.
-#[test]
-fn a_call_that_fails_is_not_made_again(rt: HostRuntime) -> Result<(), Fail> {
-    for (kind, closes) in [(ErrorKind::BrokenPipe, true), (ErrorKind::Other, false)] {
-        let mut input = ReaderInput::new(Broken { kind });
-        let answer = read_all(rt.alloc(), &mut input).err();
-        assert_eq!(rt; answer, Some(ReadAllFault::Device));
-        assert_eq!(rt; input.failures(), 1);
-
-        let mut output = WriterOutput::new(Broken { kind });
-        assert!(rt; !output.is_closed());
-        assert_eq!(rt; write_all(&mut output, TEXT), Err(0));
-        assert_eq!(rt; (output.failures(), output.zeros()), (1, 0));
-        assert_eq!(rt; output.is_closed(), closes);
-    }
     Ok(())
 }

@@ -1,8 +1,8 @@
-//! Tests of `ch_run` and `ch_line` through their public calls. They test what no clause says: calls
-//! succeed, memory is refused, devices fail in mid-stream, and workers share a run.
+//! Tests of `ch_run` through its public calls. They test what no clause says: calls succeed, memory is
+//! refused, devices fail in mid-stream, and workers share a run.
 //!
 //! They are in a crate of their own, because a crate with tests is proved twice. It stands on ch_contract,
-//! ch_graph, ch_line, ch_query, ch_read, ch_run, ch_words and ch_work.
+//! ch_graph, ch_query, ch_read, ch_run and ch_work.
 #![tactic(auto)]
 
 #[cfg(test)]
@@ -11,10 +11,6 @@ mod calling;
 mod devices;
 #[cfg(test)]
 mod files;
-#[cfg(test)]
-mod lines;
-#[cfg(test)]
-mod near;
 #[cfg(test)]
 mod runs;
 #[cfg(test)]
