@@ -1,6 +1,7 @@
 -- The lemmas for the code.
 pub mod SortedPlaces
 pub mod Doubled
+pub mod OrderedPlaces
 pub mod OrderLevels
 pub mod PairFaults
 pub mod PlacedRows

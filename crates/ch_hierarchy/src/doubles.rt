@@ -10,8 +10,8 @@ use std::alloc::{AllocError, Global};
 /// Returns the least of `known` and the places of the entries that have the same two nodes as an earlier
 /// entry.
 ///
-/// The entries are in order of higher node, and at equal higher nodes in order of place. So among the
-/// entries of one lower node, those of one higher node follow each other.
+/// The entries of each lower node are in order of higher node, and at equal higher nodes in order of place. So
+/// among these, those of one higher node follow each other.
 pub(crate) fn first_twin(
     alloc: Global,
     n: u32,

@@ -5,7 +5,7 @@ use Rattle.std.proofs.lemmas.Bool.{cases_eq, cases_lt}
 use Rattle.std.proofs.lemmas.List.{get_or_default, length-set, length-replicate, get_or-set_same, get_or-set_other, get_or-replicate}
 use Rattle.std.proofs.lemmas.List.Elements.{Contains-get_or}
 use Rattle.ch_hierarchy.specs.declared.placing.Placed.{Placed}
-use Rattle.ch_hierarchy.specs.Sorting.{AreInOrder, AreSorted, IsPlacedBelow}
+use Rattle.ch_hierarchy.specs.Sorting.{AreInOrder, AreRising, AreSorted, IsPlacedBelow}
 use Rattle.ch_hierarchy.specs.Doubles.{IsLessened, IsTwin}
 
 -- if no number has D, the least stays
@@ -32,7 +32,7 @@ abbrev pub IsDouble : List Placed → ℕ → Type 0
 IsDouble row p = (i : ℕ) × (d : Placed) × (i + 1 < length row) × ((get_or row i d).higher ≡ (get_or row (i + 1) d).higher) × ((get_or row (i + 1) d).place ≡ p)
 
 -- a row by higher node, and at equal higher nodes by place
-module _ (row : List Placed) (sorted : AreInOrder row) where
+module _ (row : List Placed) (sorted : AreRising row) where
   -- higher nodes never fall
   no_fall : (i j : ℕ) (d : Placed) → i ≤ j → j < length row → (get_or row i d).higher ≤ (get_or row j d).higher
   no_fall i j d le lt = elim (cases_lt i j) [
@@ -86,8 +86,15 @@ pub record AreLast (n : ℕ) (entries : List Placed) (i : ℕ) (last : List ℕ)
   pub met : (v : ℕ) → v < n → slice_index last v < n → IsMet entries i v (slice_index last v)
   pub most : (v h : ℕ) → v < n → IsMet entries i v h → (slice_index last v < n) × (h ≤ slice_index last v)
 
--- entries by higher node, and at equal higher nodes by place
+-- the entries of each lower node are by higher node, and at equal higher nodes by place
 module _ (n : ℕ) (entries : List Placed) (order : AreInOrder entries) (below : (e : Placed) → Contains entries e → IsPlacedBelow n e) where
+  -- along the entries of one lower node, higher nodes never fall
+  never_falls : (i j : ℕ) (d : Placed) → i ≤ j → j < length entries → (get_or entries i d).lower ≡ (get_or entries j d).lower → (get_or entries i d).higher ≤ (get_or entries j d).higher
+  never_falls i j d le lt same = elim (cases_lt i j) [
+    | inl less ↦ elim (order i j d less lt same) [ inl rise ↦ omega arith | inr even ↦ (let e = even.0 in omega arith) ]
+    | inr ge ↦ (let one : i ≡ j = omega arith in let e = ap (λ k. (get_or entries k d).higher) one in omega arith)
+  ]
+
   -- before the first entry, no lower node has been met
   pub none_met : (last : List ℕ) → last ≡ replicate n n → AreLast n entries 0 last
   none_met last is = record {
@@ -110,7 +117,7 @@ module _ (n : ℕ) (entries : List Placed) (order : AreInOrder entries) (below :
         let b = nodes in
         let top = are.most (get_or entries i e).lower (get_or entries i e).higher b.0 m in
         let k = are.met (get_or entries i e).lower b.0 top.0 in
-        let fall = no_fall entries order k.0 i k.1 (let lt = k.2 in omega arith) within in
+        let fall = never_falls k.0 i k.1 (let lt = k.2 in omega arith) within (k.4 ∙ sym (ap (λ (q : Placed). q.lower) (get_or_default entries i k.1 e within))) in
         let here = ap (λ (q : Placed). q.higher) (get_or_default entries i k.1 e within) in
         let high = k.5 in
         let low = top.1 in
@@ -141,7 +148,7 @@ module _ (n : ℕ) (entries : List Placed) (order : AreInOrder entries) (below :
             let at = same_at v is in
             let b = nodes in
             let high = b.1 in
-            let fall = no_fall entries order m.0 i m.1 (let low = m.2 in omega arith) within in
+            let fall = never_falls m.0 i m.1 (let low = m.2 in omega arith) within (m.4 ∙ is ∙ sym (ap (λ (q : Placed). q.lower) (get_or_default entries i m.1 e within))) in
             let here = ap (λ (q : Placed). q.higher) (get_or_default entries i m.1 e within) in
             let it = m.5 in
             (omega arith, omega arith)
@@ -195,7 +202,7 @@ module _ (n : ℕ) (entries : List Placed) (order : AreInOrder entries) (below :
         Contains-get_or entries t.1 t.2 t.5,
         t.6,
         t.7,
-        elim (order t.0 t.1 t.2 t.3 t.5) [ inl rise ↦ (let same = t.7 in absurd (omega arith)) | inr same ↦ same.1 ],
+        elim (order t.0 t.1 t.2 t.3 t.5 t.6) [ inl rise ↦ (let same = t.7 in absurd (omega arith)) | inr same ↦ same.1 ],
         t.8,
       )
 
@@ -228,7 +235,7 @@ module _ (n : ℕ) (entries : List Placed) (order : AreInOrder entries) (below :
                 let hs = t.5 in
                 let ps = t.6 in
                 elim (cases_lt k j) [
-                  | inl less ↦ elim (order k j t.0 less low) [
+                  | inl less ↦ elim (order k j t.0 less low (ap (λ (z : Placed). z.lower) second ∙ sym t.4 ∙ sym (ap (λ (z : Placed). z.lower) first))) [
                     | inl rise ↦ omega arith
                     | inr same ↦ (let later = same.1 in omega arith)
                   ]
