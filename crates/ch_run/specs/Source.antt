@@ -10,7 +10,7 @@ use Rattle.ch_hierarchy.specs.declared.fault.CheckFault.{CheckFault}
 use Rattle.ch_hierarchy.specs.Hierarchy.{LevelsAndLegs}
 use Rattle.ch_hierarchy.specs.Saved.{NamesKept, IsFirstFault}
 use Rattle.ch_contract.specs.declared.measure.OrderBy.{OrderBy}
-use Rattle.ch_contract.specs.declared.measure.OrderBy.TheVariants.{Depth, Rounds}
+use Rattle.ch_contract.specs.declared.measure.OrderBy.TheVariants.{Difference, Depth, Rounds}
 use Rattle.ch_contract.specs.Built.{IsHierarchyBy}
 use Rattle.ch_run.specs.declared.fault.Which.{Which}
 use Rattle.ch_run.specs.declared.fault.RunFault.{RunFault}
@@ -70,10 +70,16 @@ abbrev pub IsServing : OrderBy → ℕ → Network → Option LevelsAndLegs → 
 IsServing by hops g None K = IsHierarchyBy by g hops K
 IsServing by hops g (Some H) K = K ≡ H
 
--- the order in which a run builds the hierarchy that answers requests. With routes it is the order of the options. Without routes it is
--- the order of depth
+-- the order that takes the place of this one if routes are asked for by some requests alone: depth takes that of the difference
+abbrev pub order_of_requests : OrderBy → OrderBy
+order_of_requests Difference = Depth
+order_of_requests Depth = Depth
+order_of_requests Rounds = Rounds
+
+-- the order in which a run builds the hierarchy that answers requests. It is the order of the options, but without routes it is depth in
+-- place of the difference
 abbrev pub order_built : Options → OrderBy
-order_built options = if options.routes then options.order else Depth
+order_built options = if options.routes then options.order else order_of_requests options.order
 
 -- the order in which this many workers build a hierarchy of a graph with this many nodes, if no answer depends on the order. It is by rounds
 -- if there are at least two workers and the graph is large, and otherwise by depth

@@ -26,7 +26,7 @@ pub struct Options {
     /// The most legs of a witness, from 1 to [`MOST_HOPS`].
     pub hops: u32,
     /// The order of contraction of a hierarchy that is saved, or that gives routes. Distances and tables
-    /// are the same in each order.
+    /// are the same in each order. The hierarchy is the same for every plan, also by rounds.
     pub order: OrderBy,
     /// The greatest distance that a table or a near row reports, if there is a limit. A cell with a
     /// greater distance is as if there were no walk. A near row leaves out targets that are farther.
@@ -42,16 +42,18 @@ pub struct Options {
 impl Options {
     ghost use Rattle.ch_run.specs.Source.{order_built, order_for_queries};
 
-    /// Returns the order in which to build the hierarchy that answers requests. With routes it is the
-    /// order of the options. Without routes it is the order of depth. A request may ask for its route, and
-    /// that route is the same for every number of workers.
+    /// Returns the order in which to build the hierarchy that answers requests. It is the order of the options.
+    /// Only without routes, depth takes the place of the difference, because it takes less time. A request may
+    /// ask for its route, and that route is the same for every number of workers.
     pub(crate) fn building_order(&self) -> OrderBy
         ensures { result ≡ order_built self.now }
     {
         if self.routes {
-            self.order
-        } else {
-            OrderBy::Depth
+            return self.order;
+        }
+        match self.order {
+            OrderBy::Difference | OrderBy::Depth => OrderBy::Depth,
+            OrderBy::Rounds => OrderBy::Rounds,
         }
     }
 
