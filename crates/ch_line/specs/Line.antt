@@ -1,7 +1,7 @@
 -- The task of a line, the files that it opens, and how its run ends.
 use Rattle.std.specs.Prelude.{◌≡◌, ◌⊎◌, ℕ, [], ◌∷◌, ◌++◌, List, Option, Some, None, Result, Ok, Err, IsErrAnd, ⊤, option_map, if◌then◌else◌}
 use Rattle.std.specs.String.{string_bytes}
-use Rattle.ch_contract.specs.declared.measure.OrderBy.TheVariants.{Difference, Depth}
+use Rattle.ch_contract.specs.declared.measure.OrderBy.{OrderBy}
 use Rattle.ch_near.specs.declared.direction.Direction.TheVariants.{To, From}
 use Rattle.ch_run.specs.declared.options.Options.{Options}
 use Rattle.ch_run.specs.declared.fault.Which.{Which}
@@ -10,19 +10,25 @@ use Rattle.ch_text.specs.Device.{CountsAtMostOne}
 use Rattle.ch_run.specs.Run.{Reading, WritesOnce}
 use Rattle.ch_words.specs.declared.line.Choices.{Choices}
 use Rattle.ch_words.specs.declared.line.Line.{Line}
+use Rattle.ch_words.specs.declared.line.Order.{Order}
 use Rattle.ch_words.specs.declared.line.Tool.{Tool}
 use Rattle.ch_line.specs.declared.files.OpenFault.{OpenFault}
 use Rattle.ch_line.specs.Files.{FileState, bytes_of}
 use Rattle.ch_line.specs.Inputs.{AreRead, EndsFor, Question, Task, Writes, whole_of}
 
--- the options of a run, as the words choose them. `--deep` chooses the order of depth, and `--from` the distances from the
--- targets
+-- the order of contraction that the words choose: `--deep` that of depth, and `--rounds` that by rounds
+abbrev pub order_for : Order → OrderBy
+order_for Order.Difference = OrderBy.Difference
+order_for Order.Depth = OrderBy.Depth
+order_for Order.Rounds = OrderBy.Rounds
+
+-- the options of a run, as the words choose them. `--from` chooses the distances from the targets
 abbrev pub options_for : Choices → Options
 options_for choices = record {
   plain = choices.plain;
   routes = choices.routes;
   hops = choices.hops;
-  order = if choices.deep then Depth else Difference;
+  order = order_for choices.order;
   within = choices.within;
   count = choices.count;
   direction = if choices.from then From else To;

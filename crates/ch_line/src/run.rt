@@ -8,14 +8,14 @@ ghost use Rattle.ch_run.specs.Source.{saved_in, source_failures};
 ghost use Rattle.ch_words.specs.Line.{IsAllowed};
 ghost use Rattle.ch_line.specs.Files.{bytes_of};
 ghost use Rattle.ch_line.specs.Inputs.{AreFresh, AreFreshAsked, EndsFor, Writes, asked_inputs, input_if, inputs_in, question_of, task_of, whole_of};
-ghost use Rattle.ch_line.specs.Line.{AreClosed, AreOpened, EndsAtMissing, IsNotBegun, IsNotOpened, IsRefused, IsUnopened, MayAllBeThere, MayBeThere, StopsOpening, UsesFiles, asked_files, file_reading, graph_name, line_files, line_task, list_files, options_for, saved_files, saved_for, saved_name, tool_question};
+ghost use Rattle.ch_line.specs.Line.{AreClosed, AreOpened, EndsAtMissing, IsNotBegun, IsNotOpened, IsRefused, IsUnopened, MayAllBeThere, MayBeThere, StopsOpening, UsesFiles, asked_files, file_reading, graph_name, line_files, line_task, list_files, options_for, order_for, saved_files, saved_for, saved_name, tool_question};
 
 use crate::files::{Files, OpenFault};
 use crate::inputs::{Asked, Inputs, run_inputs};
 use ch_run::{
     Crew, Direction, Gate, Input, Options, OrderBy, Output, RunFault, Source, Sources, Which,
 };
-use ch_words::{Choices, Line, Tool};
+use ch_words::{Choices, Line, Order, Tool};
 use std::alloc::Global;
 use std::thread::Threads;
 
@@ -82,11 +82,7 @@ pub fn options_of(choices: &Choices) -> Options
         plain: choices.plain,
         routes: choices.routes,
         hops: choices.hops,
-        order: if choices.deep {
-            OrderBy::Depth
-        } else {
-            OrderBy::Difference
-        },
+        order: order_by(choices.order),
         within: choices.within,
         count: choices.count,
         direction: if choices.from {
@@ -94,6 +90,17 @@ pub fn options_of(choices: &Choices) -> Options
         } else {
             Direction::To
         },
+    }
+}
+
+/// Returns the order of contraction that the words choose.
+fn order_by(order: Order) -> OrderBy
+    ensures { result ≡ order_for order }
+{
+    match order {
+        Order::Difference => OrderBy::Difference,
+        Order::Depth => OrderBy::Depth,
+        Order::Rounds => OrderBy::Rounds,
     }
 }
 

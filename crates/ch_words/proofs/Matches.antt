@@ -9,14 +9,14 @@ use Rattle.clap.specs.declared.builder.arg.Arg.{Arg}
 use Rattle.clap.specs.declared.builder.command.Command.{Command}
 use Rattle.clap.specs.declared.builder.command.Command.TheViews.{out-Command}
 use Rattle.clap.specs.declared.error.kind.ErrorKind.{ErrorKind}
-use Rattle.clap.specs.declared.error.kind.ErrorKind.TheVariants.{OutOfMemory, WrongNumberOfValues}
+use Rattle.clap.specs.declared.error.kind.ErrorKind.TheVariants.{ArgumentConflict, OutOfMemory, WrongNumberOfValues}
 use Rattle.clap.specs.declared.parser.matches.ArgMatches.{ArgMatches}
 use Rattle.clap.specs.declared.parser.matches.ArgMatches.TheViews.{out-ArgMatches, out-SubCommand}
 use Rattle.clap.specs.declared.parser.matches.Found.{Found}
 use Rattle.clap.specs.declared.parser.matches.SubCommand.{SubCommand}
 use Rattle.std.proofs.lemmas.List.{length-map}
 use Rattle.clap.proofs.WalkLemmas.{one_text-rows, raw_values-rows}
-use Rattle.ch_words.specs.Line.{AreRefusedLists, HasOtherLists, IsFaultOf, IsFlag, IsFlagIn, IsGivenBy, IsReadFrom, IsToldOf, chtab_form, faults_of, given_by, name_of, number_in, number_of, lists_in}
+use Rattle.ch_words.specs.Line.{AreRefusedLists, AreRefusedOrders, HasOtherLists, HasTwoOrders, IsFaultOf, IsFlag, IsFlagIn, IsGivenBy, IsReadFrom, IsToldOf, chtab_form, faults_of, given_by, name_of, number_in, number_of, lists_in}
 use Rattle.ch_words.specs.declared.line.Line.{Line}
 use Rattle.ch_words.specs.declared.fault.LineFault.{LineFault}
 
@@ -148,12 +148,20 @@ refused-lists given (LineFault.Help text) told other = cc
 refused-lists given (LineFault.Refused text) told other = (refl, other)
 refused-lists given LineFault.NoMemory told other = tt
 
--- if clap finds nothing wrong with the words, but the lists are refused, that is the fault of the words
-pub lists-fault : (words : List Text) (name : Text) (given : List Row) (fault : LineFault) → faults_of words ≡ []
-    → given_by words ≡ Some (name, given) → AreRefusedLists name given fault → IsFaultOf words fault
-lists-fault words name given (LineFault.Help text) right matched refused = absurd refused
-lists-fault words name given (LineFault.Refused text) right matched refused = inr (right, rw matched refused)
-lists-fault words name given LineFault.NoMemory right matched refused = tt
+-- the fault that is reported for a conflict of arguments refuses both orders
+pub refused-orders : (given : List Row) (fault : LineFault) → IsToldOf ArgumentConflict fault → HasTwoOrders given → AreRefusedOrders given fault
+refused-orders given (LineFault.Help text) told both = cc
+refused-orders given (LineFault.Refused text) told both = both
+refused-orders given LineFault.NoMemory told both = tt
+
+-- if clap finds nothing wrong with the words, but the lists or the orders are refused, that is the fault of the words
+pub refused-fault : (words : List Text) (name : Text) (given : List Row) (fault : LineFault) → faults_of words ≡ []
+    → given_by words ≡ Some (name, given) → AreRefusedLists name given fault ⊎ AreRefusedOrders given fault → IsFaultOf words fault
+refused-fault words name given (LineFault.Help text) right matched (inl lists) = absurd lists
+refused-fault words name given (LineFault.Help text) right matched (inr orders) = absurd orders
+refused-fault words name given (LineFault.Refused text) right matched (inl lists) = inr (right, inl (rw matched lists))
+refused-fault words name given (LineFault.Refused text) right matched (inr orders) = inr (right, inr (rw matched orders))
+refused-fault words name given LineFault.NoMemory right matched refused = tt
 
 -- a line with the tool and the values that the words give is read from the words
 pub read-from : (line : Line) (words : List Text) (name : Text) (given : List Row) → faults_of words ≡ []

@@ -14,6 +14,7 @@ use Rattle.ch_work.specs.Plan.{Division, IsWithinLimits}
 use Rattle.ch_words.specs.declared.fault.LineFault.{LineFault}
 use Rattle.ch_words.specs.declared.line.Choices.{Choices}
 use Rattle.ch_words.specs.declared.line.Line.{Line}
+use Rattle.ch_words.specs.declared.line.Order.{Order}
 use Rattle.ch_words.specs.declared.line.Tool.{Tool}
 use Rattle.ch_words.specs.declared.line.Tool.TheVariants.{Ask, Dist, Near, NearAll, Save, Table}
 
@@ -70,6 +71,14 @@ routes_rule = flag_rule (codes "routes")
 abbrev pub deep_rule : Rule
 deep_rule = flag_rule (codes "deep")
 
+-- `[--rounds]`
+abbrev pub rounds_rule : Rule
+rounds_rule = flag_rule (codes "rounds")
+
+-- `[--deep | --rounds]`. Clap's form accepts both, and the line refuses them
+abbrev pub order_rules : List Rule
+order_rules = deep_rule ∷ rounds_rule ∷ []
+
 -- `[--within R]`
 abbrev pub within_rule : Rule
 within_rule = limit_rule (codes "within") 0 MOST_WEIGHT
@@ -94,9 +103,9 @@ shared_rules = number_rules ++ progress_rule ∷ []
 abbrev pub tool_form : Text → List Rule → List Rule → App
 tool_form name own files = fold with_rule (new_app name) (own ++ shared_rules ++ files)
 
--- `dist [--plain] [--routes] [--deep] [--saved FILE] .. GRAPH QUERIES`
+-- `dist [--plain] [--routes] [--deep | --rounds] [--saved FILE] .. GRAPH QUERIES`
 abbrev pub dist_form : App
-dist_form = tool_form (codes "dist") (flag_rule (codes "plain") ∷ routes_rule ∷ deep_rule ∷ saved_rule ∷ []) (file_rule (codes "GRAPH") ∷ file_rule (codes "QUERIES") ∷ [])
+dist_form = tool_form (codes "dist") (flag_rule (codes "plain") ∷ routes_rule ∷ order_rules ++ saved_rule ∷ []) (file_rule (codes "GRAPH") ∷ file_rule (codes "QUERIES") ∷ [])
 
 -- `table [--within R] [--saved FILE] .. GRAPH SOURCES TARGETS`
 abbrev pub table_form : App
@@ -110,13 +119,13 @@ near_rules = limit_rule (codes "count") 1 MOST_LISTED ∷ within_rule ∷ flag_r
 abbrev pub near_form : App
 near_form = tool_form (codes "near") (near_rules ++ saved_rule ∷ []) (file_rule (codes "GRAPH") ∷ lists_rule ∷ [])
 
--- `save [--deep] .. GRAPH`
+-- `save [--deep | --rounds] .. GRAPH`
 abbrev pub save_form : App
-save_form = tool_form (codes "save") (deep_rule ∷ []) (file_rule (codes "GRAPH") ∷ [])
+save_form = tool_form (codes "save") order_rules (file_rule (codes "GRAPH") ∷ [])
 
--- `ask [--routes] [--deep] [--within R] [--saved FILE] .. GRAPH`
+-- `ask [--routes] [--deep | --rounds] [--within R] [--saved FILE] .. GRAPH`
 abbrev pub ask_form : App
-ask_form = tool_form (codes "ask") (routes_rule ∷ deep_rule ∷ within_rule ∷ saved_rule ∷ []) (file_rule (codes "GRAPH") ∷ [])
+ask_form = tool_form (codes "ask") (routes_rule ∷ order_rules ++ within_rule ∷ saved_rule ∷ []) (file_rule (codes "GRAPH") ∷ [])
 
 -- the program's own words, before its tools are added
 abbrev pub program_form : App
@@ -173,14 +182,21 @@ AreFilesIn given (Ask graph) = IsFileIn given (codes "GRAPH") (string_bytes grap
 abbrev pub saved_in : List Row → Bool → Option Text
 saved_in given plain = if plain then None else first_of (codes "saved") given
 
--- the flags of the tool are as given, and the others are off
+-- the order that the words choose: by the difference without a word, and otherwise the one that the only given word names
+abbrev pub IsOrderIn : List Row → Order → Type 0
+IsOrderIn given Order.Difference = IsFlagIn given (codes "deep") false × IsFlagIn given (codes "rounds") false
+IsOrderIn given Order.Depth = IsFlagIn given (codes "deep") true × IsFlagIn given (codes "rounds") false
+IsOrderIn given Order.Rounds = IsFlagIn given (codes "deep") false × IsFlagIn given (codes "rounds") true
+
+-- the flags and the order of the tool are as given. The other flags are off, and a tool without the words of orders has no order but
+-- the difference
 abbrev pub AreFlagsIn : List Row → Tool → Choices → Type 0
-AreFlagsIn given (Dist graph queries) choices = IsFlagIn given (codes "plain") choices.plain × IsFlagIn given (codes "routes") choices.routes × IsFlagIn given (codes "deep") choices.deep × (choices.from ≡ false)
-AreFlagsIn given (Table graph sources targets) choices = (choices.plain ≡ false) × (choices.routes ≡ false) × (choices.deep ≡ false) × (choices.from ≡ false)
-AreFlagsIn given (Near graph sources targets) choices = (choices.plain ≡ false) × (choices.routes ≡ false) × (choices.deep ≡ false) × IsFlagIn given (codes "from") choices.from
-AreFlagsIn given (NearAll graph targets) choices = (choices.plain ≡ false) × (choices.routes ≡ false) × (choices.deep ≡ false) × IsFlagIn given (codes "from") choices.from
-AreFlagsIn given (Save graph) choices = (choices.plain ≡ false) × (choices.routes ≡ false) × IsFlagIn given (codes "deep") choices.deep × (choices.from ≡ false)
-AreFlagsIn given (Ask graph) choices = (choices.plain ≡ false) × IsFlagIn given (codes "routes") choices.routes × IsFlagIn given (codes "deep") choices.deep × (choices.from ≡ false)
+AreFlagsIn given (Dist graph queries) choices = IsFlagIn given (codes "plain") choices.plain × IsFlagIn given (codes "routes") choices.routes × IsOrderIn given choices.order × (choices.from ≡ false)
+AreFlagsIn given (Table graph sources targets) choices = (choices.plain ≡ false) × (choices.routes ≡ false) × (choices.order ≡ Order.Difference) × (choices.from ≡ false)
+AreFlagsIn given (Near graph sources targets) choices = (choices.plain ≡ false) × (choices.routes ≡ false) × (choices.order ≡ Order.Difference) × IsFlagIn given (codes "from") choices.from
+AreFlagsIn given (NearAll graph targets) choices = (choices.plain ≡ false) × (choices.routes ≡ false) × (choices.order ≡ Order.Difference) × IsFlagIn given (codes "from") choices.from
+AreFlagsIn given (Save graph) choices = (choices.plain ≡ false) × (choices.routes ≡ false) × IsOrderIn given choices.order × (choices.from ≡ false)
+AreFlagsIn given (Ask graph) choices = (choices.plain ≡ false) × IsFlagIn given (codes "routes") choices.routes × IsOrderIn given choices.order × (choices.from ≡ false)
 
 -- the workers and the size of pieces are as given. While a hierarchy is built, workers share a job only if it has at least 64 nodes
 pub record IsPlanIn (given : List Row) (plan : Division) : Type 0 where
@@ -238,11 +254,26 @@ AreRefusedLists name given (LineFault.Help _) = ⊥
 AreRefusedLists name given (LineFault.Refused _) = (name ≡ codes "near") × HasOtherLists given
 AreRefusedLists name given LineFault.NoMemory = ⊤
 
+-- both orders are given
+abbrev pub HasTwoOrders : List Row → Type 0
+HasTwoOrders given = IsFlagIn given (codes "deep") true × IsFlagIn given (codes "rounds") true
+
+-- the words name a tool, with both orders
+abbrev pub NamesTwoOrders : Option (Text × List Row) → Type 0
+NamesTwoOrders None = ⊥
+NamesTwoOrders (Some (name, given)) = HasTwoOrders given
+
+-- clap accepts the words of a tool. They are refused for both orders, or there is no memory
+abbrev pub AreRefusedOrders : List Row → LineFault → Type 0
+AreRefusedOrders given (LineFault.Help _) = ⊥
+AreRefusedOrders given (LineFault.Refused _) = HasTwoOrders given
+AreRefusedOrders given LineFault.NoMemory = ⊤
+
 -- help is reported only if the words ask for it. Words are refused only if clap finds another fault, or if it finds none and the
--- lists of `near` are wrong
+-- lists of `near` are wrong or both orders are given
 abbrev pub IsFaultOf : List Text → LineFault → Type 0
 IsFaultOf words (LineFault.Help _) = IsAmong DisplayHelp (faults_of words)
-IsFaultOf words (LineFault.Refused _) = ((kind : ErrorKind) × (kind ≢ DisplayHelp) × IsAmong kind (faults_of words)) ⊎ ((faults_of words ≡ []) × NamesOtherLists (given_by words))
+IsFaultOf words (LineFault.Refused _) = ((kind : ErrorKind) × (kind ≢ DisplayHelp) × IsAmong kind (faults_of words)) ⊎ ((faults_of words ≡ []) × (NamesOtherLists (given_by words) ⊎ NamesTwoOrders (given_by words)))
 IsFaultOf words LineFault.NoMemory = ⊤
 
 -- the exit status if no line is read: 0 for help, 2 for words that are refused, 3 for a lack of memory

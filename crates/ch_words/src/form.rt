@@ -3,13 +3,35 @@
 ghost use Rattle.std.specs.Prelude.{◌≡◌, IfOk, codes, false, fold};
 ghost use Rattle.clap.specs.Words.{app_of, rule_of, with_rule};
 ghost use Rattle.clap.specs.declared.builder.command.Command.TheViews.{out-Command as fields_of};
-ghost use Rattle.ch_words.specs.Line.{ask_form, chtab_form, deep_rule, dist_form, file_rule, flag_rule, limit_rule, lists_rule, near_form, near_rules, number_rule, number_rules, option_rule, program_form, progress_rule, routes_rule, save_form, saved_rule, shared_rules, table_form, within_rule};
+ghost use Rattle.ch_words.specs.Line.{ask_form, chtab_form, deep_rule, dist_form, file_rule, flag_rule, limit_rule, lists_rule, near_form, near_rules, number_rule, number_rules, option_rule, order_rules, program_form, progress_rule, rounds_rule, routes_rule, save_form, saved_rule, shared_rules, table_form, within_rule};
 
+use crate::line::Tool;
 use ch_graph::limits::{MOST_HOPS, MOST_LISTED, MOST_WEIGHT};
 use ch_work::limits::{MOST_PIECE, MOST_WORKERS};
 use clap::builder::ValueParser;
 use clap::{Arg, ArgAction, Command};
 use std::alloc::{AllocError, Global};
+
+/// The help of `--deep` for a hierarchy that is saved.
+const SAVED_BY_DEPTH: &str =
+    "Build the hierarchy in depth order: that is faster, and so are queries and tables by it. \
+    Of equally good routes another may be written [default: off]";
+
+/// The help of `--deep` for a hierarchy that gives routes.
+const ROUTES_BY_DEPTH: &str =
+    "With --routes, build the hierarchy in depth order, which is faster. Of equally good routes \
+    another may be written [default: off]";
+
+/// The help of `--rounds` for a hierarchy that gives the routes of a list of queries.
+const ROUTES_BY_ROUNDS: &str =
+    "With --routes, build the hierarchy by rounds, which several workers share: see --workers. \
+    Of equally good routes another may be written. Excludes --deep [default: off]";
+
+/// The help of `--rounds` for a hierarchy that is saved, or that answers requests. Each request may ask for its
+/// route.
+const BY_ROUNDS: &str =
+    "Build the hierarchy by rounds, which several workers share: see --workers. \
+    Of equally good routes another may be written. Excludes --deep [default: off]";
 
 /// Makes a flag.
 fn flag<'a>(alloc: Global, name: &'a str, help: &'a str) -> Arg<'a>
@@ -112,17 +134,36 @@ fn routes<'a>(alloc: Global) -> Arg<'a>
     )
 }
 
-/// Makes the flag that chooses the order of depth for the hierarchy of routes.
-fn route_order<'a>(alloc: Global) -> Arg<'a>
+/// Makes the flag that chooses the order of depth.
+fn deep<'a>(alloc: Global, help: &'a str) -> Arg<'a>
     ensures rule { rule_of result ≡ deep_rule }
     ensures local { result.global ≡ false }
 {
-    flag(
-        alloc,
-        "deep",
-        "With --routes, build the hierarchy in depth order, which is faster. Of equally good routes \
-        another may be written [default: off]",
-    )
+    flag(alloc, "deep", help)
+}
+
+/// Makes the flag that chooses the order by rounds.
+fn rounds<'a>(alloc: Global, help: &'a str) -> Arg<'a>
+    ensures rule { rule_of result ≡ rounds_rule }
+    ensures local { result.global ≡ false }
+{
+    flag(alloc, "rounds", help)
+}
+
+/// Adds the flags that choose an order. The form accepts both: clap promises nothing on the faults of words
+/// if one argument excludes another.
+fn with_orders<'a>(
+    alloc: Global,
+    command: Command<'a>,
+    deep_help: &'a str,
+    rounds_help: &'a str,
+) -> Result<Command<'a>, AllocError>
+    ensures form { IfOk result (λ c. app_of c ≡ fold with_rule (app_of command.entry) order_rules) }
+    ensures local { (fields_of command.entry).has_globals ≡ false → IfOk result (λ c. (fields_of c).has_globals ≡ false) }
+{
+    command
+        .arg(deep(alloc, deep_help))?
+        .arg(rounds(alloc, rounds_help))
 }
 
 /// Makes the option for the limit on distances.
@@ -187,10 +228,10 @@ fn dist_command<'a>(alloc: Global) -> Result<Command<'a>, AllocError>
         )
         .after_help("Example: chtab dist --routes roads.gr pairs.p2p")
         .arg(plain)?
-        .arg(routes(alloc))?
-        .arg(route_order(alloc))?
-        .arg(saved(alloc))?;
-    with_shared(alloc, command)?.arg(graph(alloc))?.arg(file(
+        .arg(routes(alloc))?;
+    let command = with_orders(alloc, command, ROUTES_BY_DEPTH, ROUTES_BY_ROUNDS)?;
+    let command = with_shared(alloc, command.arg(saved(alloc))?)?;
+    command.arg(graph(alloc))?.arg(file(
         alloc,
         "QUERIES",
         "A .p2p file: `p aux sp p2p K`, then K lines `q S T`",
@@ -294,18 +335,16 @@ fn save_command<'a>(alloc: Global) -> Result<Command<'a>, AllocError>
     ensures form { IfOk result (λ c. app_of c ≡ save_form) }
     ensures local { IfOk result (λ c. (fields_of c).has_globals ≡ false) }
 {
-    let deep = flag(
-        alloc,
-        "deep",
-        "Build the hierarchy in depth order: that is faster, and so are queries and tables by it. \
-        Of equally good routes another may be written [default: off]",
-    );
     let command = Command::new(alloc, "save")
         .about(
             "Writes the hierarchy of the graph, for --saved of `dist`, `table`, `near` and `ask`",
         )
-        .after_help("Example: chtab save --deep roads.gr >roads.ch")
-        .arg(deep)?;
+        .after_help(
+            "Examples:\n  \
+            chtab save --deep roads.gr >roads.ch\n  \
+            chtab save --rounds --workers 4 roads.gr >roads.ch",
+        );
+    let command = with_orders(alloc, command, SAVED_BY_DEPTH, BY_ROUNDS)?;
     with_shared(alloc, command)?.arg(graph(alloc))
 }
 
@@ -320,15 +359,24 @@ fn ask_command<'a>(alloc: Global) -> Result<Command<'a>, AllocError>
             distance, and `r S T` for its route too. `t K L` asks for a table: then come K lines `s V`, the sources, \
             and L lines `s V`, the targets. `p L K` gives places by L lines `s V`. After it `n S` asks for the K \
             places that are nearest to S, or for all where K is 0. `t K L R` and `n S R` leave out what is farther \
-            than R. A route goes by the saved hierarchy, or by the one that the run builds. That one is in depth \
-            order, unless --routes is given without --deep",
+            than R. A route goes by the saved hierarchy, or by the one that the run builds. Without --rounds that one \
+            is in depth order, unless --routes is given without --deep",
         )
         .after_help("Example: chtab ask --saved roads.ch roads.gr <requests.txt")
-        .arg(routes(alloc))?
-        .arg(route_order(alloc))?
+        .arg(routes(alloc))?;
+    let command = with_orders(alloc, command, ROUTES_BY_DEPTH, BY_ROUNDS)?
         .arg(within(alloc))?
         .arg(saved(alloc))?;
     with_shared(alloc, command)?.arg(graph(alloc))
+}
+
+/// Makes the command of a tool that reads the words of orders, under the name by which its errors call it.
+pub(crate) fn ordering_command<'a>(alloc: Global, tool: &Tool) -> Result<Command<'a>, AllocError> {
+    match tool {
+        Tool::Save { .. } => save_command(alloc)?.bin_name("chtab save"),
+        Tool::Ask { .. } => ask_command(alloc)?.bin_name("chtab ask"),
+        _ => dist_command(alloc)?.bin_name("chtab dist"),
+    }
 }
 
 /// Makes the program's own command, without its tools. It has only `--help`, and a tool must follow.

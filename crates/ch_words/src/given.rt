@@ -1,16 +1,16 @@
 //! The values that the words give to the arguments of a tool.
 
-ghost use Rattle.std.specs.Prelude.{◌≡◌, ◌≤◌, IfErr, IfOk, IfSome, Some, codes, option_map};
+ghost use Rattle.std.specs.Prelude.{◌≡◌, ◌≤◌, ◌⊎◌, IfErr, IfOk, IfSome, Some, codes, option_map};
 ghost use Rattle.std.specs.String.{string_bytes};
 ghost use Rattle.clap.specs.Words.{first_of, found_of, kind_of, rows_of};
-ghost use Rattle.clap.specs.declared.error.kind.ErrorKind.TheVariants.{WrongNumberOfValues};
+ghost use Rattle.clap.specs.declared.error.kind.ErrorKind.TheVariants.{ArgumentConflict, WrongNumberOfValues};
 ghost use Rattle.ch_graph.specs.declared.limits.TheConstants.{MOST_HOPS, MOST_WEIGHT};
 ghost use Rattle.ch_work.specs.Plan.{IsWithinLimits};
-ghost use Rattle.ch_words.specs.Line.{AreFilesIn, AreFlagsIn, AreRefusedLists, IsAllowed, IsCount, IsFileIn, IsFlagIn, IsGivenBy, IsPlanIn, IsToldOf, name_of, number_in, saved_in};
+ghost use Rattle.ch_words.specs.Line.{AreFilesIn, AreFlagsIn, AreRefusedLists, AreRefusedOrders, IsAllowed, IsCount, IsFileIn, IsFlagIn, IsGivenBy, IsOrderIn, IsPlanIn, IsToldOf, name_of, number_in, saved_in};
 
 use crate::fault::{LineFault, fault_of};
-use crate::form::near_command;
-use crate::line::{Choices, Line, Tool};
+use crate::form::{near_command, ordering_command};
+use crate::line::{Choices, Line, Order, Tool};
 use ch_graph::limits::{MOST_HOPS, MOST_LISTED, MOST_WEIGHT};
 use ch_work::Plan;
 use ch_work::limits::{MOST_PIECE, MOST_WORKERS};
@@ -170,6 +170,49 @@ fn flag_of(matches: &ArgMatches<'_>, name: &str) -> bool
     matches.get_flag(name)
 }
 
+/// Returns the order that the words choose for a tool that reads them.
+///
+/// # Errors
+/// `Refused` if both orders are given; `NoMemory`.
+fn order_of(alloc: Global, tool: &Tool, matches: &ArgMatches<'_>) -> Result<Order, LineFault>
+    ensures given { IfOk result (IsOrderIn (rows_of (found_of matches.now))) }
+    ensures refused { IfErr result (AreRefusedOrders (rows_of (found_of matches.now))) }
+{
+    match (flag_of(matches, "deep"), flag_of(matches, "rounds")) {
+        (false, false) => Ok(Order::Difference),
+        (true, false) => Ok(Order::Depth),
+        (false, true) => Ok(Order::Rounds),
+        (true, true) => Err(two_orders(alloc, tool, matches)),
+    }
+}
+
+/// Returns the fault for both orders.
+fn two_orders(alloc: Global, tool: &Tool, matches: &ArgMatches<'_>) -> LineFault
+    ensures { IsToldOf ArgumentConflict result }
+{
+    match orders_error(alloc, tool, matches) {
+        Ok(error) => fault_of(alloc, &error),
+        Err(_) => LineFault::NoMemory,
+    }
+}
+
+/// Makes clap's error for both orders. Like clap, it names first the one that is given first.
+fn orders_error(
+    alloc: Global,
+    tool: &Tool,
+    matches: &ArgMatches<'_>,
+) -> Result<clap::Error, AllocError>
+    ensures { IfOk result (λ error. kind_of error ≡ ArgumentConflict) }
+{
+    let message = match (matches.index_of("deep"), matches.index_of("rounds")) {
+        (Some(deep), Some(rounds)) if rounds < deep => {
+            "the argument '--rounds' cannot be used with '--deep'"
+        }
+        _ => "the argument '--deep' cannot be used with '--rounds'",
+    };
+    ordering_command(alloc, tool)?.error(ErrorKind::ArgumentConflict, message)
+}
+
 /// Returns the plan that the words give.
 fn plan_of(matches: &ArgMatches<'_>) -> Result<Plan, AllocError>
     ensures limits { IfOk result IsWithinLimits }
@@ -181,7 +224,10 @@ fn plan_of(matches: &ArgMatches<'_>) -> Result<Plan, AllocError>
 }
 
 /// Returns the choices for a tool. A tool has some of the flags, and the others are off.
-fn choices_of(tool: &Tool, matches: &ArgMatches<'_>) -> Result<Choices, AllocError>
+///
+/// # Errors
+/// `Refused` if both orders are given; `NoMemory`.
+fn choices_of(alloc: Global, tool: &Tool, matches: &ArgMatches<'_>) -> Result<Choices, LineFault>
     ensures range { IfOk result (λ choices. (1 ≤ choices.hops) × (choices.hops ≤ MOST_HOPS)) }
     ensures hops { IfOk result (λ choices. Some choices.hops ≡ number_in (rows_of (found_of matches.now)) (codes "hops")) }
     ensures flags { IfOk result (AreFlagsIn (rows_of (found_of matches.now)) tool.now) }
@@ -189,30 +235,34 @@ fn choices_of(tool: &Tool, matches: &ArgMatches<'_>) -> Result<Choices, AllocErr
     ensures small_limit { IfOk result (λ choices. IfSome choices.within (λ most. most ≤ MOST_WEIGHT)) }
     ensures count { IfOk result (λ choices. choices.count ≡ number_in (rows_of (found_of matches.now)) (codes "count")) }
     ensures small_count { IfOk result (λ choices. IfSome choices.count IsCount) }
+    ensures refused { IfErr result (AreRefusedOrders (rows_of (found_of matches.now))) }
 {
-    let (plain, routes, deep, from) = match tool {
+    let (plain, routes, order, from) = match tool {
         Tool::Dist { .. } => (
             flag_of(matches, "plain"),
             flag_of(matches, "routes"),
-            flag_of(matches, "deep"),
+            order_of(alloc, tool, matches)?,
             false,
         ),
-        Tool::Table { .. } => (false, false, false, false),
-        Tool::Near { .. } | Tool::NearAll { .. } => {
-            (false, false, false, flag_of(matches, "from"))
-        }
-        Tool::Save { .. } => (false, false, flag_of(matches, "deep"), false),
+        Tool::Table { .. } => (false, false, Order::Difference, false),
+        Tool::Near { .. } | Tool::NearAll { .. } => (
+            false,
+            false,
+            Order::Difference,
+            flag_of(matches, "from"),
+        ),
+        Tool::Save { .. } => (false, false, order_of(alloc, tool, matches)?, false),
         Tool::Ask { .. } => (
             false,
             flag_of(matches, "routes"),
-            flag_of(matches, "deep"),
+            order_of(alloc, tool, matches)?,
             false,
         ),
     };
     Ok(Choices {
         plain,
         routes,
-        deep,
+        order,
         hops: number_of(matches, "hops", MOST_HOPS)?,
         within: limit_given(matches, "within", MOST_WEIGHT)?,
         count: count_given(matches)?,
@@ -237,15 +287,16 @@ fn saved_of(
 /// Returns the line of the tool of this name, with the values of its arguments.
 ///
 /// # Errors
-/// `Refused` for lists that `near` doesn't read; `NoMemory`.
+/// `Refused` for lists that `near` doesn't read, and if both orders are given; `NoMemory`.
 pub fn line_of(alloc: Global, name: &str, matches: &ArgMatches<'_>) -> Result<Line, LineFault>
     ensures named { IfOk result (λ line. name.now ≡ name_of line.tool) }
     ensures allowed { IfOk result IsAllowed }
     ensures given { IfOk result (IsGivenBy (rows_of (found_of matches.now))) }
-    ensures refused { IfErr result (AreRefusedLists name.now (rows_of (found_of matches.now))) }
+    ensures refused { IfErr result (λ fault. AreRefusedLists name.now (rows_of (found_of matches.now)) fault
+        ⊎ AreRefusedOrders (rows_of (found_of matches.now)) fault) }
 {
     let tool = tool_of(alloc, name, matches)?;
-    let choices = choices_of(&tool, matches)?;
+    let choices = choices_of(alloc, &tool, matches)?;
     Ok(Line {
         tool,
         saved: saved_of(alloc, &choices, matches)?,

@@ -15,5 +15,5 @@ mod line;
 mod words;
 
 pub use fault::{LineFault, line_status, refused};
-pub use line::{Choices, Line, Tool};
+pub use line::{Choices, Line, Order, Tool};
 pub use words::read_words;

@@ -37,6 +37,17 @@ pub enum Tool {
     },
 }
 
+/// The order of contraction that the words choose.
+#[derive(Clone, Copy, Debug, PartialEq, Eq)]
+pub enum Order {
+    /// By the difference between shortcuts and legs, without a word.
+    Difference,
+    /// By depth, with `--deep`.
+    Depth,
+    /// By rounds, with `--rounds`.
+    Rounds,
+}
+
 /// The choices of the words on how a tool works.
 #[derive(Clone, Copy, Debug, PartialEq, Eq)]
 pub struct Choices {
@@ -44,9 +55,10 @@ pub struct Choices {
     pub plain: bool,
     /// Whether the arcs of a shortest path follow each distance.
     pub routes: bool,
-    /// Whether `save`, and `dist` and `ask` with routes, build in the order of depth. All others always
-    /// do.
-    pub deep: bool,
+    /// The order in which `save`, and `dist` and `ask` with routes, build a hierarchy. `ask` without routes
+    /// builds by rounds if this says so, and otherwise by depth. The other runs build in the order that takes
+    /// the least time.
+    pub order: Order,
     /// The most legs of a witness, from 1 to [`MOST_HOPS`](ch_graph::limits::MOST_HOPS).
     pub hops: u32,
     /// The greatest distance that a table or a near row reports, if there is a limit.

@@ -10,12 +10,12 @@ use crate::line::Line;
 use std::alloc::Global;
 
 /// Reads the words after the program's name:
-/// `dist [--plain] [--routes] [--deep] [--saved FILE] [--workers N] [--piece K] [--hops H] [--progress] GRAPH QUERIES`,
+/// `dist [--plain] [--routes] [--deep | --rounds] [--saved FILE] [--workers N] [--piece K] [--hops H] [--progress] GRAPH QUERIES`,
 /// `table [--within R] [--saved FILE] [--workers N] [--piece K] [--hops H] [--progress] GRAPH SOURCES TARGETS`,
 /// `near [--count K] [--within R] [--from] [--saved FILE] [--workers N] [--piece K] [--hops H] [--progress] GRAPH SOURCES TARGETS`,
 /// the same with `--all GRAPH TARGETS`,
-/// `save [--deep] [--workers N] [--piece K] [--hops H] [--progress] GRAPH` or
-/// `ask [--routes] [--deep] [--within R] [--saved FILE] [--workers N] [--piece K] [--hops H] [--progress] GRAPH`.
+/// `save [--deep | --rounds] [--workers N] [--piece K] [--hops H] [--progress] GRAPH` or
+/// `ask [--routes] [--deep | --rounds] [--within R] [--saved FILE] [--workers N] [--piece K] [--hops H] [--progress] GRAPH`.
 ///
 /// # Errors
 /// `Help` if the words ask for it; `Refused` if they don't have one of these forms; `NoMemory`.

@@ -13,7 +13,7 @@ pub use ch_run::{
     Plan, ReadAllFault, ReaderInput, RunFault, Source, Sources, Stage, Which, WriterOutput, laws,
     read_all, run_ask, run_dist, run_near, run_save, run_table, status, write_all,
 };
-pub use ch_words::{Choices, Line, LineFault, Tool, line_status, read_words};
+pub use ch_words::{Choices, Line, LineFault, Order, Tool, line_status, read_words};
 pub use numbers::numbers;
 use std::process::ExitCode;
 

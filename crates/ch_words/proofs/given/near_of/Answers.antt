@@ -1,4 +1,4 @@
-use Rattle.std.proofs.Common.{◌≡◌, ◌∙◌, ap, ap₂, Some, ◌∷◌, [], List, Bor, codes, false, map, option_map, subst, sym, true, rules}
+use Rattle.std.proofs.Common.{◌≡◌, ◌∙◌, ap, ap₂, Some, ◌∷◌, [], Bor, codes, false, map, option_map, subst, sym, true, rules}
 use Rattle.clap.specs.Words.{Text, found_of, matched_of, raw_values, rows_of}
 use Rattle.ch_words.specs.Line.{IsFlagIn}
 use Rattle.ch_words.proofs.Matches.{lists-read, one-listed, other-lists, refused-lists, two-listed}

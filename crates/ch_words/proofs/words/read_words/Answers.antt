@@ -3,7 +3,7 @@ use Rattle.std.proofs.lemmas.Result.{IfErr-weaker, IfOk-weaker}
 use Rattle.clap.proofs.WalkLemmas.{IfOk-both}
 use Rattle.clap.specs.Matches.{subcommand_name_of}
 use Rattle.clap.specs.Words.{HasKind, found_of, rows_of}
-use Rattle.ch_words.proofs.Matches.{fault-told, given-by, lists-fault, of-faults, read-from}
+use Rattle.ch_words.proofs.Matches.{fault-told, given-by, refused-fault, of-faults, read-from}
 use Rattle.ch_words.proofs.words.read_words.Goals as goal
 
 pub returns-in-Err-clause-fault : goal.returns-in-Err-clause-fault
@@ -26,4 +26,4 @@ returns-clause-fault c =
     let right = of-faults (λ kinds. kinds ≡ []) _ _ c.in_ok-command.ensures c.in-Ok.ensures.kinds in
     let named : Some c.in-Some.name.now ≡ subcommand_name_of c.in-Ok.matches = search rules in
     let matched = given-by _ _ _ _ given c.in_ok-command.ensures c.in-Ok.ensures.matches named c.in-Some.ensures.rows in
-    IfErr-weaker c.line_of.result _ _ (λ fault refused. lists-fault _ _ given fault right matched refused) c.line_of.ensures.refused
+    IfErr-weaker c.line_of.result _ _ (λ fault refused. refused-fault _ _ given fault right matched refused) c.line_of.ensures.refused
