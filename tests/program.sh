@@ -42,7 +42,7 @@ expect_words() {
 # expect_routes NAME COUNT GRAPH QUERIES: in each order the routes are walks of the graph, as many as this, each of the distance's weight.
 expect_routes() {
   local order
-  for order in --deep ""; do
+  for order in --deep --rounds ""; do
     "$root/chtab" dist --routes $order "$3" "$4" >routes.txt 2>err.txt
     compare "$1 $order, status" 0 "$?"
     compare "$1 $order, routes" "$2 routes" "$(python3 -m oracles.routes "$3" routes.txt 2>&1)"
@@ -75,7 +75,7 @@ all_pairs() {
 # expect_same_saved NAME GRAPH QUERIES SOURCES TARGETS: a graph that is saved, in each order, gives the same routes and the same table.
 expect_same_saved() {
   local order
-  for order in --deep ""; do
+  for order in --deep --rounds ""; do
     "$root/chtab" save $order "$2" >same.ch
     compare "$1, saved $order, status" 0 "$?"
     expect "$1, routes by the hierarchy saved $order" 0 "$("$root/chtab" dist --routes $order "$2" "$3")" "" \
@@ -181,8 +181,10 @@ for most in 0 60000 300000 1152921504606846976; do
 done
 expect_same_saved "Liechtenstein" "$lg" fifty.p2p from.ss to.ss
 compare "Liechtenstein, saved by two workers" "$(cksum <same.ch)" "$("$root/chtab" save --workers 2 --piece 7 "$lg" | cksum)"
-compare "Liechtenstein, saved by depth by two workers" "$("$root/chtab" save --deep "$lg" | cksum)" \
-  "$("$root/chtab" save --deep --workers 2 --piece 7 "$lg" | cksum)"
+for order in --deep --rounds; do
+  compare "Liechtenstein, saved $order by two workers" "$("$root/chtab" save $order "$lg" | cksum)" \
+    "$("$root/chtab" save $order --workers 2 --piece 7 "$lg" | cksum)"
+done
 expect "Liechtenstein, saved, two workers" 0 "$table" "" table --workers 2 --saved same.ch "$lg" from.ss to.ss
 expect "Liechtenstein, saved, within a limit" 0 "$("$root/chtab" table --within 60000 "$lg" from.ss to.ss)" "" \
   table --within 60000 --saved same.ch "$lg" from.ss to.ss
@@ -548,7 +550,7 @@ arcs = [(19, 1, 1), (1, 20, 1), (16, 18, 1), (18, 16, 1), (19, 17, 1), (17, 23, 
 arcs += [arc for node in range(1, 16) for arc in ((node, node + 1, 1), (node + 1, node, 1))]
 arcs += [arc for node in range(19, 24) for arc in ((2 * node - 14, node, 0), (node, 2 * node - 13, 0))]
 write_graph(Path("long.gr"), 33, arcs)
-Path("long.ch").write_text(hierarchy_text(33, arcs, 3, False))
+Path("long.ch").write_text(hierarchy_text(33, arcs, 3, "difference"))
 '
 expect "a shortcut of too many arcs" 0 "$(cat long.ch)" "" save --hops 3 long.gr
 compare "a shortcut of too many arcs, legs" "p ch 33 91" "$(head -n 1 long.ch)"

@@ -9,26 +9,33 @@ by the difference and by depth, with bounds on hops from 1 to 16 and with 1, 2 a
 and `dist --plain`. Distances are those of Dijkstra's algorithm over
 pairs of weight and number of arcs, each route is a walk of the graph of that weight and that number of arcs, and the one that the rules
 name, all runs of one kind write the same bytes, what is saved is the hierarchy that the rules name, and an independent checker finds no
-fault in it. A hierarchy that an independent program makes by an order of its own is accepted, and gives the same distances. The last
-line is 'N passed, N failed', of graphs.
+fault in it. A hierarchy that an independent program makes by an order of its own is accepted, and gives the same distances.
+
+The same holds by rounds, with 1, 2, 3, 4 and 64 workers and with pieces of 1 and 64 nodes. Workers share a job of building only if it has
+64 nodes, so a graph of up to 300 nodes is drawn for each tenth of the others. The last line is 'N passed, N failed', of graphs.
 """
 import sys
 import tempfile
+from functools import partial
+from itertools import product
 
-from helpers.cases import Case, Folder
+from helpers.cases import Case, Folder, WideCase
 from helpers.running import Count, build, side_by_side
 from oracles.checking import first_fault
 from oracles.contracting import contract_in_order, text_of
 from oracles.reading import read
 from oracles.rules import hierarchy_text, routes_text
 
-# The word for the order by depth.
-DEEP = ("--deep",)
+# The words for each order of contraction.
+WORDS = {"difference": (), "depth": ("--deep",), "rounds": ("--rounds",)}
+
+# The numbers of workers and the pieces with which a graph is contracted by rounds.
+SHARES = [("--workers", str(workers), "--piece", str(piece)) for workers, piece in product((1, 2, 3, 4, 64), (1, 64))]
 
 
-def check_saved(case, hops, deep, text):
-    """The text is that of the graph's hierarchy, and an independent checker finds no fault in it. Gives the routes by it."""
-    assert text == hierarchy_text(case.nodes, case.arcs, hops, deep), text
+def check_saved(case, hops, order, text):
+    """The text is that of the graph's hierarchy in this order, and an independent checker finds no fault in it. Gives the routes by it."""
+    assert text == hierarchy_text(case.nodes, case.arcs, hops, order), text
     _, (order, legs) = read("saved", text.encode(), case.nodes)
     order = [node for node, in order]
     assert first_fault(case.nodes, case.arcs, order, legs) is None, text
@@ -46,16 +53,37 @@ def check_near(case, folder, *options):
             assert found == case.near(sources, is_from, case.limit, case.count), (limits, direction, words)
 
 
-def check_runs(case, folder, *options, order=()):
+def check_runs(case, folder, *options, order="difference"):
     """The distances, tables and near rows of runs with these options are right; gives the text of routes, in this order."""
     lists = ["graph.gr", "from.ss", "to.ss"]
     assert folder.run("dist", *options, "graph.gr", "queries.p2p") == case.distances()
     assert folder.run("table", *options, *lists) == case.table()
     assert folder.run("table", "--within", str(case.limit), *options, *lists) == case.table(case.limit)
     check_near(case, folder, *options)
-    text = folder.run("dist", "--routes", *order, *options, "graph.gr", "queries.p2p")
+    text = folder.run("dist", "--routes", *WORDS[order], *options, "graph.gr", "queries.p2p")
     assert case.has_right_routes(text), text
     return text
+
+
+def check_rounds(case, folder):
+    """By rounds, runs with any workers and pieces save the hierarchy that the rules name, and write the routes by it; by the saved one, too."""
+    hops = case.hops[0]
+    bound = ["--hops", str(hops)]
+    saved = folder.save("saved.ch", folder.run("save", "--rounds", *bound, "graph.gr"))
+    routes = check_saved(case, hops, "rounds", saved)
+    for share in SHARES:
+        assert folder.run("save", "--rounds", *share, *bound, "graph.gr") == saved, share
+        assert folder.run("dist", "--rounds", "--routes", *share, *bound, "graph.gr", "queries.p2p") == routes, share
+    assert check_runs(case, folder, *bound, order="rounds") == routes
+    assert check_runs(case, folder, "--saved", "saved.ch") == routes
+
+
+def check_wide_graph(seed):
+    case = WideCase(seed)
+    with tempfile.TemporaryDirectory() as kept:
+        folder = Folder(kept)
+        case.write(folder)
+        check_rounds(case, folder)
 
 
 def check_graph(seed):
@@ -65,23 +93,25 @@ def check_graph(seed):
         case.write(folder)
         assert folder.run("dist", "--plain", "graph.gr", "queries.p2p") == case.distances()
         texts = set()
-        for workers, hops, order in ((1, case.hops[0], ()), (2, case.hops[0], ()), (1, case.hops[1], DEEP), (64, case.hops[1], DEEP)):
+        for workers, hops, order in ((1, case.hops[0], "difference"), (2, case.hops[0], "difference"),
+                                     (1, case.hops[1], "depth"), (64, case.hops[1], "depth")):
             options = ["--workers", str(workers), "--piece", "3"]
             bound = ["--hops", str(hops)]
-            saved = folder.save("saved.ch", folder.run("save", *order, *options, *bound, "graph.gr"))
-            texts.add((hops, saved, check_saved(case, hops, order == DEEP, saved)))
+            saved = folder.save("saved.ch", folder.run("save", *WORDS[order], *options, *bound, "graph.gr"))
+            texts.add((hops, saved, check_saved(case, hops, order, saved)))
             texts.add((hops, saved, check_runs(case, folder, *options, *bound, order=order)))
             texts.add((hops, saved, check_runs(case, folder, *options, "--saved", "saved.ch")))
         assert len(texts) == 2, "routes are not those of the rules, or depend on the number of workers, or on whether the hierarchy was saved"
+        check_rounds(case, folder)
         own = contract_in_order(case.nodes, case.arcs, case.order)
         folder.save("own.ch", text_of(case.nodes, case.order, own))
         check_runs(case, folder, "--saved", "own.ch")
 
 
-def fault_of(seed):
-    """The fault of this graph, or None."""
+def fault_of(check, seed):
+    """The fault that this check finds in the graph that is drawn from this seed, or None."""
     try:
-        check_graph(seed)
+        check(seed)
     except AssertionError as fault:
         return fault
     return None
@@ -91,9 +121,10 @@ def main():
     graphs, seed = (int(word) for word in (sys.argv[1:] + ["300", "1"][len(sys.argv) - 1:]))
     build()
     tally = Count()
-    seeds = [f"{seed} {place}" for place in range(graphs)]
-    for name, fault in zip(seeds, side_by_side(fault_of, seeds)):
-        tally.expect(fault is None, f"graph {name}: {fault}")
+    for check, count in (check_graph, graphs), (check_wide_graph, graphs // 10):
+        seeds = [f"{seed} {place}" for place in range(count)]
+        for name, fault in zip(seeds, side_by_side(partial(fault_of, check), seeds)):
+            tally.expect(fault is None, f"{check.__name__} {name}: {fault}")
     tally.finish()
 
 

@@ -13,12 +13,12 @@ from oracles.routes import checked
 LIMIT = 2**60
 
 
-def drawn(draw):
-    """A graph: the number of its nodes and its arcs (from, to, weight)."""
-    nodes = draw.choice((1, 2, 3, 5, 8, 13, 20, 33))
+def drawn(draw, sizes, densities):
+    """A graph: the number of its nodes, one of these sizes, and its arcs (from, to, weight), so many for each node as one of these densities."""
+    nodes = draw.choice(sizes)
     greatest = draw.choice((0, 1, 3, 100, 10**6, LIMIT // nodes))
     arcs = []
-    for _ in range(round(nodes * draw.choice((0, 0.5, 1, 1.5, 2, 3, 5)))):
+    for _ in range(round(nodes * draw.choice(densities))):
         weight = draw.choice((0, greatest, draw.randint(0, greatest), draw.randint(0, greatest)))
         start, end = draw.randint(1, nodes), draw.randint(1, nodes)
         arcs.append((start, end, weight))
@@ -33,9 +33,12 @@ def drawn(draw):
 class Case:
     """A random graph with queries and lists, and what is owed for them."""
 
+    SIZES = 1, 2, 3, 5, 8, 13, 20, 33
+    DENSITIES = 0, 0.5, 1, 1.5, 2, 3, 5
+
     def __init__(self, seed):
         draw = random.Random(seed)
-        self.nodes, self.arcs = drawn(draw)
+        self.nodes, self.arcs = drawn(draw, self.SIZES, self.DENSITIES)
         ahead = arcs_ahead(self.arcs)
         self.costs = {source: least_costs(source, ahead) for source in range(1, self.nodes + 1)}
         self.queries = [(draw.randint(1, self.nodes), draw.randint(1, self.nodes)) for _ in range(draw.choice((0, 1, 40)))]
@@ -85,6 +88,13 @@ class Case:
         write_queries(folder.path / "queries.p2p", self.queries)
         for name, nodes in zip(("from.ss", "to.ss"), self.lists):
             write_list(folder.path / name, nodes)
+
+
+class WideCase(Case):
+    """The same with as many nodes as workers share while a hierarchy is built: 64 and more."""
+
+    SIZES = 64, 150, 300
+    DENSITIES = 0.5, 1, 1.5
 
 
 class Folder:

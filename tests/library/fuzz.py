@@ -43,7 +43,7 @@ class Caller:
     def __init__(self, draw, case, library, tally):
         self.draw, self.library, self.tally, self.count = draw, library, tally, case.nodes
         self.graph = "".join([f"p sp {case.nodes} {len(case.arcs)}\n", *(f"a {start} {end} {weight}\n" for start, end, weight in case.arcs)]).encode()
-        self.saved = hierarchy_text(case.nodes, case.arcs, 5, False).encode()
+        self.saved = hierarchy_text(case.nodes, case.arcs, 5, "difference").encode()
         # The least weights and numbers of arcs, from each node to each, or None.
         self.away = [[case.costs[source].get(target) for target in range(1, case.nodes + 1)] for source in range(1, case.nodes + 1)]
         self.handles = [Handle(), Handle()]

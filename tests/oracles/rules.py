@@ -9,80 +9,158 @@ from oracles.contracting import text_of
 
 
 class Contraction:
-    """What is left of a graph while its nodes are contracted: for each pair the cost (weight, arcs) and the middle of its leg."""
+    """What is left of a graph while its nodes are contracted: for each node its legs to others and those from others, each a cost (weight,
+    arcs) and a middle."""
 
-    def __init__(self, nodes, arcs, hops, deep):
-        self.nodes, self.hops, self.deep = nodes, hops, deep
+    def __init__(self, nodes, arcs, hops):
+        self.nodes, self.hops = nodes, hops
         self.depth = dict.fromkeys(range(1, nodes + 1), 0)
-        self.legs = {}
+        self.ahead = {node: {} for node in self.depth}
+        self.behind = {node: {} for node in self.depth}
         for start, end, weight in arcs:
-            if start != end and (weight, 1) < self.legs.get((start, end), ((LIMIT + 1, 0), 0))[0]:
-                self.legs[start, end] = ((weight, 1), 0)
+            if start != end and (weight, 1) < self.ahead[start].get(end, ((LIMIT + 1, 0), 0))[0]:
+                self.put(start, end, (weight, 1), 0)
 
-    def from_node(self, node):
-        return [(end, cost) for (start, end), (cost, _) in self.legs.items() if start == node]
-
-    def to_node(self, node):
-        return [(start, cost) for (start, end), (cost, _) in self.legs.items() if end == node]
+    def put(self, start, end, cost, middle):
+        self.ahead[start][end] = self.behind[end][start] = cost, middle
 
     def neighbours(self, node):
-        return {end for end, _ in self.from_node(node)} | {start for start, _ in self.to_node(node)}
+        return self.ahead[node].keys() | self.behind[node].keys()
 
-    def has_witness(self, node, start, end, most):
-        """Whether a chain of at most so many legs leads from one node to another, never over this one, and costs at most so much."""
+    def touching(self, node):
+        """How many legs touch a node."""
+        return len(self.ahead[node]) + len(self.behind[node])
+
+    def has_witness(self, away, start, end, most):
+        """Whether a chain of at most so many legs leads from one node to another, never over these nodes, and costs at most so much."""
         front = {start: (0, 0)}
         for _ in range(self.hops):
             reached = {}
             for place, known in front.items():
-                for other, cost in self.from_node(place):
+                for other, (cost, _) in self.ahead[place].items():
                     sum_of_both = plus(known, cost)
-                    if other != node and sum_of_both <= min(most, reached.get(other, most)):
+                    if other not in away and sum_of_both <= min(most, reached.get(other, most)):
                         reached[other] = sum_of_both
             if end in reached:
                 return True
             front = reached
         return False
 
-    def shortcuts(self, node):
-        """The cost of the shortcut of each pair that needs one."""
+    def shortcuts(self, node, away):
+        """The cost of the shortcut of each pair that needs one, where witnesses stay away from these nodes."""
         found = {}
-        for (start, one), (end, other) in product(self.to_node(node), self.from_node(node)):
+        for (start, (one, _)), (end, (other, _)) in product(self.behind[node].items(), self.ahead[node].items()):
             cost = plus(one, other)
-            if start != end and cost[0] <= LIMIT and cost[1] < self.nodes and not self.has_witness(node, start, end, cost):
+            if start != end and cost[0] <= LIMIT and cost[1] < self.nodes and not self.has_witness(away, start, end, cost):
                 found[start, end] = cost
         return found
 
-    def priority(self, node):
-        legs = len(self.from_node(node)) + len(self.to_node(node))
-        if self.deep:
-            return 2 * len(self.shortcuts(node)) + self.depth[node] - legs
-        return len(self.shortcuts(node)) - legs
+    def count(self, node):
+        """How many shortcuts a node needs where it is contracted alone."""
+        return len(self.shortcuts(node, {node}))
 
-    def contract(self, node):
-        """Takes a node out, with shortcuts in its place. Its legs, and the nodes that it shared one with."""
-        shortcuts, neighbours = self.shortcuts(node), self.neighbours(node)
-        taken = {pair: leg for pair, leg in self.legs.items() if node in pair}
-        for pair in taken:
-            del self.legs[pair]
-        self.legs.update({pair: (cost, node) for pair, cost in shortcuts.items()})
+    def by_depth(self, node, count):
+        """The key of a node of so many shortcuts in the order by depth, and in that by rounds."""
+        return 2 * count + self.depth[node] - self.touching(node)
+
+    def take_out(self, node):
+        """Takes a node out, and makes its neighbours deeper than it. Its legs, and these neighbours."""
+        neighbours = self.neighbours(node)
+        ahead, behind = self.ahead.pop(node), self.behind.pop(node)
+        for end in ahead:
+            del self.behind[end][node]
+        for start in behind:
+            del self.ahead[start][node]
         for other in neighbours:
             self.depth[other] = max(self.depth[other], self.depth[node] + 1)
-        return [(*pair, *cost, middle) for pair, (cost, middle) in taken.items()], neighbours
+        legs = [(node, end, *cost, middle) for end, (cost, middle) in ahead.items()]
+        return legs + [(start, node, *cost, middle) for start, (cost, middle) in behind.items()], neighbours
+
+    def put_all(self, node, shortcuts):
+        """Puts the shortcuts of a node that was taken out in its place."""
+        for (start, end), cost in shortcuts.items():
+            self.put(start, end, cost, node)
 
 
-def hierarchy_text(nodes, arcs, hops, deep):
-    """What `chtab save` owes for a graph: the order and the legs of its hierarchy, by the difference or by depth."""
-    left = Contraction(nodes, arcs, hops, deep)
-    waiting = {node: left.priority(node) for node in range(1, nodes + 1)}
+def singly(left, key):
+    """Contracts one node after the other, at each step one of least key, and of these the least numbered. The order, and all legs."""
+    waiting = {node: key(node) for node in left.depth}
     order, legs = [], []
     while waiting:
         node = min(waiting, key=lambda other: (waiting[other], other))
         del waiting[node]
         order.append(node)
-        taken, neighbours = left.contract(node)
+        shortcuts = left.shortcuts(node, {node})
+        taken, neighbours = left.take_out(node)
+        left.put_all(node, shortcuts)
         legs += taken
-        waiting.update({other: left.priority(other) for other in neighbours})
-    return text_of(nodes, order, in_order(order, legs))
+        waiting.update({other: key(other) for other in neighbours})
+    return order, legs
+
+
+def by_difference(left):
+    return singly(left, lambda node: left.count(node) - left.touching(node))
+
+
+def by_depth(left):
+    return singly(left, lambda node: left.by_depth(node, left.count(node)))
+
+
+def mixed(node):
+    """The number that decides between nodes of equal keys. The definitions number nodes from 0."""
+    return (node - 1) * 2654435769 % 2**32
+
+
+def round_of(left, counts):
+    """The nodes of the next round, by number: those that come before every other node within two legs."""
+    rank = {node: (left.by_depth(node, count), mixed(node), node) for node, count in counts.items()}
+
+    def around(node):
+        near = left.neighbours(node)
+        return near.union(*map(left.neighbours, near)) - {node}
+
+    return sorted(node for node in rank if all(rank[node] < rank[other] for other in around(node)))
+
+
+def contract_round(left, nodes):
+    """Contracts these nodes together: no witness touches one of them. Their legs, and the nodes that they shared one with."""
+    shortcuts = {node: left.shortcuts(node, set(nodes)) for node in nodes}
+    legs, around = [], set()
+    for node in nodes:
+        taken, neighbours = left.take_out(node)
+        legs += taken
+        around |= neighbours
+    for node in nodes:
+        left.put_all(node, shortcuts[node])
+    return legs, around
+
+
+def by_rounds(left):
+    """Contracts one round after the other. Shortcuts are counted at the opening, once more when seven tenths of the nodes are contracted, and
+    then for the neighbours of each round. The order, in which a round goes by number, and all legs."""
+    counts = {node: left.count(node) for node in left.depth}
+    order, legs = [], []
+    while counts:
+        was_early = 10 * len(order) < 7 * left.nodes
+        nodes = round_of(left, counts)
+        taken, around = contract_round(left, nodes)
+        order += nodes
+        legs += taken
+        for node in nodes:
+            del counts[node]
+        if 10 * len(order) >= 7 * left.nodes:
+            counts.update({node: left.count(node) for node in (list(counts) if was_early else around)})
+    return order, legs
+
+
+# How each order contracts what is left of a graph.
+ORDERS = {"difference": by_difference, "depth": by_depth, "rounds": by_rounds}
+
+
+def hierarchy_text(nodes, arcs, hops, order):
+    """What `chtab save` owes for a graph: the order and the legs of its hierarchy, in the order of this name."""
+    ranked, legs = ORDERS[order](Contraction(nodes, arcs, hops))
+    return text_of(nodes, ranked, in_order(ranked, legs))
 
 
 def in_order(order, legs):
