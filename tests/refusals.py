@@ -32,6 +32,7 @@ from itertools import count, pairwise
 from helpers.asking import answers_after, answers_of, requests_of
 from helpers.refusing import Refusing
 from helpers.running import PROGRAM, ROOT, SECONDS, Answer, Count, agrees, build, side_by_side, with_files
+from oracles.rules import hierarchy_text
 
 # Requests on a line and on a star, each with its answer.
 LINE_ASKED = [(b"q 1 3\n", b"d 1 3 9\n"), (b"q 3 1\n", b"d 3 1 -\n"), (b"c\nt 2 2\ns 1\ns 3\n\ns 3\ns 2\n", b"t 1 9 4\nt 3 0 -\n"),
@@ -41,6 +42,8 @@ STAR_ASKED = [(b"q 3 4\n", b"d 3 4 2\nr 2\na 3 1 1\na 1 4 1\n"), (b"t 1 2\ns 3\n
               (b"q 4 2\n", b"d 4 2 2\nr 2\na 4 1 1\na 1 2 1\n")]
 
 ASKED = {"line.txt": LINE_ASKED, "star.txt": STAR_ASKED}
+# 66 rings of three nodes each. Workers share a job of building only if it has 64 nodes, and here each round has one of each ring.
+RINGS = [(ring + place, ring + (place + 1) % 3, 1) for ring in range(1, 199, 3) for place in range(3)]
 FILES = {
     **{name: requests_of(asked).decode() for name, asked in ASKED.items()},
     "line.gr": "p sp 3 2\na 1 2 4\na 2 3 5\n",
@@ -54,6 +57,8 @@ FILES = {
     "star.ch": "p ch 4 8\no 2\no 1\no 3\no 4\nl 2 1 1 1 0\nl 1 2 1 1 0\nl 1 3 1 1 0\nl 1 4 1 1 0\nl 3 1 1 1 0\nl 4 1 1 1 0\n"
                "l 3 4 2 2 1\nl 4 3 2 2 1\n",
     "wrong.ch": "p ch 3 2\no 2\no 1\no 3\nl 1 2 4 1 0\nl 2 3 5 1 0\n",
+    "rings.gr": "".join(["p sp 198 198\n", *(f"a {start} {end} {weight}\n" for start, end, weight in RINGS)]),
+    "rings.p2p": "p aux sp p2p 2\nq 1 3\nq 3 4\n",
 }
 
 STAR_SAVED = FILES["star.ch"].encode()
@@ -103,6 +108,12 @@ ASKS = {
     "requests by a saved hierarchy": (["ask", "--saved", "line.ch", "line.gr"], LINE_ASKED),
     "requests for routes": (["ask", "--routes", "star.gr"], STAR_ASKED),
     "requests for routes by a saved hierarchy": (["ask", "--routes", "--saved", "star.ch", "star.gr"], STAR_ASKED),
+}
+
+# The runs that build by rounds, with enough nodes for several workers.
+BY_ROUNDS = {
+    "a hierarchy by rounds": (["save", "--rounds", "rings.gr"], Answer(0, hierarchy_text(198, RINGS, 5, "rounds").encode(), b"")),
+    "routes by rounds": (["dist", "--rounds", "--routes", "rings.gr", "rings.p2p"], Answer(0, b"d 1 3 2\nr 2\na 1 2 1\na 2 3 1\nd 3 4 -\n", b"")),
 }
 
 OUT_OF_MEMORY = Answer(3, b"", b"chtab: out of memory\n")
@@ -310,6 +321,10 @@ def main():
             (refusing.folder / name).write_text(text)
         for name, (words, wanted) in KINDS.items():
             refuse_memory(refusing, tally, name, words, wanted)
+        for name, (words, wanted) in BY_ROUNDS.items():
+            refuse_memory(refusing, tally, name, words, wanted)
+            refuse_memory(refusing, tally, f"{name} by two workers", [*words, *TWO_WORKERS], wanted)
+            refuse_threads(refusing, tally, name, words, wanted, ())
         for name, (words, asked) in ASKS.items():
             for most in 16, 65_536:
                 done = Answer(0, answers_of(asked), b"")

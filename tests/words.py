@@ -13,9 +13,11 @@ from pathlib import Path
 
 from helpers.running import PROGRAM, Answer, Count, agrees, build, run
 
-# A line of three nodes, and four nodes with two shortest paths from 2 to 4, of which the two orders take one each.
+# A line of three nodes; four nodes with two shortest paths from 2 to 4, of which the orders by difference and by depth take one each; and
+# four nodes with two shortest paths from 4 to 1, of which only the order by rounds takes the one over 2.
 LINE = "p sp 3 2\na 1 2 4\na 2 3 5\n"
 TIES = "p sp 4 6\na 1 4 1\na 2 1 1\na 2 3 1\na 3 2 1\na 3 4 1\na 4 3 1\n"
+ROUNDS = "p sp 4 5\na 1 4 1\na 2 1 1\na 3 1 1\na 4 2 1\na 4 3 1\n"
 FILES = {
     "line.gr": LINE,
     "--plain": LINE,
@@ -26,6 +28,9 @@ FILES = {
     "ties.p2p": "p aux sp p2p 1\nq 2 4\n",
     "requests.txt": "q 1 3\nt 1 2\ns 2\ns 3\ns 1\n",
     "ties.txt": "q 2 4\n",
+    "rounds.gr": ROUNDS,
+    "rounds.p2p": "p aux sp p2p 1\nq 4 1\n",
+    "rounds.txt": "r 4 1\n",
 }
 DISTANCES = "d 1 3 9\nd 3 1 -\n"
 ROUTES = "d 1 3 9\nr 2\na 1 2 4\na 2 3 5\nd 3 1 -\n"
@@ -41,6 +46,9 @@ BY_DIFFERENCE = "d 2 4 2\nr 2\na 2 1 1\na 1 4 1\n"
 BY_DEPTH = "d 2 4 2\nr 2\na 2 3 1\na 3 4 1\n"
 SAVED = "p ch 3 2\no 1\no 2\no 3\nl 1 2 4 1 0\nl 2 3 5 1 0\n"
 SAVED_BY_DEPTH = "p ch 3 2\no 1\no 3\no 2\nl 1 2 4 1 0\nl 2 3 5 1 0\n"
+ONE_BY_ONE = "d 4 1 2\nr 2\na 4 3 1\na 3 1 1\n"
+BY_ROUNDS = "d 4 1 2\nr 2\na 4 2 1\na 2 1 1\n"
+SAVED_BY_ROUNDS = "p ch 4 6\no 3\no 2\no 1\no 4\nl 3 1 1 1 0\nl 4 3 1 1 0\nl 2 1 1 1 0\nl 4 2 1 1 0\nl 1 4 1 1 0\nl 4 1 2 2 2\n"
 ASKED = "d 1 3 9\nt 2 5 -\n"
 ASKED_FOR_ROUTES = "d 1 3 9\nr 2\na 1 2 4\na 2 3 5\nt 2 5 -\n"
 
@@ -58,6 +66,13 @@ READ = [
     ("dist ties.gr ties.p2p --saved=ties.ch --routes", BY_DEPTH),
     ("dist --routes --deep --saved line.ch --workers 64 --piece 1 --hops 16 line.gr line.p2p", ROUTES),
     ("dist --plain --saved none.ch line.gr line.p2p", DISTANCES),
+    ("dist --routes rounds.gr rounds.p2p", ONE_BY_ONE),
+    ("dist --routes --deep rounds.gr rounds.p2p", ONE_BY_ONE),
+    ("dist --rounds rounds.gr --routes rounds.p2p", BY_ROUNDS),
+    ("dist rounds.gr --workers 64 rounds.p2p --routes --piece 1 --rounds", BY_ROUNDS),
+    ("dist --rounds rounds.gr rounds.p2p", "d 4 1 2\n"),
+    ("dist --rounds --plain line.gr --routes line.p2p", DISTANCES),
+    ("dist --rounds --saved deep.ch rounds.gr --routes rounds.p2p", ONE_BY_ONE),
     ("table line.gr from.ss to.ss", TABLE),
     ("table line.gr to.ss from.ss", "t 3 - 0\nt 2 - 5\n"),
     ("table --workers 2 line.gr --hops 1 from.ss to.ss --piece 1048576", TABLE),
@@ -84,6 +99,9 @@ READ = [
     ("save line.gr", SAVED),
     ("save line.gr --deep", SAVED_BY_DEPTH),
     ("save --workers 64 line.gr --piece 1 --hops 16", SAVED),
+    ("save --rounds line.gr", SAVED_BY_DEPTH),
+    ("save rounds.gr --rounds", SAVED_BY_ROUNDS),
+    ("save --workers 64 rounds.gr --rounds --piece 1 --hops 16", SAVED_BY_ROUNDS),
     ("ask line.gr < requests.txt", ASKED),
     ("ask --saved line.ch line.gr --workers 2 --piece 3 < requests.txt", ASKED),
     ("ask --routes --within 5 --hops 1 line.gr < requests.txt", ASKED_FOR_ROUTES),
@@ -91,6 +109,11 @@ READ = [
     ("ask --routes ties.gr < ties.txt", BY_DIFFERENCE),
     ("ask --deep ties.gr --routes < ties.txt", BY_DEPTH),
     ("ask ties.gr --routes --saved ties.ch < ties.txt", BY_DEPTH),
+    ("ask rounds.gr < rounds.txt", ONE_BY_ONE),
+    ("ask --routes rounds.gr < rounds.txt", ONE_BY_ONE),
+    ("ask --rounds rounds.gr < rounds.txt", BY_ROUNDS),
+    ("ask rounds.gr --rounds --routes --workers 2 < rounds.txt", BY_ROUNDS),
+    ("ask --rounds --saved=deep.ch rounds.gr < rounds.txt", ONE_BY_ONE),
 ]
 
 # Words that name another file than is meant, and the fault.
@@ -138,6 +161,10 @@ COUNTS = [
 # What is told where `near` has other lists than it reads.
 OTHER_LISTS = "SOURCES and TARGETS are needed, or with --all TARGETS alone"
 
+# What is told where both orders are given, the first of them first.
+DEEP_FIRST = "error: the argument '--deep' cannot be used with '--rounds'\n"
+ROUNDS_FIRST = "error: the argument '--rounds' cannot be used with '--deep'\n"
+
 # Other words that are refused, and part of what is told of them.
 REFUSED = [
     ("", "requires a subcommand"),
@@ -161,6 +188,7 @@ REFUSED = [
     ("table --plain g s t", "unexpected argument '--plain'"),
     ("table --routes g s t", "unexpected argument '--routes'"),
     ("table --deep g s t", "unexpected argument '--deep'"),
+    ("table --rounds g s t", "unexpected argument '--rounds'"),
     ("table --within -1 g s t", "unexpected argument '-1'"),
     ("table g s t --within", "a value is required"),
     ("table --within 1 --within 1 g s t", "cannot be used multiple times"),
@@ -183,6 +211,7 @@ REFUSED = [
     ("near --plain g s t", "unexpected argument '--plain'"),
     ("near --routes g s t", "unexpected argument '--routes'"),
     ("near --deep g s t", "unexpected argument '--deep'"),
+    ("near g s t --rounds", "unexpected argument '--rounds'"),
     ("save", "required arguments were not provided"),
     ("save g h", "unexpected argument 'h'"),
     ("save --saved h g", "unexpected argument '--saved'"),
@@ -190,6 +219,18 @@ REFUSED = [
     ("ask", "required arguments were not provided"),
     ("ask g q", "unexpected argument 'q'"),
     ("ask --plain g", "unexpected argument '--plain'"),
+    ("save --deep --rounds g", DEEP_FIRST),
+    ("save --rounds g --deep", ROUNDS_FIRST),
+    ("save g --rounds --deep", "\n\nUsage: chtab save [OPTIONS] <GRAPH>\n"),
+    ("save --rounds --deep g h", "unexpected argument 'h'"),
+    ("save --rounds --rounds g", "cannot be used multiple times"),
+    ("dist --deep g --rounds q", DEEP_FIRST),
+    ("dist --rounds --routes --deep g q", ROUNDS_FIRST),
+    ("dist g q --deep --plain --rounds", "\n\nUsage: chtab dist [OPTIONS] <GRAPH> <QUERIES>\n"),
+    ("dist --saved h --rounds g q --deep", ROUNDS_FIRST),
+    ("ask g --deep --rounds", DEEP_FIRST),
+    ("ask --rounds --deep g", ROUNDS_FIRST),
+    ("ask --rounds --deep g", "\n\nUsage: chtab ask [OPTIONS] <GRAPH>\n"),
 ]
 
 # Words that ask for help, and parts of what it says.
@@ -202,7 +243,8 @@ HELPS = {
     "dist --help": [
         "Usage: chtab dist [OPTIONS] <GRAPH> <QUERIES>", "--plain",
         "All other options but --progress then have no effect [default: off]", "--routes", "in order [default: off]",
-        "--deep", "another may be written [default: off]", "--saved <FILE>", "`chtab save` or any other program wrote it",
+        "--deep", "another may be written [default: off]", "--rounds", "Excludes --deep [default: off]", "--saved <FILE>",
+        "`chtab save` or any other program wrote it",
         "refused, often by `saved line 1: size too large`", "Options on how to build one then have no effect [default: none]",
         "--workers <N>", "no answer depends on N [default: 1]",
         "--piece <K>", "from 1 to 1048576 [default: 64]", "--hops <H>", "from 1 to 16 [default: 5]", "--progress",
@@ -221,12 +263,13 @@ HELPS = {
         "chtab near --all --within 900000 roads.gr doctors.ss",
     ],
     "save --help": [
-        "Usage: chtab save [OPTIONS] <GRAPH>", "--deep", "another may be written [default: off]", "--workers <N>", "--piece <K>",
-        "--hops <H>", "--progress", "Example: chtab save --deep roads.gr >roads.ch",
+        "Usage: chtab save [OPTIONS] <GRAPH>", "--deep", "another may be written [default: off]", "--rounds", "Excludes --deep [default: off]",
+        "--workers <N>", "--piece <K>", "--hops <H>", "--progress", "chtab save --deep roads.gr >roads.ch",
+        "chtab save --rounds --workers 4 roads.gr >roads.ch",
     ],
     "ask --help": [
         "Usage: chtab ask [OPTIONS] <GRAPH>", "as they come. `q S T` asks for a distance", "then come K lines `s V`, the sources",
-        "--routes", "--deep", "--within <R>", "--saved <FILE>", "--workers <N>", "--piece <K>", "--hops <H>", "--progress",
+        "--routes", "--deep", "--rounds", "Excludes --deep [default: off]", "--within <R>", "--saved <FILE>", "--workers <N>", "--piece <K>", "--hops <H>", "--progress",
         "Example: chtab ask --saved roads.ch roads.gr <requests.txt",
     ],
 }
@@ -305,7 +348,8 @@ def main():
         for name, text in FILES.items():
             (folder / name).write_text(text)
         (folder / "line.ch").write_text(SAVED)
-        (folder / "ties.ch").write_bytes(run(["save", "--deep", "ties.gr"], folder).out)
+        for name, graph in ("ties.ch", "ties.gr"), ("deep.ch", "rounds.gr"):
+            (folder / name).write_bytes(run(["save", "--deep", graph], folder).out)
         for check in check_read, check_refused, check_help, check_full:
             check(tally, folder)
     tally.finish()
