@@ -3,7 +3,6 @@ ghost use Rattle.std.specs.Prelude.{◌≡◌, IfOk};
 ghost use Rattle.ch_contract.specs.Legs.{IsHopBound};
 
 mod remaining;
-mod rounds;
 mod workers;
 
 use crate::again::{again, again_after};

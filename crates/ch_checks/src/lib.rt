@@ -2,7 +2,6 @@
 //!
 //! - Calls succeed if there is memory.
 //! - After a refusal of memory, the values that were lent are usable.
-//! - Hierarchies by rounds are equal to those that a separate program computed.
 //! - Pieces pass the gate as often as they should, and workers do pieces at the same time.
 //!
 //! The crate has only tests, so the crates below are proved once. It stands on ch_contract, ch_graph, ch_hierarchy,
