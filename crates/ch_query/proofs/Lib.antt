@@ -2,4 +2,4 @@ pub mod one_side
 pub mod two_sides
 pub mod routing
 pub mod faults
-pub mod weights
+pub mod by_weight

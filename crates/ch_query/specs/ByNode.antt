@@ -3,7 +3,7 @@ use Rattle.std.specs.Prelude.{◌≡◌, ℕ, ◌-◌, ◌<◌, List, Option, No
 use Rattle.ch_graph.specs.declared.cost.Cost.{Cost}
 use Rattle.ch_hierarchy.specs.Hierarchy.{LevelsAndLegs, nodes_of}
 use Rattle.ch_hierarchy.specs.Ranked.{rank_of}
-use Rattle.ch_query.specs.declared.search.Search.{Search}
+use Rattle.ch_query.specs.declared.sides.search.Search.{Search}
 
 -- a list by rank as a list by node; a node of level l has rank n - l
 abbrev pub by_node : {A : Type 0} → LevelsAndLegs → List A → A → List A

@@ -7,8 +7,8 @@ use Rattle.ch_hierarchy.specs.Hierarchy.{LevelsAndLegs}
 use Rattle.ch_hierarchy.specs.Paths.{IsLeastUpwardPath}
 use Rattle.ch_query.specs.declared.side.Side.{Side}
 use Rattle.ch_query.specs.declared.side.Side.TheVariants.{Up, Down}
-use Rattle.ch_query.specs.declared.search.Search.{Search}
-use Rattle.ch_query.specs.declared.unpacking.PendingLeg.{PendingLeg}
+use Rattle.ch_query.specs.declared.sides.search.Search.{Search}
+use Rattle.ch_query.specs.declared.routes.unpacking.PendingLeg.{PendingLeg}
 use Rattle.ch_query.specs.Search.{AvoidsIdle}
 use Rattle.ch_query.specs.Underway.{idle_of, IsUnderway}
 use Rattle.ch_query.specs.ByNode.{costs_of, keys_of}

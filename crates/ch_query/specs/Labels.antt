@@ -1,8 +1,8 @@
 -- The label of each node in a search: a cost or none, and a parent.
 use Rattle.std.specs.Prelude.{ℕ, ◌+◌, ◌*◌, ◌==◌, ltb, if◌then◌else◌, List, Option, Some, None}
 use Rattle.ch_graph.specs.declared.cost.Cost.{Cost}
-use Rattle.ch_query.specs.declared.labels.Label.{Label}
-use Rattle.ch_query.specs.declared.labels.TheConstants.{NO_WEIGHT, MANY}
+use Rattle.ch_query.specs.declared.sides.labels.Label.{Label}
+use Rattle.ch_query.specs.declared.sides.labels.TheConstants.{NO_WEIGHT, MANY}
 
 -- labels as contracts see them: by node a cost, if the node is reached, and a parent
 pub record CostsAndParents : Type 0 where

@@ -4,7 +4,7 @@ use Rattle.ch_graph.specs.declared.limits.TheConstants.{MOST_WEIGHT}
 use Rattle.ch_graph.specs.declared.cost.Cost.{Cost}
 use Rattle.ch_graph.specs.Cost.{cost_sum}
 use Rattle.ch_hierarchy.specs.Hierarchy.{LevelsAndLegs}
-use Rattle.ch_query.specs.declared.search.Search.{Search}
+use Rattle.ch_query.specs.declared.sides.search.Search.{Search}
 use Rattle.ch_query.specs.Search.{IsSettled, IsUpwardCost}
 use Rattle.ch_query.specs.TwoSided.{MeetsFirst, IsSeen}
 use Rattle.ch_query.specs.Underway.{IsUnderway}

@@ -1,6 +1,6 @@
 -- The room of both sides between queries.
 use Rattle.std.specs.Prelude.{◌≡◌, ℕ}
-use Rattle.ch_query.specs.declared.search.Search.{Search}
+use Rattle.ch_query.specs.declared.sides.search.Search.{Search}
 use Rattle.ch_query.specs.declared.side.Side.TheVariants.{Up, Down}
 use Rattle.ch_query.specs.Underway.{IsClean}
 

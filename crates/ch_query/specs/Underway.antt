@@ -7,7 +7,7 @@ use Rattle.ch_graph.specs.declared.cost.Cost.{Cost}
 use Rattle.ch_hierarchy.specs.declared.leg.Leg.{Leg}
 use Rattle.ch_hierarchy.specs.Hierarchy.{LevelsAndLegs, nodes_of, IsLevelled}
 use Rattle.ch_query.specs.declared.side.Side.{Side}
-use Rattle.ch_query.specs.declared.search.Search.{Search}
+use Rattle.ch_query.specs.declared.sides.search.Search.{Search}
 use Rattle.ch_hierarchy.specs.declared.ranked.RankedLeg.{RankedLeg}
 use Rattle.ch_query.specs.ByNode.{costs_of, keys_of, parents_of}
 use Rattle.ch_query.specs.Side.{rows_of, other}

@@ -7,7 +7,7 @@ use Rattle.ch_hierarchy.specs.declared.leg.Leg.{Leg}
 use Rattle.ch_hierarchy.specs.Rows.{row}
 use Rattle.ch_hierarchy.specs.Hierarchy.{LevelsAndLegs}
 use Rattle.ch_hierarchy.specs.Kept.{IsLeg}
-use Rattle.ch_query.specs.declared.unpacking.PendingLeg.{PendingLeg}
+use Rattle.ch_query.specs.declared.routes.unpacking.PendingLeg.{PendingLeg}
 use Rattle.ch_query.specs.Routes.{IsUnpacked}
 
 -- the pending leg is a leg of the hierarchy

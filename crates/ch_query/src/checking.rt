@@ -1,4 +1,13 @@
 //! The check whether a saved hierarchy of any origin is right for a graph.
+
+mod arcs;
+mod covering;
+mod finding;
+mod founding;
+mod founding_jobs;
+mod leg_costs;
+mod lower;
+
 ghost use Rattle.std.specs.Prelude.{◌≡◌, ◌<◌, ◌^◌, ℕ, All, IfErr, IfOk, MatchOption, length};
 ghost use Rattle.ch_hierarchy.specs.declared.fault.CheckFault.{CheckFault as AnyFault};
 ghost use Rattle.ch_hierarchy.specs.declared.fault.CheckFault.TheVariants as CheckFault;
@@ -10,12 +19,12 @@ ghost use Rattle.ch_hierarchy.specs.Assembling.{IsFirstFailing};
 ghost use Rattle.ch_query.specs.Checking.{IsArcIfBase, IsIfFault, IsOkWhere, NamesFounded};
 ghost use Rattle.ch_query.specs.Covering.{IsFirstUncovered};
 
-use crate::founding::{first_false_shortcut, first_unserved, first_without_arc};
-use crate::founding_jobs::{first_false_shortcut_by, first_unserved_by, first_without_arc_by};
-use crate::lower::{first_uncovered, first_uncovered_alone};
 use ch_graph::{Graph, Saved};
 use ch_hierarchy::{CheckError, CheckFault, Hierarchy, assemble};
 use ch_work::{Crew, Gate, Stage};
+use founding::{first_false_shortcut, first_unserved, first_without_arc};
+use founding_jobs::{first_false_shortcut_by, first_unserved_by, first_without_arc_by};
+use lower::{first_uncovered, first_uncovered_alone};
 use std::alloc::{AllocError, Global};
 use std::thread::Threads;
 

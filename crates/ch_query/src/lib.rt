@@ -20,33 +20,20 @@
 #![tactic(auto)]
 
 mod answer;
-mod arcs;
 mod checking;
-mod covering;
-mod descent;
-mod finding;
-mod founding;
-mod founding_jobs;
-mod labels;
+mod costs;
 pub mod laws;
-mod legs;
-mod lower;
-mod meeting;
-mod query;
 mod routes;
 mod scratch;
-mod search;
 mod side;
-mod spaces;
-mod spreading;
-mod unpacking;
-mod weight_search;
+mod sides;
+mod weights;
 
 pub use answer::{Answer, answer_all, answer_all_in};
 pub use checking::{check, check_alone, check_watched};
-pub use query::{distance, route};
 pub use routes::Route;
+pub use routes::query::route;
 pub use scratch::Scratch;
 pub use side::Side;
-pub use spaces::{ranked_space, search_space};
-pub use spreading::spread;
+pub use sides::spread;
+pub use weights::{distance, ranked_space, search_space};

@@ -1,4 +1,10 @@
-//! Routes.
+//! Routes: two searches meet, the way leads back from there to both ends, and its legs are unpacked.
+
+mod descent;
+mod legs;
+pub(crate) mod query;
+mod unpacking;
+
 use ch_graph::InArc;
 use std::marker::Model;
 

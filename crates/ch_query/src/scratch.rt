@@ -1,41 +1,10 @@
 //! The room that queries use.
 ghost use Rattle.std.specs.Prelude.{◌≡◌, IfOk};
 
-use crate::search::Search;
-use crate::side::Side;
-use crate::weight_search::WeightSearch;
+use crate::sides::Sides;
+use crate::weights::search::WeightSearch;
 use std::alloc::{AllocError, Global};
 use std::marker::Model;
-
-/// Two searches for costs, one for each side, as they are between queries. Contracts see the number of
-/// nodes that they have room for.
-#[derive(Drop)]
-pub(crate) struct Sides {
-    pub(crate) up: Search,
-    pub(crate) down: Search,
-}
-
-impl Model for Sides {
-    ghost use Rattle.std.specs.Prelude.{ℕ, length};
-    ghost use Rattle.ch_query.specs.Scratches.{AreSides};
-
-    ghost Value = { ℕ };
-
-    ghost view = { λ s. length s.up.labels.costs };
-
-    ghost invariant = { λ s. AreSides (length s.up.labels.costs) s.up s.down };
-}
-
-impl Sides {
-    /// Makes two clean searches with room for `nodes` nodes.
-    pub(crate) fn new(alloc: Global, nodes: u32) -> Result<Sides, AllocError>
-        ensures { IfOk result (λ s. s ≡ nodes) }
-    {
-        let up = Search::new(alloc, Side::Up, nodes)?;
-        let down = Search::new(alloc, Side::Down, nodes)?;
-        Ok(Sides { up, down })
-    }
-}
 
 /// Room for queries in a hierarchy with a fixed number of nodes. Contracts see that number.
 ///

@@ -17,7 +17,7 @@ use Rattle.ch_hierarchy.proofs.theory.LegPaths.{path_cost-cons}
 use Rattle.ch_query.specs.ByNode.{costs_of, keys_of, parents_of}
 use Rattle.ch_query.specs.declared.side.Side.{Side}
 use Rattle.ch_query.specs.declared.side.Side.TheVariants.{Up, Down}
-use Rattle.ch_query.specs.declared.search.Search.{Search}
+use Rattle.ch_query.specs.declared.sides.search.Search.{Search}
 use Rattle.ch_query.specs.Search.{IsRelaxedFrom, IsUpwardCost, IsExpanding, OrNode, IsStalled, count_unsettled}
 use Rattle.ch_query.specs.Underway.{back_of, IsSized, IsTouched, RelaxesIn, IsSameSearch, idle_of, IsUnderway, IsExpandingAt, IsPartlyExpanded}
 use Rattle.ch_query.specs.Side.{rows_of}

@@ -9,8 +9,8 @@ use Rattle.ch_graph.specs.declared.limits.TheConstants.{MOST_WEIGHT}
 use Rattle.ch_graph.specs.declared.cost.Cost.{Cost}
 use Rattle.ch_graph.specs.Cost.{cost_at}
 use Rattle.ch_graph.proofs.Numbers.{not_eqb}
-use Rattle.ch_query.specs.declared.labels.Label.{Label}
-use Rattle.ch_query.specs.declared.labels.TheConstants.{NO_WEIGHT, MANY}
+use Rattle.ch_query.specs.declared.sides.labels.Label.{Label}
+use Rattle.ch_query.specs.declared.sides.labels.TheConstants.{NO_WEIGHT, MANY}
 use Rattle.ch_query.specs.Labels.{arcs_of, cost_of}
 
 -- a number of arcs below MANY stands for itself

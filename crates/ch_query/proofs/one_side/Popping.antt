@@ -13,7 +13,7 @@ use Rattle.ch_hierarchy.specs.Hierarchy.{LevelsAndLegs, nodes_of}
 use Rattle.ch_queue.specs.Queue.{IsLeastEntry}
 use Rattle.ch_hierarchy.specs.Ranked.{rank_of}
 use Rattle.ch_query.specs.ByNode.{by_node, costs_of, keys_of, parents_of}
-use Rattle.ch_query.specs.declared.search.Search.{Search}
+use Rattle.ch_query.specs.declared.sides.search.Search.{Search}
 use Rattle.ch_query.specs.Search.{IsLeastKey, IsExpanding, OrNode, count_unsettled}
 use Rattle.ch_query.specs.Parents.{AreParents}
 use Rattle.ch_query.specs.TwoSided.{LeadsKeys}

@@ -21,7 +21,7 @@ use Rattle.ch_hierarchy.specs.Rows.{row}
 use Rattle.ch_hierarchy.proofs.code.Ranked.{rank_one}
 use Rattle.ch_query.specs.ByNode.{costs_of, keys_of}
 use Rattle.ch_query.specs.declared.side.Side.{Side}
-use Rattle.ch_query.specs.declared.search.Search.{Search}
+use Rattle.ch_query.specs.declared.sides.search.Search.{Search}
 use Rattle.ch_query.specs.Limits.{IsMost}
 use Rattle.ch_query.specs.Search.{IsEmpty}
 use Rattle.ch_hierarchy.specs.Ranked.{rank_of}

@@ -17,7 +17,7 @@ use Rattle.ch_hierarchy.proofs.theory.Turned.{walk_turned, turned_limits, turned
 use Rattle.ch_query.specs.ByNode.{costs_of, keys_of}
 use Rattle.ch_query.specs.declared.side.Side.{Side}
 use Rattle.ch_query.specs.declared.side.Side.TheVariants.{Up, Down}
-use Rattle.ch_query.specs.declared.search.Search.{Search}
+use Rattle.ch_query.specs.declared.sides.search.Search.{Search}
 use Rattle.ch_query.specs.Covering.{IsPastCost}
 use Rattle.ch_query.specs.Descents.{HasReached}
 use Rattle.ch_query.specs.Distance.{IsKeptForSome}

@@ -16,8 +16,8 @@ use Rattle.ch_hierarchy.specs.Ranked.{rank_of}
 use Rattle.ch_query.specs.ByNode.{costs_of, keys_of, parents_of}
 use Rattle.ch_query.specs.declared.side.Side.{Side}
 use Rattle.ch_query.specs.declared.side.Side.TheVariants.{Up, Down}
-use Rattle.ch_query.specs.declared.search.Search.{Search}
-use Rattle.ch_query.specs.declared.unpacking.PendingLeg.{PendingLeg}
+use Rattle.ch_query.specs.declared.sides.search.Search.{Search}
+use Rattle.ch_query.specs.declared.routes.unpacking.PendingLeg.{PendingLeg}
 use Rattle.ch_query.specs.Distance.{IsKeptForSome}
 use Rattle.ch_query.specs.Side.{rows_of}
 use Rattle.ch_query.specs.Parents.{IsParent, IsChosen}

@@ -12,9 +12,9 @@ use Rattle.ch_hierarchy.specs.Hierarchy.{LevelsAndLegs, nodes_of}
 use Rattle.ch_hierarchy.specs.Paths.{IsMeet, NeverMeets}
 use Rattle.ch_hierarchy.proofs.theory.KeptWalks.{meetings_are_distances}
 use Rattle.ch_query.specs.declared.side.Side.TheVariants.{Up, Down}
-use Rattle.ch_query.specs.declared.search.Search.{Search}
+use Rattle.ch_query.specs.declared.sides.search.Search.{Search}
 use Rattle.ch_query.specs.declared.routes.Route.{Route}
-use Rattle.ch_query.specs.declared.unpacking.PendingLeg.{PendingLeg}
+use Rattle.ch_query.specs.declared.routes.unpacking.PendingLeg.{PendingLeg}
 use Rattle.ch_query.specs.Distance.{IsKeptForSome}
 use Rattle.ch_query.specs.TwoSided.{IsPast}
 use Rattle.ch_query.specs.Meeting.{AreMeeting}

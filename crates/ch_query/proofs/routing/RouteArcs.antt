@@ -12,8 +12,8 @@ use Rattle.ch_hierarchy.specs.Hierarchy.{LevelsAndLegs}
 use Rattle.ch_hierarchy.specs.Paths.{IsMeet}
 use Rattle.ch_query.specs.declared.side.Side.{Side}
 use Rattle.ch_query.specs.declared.side.Side.TheVariants.{Up, Down}
-use Rattle.ch_query.specs.declared.search.Search.{Search}
-use Rattle.ch_query.specs.declared.unpacking.PendingLeg.{PendingLeg}
+use Rattle.ch_query.specs.declared.sides.search.Search.{Search}
+use Rattle.ch_query.specs.declared.routes.unpacking.PendingLeg.{PendingLeg}
 use Rattle.ch_query.specs.Side.{rows_of}
 use Rattle.ch_query.specs.Routes.{DescentStep, IsDescent, AreUpArcs, AreDownArcs, IsRoute}
 use Rattle.ch_query.specs.Unpacking.{IsPending, ArePending, pending_arcs, ArePendingArcs}

@@ -19,9 +19,9 @@ use Rattle.ch_query.specs.ByNode.{IsSomeRank, costs_of, keys_of}
 use Rattle.ch_hierarchy.specs.declared.ranked.RankedLeg.{RankedLeg}
 use Rattle.ch_query.specs.declared.side.Side.{Side}
 use Rattle.ch_query.specs.declared.side.Side.TheVariants.{Up, Down}
-use Rattle.ch_query.specs.declared.search.Search.{Search}
-use Rattle.ch_query.specs.declared.covering.Shown.{Shown}
-use Rattle.ch_query.specs.declared.covering.Shown.TheVariants.{Connected, Settled, Past}
+use Rattle.ch_query.specs.declared.sides.search.Search.{Search}
+use Rattle.ch_query.specs.declared.checking.covering.Shown.{Shown}
+use Rattle.ch_query.specs.declared.checking.covering.Shown.TheVariants.{Connected, Settled, Past}
 use Rattle.ch_query.specs.Limits.{IsMost}
 use Rattle.ch_query.specs.Search.{IsSettled, IsUpwardCost, IsLeastKey}
 use Rattle.ch_query.specs.Side.{rows_of}

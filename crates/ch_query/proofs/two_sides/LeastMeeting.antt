@@ -16,7 +16,7 @@ use Rattle.ch_hierarchy.specs.KeptLaws.{IsLeastMeeting, MeetingsAreDistances}
 use Rattle.ch_hierarchy.proofs.theory.KeptWalks.{meetings_are_distances}
 use Rattle.ch_query.specs.ByNode.{costs_of, keys_of}
 use Rattle.ch_query.specs.declared.side.Side.TheVariants.{Up, Down}
-use Rattle.ch_query.specs.declared.search.Search.{Search}
+use Rattle.ch_query.specs.declared.sides.search.Search.{Search}
 use Rattle.ch_query.specs.Covering.{IsPastCost}
 use Rattle.ch_query.specs.Descents.{HasReached}
 use Rattle.ch_query.specs.Distance.{IsKeptForSome}

@@ -9,7 +9,7 @@ use Rattle.ch_graph.proofs.CostOrder.{IsAtMost_refl, IsAtMost_trans, IsAtMost_an
 use Rattle.ch_hierarchy.specs.Ranked.{rank_of}
 use Rattle.ch_hierarchy.proofs.code.Ranked.{rank_below}
 use Rattle.ch_query.specs.ByNode.{IsSomeRank, costs_of, keys_of}
-use Rattle.ch_query.specs.declared.search.Search.{Search}
+use Rattle.ch_query.specs.declared.sides.search.Search.{Search}
 use Rattle.ch_query.specs.Search.{IsSettled, IsLeastKey, IsUpwardCost}
 use Rattle.ch_query.specs.TwoSided.{MeetsFirst, IsSeen, LeadsKeys, IsPast}
 use Rattle.ch_query.specs.Underway.{IsSameSearch, IsUnderway, KeepsSettled}

@@ -1,0 +1,4 @@
+use Rattle.ch_query.proofs.checking.covering.connects_by_leg.Given as goal
+
+abbrev pub invariant-loop-leg : goal.invariant-loop-leg
+invariant-loop-leg l = Unit {0}

@@ -1,0 +1,5 @@
+use Rattle.ch_query.proofs.faults.Firsts.{nodes_named}
+use Rattle.ch_query.proofs.checking.lower.first_uncovered_alone.Goals as goal
+
+pub returns : goal.returns
+returns c = nodes_named c.args.hierarchy.now _ c.first_wrong_alone.result c.nodes.ensures.nodes c.first_wrong_alone.ensures

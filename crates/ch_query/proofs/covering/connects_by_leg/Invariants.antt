@@ -1,4 +1,0 @@
-use Rattle.ch_query.proofs.covering.connects_by_leg.Given as goal
-
-abbrev pub invariant-loop-leg : goal.invariant-loop-leg
-invariant-loop-leg l = Unit {0}

@@ -1,8 +1,0 @@
-use Rattle.ch_query.proofs.faults.Firsts.{first_of_all}
-use Rattle.ch_query.proofs.finding.first_wrong.Goals as goal
-
-pub returns : goal.returns
-returns g c =
-    let right = g.C.ItemCheck.right c.args.check.now in
-    let first = first_of_all right c.args.items c.args.crew.now.plan.piece c.in_ok-known.known.items c.piece.ensures.limits.piece.0 c.in_ok-known.ensures in
-    rw (c.first_of.ensures, c.deref.ensures.value) first

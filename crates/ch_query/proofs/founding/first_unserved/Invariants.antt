@@ -1,7 +1,0 @@
-use Rattle.std.proofs.Common.{get_or, ℕ, ◌<◌}
-use Rattle.ch_graph.specs.declared.arc.InArc.{InArc}
-use Rattle.ch_query.specs.Checking.{IsServed}
-use Rattle.ch_query.proofs.founding.first_unserved.Given as goal
-
-abbrev pub invariant-loop-place : goal.invariant-loop-place
-invariant-loop-place l = (j : ℕ) (d : InArc) → j < l.place → IsServed l.hierarchy (get_or l.arcs j d)

@@ -1,8 +1,0 @@
-use Rattle.std.proofs.Common.{take}
-use Rattle.ch_hierarchy.specs.Rows.{row}
-use Rattle.ch_query.specs.Side.{rows_of}
-use Rattle.ch_query.specs.Underway.{IsPartlyExpanded}
-use Rattle.ch_query.proofs.search.Search.expand.Given as goal
-
-abbrev pub invariant-loop-leg : goal.invariant-loop-leg
-invariant-loop-leg l = IsPartlyExpanded l.hierarchy l.fn.self l.self l.node l.cost (take l.leg-index (row (rows_of l.hierarchy l.fn.self.side) l.node))

@@ -1,0 +1,27 @@
+use Rattle.std.proofs.Common.{◌∙◌, ◌≤◌, ap, set, subst, sym, Some}
+use Rattle.ch_graph.specs.declared.limits.TheConstants.{MOST_WEIGHT}
+use Rattle.ch_graph.specs.Cost.{no_cost, cost_at}
+use Rattle.ch_query.proofs.one_side.Touched.{none_unless}
+use Rattle.ch_query.proofs.one_side.Beginning.{begun_underway, begun_fresh}
+use Rattle.ch_query.proofs.sides.search.Search.begin_up_to.Goals as goal
+
+pub reach-requires-clause-unkeyed : goal.reach-requires-clause-unkeyed
+reach-requires-clause-unkeyed c _ = none_unless (cost_at c.args.self.now.queue c.rank.result) (c.requires.clean.queue c.rank.result)
+
+pub returns-clause-underway : goal.returns-clause-underway
+returns-clause-underway c =
+    let e = c.reach.ensures in
+    let at = c.rank.ensures.rank in
+    begun_underway c.args.hierarchy.now c.rank.ensures.levelled c.args.self.now c.reach.new.self c.args.source c.requires.clean c.requires.source e.same.source
+    (subst (λ q. q ≤ MOST_WEIGHT) (sym e.same.most) c.requires.most)
+    (e.costs ∙ ap (λ r. set c.args.self.now.labels.costs r (Some no_cost)) at) (e.queue ∙ ap (λ r. set c.args.self.now.queue r (Some no_cost)) at)
+    (e.parents ∙ ap (λ r. set c.args.self.now.labels.parents r c.args.source) at) e.touched
+
+pub returns-clause-fresh : goal.returns-clause-fresh
+returns-clause-fresh c =
+    let e = c.reach.ensures in
+    let at = c.rank.ensures.rank in
+    begun_fresh c.args.hierarchy.now c.rank.ensures.levelled c.args.self.now c.reach.new.self c.args.source c.requires.clean c.requires.source e.same.source
+    (subst (λ q. q ≤ MOST_WEIGHT) (sym e.same.most) c.requires.most)
+    (e.costs ∙ ap (λ r. set c.args.self.now.labels.costs r (Some no_cost)) at) (e.queue ∙ ap (λ r. set c.args.self.now.queue r (Some no_cost)) at)
+    (e.parents ∙ ap (λ r. set c.args.self.now.labels.parents r c.args.source) at) e.touched

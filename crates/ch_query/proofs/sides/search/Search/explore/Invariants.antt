@@ -1,0 +1,8 @@
+use Rattle.ch_query.specs.Underway.{IsUnderway, IsSameSearch, count_unsettled_in}
+use Rattle.ch_query.proofs.sides.search.Search.explore.Given as goal
+
+abbrev pub invariant-loop-cost : goal.invariant-loop-cost
+invariant-loop-cost l = IsUnderway l.hierarchy l.self × IsSameSearch l.fn.self l.self
+
+abbrev pub decreases-loop-cost : goal.decreases-loop-cost
+decreases-loop-cost l = count_unsettled_in l.hierarchy l.self

@@ -1,9 +1,0 @@
-use Rattle.std.proofs.Common.{take}
-use Rattle.ch_hierarchy.specs.Rows.{row}
-use Rattle.ch_query.specs.Side.{rows_of}
-use Rattle.ch_query.specs.Weighed.{weighed}
-use Rattle.ch_query.specs.Weights.{AtRank, IsPartlyWeighed}
-use Rattle.ch_query.proofs.weight_search.WeightSearch.expand.Given as goal
-
-abbrev pub invariant-loop-leg : goal.invariant-loop-leg
-invariant-loop-leg l = AtRank l.hierarchy l.rank (λ v. IsPartlyWeighed l.hierarchy l.side l.fn.self l.self v l.weight (take l.leg-index (row (rows_of (weighed l.hierarchy) l.side) v)))

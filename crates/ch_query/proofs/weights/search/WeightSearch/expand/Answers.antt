@@ -1,0 +1,78 @@
+use Rattle.std.proofs.Common.{arith}
+use Rattle.ch_hierarchy.proofs.code.Ranked.{node_of_rank}
+use Rattle.ch_query.proofs.by_weight.LegsRead.{read_leg, read_rank, read_light, read_state, read_whole}
+use Rattle.ch_query.proofs.by_weight.Unreached.{unreached_here}
+use Rattle.ch_query.proofs.by_weight.WeighingSteps.{partly_more, partly_whole}
+use Rattle.ch_query.proofs.weights.search.WeightSearch.expand.Goals as goal
+
+pub state-requires : goal.state-requires
+state-requires c =
+    let H = c.args.hierarchy.now in
+    let k = c.ranked_legs-leg-items.ensures.levelled in
+    let n = node_of_rank H k c.args.rank c.requires.rank in
+    read_rank H k c.args.side n.0 _ _ _ (c.ranked_legs-leg-items.ensures.row n.0 n.1 n.2) c.loop-leg-test.true
+
+pub overflow_add-weight : goal.overflow_add-weight
+overflow_add-weight c =
+    let H = c.args.hierarchy.now in
+    let k = c.ranked_legs-leg-items.ensures.levelled in
+    let n = node_of_rank H k c.args.rank c.requires.rank in
+    let leg_light = read_light H k c.args.side n.0 c.ranked_legs-leg-items.result.now c.loop-leg.leg-index record { rank = 0; arcs = 0; weight = 0 }
+    (c.ranked_legs-leg-items.ensures.row n.0 n.1 n.2) c.loop-leg-test.true in
+    let here = (c.loop-leg.invariant n.0 n.1 n.2).weighing.here in
+    let light = here.search.light n.0 _ here.here.0 in
+    let most = here.search.limits in
+    omega arith
+
+pub relax-requires-clause-state : goal.relax-requires-clause-state
+relax-requires-clause-state c =
+    let H = c.args.hierarchy.now in
+    let k = c.ranked_legs-leg-items.ensures.levelled in
+    let n = node_of_rank H k c.args.rank c.requires.rank in
+    let r = read_leg H k c.args.side n.0 _ _ _ (c.ranked_legs-leg-items.ensures.row n.0 n.1 n.2) c.loop-leg-test.true in
+    let state = read_state H k c.args.side c.args.side n.0 _ _ r.0 r.1 _ c.state.ensures in
+    let below = state.1 in
+    let size = (c.loop-leg.invariant n.0 n.1 n.2).weighing.sizes.known in
+    omega arith
+
+pub relax-requires-clause-most : goal.relax-requires-clause-most
+relax-requires-clause-most c =
+    let n = node_of_rank c.args.hierarchy.now c.ranked_legs-leg-items.ensures.levelled c.args.rank c.requires.rank in
+    (c.loop-leg.invariant n.0 n.1 n.2).weighing.here.search.limits
+
+pub relax-requires-clause-queue : goal.relax-requires-clause-queue
+relax-requires-clause-queue c =
+    let n = node_of_rank c.args.hierarchy.now c.ranked_legs-leg-items.ensures.levelled c.args.rank c.requires.rank in
+    let sizes = (c.loop-leg.invariant n.0 n.1 n.2).weighing.sizes in
+    let known = sizes.known in
+    let queue = sizes.queue in
+    omega arith
+
+pub relax-requires-clause-touched : goal.relax-requires-clause-touched
+relax-requires-clause-touched c =
+    let n = node_of_rank c.args.hierarchy.now c.ranked_legs-leg-items.ensures.levelled c.args.rank c.requires.rank in
+    (c.loop-leg.invariant n.0 n.1 n.2).weighing.sizes.touched
+
+pub relax-requires-clause-unkeyed : goal.relax-requires-clause-unkeyed
+relax-requires-clause-unkeyed c =
+    let H = c.args.hierarchy.now in
+    let k = c.ranked_legs-leg-items.ensures.levelled in
+    let n = node_of_rank H k c.args.rank c.requires.rank in
+    let r = read_leg H k c.args.side n.0 _ _ _ (c.ranked_legs-leg-items.ensures.row n.0 n.1 n.2) c.loop-leg-test.true in
+    unreached_here H c.args.side c.loop-leg.self n.0 c.args.weight (c.loop-leg.invariant n.0 n.1 n.2).weighing r.0.node c.state.result r.1.node
+    (read_state H k c.args.side c.args.side n.0 _ _ r.0 r.1 _ c.state.ensures).0
+
+pub loop-leg-preserved : goal.loop-leg-preserved
+loop-leg-preserved c v within rank =
+    let H = c.args.hierarchy.now in
+    let k = c.ranked_legs-leg-items.ensures.levelled in
+    let r = read_leg H k c.args.side v _ _ _ (c.ranked_legs-leg-items.ensures.row v within rank) c.loop-leg-test.true in
+    partly_more H c.args.side c.args.self.now c.loop-leg.self c.relax.new.self v c.args.weight _ _ r.0 c.state.result (c.loop-leg.invariant v within rank) r.1 c.state.ensures
+    c.relax.ensures.shows c.relax.ensures.touched c.relax.ensures.same
+
+pub returns : goal.returns
+returns c =
+    let H = c.args.hierarchy.now in
+    let n = node_of_rank H c.ranked_legs-leg-items.ensures.levelled c.args.rank c.requires.rank in
+    partly_whole H c.args.side c.args.self.now c.loop-leg.self n.0 c.args.weight _ (c.loop-leg.invariant n.0 n.1 n.2)
+    (read_whole H c.args.side n.0 _ _ (c.ranked_legs-leg-items.ensures.row n.0 n.1 n.2) c.loop-leg-test.false)

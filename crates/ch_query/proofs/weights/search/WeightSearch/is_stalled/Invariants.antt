@@ -1,0 +1,4 @@
+use Rattle.ch_query.proofs.weights.search.WeightSearch.is_stalled.Given as goal
+
+abbrev pub invariant-loop-leg : goal.invariant-loop-leg
+invariant-loop-leg l = Unit {0}

@@ -1,0 +1,89 @@
+//! The job that answers queries in scratches, with routes or without.
+ghost use Rattle.std.specs.Prelude.{◌≡◌, ◌<◌, IfOk};
+ghost use Rattle.ch_hierarchy.specs.Hierarchy.{nodes_of};
+ghost use Rattle.ch_query.specs.Distance.{IsKeptForSome};
+ghost use Rattle.ch_query.specs.Answers.{IsReply};
+
+use super::Answer;
+use super::route_job::reply_with_route;
+use crate::scratch::Scratch;
+use crate::weights::distance;
+use ch_hierarchy::Hierarchy;
+use ch_work::ListJob;
+use std::alloc::{AllocError, Global};
+use std::marker::Model;
+
+/// The job that answers queries, with routes or without.
+#[derive(Drop)]
+pub(super) struct QueryJob<'a> {
+    pub(super) hierarchy: &'a Hierarchy,
+    pub(super) routes: bool,
+}
+
+impl<'a> Model for QueryJob<'a> {
+    ghost use Rattle.ch_query.specs.Distance.{IsKeptForSome};
+    ghost use Rattle.ch_query.specs.Tasks.{Task};
+
+    ghost Value = { Task };
+
+    ghost view = { λ job. record { hierarchy = job.hierarchy.now; routes = job.routes } };
+
+    ghost invariant = { λ job. IsKeptForSome job.hierarchy.now };
+}
+
+impl ListJob for QueryJob<'_> {
+    type Item = (u32, u32);
+
+    type Room = Scratch;
+
+    type Out = Answer;
+
+    ghost takes = { λ task query. (query.0 < nodes_of task.hierarchy) × (query.1 < nodes_of task.hierarchy) };
+
+    ghost meaning = { λ task query answer. IsReply task.hierarchy task.routes query answer };
+
+    ghost clean = { λ task scratch. scratch ≡ nodes_of task.hierarchy };
+
+    fn room(&self, alloc: Global) -> Result<Scratch, AllocError> {
+        Scratch::new(alloc, self.hierarchy.nodes())
+    }
+
+    fn value(
+        &self,
+        alloc: Global,
+        room: &mut Scratch,
+        item: &(u32, u32),
+    ) -> Result<Answer, AllocError> {
+        reply(alloc, self.hierarchy, room, *item, self.routes)
+    }
+}
+
+/// Returns the answer to one query.
+fn reply(
+    alloc: Global,
+    hierarchy: &Hierarchy,
+    scratch: &mut Scratch,
+    query: (u32, u32),
+    routes: bool,
+) -> Result<Answer, AllocError>
+    requires kept { IsKeptForSome hierarchy.now }
+    requires scratch { scratch.old ≡ nodes_of hierarchy.now }
+    requires query { (query.0 < nodes_of hierarchy.now) × (query.1 < nodes_of hierarchy.now) }
+    ensures reply { IfOk result (IsReply hierarchy.now routes query) }
+    ensures scratch { scratch.new ≡ scratch.old }
+{
+    if routes {
+        let mut sides = scratch.take_sides(alloc)?;
+        let answer = reply_with_route(alloc, hierarchy, &mut sides, query);
+        scratch.put_sides(sides);
+        return answer;
+    }
+    let (from, to) = query;
+    let weight = distance(hierarchy, scratch, from, to);
+    Ok(Answer {
+        from,
+        to,
+        weight,
+        arcs: None,
+    })
+}

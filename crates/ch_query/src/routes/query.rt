@@ -1,0 +1,123 @@
+//! The route between two nodes.
+ghost use Rattle.std.specs.Prelude.{◌≡◌, ◌<◌, length, IfOk, MatchOption, Some, ⊤};
+ghost use Rattle.ch_hierarchy.specs.Hierarchy.{nodes_of};
+ghost use Rattle.ch_hierarchy.specs.Paths.{IsMeet, NeverMeets};
+ghost use Rattle.ch_query.specs.declared.side.Side.TheVariants.{Up, Down};
+ghost use Rattle.ch_query.specs.declared.routes.Route.{Route as FoundRoute};
+ghost use Rattle.ch_query.specs.TwoSided.{IsPast};
+ghost use Rattle.ch_query.specs.Underway.{IsRoom, IsClean};
+ghost use Rattle.ch_query.specs.Meeting.{AreMeeting};
+ghost use Rattle.ch_query.specs.Distance.{IsKeptForSome};
+ghost use Rattle.ch_query.specs.Routes.{IsRoute, IsRouteBy};
+
+use super::Route;
+use super::descent::descend;
+use super::unpacking::unpack;
+use crate::scratch::Scratch;
+use crate::sides::Sides;
+use crate::sides::meeting::meet;
+use crate::sides::search::Search;
+use ch_graph::Cost;
+use ch_hierarchy::Hierarchy;
+use std::alloc::{AllocError, Global};
+
+/// Returns the route from `start` to `end`, or `None` if there is no walk. The hierarchy is right for some
+/// graph, and the scratch has room for its number of nodes.
+///
+/// It is a walk of least weight, and of these of the fewest arcs. Two searches go by weight and then by
+/// arcs, and the route leads over the node where they meet. At each choice it takes the least numbered
+/// node.
+///
+/// Each shortcut is unpacked into the two legs of its middle (Geisberger, Sanders, Schultes and Delling
+/// 2008). After the search, memory and steps grow with the number of its arcs, not with the number of
+/// nodes.
+///
+/// # Errors
+/// `AllocError` if there is no memory for the arcs, or for the two sides of a scratch that has none yet.
+/// The scratch can still be used.
+pub fn route(
+    alloc: Global,
+    hierarchy: &Hierarchy,
+    scratch: &mut Scratch,
+    start: u32,
+    end: u32,
+) -> Result<Option<Route>, AllocError>
+    requires kept { IsKeptForSome hierarchy.now }
+    requires scratch { scratch.old ≡ nodes_of hierarchy.now }
+    requires start { start < nodes_of hierarchy.now }
+    requires end { end < nodes_of hierarchy.now }
+    ensures route { IfOk result (λ answer. MatchOption answer (NeverMeets hierarchy.now start end) (IsRoute hierarchy.now start end)) }
+    ensures walk { IfOk result (IsRouteBy hierarchy.now start end) }
+    ensures few { IfOk result (λ answer. MatchOption answer ⊤ (λ route. length route.arcs < nodes_of hierarchy.now)) }
+    ensures scratch { scratch.new ≡ scratch.old }
+{
+    let mut sides = scratch.take_sides(alloc)?;
+    let answer = route_in(alloc, hierarchy, &mut sides, start, end);
+    scratch.put_sides(sides);
+    answer
+}
+
+/// Returns the route, as [`route`] does, with these two sides.
+pub(crate) fn route_in(
+    alloc: Global,
+    hierarchy: &Hierarchy,
+    sides: &mut Sides,
+    start: u32,
+    end: u32,
+) -> Result<Option<Route>, AllocError>
+    requires kept { IsKeptForSome hierarchy.now }
+    requires sides { sides.old ≡ nodes_of hierarchy.now }
+    requires start { start < nodes_of hierarchy.now }
+    requires end { end < nodes_of hierarchy.now }
+    ensures route { IfOk result (λ answer. MatchOption answer (NeverMeets hierarchy.now start end) (IsRoute hierarchy.now start end)) }
+    ensures walk { IfOk result (IsRouteBy hierarchy.now start end) }
+    ensures few { IfOk result (λ answer. MatchOption answer ⊤ (λ route. length route.arcs < nodes_of hierarchy.now)) }
+    ensures sides { sides.new ≡ sides.old }
+{
+    let Sides { up, down } = sides;
+    let answer = match meet(hierarchy, up, down, start, end) {
+        Some((cost, node)) => route_over(alloc, hierarchy, up, down, cost, node),
+        None => Ok(None),
+    };
+    clean(up, down);
+    answer
+}
+
+/// Leaves both sides clean for the next query.
+fn clean(up: &mut Search, down: &mut Search)
+    requires rooms { IsRoom up.old × IsRoom down.old }
+    ensures up { IsClean (length up.old.labels.costs) up.new × (up.new.side ≡ up.old.side) }
+    ensures down { IsClean (length down.old.labels.costs) down.new × (down.new.side ≡ down.old.side) }
+{
+    up.clean();
+    down.clean();
+}
+
+/// Returns the route over the node where the searches meet.
+fn route_over(
+    alloc: Global,
+    hierarchy: &Hierarchy,
+    up: &Search,
+    down: &Search,
+    cost: Cost,
+    node: u32,
+) -> Result<Option<Route>, AllocError>
+    requires kept { IsKeptForSome hierarchy.now }
+    requires meeting { AreMeeting hierarchy.now up.now down.now (Some (cost, node)) }
+    requires past { IsPast up.now.queue (Some (cost, node)) × IsPast down.now.queue (Some (cost, node)) }
+    requires sides { (up.now.side ≡ Up) × (down.now.side ≡ Down) }
+    requires meet { IsMeet hierarchy.now up.now.source down.now.source node cost }
+    ensures route { IfOk result (λ answer. (route : FoundRoute) × (answer ≡ Some route) × IsRoute hierarchy.now up.now.source down.now.source route) }
+{
+    let count = cost.arcs as usize;
+    let mut pending = Vec::with_capacity(alloc, count)?;
+    let mut arcs = Vec::with_capacity(alloc, count)?;
+    descend(hierarchy, down, node, &mut pending);
+    pending.reverse();
+    descend(hierarchy, up, node, &mut pending);
+    unpack(hierarchy, &mut pending, &mut arcs);
+    Ok(Some(Route {
+        weight: cost.weight,
+        arcs,
+    }))
+}

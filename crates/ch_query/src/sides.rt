@@ -1,0 +1,44 @@
+//! Searches by costs, from both sides of a query. Each is Dijkstra's algorithm, along legs to higher nodes.
+
+mod labels;
+pub(crate) mod meeting;
+pub(crate) mod search;
+mod spreading;
+
+ghost use Rattle.std.specs.Prelude.{◌≡◌, IfOk};
+
+use crate::side::Side;
+use search::Search;
+pub use spreading::spread;
+use std::alloc::{AllocError, Global};
+use std::marker::Model;
+
+/// Two searches for costs, one for each side, as they are between queries. Contracts see the number of
+/// nodes that they have room for.
+#[derive(Drop)]
+pub(crate) struct Sides {
+    pub(crate) up: Search,
+    pub(crate) down: Search,
+}
+
+impl Model for Sides {
+    ghost use Rattle.std.specs.Prelude.{ℕ, length};
+    ghost use Rattle.ch_query.specs.Scratches.{AreSides};
+
+    ghost Value = { ℕ };
+
+    ghost view = { λ s. length s.up.labels.costs };
+
+    ghost invariant = { λ s. AreSides (length s.up.labels.costs) s.up s.down };
+}
+
+impl Sides {
+    /// Makes two clean searches with room for `nodes` nodes.
+    pub(crate) fn new(alloc: Global, nodes: u32) -> Result<Sides, AllocError>
+        ensures { IfOk result (λ s. s ≡ nodes) }
+    {
+        let up = Search::new(alloc, Side::Up, nodes)?;
+        let down = Search::new(alloc, Side::Down, nodes)?;
+        Ok(Sides { up, down })
+    }
+}

@@ -1,0 +1,222 @@
+//! One side of a query: Dijkstra's algorithm from a source, along legs to higher nodes.
+ghost use Rattle.std.specs.Prelude.{◌≡◌, ◌+◌, ◌^◌, ◌<◌, ◌≤◌, length, slice_set, Some, true, false, IfOk};
+ghost use Rattle.ch_graph.specs.declared.limits.TheConstants.{MOST_WEIGHT};
+ghost use Rattle.ch_hierarchy.specs.Hierarchy.{nodes_of};
+ghost use Rattle.ch_query.specs.TwoSided.{LeadsKeys};
+ghost use Rattle.ch_hierarchy.specs.Ranked.{rank_of};
+ghost use Rattle.ch_query.specs.Underway.{idle_of, count_unsettled_in, IsTouched, IsRoom, UnreachedIsUnkeyed, RelaxesByRank, IsSameSearch, IsUnderway, IsExpandingAt, KeepsSettled, IsClean};
+ghost use Rattle.ch_query.specs.Meeting.{IsFresh};
+
+use super::labels::Labels;
+use crate::costs::is_below;
+use crate::side::Side;
+use ch_graph::Cost;
+use ch_graph::limits::MOST_WEIGHT;
+use ch_hierarchy::{Hierarchy, RankedLeg};
+use ch_queue::KeyQueue;
+use std::alloc::{AllocError, Global};
+
+/// The state of one side of a query, and the room for it.
+#[derive(Drop)]
+pub(crate) struct Search {
+    pub(crate) side: Side,
+    pub(crate) source: u32,
+    /// Whether the search leaves a node unexpanded if a higher node shows a cheaper way to it. A spread has
+    /// to find all least paths, so it does not stall.
+    pub(crate) stalls: bool,
+    /// The most that a path may weigh. A leg that makes a path heavier is not taken, so no node that is
+    /// farther away gets a key.
+    pub(crate) most: u64,
+    /// By rank of a node: its label. This has the least known cost of a path from the source, and the least
+    /// numbered node before it on a path of that cost.
+    ///
+    /// Most searches reach the high nodes. Their labels are together, because they are by rank.
+    pub(crate) labels: Labels,
+    /// The ranks of the nodes that are reached and not settled, by cost.
+    pub(crate) queue: KeyQueue<Cost>,
+    /// The ranks of the nodes that have a cost, each once.
+    pub(crate) touched: Vec<u32>,
+}
+
+impl Search {
+    /// Makes a clean search, with room for `nodes` nodes.
+    pub(crate) fn new(alloc: Global, side: Side, nodes: u32) -> Result<Search, AllocError>
+        ensures clean { IfOk result (λ x. IsClean nodes x) }
+        ensures side { IfOk result (λ x. x.side ≡ side) }
+    {
+        let labels = Labels::new(alloc, nodes)?;
+        let queue = KeyQueue::new(alloc, nodes)?;
+        let touched = Vec::with_capacity(alloc, nodes as usize)?;
+        Ok(Search {
+            side,
+            source: 0,
+            stalls: false,
+            most: MOST_WEIGHT,
+            labels,
+            queue,
+            touched,
+        })
+    }
+
+    /// Puts the source into a clean search for paths of any weight within the limits.
+    pub(crate) fn begin(&mut self, hierarchy: &Hierarchy, source: u32, stalls: bool)
+        requires clean { IsClean (nodes_of hierarchy.now) self.old }
+        requires source { source < nodes_of hierarchy.now }
+        ensures underway { IsUnderway hierarchy.now self.new }
+        ensures side { self.new.side ≡ self.old.side }
+        ensures source { self.new.source ≡ source }
+        ensures stalls { self.new.stalls ≡ stalls }
+        ensures most { self.new.most ≡ MOST_WEIGHT }
+        ensures fresh { IsFresh hierarchy.now self.new }
+    {
+        self.begin_up_to(hierarchy, source, stalls, MOST_WEIGHT);
+    }
+
+    /// Puts the source into a clean search for paths that weigh at most `most`.
+    pub(crate) fn begin_up_to(
+        &mut self,
+        hierarchy: &Hierarchy,
+        source: u32,
+        stalls: bool,
+        most: u64,
+    )
+        requires clean { IsClean (nodes_of hierarchy.now) self.old }
+        requires source { source < nodes_of hierarchy.now }
+        requires most { most ≤ MOST_WEIGHT }
+        ensures underway { IsUnderway hierarchy.now self.new }
+        ensures side { self.new.side ≡ self.old.side }
+        ensures source { self.new.source ≡ source }
+        ensures stalls { self.new.stalls ≡ stalls }
+        ensures most { self.new.most ≡ most }
+        ensures fresh { IsFresh hierarchy.now self.new }
+    {
+        self.source = source;
+        self.stalls = stalls;
+        self.most = most;
+        let nothing = Cost { weight: 0, arcs: 0 };
+        self.reach(hierarchy.rank(source), nothing, source);
+    }
+
+    /// Writes the cost and the parent of the node of this rank, which is not settled.
+    fn reach(&mut self, rank: u32, cost: Cost, parent: u32)
+        requires rank { rank < length self.old.labels.costs }
+        requires weight { cost.weight ≤ MOST_WEIGHT }
+        requires arcs { cost.arcs < 2 ^ 63 }
+        requires room { IsRoom self.old }
+        requires unkeyed { UnreachedIsUnkeyed self.old rank }
+        ensures costs { self.new.labels.costs ≡ slice_set self.old.labels.costs rank (Some cost) }
+        ensures queue { self.new.queue ≡ slice_set self.old.queue rank (Some cost) }
+        ensures parents { self.new.labels.parents ≡ slice_set self.old.labels.parents rank parent }
+        ensures touched { IsTouched self.new.labels.costs self.new.touched }
+        ensures same { IsSameSearch self.old self.new }
+    {
+        if self.labels.get(rank).is_none() {
+            self.touched.push_reserved(rank);
+            self.queue.insert(rank, cost);
+        } else {
+            self.queue.set(rank, cost);
+        }
+        self.labels.set(rank, cost, parent);
+    }
+
+    /// Takes a leg of `node`, which was settled at `cost`: lowers the cost at its other end, or the parent
+    /// at equal cost.
+    fn relax(&mut self, node: u32, cost: Cost, leg: RankedLeg)
+        requires rank { leg.rank < length self.old.labels.costs }
+        requires room { IsRoom self.old }
+        requires unkeyed { UnreachedIsUnkeyed self.old leg.rank }
+        requires weights { (cost.weight ≤ MOST_WEIGHT) × (leg.weight ≤ MOST_WEIGHT) }
+        requires arcs { cost.arcs + leg.arcs < 2 ^ 63 }
+        ensures relaxes { RelaxesByRank self.old node cost leg self.new }
+        ensures touched { IsTouched self.new.labels.costs self.new.touched }
+        ensures same { IsSameSearch self.old self.new }
+    {
+        let sum = cost.plus(leg.cost());
+        if sum.weight > self.most {
+            return;
+        }
+        if let Some(known) = self.labels.get(leg.rank) {
+            if known < sum {
+                return;
+            }
+            if known == sum {
+                if node < self.labels.parent(leg.rank) {
+                    self.labels.set_parent(leg.rank, node);
+                }
+                return;
+            }
+        }
+        self.reach(leg.rank, sum, node);
+    }
+
+    /// Takes each leg of the node that was settled last.
+    fn expand(&mut self, hierarchy: &Hierarchy, node: u32, rank: u32, cost: Cost)
+        requires expanding { IsExpandingAt hierarchy.now self.old node cost }
+        requires rank { rank ≡ rank_of hierarchy.now node }
+        ensures underway { IsUnderway hierarchy.now self.new }
+        ensures same { IsSameSearch self.old self.new }
+        ensures settled { KeepsSettled hierarchy.now self.old self.new }
+        ensures measure { count_unsettled_in hierarchy.now self.new ≡ count_unsettled_in hierarchy.now self.old }
+    {
+        for leg in self.side.ranked_legs(hierarchy, rank) {
+            self.relax(node, cost, *leg);
+        }
+    }
+
+    /// Whether a leg from a higher node shows a way to `node`, of this rank, that costs less than `cost`.
+    fn is_stalled(&self, hierarchy: &Hierarchy, node: u32, rank: u32, cost: Cost) -> bool
+        requires expanding { IsExpandingAt hierarchy.now self.now node cost }
+        requires rank { rank ≡ rank_of hierarchy.now node }
+        requires stalls { self.now.stalls ≡ true }
+        ensures { result ≡ true → idle_of hierarchy.now self.now node cost }
+    {
+        for leg in self.side.other().ranked_legs(hierarchy, rank) {
+            if let Some(known) = self.labels.get(leg.rank) {
+                if is_below(known.plus(leg.cost()), cost) {
+                    return true;
+                }
+            }
+        }
+        false
+    }
+
+    /// Takes the legs of the node that was settled last, unless the search stalls at it.
+    pub(crate) fn settle(&mut self, hierarchy: &Hierarchy, node: u32, rank: u32, cost: Cost)
+        requires expanding { IsExpandingAt hierarchy.now self.old node cost }
+        requires rank { rank ≡ rank_of hierarchy.now node }
+        ensures underway { IsUnderway hierarchy.now self.new }
+        ensures same { IsSameSearch self.old self.new }
+        ensures settled { KeepsSettled hierarchy.now self.old self.new }
+        ensures measure { count_unsettled_in hierarchy.now self.new ≡ count_unsettled_in hierarchy.now self.old }
+    {
+        if self.stalls && self.is_stalled(hierarchy, node, rank, cost) {
+            return;
+        }
+        self.expand(hierarchy, node, rank, cost);
+    }
+
+    /// Whether this side settles the next node: it has the least key of both sides, or neither has a key.
+    /// At equal keys this side comes first.
+    pub(crate) fn leads(&self, other: &Search) -> bool
+        ensures here { result ≡ true → LeadsKeys self.now.queue other.now.queue }
+        ensures there { result ≡ false → LeadsKeys other.now.queue self.now.queue }
+    {
+        match (self.queue.least(), other.queue.least()) {
+            (Some((here, _)), Some((there, _))) => !is_below(there, here),
+            (None, Some(_)) => false,
+            (_, None) => true,
+        }
+    }
+
+    /// Removes all that the search knows, in a step for each touched node.
+    pub(crate) fn clean(&mut self)
+        requires room { IsRoom self.old }
+        ensures clean { IsClean (length self.old.labels.costs) self.new }
+        ensures side { self.new.side ≡ self.old.side }
+    {
+        self.queue.clear();
+        while let Some(rank) = self.touched.pop() {
+            self.labels.clear(rank);
+        }
+    }
+}

@@ -1,0 +1,110 @@
+//! Searches without a target.
+ghost use Rattle.std.specs.Prelude.{◌≡◌, ◌<◌, ℕ, List, IfOk, map};
+ghost use Rattle.ch_hierarchy.specs.Hierarchy.{nodes_of};
+ghost use Rattle.ch_query.specs.Search.{IsEmpty};
+ghost use Rattle.ch_query.specs.ByNode.{costs_of};
+ghost use Rattle.ch_query.specs.Underway.{IsSameSearch, IsUnderway, IsClean};
+ghost use Rattle.ch_query.specs.Side.{rows_of};
+ghost use Rattle.ch_query.specs.Spread.{IsSpread, AreReached, entry};
+
+use super::search::Search;
+use crate::costs::most_within;
+use crate::scratch::Scratch;
+use crate::side::Side;
+use ch_graph::Cost;
+use ch_hierarchy::Hierarchy;
+use std::alloc::{AllocError, Global};
+
+impl Search {
+    /// Settles all nodes that can be reached, except those that are reached only through stalled nodes.
+    pub(crate) fn explore(&mut self, hierarchy: &Hierarchy)
+        requires underway { IsUnderway hierarchy.now self.old }
+        ensures underway { IsUnderway hierarchy.now self.new }
+        ensures done { IsEmpty self.new.queue }
+        ensures same { IsSameSearch self.old self.new }
+    {
+        while let Some((cost, rank)) = self.queue.pop() {
+            self.settle(hierarchy, hierarchy.node_at(rank), rank, cost);
+        }
+    }
+
+    /// Returns the touched nodes, in order.
+    fn touched_nodes(&self, alloc: Global, hierarchy: &Hierarchy) -> Result<Vec<u32>, AllocError>
+        requires underway { IsUnderway hierarchy.now self.now }
+        ensures { IfOk result (λ nodes. AreReached (costs_of hierarchy.now self.now) nodes.items) }
+    {
+        let mut nodes = Vec::with_capacity(alloc, self.touched.len())?;
+        for rank in &self.touched {
+            nodes.push_reserved(hierarchy.node_at(*rank));
+        }
+        nodes.sort_unstable();
+        Ok(nodes)
+    }
+
+    /// Returns the touched nodes with their costs, in order of node.
+    fn listed(&self, alloc: Global, hierarchy: &Hierarchy) -> Result<Vec<(u32, Cost)>, AllocError>
+        requires underway { IsUnderway hierarchy.now self.now }
+        ensures { IfOk result (λ list. (nodes : List ℕ) × AreReached (costs_of hierarchy.now self.now) nodes × (list.items ≡ map (entry (costs_of hierarchy.now self.now)) nodes)) }
+    {
+        let nodes = self.touched_nodes(alloc, hierarchy)?;
+        let mut list = Vec::with_capacity(alloc, nodes.len())?;
+        for node in &nodes {
+            if let Some(cost) = self.labels.get(hierarchy.rank(*node)) {
+                list.push_reserved((*node, cost));
+            }
+        }
+        Ok(list)
+    }
+
+    /// Returns all least costs from the source within the limit. The search is clean afterwards, even if
+    /// memory ran out.
+    fn spread(
+        &mut self,
+        alloc: Global,
+        hierarchy: &Hierarchy,
+        source: u32,
+        within: Option<u64>,
+    ) -> Result<Vec<(u32, Cost)>, AllocError>
+        requires clean { IsClean (nodes_of hierarchy.now) self.old }
+        requires source { source < nodes_of hierarchy.now }
+        ensures spread { IfOk result (λ list. IsSpread (rows_of hierarchy.now self.old.side) within source list.items) }
+        ensures clean { IsClean (nodes_of hierarchy.now) self.new }
+        ensures side { self.new.side ≡ self.old.side }
+    {
+        self.begin_up_to(hierarchy, source, false, most_within(within));
+        self.explore(hierarchy);
+        let list = self.listed(alloc, hierarchy);
+        self.clean();
+        list
+    }
+}
+
+/// Returns the nodes that `source` reaches by legs to higher nodes in this direction, with the least costs
+/// of the paths, in order of node.
+///
+/// With a limit `within`, these are the nodes whose least path weighs at most that. The search then takes
+/// no leg that makes a path heavier.
+///
+/// # Errors
+/// `AllocError` if there is no memory for the list, or for the two sides of a scratch that has none yet.
+pub fn spread(
+    alloc: Global,
+    hierarchy: &Hierarchy,
+    scratch: &mut Scratch,
+    source: u32,
+    side: Side,
+    within: Option<u64>,
+) -> Result<Vec<(u32, Cost)>, AllocError>
+    requires scratch { scratch.old ≡ nodes_of hierarchy.now }
+    requires source { source < nodes_of hierarchy.now }
+    ensures spread { IfOk result (λ list. IsSpread (rows_of hierarchy.now side) within source list.items) }
+    ensures scratch { scratch.new ≡ scratch.old }
+{
+    let mut sides = scratch.take_sides(alloc)?;
+    let list = match side {
+        Side::Up => sides.up.spread(alloc, hierarchy, source, within),
+        Side::Down => sides.down.spread(alloc, hierarchy, source, within),
+    };
+    scratch.put_sides(sides);
+    list
+}

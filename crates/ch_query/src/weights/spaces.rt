@@ -1,0 +1,158 @@
+//! Search spaces: searches by weights that stall, and run until no node is left.
+ghost use Rattle.std.specs.Prelude.{◌≡◌, ◌<◌, ◌≤◌, length, All, IfOk, OnOk};
+ghost use Rattle.std.specs.List.{AllZip};
+ghost use Rattle.ch_graph.specs.declared.limits.TheConstants.{MOST_WEIGHT};
+ghost use Rattle.ch_hierarchy.specs.Hierarchy.{nodes_of};
+ghost use Rattle.ch_hierarchy.specs.Ranked.{rank_of};
+ghost use Rattle.ch_query.specs.Distance.{IsKeptForSome};
+ghost use Rattle.ch_query.specs.Search.{IsEmpty};
+ghost use Rattle.ch_query.specs.SearchSpace.{IsSearchSpace, IsRankedSpace};
+ghost use Rattle.ch_query.specs.Weights.{side_keys, source_of, IsSameWeighing, IsWeighingOn, HasBegunOn, AreUnstalledOn, IsCleanFor};
+
+use super::search::WeightSearch;
+use crate::costs::most_within;
+use crate::scratch::Scratch;
+use crate::side::Side;
+use ch_hierarchy::Hierarchy;
+use std::alloc::{AllocError, Global};
+
+impl WeightSearch {
+    /// Puts a node into a clean search on this side, for paths that weigh at most `most`.
+    fn begin_on(&mut self, hierarchy: &Hierarchy, side: Side, source: u32, most: u64)
+        requires clean { IsCleanFor (nodes_of hierarchy.now) self.old }
+        requires source { source < nodes_of hierarchy.now }
+        requires most { most ≤ MOST_WEIGHT }
+        ensures begun { HasBegunOn hierarchy.now side self.new }
+        ensures source { source_of self.new side ≡ source }
+        ensures most { self.new.most ≡ most }
+    {
+        self.start = source;
+        self.end = source;
+        self.most = most;
+        self.reach(side.state(hierarchy.rank(source)), 0);
+    }
+
+    /// Settles all nodes that can be reached on this side, except those that are reached only through
+    /// stalled nodes. Afterwards `found` has the ranks and weights of the nodes where the search did not
+    /// stall.
+    fn explore(
+        &mut self,
+        hierarchy: &Hierarchy,
+        side: Side,
+        found: &mut Vec<(u32, u64)>,
+    ) -> Result<(), AllocError>
+        requires begun { HasBegunOn hierarchy.now side self.old }
+        ensures weighing { IsWeighingOn hierarchy.now side self.new }
+        ensures same { IsSameWeighing self.old self.new }
+        ensures done { OnOk result (IsEmpty (side_keys hierarchy.now side self.new)) }
+        ensures unstalled { OnOk result (AreUnstalledOn hierarchy.now side self.new found.new.items) }
+    {
+        found.clear();
+        while let Some((weight, state)) = self.queue.pop() {
+            let rank = state / 2;
+            if self.settle(hierarchy, side, rank, weight) {
+                found.push((rank, weight))?;
+            }
+        }
+        Ok(())
+    }
+
+    /// Returns the search space of a node on this side within the limit, by ranks.
+    ///
+    /// It is gathered in `found`, whose room stays, and copied into a list of its length. The search is
+    /// clean afterwards, even if memory ran out.
+    fn space(
+        &mut self,
+        alloc: Global,
+        hierarchy: &Hierarchy,
+        found: &mut Vec<(u32, u64)>,
+        source: u32,
+        side: Side,
+        within: Option<u64>,
+    ) -> Result<Vec<(u32, u64)>, AllocError>
+        requires kept { IsKeptForSome hierarchy.now }
+        requires clean { IsCleanFor (nodes_of hierarchy.now) self.old }
+        requires source { source < nodes_of hierarchy.now }
+        ensures space { IfOk result (λ list. IsRankedSpace hierarchy.now side within source list.items) }
+        ensures clean { IsCleanFor (nodes_of hierarchy.now) self.new }
+    {
+        self.begin_on(hierarchy, side, source, most_within(within));
+        let explored = self.explore(hierarchy, side, found);
+        self.clean();
+        explored?;
+        Vec::from_slice(alloc, found)
+    }
+}
+
+/// Returns the entries of a [`search_space`] in any order, with ranks in place of nodes. The rank of a node
+/// is the number of higher nodes.
+///
+/// # Errors
+/// `AllocError` if there is no memory for the list.
+pub fn ranked_space(
+    alloc: Global,
+    hierarchy: &Hierarchy,
+    scratch: &mut Scratch,
+    source: u32,
+    side: Side,
+    within: Option<u64>,
+) -> Result<Vec<(u32, u64)>, AllocError>
+    requires kept { IsKeptForSome hierarchy.now }
+    requires scratch { scratch.old ≡ nodes_of hierarchy.now }
+    requires source { source < nodes_of hierarchy.now }
+    ensures space { IfOk result (λ list. IsRankedSpace hierarchy.now side within source list.items) }
+    ensures scratch { scratch.new ≡ scratch.old }
+{
+    let Scratch { weights, found, .. } = scratch;
+    weights.space(alloc, hierarchy, found, source, side, within)
+}
+
+/// Returns nodes that `source` reaches by legs to higher nodes in this direction, with the weights of
+/// paths, in order of node. The hierarchy is right for some graph, and the scratch has room for its number
+/// of nodes.
+///
+/// It searches as [`distance`](crate::distance) does, but until no node is left. If a higher node shows a
+/// lighter way to a node, that node is not expanded and has no entry. This is "stall on demand"
+/// (Geisberger, Sanders, Schultes and Delling 2008).
+///
+/// Each node whose least path is a least walk of the graph has an entry with that weight. Distances lead
+/// over these nodes. With a limit `within`, entries weigh at most that, and each such node whose weight is
+/// at most that has an entry. A [`spread`](crate::spread) has the least paths to all nodes.
+///
+/// # Errors
+/// `AllocError` if there is no memory for the list.
+pub fn search_space(
+    alloc: Global,
+    hierarchy: &Hierarchy,
+    scratch: &mut Scratch,
+    source: u32,
+    side: Side,
+    within: Option<u64>,
+) -> Result<Vec<(u32, u64)>, AllocError>
+    requires kept { IsKeptForSome hierarchy.now }
+    requires scratch { scratch.old ≡ nodes_of hierarchy.now }
+    requires source { source < nodes_of hierarchy.now }
+    ensures space { IfOk result (λ list. IsSearchSpace hierarchy.now side within source list.items) }
+    ensures scratch { scratch.new ≡ scratch.old }
+{
+    let ranked = ranked_space(alloc, hierarchy, scratch, source, side, within)?;
+    let mut list = named(alloc, hierarchy, &ranked)?;
+    list.sort_unstable();
+    Ok(list)
+}
+
+/// Returns the list with nodes in place of their ranks.
+fn named(
+    alloc: Global,
+    hierarchy: &Hierarchy,
+    ranked: &[(u32, u64)],
+) -> Result<Vec<(u32, u64)>, AllocError>
+    requires { All (λ entry. entry.0 < nodes_of hierarchy.now) ranked.now }
+    ensures { IfOk result (λ list. AllZip (λ entry named. (named.0 < nodes_of hierarchy.now) × (rank_of hierarchy.now named.0 ≡ entry.0) × (named.1 ≡ entry.1)) ranked.now list.items) }
+{
+    let mut list = Vec::with_capacity(alloc, ranked.len())?;
+    for (rank, weight) in ranked {
+        list.push_reserved((hierarchy.node_at(*rank), *weight));
+    }
+    Ok(list)
+}
