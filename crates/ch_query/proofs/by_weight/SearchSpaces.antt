@@ -1,7 +1,7 @@
 -- A search by weights on one side, from its first state to its end. The states where it did not stall are a search
 -- space.
 use Rattle.std.proofs.Common.{◌≡◌, ℕ, ◌/◌, ◌%◌, ◌<◌, List, [], ◌∷◌, ◌++◌, Contains, Option, None, get_or, refl, sym, ◌∙◌, ap, subst, arith, set, inl, inr, nat_cmp}
-use Rattle.std.specs.Prelude.{◌⊎◌, ◌≢◌, IfOk, Vec}
+use Rattle.std.specs.Prelude.{◌⊎◌, ◌≢◌, IfOk, OnOk, Vec}
 use Rattle.std.specs.declared.alloc.Global.{Global}
 use Rattle.std.specs.declared.result.Result.{Result}
 use Rattle.std.specs.declared.result.Result.TheVariants.{Ok, Err}
@@ -213,6 +213,12 @@ module _ (H : LevelsAndLegs) (k : IsKeptForSome H) (side : Side) (x : WeightSear
   -- they are the search space of the node where it began
   pub space_of : (s : ℕ) → source_of x side ≡ s → (list : List (ℕ × ℕ)) → AreUnstalledOn H side x list → IsRankedSpace H side limit s list
   space_of s from list a = subst (λ q. IsRankedSpace H side limit q list) from (space_is list a)
+
+-- if a search on one side ended well, it found the search space of the node where it began
+pub space_if_done : (H : LevelsAndLegs) → IsKeptForSome H → (side : Side) (x : WeightSearch) → IsWeighingOn H side x → (limit : Option ℕ) → IsMost limit x.most → (s : ℕ) → source_of x side ≡ s →
+    (list : List (ℕ × ℕ)) {T E : Type 0} (r : Result T E) → OnOk r (IsEmpty (side_keys H side x)) → OnOk r (AreUnstalledOn H side x list) → OnOk r (IsRankedSpace H side limit s list)
+space_if_done H k side x m limit most s from list (Ok _) done a = space_of H k side x m done limit most s from list a
+space_if_done H k side x m limit most s from list (Err _) done a = tt
 
 -- a list with these entries is the search space
 pub space_if_listed : (H : LevelsAndLegs) (side : Side) (limit : Option ℕ) (s : ℕ) (found : List (ℕ × ℕ)) → IsRankedSpace H side limit s found →

@@ -57,30 +57,26 @@ impl WeightSearch {
         Ok(())
     }
 
-    /// Returns the search space of a node on this side within the limit, by ranks.
-    ///
-    /// It is gathered in `found`, whose room stays, and copied into a list of its length. The search is
+    /// Gathers the search space of a node on this side within the limit, by ranks, in `found`. The search is
     /// clean afterwards, even if memory ran out.
-    fn space(
+    fn gather(
         &mut self,
-        alloc: Global,
         hierarchy: &Hierarchy,
         found: &mut Vec<(u32, u64)>,
         source: u32,
         side: Side,
         within: Option<u64>,
-    ) -> Result<Vec<(u32, u64)>, AllocError>
+    ) -> Result<(), AllocError>
         requires kept { IsKeptForSome hierarchy.now }
         requires clean { IsCleanFor (nodes_of hierarchy.now) self.old }
         requires source { source < nodes_of hierarchy.now }
-        ensures space { IfOk result (λ list. IsRankedSpace hierarchy.now side within source list.items) }
+        ensures space { OnOk result (IsRankedSpace hierarchy.now side within source found.new.items) }
         ensures clean { IsCleanFor (nodes_of hierarchy.now) self.new }
     {
         self.begin_on(hierarchy, side, source, most_within(within));
         let explored = self.explore(hierarchy, side, found);
         self.clean();
-        explored?;
-        Vec::from_slice(alloc, found)
+        explored
     }
 }
 
@@ -104,7 +100,9 @@ pub fn ranked_space(
     ensures scratch { scratch.new ≡ scratch.old }
 {
     let Scratch { weights, found, .. } = scratch;
-    weights.space(alloc, hierarchy, found, source, side, within)
+    weights.gather(hierarchy, found, source, side, within)?;
+    // `found` keeps its room for the next search. The copy takes the memory of its entries alone.
+    Vec::from_slice(alloc, found)
 }
 
 /// Returns nodes that `source` reaches by legs to higher nodes in this direction, with the weights of
