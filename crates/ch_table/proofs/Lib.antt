@@ -1,5 +1,6 @@
 pub mod Deals
 pub mod Entries
+pub mod Gathered
 pub mod Held
 pub mod Lowered
 pub mod Owing

@@ -1,5 +1,5 @@
 -- How the nodes of a hierarchy are dealt over the pieces of a job. Each piece has its share of the high nodes.
-use Rattle.std.specs.Prelude.{◌≡◌, ℕ, ◌<◌, ◌+◌, ◌-◌, ◌*◌, ◌/◌, ◌%◌, nat_lt, cond, min}
+use Rattle.std.specs.Prelude.{ℕ, ◌+◌, ◌-◌, ◌*◌, ◌/◌, ◌%◌, nat_lt, cond, min}
 use Rattle.ch_hierarchy.specs.Hierarchy.{LevelsAndLegs, nodes_of}
 
 -- the number of nodes, with an item for each, and the number of items in a piece; the last piece may have fewer
@@ -36,7 +36,3 @@ item_of d rank = item_at d (turn_of d rank)
 -- the nodes of a hierarchy, dealt over pieces of `piece` items
 abbrev pub deal_of : LevelsAndLegs → ℕ → Deal
 deal_of H piece = record { nodes = nodes_of H; piece = piece }
-
--- the nodes of the hierarchy are dealt, and a piece has at least one item
-abbrev pub IsDealOf : LevelsAndLegs → Deal → Type 0
-IsDealOf H d = (d.nodes ≡ nodes_of H) × (0 < d.piece)

@@ -4,8 +4,7 @@ ghost use Rattle.ch_graph.specs.declared.limits.TheConstants.{MOST_LISTED, MOST_
 ghost use Rattle.ch_hierarchy.specs.Hierarchy.{nodes_of};
 ghost use Rattle.ch_query.specs.Distance.{IsKeptForSome};
 ghost use Rattle.ch_query.specs.Limits.{IsWithin};
-ghost use Rattle.ch_table.specs.Buckets.{HoldSearchSpaces};
-ghost use Rattle.ch_table.specs.Dealing.{item_of, deal_of, IsDealOf};
+ghost use Rattle.ch_table.specs.Dealing.{item_of, deal_of};
 ghost use Rattle.ch_table.specs.Sums.{AreSidesOf, IsOwedInRow, IsOwedAt};
 ghost use Rattle.ch_work.specs.declared.limits.TheConstants.{MOST_CELLS, MOST_OFFER};
 ghost use Rattle.ch_work.specs.Owed.{HasPaid};
@@ -13,7 +12,7 @@ ghost use Rattle.ch_work.specs.Passes.{view_of, size_of, IsPassOf};
 
 use crate::buckets::Buckets;
 use crate::dealing::Dealing;
-use crate::spaces::{Room, search_spaces};
+use crate::spaces::search_spaces;
 use ch_hierarchy::Hierarchy;
 use ch_query::Side;
 use ch_work::{Board, CellJob, Crew, Gate, Pass, pay};
@@ -88,24 +87,10 @@ impl Sums {
     {
         let dealing = Dealing::new(hierarchy.nodes(), crew.plan.piece());
         let mut rooms = Vec::new(crew.alloc);
-        let downs = search_buckets(
-            crew,
-            hierarchy,
-            &dealing,
-            targets,
-            Side::Down,
-            within,
-            &mut rooms,
-        )?;
-        let ups = search_buckets(
-            crew,
-            hierarchy,
-            &dealing,
-            sources,
-            Side::Up,
-            within,
-            &mut rooms,
-        )?;
+        let spaces_down = search_spaces(crew, hierarchy, targets, Side::Down, within, &mut rooms)?;
+        let downs = Buckets::of_lists(crew.alloc, &dealing, spaces_down)?;
+        let spaces_up = search_spaces(crew, hierarchy, sources, Side::Up, within, &mut rooms)?;
+        let ups = Buckets::of_lists(crew.alloc, &dealing, spaces_up)?;
         Ok(Sums {
             sources: ups,
             targets: downs,
@@ -129,29 +114,6 @@ impl Sums {
             pay_row(board, pass, first, *weight, targets, self.within);
         }
     }
-}
-
-/// Returns buckets with the search spaces of these nodes in this direction, within the limit. Each entry is
-/// at the item of the node that is reached. The workers share the nodes, and the rooms stay.
-fn search_buckets<R: Threads + Sync, G: Gate>(
-    crew: &Crew<'_, R, G>,
-    hierarchy: &Hierarchy,
-    dealing: &Dealing,
-    nodes: &[u32],
-    side: Side,
-    within: Option<u64>,
-    rooms: &mut Vec<Room>,
-) -> Result<Buckets, AllocError>
-    requires kept { IsKeptForSome hierarchy.now }
-    requires nodes { All (λ x. x < nodes_of hierarchy.now) nodes.now }
-    requires count { length nodes.now ≤ MOST_LISTED }
-    requires dealing { IsDealOf hierarchy.now dealing.now }
-    requires rooms { All (λ room. room.scratch ≡ nodes_of hierarchy.now) rooms.old.items }
-    ensures held { IfOk result (HoldSearchSpaces hierarchy.now side within (item_of dealing.now) nodes.now) }
-    ensures rooms { All (λ room. room.scratch ≡ nodes_of hierarchy.now) rooms.new.items }
-{
-    let spaces = search_spaces(crew, hierarchy, nodes, side, within, rooms)?;
-    Buckets::of_lists(crew.alloc, dealing, spaces)
 }
 
 /// Pays what a source owes at a node to the cells of its row, where `first` is the first cell of that row.

@@ -1,4 +1,4 @@
-use Rattle.std.proofs.Common.{ℕ, ◌≤◌, List, Option, Vec, subst, arith}
+use Rattle.std.proofs.Common.{ℕ, List, Option, Vec, subst, arith}
 use Rattle.std.specs.declared.alloc.Global.{Global}
 use Rattle.std.specs.List.{AllZip}
 use Rattle.ch_graph.proofs.Lists.{zipped_length, zipped_map}

@@ -1,4 +1,4 @@
-use Rattle.std.proofs.Common.{ℕ, ◌<◌, ◌≤◌, ◌^◌, List, Option, length, map, Vec, sym, subst, arith}
+use Rattle.std.proofs.Common.{ℕ, ◌<◌, ◌≤◌, ◌^◌, List, length, map, Vec, sym, subst, arith}
 use Rattle.std.specs.Prelude.{All}
 use Rattle.std.specs.declared.alloc.Global.{Global}
 use Rattle.std.proofs.lemmas.List.Elements.{All-map}
@@ -7,7 +7,6 @@ use Rattle.ch_graph.specs.Rows.{AreRowsOf, pairs_of}
 use Rattle.ch_query.specs.declared.side.Side.TheVariants.{Down}
 use Rattle.ch_query.specs.SearchSpace.{IsRankedSpace}
 use Rattle.ch_table.specs.Buckets.{HoldLists}
-use Rattle.ch_table.specs.Table.{IsRowBy}
 use Rattle.ch_table.proofs.Held.{hold_lists, pairs_entries}
 use Rattle.ch_table.proofs.Tables.{spaces_within}
 use Rattle.ch_table.proofs.by_rows.SourceRows.of.Goals as goal
