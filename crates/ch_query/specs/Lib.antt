@@ -16,7 +16,7 @@ pub mod Routes
 pub mod RouteLaws
 pub mod Descents
 pub mod Unpacking
-pub mod Answers
+pub mod Replies
 pub mod Spread
 pub mod Tasks
 pub mod SearchSpace

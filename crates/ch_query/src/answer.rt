@@ -8,7 +8,7 @@ ghost use Rattle.std.specs.List.{AllZip};
 ghost use Rattle.ch_graph.specs.declared.limits.TheConstants.{MOST_QUERIES};
 ghost use Rattle.ch_hierarchy.specs.Hierarchy.{nodes_of};
 ghost use Rattle.ch_query.specs.Distance.{IsKeptForSome};
-ghost use Rattle.ch_query.specs.Answers.{AreQueries, IsReply};
+ghost use Rattle.ch_query.specs.Replies.{AreQueries, IsReply};
 
 use crate::scratch::Scratch;
 use ch_graph::InArc;

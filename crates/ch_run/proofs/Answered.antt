@@ -21,7 +21,7 @@ use Rattle.ch_run.specs.Ask.{AreAnswered, IsRequestText, TextOf, TookAnswers, li
 use Rattle.ch_run.specs.declared.run.batch.Then.{Then}
 use Rattle.ch_run.specs.declared.run.batch.Then.TheVariants.{More, Nothing, Stop}
 use Rattle.ch_run.specs.declared.fault.Which.{Which}
-use Rattle.ch_run.specs.Serving.{Answers, IsAfter, IsOfAnswering, WritesMore, asked_for, end_of, near_row_of, routes_for}
+use Rattle.ch_run.specs.Serving.{AnswersInTurn, IsAfter, IsOfAnswering, WritesMore, asked_for, end_of, near_row_of, routes_for}
 use Rattle.ch_run.specs.Lists.{AreLists}
 use Rattle.ch_read.specs.declared.fault.ReadFault.{ReadFault}
 use Rattle.ch_read.specs.RequestLists.{PlaceList, TwoLists}
@@ -127,7 +127,7 @@ module _ (IsTextOf : TextOf) where
 
   -- a text that was written answers its requests
   pub written_answers : {T : Type 0} (places : PlaceList) (old new : Option (List ℕ)) (before after : ℕ) (requests : List Request) (text : List ℕ) (r : Result T RunFault) →
-      AreAnswered IsTextOf places requests text → WritesMore old new before after text r → Answers IsTextOf places old new before after requests r
+      AreAnswered IsTextOf places requests text → WritesMore old new before after text r → AnswersInTurn IsTextOf places old new before after requests r
   written_answers places old new before after requests text (Ok x) is h = (text, is, h.0, h.1)
   written_answers places old new before after requests text (Err (RunFault.Write count)) is h = (requests, [], text, h.0, sym (append-nil requests), is, h.1, h.2, h.3)
   written_answers places old new before after requests text (Err RunFault.Memory) is h = absurd h
@@ -148,14 +148,14 @@ module _ (IsTextOf : TextOf) where
   more_own T old new before after text (RunFault.Check f) h = absurd h
 
   -- nothing is answered without memory
-  pub answers_nothing : {T : Type 0} (places : PlaceList) (old : Option (List ℕ)) (before after : ℕ) (requests : List Request) (r : Result T RunFault) → IsErrAnd r (λ y. y ≡ RunFault.Memory) → Answers IsTextOf places old old before after requests r
+  pub answers_nothing : {T : Type 0} (places : PlaceList) (old : Option (List ℕ)) (before after : ℕ) (requests : List Request) (r : Result T RunFault) → IsErrAnd r (λ y. y ≡ RunFault.Memory) → AnswersInTurn IsTextOf places old old before after requests r
   answers_nothing places old before after requests (Ok x) is = absurd is
   answers_nothing {T} places old before after requests (Err y) is =
-      subst (λ (f : RunFault). Answers {T = T} IsTextOf places old old before after requests (Err f)) (sym is) ([], requests, refl, ([], answered_none places, taken_none old))
+      subst (λ (f : RunFault). AnswersInTurn {T = T} IsTextOf places old old before after requests (Err f)) (sym is) ([], requests, refl, ([], answered_none places, taken_none old))
 
   -- if answering ends in a lack of memory or a failed write, there may have been more requests
-  answers_front : (places : PlaceList) (old new : Option (List ℕ)) (before after : ℕ) (xs ys : List Request) (e : RunFault) → IsOfAnswering e → Answers {T = Unit} IsTextOf places old new before after xs (Err e) →
-      Answers {T = Unit} IsTextOf places old new before after (xs ++ ys) (Err e)
+  answers_front : (places : PlaceList) (old new : Option (List ℕ)) (before after : ℕ) (xs ys : List Request) (e : RunFault) → IsOfAnswering e → AnswersInTurn {T = Unit} IsTextOf places old new before after xs (Err e) →
+      AnswersInTurn {T = Unit} IsTextOf places old new before after (xs ++ ys) (Err e)
   answers_front places old new before after xs ys RunFault.Memory own h =
       (h.0, h.1 ++ ys, ap (λ zs. zs ++ ys) h.2 ∙ append_assoc h.0 h.1 ys, h.3)
   answers_front places old new before after xs ys (RunFault.Write count) own h =
@@ -181,19 +181,19 @@ module _ (IsTextOf : TextOf) where
 
   -- a fault that is passed on keeps the promise on the answered requests
   pub answers_passed : (places : PlaceList) (old new : Option (List ℕ)) (before after : ℕ) (xs ys : List Request) (e : RunFault) (r : Result Unit RunFault) → IsErrAnd r (λ y. y ≡ e) → IsOfAnswering e →
-      Answers {T = Unit} IsTextOf places old new before after xs (Err e) → Answers IsTextOf places old new before after (xs ++ ys) r
+      AnswersInTurn {T = Unit} IsTextOf places old new before after xs (Err e) → AnswersInTurn IsTextOf places old new before after (xs ++ ys) r
   answers_passed places old new before after xs ys e (Ok x) is own h = absurd is
   answers_passed places old new before after xs ys e (Err y) is own h =
-      subst (λ (f : RunFault). Answers {T = Unit} IsTextOf places old new before after (xs ++ ys) (Err f)) (sym is) (answers_front places old new before after xs ys e own h)
+      subst (λ (f : RunFault). AnswersInTurn {T = Unit} IsTextOf places old new before after (xs ++ ys) (Err f)) (sym is) (answers_front places old new before after xs ys e own h)
 
-  took_append : (places : PlaceList) (old mid new : Option (List ℕ)) (before after : ℕ) (xs ys : List Request) → Answers {T = Unit} IsTextOf places old mid before after xs (Ok tt) →
+  took_append : (places : PlaceList) (old mid new : Option (List ℕ)) (before after : ℕ) (xs ys : List Request) → AnswersInTurn {T = Unit} IsTextOf places old mid before after xs (Ok tt) →
       TookAnswers IsTextOf (places_after places xs) mid new ys → TookAnswers IsTextOf places old new (xs ++ ys)
   took_append places old mid new before after xs ys h k =
       (h.0 ++ k.0, answered_append places xs ys h.0 k.0 h.1 k.1, taken_append old mid new h.0 k.0 h.2 k.2)
 
   -- requests were answered, and then more
   pub answers_more : {T : Type 0} (places : PlaceList) (old mid new : Option (List ℕ)) (before between after : ℕ) (xs ys : List Request) (r : Result T RunFault) →
-      Answers {T = Unit} IsTextOf places old mid before between xs (Ok tt) → Answers IsTextOf (places_after places xs) mid new between after ys r → Answers IsTextOf places old new before after (xs ++ ys) r
+      AnswersInTurn {T = Unit} IsTextOf places old mid before between xs (Ok tt) → AnswersInTurn IsTextOf (places_after places xs) mid new between after ys r → AnswersInTurn IsTextOf places old new before after (xs ++ ys) r
   answers_more places old mid new before between after xs ys (Ok x) h k =
       let count : capped_number (capped_number (before + length h.0) + length k.0) ≡ capped_number (before + (length h.0 + length k.0)) = capped_on before (length h.0) (length k.0) in
       let long : length (h.0 ++ k.0) ≡ length h.0 + length k.0 = length-append h.0 k.0 in
@@ -231,18 +231,18 @@ module _ (IsTextOf : TextOf) where
   answers_more places old mid new before between after xs ys (Err (RunFault.Check f)) h k = absurd k
 
   -- no requests were asked for
-  pub answers_none : (places : PlaceList) (old : Option (List ℕ)) (written : ℕ) → written < 2 ^ 64 → Answers {T = Unit} IsTextOf places old old written written [] (Ok tt)
+  pub answers_none : (places : PlaceList) (old : Option (List ℕ)) (written : ℕ) → written < 2 ^ 64 → AnswersInTurn {T = Unit} IsTextOf places old old written written [] (Ok tt)
   answers_none places old written fits = ([], answered_none places, taken_none old, omega arith)
 
   -- a fault is passed on
   pub answers_err : (places : PlaceList) (old new : Option (List ℕ)) (before after : ℕ) (requests : List Request) (e : RunFault) (r : Result Unit RunFault) → IsErrAnd r (λ y. y ≡ e) →
-      Answers {T = Unit} IsTextOf places old new before after requests (Err e) → Answers IsTextOf places old new before after requests r
+      AnswersInTurn {T = Unit} IsTextOf places old new before after requests (Err e) → AnswersInTurn IsTextOf places old new before after requests r
   answers_err places old new before after requests e (Ok x) is h = absurd is
-  answers_err places old new before after requests e (Err y) is h = subst (λ (f : RunFault). Answers {T = Unit} IsTextOf places old new before after requests (Err f)) (sym is) h
+  answers_err places old new before after requests e (Err y) is h = subst (λ (f : RunFault). AnswersInTurn {T = Unit} IsTextOf places old new before after requests (Err f)) (sym is) h
 
   -- a batch was answered, with any end
-  pub answers_end : (places : PlaceList) (old new : Option (List ℕ)) (before after : ℕ) (requests : List Request) (ends : Then) → IsAfter ends → Answers {T = Unit} IsTextOf places old new before after requests (Ok tt) →
-      Answers IsTextOf places old new before after requests (end_of ends)
+  pub answers_end : (places : PlaceList) (old new : Option (List ℕ)) (before after : ℕ) (requests : List Request) (ends : Then) → IsAfter ends → AnswersInTurn {T = Unit} IsTextOf places old new before after requests (Ok tt) →
+      AnswersInTurn IsTextOf places old new before after requests (end_of ends)
   answers_end places old new before after requests More is h = h
   answers_end places old new before after requests Nothing is h = h
   answers_end places old new before after requests (Stop RunFault.Memory) is h = (requests, [], sym (append-nil requests), (h.0, h.1, h.2))

@@ -14,7 +14,7 @@ use Rattle.ch_contract.proofs.theory.BuiltKept.{hierarchies_kept}
 use Rattle.ch_contract.proofs.theory.OneOrder.{one_hierarchy}
 use Rattle.ch_query.specs.declared.answer.Answer.{Answer}
 use Rattle.ch_query.specs.declared.routes.Route.{Route}
-use Rattle.ch_query.specs.Answers.{HasArcs}
+use Rattle.ch_query.specs.Replies.{HasArcs}
 use Rattle.ch_query.proofs.routing.RouteWalks.{route_one}
 use Rattle.ch_text.specs.Distances.{AnswersShortly, HasText, distance_text}
 use Rattle.ch_text.specs.Routes.{AnswersWithRoute, answer_text}

@@ -19,7 +19,7 @@ use Rattle.ch_text.specs.Device.{GivesBytes, HasGiven, HasRead}
 use Rattle.ch_run.specs.Run.{GoesPast, Reading, IsWrite, StopsAt}
 use Rattle.ch_run.specs.Ask.{AreAnswered, IsOfServing, IsRequestText, IsTextOfRequest, Serves, TellsThen, TextOf, TookAnswers, no_places, places_after, places_then, whole_in}
 use Rattle.ch_run.specs.declared.run.batch.Then.TheVariants.{More, Nothing, Stop}
-use Rattle.ch_run.specs.Serving.{Answers, GivesUntil, IsOfAnswering, IsToldAfter, end_of, request_refusal}
+use Rattle.ch_run.specs.Serving.{AnswersInTurn, GivesUntil, IsOfAnswering, IsToldAfter, end_of, request_refusal}
 use Rattle.ch_graph.specs.Graph.{Network}
 use Rattle.ch_hierarchy.specs.Hierarchy.{LevelsAndLegs}
 use Rattle.ch_run.specs.declared.options.Options.{Options}
@@ -37,9 +37,9 @@ places_append places (x ∷ xs) ys = places_append (places_then places x) xs ys
 
 -- requests were answered, and then more, by the places that were given last
 pub answers_on : (IsTextOf : TextOf) {T : Type 0} (places held : PlaceList) (old mid new : Option (List ℕ)) (before between after : ℕ) (xs ys : List Request) (r : Result T RunFault) →
-    Answers {T = Unit} IsTextOf places old mid before between xs (Ok tt) → held ≡ places_after places xs → Answers IsTextOf held mid new between after ys r → Answers IsTextOf places old new before after (xs ++ ys) r
+    AnswersInTurn {T = Unit} IsTextOf places old mid before between xs (Ok tt) → held ≡ places_after places xs → AnswersInTurn IsTextOf held mid new between after ys r → AnswersInTurn IsTextOf places old new before after (xs ++ ys) r
 answers_on IsTextOf places held old mid new before between after xs ys r h is k =
-    answers_more IsTextOf places old mid new before between after xs ys r h (subst (λ (p : PlaceList). Answers IsTextOf p mid new between after ys r) is k)
+    answers_more IsTextOf places old mid new before between after xs ys r h (subst (λ (p : PlaceList). AnswersInTurn IsTextOf p mid new between after ys r) is k)
 
 -- if a fault was passed on, a promise on calls that end well says nothing
 pub passed_err : (X : Type 0) (r : Result Unit RunFault) (e : RunFault) → IsErrAnd r (λ y. y ≡ e) → OnOk r X
@@ -202,7 +202,7 @@ module _ (IsTextOf : TextOf) (n : ℕ) where
     pub nodes : s.nodes ≡ n
     pub ahead_is : (more : List ℕ) → told_by n (read ++ more) ≡ after_these given (ahead s more)
     pub used_up : IsUsedUp false s
-    pub answered : Answers {T = Unit} IsTextOf no_places old new 0 written given (Ok tt)
+    pub answered : AnswersInTurn {T = Unit} IsTextOf no_places old new 0 written given (Ok tt)
     pub held_is : held ≡ places_after no_places given
 
   -- bytes were read and fed to the reader. At the end none is left
@@ -214,7 +214,7 @@ module _ (IsTextOf : TextOf) (n : ℕ) where
     pub ends : MayCome ended left
     pub nodes : s.nodes ≡ n
     pub ahead_is : (more : List ℕ) → told_by n (read ++ more) ≡ after_these given (ahead s more)
-    pub answered : Answers {T = Unit} IsTextOf no_places old new 0 written given (Ok tt)
+    pub answered : AnswersInTurn {T = Unit} IsTextOf no_places old new 0 written given (Ok tt)
     pub held_is : held ≡ places_after no_places given
 
   pub served_none : (input : Option (List ℕ)) (output : Option (List ℕ)) → HasServed (record { before = input; after = input }) output output 0 (starting n) no_places
@@ -260,12 +260,12 @@ module _ (IsTextOf : TextOf) (n : ℕ) where
 
   module _ (requests : Reading) (old mid new : Option (List ℕ)) (before after : ℕ) (s next : Standing) (held : PlaceList) (given : List Request) where
     -- the next requests are answered by the places that were given last
-    held_next : {T : Type 0} (ended : Bool) (h : HasFed ended requests old mid before s held) (r : Result T RunFault) → Answers IsTextOf held mid new before after given r →
-        Answers IsTextOf (places_after no_places h.given) mid new before after given r
-    held_next ended h r answers = subst (λ (p : PlaceList). Answers IsTextOf p mid new before after given r) h.held_is answers
+    held_next : {T : Type 0} (ended : Bool) (h : HasFed ended requests old mid before s held) (r : Result T RunFault) → AnswersInTurn IsTextOf held mid new before after given r →
+        AnswersInTurn IsTextOf (places_after no_places h.given) mid new before after given r
+    held_next ended h r answers = subst (λ (p : PlaceList). AnswersInTurn IsTextOf p mid new before after given r) h.held_is answers
 
     -- all whole requests are answered, and there may be more
-    pub fed_served : (ended : Bool) → ended ≡ false → HasFed ended requests old mid before s held → GivesUntil {T = Unit} ended s next given (Ok tt) → Answers {T = Unit} IsTextOf held mid new before after given (Ok tt) →
+    pub fed_served : (ended : Bool) → ended ≡ false → HasFed ended requests old mid before s held → GivesUntil {T = Unit} ended s next given (Ok tt) → AnswersInTurn {T = Unit} IsTextOf held mid new before after given (Ok tt) →
         IsUsedUp ended next → next.nodes ≡ s.nodes → (new_held : PlaceList) → new_held ≡ places_after held given → HasServed requests old new after next new_held
     fed_served true is h gives answers used_up same new_held held_is = cc
     fed_served false is h gives answers used_up same new_held held_is = record {
@@ -281,7 +281,7 @@ module _ (IsTextOf : TextOf) (n : ℕ) where
     }
 
     -- all requests are answered at the end
-    pub fed_done : (ended : Bool) → ended ≡ true → HasFed ended requests old mid before s held → GivesUntil {T = Unit} ended s next given (Ok tt) → Answers {T = Unit} IsTextOf held mid new before after given (Ok tt) →
+    pub fed_done : (ended : Bool) → ended ≡ true → HasFed ended requests old mid before s held → GivesUntil {T = Unit} ended s next given (Ok tt) → AnswersInTurn {T = Unit} IsTextOf held mid new before after given (Ok tt) →
         IsUsedUp ended next → Serves {T = Unit} IsTextOf n requests old new (Ok tt)
     fed_done false is h gives answers used_up = cc
     fed_done true is h gives answers used_up =
@@ -315,7 +315,7 @@ module _ (IsTextOf : TextOf) (n : ℕ) where
 
     -- the run ends in the fault that answering ended in
     pub fed_refused : (ended : Bool) (fault : RunFault) → HasFed ended requests old mid before s held → GivesUntil {T = Unit} ended s next given (Err fault) →
-        Answers {T = Unit} IsTextOf held mid new before after given (Err fault) → Serves {T = Unit} IsTextOf n requests old new (Err fault)
+        AnswersInTurn {T = Unit} IsTextOf held mid new before after given (Err fault) → Serves {T = Unit} IsTextOf n requests old new (Err fault)
     fed_refused ended (RunFault.Read Which.Requests fault) h gives answers =
         let step = gives h.left h.ends in
         let took = answers_more IsTextOf {T = Unit} no_places old mid new 0 before after h.given given (Err (RunFault.Read Which.Requests fault)) h.answered (held_next {T = Unit} ended h (Err (RunFault.Read Which.Requests fault)) answers) in

@@ -9,7 +9,7 @@ use Rattle.ch_hierarchy.specs.Hierarchy.{LevelsAndLegs}
 use Rattle.ch_contract.specs.declared.measure.OrderBy.{OrderBy}
 use Rattle.ch_hierarchy.specs.Kept.{IsKept}
 use Rattle.ch_query.specs.declared.answer.Answer.{Answer}
-use Rattle.ch_query.specs.Answers.{HasArcs, IsReply}
+use Rattle.ch_query.specs.Replies.{HasArcs, IsReply}
 use Rattle.std.proofs.lemmas.Option.{none-some, same_Some}
 use Rattle.ch_query.specs.Routes.{IsLeastWalk}
 use Rattle.ch_query.proofs.routing.RouteWalks.{route_least_walk}

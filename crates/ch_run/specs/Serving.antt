@@ -27,14 +27,14 @@ use Rattle.ch_run.specs.Text.{writes_routes}
 -- how a call that answers these requests ended, by the places that were given last before them. It answered all of them, or the
 -- first of them, each whole, or a write failed.
 -- The output had taken `before` bytes before the call, and `after` bytes after it
-abbrev pub Answers : {T : Type 0} → TextOf → PlaceList → (old new : Option (List ℕ)) → (before after : ℕ) → List Request → Result T RunFault → Type 0
-Answers IsTextOf places old new before after requests (Ok _) =
+abbrev pub AnswersInTurn : {T : Type 0} → TextOf → PlaceList → (old new : Option (List ℕ)) → (before after : ℕ) → List Request → Result T RunFault → Type 0
+AnswersInTurn IsTextOf places old new before after requests (Ok _) =
     (text : List ℕ) × AreAnswered IsTextOf places requests text × HasTaken old new text × (after ≡ capped_number (before + length text))
-Answers IsTextOf places old new before after requests (Err RunFault.Memory) = TookFirstAnswers IsTextOf places old new requests
-Answers IsTextOf places old new before after requests (Err (RunFault.Write count)) = TookBeginning IsTextOf places old new before count requests
-Answers IsTextOf places old new before after requests (Err (RunFault.Read Which.Requests fault)) = TookAnswers IsTextOf places old new requests
-Answers IsTextOf places old new before after requests (Err (RunFault.CellsAt line)) = TookAnswers IsTextOf places old new requests
-Answers IsTextOf places old new before after requests (Err _) = ⊥
+AnswersInTurn IsTextOf places old new before after requests (Err RunFault.Memory) = TookFirstAnswers IsTextOf places old new requests
+AnswersInTurn IsTextOf places old new before after requests (Err (RunFault.Write count)) = TookBeginning IsTextOf places old new before count requests
+AnswersInTurn IsTextOf places old new before after requests (Err (RunFault.Read Which.Requests fault)) = TookAnswers IsTextOf places old new requests
+AnswersInTurn IsTextOf places old new before after requests (Err (RunFault.CellsAt line)) = TookAnswers IsTextOf places old new requests
+AnswersInTurn IsTextOf places old new before after requests (Err _) = ⊥
 
 -- the output took this text after `before` bytes, or the beginning of the text and not all of it
 abbrev pub WritesMore : {T : Type 0} → (old new : Option (List ℕ)) → (before after : ℕ) → (text : List ℕ) → Result T RunFault → Type 0

@@ -5,7 +5,7 @@ use Rattle.ch_graph.specs.Graph.{Network}
 use Rattle.ch_hierarchy.specs.Hierarchy.{LevelsAndLegs}
 use Rattle.ch_query.specs.declared.answer.Answer.{Answer}
 use Rattle.ch_query.specs.Routes.{IsLeastWalk}
-use Rattle.ch_query.specs.Answers.{HasArcs}
+use Rattle.ch_query.specs.Replies.{HasArcs}
 use Rattle.ch_text.specs.Distances.{Answers, HasText, distance_text, node_text}
 
 abbrev pub arc_text : InArc → List ℕ

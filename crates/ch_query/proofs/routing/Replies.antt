@@ -3,7 +3,7 @@ use Rattle.std.proofs.Common.{ℕ, true, Some, None, refl, sym, subst}
 use Rattle.ch_hierarchy.specs.Hierarchy.{LevelsAndLegs}
 use Rattle.ch_hierarchy.specs.Paths.{NeverMeets}
 use Rattle.ch_query.specs.declared.routes.Route.{Route}
-use Rattle.ch_query.specs.Answers.{IsReply}
+use Rattle.ch_query.specs.Replies.{IsReply}
 use Rattle.ch_query.specs.Distance.{IsLeastWeight}
 use Rattle.ch_query.specs.Routes.{IsRoute}
 use Rattle.ch_query.proofs.two_sides.Distances.{least_weight, weight_is_distance}

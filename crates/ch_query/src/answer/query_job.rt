@@ -2,7 +2,7 @@
 ghost use Rattle.std.specs.Prelude.{◌≡◌, ◌<◌, IfOk};
 ghost use Rattle.ch_hierarchy.specs.Hierarchy.{nodes_of};
 ghost use Rattle.ch_query.specs.Distance.{IsKeptForSome};
-ghost use Rattle.ch_query.specs.Answers.{IsReply};
+ghost use Rattle.ch_query.specs.Replies.{IsReply};
 
 use super::Answer;
 use super::route_job::reply_with_route;

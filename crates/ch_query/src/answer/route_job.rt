@@ -2,7 +2,7 @@
 ghost use Rattle.std.specs.Prelude.{◌≡◌, ◌<◌, true, IfOk};
 ghost use Rattle.ch_hierarchy.specs.Hierarchy.{nodes_of};
 ghost use Rattle.ch_query.specs.Distance.{IsKeptForSome};
-ghost use Rattle.ch_query.specs.Answers.{IsReply};
+ghost use Rattle.ch_query.specs.Replies.{IsReply};
 
 use super::Answer;
 use crate::routes::query::route_in;

@@ -4,7 +4,7 @@ ghost use Rattle.ch_graph.specs.declared.limits.TheConstants.{MOST_QUERIES};
 ghost use Rattle.ch_graph.specs.Graph.{IsWithinLimits};
 ghost use Rattle.ch_contract.specs.Legs.{IsHopBound};
 ghost use Rattle.ch_hierarchy.specs.Kept.{IsKept};
-ghost use Rattle.ch_query.specs.Answers.{AreQueries};
+ghost use Rattle.ch_query.specs.Replies.{AreQueries};
 ghost use Rattle.ch_text.specs.Device.{CanCountOneMore};
 ghost use Rattle.ch_run.specs.declared.source.Source.TheVariants as SourceOf;
 ghost use Rattle.ch_run.specs.DistRun.{AcceptsQueries, HasQueriesRefused, IsAnsweredBy, IsOfDist};

@@ -5,7 +5,7 @@ ghost use Rattle.ch_graph.specs.Graph.{IsWithinLimits};
 ghost use Rattle.ch_hierarchy.specs.Hierarchy.{nodes_of};
 ghost use Rattle.ch_hierarchy.specs.Kept.{IsKept};
 ghost use Rattle.ch_near.specs.Near.{wanted_within};
-ghost use Rattle.ch_query.specs.Answers.{AreQueries};
+ghost use Rattle.ch_query.specs.Replies.{AreQueries};
 ghost use Rattle.ch_read.specs.Requests.{ArePlaces, AreTwoLists, IsRequest};
 ghost use Rattle.ch_read.specs.RequestLists.{PlaceList};
 ghost use Rattle.ch_read.specs.declared.request.Request.{Request as RequestKind};

@@ -4,7 +4,7 @@ ghost use Rattle.ch_graph.specs.declared.limits.TheConstants.{MOST_LISTED, MOST_
 ghost use Rattle.ch_read.specs.declared.fault.ReadFault.{ReadFault as FaultAt};
 ghost use Rattle.ch_text.specs.Device.{CanCountOneMore, CountsAtMostOne, HasGiven};
 ghost use Rattle.ch_run.specs.Run.{IsGraphRefused, IsListRefused, IsOf, IsQueriesRefused, IsUnread, ReadsGraph, ReadsNodes, ReadsQueries, reading};
-ghost use Rattle.ch_query.specs.Answers.{AreQueries};
+ghost use Rattle.ch_query.specs.Replies.{AreQueries};
 
 use crate::fault::{RunFault, Which};
 use crate::plan::{Crew, Gate};

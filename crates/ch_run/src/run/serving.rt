@@ -7,7 +7,7 @@ ghost use Rattle.ch_read.specs.declared.request.Request.{Request as RequestOf};
 ghost use Rattle.ch_run.specs.Ask.{IsOfServing, IsTextOfRequest, Serves, places_after};
 ghost use Rattle.ch_text.specs.Device.{CanCountOneMore, CountsAtMostOne, GivesBytes, failures_in};
 ghost use Rattle.ch_run.specs.Run.{reading};
-ghost use Rattle.ch_run.specs.Serving.{Answers, CountsWrites, GivesUntil, IsRoomFor, places_of};
+ghost use Rattle.ch_run.specs.Serving.{AnswersInTurn, CountsWrites, GivesUntil, IsRoomFor, places_of};
 
 use super::answering::{Answering, Room, answer_requests};
 use super::batch::gather;
@@ -114,7 +114,7 @@ fn answer_whole<'a, R: Threads + Sync, O: Output, G: Gate>(
     requires failures { CanCountOneMore (O.failed output.old) }
     requires zeros { CanCountOneMore (O.idle output.old) }
     ensures answered { (given : List RequestOf) × GivesUntil ended reader.old reader.new given result
-        × Answers (IsTextOfRequest by.now.options.now by.now.checked.now.graph by.now.checked.now.hierarchy) (places_of room.old.near) (O.taken output.old) (O.taken output.new)
+        × AnswersInTurn (IsTextOfRequest by.now.options.now by.now.checked.now.graph by.now.checked.now.hierarchy) (places_of room.old.near) (O.taken output.old) (O.taken output.new)
         written.old written.new given result
         × OnOk result (places_of room.new.near ≡ places_after (places_of room.old.near) given) }
     ensures used_up { OnOk result (IsUsedUp ended reader.new) }

@@ -5,7 +5,7 @@ ghost use Rattle.ch_graph.specs.declared.limits.TheConstants.{MOST_QUERIES};
 ghost use Rattle.ch_graph.specs.Graph.{Network, IsWithinLimits};
 ghost use Rattle.ch_hierarchy.specs.Hierarchy.{nodes_of};
 ghost use Rattle.ch_hierarchy.specs.Kept.{IsKept};
-ghost use Rattle.ch_query.specs.Answers.{AreQueries};
+ghost use Rattle.ch_query.specs.Replies.{AreQueries};
 ghost use Rattle.ch_query.specs.Distance.{IsKeptForSome};
 ghost use Rattle.ch_text.specs.Distances.{AnswersShortly, IsDistanceText};
 ghost use Rattle.ch_run.specs.Text.{IsTextBy};

@@ -1,7 +1,7 @@
 use Rattle.std.proofs.Common.{sym, subst}
 use Rattle.std.specs.Prelude.{IfOk}
 use Rattle.std.specs.List.{AllZip}
-use Rattle.ch_query.specs.Answers.{IsReply}
+use Rattle.ch_query.specs.Replies.{IsReply}
 use Rattle.ch_query.proofs.answer.answer_all.Goals as goal
 
 pub returns-then-routes : goal.returns-then-routes

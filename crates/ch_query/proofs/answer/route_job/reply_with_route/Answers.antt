@@ -1,7 +1,7 @@
 use Rattle.std.proofs.Common.{true, Some, sym, subst}
 use Rattle.std.specs.Prelude.{MatchOption}
 use Rattle.ch_hierarchy.specs.Paths.{NeverMeets}
-use Rattle.ch_query.specs.Answers.{IsReply}
+use Rattle.ch_query.specs.Replies.{IsReply}
 use Rattle.ch_query.specs.Routes.{IsRoute}
 use Rattle.ch_query.specs.Values.{Way}
 use Rattle.ch_query.proofs.routing.Replies.{reply_none, reply_some}

@@ -6,7 +6,7 @@ use Rattle.ch_read.specs.RequestLists.{PlaceList}
 use Rattle.ch_read.specs.declared.request.Request.{Request}
 use Rattle.ch_read.specs.Requests.{IsRequest}
 use Rattle.ch_run.specs.Ask.{IsTextOfRequest, places_after}
-use Rattle.ch_run.specs.Serving.{Answers, WritesMore, places_of}
+use Rattle.ch_run.specs.Serving.{AnswersInTurn, WritesMore, places_of}
 use Rattle.ch_run.proofs.Answered.{answers_passed, more_own, written_answers}
 use Rattle.ch_run.proofs.Counted.{counted_well}
 use Rattle.ch_run.proofs.Served.{answers_on, places_append}
@@ -27,7 +27,7 @@ returns-in_err-write_more-clause-answers g c =
     let wrote = subst (λ (text : List ℕ). WritesMore {T = Unit} (g.O.Output.taken c.loop-rest.output) (g.O.Output.taken c.write_more.new.output) c.loop-rest.written c.write_more.new.written text (Err e)) c.deref.ensures.value
     c.in_err-write_more.ensures.more in
     let all : so_far.0 ++ (take count rest ++ drop count rest) ≡ c.args.requests.now = ap (λ (l : List Request). so_far.0 ++ l) (take-append-drop count rest) ∙ sym so_far.1 in
-    subst (λ (l : List Request). Answers P places (g.O.Output.taken c.args.output.now) (g.O.Output.taken c.write_more.new.output) c.args.written.now c.write_more.new.written l r) all
+    subst (λ (l : List Request). AnswersInTurn P places (g.O.Output.taken c.args.output.now) (g.O.Output.taken c.write_more.new.output) c.args.written.now c.write_more.new.written l r) all
     (answers_on P places held _ _ _ _ _ _ so_far.0 (take count rest ++ drop count rest) r so_far.2 so_far.3
     (answers_passed P held _ _ _ _ (take count rest) (drop count rest) e r c.from_residual-in_err-write_more.ensures.1 (more_own P Unit (g.O.Output.taken c.loop-rest.output) (g.O.Output.taken c.write_more.new.output) c.loop-rest.written c.write_more.new.written text e wrote)
     (written_answers P {T = Unit} held (g.O.Output.taken c.loop-rest.output) (g.O.Output.taken c.write_more.new.output) c.loop-rest.written c.write_more.new.written (take count rest) text (Err e) first.answers wrote)))

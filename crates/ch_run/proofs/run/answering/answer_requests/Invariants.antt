@@ -3,7 +3,7 @@ use Rattle.ch_graph.specs.declared.limits.TheConstants.{MOST_LISTED}
 use Rattle.ch_read.specs.declared.request.Request.{Request}
 use Rattle.ch_read.specs.Requests.{IsRequest}
 use Rattle.ch_run.specs.Ask.{IsTextOfRequest, places_after}
-use Rattle.ch_run.specs.Serving.{Answers, IsRoomFor, places_of}
+use Rattle.ch_run.specs.Serving.{AnswersInTurn, IsRoomFor, places_of}
 use Rattle.ch_run.proofs.run.answering.answer_requests.Given as goal
 
 -- the first of the requests are answered, and the rest are left
@@ -13,7 +13,7 @@ invariant-loop-rest g l = record {
   each : All (IsRequest l.by.checked.now.graph.nodes) l.rest;
   few : length l.rest ≤ MOST_LISTED;
   answered : (done : List Request) × (l.requests ≡ done ++ l.rest)
-      × Answers {T = Unit} (IsTextOfRequest l.by.options.now l.by.checked.now.graph l.by.checked.now.hierarchy) (places_of l.initial.room.near) (g.O.Output.taken l.initial.output) (g.O.Output.taken l.output)
+      × AnswersInTurn {T = Unit} (IsTextOfRequest l.by.options.now l.by.checked.now.graph l.by.checked.now.hierarchy) (places_of l.initial.room.near) (g.O.Output.taken l.initial.output) (g.O.Output.taken l.output)
       l.initial.written l.written done (Ok tt)
       × (places_of l.room.near ≡ places_after (places_of l.initial.room.near) done);
   failed : g.O.Output.failed l.output ≡ g.O.Output.failed l.initial.output;

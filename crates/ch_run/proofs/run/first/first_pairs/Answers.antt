@@ -1,5 +1,5 @@
 use Rattle.std.proofs.Common.{◌<◌, ◌∷◌, refl, sym, ◌∙◌, ap, length, subst}
-use Rattle.ch_query.specs.Answers.{AreQueries}
+use Rattle.ch_query.specs.Replies.{AreQueries}
 use Rattle.ch_run.specs.Ask.{IsTextOfRequest}
 use Rattle.ch_run.specs.Serving.{asked_for, places_of}
 use Rattle.ch_run.proofs.Gathered.{asked_stay, asked_within, first_answered, values_within}

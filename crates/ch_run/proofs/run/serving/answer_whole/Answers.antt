@@ -2,7 +2,7 @@ use Rattle.std.proofs.Common.{◌++◌, List, Ok, Err, Result, [], refl, sym, ap
 use Rattle.ch_read.specs.RequestLists.{PlaceList}
 use Rattle.ch_read.specs.declared.request.Request.{Request}
 use Rattle.ch_run.specs.Ask.{IsTextOfRequest, places_after}
-use Rattle.ch_run.specs.Serving.{Answers, GivesUntil, end_of, places_of}
+use Rattle.ch_run.specs.Serving.{AnswersInTurn, GivesUntil, end_of, places_of}
 use Rattle.ch_run.specs.declared.fault.RunFault.{RunFault}
 use Rattle.ch_run.proofs.Answered.{answers_end, answers_err, answers_none}
 use Rattle.ch_run.specs.declared.fault.RunFault.TheVariants.{Memory}
@@ -33,7 +33,7 @@ returns-in_err-answer_requests-clause-answered g c =
     let these = c.gather-batch.result.requests.items in
     let e = c.in_err-answer_requests.field-0.0 in
     let r = c.from_residual.result in
-    let told = subst (λ (l : List Request). Answers {T = Unit} P (places_of c.loop.room.near) (g.O.Output.taken c.loop.output) (g.O.Output.taken c.answer_requests.new.output) c.loop.written c.answer_requests.new.written l (Err e))
+    let told = subst (λ (l : List Request). AnswersInTurn {T = Unit} P (places_of c.loop.room.near) (g.O.Output.taken c.loop.output) (g.O.Output.taken c.answer_requests.new.output) c.loop.written c.answer_requests.new.written l (Err e))
     c.deref.ensures.value c.in_err-answer_requests.ensures.answers in (
       so_far.0 ++ these,
       gives_on c.args.ended c.args.reader.now c.loop.reader c.gather-batch.new.reader so_far.0 these r so_far.1
@@ -55,7 +55,7 @@ returns-in-Some-clause-answered g c =
       so_far.0 ++ these,
       subst (λ (r : Result Unit RunFault). GivesUntil c.args.ended c.args.reader.now c.gather-batch.new.reader (so_far.0 ++ these) r) (sym same)
           (gives_on c.args.ended c.args.reader.now c.loop.reader c.gather-batch.new.reader so_far.0 these (end_of c.gather-batch.result.then) so_far.1 c.gather-batch.ensures.given),
-      subst (λ (r : Result Unit RunFault). Answers P places (g.O.Output.taken c.args.output.now) (g.O.Output.taken c.answer_requests.new.output) c.args.written.now c.answer_requests.new.written (so_far.0 ++ these) r) (sym same)
+      subst (λ (r : Result Unit RunFault). AnswersInTurn P places (g.O.Output.taken c.args.output.now) (g.O.Output.taken c.answer_requests.new.output) c.args.written.now c.answer_requests.new.written (so_far.0 ++ these) r) (sym same)
           (answers_end P places _ _ _ _ (so_far.0 ++ these) c.gather-batch.result.then c.gather-batch.ensures.batch.after
           (answers_on P {T = Unit} places (places_of c.loop.room.near) _ _ _ _ _ _ so_far.0 these (Ok tt) so_far.2 so_far.3 told)),
       of_value _ c.in-Some.end (held ∙ ap (λ (p : PlaceList). places_after p these) so_far.3 ∙ sym (places_append places so_far.0 these)),

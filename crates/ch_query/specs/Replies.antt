@@ -1,4 +1,4 @@
--- The answers to queries.
+-- The replies to queries.
 use Rattle.std.specs.Prelude.{◌≡◌, ℕ, ◌<◌, Bool, true, false, List, All, Option, Some, None}
 use Rattle.ch_graph.specs.declared.arc.InArc.{InArc}
 use Rattle.ch_hierarchy.specs.Hierarchy.{LevelsAndLegs}
