@@ -16,7 +16,6 @@ pub mod Candidates
 pub mod ShortcutLemmas
 pub mod Touching
 pub mod FirstAround
-pub mod TakenOut
 pub mod Neighbours
 pub mod KeptPriorities
 pub mod ConstructionCalls
@@ -24,5 +23,8 @@ pub mod SetEach
 pub mod RoundChoice
 pub mod NearRound
 pub mod RoundLists
+pub mod RoundSides
+pub mod RoundPutLists
+pub mod TiedNeighbours
 pub mod KeptKeys
 pub mod RoundCalls

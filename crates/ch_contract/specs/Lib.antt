@@ -37,5 +37,6 @@ pub mod TakenOut
 pub mod HeldCosts
 pub mod KnownCosts
 pub mod LegLists
+pub mod RoundSides
 pub mod Meeting
 pub mod Rooms

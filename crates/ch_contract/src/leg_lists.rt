@@ -1,4 +1,6 @@
 //! Lists of legs, one for each node.
+mod of_round;
+
 ghost use Rattle.std.specs.Prelude.{◌≡◌, ℕ, ◌+◌, ◌<◌, ◌≤◌, ◌==◌, if◌then◌else◌, [], length, All, AllPairs, IfOk, OnOk, Some, None, option_map, find, replicate, slice_index_or, slice_set};
 ghost use Rattle.ch_graph.specs.declared.limits.TheConstants.{MOST_NODES};
 ghost use Rattle.ch_hierarchy.specs.declared.leg.Leg.{Leg};
@@ -129,6 +131,34 @@ impl LegLists {
         self.lists.hand_over(node, self.nodes + node);
     }
 
+    /// Puts the shortcuts of `v` into the lists of their first nodes.
+    pub(crate) fn put_from(&mut self, v: u32, shortcuts: &[Shortcut]) -> Result<(), AllocError>
+        requires from { All (λ s. s.from < length self.old.rows) shortcuts.now }
+        requires rows { AreRows self.old.rows }
+        requires ordered { AllPairs IsPairBefore shortcuts.now }
+        ensures legs { OnOk result (AreOverridden legs_from v shortcuts.now self.old.rows self.new.rows) }
+        ensures aside { OnOk result (self.new.aside ≡ self.old.aside) }
+    {
+        for shortcut in shortcuts {
+            self.put(shortcut.from, leg_of(shortcut.to, *shortcut, v))?;
+        }
+        Ok(())
+    }
+
+    /// Puts the shortcuts of `v` into the lists of their second nodes.
+    pub(crate) fn put_into(&mut self, v: u32, shortcuts: &[Shortcut]) -> Result<(), AllocError>
+        requires to { All (λ s. s.to < length self.old.rows) shortcuts.now }
+        requires rows { AreRows self.old.rows }
+        requires ordered { AllPairs IsPairBefore shortcuts.now }
+        ensures legs { OnOk result (AreOverridden legs_into v shortcuts.now self.old.rows self.new.rows) }
+        ensures aside { OnOk result (self.new.aside ≡ self.old.aside) }
+    {
+        for shortcut in shortcuts {
+            self.put(shortcut.to, leg_of(shortcut.from, *shortcut, v))?;
+        }
+        Ok(())
+    }
+
     /// Returns the lists that were set aside, one for each node. They are moved together, and the rest of their
     /// array is given back.
     pub(crate) fn into_aside(self) -> Result<Lists<Leg>, AllocError>
@@ -157,10 +187,8 @@ pub(crate) fn put_shortcuts(
     ensures ins { OnOk result (AreOverridden legs_into v shortcuts.now ins.old.rows ins.new.rows) }
     ensures aside { OnOk result ((outs.new.aside ≡ outs.old.aside) × (ins.new.aside ≡ ins.old.aside)) }
 {
-    for shortcut in shortcuts {
-        outs.put(shortcut.from, leg_of(shortcut.to, *shortcut, v))?;
-        ins.put(shortcut.to, leg_of(shortcut.from, *shortcut, v))?;
-    }
+    outs.put_from(v, shortcuts)?;
+    ins.put_into(v, shortcuts)?;
     Ok(())
 }
 

@@ -24,6 +24,7 @@ mod priority;
 mod remaining;
 mod room;
 mod round_choice;
+mod round_crews;
 mod round_jobs;
 mod rounds;
 mod set_each;

@@ -8,7 +8,8 @@ ghost use Rattle.ch_contract.specs.RoundChoice.{AreKeyed, IsKeyIn, IsSplit};
 use crate::first_around::FirstJob;
 use crate::measure::{Measure, OrderBy};
 use crate::remaining::Remaining;
-use ch_work::{Crew, Gate, run_list};
+use crate::set_each::set_each;
+use ch_work::{Crew, Gate, ListJob, run_list};
 use std::alloc::{AllocError, Global};
 use std::thread::Threads;
 
@@ -65,15 +66,43 @@ impl KeyParts<'_> {
         OrderBy::Rounds.key(measure, self.depths[place])
     }
 
-    /// Writes the keys that these nodes have now.
-    pub(crate) fn refresh(&self, nodes: &[u32], keys: &mut [i64])
+    /// Writes the keys that these nodes have now. Workers share the nodes.
+    pub(crate) fn refresh<R: Threads + Sync, G: Gate>(
+        &self,
+        crew: &Crew<'_, R, G>,
+        nodes: &[u32],
+        keys: &mut [i64],
+    ) -> Result<(), AllocError>
         requires nodes { All (λ x. (x < self.now.remaining.now.nodes) × (slice_index self.now.counts.now x ≤ 2 ^ 50)) nodes.now }
+        requires count { length nodes.now < 2 ^ 32 }
         requires size { length keys.old ≡ self.now.remaining.now.nodes }
-        ensures { AreKeyed self.now.remaining.now self.now.counts.now self.now.depths.now nodes.now keys.old keys.new }
+        ensures { OnOk result (AreKeyed self.now.remaining.now self.now.counts.now self.now.depths.now nodes.now keys.old keys.new) }
     {
-        for node in nodes {
-            keys[*node as usize] = self.key(*node);
-        }
+        let values = run_list(crew, nodes, self)?;
+        set_each(keys, nodes, values.as_slice());
+        Ok(())
+    }
+}
+
+impl ListJob for KeyParts<'_> {
+    type Item = u32;
+
+    type Room = ();
+
+    type Out = i64;
+
+    ghost takes = { λ job x. (x < job.remaining.now.nodes) × (slice_index job.counts.now x ≤ 2 ^ 50) };
+
+    ghost meaning = { λ job x k. IsKeyIn job.remaining.now job.counts.now job.depths.now x k };
+
+    ghost clean = { λ job room. Unit {0} };
+
+    fn room(&self, _alloc: Global) -> Result<(), AllocError> {
+        Ok(())
+    }
+
+    fn value(&self, _alloc: Global, _room: &mut (), item: &u32) -> Result<i64, AllocError> {
+        Ok(self.key(*item))
     }
 }
 

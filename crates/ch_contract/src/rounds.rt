@@ -8,7 +8,7 @@ ghost use Rattle.ch_contract.specs.Rounds.{AreApart, ContractsRound, depth_after
 ghost use Rattle.ch_contract.specs.RoundOrder.{IsHierarchyByRounds};
 ghost use Rattle.ch_contract.specs.RoundCounts.{AreCounted, due_of, stale_of};
 ghost use Rattle.ch_contract.specs.Remaining.{legs_of};
-ghost use Rattle.ch_contract.specs.TakenOut.{AreSetAside};
+ghost use Rattle.ch_contract.specs.TakenOut.{AreNeighboursOf, AreSetAside};
 ghost use Rattle.ch_contract.specs.Rooms.{IsIdleRoom};
 ghost use Rattle.ch_contract.specs.FirstAround.{IsFirstBy};
 ghost use Rattle.ch_contract.specs.RoundChoice.{IsSplit};
@@ -19,11 +19,14 @@ use crate::priority::all_nodes;
 use crate::remaining::{BothRows, Remaining};
 use crate::room::Room;
 use crate::round_choice::{KeyParts, Split};
+use crate::round_crews::{
+    CHANGES_AT_ONCE, KEYS_AT_ONCE, LOOKS_AT_ONCE, crew_for, crew_for_searches,
+};
 use crate::round_jobs::{CountJob, ShortcutJob};
 use crate::set_each::{rank, set_each};
 use ch_graph::Graph;
 use ch_hierarchy::Hierarchy;
-use ch_work::{Crew, Gate, Plan, Stage, run_list_in};
+use ch_work::{Crew, Gate, Stage, run_list_in};
 use std::alloc::{AllocError, Global};
 use std::thread::Threads;
 
@@ -48,7 +51,7 @@ pub(crate) fn contract_by_rounds<R: Threads + Sync, G: Gate>(
         construction = construction.contract(crew, hops)?;
     }
     report(crew.gate, reported, nodes, nodes);
-    construction.finish()
+    construction.finish(crew)
 }
 
 /// Reports the numbers of contracted nodes from `from` to `to` - 1, one after the other. There are `nodes` nodes.
@@ -118,7 +121,11 @@ impl ConstructionByRounds {
             counts: counts.as_slice(),
             depths: depths.as_slice(),
         };
-        parts.refresh(left.as_slice(), &mut keys);
+        parts.refresh(
+            &crew_for(crew, left.len(), KEYS_AT_ONCE),
+            left.as_slice(),
+            &mut keys,
+        )?;
         let levels = vec![in crew.alloc; 0u32; nodes as usize]?;
         Ok(ConstructionByRounds {
             remaining,
@@ -154,17 +161,17 @@ impl ConstructionByRounds {
     {
         let Split { round, rest } = self.choose(crew)?;
         let nodes = round.as_slice();
-        let near = deepen_around(crew.alloc, &self.remaining, nodes, &mut self.depths)?;
+        let around = deepen_around(crew.alloc, &self.remaining, nodes, &mut self.depths)?;
         let remaining = self.remaining;
-        self.remaining = contract_round(crew, remaining, nodes, hops, &mut self.rooms)?;
+        self.remaining = contract_round(crew, remaining, nodes, &around, hops, &mut self.rooms)?;
         rank(&mut self.levels, nodes, self.contracted);
         let before = self.contracted;
         self.contracted += nodes.len() as u32;
         let now = self.contracted;
         let all = self.remaining.nodes();
-        let around = near.as_slice();
+        let near = around.near.as_slice();
         let waiting = rest.as_slice();
-        let due = due(all, before, now, around, waiting);
+        let due = due(all, before, now, near, waiting);
         count(
             crew,
             &self.remaining,
@@ -178,7 +185,12 @@ impl ConstructionByRounds {
             counts: self.counts.as_slice(),
             depths: self.depths.as_slice(),
         };
-        parts.refresh(stale(all, before, now, around, waiting), &mut self.keys);
+        let stale = stale(all, before, now, near, waiting);
+        parts.refresh(
+            &crew_for(crew, stale.len(), KEYS_AT_ONCE),
+            stale,
+            &mut self.keys,
+        )?;
         self.left = rest;
         Ok(self)
     }
@@ -192,13 +204,16 @@ impl ConstructionByRounds {
             remaining: &self.remaining,
             keys: self.keys.as_slice(),
         };
-        let crew_of_left = crew_for(crew, self.left.len() / LOOKS_AT_ONCE);
+        let crew_of_left = crew_for(crew, self.left.len(), LOOKS_AT_ONCE);
         job.choose(&crew_of_left, self.left.as_slice())
     }
 
     /// Returns the hierarchy when every node is contracted. It first frees the memory that the hierarchy does
     /// not need.
-    fn finish(self) -> Result<Hierarchy, AllocError>
+    fn finish<R: Threads + Sync, G: Gate>(
+        self,
+        crew: &Crew<'_, R, G>,
+    ) -> Result<Hierarchy, AllocError>
         requires sizes { IsSizedByRounds self }
         requires none { length self.left.items ≡ 0 }
         requires levelled { (H : LevelsAndLegs) → IsRoundsEnd self.remaining.nodes (round_progress_of self) H → IsLevelled H }
@@ -219,28 +234,18 @@ impl ConstructionByRounds {
         drop(counts);
         drop(depths);
         drop(keys);
-        let BothRows { ups, downs } = remaining.into_rows()?;
+        let BothRows { ups, downs } = remaining.into_rows_by_both(crew)?;
         Hierarchy::from_rows(*levels.allocator(), levels, ups, downs)
     }
 }
 
-/// The number of nodes that the choice of a round looks at in about the time of one node's search for shortcuts.
-const LOOKS_AT_ONCE: usize = 256;
-
-/// Returns the crew for a job over `nodes` nodes: the caller alone if these are fewer than `crew.plan.wide()`,
-/// and otherwise all workers.
-fn crew_for<'a, R, G>(crew: &Crew<'a, R, G>, nodes: usize) -> Crew<'a, R, G> {
-    let plan = if nodes < crew.plan.wide() as usize {
-        Plan::new(1, crew.plan.piece(), crew.plan.wide())
-    } else {
-        crew.plan
-    };
-    Crew {
-        rt: crew.rt,
-        alloc: crew.alloc,
-        plan,
-        gate: crew.gate,
-    }
+/// The neighbours of the nodes of a round.
+#[derive(Drop)]
+struct Around {
+    /// The neighbours, each once.
+    near: Vec<u32>,
+    /// For each neighbour, the node of the round whose neighbour it is.
+    owners: Vec<u32>,
 }
 
 /// Raises the depth of each neighbour of a node of the round to at least one more than the node's depth.
@@ -250,19 +255,21 @@ fn deepen_around(
     remaining: &Remaining,
     nodes: &[u32],
     depths: &mut [u32],
-) -> Result<Vec<u32>, AllocError>
+) -> Result<Around, AllocError>
     requires nodes { All (λ v. v < remaining.now.nodes) nodes.now }
     requires apart { AreApart (legs_of remaining.now) nodes.now }
     requires size { length depths.old ≡ remaining.now.nodes }
     requires depths { (m : ℕ) × ((x : ℕ) → slice_index depths.old x ≤ m) × (m + length nodes.now < 2 ^ 32) }
     ensures size { OnOk result (length depths.new ≡ length depths.old) }
     ensures depths { OnOk result ((x : ℕ) → slice_index depths.new x ≡ depth_after_round (legs_of remaining.now) nodes.now (λ y. slice_index depths.old y) x) }
-    ensures near { IfOk result (λ near. (x : ℕ) → Contains near.items x ↔ (list_any (λ v. are_neighbours (legs_of remaining.now) v x) nodes.now ≡ true)) }
-    ensures few { IfOk result (λ near. length near.items ≤ remaining.now.nodes) }
+    ensures near { IfOk result (λ a. (x : ℕ) → Contains a.near.items x ↔ (list_any (λ v. are_neighbours (legs_of remaining.now) v x) nodes.now ≡ true)) }
+    ensures few { IfOk result (λ a. length a.near.items ≤ remaining.now.nodes) }
+    ensures owners { IfOk result (λ a. AreNeighboursOf (legs_of remaining.now) nodes.now a.near.items a.owners.items) }
 {
     // This call tells the proof that the legs keep the limits.
     let _ = remaining.nodes();
     let mut near = Vec::new(alloc);
+    let mut owners = Vec::new(alloc);
     let mut around = Vec::new(alloc);
     for node in nodes {
         push_neighbours(
@@ -272,8 +279,9 @@ fn deepen_around(
         )?;
         deepen(depths, around.as_slice(), *node);
         near.append(&mut around)?;
+        owners.resize(near.len(), *node)?;
     }
-    Ok(near)
+    Ok(Around { near, owners })
 }
 
 /// Contracts the nodes of a round. All are taken out, workers look for their shortcuts, and then the shortcuts
@@ -282,6 +290,7 @@ fn contract_round<R: Threads + Sync, G: Gate>(
     crew: &Crew<'_, R, G>,
     remaining: Remaining,
     nodes: &[u32],
+    around: &Around,
     hops: u32,
     rooms: &mut Vec<Room>,
 ) -> Result<Remaining, AllocError>
@@ -290,6 +299,7 @@ fn contract_round<R: Threads + Sync, G: Gate>(
     requires count { length nodes.now < 2 ^ 32 }
     requires limits { AreLegsWithin remaining.nodes (legs_of remaining) }
     requires apart { AreApart (legs_of remaining) nodes.now }
+    requires around { AreNeighboursOf (legs_of remaining) nodes.now around.now.near.items around.now.owners.items }
     requires rooms { All IsIdleRoom rooms.old.items }
     ensures nodes { IfOk result (λ r. r.nodes ≡ remaining.nodes) }
     ensures legs { IfOk result (λ r. ContractsRound remaining.nodes hops (legs_of remaining) nodes.now (legs_of r)) }
@@ -297,13 +307,16 @@ fn contract_round<R: Threads + Sync, G: Gate>(
     ensures down { IfOk result (λ r. AreSetAside (turned_legs (legs_of remaining)) nodes.now remaining.downs r.downs) }
     ensures rooms { All IsIdleRoom rooms.new.items }
 {
-    let away = remaining.take_all_out(nodes);
+    let searching = crew_for_searches(crew, &remaining, nodes);
+    let changing = crew_for(crew, nodes.len(), CHANGES_AT_ONCE);
+    let near = around.near.as_slice();
+    let away = remaining.take_all_out(&changing, nodes, near, around.owners.as_slice());
     let job = ShortcutJob {
         remaining: &away,
         hops,
     };
-    let lists = run_list_in(&crew_for(crew, nodes.len()), nodes, rooms, &job)?;
-    away.put_all(nodes, lists.as_slice())
+    let lists = run_list_in(&searching, nodes, rooms, &job)?;
+    away.put_all(&changing, nodes, lists.as_slice())
 }
 
 /// Returns the nodes whose shortcuts are counted after a round. While fewer than seven tenths of the nodes are
@@ -358,7 +371,8 @@ fn count<R: Threads + Sync, G: Gate>(
     ensures rooms { All IsIdleRoom rooms.new.items }
 {
     let job = CountJob { remaining, hops };
-    let values = run_list_in(&crew_for(crew, nodes.len()), nodes, rooms, &job)?;
+    let searching = crew_for_searches(crew, remaining, nodes);
+    let values = run_list_in(&searching, nodes, rooms, &job)?;
     set_each(counts, nodes, values.as_slice());
     Ok(())
 }

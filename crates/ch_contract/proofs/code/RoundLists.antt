@@ -16,7 +16,6 @@ use Rattle.ch_contract.specs.Remaining.{RemainingLegs, legs_of}
 use Rattle.ch_contract.specs.ShortcutLists.{legs_touching, AreTouching}
 use Rattle.ch_contract.specs.TakenOut.{ArePutIn, AreTakenOut}
 use Rattle.ch_contract.proofs.theory.OneInTurn.{one_map}
-use Rattle.ch_contract.proofs.theory.RoundPuts.{put_more}
 use Rattle.ch_contract.proofs.theory.Contracting.{shortcut_within}
 use Rattle.ch_contract.proofs.code.ListEdits.{no_shortcut}
 use Rattle.ch_contract.proofs.code.Touching.{among_same, touching_from, touching_to, are_touching}
@@ -70,17 +69,6 @@ put_in n h v K W list limits are = (
   All-from_get_or (λ (s : Shortcut). IsLegWithin n s.from s.to (shortcut_label v s)) list no_shortcut
       (λ i lt. shortcut_within n K v list limits (λ s c. (are.sound s c).pair) _ (are.sound _ (Contains-get_or list i no_shortcut lt)).pair),
 )
-
--- the legs after the shortcuts of one more node are put in
-pub with_more : (nodes : List ℕ) (i : ℕ) (f : ℕ → List Shortcut) (list : List Shortcut) (K L M : Legs) → i < length nodes → f (get_or nodes i 0) ≡ list → ((u w : ℕ) → L u w ≡ legs_with_shortcuts (take i nodes) f K u w) →
-    ((u w : ℕ) → M u w ≡ leg_after_shortcuts (get_or nodes i 0) list u w (L u w)) → (u w : ℕ) → M u w ≡ legs_with_shortcuts (take (i + 1) nodes) f K u w
-with_more nodes i f list K L M lt same known put u w =
-    let v : ℕ = get_or nodes i 0 in
-    put u w
-    ∙ ap (leg_after_shortcuts v list u w) (known u w)
-    ∙ ap (λ l. leg_after_shortcuts v l u w (legs_with_shortcuts (take i nodes) f K u w)) (sym same)
-    ∙ sym (put_more (take i nodes) v f K u w)
-    ∙ ap (λ l. legs_with_shortcuts l f K u w) (sym (take_more nodes i 0 lt))
 
 module _ (n h : ℕ) (nodes : List ℕ) (before away : RemainingLegs) (limits : AreLegsWithin n (legs_of before)) (is : AreApart (legs_of before) nodes) (t : AreTakenOut nodes before away) where
   -- the rows of a node of the round have its legs from before the round

@@ -68,7 +68,7 @@ loop-next-preserved g c =
     )
 
 pub finish-requires-clause-levelled : goal.finish-requires-clause-levelled
-finish-requires-clause-levelled g c H end =
+finish-requires-clause-levelled g c lifetimes bounds H end =
     let i = c.loop-next.invariant in
     let u = i.2 in
     rounds_levelled c.args.graph.now c.args.hops u.0 u.1 _ H c.requires.limits c.requires.hops (omega (arith, i.0.nodes, i.1)) u.2 (subst (λ n. IsRoundsEnd n (round_progress_of c.loop-next.construction) H) i.1 end)

@@ -1,4 +1,4 @@
-use Rattle.std.proofs.Common.{◌<◌, ℕ, get_or, sym, ◌∙◌, subst}
+use Rattle.std.proofs.Common.{rules, ◌<◌, ℕ, get_or, sym, ◌∙◌, subst}
 use Rattle.std.specs.List.{AllZip}
 use Rattle.std.specs.Global.{Vec}
 use Rattle.std.proofs.lemmas.Result.{IfOk-weaker}
@@ -41,8 +41,9 @@ put_all-requires g c =
     (λ v list here are. put_in n c.args.hops v (legs_touching v (row away.result.ups v) (row away.result.downs v)) (legs_of away.result) list.items
     (touched n c.args.hops nodes c.args.remaining away.result c.requires.limits c.requires.apart away.ensures v here).within are)
     (among g (goal.at.put_all-requires g c).In_ok-lists) in
-    let lent = subst (AllZip (λ (v : ℕ) (list : Vec Shortcut). ArePutIn n v list.items) nodes) (sym c.as_slice.ensures.value) put in
-    subst (λ m. AllZip (λ (v : ℕ) (list : Vec Shortcut). ArePutIn m v list.items) nodes c.as_slice.result.now) (sym away.ensures.count) lent
+    let lent = subst (AllZip (λ (v : ℕ) (list : Vec Shortcut). ArePutIn n v list.items) nodes) (sym c.as_slice-2.ensures.value) put in
+    let all = subst (λ m. AllZip (λ (v : ℕ) (list : Vec Shortcut). ArePutIn m v list.items) nodes c.as_slice-2.result.now) (sym away.ensures.count) lent in
+    (search rules, (search rules, all))
 
 pub returns-clause-nodes : goal.returns-clause-nodes
 returns-clause-nodes g c = IfOk-weaker c.put_all.result _ _ (λ r e. e ∙ c.take_all_out-away.ensures.count) c.put_all.ensures.nodes
@@ -51,9 +52,9 @@ pub returns-clause-legs : goal.returns-clause-legs
 returns-clause-legs g c =
     let away = c.take_all_out-away in
     let Among = λ (v : ℕ) (list : Vec Shortcut). AreShortcutsAmong c.args.remaining.nodes c.args.hops (legs_touching v (row away.result.ups v) (row away.result.downs v)) (legs_of away.result) v list.items in
-    let all = subst (AllZip Among c.args.nodes.now) (sym c.as_slice.ensures.value) (among g (goal.at.returns-clause-legs g c).In_ok-lists) in
+    let all = subst (AllZip Among c.args.nodes.now) (sym c.as_slice-2.ensures.value) (among g (goal.at.returns-clause-legs g c).In_ok-lists) in
     IfOk-weaker c.put_all.result _ _
-    (λ r put. round_done c.args.remaining.nodes c.args.hops c.args.nodes.now c.args.remaining away.result c.requires.limits c.requires.apart away.ensures (λ (list : Vec Shortcut). list.items) c.as_slice.result.now (legs_of r) all put)
+    (λ r put. round_done c.args.remaining.nodes c.args.hops c.args.nodes.now c.args.remaining away.result c.requires.limits c.requires.apart away.ensures (λ (list : Vec Shortcut). list.items) c.as_slice-2.result.now (legs_of r) all put)
     c.put_all.ensures.legs
 
 pub returns-clause-up : goal.returns-clause-up

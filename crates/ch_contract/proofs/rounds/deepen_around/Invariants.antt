@@ -2,6 +2,7 @@ use Rattle.std.proofs.Common.{◌≡◌, ℕ, [], length, take}
 use Rattle.std.specs.Prelude.{slice_index}
 use Rattle.ch_contract.specs.Rounds.{depth_after_round}
 use Rattle.ch_contract.specs.Remaining.{legs_of}
+use Rattle.ch_contract.specs.TakenOut.{AreNeighboursOf}
 use Rattle.ch_contract.proofs.code.NearRound.{AreNear}
 use Rattle.ch_contract.proofs.rounds.deepen_around.Given as goal
 
@@ -11,3 +12,4 @@ invariant-loop-node l =
     × ((x : ℕ) → slice_index l.depths x ≡ depth_after_round (legs_of l.remaining) (take l.node-index l.nodes) (λ y. slice_index l.fn.depths y) x)
     × AreNear (legs_of l.remaining) (take l.node-index l.nodes) l.near.items
     × (l.around.items ≡ [])
+    × AreNeighboursOf (legs_of l.remaining) (take l.node-index l.nodes) l.near.items l.owners.items

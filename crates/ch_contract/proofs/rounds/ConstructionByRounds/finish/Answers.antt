@@ -6,10 +6,10 @@ use Rattle.ch_contract.proofs.code.RoundCalls.{rounds_end}
 use Rattle.ch_contract.proofs.rounds.ConstructionByRounds.finish.Goals as goal
 
 pub from_rows-requires : goal.from_rows-requires
-from_rows-requires c = c.requires.levelled _ (rounds_end c.args.self _ c.requires.sizes c.requires.none refl c.in_ok-ups.ensures.up c.in_ok-ups.ensures.down)
+from_rows-requires g c = c.requires.levelled _ (rounds_end c.args.self _ c.requires.sizes c.requires.none refl c.in_ok-ups.ensures.up c.in_ok-ups.ensures.down)
 
 pub returns : goal.returns
-returns c =
+returns g c =
     IfOk-weaker c.from_rows.result _ _
     (λ H e. subst (IsRoundsEnd c.args.self.remaining.nodes (round_progress_of c.args.self)) (sym e) (rounds_end c.args.self _ c.requires.sizes c.requires.none refl c.in_ok-ups.ensures.up c.in_ok-ups.ensures.down))
     c.from_rows.ensures

@@ -24,8 +24,12 @@ pub count-requires-clause-count : goal.count-requires-clause-count
 count-requires-clause-count g c lifetimes bounds =
     omega (arith, ap length (c.as_slice.ensures.value ∙ c.in_ok-left.ensures), length-range_with_len 0 c.nodes-nodes.result, c.nodes-nodes.ensures.nodes, c.nodes-nodes.ensures.count)
 
+pub refresh-requires-clause-count : goal.refresh-requires-clause-count
+refresh-requires-clause-count g c lifetimes bounds =
+    omega (arith, ap length (c.as_slice-4.ensures.value ∙ c.in_ok-left.ensures), length-range_with_len 0 c.nodes-nodes.result, c.nodes-nodes.ensures.nodes, c.nodes-nodes.ensures.count)
+
 pub refresh-requires-clause-nodes : goal.refresh-requires-clause-nodes
-refresh-requires-clause-nodes g c k d lt =
+refresh-requires-clause-nodes g c lifetimes bounds k d lt =
     let r = c.in_ok-remaining.remaining in
     let x : ℕ = get_or c.as_slice-4.result.now k d in
     let written = with_items_is c.in_ok-counts.counts c.count.new.counts (c.in_ok-count.ensures.counts.size ∙ c.deref_mut.ensures.len) in
@@ -55,7 +59,7 @@ returns-clause-sizes g c =
     }) c.nodes-nodes.ensures.count left
     (ap length written ∙ c.in_ok-count.ensures.counts.size ∙ ap length c.deref_mut.ensures.value ∙ ap length (c.in_ok-counts.ensures.items_if_clones_equal (λ y p. p)) ∙ length-replicate {A = ℕ} c.nodes-nodes.result 0 ∙ same)
     (ap length (c.in_ok-depths.ensures.items_if_clones_equal (λ y p. p)) ∙ length-replicate {A = ℕ} c.nodes-nodes.result 0 ∙ same)
-    (ap length (with_items_is c.in_ok-keys.keys c.refresh.new.keys (c.refresh.ensures.size ∙ c.deref_mut-2.ensures.len)) ∙ c.refresh.ensures.size ∙ ap length c.deref_mut-2.ensures.value ∙ ap length (c.in_ok-keys.ensures.items_if_clones_equal (λ y p. p)) ∙ length-replicate {A = ℤ} c.nodes-nodes.result (pos 0) ∙ same)
+    (ap length (with_items_is c.in_ok-keys.keys c.refresh.new.keys (c.in_ok-refresh.ensures.size ∙ c.deref_mut-2.ensures.len)) ∙ c.in_ok-refresh.ensures.size ∙ ap length c.deref_mut-2.ensures.value ∙ ap length (c.in_ok-keys.ensures.items_if_clones_equal (λ y p. p)) ∙ length-replicate {A = ℤ} c.nodes-nodes.result (pos 0) ∙ same)
     (ap length (c.in_ok-levels.ensures.items_if_clones_equal (λ y p. p)) ∙ length-replicate {A = ℕ} c.nodes-nodes.result 0 ∙ same)
     (ap length aside.0 ∙ all)
     (ap length aside.1 ∙ all)
@@ -85,8 +89,8 @@ returns-clause-begun g c =
 
 pub returns-clause-keys : goal.returns-clause-keys
 returns-clause-keys g c x left =
-    let rewritten = with_items_is c.in_ok-keys.keys c.refresh.new.keys (c.refresh.ensures.size ∙ c.deref_mut-2.ensures.len) in
+    let rewritten = with_items_is c.in_ok-keys.keys c.refresh.new.keys (c.in_ok-refresh.ensures.size ∙ c.deref_mut-2.ensures.len) in
     let all = keyed_as c.in_ok-remaining.remaining c.as_slice-2.result.now (with_items c.in_ok-counts.counts c.count.new.counts).items c.as_slice-3.result.now c.in_ok-depths.depths.items
     c.as_slice-4.result.now c.in_ok-left.left.items c.deref_mut-2.result.now c.in_ok-keys.keys.items c.refresh.new.keys (with_items c.in_ok-keys.keys c.refresh.new.keys).items
-    c.as_slice-2.ensures.value c.as_slice-3.ensures.value c.as_slice-4.ensures.value c.deref_mut-2.ensures.value (sym rewritten) c.refresh.ensures in
+    c.as_slice-2.ensures.value c.as_slice-3.ensures.value c.as_slice-4.ensures.value c.deref_mut-2.ensures.value (sym rewritten) c.in_ok-refresh.ensures in
     all.anew x left
