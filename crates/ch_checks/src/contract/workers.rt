@@ -45,7 +45,7 @@ fn neighbours_are_shared_where_they_are_many(rt: HostRuntime) -> Result<(), Fail
 fn rounds_are_shared_in_pieces(rt: HostRuntime) -> Result<(), Fail> {
     for workers in [1, 2, 64] {
         let plan = Plan::new(workers, 1, 1);
-        expect_passes(&rt, rt.alloc(), OrderBy::Rounds, &plan, [10, 4, 3, 2])?;
+        expect_passes(&rt, rt.alloc(), OrderBy::Rounds, &plan, [14, 5, 4, 3])?;
     }
     Ok(())
 }
