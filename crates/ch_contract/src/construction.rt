@@ -51,9 +51,11 @@ pub fn build<R: Threads + Sync, G: Gate>(
 /// Builds the contraction hierarchy of a graph in this order, where a witness has at most `hops` legs. In each
 /// order it is kept for the graph, so distances are the same. For workers and errors see [`build`].
 ///
-/// By [`OrderBy::Rounds`] workers share three jobs of each round: to choose its nodes, to find its shortcuts, and
-/// to count shortcuts. The caller does a job of fewer than `crew.plan.wide()` nodes alone. It chooses a round alone
-/// from fewer than 256 times as many nodes.
+/// By [`OrderBy::Rounds`] workers share four jobs of each round: to choose its nodes, to find its shortcuts, to count
+/// shortcuts, and to make keys. A piece has at most `crew.plan.piece()` nodes, and fewer if a worker would do fewer
+/// than eight pieces. The caller does a job alone if it takes less time than `crew.plan.wide()` usual searches for
+/// shortcuts. Two workers take the nodes of a round out and put its shortcuts in: one changes the legs from each
+/// node, and the other the legs to each node. They also move the legs together at the end.
 ///
 /// Before each round, and after the last, the gate's `watch` receives the numbers of contracted nodes that it has
 /// not received yet. They come in order, from 0 to one less than the number of all nodes.
