@@ -90,6 +90,8 @@ def chosen(words):
 
 def main(words):
     """Serves the page that the words ask for, until a signal ends it."""
+    # Help needs none of the modules below.
+    words = words_of(words)
     import asyncio
 
     from chtab.metrics import Metrics
@@ -99,7 +101,6 @@ def main(words):
     from chtab.service import LEAFLET, Service
     from chtab.serving import Family, address_of, listener, serve
 
-    words = words_of(words)
     logging.basicConfig(format="chtab-page: %(message)s")
     if not LEAFLET.is_dir():
         raise ChtabError("the page needs Debian's package libjs-leaflet")
