@@ -60,7 +60,9 @@ def end_unused():
             # The run is no child of this process, which must not wait for it.
             process.returncode = 0
         for stream in streams:
-            stream.close()
+            # Another thread may be ending the same run. A buffered stream is then found closed in the middle of its own closing.
+            with contextlib.suppress(ValueError):
+                stream.close()
         BEGUN.pop(process, None)
 
 
