@@ -370,7 +370,7 @@ fn ask_command<'a>(alloc: Global) -> Result<Command<'a>, AllocError>
     with_shared(alloc, command)?.arg(graph(alloc))
 }
 
-/// Makes the command of a tool that reads the words of orders, under the name by which its errors call it.
+/// Makes the command of a tool that has the flags of orders. Its errors then show the usage of that tool.
 pub(crate) fn ordering_command<'a>(alloc: Global, tool: &Tool) -> Result<Command<'a>, AllocError> {
     match tool {
         Tool::Save { .. } => save_command(alloc)?.bin_name("chtab save"),
