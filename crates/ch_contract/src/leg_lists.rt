@@ -7,7 +7,7 @@ ghost use Rattle.ch_hierarchy.specs.declared.leg.Leg.{Leg};
 ghost use Rattle.ch_contract.specs.Contraction.{IsPairBefore};
 ghost use Rattle.ch_hierarchy.specs.Rows.{row, IsRow};
 ghost use Rattle.ch_contract.specs.LegRows.{row_leg, label_of};
-ghost use Rattle.ch_contract.specs.LegLists.{AreRows, HaveAll, IsEdited, IsReplaced, IsSet, AreOverridden, legs_from, legs_into, lighter_arc};
+ghost use Rattle.ch_contract.specs.LegLists.{AreRows, HaveAll, IsEdited, IsReplaced, IsSet, AreOverridden, end_of, legs_at, legs_from, legs_into, lighter_arc, other_of};
 
 use crate::shortcut::Shortcut;
 use ch_graph::Cost;
@@ -131,30 +131,22 @@ impl LegLists {
         self.lists.hand_over(node, self.nodes + node);
     }
 
-    /// Puts the shortcuts of `v` into the lists of their first nodes.
-    pub(crate) fn put_from(&mut self, v: u32, shortcuts: &[Shortcut]) -> Result<(), AllocError>
-        requires from { All (λ s. s.from < length self.old.rows) shortcuts.now }
+    /// Puts the shortcuts of `v` into the lists of their nodes at this end.
+    pub(crate) fn put_at(
+        &mut self,
+        end: End,
+        v: u32,
+        shortcuts: &[Shortcut],
+    ) -> Result<(), AllocError>
+        requires ends { All (λ s. end_of end s < length self.old.rows) shortcuts.now }
         requires rows { AreRows self.old.rows }
         requires ordered { AllPairs IsPairBefore shortcuts.now }
-        ensures legs { OnOk result (AreOverridden legs_from v shortcuts.now self.old.rows self.new.rows) }
+        ensures legs { OnOk result (AreOverridden (legs_at end) v shortcuts.now self.old.rows self.new.rows) }
         ensures aside { OnOk result (self.new.aside ≡ self.old.aside) }
     {
         for shortcut in shortcuts {
-            self.put(shortcut.from, leg_of(shortcut.to, *shortcut, v))?;
-        }
-        Ok(())
-    }
-
-    /// Puts the shortcuts of `v` into the lists of their second nodes.
-    pub(crate) fn put_into(&mut self, v: u32, shortcuts: &[Shortcut]) -> Result<(), AllocError>
-        requires to { All (λ s. s.to < length self.old.rows) shortcuts.now }
-        requires rows { AreRows self.old.rows }
-        requires ordered { AllPairs IsPairBefore shortcuts.now }
-        ensures legs { OnOk result (AreOverridden legs_into v shortcuts.now self.old.rows self.new.rows) }
-        ensures aside { OnOk result (self.new.aside ≡ self.old.aside) }
-    {
-        for shortcut in shortcuts {
-            self.put(shortcut.to, leg_of(shortcut.from, *shortcut, v))?;
+            let (node, other) = end.nodes_of(*shortcut);
+            self.put(node, leg_of(other, *shortcut, v))?;
         }
         Ok(())
     }
@@ -167,6 +159,26 @@ impl LegLists {
         let mut aside = self.lists.skip(self.nodes);
         aside.pack()?;
         Ok(aside)
+    }
+}
+
+/// The end of a leg in whose list it is. The lists of the legs from each node have them at their first nodes, and
+/// the lists of the legs to each node at their second ones.
+#[derive(Clone, Copy, Debug, PartialEq, Eq)]
+pub(crate) enum End {
+    First,
+    Second,
+}
+
+impl End {
+    /// Returns the node of a shortcut at this end, and then the one at the other end.
+    fn nodes_of(self, shortcut: Shortcut) -> (u32, u32)
+        ensures { (result.0 ≡ end_of self shortcut) × (result.1 ≡ other_of self shortcut) }
+    {
+        match self {
+            End::First => (shortcut.from, shortcut.to),
+            End::Second => (shortcut.to, shortcut.from),
+        }
     }
 }
 
@@ -187,8 +199,8 @@ pub(crate) fn put_shortcuts(
     ensures ins { OnOk result (AreOverridden legs_into v shortcuts.now ins.old.rows ins.new.rows) }
     ensures aside { OnOk result ((outs.new.aside ≡ outs.old.aside) × (ins.new.aside ≡ ins.old.aside)) }
 {
-    outs.put_from(v, shortcuts)?;
-    ins.put_into(v, shortcuts)?;
+    outs.put_at(End::First, v, shortcuts)?;
+    ins.put_at(End::Second, v, shortcuts)?;
     Ok(())
 }
 

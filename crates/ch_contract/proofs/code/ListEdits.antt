@@ -6,9 +6,10 @@ use Rattle.std.proofs.lemmas.Bool.Decides.{nat_tests}
 use Rattle.std.proofs.lemmas.List.Elements.{Contains-push_cases}
 use Rattle.ch_contract.specs.Legs.{Label, Legs}
 use Rattle.ch_contract.specs.Contraction.{IsPairBefore, shortcut_label}
+use Rattle.ch_contract.specs.declared.leg_lists.End.{End}
 use Rattle.ch_contract.specs.declared.shortcut.Shortcut.{Shortcut}
 use Rattle.ch_contract.proofs.code.Puts.{next_shortcut}
-use Rattle.ch_contract.specs.LegLists.{AreRows, IsAmong, HaveAll, IsEdited, IsSet, AreTaken, AreOverridden, legs_from, legs_into}
+use Rattle.ch_contract.specs.LegLists.{AreRows, IsAmong, HaveAll, IsEdited, IsSet, AreTaken, AreOverridden, end_of, legs_at, legs_from, legs_into, other_of}
 use Rattle.std.proofs.Math.Seq.{take-set-lt}
 use Rattle.std.proofs.lemmas.List.{get_or-set_other, get_or-take, drop-set-lt, length-set, length-take}
 use Rattle.ch_hierarchy.specs.declared.leg.Leg.{Leg}
@@ -154,18 +155,25 @@ turn false true a b = refl
 turn false false a b = refl
 
 -- the next shortcut is put into the list of its first node
-pub overridden_from : (v : ℕ) (xs : List Shortcut) (i : ℕ) (d : Shortcut) (old mid new : List (List Leg)) → i < length xs →
+overridden_from : (v : ℕ) (xs : List Shortcut) (i : ℕ) (d : Shortcut) (old mid new : List (List Leg)) → i < length xs →
     AllPairs IsPairBefore xs → AreOverridden legs_from v (take i xs) old mid →
     IsSet (get_or xs i d).from (get_or xs i d).to (Some (shortcut_label v (get_or xs i d))) mid new → AreOverridden legs_from v (take (i + 1) xs) old new
 overridden_from v xs i d old mid new lt ordered so_far s = overridden_more legs_from v xs i d old mid new lt ordered so_far s.size s.rows s.legs
 
 -- the next shortcut is put into the list of its second node
-pub overridden_into : (v : ℕ) (xs : List Shortcut) (i : ℕ) (d : Shortcut) (old mid new : List (List Leg)) → i < length xs →
+overridden_into : (v : ℕ) (xs : List Shortcut) (i : ℕ) (d : Shortcut) (old mid new : List (List Leg)) → i < length xs →
     AllPairs IsPairBefore xs → AreOverridden legs_into v (take i xs) old mid →
     IsSet (get_or xs i d).to (get_or xs i d).from (Some (shortcut_label v (get_or xs i d))) mid new → AreOverridden legs_into v (take (i + 1) xs) old new
 overridden_into v xs i d old mid new lt ordered so_far s =
     overridden_more legs_into v xs i d old mid new lt ordered so_far s.size s.rows
     (λ u w. s.legs w u ∙ turn ((get_or xs i d).to == w) ((get_or xs i d).from == u) (Some (shortcut_label v (get_or xs i d))) (legs_into mid u w))
+
+-- the next shortcut is put into the list of its node at this end
+pub overridden_at : (end : End) (v : ℕ) (xs : List Shortcut) (i : ℕ) (d : Shortcut) (old mid new : List (List Leg)) → i < length xs →
+    AllPairs IsPairBefore xs → AreOverridden (legs_at end) v (take i xs) old mid →
+    IsSet (end_of end (get_or xs i d)) (other_of end (get_or xs i d)) (Some (shortcut_label v (get_or xs i d))) mid new → AreOverridden (legs_at end) v (take (i + 1) xs) old new
+overridden_at End.First = overridden_from
+overridden_at End.Second = overridden_into
 
 -- the default shortcut of a read past the end of a list of shortcuts
 abbrev pub no_shortcut : Shortcut

@@ -1,8 +1,7 @@
 -- The shortcuts of the nodes of a round are in a list for each node, and are put in one after the other.
-use Rattle.std.proofs.Common.{◌≡◌, ℕ, ◌+◌, ◌<◌, List, [], ◌∷◌, length, get_or, take, sym, ◌∙◌, ap, subst, inl, inr, Contains}
+use Rattle.std.proofs.Common.{◌≡◌, ℕ, List, [], ◌∷◌, sym, ◌∙◌, ap, subst, inl, inr, Contains}
 use Rattle.std.specs.Prelude.{◌≢◌, ◌==◌, if◌then◌else◌, AllPairs}
 use Rattle.std.specs.List.{AllZip}
-use Rattle.std.proofs.lemmas.List.{take_more}
 use Rattle.std.proofs.lemmas.List.Elements.{All-from_get_or, Contains-get_or}
 use Rattle.ch_graph.proofs.Lists.{pairs_head, pairs_tail, contains_head, contains_tail, contains_cons, contains_none}
 use Rattle.ch_graph.proofs.Numbers.{eqb-refl, not_eqb}
@@ -10,7 +9,7 @@ use Rattle.ch_graph.specs.declared.limits.TheConstants.{MOST_WEIGHT}
 use Rattle.ch_hierarchy.specs.Rows.{row}
 use Rattle.ch_contract.specs.declared.shortcut.Shortcut.{Shortcut}
 use Rattle.ch_contract.specs.Legs.{Legs, AreLegsWithin, IsLegWithin}
-use Rattle.ch_contract.specs.Contraction.{shortcut_label, leg_after_shortcuts}
+use Rattle.ch_contract.specs.Contraction.{shortcut_label}
 use Rattle.ch_contract.specs.Rounds.{AreApart, AreShortcutsAmong, ContractsRound, legs_away, legs_with_shortcuts}
 use Rattle.ch_contract.specs.Remaining.{RemainingLegs, legs_of}
 use Rattle.ch_contract.specs.ShortcutLists.{legs_touching, AreTouching}

@@ -1,5 +1,5 @@
 -- The neighbours of the nodes of a round, each beside the node of the round, and both sides without these nodes.
-use Rattle.std.proofs.Common.{◌≡◌, ℕ, ◌+◌, ◌<◌, Bool, true, false, List, [], ◌∷◌, ◌++◌, length, get_or, take, Option, Some, None, Contains, refl, sym, ◌∙◌, ap, subst, arith, inl, inr}
+use Rattle.std.proofs.Common.{◌≡◌, ℕ, ◌+◌, ◌<◌, Bool, true, false, List, [], ◌∷◌, ◌++◌, length, get_or, take, Option, None, Contains, refl, sym, ◌∙◌, ap, subst, arith, inl, inr}
 use Rattle.std.specs.Prelude.{◌-◌, ◌≤◌, ◌||◌, if◌then◌else◌, slice_index, All}
 use Rattle.std.proofs.lemmas.Bool.{cases_lt}
 use Rattle.std.proofs.lemmas.List.{take_more, get_or_append_left, get_or-append_right, get_or_default, length-append}
@@ -7,9 +7,9 @@ use Rattle.std.proofs.lemmas.List.Elements.{All-from_get_or, Contains-get_or, Co
 use Rattle.ch_graph.proofs.Lists.{contains_none}
 use Rattle.ch_hierarchy.specs.declared.leg.Leg.{Leg}
 use Rattle.ch_hierarchy.specs.Rows.{row}
-use Rattle.ch_contract.specs.Legs.{Label, Legs, SameLegs, AreLegsWithin, turned_legs}
+use Rattle.ch_contract.specs.Legs.{Label, Legs, SameLegs, turned_legs}
 use Rattle.ch_contract.specs.LegRows.{AreLegsFrom, AreLegsTo, row_leg}
-use Rattle.ch_contract.specs.LegLists.{NodeLegs, IsWithinLimits, legs_from, legs_into}
+use Rattle.ch_contract.specs.LegLists.{NodeLegs, IsWithinLimits, legs_from}
 use Rattle.ch_contract.specs.Order.{are_neighbours}
 use Rattle.ch_contract.specs.Priorities.{neighbours_in}
 use Rattle.ch_contract.specs.KnownCosts.{AreLegsUpTo}

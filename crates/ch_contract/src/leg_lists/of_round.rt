@@ -1,11 +1,11 @@
 //! The lists of one side, changed for all nodes of a round.
 ghost use Rattle.std.specs.Prelude.{◌≡◌, ◌≢◌, ◌<◌, length, All, AllPairs, IfOk, OnOk};
 ghost use Rattle.std.specs.List.{AllZip};
-ghost use Rattle.ch_contract.specs.LegLists.{AreRows, legs_from, legs_into};
+ghost use Rattle.ch_contract.specs.LegLists.{AreRows, legs_at};
 ghost use Rattle.ch_contract.specs.RoundSides.{AreAllAside, AreAway, ArePutInTurn, AreTiesOf, AreUntied};
 ghost use Rattle.ch_contract.specs.TakenOut.{ArePutIn};
 
-use crate::leg_lists::LegLists;
+use crate::leg_lists::{End, LegLists};
 use crate::shortcut::Shortcut;
 use std::alloc::AllocError;
 
@@ -45,38 +45,21 @@ impl LegLists {
         }
     }
 
-    /// Puts the shortcuts of the nodes of a round into the lists of their first nodes. Each list has the shortcuts of
-    /// the node at the same place.
-    pub(crate) fn with_all_from(
+    /// Puts the shortcuts of the nodes of a round into the lists of their nodes at this end. Each list has the
+    /// shortcuts of the node at the same place.
+    pub(crate) fn with_all_at(
         mut self,
+        end: End,
         nodes: &[u32],
         lists: &[Vec<Shortcut>],
     ) -> Result<LegLists, AllocError>
         requires rows { AreRows self.rows }
         requires puts { AllZip (λ v list. ArePutIn (length self.rows) v list.items) nodes.now lists.now }
-        ensures legs { IfOk result (λ s. ArePutInTurn legs_from nodes.now lists.now self.rows s.rows) }
+        ensures legs { IfOk result (λ s. ArePutInTurn (legs_at end) nodes.now lists.now self.rows s.rows) }
         ensures aside { IfOk result (λ s. s.aside ≡ self.aside) }
     {
         for (place, node) in nodes.iter().enumerate() {
-            self.put_from(*node, lists[place].as_slice())?;
-        }
-        Ok(self)
-    }
-
-    /// Puts the shortcuts of the nodes of a round into the lists of their second nodes. Each list has the shortcuts of
-    /// the node at the same place.
-    pub(crate) fn with_all_into(
-        mut self,
-        nodes: &[u32],
-        lists: &[Vec<Shortcut>],
-    ) -> Result<LegLists, AllocError>
-        requires rows { AreRows self.rows }
-        requires puts { AllZip (λ v list. ArePutIn (length self.rows) v list.items) nodes.now lists.now }
-        ensures legs { IfOk result (λ s. ArePutInTurn legs_into nodes.now lists.now self.rows s.rows) }
-        ensures aside { IfOk result (λ s. s.aside ≡ self.aside) }
-    {
-        for (place, node) in nodes.iter().enumerate() {
-            self.put_into(*node, lists[place].as_slice())?;
+            self.put_at(end, *node, lists[place].as_slice())?;
         }
         Ok(self)
     }

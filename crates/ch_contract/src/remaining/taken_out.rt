@@ -10,7 +10,7 @@ ghost use Rattle.ch_contract.specs.RoundSides.{AreAway, ArePutInTurn, AreTiesOf}
 ghost use Rattle.ch_contract.specs.Remaining.{legs_of};
 ghost use Rattle.ch_contract.specs.TakenOut.{AreNeighboursOf, ArePutIn, AreTakenOut};
 
-use crate::leg_lists::LegLists;
+use crate::leg_lists::{End, LegLists};
 use crate::remaining::Remaining;
 use crate::remaining::light::are_light;
 use crate::shortcut::Shortcut;
@@ -92,11 +92,11 @@ impl Remaining {
             move || -> Result<LegLists, AllocError>
                 requires { AreRows outs.rows × AllZip (λ v list. ArePutIn (length outs.rows) v list.items) nodes.now lists.now }
                 ensures { IfOk result (λ s. ArePutInTurn legs_from nodes.entry.now lists.entry.now outs.rows s.rows × (s.aside ≡ outs.aside)) }
-            { outs.with_all_from(nodes, lists) },
+            { outs.with_all_at(End::First, nodes, lists) },
             move || -> Result<LegLists, AllocError>
                 requires { AreRows ins.rows × AllZip (λ v list. ArePutIn (length ins.rows) v list.items) nodes.now lists.now }
                 ensures { IfOk result (λ s. ArePutInTurn legs_into nodes.entry.now lists.entry.now ins.rows s.rows × (s.aside ≡ ins.aside)) }
-            { ins.with_all_into(nodes, lists) },
+            { ins.with_all_at(End::Second, nodes, lists) },
         );
         Ok(Remaining {
             nodes: count,

@@ -1,4 +1,4 @@
-use Rattle.std.proofs.Common.{◌≡◌, ◌<◌, ◌≤◌, None, length, get_or, refl, sym, ◌∙◌, subst, arith}
+use Rattle.std.proofs.Common.{◌≡◌, length, refl, ◌∙◌, subst, arith}
 use Rattle.ch_contract.specs.RoundSides.{AreUntied}
 use Rattle.ch_contract.proofs.code.RoundSides.{untied_none, untied_more}
 use Rattle.ch_contract.proofs.leg_lists.LegLists.take_each.Goals as goal

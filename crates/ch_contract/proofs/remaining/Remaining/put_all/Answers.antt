@@ -1,11 +1,10 @@
-use Rattle.std.proofs.Common.{◌≡◌, ℕ, List, length, sym, ◌∙◌, ap, subst}
+use Rattle.std.proofs.Common.{◌≡◌, ℕ, List, sym, ◌∙◌, ap, subst}
 use Rattle.std.specs.List.{AllZip}
 use Rattle.std.specs.Global.{Vec}
 use Rattle.ch_contract.specs.declared.held_cost.TheConstants.{MOST_LIGHT}
 use Rattle.ch_contract.specs.declared.shortcut.Shortcut.{Shortcut}
-use Rattle.ch_contract.specs.LegLists.{legs_from, legs_into}
+use Rattle.ch_contract.specs.LegLists.{legs_from}
 use Rattle.ch_contract.specs.Rounds.{legs_with_shortcuts}
-use Rattle.ch_contract.specs.RoundSides.{ArePutInTurn}
 use Rattle.ch_contract.specs.Remaining.{RemainingLegs, legs_of}
 use Rattle.ch_contract.specs.TakenOut.{ArePutIn}
 use Rattle.ch_contract.proofs.code.RoundPutLists.{puts_leave, puts_light, puts_legs}

@@ -1,11 +1,11 @@
-use Rattle.std.proofs.Common.{◌≡◌, ◌<◌, ℕ, List, All, sym, ◌∙◌, ap, subst}
+use Rattle.std.proofs.Common.{◌≡◌, ◌<◌, ℕ, List, All, sym, ap, subst}
 use Rattle.ch_contract.specs.declared.held_cost.TheConstants.{MOST_LIGHT}
 use Rattle.ch_contract.specs.Legs.{SameLegs, turned_legs}
 use Rattle.ch_contract.specs.LegLists.{NodeLegs, IsWithinLimits, legs_from}
 use Rattle.ch_contract.specs.Rounds.{AreApart, legs_away}
 use Rattle.ch_contract.specs.RoundSides.{AreTiesOf, AreAway}
 use Rattle.ch_contract.specs.Remaining.{RemainingLegs, legs_of}
-use Rattle.ch_contract.specs.TakenOut.{AreNeighboursOf, AreSetAside, AreTakenOut}
+use Rattle.ch_contract.specs.TakenOut.{AreNeighboursOf, AreSetAside}
 use Rattle.ch_contract.proofs.code.TiedNeighbours.{outs_tied, ins_tied, outs_away, within_away, light_away, ups_aside, downs_aside}
 use Rattle.ch_contract.proofs.remaining.Remaining.take_all_out.Goals as goal
 

@@ -1,4 +1,4 @@
-use Rattle.std.proofs.Common.{◌∙◌, ℕ, List, sym, ap, subst, length, arith}
+use Rattle.std.proofs.Common.{◌∙◌, List, sym, ap, subst, length, arith}
 use Rattle.std.specs.Prelude.{ℤ, pos}
 use Rattle.std.specs.List.{AllZip}
 use Rattle.ch_graph.proofs.Lists.{zipped_length}

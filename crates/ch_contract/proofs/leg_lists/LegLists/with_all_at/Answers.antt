@@ -1,23 +1,29 @@
-use Rattle.std.proofs.Common.{◌≡◌, ◌<◌, ◌≤◌, ℕ, List, length, get_or, take, refl, sym, ◌∙◌, ap, subst, arith}
+use Rattle.std.proofs.Common.{◌<◌, ◌≤◌, ℕ, List, length, get_or, take, refl, sym, ◌∙◌, ap, subst, arith}
 use Rattle.std.specs.Prelude.{All, AllPairs}
 use Rattle.std.specs.Global.{Vec}
 use Rattle.std.proofs.lemmas.List.{take_all}
 use Rattle.std.proofs.lemmas.List.Elements.{All-from_get_or}
 use Rattle.ch_graph.proofs.Lists.{zipped_length}
 use Rattle.ch_contract.specs.declared.shortcut.Shortcut.{Shortcut}
+use Rattle.ch_contract.specs.declared.leg_lists.End.{End}
 use Rattle.ch_contract.specs.Legs.{IsLegWithin}
 use Rattle.ch_contract.specs.Contraction.{IsPairBefore, shortcut_label}
-use Rattle.ch_contract.specs.LegLists.{AreOverridden, legs_into}
+use Rattle.ch_contract.specs.LegLists.{AreOverridden, end_of, legs_at}
 use Rattle.ch_contract.specs.RoundSides.{ArePutInTurn}
 use Rattle.ch_contract.specs.TakenOut.{ArePutIn}
 use Rattle.ch_contract.proofs.code.KeptPriorities.{zipped_at}
 use Rattle.ch_contract.proofs.code.ListEdits.{no_shortcut}
 use Rattle.ch_contract.proofs.code.RoundPutLists.{put_next}
-use Rattle.ch_contract.proofs.leg_lists.LegLists.with_all_into.Goals as goal
+use Rattle.ch_contract.proofs.leg_lists.LegLists.with_all_at.Goals as goal
 
 -- a list of shortcuts of v may be put in
 abbrev IsPut : ℕ → ℕ → Vec Shortcut → Type 0
 IsPut n v list = ArePutIn n v list.items
+
+-- the node at either end of a shortcut is one of n
+end_within : (end : End) (n : ℕ) (s : Shortcut) (v : ℕ) → IsLegWithin n s.from s.to (shortcut_label v s) → end_of end s < n
+end_within End.First n s v is = is.ends.0
+end_within End.Second n s v is = is.ends.1
 
 pub loop-place-init : goal.loop-place-init
 loop-place-init c = (refl, c.requires.rows, refl, refl)
@@ -30,8 +36,8 @@ bounds-lists-place c =
 pub offset_bounds-lists-place : goal.offset_bounds-lists-place
 offset_bounds-lists-place c = omega (arith, bounds-lists-place c)
 
-pub put_into-requires : goal.put_into-requires
-put_into-requires c =
+pub put_at-requires : goal.put_at-requires
+put_at-requires c =
     let list = c.index-lists-place in
     let i = c.loop-place.place in
     let known = c.loop-place.invariant in
@@ -41,7 +47,7 @@ put_into-requires c =
     let lent = ap (λ (l : Vec Shortcut). l.items) (sym list.is) ∙ sym c.as_slice.ensures.value in
     let within : All (λ (s : Shortcut). IsLegWithin n s.from s.to (shortcut_label v s)) c.as_slice.result.now = subst (All (λ (s : Shortcut). IsLegWithin n s.from s.to (shortcut_label v s))) lent put.1 in
     record {
-      to = subst (λ m. All (λ (s : Shortcut). s.to < m) c.as_slice.result.now) (sym known.2) (All-from_get_or (λ (s : Shortcut). s.to < n) c.as_slice.result.now no_shortcut (λ k lt. (within k no_shortcut lt).ends.1));
+      ends = subst (λ m. All (λ (s : Shortcut). end_of c.args.end s < m) c.as_slice.result.now) (sym known.2) (All-from_get_or (λ (s : Shortcut). end_of c.args.end s < n) c.as_slice.result.now no_shortcut (λ k lt. end_within c.args.end n (get_or c.as_slice.result.now k no_shortcut) v (within k no_shortcut lt)));
       rows = known.1;
       ordered = subst (AllPairs IsPairBefore) lent put.0;
     }
@@ -53,10 +59,10 @@ loop-place-preserved c =
     let known = c.loop-place.invariant in
     let nodes = c.args.nodes.now in
     let lists = c.args.lists.now in
-    let put = c.in_ok-put_into.ensures in
+    let put = c.in_ok-put_at.ensures in
     let size = zipped_length (IsPut (length c.args.self.rows)) nodes lists c.requires.puts in
-    let legs = subst (λ l. AreOverridden legs_into (get_or nodes i 0) l c.loop-place.self.rows c.put_into.new.self.rows) (c.as_slice.ensures.value ∙ ap (λ (l : Vec Shortcut). l.items) list.is) put.legs in (
-      put_next legs_into nodes lists i list.result c.args.self.rows c.loop-place.self.rows c.put_into.new.self.rows (sym size) c.loop-place-test.true known.0 legs,
+    let legs = subst (λ l. AreOverridden (legs_at c.args.end) (get_or nodes i 0) l c.loop-place.self.rows c.put_at.new.self.rows) (c.as_slice.ensures.value ∙ ap (λ (l : Vec Shortcut). l.items) list.is) put.legs in (
+      put_next (legs_at c.args.end) nodes lists i list.result c.args.self.rows c.loop-place.self.rows c.put_at.new.self.rows (sym size) c.loop-place-test.true known.0 legs,
       put.legs.rows,
       put.legs.size ∙ known.2,
       put.aside ∙ known.3,
@@ -70,5 +76,5 @@ returns-clause-legs c =
     let size = zipped_length (IsPut (length c.args.self.rows)) nodes lists c.requires.puts in
     let past : length nodes ≤ i = omega arith in
     let all : length lists ≤ i = omega arith in
-    subst (λ (l : List ℕ). ArePutInTurn legs_into l lists c.args.self.rows c.loop-place.self.rows) (take_all i nodes past)
-    (subst (λ (l : List (Vec Shortcut)). ArePutInTurn legs_into (take i nodes) l c.args.self.rows c.loop-place.self.rows) (take_all i lists all) c.loop-place.invariant.0)
+    subst (λ (l : List ℕ). ArePutInTurn (legs_at c.args.end) l lists c.args.self.rows c.loop-place.self.rows) (take_all i nodes past)
+    (subst (λ (l : List (Vec Shortcut)). ArePutInTurn (legs_at c.args.end) (take i nodes) l c.args.self.rows c.loop-place.self.rows) (take_all i lists all) c.loop-place.invariant.0)

@@ -1,7 +1,0 @@
-use Rattle.std.proofs.Common.{◌≡◌, take}
-use Rattle.ch_contract.specs.LegLists.{AreOverridden, legs_from}
-use Rattle.ch_contract.proofs.leg_lists.LegLists.put_from.Given as goal
-
--- the shortcuts so far were put in, and the lists set aside stay
-abbrev pub invariant-loop-shortcut : goal.invariant-loop-shortcut
-invariant-loop-shortcut l = AreOverridden legs_from l.v (take l.shortcut-index l.shortcuts) l.fn.self.rows l.self.rows × (l.self.aside ≡ l.fn.self.aside)
