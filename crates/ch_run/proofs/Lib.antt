@@ -5,6 +5,7 @@ pub mod Tables
 pub mod OneSavedText
 pub mod Writes
 pub mod Owed
+pub mod Parts
 pub mod ReadBack
 pub mod Answered
 pub mod Gathered

@@ -2,7 +2,7 @@
 use Rattle.std.proofs.Common.{◌≡◌, ℕ, ◌+◌, ◌<◌, Bool, true, false, List, [], ◌∷◌, ◌++◌, length, take, get_or, Option, Some, None, refl, sym, ap, ap₂, ◌∙◌, subst}
 use Rattle.std.proofs.lemmas.List.{append-nil, take_more}
 use Rattle.std.proofs.lemmas.Slice.Zip.{all_zipped_more}
-use Rattle.std.specs.List.{AllZip, zip, flat_map}
+use Rattle.std.specs.List.{AllZip, flat_map}
 use Rattle.ch_graph.specs.declared.arc.InArc.{InArc}
 use Rattle.ch_graph.specs.Graph.{Network, IsWithinLimits}
 use Rattle.ch_hierarchy.specs.Hierarchy.{LevelsAndLegs}
@@ -19,7 +19,7 @@ use Rattle.ch_text.specs.Distances.{Answers, AnswersShortly, IsDistanceText, dis
 use Rattle.ch_text.specs.Routes.{AnswersWithRoute, answer_text, route_text}
 use Rattle.ch_run.specs.Source.{IsServing}
 use Rattle.ch_run.specs.Text.{IsTextBy}
-use Rattle.ch_text.specs.TableText.{IsCell, IsTableRow, IsTableText, row_text}
+use Rattle.ch_text.specs.TableText.{IsCell, IsTableRow, IsTableText, IsTableTextBy}
 
 -- one more query is answered with its distance
 pub answered : (g : Network) (queries : List (ℕ × ℕ)) (i : ℕ) (d : ℕ × ℕ) (answers : List Answer) (a : Answer) → i < length queries →
@@ -81,11 +81,10 @@ text_in false wanted by hops g h H same is queries text t = t
 text_in true wanted by hops g h H same is queries text t = (t.0, subst (IsServing wanted hops g h) (sym t.1) (subst (λ o. IsServing o hops g h H) (same refl) is), t.2)
 
 -- the table of a hierarchy that is right for a graph is the table of the graph
-pub cells_text : (g : Network) (H : LevelsAndLegs) → IsWithinLimits g → IsKept g H → (limit : Option ℕ) (sources targets : List ℕ) (rows : List (List (Option ℕ))) (text : List ℕ) →
-    AllZip (IsRowBy H limit targets) sources rows → text ≡ flat_map row_text (zip sources rows) → IsTableText g limit sources targets text
-cells_text g H limits kept limit sources targets rows text table is = (
-  rows,
+pub cells_text : (g : Network) (H : LevelsAndLegs) → IsWithinLimits g → IsKept g H → (limit : Option ℕ) (sources targets text : List ℕ) → IsTableTextBy H limit sources targets text → IsTableText g limit sources targets text
+cells_text g H limits kept limit sources targets text by = (
+  by.0,
   each_weaker (IsRowBy H limit targets) (IsTableRow g limit targets)
-      (λ s cells row. each_weaker (IsDistanceWithin H limit s) (IsCell g limit s) (λ t cell by. (by.whole, by.distance g limits kept, by.cut)) targets cells row) sources rows table,
-  is,
+      (λ s cells row. each_weaker (IsDistanceWithin H limit s) (IsCell g limit s) (λ t cell is. (is.whole, is.distance g limits kept, is.cut)) targets cells row) sources by.0 by.1,
+  by.2,
 )

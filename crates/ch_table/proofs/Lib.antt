@@ -1,6 +1,7 @@
 pub mod Deals
 pub mod Entries
 pub mod Gathered
+pub mod Gathering
 pub mod Held
 pub mod Lowered
 pub mod Owing

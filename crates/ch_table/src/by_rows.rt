@@ -1,47 +1,57 @@
 //! Tables made row by row: each row by one worker, or all rows by the caller alone.
-ghost use Rattle.std.specs.Prelude.{◌≡◌, ◌<◌, ◌≤◌, length, All, IfOk};
+ghost use Rattle.std.specs.Prelude.{◌≡◌, ◌<◌, ◌≤◌, length, All, IfOk, OnOk};
 ghost use Rattle.std.specs.List.{AllZip};
 ghost use Rattle.ch_graph.specs.declared.limits.TheConstants.{MOST_LISTED};
 ghost use Rattle.ch_hierarchy.specs.Hierarchy.{nodes_of};
 ghost use Rattle.ch_query.specs.declared.side.Side.TheVariants.{Down};
 ghost use Rattle.ch_query.specs.Distance.{IsKeptForSome};
 ghost use Rattle.ch_query.specs.SearchSpace.{IsRankedSpace};
-ghost use Rattle.ch_table.specs.Table.{IsRowBy};
+ghost use Rattle.ch_table.specs.Table.{AreGathered, IsRowBy};
 
 use crate::cells::Table;
-use crate::row::{UNREACHED, cells_of, lower_by_space};
+use crate::row::{RowRoom, UNREACHED, lower_by_space, write_cells};
+use crate::row_job::RowJob;
 use crate::spaces::{Room, search_spaces};
 use ch_graph::{Rows, gather};
 use ch_hierarchy::Hierarchy;
 use ch_query::{Scratch, Side, ranked_space};
-use ch_work::{Crew, Gate, ListJob, Stage, run_list_in};
+use ch_work::{Crew, Gate, RoomJob, Stage, run_pieces_in};
 use std::alloc::{AllocError, Global};
 use std::marker::Model;
 use std::thread::Threads;
 
-/// Makes the table row by row.
+/// Gathers the rows as the job says, row by row.
 ///
 /// The workers share the targets, whose weights go to the buckets of the nodes that they reach. Then they
 /// share the sources. Each source is searched from for its row.
-pub(crate) fn table_by_rows<R: Threads + Sync, G: Gate>(
+pub(crate) fn gather_by_rows<R: Threads + Sync, G: Gate, J: RowJob>(
     crew: &Crew<'_, R, G>,
     hierarchy: &Hierarchy,
     sources: &[u32],
     targets: &[u32],
     within: Option<u64>,
-) -> Result<Table, AllocError>
+    job: &J,
+) -> Result<Vec<J::Out>, AllocError>
     requires kept { IsKeptForSome hierarchy.now }
     requires sources { All (λ s. s < nodes_of hierarchy.now) sources.now }
     requires targets { All (λ t. t < nodes_of hierarchy.now) targets.now }
     requires lists { (length sources.now ≤ MOST_LISTED) × (length targets.now ≤ MOST_LISTED) }
-    ensures { IfOk result (AllZip (IsRowBy hierarchy.now within targets.now) sources.now) }
+    ensures { IfOk result (λ values. AreGathered (J.meaning job.now) hierarchy.now within targets.now sources.now values.items) }
 {
     let mut rooms = Vec::new(crew.alloc);
     let spaces = search_spaces(crew, hierarchy, targets, Side::Down, within, &mut rooms)?;
-    let job = SourceRows::of(crew.alloc, hierarchy, targets, within, spaces)?;
-    crew.gate.watch(Stage::Answering, 0, crew.plan.pieces(sources.len() as u32));
-    let rows = run_list_in(crew, sources, &mut rooms, &job)?;
-    Ok(Table { rows })
+    let rows = SourceRows::of(crew.alloc, hierarchy, targets, within, spaces)?;
+    let count = sources.len() as u32;
+    crew.gate
+        .watch(Stage::Answering, 0, crew.plan.pieces(count));
+    // This call tells the proof that a piece has at least one item.
+    let _ = crew.plan.piece();
+    run_pieces_in(
+        crew,
+        count,
+        &mut rooms,
+        &GatheredRows { rows, sources, job },
+    )
 }
 
 /// Returns the distances from each source to each target, as [`table`](crate::table) does, by the caller
@@ -67,8 +77,8 @@ pub fn table_alone(
     ensures scratch { scratch.new ≡ scratch.old }
 {
     let spaces = spaces_alone(alloc, hierarchy, scratch, targets, within)?;
-    let job = SourceRows::of(alloc, hierarchy, targets, within, spaces)?;
-    let rows = job.rows_alone(alloc, scratch, sources)?;
+    let source_rows = SourceRows::of(alloc, hierarchy, targets, within, spaces)?;
+    let rows = source_rows.rows_alone(alloc, scratch, sources)?;
     Ok(Table { rows })
 }
 
@@ -94,8 +104,7 @@ fn spaces_alone(
     Ok(spaces)
 }
 
-/// The job that makes the rows of sources. Each row is made of the source's search space and the buckets of
-/// the targets.
+/// The search spaces of the targets, by which the row of each source is made.
 #[derive(Drop)]
 struct SourceRows<'a> {
     hierarchy: &'a Hierarchy,
@@ -111,13 +120,13 @@ impl<'a> Model for SourceRows<'a> {
 
     ghost Value = { Asked };
 
-    ghost view = { λ job. record { hierarchy = job.hierarchy.now; targets = job.targets.now; limit = job.within } };
+    ghost view = { λ rows. record { hierarchy = rows.hierarchy.now; targets = rows.targets.now; limit = rows.within } };
 
-    ghost invariant = { λ job. AreTargetsOf job.hierarchy.now job.within job.targets.now job.buckets };
+    ghost invariant = { λ rows. AreTargetsOf rows.hierarchy.now rows.within rows.targets.now rows.buckets };
 }
 
 impl<'a> SourceRows<'a> {
-    /// Makes the job over sources from the search spaces of the targets, which it frees.
+    /// Takes the search spaces of the targets, and frees them.
     fn of(
         alloc: Global,
         hierarchy: &'a Hierarchy,
@@ -128,7 +137,7 @@ impl<'a> SourceRows<'a> {
         requires kept { IsKeptForSome hierarchy.now }
         requires count { length targets.now ≤ MOST_LISTED }
         requires spaces { AllZip (λ node space. IsRankedSpace hierarchy.now Down within node space.items) targets.now spaces.items }
-        ensures { IfOk result (λ job. job ≡ record { hierarchy = hierarchy.now; targets = targets.now; limit = within }) }
+        ensures { IfOk result (λ rows. rows ≡ record { hierarchy = hierarchy.now; targets = targets.now; limit = within }) }
     {
         let buckets = gather(alloc, hierarchy.nodes(), &spaces)?;
         Ok(SourceRows {
@@ -151,26 +160,26 @@ impl<'a> SourceRows<'a> {
         ensures rows { IfOk result (λ rows. AllZip (λ s row. IsRowBy self.now.hierarchy self.now.limit self.now.targets s row.items) sources.now rows.items) }
         ensures scratch { scratch.new ≡ scratch.old }
     {
-        let mut words = Vec::with_capacity(alloc, self.targets.len())?;
+        let mut room = RowRoom::new(alloc);
         let mut rows = Vec::with_capacity(alloc, sources.len())?;
         for source in sources {
-            let row = self.row(alloc, scratch, &mut words, *source)?;
-            rows.push_reserved(row);
+            self.write_row(alloc, scratch, &mut room, *source)?;
+            rows.push_reserved(Vec::from_slice(alloc, &room.cells)?);
         }
         Ok(rows)
     }
 
-    /// Returns the row of a source, by a search in this scratch. `row` is room for the words.
-    fn row(
+    /// Writes the cells of the row of a source into the room, by a search in this scratch.
+    fn write_row(
         &self,
         alloc: Global,
         scratch: &mut Scratch,
-        row: &mut Vec<u64>,
+        room: &mut RowRoom,
         source: u32,
-    ) -> Result<Vec<Option<u64>>, AllocError>
+    ) -> Result<(), AllocError>
         requires scratch { scratch.old ≡ nodes_of self.now.hierarchy }
         requires source { source < nodes_of self.now.hierarchy }
-        ensures row { IfOk result (λ cells. IsRowBy self.now.hierarchy self.now.limit self.now.targets source cells.items) }
+        ensures row { OnOk result (IsRowBy self.now.hierarchy self.now.limit self.now.targets source room.new.cells.items) }
         ensures scratch { scratch.new ≡ scratch.old }
     {
         let space = ranked_space(
@@ -181,41 +190,68 @@ impl<'a> SourceRows<'a> {
             Side::Up,
             self.within,
         )?;
-        row.clear();
-        row.resize(self.targets.len(), UNREACHED)?;
-        lower_by_space(row, &space, &self.buckets);
-        cells_of(alloc, row, self.within)
+        let RowRoom { words, cells } = room;
+        words.clear();
+        words.resize(self.targets.len(), UNREACHED)?;
+        lower_by_space(words, &space, &self.buckets);
+        write_cells(words, self.within, cells)
     }
 }
 
-impl<'a> ListJob for SourceRows<'a> {
-    ghost use Rattle.std.specs.Prelude.{◌≡◌, ◌<◌};
-    ghost use Rattle.ch_hierarchy.specs.Hierarchy.{nodes_of};
-    ghost use Rattle.ch_table.specs.Table.{IsRowBy};
+/// The work that makes the row of each source, and gathers the rows as the job says.
+#[derive(Drop)]
+struct GatheredRows<'a, J: RowJob> {
+    rows: SourceRows<'a>,
+    sources: &'a [u32],
+    job: &'a J,
+}
 
-    type Item = u32;
+impl<'a, J: RowJob> Model for GatheredRows<'a, J> {
+    ghost use Rattle.std.specs.Prelude.{ℕ, ◌<◌, All, List};
+    ghost use Rattle.ch_hierarchy.specs.Hierarchy.{nodes_of};
+    ghost use Rattle.ch_table.specs.Rows.{Asked};
+
+    ghost Value = { Asked × List ℕ × J };
+
+    ghost view = { λ gathered. (gathered.rows, gathered.sources.now, gathered.job.now) };
+
+    ghost invariant = { λ gathered. All (λ s. s < nodes_of gathered.rows.hierarchy) gathered.sources.now };
+}
+
+impl<'a, J: RowJob> RoomJob for GatheredRows<'a, J> {
+    ghost use Rattle.std.specs.Prelude.{◌≡◌, length};
+    ghost use Rattle.std.specs.List.{slice_range};
+    ghost use Rattle.ch_hierarchy.specs.Hierarchy.{nodes_of};
+    ghost use Rattle.ch_table.specs.Table.{IsGathered};
 
     type Room = Room;
 
-    type Out = Vec<Option<u64>>;
+    type Out = J::Out;
 
-    ghost takes = { λ asked s. s < nodes_of asked.hierarchy };
+    ghost size = { λ gathered. length gathered.1 };
 
-    ghost meaning = { λ asked s row. IsRowBy asked.hierarchy asked.limit asked.targets s row.items };
+    ghost meaning = { λ gathered from to x. IsGathered (J.meaning gathered.2) gathered.0.hierarchy gathered.0.limit gathered.0.targets (slice_range gathered.1 from to) x };
 
-    ghost clean = { λ asked room. room.scratch ≡ nodes_of asked.hierarchy };
+    ghost clean = { λ gathered room. room.scratch ≡ nodes_of gathered.0.hierarchy };
 
     fn room(&self, alloc: Global) -> Result<Room, AllocError> {
-        Room::new(alloc, self.hierarchy.nodes())
+        Room::new(alloc, self.rows.hierarchy.nodes())
     }
 
-    fn value(
+    fn piece(
         &self,
         alloc: Global,
         room: &mut Room,
-        item: &u32,
-    ) -> Result<Vec<Option<u64>>, AllocError> {
+        from: u32,
+        to: u32,
+    ) -> Result<J::Out, AllocError> {
         let Room { scratch, row } = room;
-        self.row(alloc, scratch, row, *item)
+        let sources = &self.sources[from as usize..to as usize];
+        let mut gathered = self.job.start(alloc);
+        for source in sources {
+            self.rows.write_row(alloc, scratch, row, *source)?;
+            self.job.add(alloc, &mut gathered, *source, &row.cells)?;
+        }
+        Ok(gathered)
     }
 }

@@ -19,10 +19,12 @@ mod cells;
 mod dealing;
 mod many_to_many;
 mod row;
+mod row_job;
 mod spaces;
 mod sums;
 
 pub use buckets::Buckets;
 pub use by_rows::table_alone;
 pub use cells::Table;
-pub use many_to_many::table;
+pub use many_to_many::{gather_rows, table};
+pub use row_job::RowJob;

@@ -6,6 +6,7 @@ ghost use Rattle.ch_hierarchy.specs.Hierarchy.{nodes_of};
 ghost use Rattle.ch_query.specs.Distance.{IsKeptForSome};
 ghost use Rattle.ch_query.specs.SearchSpace.{IsRankedSpace};
 
+use crate::row::RowRoom;
 use ch_hierarchy::Hierarchy;
 use ch_query::{Scratch, Side, ranked_space};
 use ch_work::{Crew, Gate, ListJob, Stage, run_list_in};
@@ -13,23 +14,22 @@ use std::alloc::{AllocError, Global};
 use std::marker::Model;
 use std::thread::Threads;
 
-/// What a worker has for a table: a scratch to search in, and a row of words. A worker that makes rows uses
-/// one word for each target.
+/// What a worker has for a table: a scratch to search in, and room for one row after the other.
 #[derive(Drop)]
 pub(crate) struct Room {
     pub(crate) scratch: Scratch,
-    pub(crate) row: Vec<u64>,
+    pub(crate) row: RowRoom,
 }
 
 impl Room {
-    /// Makes room for searches among `nodes` nodes, with a row that has no words yet.
+    /// Makes room for searches among `nodes` nodes, and for rows.
     pub(crate) fn new(alloc: Global, nodes: u32) -> Result<Room, AllocError>
         ensures { IfOk result (λ room. room.scratch ≡ nodes) }
     {
         let scratch = Scratch::new(alloc, nodes)?;
         Ok(Room {
             scratch,
-            row: Vec::new(alloc),
+            row: RowRoom::new(alloc),
         })
     }
 }

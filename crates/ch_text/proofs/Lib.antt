@@ -3,3 +3,4 @@ pub mod Calls
 pub mod Growing
 pub mod Ranges
 pub mod Saving
+pub mod TableTexts

@@ -1,36 +1,12 @@
 -- The texts of ranges of items, joined in order.
-use Rattle.std.proofs.Common.{◌≡◌, ℕ, ◌+◌, ◌-◌, ◌*◌, ◌<◌, ◌≤◌, min, List, [], ◌∷◌, ◌++◌, length, drop, get_or, subst, sym, ap, ◌∙◌, refl, arith, length-drop}
+use Rattle.std.proofs.Common.{◌≡◌, ℕ, ◌+◌, ◌*◌, ◌<◌, ◌≤◌, min, List, [], ◌∷◌, ◌++◌, length, drop, subst, sym, ap, ◌∙◌, refl, arith}
 use Rattle.std.specs.Prelude.{Vec}
-use Rattle.std.specs.List.{flat_map, slice_range, zip}
+use Rattle.std.specs.List.{flat_map, slice_range}
 use Rattle.std.specs.declared.alloc.Global.{Global}
-use Rattle.std.proofs.lemmas.List.{take-append-drop, take_all, take_min, drop-drop, drop_all, get_or-drop}
-use Rattle.std.proofs.lemmas.Slice.Zip.{length-zip, get_or-zip}
+use Rattle.std.proofs.lemmas.List.{drop_all}
 use Rattle.std.proofs.lemmas.Grind.{flat_map-append}
 use Rattle.ch_work.specs.Pieces.{pieces_of, MeanEach, AreValues}
 use Rattle.ch_work.proofs.PieceLists.{covers, piece_split}
-use Rattle.ch_text.proofs.Growing.{grown}
-
--- the range from the first to the last item has all items
-pub whole_range : {X : Type 0} (items : List X) (n : ℕ) → length items ≤ n → slice_range items 0 n ≡ items
-whole_range items n le = let all : n - 0 ≡ n = omega arith in rw all (take_all n items le)
-
--- one more item of a range is written
-pub range_grown : {X : Type 0} (f : X → List ℕ) (items : List X) (from i : ℕ) (d : X) (before after : List ℕ) → from ≤ i → i < length items →
-    before ≡ flat_map f (slice_range items from i) → after ≡ before ++ f (get_or items i d) → after ≡ flat_map f (slice_range items from (i + 1))
-range_grown f items from i d before after le within so_far more =
-    let place : from + (i - from) ≡ i = omega arith in
-    let next : i + 1 - from ≡ i - from + 1 = omega arith in
-    let inside : i - from < length (drop from items) = omega (arith, length-drop from items) in
-    let here : get_or (drop from items) (i - from) d ≡ get_or items i d = get_or-drop from items (i - from) d ∙ ap (λ k. get_or items k d) place in
-    rw next (grown f (drop from items) (i - from) d [] before after inside so_far (more ∙ ap (λ x. before ++ f x) (sym here)))
-
--- one more row of a range is written
-pub row_of_range_grown : {X Y : Type 0} (f : X × Y → List ℕ) (xs : List X) (ys : List Y) (from i : ℕ) (d : X) (e : Y) (before after : List ℕ) → from ≤ i → i < length xs → length ys ≡ length xs →
-    before ≡ flat_map f (slice_range (zip xs ys) from i) → after ≡ before ++ f (get_or xs i d, get_or ys i e) → after ≡ flat_map f (slice_range (zip xs ys) from (i + 1))
-row_of_range_grown f xs ys from i d e before after le within same so_far more =
-    let inside : i < length ys = omega arith in
-    let long : i < length (zip xs ys) = let l = length-zip xs ys in omega arith in
-    range_grown f (zip xs ys) from i (d, e) before after le long so_far (more ∙ ap (λ p. before ++ f p) (sym (get_or-zip xs ys i (d, e) within inside)))
 
 module _ {X : Type 0} (f : X → List ℕ) (items : List X) (p : ℕ) where
   -- this is the text of the range

@@ -30,4 +30,4 @@ pub use hierarchy_text::save_text;
 pub use near_text::{push_near_row, push_near_rows};
 pub use short_text::ShortText;
 pub use text::answers_text;
-pub use workers::{answers_text_by, table_text};
+pub use workers::{answers_text_by, table_texts};

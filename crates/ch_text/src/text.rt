@@ -1,9 +1,7 @@
 //! The texts of answers and tables, with nodes counted from 1. An answer is a line `d S T X`, with `-`
 //! for the distance if there is no walk. If it has a route, a line `r K` and K lines `a U V W` follow. A
 //! row of a table is a line `t S`, with the distance to each target after it.
-ghost use Rattle.std.specs.Prelude.{◌≡◌, ◌≤◌, ◌++◌, length, flat_map, Some, IfOk, OnOk};
-ghost use Rattle.std.specs.List.{slice_range, zip};
-ghost use Rattle.ch_graph.specs.declared.limits.TheConstants.{MOST_LISTED};
+ghost use Rattle.std.specs.Prelude.{◌≡◌, ◌++◌, flat_map, Some, IfOk, OnOk};
 ghost use Rattle.ch_text.specs.Routes.{answer_text, arc_text, route_text};
 ghost use Rattle.ch_text.specs.Distances.{distance_text};
 ghost use Rattle.ch_text.specs.TableText.{cell_text, row_text};
@@ -11,7 +9,6 @@ ghost use Rattle.ch_text.specs.TableText.{cell_text, row_text};
 use crate::short_text::ShortText;
 use ch_graph::InArc;
 use ch_query::Answer;
-use ch_table::Table;
 use std::alloc::{AllocError, Global};
 
 /// Returns the text of the answers, in order.
@@ -28,33 +25,12 @@ pub fn answers_text(alloc: Global, answers: &[Answer]) -> Result<Vec<u8>, AllocE
     Ok(text)
 }
 
-/// Returns the text of the rows of a table, from row `from` up to row `to`, without `to`. The rows are
-/// those of the sources, in order.
-///
-/// # Errors
-/// `AllocError` if there is no memory for it.
-pub(crate) fn rows_text(
-    alloc: Global,
-    sources: &[u32],
-    table: &Table,
-    from: u32,
-    to: u32,
-) -> Result<Vec<u8>, AllocError>
-    requires count { length sources.now ≤ MOST_LISTED }
-    requires rows { length table.now ≡ length sources.now }
-    requires order { from ≤ to }
-    requires inside { to ≤ length sources.now }
-    ensures { IfOk result (λ text. text.items ≡ flat_map row_text (slice_range (zip sources.now table.now) from to)) }
-{
-    let mut text = Vec::new(alloc);
-    for place in from..to {
-        push_row(&mut text, sources[place as usize], table.row(place))?;
-    }
-    Ok(text)
-}
-
 /// Adds the row of a source.
-fn push_row(text: &mut Vec<u8>, source: u32, cells: &[Option<u64>]) -> Result<(), AllocError>
+pub(crate) fn push_row(
+    text: &mut Vec<u8>,
+    source: u32,
+    cells: &[Option<u64>],
+) -> Result<(), AllocError>
     ensures { OnOk result (text.new.items ≡ text.old.items ++ row_text (source, cells.now)) }
 {
     let mut start = ShortText::new();

@@ -1,14 +1,18 @@
-//! Texts that workers share. Each worker makes the texts of ranges of answers or of rows, and these are
-//! joined in order.
-ghost use Rattle.std.specs.Prelude.{◌≡◌, ◌^◌, ◌<◌, ◌≤◌, length, flat_map, IfOk};
-ghost use Rattle.std.specs.List.{slice_range, zip};
+//! Texts that workers share. Each worker makes the texts of ranges of answers or of rows of a table, and
+//! these are joined in order.
+ghost use Rattle.std.specs.Prelude.{◌≡◌, ◌*◌, ◌^◌, ◌<◌, ◌≤◌, length, flat_map, All, IfOk};
+ghost use Rattle.std.specs.List.{slice_range};
 ghost use Rattle.ch_graph.specs.declared.limits.TheConstants.{MOST_LISTED};
+ghost use Rattle.ch_hierarchy.specs.Hierarchy.{nodes_of};
+ghost use Rattle.ch_query.specs.Distance.{IsKeptForSome};
 ghost use Rattle.ch_text.specs.Routes.{answer_text};
-ghost use Rattle.ch_text.specs.TableText.{row_text};
+ghost use Rattle.ch_text.specs.TableText.{IsTableTextBy, row_text};
+ghost use Rattle.ch_work.specs.declared.limits.TheConstants.{MOST_CELLS};
 
-use crate::text::{answers_text, rows_text};
+use crate::text::{answers_text, push_row};
+use ch_hierarchy::Hierarchy;
 use ch_query::Answer;
-use ch_table::Table;
+use ch_table::{RowJob, gather_rows};
 use ch_work::{Crew, Gate, Job, Open, Plan, joined, run_pieces};
 use std::alloc::{AllocError, Global};
 use std::marker::Model;
@@ -16,9 +20,6 @@ use std::thread::Threads;
 
 /// The number of answers that a worker writes at once.
 const ANSWERS: u32 = 1024;
-
-/// The number of rows of a table that a worker writes at once.
-const ROWS: u32 = 16;
 
 /// Makes a crew of the same workers that takes `piece` items at a time. It does not pass the caller's
 /// gate, which counts answers.
@@ -63,23 +64,27 @@ impl Job for AnswersJob<'_> {
 }
 
 /// The job that writes the rows of a table.
-#[derive(Drop)]
-struct RowsJob<'a> {
-    sources: &'a [u32],
-    table: &'a Table,
-    ghost count: { length sources.now ≤ MOST_LISTED },
-    ghost rows: { length table.now ≡ length sources.now },
-}
+struct RowTexts;
 
-impl Job for RowsJob<'_> {
+impl RowJob for RowTexts {
+    ghost use Rattle.std.specs.List.{zip};
+
     type Out = Vec<u8>;
 
-    ghost size = { λ job. length job.sources.now };
+    ghost meaning = { λ job sources rows text. text.items ≡ flat_map row_text (zip sources rows) };
 
-    ghost meaning = { λ job from to text. text.items ≡ flat_map row_text (slice_range (zip job.sources.now job.table.now) from to) };
+    fn start(&self, alloc: Global) -> Vec<u8> {
+        Vec::new(alloc)
+    }
 
-    fn piece(&self, alloc: Global, from: u32, to: u32) -> Result<Vec<u8>, AllocError> {
-        rows_text(alloc, self.sources, self.table, from, to)
+    fn add(
+        &self,
+        _alloc: Global,
+        gathered: &mut Vec<u8>,
+        source: u32,
+        cells: &[Option<u64>],
+    ) -> Result<(), AllocError> {
+        push_row(gathered, source, cells)
     }
 }
 
@@ -106,24 +111,25 @@ pub fn answers_text_by<R: Threads + Sync, G: Gate>(
     joined(crew.alloc, texts)
 }
 
-/// Returns the text of the rows of a table, one for each of its sources in order. The workers of the
-/// crew share it.
+/// Returns the text of the table of these sources and targets by a hierarchy, in parts: a row for each
+/// source, in order. With a limit `within`, a distance of more than that is none. The workers of the crew
+/// share the rows, as [`gather_rows`] says, and each writes those that it makes.
 ///
 /// # Errors
-/// `AllocError` if there is no memory for it.
-pub fn table_text<R: Threads + Sync, G: Gate>(
+/// `AllocError` if there is no memory.
+pub fn table_texts<R: Threads + Sync, G: Gate>(
     crew: &Crew<'_, R, G>,
+    hierarchy: &Hierarchy,
     sources: &[u32],
-    table: &Table,
-) -> Result<Vec<u8>, AllocError>
-    requires count { length sources.now ≤ MOST_LISTED }
-    requires rows { length table.now ≡ length sources.now }
-    ensures { IfOk result (λ text. text.items ≡ flat_map row_text (zip sources.now table.now)) }
+    targets: &[u32],
+    within: Option<u64>,
+) -> Result<Vec<Vec<u8>>, AllocError>
+    requires kept { IsKeptForSome hierarchy.now }
+    requires sources { All (λ s. s < nodes_of hierarchy.now) sources.now }
+    requires targets { All (λ t. t < nodes_of hierarchy.now) targets.now }
+    requires lists { (length sources.now ≤ MOST_LISTED) × (length targets.now ≤ MOST_LISTED) }
+    requires cells { length sources.now * length targets.now ≤ MOST_CELLS }
+    ensures { IfOk result (λ texts. IsTableTextBy hierarchy.now within sources.now targets.now (flat_map (λ text. text.items) texts.items)) }
 {
-    let count = sources.len() as u32;
-    if crew.plan.workers() == 1 {
-        return rows_text(crew.alloc, sources, table, 0, count);
-    }
-    let texts = run_pieces(&by_pieces(crew, ROWS), count, &RowsJob { sources, table })?;
-    joined(crew.alloc, texts)
+    gather_rows(crew, hierarchy, sources, targets, within, &RowTexts)
 }

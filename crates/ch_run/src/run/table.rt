@@ -1,5 +1,5 @@
 //! Runs that make tables.
-ghost use Rattle.std.specs.Prelude.{◌≡◌, [], ◌∷◌, IfOk, IfErr, IfSome, IsNone};
+ghost use Rattle.std.specs.Prelude.{◌≡◌, ◌^◌, ◌<◌, [], ◌∷◌, length, flat_map, IfOk, IfErr, IfSome, IsNone};
 ghost use Rattle.ch_graph.specs.Graph.{IsWithinLimits};
 ghost use Rattle.ch_contract.specs.Legs.{IsHopBound};
 ghost use Rattle.ch_hierarchy.specs.Kept.{IsKept};
@@ -13,8 +13,8 @@ ghost use Rattle.ch_run.specs.TableRun.{AcceptsLists, AcceptsSources, HasCellsRe
 
 use super::lists::{Lists, lists_from};
 use super::loading::{Loaded, loaded_from};
-use super::output::write_text;
-use super::texts::table_by;
+use super::output::write_parts;
+use super::texts::table_parts_by;
 use crate::fault::{RunFault, Which};
 use crate::options::{Options, quick_order};
 use crate::plan::{Crew, Gate};
@@ -99,26 +99,27 @@ pub fn run_table<
 {
     let loaded = loaded_from(crew, graph, source)?;
     let lists = lists_from(crew.alloc, sources, targets, &loaded.graph)?;
-    let text = table_of(crew, loaded, &lists, options)?;
-    write_text(output, &text)
+    let parts = table_of(crew, loaded, &lists, options)?;
+    write_parts(output, &parts)
 }
 
-/// Returns the text of the table of these lists, by the hierarchy that serves.
+/// Returns the text of the table of these lists, by the hierarchy that serves, in parts.
 fn table_of<R: Threads + Sync, G: Gate>(
     crew: &Crew<'_, R, G>,
     loaded: Loaded,
     lists: &Lists,
     options: &Options,
-) -> Result<Vec<u8>, AllocError>
+) -> Result<Vec<Vec<u8>>, AllocError>
     requires limits { IsWithinLimits loaded.graph }
     requires kept { IfSome loaded.saved (IsKept loaded.graph) }
     requires hops { IsNone loaded.saved → IsHopBound options.now.hops }
     requires lists { AreLists loaded.graph.nodes lists.now.sources.items lists.now.targets.items }
-    ensures { IfOk result (λ text. IsTableText loaded.graph options.now.within lists.now.sources.items lists.now.targets.items text.items) }
+    ensures text { IfOk result (λ parts. IsTableText loaded.graph options.now.within lists.now.sources.items lists.now.targets.items (flat_map (λ part. part.items) parts.items)) }
+    ensures length { IfOk result (λ parts. length (flat_map (λ part. part.items) parts.items) < 2 ^ 64) }
 {
     let order = quick_order(crew.plan.workers(), loaded.graph.nodes());
     let hierarchy = loaded.hierarchy(crew, options.hops, order)?;
-    table_by(
+    table_parts_by(
         crew,
         &hierarchy,
         &lists.sources,

@@ -1,5 +1,5 @@
 //! The texts of runs, made whole before the first write.
-ghost use Rattle.std.specs.Prelude.{◌≡◌, ◌≤◌, length, All, IfOk};
+ghost use Rattle.std.specs.Prelude.{◌≡◌, ◌^◌, ◌<◌, ◌≤◌, length, flat_map, All, IfOk};
 ghost use Rattle.std.specs.List.{AllZip};
 ghost use Rattle.ch_graph.specs.declared.limits.TheConstants.{MOST_QUERIES};
 ghost use Rattle.ch_graph.specs.Graph.{Network, IsWithinLimits};
@@ -16,8 +16,8 @@ use crate::plan::{Crew, Gate, Stage};
 use ch_contract::Hierarchy;
 use ch_graph::{Graph, plain_distance};
 use ch_query::{Answer, Scratch, answer_all, answer_all_in};
-use ch_table::table;
-use ch_text::{answers_text, answers_text_by, table_text};
+use ch_text::{answers_text, answers_text_by, table_texts};
+use ch_work::{joined, length_of};
 use std::alloc::{AllocError, Global};
 use std::thread::Threads;
 
@@ -112,6 +112,28 @@ pub(crate) fn table_by<R: Threads + Sync, G: Gate>(
     ensures { IfOk result (λ text. (g : Network) → IsWithinLimits g → IsKept g hierarchy.now →
         IsTableText g within sources.now targets.now text.items) }
 {
-    let cells = table(crew, hierarchy, sources, targets, within)?;
-    table_text(crew, sources, &cells)
+    let parts = table_texts(crew, hierarchy, sources, targets, within)?;
+    joined(crew.alloc, parts)
+}
+
+/// Returns the text of the table of these lists, by a hierarchy, in parts. The parts have fewer than 2^64
+/// bytes.
+pub(crate) fn table_parts_by<R: Threads + Sync, G: Gate>(
+    crew: &Crew<'_, R, G>,
+    hierarchy: &Hierarchy,
+    sources: &[u32],
+    targets: &[u32],
+    within: Option<u64>,
+) -> Result<Vec<Vec<u8>>, AllocError>
+    requires kept { IsKeptForSome hierarchy.now }
+    requires lists { AreLists (nodes_of hierarchy.now) sources.now targets.now }
+    ensures text { IfOk result (λ parts. (g : Network) → IsWithinLimits g → IsKept g hierarchy.now →
+        IsTableText g within sources.now targets.now (flat_map (λ part. part.items) parts.items)) }
+    ensures length { IfOk result (λ parts. length (flat_map (λ part. part.items) parts.items) < 2 ^ 64) }
+{
+    let parts = table_texts(crew, hierarchy, sources, targets, within)?;
+    if length_of(&parts) == usize::MAX {
+        return Err(AllocError);
+    }
+    Ok(parts)
 }

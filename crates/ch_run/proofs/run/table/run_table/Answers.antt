@@ -90,62 +90,62 @@ pub returns-in_err-lists-clause-output : goal.returns-in_err-lists-clause-output
 returns-in_err-lists-clause-output g c = unwritten _ _ c.from_residual-in_err-lists.ensures.1 (lists_no_write _ c.in_err-lists.ensures.own) _ _ _ _
 
 -- there was no memory for the text
-pub returns-in_err-text-clause-written : goal.returns-in_err-text-clause-written
-returns-in_err-text-clause-written g c = undelivered _ _ _ _ _ c.from_residual-in_err-text.ensures.1 (λ write. write)
+pub returns-in_err-parts-clause-written : goal.returns-in_err-parts-clause-written
+returns-in_err-parts-clause-written g c = undelivered _ _ _ _ _ c.from_residual-in_err-parts.ensures.1 (λ write. write)
 
-pub returns-in_err-text-clause-own : goal.returns-in_err-text-clause-own
-returns-in_err-text-clause-own g c = own_as _ _ _ c.from_residual-in_err-text.ensures.1 (inr (inl (inl tt)))
+pub returns-in_err-parts-clause-own : goal.returns-in_err-parts-clause-own
+returns-in_err-parts-clause-own g c = own_as _ _ _ c.from_residual-in_err-parts.ensures.1 (inr (inl (inl tt)))
 
-pub returns-in_err-text-clause-graph : goal.returns-in_err-text-clause-graph
-returns-in_err-text-clause-graph g c = reads_past _ _ _ _ _ _ _ _ tt (past_memory _ Which.Graph c.from_residual-in_err-text.ensures.1) c.in_ok-loaded.ensures.graph
+pub returns-in_err-parts-clause-graph : goal.returns-in_err-parts-clause-graph
+returns-in_err-parts-clause-graph g c = reads_past _ _ _ _ _ _ _ _ tt (past_memory _ Which.Graph c.from_residual-in_err-parts.ensures.1) c.in_ok-loaded.ensures.graph
 
-pub returns-in_err-text-clause-source : goal.returns-in_err-text-clause-source
-returns-in_err-text-clause-source g c =
-    let is = c.from_residual-in_err-text.ensures.1 in
+pub returns-in_err-parts-clause-source : goal.returns-in_err-parts-clause-source
+returns-in_err-parts-clause-source g c =
+    let is = c.from_residual-in_err-parts.ensures.1 in
     source_past _ _ _ _ _ tt (past_memory _ Which.Saved is) (past_memory _ Which.Graph is) _ _ c.in_ok-loaded.ensures.source
 
-pub returns-in_err-text-clause-sources : goal.returns-in_err-text-clause-sources
-returns-in_err-text-clause-sources g c =
-    let is = c.from_residual-in_err-text.ensures.1 in
+pub returns-in_err-parts-clause-sources : goal.returns-in_err-parts-clause-sources
+returns-in_err-parts-clause-sources g c =
+    let is = c.from_residual-in_err-parts.ensures.1 in
     let loaded = c.in_ok-loaded.ensures.value in
     record {
       reads = reads_past _ _ _ _ _ _ _ _ tt (past_memory _ Which.Sources is) (let e = c.in_ok-lists.ensures in read _ _ _ _ _ _ _ _ (λ fault refused. (_, _, loaded, refused)) e.sources_refused e.sources_device e.sources_once);
       unread = inr ((past_memory _ Which.Graph is, (past_memory _ Which.Saved is, tt)), (_, _, loaded, tt));
     }
 
-pub returns-in_err-text-clause-targets : goal.returns-in_err-text-clause-targets
-returns-in_err-text-clause-targets g c =
-    let is = c.from_residual-in_err-text.ensures.1 in
+pub returns-in_err-parts-clause-targets : goal.returns-in_err-parts-clause-targets
+returns-in_err-parts-clause-targets g c =
+    let is = c.from_residual-in_err-parts.ensures.1 in
     let e = c.in_ok-lists.ensures in
     let loaded = c.in_ok-loaded.ensures.value in
     after_past _ _ _ _ _ _ _ _ _ _ tt (past_memory _ Which.Targets is) (past_memory _ Which.Graph is, (past_memory _ Which.Saved is, (past_memory _ Which.Sources is, tt)))
     (read_after _ _ _ _ _ _ _ _ _ _ _ (λ met. ((tt, (tt, (tt, tt))), (_, _, loaded, met.1))) (λ fault refused. (_, _, loaded, refused)) e.targets_refused e.targets_device e.targets_once e.targets_unread)
 
-pub returns-in_err-text-clause-cells : goal.returns-in_err-text-clause-cells
-returns-in_err-text-clause-cells g c = λ same. absurd (out_of_memory c.from_residual-in_err-text.result RunFault.Cells c.from_residual-in_err-text.ensures.1 same)
+pub returns-in_err-parts-clause-cells : goal.returns-in_err-parts-clause-cells
+returns-in_err-parts-clause-cells g c = λ same. absurd (out_of_memory c.from_residual-in_err-parts.result RunFault.Cells c.from_residual-in_err-parts.ensures.1 same)
 
-pub returns-in_err-text-clause-output : goal.returns-in_err-text-clause-output
-returns-in_err-text-clause-output g c = unwritten _ _ c.from_residual-in_err-text.ensures.1 (λ write. write) _ _ _ _
+pub returns-in_err-parts-clause-output : goal.returns-in_err-parts-clause-output
+returns-in_err-parts-clause-output g c = unwritten _ _ c.from_residual-in_err-parts.ensures.1 (λ write. write) _ _ _ _
 
 -- the text was written, or a write was refused
 pub returns-clause-written : goal.returns-clause-written
 returns-clause-written g c =
-    delivered c.write_text.result _ _ _ _ (_, _, c.in_ok-loaded.ensures.value, (_, _, c.in_ok-lists.ensures.value, rw c.deref.ensures.value c.in_ok-text.ensures)) c.write_text.ensures.written
+    delivered c.write_parts.result _ _ _ _ (_, _, c.in_ok-loaded.ensures.value, (_, _, c.in_ok-lists.ensures.value, rw c.deref.ensures.value c.in_ok-parts.ensures.text)) c.write_parts.ensures.written
 
 pub returns-clause-own : goal.returns-clause-own
-returns-clause-own g c = IfErr-weaker c.write_text.result _ _ (λ fault write. inr (inr write)) c.write_text.ensures.own
+returns-clause-own g c = IfErr-weaker c.write_parts.result _ _ (λ fault write. inr (inr write)) c.write_parts.ensures.own
 
 pub returns-clause-graph : goal.returns-clause-graph
-returns-clause-graph g c = reads_past _ _ _ _ _ _ _ _ tt (gone_past c.write_text.result c.write_text.ensures.own Which.Graph) c.in_ok-loaded.ensures.graph
+returns-clause-graph g c = reads_past _ _ _ _ _ _ _ _ tt (gone_past c.write_parts.result c.write_parts.ensures.own Which.Graph) c.in_ok-loaded.ensures.graph
 
 pub returns-clause-source : goal.returns-clause-source
 returns-clause-source g c =
-    let past = gone_past c.write_text.result c.write_text.ensures.own in
+    let past = gone_past c.write_parts.result c.write_parts.ensures.own in
     source_past _ _ _ _ _ tt (past Which.Saved) (past Which.Graph) _ _ c.in_ok-loaded.ensures.source
 
 pub returns-clause-sources : goal.returns-clause-sources
 returns-clause-sources g c =
-    let past = gone_past c.write_text.result c.write_text.ensures.own in
+    let past = gone_past c.write_parts.result c.write_parts.ensures.own in
     let loaded = c.in_ok-loaded.ensures.value in
     record {
       reads = reads_past _ _ _ _ _ _ _ _ tt (past Which.Sources) (let e = c.in_ok-lists.ensures in read _ _ _ _ _ _ _ _ (λ fault refused. (_, _, loaded, refused)) e.sources_refused e.sources_device e.sources_once);
@@ -154,15 +154,15 @@ returns-clause-sources g c =
 
 pub returns-clause-targets : goal.returns-clause-targets
 returns-clause-targets g c =
-    let past = gone_past c.write_text.result c.write_text.ensures.own in
+    let past = gone_past c.write_parts.result c.write_parts.ensures.own in
     let e = c.in_ok-lists.ensures in
     let loaded = c.in_ok-loaded.ensures.value in
     after_past _ _ _ _ _ _ _ _ _ _ tt (past Which.Targets) (past Which.Graph, (past Which.Saved, (past Which.Sources, tt)))
     (read_after _ _ _ _ _ _ _ _ _ _ _ (λ met. ((tt, (tt, (tt, tt))), (_, _, loaded, met.1))) (λ fault refused. (_, _, loaded, refused)) e.targets_refused e.targets_device e.targets_once e.targets_unread)
 
 pub returns-clause-cells : goal.returns-clause-cells
-returns-clause-cells g c = λ same. absurd (ends_in c.write_text.result IsWrite RunFault.Cells c.write_text.ensures.own same)
+returns-clause-cells g c = λ same. absurd (ends_in c.write_parts.result IsWrite RunFault.Cells c.write_parts.ensures.own same)
 
 pub returns-clause-output : goal.returns-clause-output
 returns-clause-output g c =
-    record { writes = record { device = c.write_text.ensures.device; once = c.write_text.ensures.once }; unwritten = inr (c.write_text.ensures.own, (_, _, c.in_ok-loaded.ensures.value, (_, _, c.in_ok-lists.ensures.value))) }
+    record { writes = record { device = c.write_parts.ensures.device; once = c.write_parts.ensures.once }; unwritten = inr (c.write_parts.ensures.own, (_, _, c.in_ok-loaded.ensures.value, (_, _, c.in_ok-lists.ensures.value))) }

@@ -13,8 +13,10 @@ loop-source-preserved c =
     let rows = c.loop-source.rows.items in
     let asked = c.args.self.now in
     let R : ℕ → Vec (Option ℕ) Global → Type 0 = λ s row. IsRowBy asked.hierarchy asked.limit asked.targets s row.items in
-    let more = all_zipped_more R (take i sources) rows (get_or sources i 0) c.in_ok-row.row c.loop-source.invariant.0 c.in_ok-row.ensures.row in (
-      rw c.push_reserved.ensures.items (subst (λ xs. AllZip R xs (rows ++ c.in_ok-row.row ∷ [])) (sym (take_more sources i 0 c.loop-source-test.true)) more),
+    let row = c.in_ok-from_slice.field-0 in
+    let made = subst (IsRowBy asked.hierarchy asked.limit asked.targets (get_or sources i 0)) (sym (c.in_ok-from_slice.ensures.items ∙ c.deref.ensures.value)) c.in_ok-write_row.ensures.row in
+    let more = all_zipped_more R (take i sources) rows (get_or sources i 0) row c.loop-source.invariant.0 made in (
+      rw c.push_reserved.ensures.items (subst (λ xs. AllZip R xs (rows ++ row ∷ [])) (sym (take_more sources i 0 c.loop-source-test.true)) more),
       omega (arith, c.push_reserved.ensures.len, c.push_reserved.ensures.capacity, c.loop-source.invariant.1, c.loop-source-test.true),
-      c.row.ensures.scratch ∙ c.loop-source.invariant.2,
+      c.write_row.ensures.scratch ∙ c.loop-source.invariant.2,
     )

@@ -1,7 +1,7 @@
 use Rattle.std.proofs.Common.{◌≡◌, ◌+◌, ◌-◌, ◌≤◌, length, map, take, vec_len}
 use Rattle.std.specs.Prelude.{vec_capacity}
 use Rattle.ch_table.specs.Rows.{cell_of}
-use Rattle.ch_table.proofs.row.cells_of.Given as goal
+use Rattle.ch_table.proofs.row.write_cells.Given as goal
 
 abbrev pub invariant-loop-word : goal.invariant-loop-word
 invariant-loop-word l =

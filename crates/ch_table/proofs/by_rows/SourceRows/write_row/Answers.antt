@@ -1,16 +1,16 @@
 use Rattle.std.proofs.Common.{◌≡◌, ℕ, ◌<◌, ◌≤◌, List, [], length, map, replicate, sym, ap, ◌∙◌, subst}
 use Rattle.std.specs.Prelude.{All, slice_index_or}
 use Rattle.std.proofs.lemmas.List.{with_items_is}
-use Rattle.std.proofs.lemmas.Result.{IfOk-weaker}
+use Rattle.std.proofs.lemmas.Result.{on_ok_weaker}
 use Rattle.ch_graph.specs.declared.limits.TheConstants.{MOST_WEIGHT}
 use Rattle.ch_query.specs.declared.side.Side.TheVariants.{Down}
 use Rattle.ch_table.specs.declared.row.TheConstants.{UNREACHED}
-use Rattle.ch_table.specs.Rows.{Asked, AreLowered, IsMostSum, IsSumOf, cell_of}
+use Rattle.ch_table.specs.Rows.{Asked, AreLowered, IsSumOf, cell_of}
 use Rattle.ch_table.specs.Sums.{IsEntryAmong}
 use Rattle.ch_table.specs.Table.{IsRowBy}
 use Rattle.ch_table.proofs.RowCells.{space_among, refilled, row_is}
 use Rattle.ch_table.proofs.Tables.{entries_among}
-use Rattle.ch_table.proofs.by_rows.SourceRows.row.Goals as goal
+use Rattle.ch_table.proofs.by_rows.SourceRows.write_row.Goals as goal
 
 pub lower_by_space-requires-clause-space : goal.lower_by_space-requires-clause-space
 lower_by_space-requires-clause-space c =
@@ -41,10 +41,9 @@ returns-clause-row c =
     let filled : c.deref_mut.result.now ≡ replicate (length targets) UNREACHED
     = c.deref_mut.ensures.value ∙ refilled (length targets) UNREACHED c.resize.new.self.items c.clear.new.self.items c.clear.new.self.len c.in_ok-resize.ensures.items c.clear.ensures.items c.clear.ensures.len in
     let lowered = subst (λ (t : List (ℕ × ℕ) × List ℕ). AreLowered (IsSumOf t.0 inside.buckets) t.1 low) (λ i. (c.deref.ensures.value i, filled i)) c.lower_by_space.ensures in
-    IfOk-weaker c.cells_of.result (λ cells. (most : ℕ) × IsMostSum limit most × (cells.items ≡ map (cell_of most) c.deref-2.result.now))
-    (λ cells. IsRowBy c.args.self.now.hierarchy c.args.self.now.limit c.args.self.now.targets s cells.items)
-    (λ cells h.
-    subst (λ (asked : Asked). IsRowBy asked.hierarchy asked.limit asked.targets s cells.items) c.self.view_is
+    on_ok_weaker c.write_cells.result
+    (λ h.
+    subst (λ (asked : Asked). IsRowBy asked.hierarchy asked.limit asked.targets s c.write_cells.new.cells.items) c.self.view_is
     (subst (IsRowBy H limit targets s) (sym (h.2 ∙ ap (map (cell_of h.0)) row))
     (row_is H limit targets inside.buckets c.self.invariant s c.in_ok-space.space.items c.in_ok-space.ensures.space low lowered h.0 h.1)))
-    c.cells_of.ensures
+    c.write_cells.ensures

@@ -1,0 +1,98 @@
+-- A text that is written in parts.
+use Rattle.std.proofs.Common.{◌≡◌, ℕ, ◌+◌, ◌<◌, ◌^◌, ◌-◌, min, vec_len, List, [], ◌∷◌, ◌++◌, length, take, drop, get_or, Option, Vec, Ok, Err, refl, sym, ◌∙◌, ap, subst, append_assoc, arith, inl, inr}
+use Rattle.std.specs.Prelude.{Result, IsErrAnd}
+use Rattle.std.specs.List.{flat_map, sum_by}
+use Rattle.std.specs.declared.alloc.Global.{Global}
+use Rattle.std.proofs.Math.Seq.{take-append-add}
+use Rattle.std.proofs.lemmas.Grind.{flat_map-append}
+use Rattle.std.proofs.lemmas.List.Concat.{length-flat_map}
+use Rattle.std.proofs.lemmas.List.Folds.{length-flat_map-take}
+use Rattle.std.proofs.lemmas.List.Sums.{sum_by-cons}
+use Rattle.std.proofs.lemmas.Bool.{cases_lt}
+use Rattle.ch_read.specs.Reading.{capped_number}
+use Rattle.std.proofs.lemmas.List.{length-append, take-append-le, take-append-drop, flat_map_more, take_more}
+use Rattle.ch_text.specs.Device.{HasTaken}
+use Rattle.ch_run.specs.declared.fault.RunFault.{RunFault}
+use Rattle.ch_run.specs.Run.{Delivers}
+use Rattle.ch_run.specs.Serving.{WritesMore}
+use Rattle.ch_run.proofs.Answered.{taken_append}
+
+-- the count of a failed write
+abbrev count_of : RunFault → ℕ
+count_of (RunFault.Write count) = count
+count_of _ = 0
+
+-- the bytes of all parts, in order
+abbrev pub bytes_of : List (Vec ℕ Global) → List ℕ
+bytes_of parts = flat_map (λ (part : Vec ℕ Global). part.items) parts
+
+-- the lengths of parts are those of their bytes
+lengths : (parts : List (Vec ℕ Global)) → sum_by vec_len parts ≡ sum_by (λ (part : Vec ℕ Global). length part.items) parts
+lengths [] = refl
+lengths (part ∷ parts) =
+    let first = sum_by-cons vec_len part parts in
+    let second = sum_by-cons (λ (list : Vec ℕ Global). length list.items) part parts in
+    let rest = lengths parts in
+    let here = part.ok.0 in
+    omega arith
+
+-- parts whose number of bytes can be told have fewer than 2^64
+pub fewer : (parts : List (Vec ℕ Global)) (count : ℕ) → count ≡ min (sum_by vec_len parts) (2 ^ 64 - 1) → (count ≡ 2 ^ 64 - 1 → ⊥) → length (bytes_of parts) < 2 ^ 64
+fewer parts count is other =
+    let long = length-flat_map (λ (part : Vec ℕ Global). part.items) parts in
+    let same = lengths parts in
+    let few = cases_lt (sum_by vec_len parts) (2 ^ 64 - 1) in
+    elim few [ inl low ↦ omega arith | inr high ↦ absurd (other (omega arith)) ]
+
+module _ (parts : List (Vec ℕ Global)) (i : ℕ) (d : Vec ℕ Global) (within : i < length parts) where
+  -- the bytes of the first parts, with those of one more
+  pub one_more : bytes_of (take (i + 1) parts) ≡ bytes_of (take i parts) ++ (get_or parts i d).items
+  one_more = ap bytes_of (take_more parts i d within) ∙ sym (flat_map_more (λ (part : Vec ℕ Global). part.items) [] (take i parts) (get_or parts i d))
+
+  -- all bytes are those of the first parts, of the part here, and of those behind it
+  all_are : bytes_of parts ≡ bytes_of (take i parts) ++ ((get_or parts i d).items ++ bytes_of (drop (i + 1) parts))
+  all_are =
+      ap bytes_of (sym (take-append-drop (i + 1) parts)) ∙ flat_map-append (λ (part : Vec ℕ Global). part.items) (take (i + 1) parts) (drop (i + 1) parts)
+      ∙ ap (λ l. l ++ bytes_of (drop (i + 1) parts)) one_more ∙ append_assoc (bytes_of (take i parts)) (get_or parts i d).items (bytes_of (drop (i + 1) parts))
+
+  -- the output took the first parts, and the beginning of the part here
+  beginning : (old mid new : Option (List ℕ)) (count : ℕ) → count < length (get_or parts i d).items → HasTaken old mid (bytes_of (take i parts)) → HasTaken mid new (take count (get_or parts i d).items) →
+      (length (bytes_of (take i parts)) + count < length (bytes_of parts)) × HasTaken old new (take (length (bytes_of (take i parts)) + count) (bytes_of parts))
+  beginning old mid new count few before more =
+      let first = bytes_of (take i parts) in
+      let here = (get_or parts i d).items in
+      let rest = bytes_of (drop (i + 1) parts) in
+      let all = all_are in
+      let part : take (length first + count) (bytes_of parts) ≡ first ++ take count here
+      = ap (take (length first + count)) all ∙ take-append-add first (here ++ rest) count ∙ ap (λ l. first ++ l) (take-append-le count here rest (omega arith)) in
+      let long = ap length all in
+      let sum = length-append first (here ++ rest) in
+      let behind = length-append here rest in
+      (omega arith, subst (HasTaken old new) (sym part) (taken_append old mid new first (take count here) before more))
+
+  -- the number of bytes that were written, with those of the part here
+  pub written_on : (before after : ℕ) → length (bytes_of parts) < 2 ^ 64 → before ≡ length (bytes_of (take i parts)) → after ≡ capped_number (before + length (get_or parts i d).items) →
+      after ≡ length (bytes_of (take (i + 1) parts))
+  written_on before after fits so_far sum =
+      let long = ap length one_more in
+      let both = length-append (bytes_of (take i parts)) (get_or parts i d).items in
+      let most = length-flat_map-take (λ (part : Vec ℕ Global). part.items) parts i d within in
+      omega arith
+
+  -- a write of the part here failed
+  pub part_failed : (old mid new : Option (List ℕ)) (before after : ℕ) (e : RunFault) (r : Result Unit RunFault) → length (bytes_of parts) < 2 ^ 64 → HasTaken old mid (bytes_of (take i parts)) →
+      before ≡ length (bytes_of (take i parts)) → WritesMore {T = Unit} mid new before after (get_or parts i d).items (Err e) → IsErrAnd r (λ y. y ≡ e) → Delivers r old new (λ bytes. bytes ≡ bytes_of parts)
+  part_failed old mid new before after e (Ok x) fits so_far count wrote is = absurd is
+  part_failed old mid new before after (RunFault.Write n) (Err y) fits so_far count wrote is = λ m same.
+      let found = beginning old mid new wrote.0 wrote.1 so_far wrote.2 in
+      let equal : m ≡ n = ap count_of (sym same ∙ is) in
+      let most = wrote.3 in
+      let low = found.0 in
+      let exact : m ≡ length (bytes_of (take i parts)) + wrote.0 = omega arith in
+      (bytes_of parts, refl, omega arith, subst (λ k. HasTaken old new (take k (bytes_of parts))) (sym exact) found.1)
+  part_failed old mid new before after RunFault.Memory (Err y) fits so_far count wrote is = absurd wrote
+  part_failed old mid new before after RunFault.Cells (Err y) fits so_far count wrote is = absurd wrote
+  part_failed old mid new before after (RunFault.CellsAt line) (Err y) fits so_far count wrote is = absurd wrote
+  part_failed old mid new before after (RunFault.Read which f) (Err y) fits so_far count wrote is = absurd wrote
+  part_failed old mid new before after (RunFault.Check f) (Err y) fits so_far count wrote is = absurd wrote
+  part_failed old mid new before after (RunFault.Device which) (Err y) fits so_far count wrote is = absurd wrote

@@ -1,0 +1,14 @@
+use Rattle.std.proofs.Common.{ℕ, ◌<◌, ◌^◌, List, Vec, length, subst}
+use Rattle.std.specs.declared.alloc.Global.{Global}
+use Rattle.ch_run.proofs.Texts.{cells_text}
+use Rattle.ch_run.proofs.Parts.{bytes_of, fewer}
+use Rattle.ch_run.proofs.run.texts.table_parts_by.Goals as goal
+
+pub returns-clause-text : goal.returns-clause-text
+returns-clause-text g c =
+    let a = c.args in
+    λ network limits kept. cells_text network a.hierarchy.now limits kept a.within a.sources.now a.targets.now (bytes_of c.in_ok-parts.parts.items) c.in_ok-parts.ensures
+
+pub returns-clause-length : goal.returns-clause-length
+returns-clause-length g c =
+    subst (λ (parts : List (Vec ℕ Global)). length (bytes_of parts) < 2 ^ 64) c.deref.ensures.value (fewer c.deref.result.now c.length_of.result c.length_of.ensures c.if-length_of.false)

@@ -1,0 +1,17 @@
+use Rattle.std.proofs.Common.{[], ◌∷◌, ◌++◌, ap, ◌∙◌, sym, subst}
+use Rattle.ch_graph.proofs.Lists.{zipped_length}
+use Rattle.ch_table.specs.Table.{IsRowBy, AreGathered}
+use Rattle.ch_table.proofs.Gathering.{one_part}
+use Rattle.ch_table.proofs.many_to_many.gather_rows.Goals as goal
+
+pub gathered-requires-clause-rows : goal.gathered-requires-clause-rows
+gathered-requires-clause-rows g c κs within =
+    let a = c.args in
+    zipped_length (IsRowBy a.hierarchy.now a.within a.targets.now) a.sources.now c.in_ok-table.table c.in_ok-table.ensures
+
+pub returns-in_ok-push : goal.returns-in_ok-push
+returns-in_ok-push g c =
+    let a = c.args in
+    let M = g.J.RowJob.meaning a.job.now in
+    subst (AreGathered M a.hierarchy.now a.within a.targets.now a.sources.now) (sym (c.in_ok-push.ensures.items ∙ ap (λ l. l ++ c.in_ok-whole.whole ∷ []) c.in_ok-values.ensures.items))
+    (one_part M a.hierarchy.now a.within a.targets.now a.sources.now c.in_ok-table.table c.in_ok-whole.whole c.in_ok-table.ensures c.in_ok-whole.ensures)

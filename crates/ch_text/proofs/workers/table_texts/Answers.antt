@@ -1,0 +1,8 @@
+use Rattle.std.proofs.lemmas.Result.{IfOk-weaker}
+use Rattle.ch_text.proofs.TableTexts.{gathered_texts}
+use Rattle.ch_text.proofs.workers.table_texts.Goals as goal
+
+pub returns : goal.returns
+returns g c =
+    let a = c.args in
+    IfOk-weaker c.gather_rows.result _ _ (λ texts are. gathered_texts a.hierarchy.now a.within a.targets.now a.sources.now texts.items are) c.gather_rows.ensures
