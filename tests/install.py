@@ -168,9 +168,12 @@ def check_first_proofs(tally, folder):
         return status, out, asked.read_text().split(), err
 
     status, out, proved, err = built("high")
-    tally.expect((status, out, sorted(proved)) == (70, "", ["aside", "high", "low"]) and "words of high" in err, f"a refused library: {status} {out} {proved} {err}")
+    # The refusal may end the other proof before it has begun.
+    is_known = sorted({*proved} - {"aside"}) == ["high", "low"]
+    tally.expect((status, out, is_known) == (70, "", True) and "words of high" in err, f"a refused library: {status} {out} {proved} {err}")
     status, out, proved, err = built()
-    tally.expect((status, out, proved) == (0, "run one\n", ["high", "chtab"]), f"what was not proved yet: {status} {out} {proved} {err}")
+    is_known = [name for name in proved if name != "aside"] == ["high", "chtab"]
+    tally.expect((status, out, is_known) == (0, "run one\n", True), f"what was not proved yet: {status} {out} {proved} {err}")
     tally.expect(verdict.read_text() == "logic=proved functions=1 crate=high\n", f"the verdict of a library: {verdict.read_text()}")
     tally.expect(built()[:3] == (0, "run one\n", []), "nothing has changed")
     source = checkout / "crates" / "high" / "src" / "lib.rt"
