@@ -130,6 +130,8 @@ echo "$name" >>"$kit/asked"
 echo "words of $name"
 ! grep -qx "$name" "$kit/refused" || exit 1
 ! grep -qx "$name" "$kit/slow" || sleep 61.25
+! grep -qx "$name" "$kit/changed" || echo "// more" >>src/lib.rt
+! grep -qx "$name" "$kit/killed" || kill -9 $$
 case $to in *.o) touch "$to" ;; *) mkdir "$to" ;; esac
 echo "logic=proved functions=1 crate=$name"
 """,
@@ -157,7 +159,8 @@ def check_first_proofs(tally, folder):
         (stand_in / name).write_text(text)
         (stand_in / name).chmod(0o755)
     (stand_in / "helps").write_text("--statements\n")
-    (stand_in / "slow").write_text("")
+    for name in "slow", "changed", "killed":
+        (stand_in / name).write_text("")
     asked, refused, verdict = stand_in / "asked", stand_in / "refused", checkout / "crates" / "high" / "out" / "verdict"
 
     def built(*names):
@@ -196,6 +199,17 @@ def check_first_proofs(tally, folder):
     tally.expect(left is not None and not left.stdout, f"a call that is ended: {running.returncode} {left}")
     (stand_in / "slow").write_text("")
     tally.expect(built()[:3] == (0, "run one\n", ["low", "high", "chtab"]), f"after a call that was ended: {asked.read_text().split()}")
+    # A file that changes while its crate is proved, and a proof that is killed.
+    (stand_in / "changed").write_text("low\n")
+    (checkout / "crates" / "low" / "src" / "lib.rt").write_text("// and again\n")
+    status, out, proved, err = built()
+    tally.expect((status, out, proved) == (70, "", ["low"]) and "changed meanwhile" in err, f"a file that changes: {status} {out} {proved} {err}")
+    (stand_in / "changed").write_text("")
+    tally.expect(built()[:3] == (0, "run one\n", ["low", "high", "chtab"]), f"after a file that changed: {asked.read_text().split()}")
+    (stand_in / "killed").write_text("chtab\n")
+    (checkout / "crates" / "chtab" / "src" / "more.rt").write_text("// other\n")
+    status = subprocess.run([checkout / "packaging" / "prove"], env={**os.environ, "PATH": f"{stand_in}/bin:{SYSTEM}"}, stderr=subprocess.DEVNULL).returncode
+    tally.expect(status == 69, f"a proof that is killed: {status}")
 
 
 def check_lines_of_the_kit(tally):

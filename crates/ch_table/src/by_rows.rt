@@ -104,7 +104,7 @@ fn spaces_alone(
     Ok(spaces)
 }
 
-/// The search spaces of the targets, by which the row of each source is made.
+/// What the rows of all sources are made of: the buckets of the targets.
 #[derive(Drop)]
 struct SourceRows<'a> {
     hierarchy: &'a Hierarchy,
