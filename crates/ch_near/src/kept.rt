@@ -1,5 +1,5 @@
 //! Targets that are kept for one caller, who asks alone.
-ghost use Rattle.std.specs.Prelude.{◌≡◌, ◌<◌, ◌≤◌, length, All, IfOk, OnOk};
+ghost use Rattle.std.specs.Prelude.{◌≡◌, ◌≢◌, ◌<◌, ◌≤◌, None, length, All, IfOk, OnOk};
 ghost use Rattle.ch_graph.specs.declared.limits.TheConstants.{MOST_LISTED};
 ghost use Rattle.ch_hierarchy.specs.Hierarchy.{nodes_of};
 ghost use Rattle.ch_near.specs.Near.{IsNearRow};
@@ -7,12 +7,11 @@ ghost use Rattle.ch_near.specs.Kept.{AreKeptIn, IsRowOf, asked_by};
 ghost use Rattle.ch_query.specs.Distance.{IsKeptForSome};
 
 use crate::direction::Direction;
-use crate::rows::{Nearest, NearestWithin, Room};
+use crate::rows::{Nearest, Room};
 use crate::searched::Searched;
 use crate::spaces::spaces_alone;
 use ch_graph::Rows;
 use ch_hierarchy::Hierarchy;
-use ch_work::ListJob;
 use std::alloc::{AllocError, Global};
 
 /// Targets that were searched from, kept apart from their hierarchy: a caller lends the same one with each question. One
@@ -113,25 +112,32 @@ impl KeptTargets {
         ensures kept { AreKeptIn hierarchy.now self.new }
         ensures asked { asked_by self.new ≡ asked_by self.old }
     {
-        let within = self.searched.within;
-        let count = self.searched.count;
+        self.need_room(alloc, hierarchy)?;
         let nearest = Nearest {
             hierarchy,
             searched: &self.searched,
         };
-        let job = NearestWithin {
-            nearest: &nearest,
-            within,
+        let Some(room) = &mut self.room else {
+            unreachable!()
         };
-        let mut room = match self.room.take() {
-            Some(room) => room,
-            None => job.room(alloc)?,
-        };
-        nearest.fill_by_guess(alloc, &mut room, source, within)?;
-        row.clear();
-        row.extend_from_slice(&room.row)?;
-        room.guess_by(count);
-        self.room = Some(room);
+        let written = nearest.write_row(alloc, room, source, row);
+        if written.is_err() {
+            self.room = None;
+        }
+        written
+    }
+
+    /// Makes the room of a search, if there is none.
+    fn need_room(&mut self, alloc: Global, hierarchy: &Hierarchy) -> Result<(), AllocError>
+        requires { AreKeptIn hierarchy.now self.old }
+        ensures room { OnOk result (self.new.room ≢ None) }
+        ensures kept { AreKeptIn hierarchy.now self.new }
+        ensures asked { asked_by self.new ≡ asked_by self.old }
+    {
+        if self.room.is_none() {
+            let room = Room::new(alloc, hierarchy.nodes(), self.searched.targets.len() as u32)?;
+            self.room = Some(room);
+        }
         Ok(())
     }
 }

@@ -1,5 +1,5 @@
 //! The rows of sources by searches, one from each source.
-ghost use Rattle.std.specs.Prelude.{◌≡◌, ◌<◌, ◌≤◌, ℕ, true, Some, length, OnOk};
+ghost use Rattle.std.specs.Prelude.{◌≡◌, ◌<◌, ◌≤◌, ℕ, true, Some, length, IfOk, OnOk};
 ghost use Rattle.ch_hierarchy.specs.Hierarchy.{nodes_of};
 ghost use Rattle.ch_near.specs.Near.{IsNearRow};
 ghost use Rattle.ch_near.specs.Offers.{AreUnoffered};
@@ -98,6 +98,28 @@ impl<'a> Nearest<'a> {
         }
         self.fill(alloc, room, source, within)
     }
+
+    /// Writes the row of a source, within the limit of the search from the targets.
+    pub(crate) fn write_row(
+        &self,
+        alloc: Global,
+        room: &mut Room,
+        source: u32,
+        row: &mut Vec<(u64, u32)>,
+    ) -> Result<(), AllocError>
+        requires source { source < nodes_of self.now.hierarchy }
+        requires scratch { room.old.scratch ≡ nodes_of self.now.hierarchy }
+        requires offers { AreUnoffered (length self.now.targets) room.old.offers }
+        ensures row { OnOk result (IsNearRow self.now.hierarchy self.now.limit self.now.count self.now.targets source row.new.items) }
+        ensures scratch { OnOk result (room.new.scratch ≡ nodes_of self.now.hierarchy) }
+        ensures offers { OnOk result (AreUnoffered (length self.now.targets) room.new.offers) }
+    {
+        self.fill_by_guess(alloc, room, source, self.searched.within)?;
+        row.clear();
+        row.extend_from_slice(&room.row)?;
+        room.guess_by(self.searched.count);
+        Ok(())
+    }
 }
 
 /// The rows of sources within a limit that is at most the one of the search from the targets.
@@ -130,6 +152,21 @@ pub(crate) struct Room {
 }
 
 impl Room {
+    /// Makes the room for rows of nodes of a hierarchy of `nodes` nodes, to `targets` targets.
+    pub(crate) fn new(alloc: Global, nodes: u32, targets: u32) -> Result<Room, AllocError>
+        ensures scratch { IfOk result (λ room. room.scratch ≡ nodes) }
+        ensures offers { IfOk result (λ room. AreUnoffered targets room.offers) }
+    {
+        let offers = Offers::new(alloc, targets)?;
+        let scratch = Scratch::new(alloc, nodes)?;
+        Ok(Room {
+            scratch,
+            offers,
+            row: Vec::new(alloc),
+            guess: MOST_WEIGHT,
+        })
+    }
+
     /// Whether the row has as many targets as are asked for.
     fn is_full(&self, count: Option<u32>) -> bool
         ensures { result ≡ true → count ≡ Some (length self.now.row.items) }
@@ -189,14 +226,11 @@ impl<'n, 'a> ListJob for NearestWithin<'n, 'a> {
 
     fn room(&self, alloc: Global) -> Result<Room, AllocError> {
         let nearest = self.nearest;
-        let scratch = Scratch::new(alloc, nearest.hierarchy.nodes())?;
-        let offers = Offers::new(alloc, nearest.searched.targets.len() as u32)?;
-        Ok(Room {
-            scratch,
-            offers,
-            row: Vec::new(alloc),
-            guess: MOST_WEIGHT,
-        })
+        Room::new(
+            alloc,
+            nearest.hierarchy.nodes(),
+            nearest.searched.targets.len() as u32,
+        )
     }
 
     fn value(

@@ -51,9 +51,26 @@ pub(crate) fn spaces_alone(
     ensures { IfOk result (λ spaces. AllZip (λ t space. IsRankedSpace (facing direction hierarchy.now) Down within t space.items) targets.now spaces.items) }
 {
     let mut scratch = Scratch::new(alloc, hierarchy.nodes())?;
+    spaces_in(alloc, hierarchy, &mut scratch, direction, targets, within)
+}
+
+/// Like [`spaces_alone`], in this scratch.
+fn spaces_in(
+    alloc: Global,
+    hierarchy: &Hierarchy,
+    scratch: &mut Scratch,
+    direction: Direction,
+    targets: &[u32],
+    within: Option<u64>,
+) -> Result<Vec<Vec<(u32, u64)>>, AllocError>
+    requires kept { IsKeptForSome hierarchy.now }
+    requires targets { All (λ t. t < nodes_of hierarchy.now) targets.now }
+    requires scratch { scratch.old ≡ nodes_of hierarchy.now }
+    ensures { IfOk result (λ spaces. AllZip (λ t space. IsRankedSpace (facing direction hierarchy.now) Down within t space.items) targets.now spaces.items) }
+{
     let mut spaces = Vec::with_capacity(alloc, targets.len())?;
     for target in targets {
-        let space = space_to(alloc, hierarchy, &mut scratch, direction, *target, within)?;
+        let space = space_to(alloc, hierarchy, scratch, direction, *target, within)?;
         spaces.push_reserved(space);
     }
     Ok(spaces)

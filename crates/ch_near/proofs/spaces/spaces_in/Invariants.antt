@@ -5,7 +5,7 @@ use Rattle.ch_hierarchy.specs.Hierarchy.{nodes_of}
 use Rattle.ch_near.specs.Direction.{facing}
 use Rattle.ch_query.specs.declared.side.Side.TheVariants.{Down}
 use Rattle.ch_query.specs.SearchSpace.{IsRankedSpace}
-use Rattle.ch_near.proofs.spaces.spaces_alone.Given as goal
+use Rattle.ch_near.proofs.spaces.spaces_in.Given as goal
 
 abbrev pub invariant-loop-target : goal.invariant-loop-target
 invariant-loop-target l =

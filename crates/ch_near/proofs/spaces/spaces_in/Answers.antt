@@ -6,7 +6,7 @@ use Rattle.std.proofs.lemmas.Slice.Zip.{all_zipped_more}
 use Rattle.ch_near.specs.Direction.{facing}
 use Rattle.ch_query.specs.declared.side.Side.TheVariants.{Down}
 use Rattle.ch_query.specs.SearchSpace.{IsRankedSpace}
-use Rattle.ch_near.proofs.spaces.spaces_alone.Goals as goal
+use Rattle.ch_near.proofs.spaces.spaces_in.Goals as goal
 
 pub loop-target-preserved : goal.loop-target-preserved
 loop-target-preserved c =
