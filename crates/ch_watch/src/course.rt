@@ -1,7 +1,7 @@
 //! The stage of a run, and when the next line on it is due.
 
-use super::text::{Progress, is_cut_in_pieces, number_of, stage_of};
-use ch_run::Stage;
+use crate::text::{Progress, is_cut_in_pieces, number_of, stage_of};
+use ch_work::Stage;
 use std::alloc::Global;
 use std::sync::atomic::{AtomicBool, AtomicU32, AtomicU64, Ordering};
 

@@ -1,6 +1,6 @@
 //! The text of a line on progress.
 
-use ch_run::Stage;
+use ch_work::Stage;
 use std::fmt;
 
 /// Returns the number of a stage, which an atomic word can hold.

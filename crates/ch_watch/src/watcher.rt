@@ -1,11 +1,7 @@
-//! Reports of progress: lines on standard error that say how far a run is. No contract covers them, and
-//! no answer depends on them.
+//! The gate that reports how far a run is.
 
-mod course;
-mod text;
-
-use ch_run::{Gate, Open, Stage};
-use course::Course;
+use crate::course::Course;
+use ch_work::{Gate, Open, Stage};
 use std::alloc::Global;
 
 /// A gate that learns whether the words ask for progress.

@@ -1,12 +1,11 @@
 //! `chtab`: exact least distances on directed graphs, from files to text.
 //!
-//! It stands on ch_graph, ch_line, ch_run, ch_text, ch_words and ch_work.
+//! It stands on ch_graph, ch_line, ch_run, ch_text, ch_watch, ch_words and ch_work.
 #![tactic(auto)]
 
 mod numbers;
 mod program;
 mod system;
-mod watcher;
 
 pub use ch_run::{
     Crew, DeviceFault, Direction, Gate, Input, MemoryInput, MemoryOutput, Open, Options, Output,

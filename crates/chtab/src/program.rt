@@ -8,9 +8,9 @@ ghost use Rattle.ch_words.specs.Line.{IsAllowed, IsFaultOf, IsReadFrom, line_sta
 ghost use Rattle.chtab.specs.Program.{AnswersFault, EndsIn, IsAnswer, IsEnd, IsTold, IsUnheard, answer_of, line_fault_text};
 ghost use Rattle.chtab.specs.declared.program.ProgramFault.{ProgramFault as FaultOf};
 
-use crate::watcher::Watch;
 use ch_line::{Files, run_line};
 use ch_run::{Input, Output, RunFault, fault_line, status, write_all};
+use ch_watch::Watch;
 use ch_words::{Line, LineFault, line_status, read_words};
 use std::alloc::{AllocError, Global};
 use std::thread::Threads;

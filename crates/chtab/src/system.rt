@@ -12,14 +12,13 @@ ghost use Rattle.chtab.specs.Program.{AnswersFault, IsAnswer, IsEnd};
 ghost use Rattle.chtab.specs.declared.program.ProgramFault.{ProgramFault as FaultOf};
 
 use crate::program::{self, System};
-use crate::watcher::{Lines, Timer, Watcher};
 use ch_line::{Files, OpenFault};
 use ch_run::{DeviceFault, Input, Output, ReaderInput, WriterOutput};
+use ch_watch::{Lines, Timer, Watcher};
 use ch_words::{LineFault, refused};
-use std::io::{ErrorKind, IsTerminal, Read, Stderr, Write};
+use std::io::{ErrorKind, IsTerminal, Read, Write};
 use std::rt::Env;
 use std::thread::Threads;
-use std::time::Clock;
 use std::{env, fs, rt};
 
 /// The system's files. Contracts know nothing of them.
@@ -77,20 +76,6 @@ impl<'a, R: rt::Files> Files for SystemFiles<'a, R> {
     }
 
     fn close(&mut self, _input: SystemFile<R::File>) {}
-}
-
-impl Timer for HostRuntime {
-    fn milliseconds(&self) -> Option<u64> {
-        let time = self.monotonic().ok()?;
-        u64::try_from(time.as_millis()).ok()
-    }
-}
-
-impl Lines for Stderr {
-    fn take(&self, line: &str) {
-        let mut errors = *self;
-        let _ = errors.write_all(line.as_bytes());
-    }
 }
 
 /// Returns the words after the program's name.
