@@ -13,6 +13,7 @@ import subprocess
 from pathlib import Path
 
 import believe
+from helpers import layers
 from helpers.running import ROOT, Count
 
 PAGES = (
@@ -452,16 +453,6 @@ def check_parts(tally):
         tally.expect(f"`{path.name}`" in page, f"ARCHITECTURE.md does not name {told(path)}")
 
 
-def check_layers(tally):
-    """The head of each crate names the crates that it stands on, as crates.txt does."""
-    for name, below in re.findall(r"^(\w+).*?:(.*)$", (ROOT / "crates.txt").read_text(), re.MULTILINE):
-        roots = [path for path in (ROOT / "crates" / name / "src" / root for root in ("lib.rt", "main.rt")) if path.is_file()]
-        head = " ".join(re.findall(r"^//! ?(.*)$", roots[0].read_text(), re.MULTILINE))
-        told = re.search(r"\bstands on ([^.]*)\.", head)
-        found = set(re.findall(r"\w+", told[1])) - {"and", "std", "alone"} if told else None
-        tally.expect(found == set(below.split()), f"{name}: its head says that it stands on {told and told[1]}, crates.txt says{below or ' std'}")
-
-
 def check_text(tally, path):
     """A file of text has none of the strange words."""
     try:
@@ -493,7 +484,8 @@ def main():
     check_versions(tally)
     check_docstrings(tally)
     check_parts(tally)
-    check_layers(tally)
+    layers.check_layers(tally)
+    layers.check_times(tally)
     for path in tracked():
         check_text(tally, path)
     lines = len((ROOT / "README.md").read_text().splitlines())
