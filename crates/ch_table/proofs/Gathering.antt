@@ -7,15 +7,8 @@ use Rattle.std.proofs.lemmas.Slice.Zip.{all_zipped_more}
 use Rattle.ch_graph.proofs.Lists.{zipped_length}
 use Rattle.ch_hierarchy.specs.Hierarchy.{LevelsAndLegs}
 use Rattle.ch_work.specs.Pieces.{pieces_of, MeanEach, AreValues}
-use Rattle.ch_work.proofs.PieceLists.{covers, piece_split}
+use Rattle.ch_work.proofs.PieceLists.{covers, piece_split, zipped_append}
 use Rattle.ch_table.specs.Table.{IsRowBy, IsGathered, AreGathered}
-
--- lists that are related in order stay so when related lists follow
-pub related_append : {A B : Type 0} (R : A → B → Type 0) (xs : List A) (ys : List B) (more : List A) (others : List B) → AllZip R xs ys → AllZip R more others → AllZip R (xs ++ more) (ys ++ others)
-related_append R [] [] more others h k = k
-related_append R [] (y ∷ ys) more others h k = absurd h
-related_append R (x ∷ xs) [] more others h k = absurd h
-related_append R (x ∷ xs) (y ∷ ys) more others h k = (h.0, related_append R xs ys more others h.1 k)
 
 module _ {X : Type 0} (R : List ℕ → X → Type 0) (items : List ℕ) (p : ℕ) where
   -- the values of the pieces from piece k on are those of parts, which together are the items from there on
@@ -85,7 +78,7 @@ module _ (H : LevelsAndLegs) (limit : Option ℕ) (targets : List ℕ) where
       let R = IsRowBy H limit targets in
       let rest = flat_map (λ (more : Vec (Vec (Option ℕ) Global) Global). more.items) values in
       let here = subst (AllZip R part) (sym h.0.2) h.0.1 in
-      subst (AllZip R (part ++ flat_map (λ more. more) parts)) (sym (map-append items kept.items rest)) (related_append R part (map items kept.items) (flat_map (λ more. more) parts) (map items rest) here (kept_parts parts values h.1))
+      subst (AllZip R (part ++ flat_map (λ more. more) parts)) (sym (map-append items kept.items rest)) (zipped_append R part (map items kept.items) (flat_map (λ more. more) parts) (map items rest) here (kept_parts parts values h.1))
 
   pub kept_rows : (sources : List ℕ) (values : List (Vec (Vec (Option ℕ) Global) Global)) → AreGathered AreKept H limit targets sources values →
       AllZip (IsRowBy H limit targets) sources (map items (flat_map (λ (kept : Vec (Vec (Option ℕ) Global) Global). kept.items) values))

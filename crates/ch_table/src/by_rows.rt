@@ -18,6 +18,7 @@ use ch_query::{Scratch, Side, ranked_space};
 use ch_work::{Crew, Gate, RoomJob, Stage, run_pieces_in};
 use std::alloc::{AllocError, Global};
 use std::marker::Model;
+use std::mem;
 use std::thread::Threads;
 
 /// Gathers the rows as the job says, row by row.
@@ -164,7 +165,7 @@ impl<'a> SourceRows<'a> {
         let mut rows = Vec::with_capacity(alloc, sources.len())?;
         for source in sources {
             self.write_row(alloc, scratch, &mut room, *source)?;
-            rows.push_reserved(Vec::from_slice(alloc, &room.cells)?);
+            rows.push_reserved(mem::replace(&mut room.cells, Vec::new(alloc)));
         }
         Ok(rows)
     }

@@ -7,8 +7,8 @@ use Rattle.std.proofs.lemmas.List.{append-nil}
 use Rattle.std.proofs.lemmas.Grind.{flat_map-append}
 use Rattle.ch_graph.proofs.Lists.{zipped_length}
 use Rattle.ch_hierarchy.specs.Hierarchy.{LevelsAndLegs}
+use Rattle.ch_work.proofs.PieceLists.{zipped_append}
 use Rattle.ch_table.specs.Table.{IsRowBy, IsGathered, AreGathered}
-use Rattle.ch_table.proofs.Gathering.{related_append}
 use Rattle.ch_text.specs.TableText.{IsTableTextBy, row_text}
 
 -- lists of the same length, with more lists of one length behind them, in pairs
@@ -43,7 +43,7 @@ module _ (H : LevelsAndLegs) (limit : Option ℕ) (targets : List ℕ) where
       let more = flat_map (λ (list : List ℕ). list) parts in
       let both = flat_map-append row_text (zip part rows) (zip more rest.0) in
       let pairs = zip_append part rows more rest.0 (zipped_length R part rows h.0.1) in
-      (rows ++ rest.0, related_append R part rows more rest.0 h.0.1 rest.1, ap₂ ◌++◌ h.0.2 rest.2 ∙ sym both ∙ ap (flat_map row_text) (sym pairs))
+      (rows ++ rest.0, zipped_append R part rows more rest.0 h.0.1 rest.1, ap₂ ◌++◌ h.0.2 rest.2 ∙ sym both ∙ ap (flat_map row_text) (sym pairs))
 
   pub gathered_texts : (sources : List ℕ) (texts : List (Vec ℕ Global)) → AreGathered IsRowsText H limit targets sources texts → IsTableTextBy H limit sources targets (flat_map (λ (text : Vec ℕ Global). text.items) texts)
   gathered_texts sources texts h =

@@ -9,8 +9,8 @@ use Rattle.std.proofs.lemmas.Nat.{div-add-mod', mul-le}
 use Rattle.std.proofs.Math.Nat.{mod-lt}
 use Rattle.ch_work.specs.Pieces.{pieces_of, MeanEach, AreValues}
 
--- lists that are related place by place, one after the other
-zipped_append : {A B : Type 0} (P : A → B → Type 0) (xs : List A) (ys : List B) (us : List A) (vs : List B) →
+-- lists that are related place by place stay so when related lists follow
+pub zipped_append : {A B : Type 0} (P : A → B → Type 0) (xs : List A) (ys : List B) (us : List A) (vs : List B) →
     AllZip P xs ys → AllZip P us vs → AllZip P (xs ++ us) (ys ++ vs)
 zipped_append P [] [] us vs h k = k
 zipped_append P [] (y ∷ ys) us vs h k = absurd h
