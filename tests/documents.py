@@ -327,7 +327,7 @@ def check_options(tally):
     """Each option of the program and of the tools has one row, and each number of the program's its default."""
     for name in {*all_in(tally, COMMAND_LINE, r'\b(?:flag|option|number|limit)\(\s*alloc,\s*"(\w+)"'), "help", "version"}:
         expect_once(tally, f"the option --{name}", [row for row in rows("Options") if re.search(rf"`--{name}\b", row[0])])
-    for name, default in all_in(tally, COMMAND_LINE, r'\bnumber\(\s*alloc,\s*"(\w+)", "\w+", \w+, "(\d+)"'):
+    for name, default in all_in(tally, COMMAND_LINE, r'\bnumber\(\s*alloc,\s*"(\w+)",\s*"\w+",\s*\w+,\s*"(\d+)"'):
         found = [row[3] for row in rows("Options") if row[0].startswith(f"`--{name} ")]
         tally.expect(found == [default], f"REFERENCE.md: the default of --{name} is {default}, not {found}")
     tools = "".join(path.read_text() for path in COMMANDS.glob("*.py"))

@@ -1,11 +1,11 @@
 -- From clap's statements on its matches to the values that the words give.
-use Rattle.std.proofs.Common.{◌≡◌, ◌⊎◌, ◌||◌, ℕ, List, [], Option, Some, None, Result, Ok, refl, ap, ap₂, sym, ◌∙◌, subst, inl, inr, codes, true, false, Bool, map, length, slice_index_or, ◌∷◌, if◌then◌else◌, unwrap_or, Bor, arith}
+use Rattle.std.proofs.Common.{◌≡◌, ◌⊎◌, ℕ, List, [], Option, Some, None, Result, Ok, refl, ap, ap₂, sym, ◌∙◌, subst, inl, inr, codes, true, false, Bool, map, length, slice_index_or, ◌∷◌, if◌then◌else◌, unwrap_or, Bor, arith}
 use Rattle.std.specs.Box.{box_value}
 use Rattle.std.specs.Prelude.{Box, option_map}
 use Rattle.std.specs.Str.Parse.{ParsesUnsigned}
 use Rattle.clap.specs.Matches.{subcommand_name_of}
-use Rattle.clap.specs.Words.{AddsArg, App, HasMatchesOf, IsAmong, Kinds, ReadsOne, Row, Text, TriesOne, fault_of, is_simple_and_free, one_text, rows_of, subcommand_rows, subcommand_rows_of, raw_values, matched_of}
-use Rattle.clap.specs.declared.builder.arg.Arg.{Arg}
+use Rattle.clap.specs.Simple.{app_of_fields, on_top}
+use Rattle.clap.specs.Words.{App, HasMatchesOf, IsAmong, Kinds, ReadsOne, Row, Text, TriesOne, app_of, fault_of, is_simple_and_free, new_app, one_text, rows_of, subcommand_rows, subcommand_rows_of, raw_values, matched_of}
 use Rattle.clap.specs.declared.builder.command.Command.{Command}
 use Rattle.clap.specs.declared.builder.command.Command.TheViews.{out-Command}
 use Rattle.clap.specs.declared.error.kind.ErrorKind.{ErrorKind}
@@ -16,13 +16,21 @@ use Rattle.clap.specs.declared.parser.matches.Found.{Found}
 use Rattle.clap.specs.declared.parser.matches.SubCommand.{SubCommand}
 use Rattle.std.proofs.lemmas.List.{length-map}
 use Rattle.clap.proofs.WalkLemmas.{one_text-rows, raw_values-rows}
-use Rattle.ch_words.specs.Line.{AreRefusedLists, AreRefusedOrders, HasOtherLists, HasTwoOrders, IsFaultOf, IsFlag, IsFlagIn, IsGivenBy, IsReadFrom, IsToldOf, chtab_form, faults_of, given_by, name_of, number_in, number_of, lists_in}
+use Rattle.ch_words.specs.Line.{AreRefusedLists, AreRefusedOrders, HasOtherLists, HasTwoOrders, IsFaultOf, IsFlag, IsFlagIn, IsGivenBy, IsReadFrom, IsToldOf, chtab_form, faults_of, given_by, name_of, number_in, number_of, lists_in, program_form}
 use Rattle.ch_words.specs.declared.line.Line.{Line}
 use Rattle.ch_words.specs.declared.fault.LineFault.{LineFault}
 
--- a command without global arguments stays without them if an argument that is not global is added
-pub stays_local : (old : Command) (arg : Arg) (new : Command) → AddsArg old arg new → (out-Command old).has_globals ≡ false → arg.global ≡ false → (out-Command new).has_globals ≡ false
-stays_local old arg new added here there = added.globals ∙ ap₂ ◌||◌ here there
+-- a command with the program's name and settings has the form of the program's own words
+pub program_set : (named unnamed requiring helpless : Command) → app_of named ≡ new_app (codes "chtab")
+    → out-Command unnamed ≡ record (out-Command named) { no_binary_name = true }
+    → out-Command requiring ≡ record (out-Command unnamed) { subcommand_required = true }
+    → out-Command helpless ≡ record (out-Command requiring) { disable_help_subcommand = true } → app_of helpless ≡ program_form
+program_set named unnamed requiring helpless is first second third =
+    let with_first : app_of unnamed ≡ on_top (λ s. record s { no_binary_name = true }) (new_app (codes "chtab")) =
+    ap app_of_fields first ∙ ap (on_top (λ s. record s { no_binary_name = true })) is in
+    let with_second : app_of requiring ≡ on_top (λ s. record s { no_binary_name = true; subcommand_required = true }) (new_app (codes "chtab")) =
+    ap app_of_fields second ∙ ap (on_top (λ s. record s { subcommand_required = true })) with_first in
+    ap app_of_fields third ∙ ap (on_top (λ s. record s { disable_help_subcommand = true })) with_second
 
 -- the text of a flag decides its value
 flag_is : (text : Option Text) (flag : Bool) → (text ≡ None → flag ≡ false) → (text ≡ Some (codes "true") → flag ≡ true) → (text ≡ Some (codes "false") → flag ≡ false) → IsFlag text flag

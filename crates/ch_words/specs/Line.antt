@@ -2,9 +2,11 @@
 use Rattle.std.specs.Prelude.{◌≡◌, ◌≢◌, ◌≤◌, ◌⊎◌, ℕ, pos, [], ◌∷◌, ◌++◌, Bool, IfSome, List, Option, Some, None, true, false, codes, fold, if◌then◌else◌, length, option_map, unwrap_or, ⊤}
 use Rattle.std.specs.Str.Parse.{digits_value, without_leading_plus}
 use Rattle.std.specs.String.{string_bytes}
-use Rattle.clap.specs.Words.{App, IsAmong, Kinds, Row, Rule, Text, all_of, fault_of, first_of, new_app, new_rule, one_of, subcommand_of, with_rule, with_subcommand}
+use Rattle.clap.specs.Words.{App, IsAmong, Kinds, Row, Rule, Text, all_of, app_of, fault_of, first_of, new_app, new_rule, one_of, subcommand_of, with_rule, with_subcommand}
 use Rattle.clap.specs.Simple.{on_top}
 use Rattle.clap.specs.declared.builder.ArgAction.TheVariants.{Append, Set, SetTrue}
+use Rattle.clap.specs.declared.builder.command.Command.{Command}
+use Rattle.clap.specs.declared.builder.command.Command.TheViews.{out-Command}
 use Rattle.clap.specs.declared.builder.value_parser.ValueParser.TheVariants as parser
 use Rattle.clap.specs.declared.error.kind.ErrorKind.{ErrorKind}
 use Rattle.clap.specs.declared.error.kind.ErrorKind.TheVariants.{DisplayHelp, OutOfMemory}
@@ -98,6 +100,10 @@ number_rules = number_rule (codes "workers") MOST_WORKERS (codes "1") ∷ number
 -- the numbers and `[--progress]`, which each tool reads
 abbrev pub shared_rules : List Rule
 shared_rules = number_rules ++ progress_rule ∷ []
+
+-- a command has this form, and no argument that is global
+abbrev pub HasForm : App → Command → Type 0
+HasForm form command = (app_of command ≡ form) × ((out-Command command).has_globals ≡ false)
 
 -- the words after the name of a tool: its own options, the options that each tool reads, and its files
 abbrev pub tool_form : Text → List Rule → List Rule → App

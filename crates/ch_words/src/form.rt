@@ -1,9 +1,9 @@
 //! The command line as clap reads it: its tools, with their options and files.
 
 ghost use Rattle.std.specs.Prelude.{◌≡◌, IfOk, codes, false, fold};
-ghost use Rattle.clap.specs.Words.{app_of, rule_of, with_rule};
+ghost use Rattle.clap.specs.Words.{App, Rule, app_of, new_app, rule_of, with_rule, with_subcommand};
 ghost use Rattle.clap.specs.declared.builder.command.Command.TheViews.{out-Command as fields_of};
-ghost use Rattle.ch_words.specs.Line.{ask_form, chtab_form, deep_rule, dist_form, file_rule, flag_rule, limit_rule, lists_rule, near_form, near_rules, number_rule, number_rules, option_rule, order_rules, program_form, progress_rule, rounds_rule, routes_rule, save_form, saved_rule, shared_rules, table_form, within_rule};
+ghost use Rattle.ch_words.specs.Line.{HasForm, ask_form, chtab_form, deep_rule, dist_form, file_rule, flag_rule, limit_rule, lists_rule, near_form, near_rules, number_rule, number_rules, option_rule, order_rules, program_form, progress_rule, rounds_rule, routes_rule, save_form, saved_rule, shared_rules, table_form, within_rule};
 
 use crate::line::Tool;
 use ch_graph::limits::{MOST_HOPS, MOST_LISTED, MOST_WEIGHT};
@@ -33,6 +33,17 @@ const BY_ROUNDS: &str =
     "Build the hierarchy by rounds, which several workers share: see --workers. \
     Of equally good routes another may be written. Excludes --deep [default: off]";
 
+/// Adds an argument, if the command was made.
+fn with_arg<'a>(
+    command: Result<Command<'a>, AllocError>,
+    arg: Arg<'a>,
+) -> Result<Command<'a>, AllocError>
+    ensures { (form : App) (rule : Rule) → IfOk command.entry (HasForm form) → rule_of arg.entry ≡ rule → arg.entry.global ≡ false
+        → IfOk result (HasForm (with_rule form rule)) }
+{
+    command?.arg(arg)
+}
+
 /// Makes a flag.
 fn flag<'a>(alloc: Global, name: &'a str, help: &'a str) -> Arg<'a>
     ensures rule { rule_of result ≡ flag_rule name.entry.now }
@@ -56,7 +67,7 @@ fn file<'a>(alloc: Global, name: &'a str, help: &'a str) -> Arg<'a>
 }
 
 /// Makes an option with a value. The words may leave it out.
-fn option<'a>(alloc: Global, name: &'a str, value: &'a str) -> Arg<'a>
+fn option<'a>(alloc: Global, name: &'a str, value: &'a str, help: &'a str) -> Arg<'a>
     ensures rule { rule_of result ≡ option_rule name.entry.now }
     ensures local { result.global ≡ false }
 {
@@ -64,41 +75,73 @@ fn option<'a>(alloc: Global, name: &'a str, value: &'a str) -> Arg<'a>
         .long(name)
         .action(ArgAction::Set)
         .value_name(value)
+        .help(help)
 }
 
 /// Makes an option for a number from 1 to `most`, with a default.
-fn number<'a>(alloc: Global, name: &'a str, value: &'a str, most: u32, default: &'a str) -> Arg<'a>
+fn number<'a>(
+    alloc: Global,
+    name: &'a str,
+    value: &'a str,
+    most: u32,
+    default: &'a str,
+    help: &'a str,
+) -> Arg<'a>
     ensures rule { rule_of result ≡ number_rule name.entry.now most default.entry.now }
     ensures local { result.global ≡ false }
 {
-    option(alloc, name, value)
+    option(alloc, name, value, help)
         .value_parser(ValueParser::signed(1, i64::from(most)))
         .default_value(default)
 }
 
 /// Makes an option for a number from `least` to `most`, without a default.
-fn limit<'a>(alloc: Global, name: &'a str, value: &'a str, least: u64, most: u64) -> Arg<'a>
+fn limit<'a>(
+    alloc: Global,
+    name: &'a str,
+    value: &'a str,
+    least: u64,
+    most: u64,
+    help: &'a str,
+) -> Arg<'a>
     ensures rule { rule_of result ≡ limit_rule name.entry.now least most }
     ensures local { result.global ≡ false }
 {
-    option(alloc, name, value).value_parser(ValueParser::unsigned(least, most))
+    option(alloc, name, value, help).value_parser(ValueParser::unsigned(least, most))
 }
 
 /// Adds the options for numbers that each tool reads.
-fn with_numbers<'a>(alloc: Global, command: Command<'a>) -> Result<Command<'a>, AllocError>
-    ensures form { IfOk result (λ c. app_of c ≡ fold with_rule (app_of command.entry) number_rules) }
-    ensures local { (fields_of command.entry).has_globals ≡ false → IfOk result (λ c. (fields_of c).has_globals ≡ false) }
+fn with_numbers<'a>(
+    alloc: Global,
+    command: Result<Command<'a>, AllocError>,
+) -> Result<Command<'a>, AllocError>
+    ensures { (form : App) → IfOk command.entry (HasForm form) → IfOk result (HasForm (fold with_rule form number_rules)) }
 {
-    let workers = number(alloc, "workers", "N", MOST_WORKERS, "1").help(
+    let workers = number(
+        alloc,
+        "workers",
+        "N",
+        MOST_WORKERS,
+        "1",
         "Share the work among N threads, from 1 to 64: no answer depends on N",
     );
-    let piece = number(alloc, "piece", "K", MOST_PIECE, "64").help(
+    let piece = number(
+        alloc,
+        "piece",
+        "K",
+        MOST_PIECE,
+        "64",
         "How many queries, sources or nodes a thread takes at a time, from 1 to 1048576",
     );
-    let hops = number(alloc, "hops", "H", MOST_HOPS, "5").help(
+    let hops = number(
+        alloc,
+        "hops",
+        "H",
+        MOST_HOPS,
+        "5",
         "The most legs of a witness path while the hierarchy is built, from 1 to 16",
     );
-    command.arg(workers)?.arg(piece)?.arg(hops)
+    with_arg(with_arg(with_arg(command, workers), piece), hops)
 }
 
 /// Makes the flag that asks for reports of progress.
@@ -112,14 +155,6 @@ fn progress<'a>(alloc: Global) -> Arg<'a>
         "Report on standard error how far the run is. On a terminal that happens without this option, \
         once a stage takes more than a second [default: off]",
     )
-}
-
-/// Adds the options that each tool reads.
-fn with_shared<'a>(alloc: Global, command: Command<'a>) -> Result<Command<'a>, AllocError>
-    ensures form { IfOk result (λ c. app_of c ≡ fold with_rule (app_of command.entry) shared_rules) }
-    ensures local { (fields_of command.entry).has_globals ≡ false → IfOk result (λ c. (fields_of c).has_globals ≡ false) }
-{
-    with_numbers(alloc, command)?.arg(progress(alloc))
 }
 
 /// Makes the flag that asks for routes.
@@ -154,16 +189,26 @@ fn rounds<'a>(alloc: Global, help: &'a str) -> Arg<'a>
 /// if one argument excludes another.
 fn with_orders<'a>(
     alloc: Global,
-    command: Command<'a>,
+    command: Result<Command<'a>, AllocError>,
     deep_help: &'a str,
     rounds_help: &'a str,
 ) -> Result<Command<'a>, AllocError>
-    ensures form { IfOk result (λ c. app_of c ≡ fold with_rule (app_of command.entry) order_rules) }
-    ensures local { (fields_of command.entry).has_globals ≡ false → IfOk result (λ c. (fields_of c).has_globals ≡ false) }
+    ensures { (form : App) → IfOk command.entry (HasForm form) → IfOk result (HasForm (fold with_rule form order_rules)) }
 {
-    command
-        .arg(deep(alloc, deep_help))?
-        .arg(rounds(alloc, rounds_help))
+    let command = with_arg(command, deep(alloc, deep_help));
+    with_arg(command, rounds(alloc, rounds_help))
+}
+
+/// Adds the flags that ask for routes and choose the order of a hierarchy that gives them.
+fn with_routes<'a>(
+    alloc: Global,
+    command: Result<Command<'a>, AllocError>,
+    rounds_help: &'a str,
+) -> Result<Command<'a>, AllocError>
+    ensures { (form : App) → IfOk command.entry (HasForm form) → IfOk result (HasForm (fold with_rule (with_rule form routes_rule) order_rules)) }
+{
+    let command = with_arg(command, routes(alloc));
+    with_orders(alloc, command, ROUTES_BY_DEPTH, rounds_help)
 }
 
 /// Makes the option for the limit on distances.
@@ -171,7 +216,7 @@ fn limit_of_distances<'a>(alloc: Global, help: &'a str) -> Arg<'a>
     ensures rule { rule_of result ≡ within_rule }
     ensures local { result.global ≡ false }
 {
-    limit(alloc, "within", "R", 0, MOST_WEIGHT).help(help)
+    limit(alloc, "within", "R", 0, MOST_WEIGHT, help)
 }
 
 /// Makes the option for the limit on the distances of tables.
@@ -191,7 +236,10 @@ fn saved<'a>(alloc: Global) -> Arg<'a>
     ensures rule { rule_of result ≡ saved_rule }
     ensures local { result.global ≡ false }
 {
-    option(alloc, "saved", "FILE").help(
+    option(
+        alloc,
+        "saved",
+        "FILE",
         "Read the hierarchy from FILE and check it, instead of building one. `chtab save` or any other program \
         wrote it, of this graph: one of another graph is refused, often by `saved line 1: size too large`. \
         Options on how to build one then have no effect [default: none]",
@@ -211,6 +259,39 @@ fn graph<'a>(alloc: Global) -> Arg<'a>
     )
 }
 
+/// Adds the options that each tool reads, and the file of the graph.
+fn with_shared<'a>(
+    alloc: Global,
+    command: Result<Command<'a>, AllocError>,
+) -> Result<Command<'a>, AllocError>
+    ensures { (form : App) → IfOk command.entry (HasForm form)
+        → IfOk result (HasForm (with_rule (fold with_rule form shared_rules) (file_rule (codes "GRAPH")))) }
+{
+    let command = with_arg(with_numbers(alloc, command), progress(alloc));
+    with_arg(command, graph(alloc))
+}
+
+/// Adds the option for a saved hierarchy, the options that each tool reads, and the file of the graph.
+fn with_saved<'a>(
+    alloc: Global,
+    command: Result<Command<'a>, AllocError>,
+) -> Result<Command<'a>, AllocError>
+    ensures { (form : App) → IfOk command.entry (HasForm form)
+        → IfOk result (HasForm (with_rule (fold with_rule (with_rule form saved_rule) shared_rules) (file_rule (codes "GRAPH")))) }
+{
+    with_shared(alloc, with_arg(command, saved(alloc)))
+}
+
+/// Makes a command without options and files.
+fn named<'a>(alloc: Global, name: &'a str, about: &'a str, after_help: &'a str) -> Command<'a>
+    ensures form { app_of result ≡ new_app name.entry.now }
+    ensures local { (fields_of result).has_globals ≡ false }
+{
+    Command::new(alloc, name)
+        .about(about)
+        .after_help(after_help)
+}
+
 /// Makes the command `dist` with its options and files.
 fn dist_command<'a>(alloc: Global) -> Result<Command<'a>, AllocError>
     ensures form { IfOk result (λ c. app_of c ≡ dist_form) }
@@ -222,20 +303,19 @@ fn dist_command<'a>(alloc: Global) -> Result<Command<'a>, AllocError>
         "Answer without a hierarchy, by rounds of relaxation over all arcs. All other options but --progress \
         then have no effect [default: off]",
     );
-    let command = Command::new(alloc, "dist")
-        .about(
-            "For each query, writes `d S T X`: X is the distance from S to T, or - if no path leads there",
-        )
-        .after_help("Example: chtab dist --routes roads.gr pairs.p2p")
-        .arg(plain)?
-        .arg(routes(alloc))?;
-    let command = with_orders(alloc, command, ROUTES_BY_DEPTH, ROUTES_BY_ROUNDS)?;
-    let command = with_shared(alloc, command.arg(saved(alloc))?)?;
-    command.arg(graph(alloc))?.arg(file(
+    let command = named(
+        alloc,
+        "dist",
+        "For each query, writes `d S T X`: X is the distance from S to T, or - if no path leads there",
+        "Example: chtab dist --routes roads.gr pairs.p2p",
+    );
+    let command = with_routes(alloc, with_arg(Ok(command), plain), ROUTES_BY_ROUNDS);
+    let queries = file(
         alloc,
         "QUERIES",
         "A .p2p file: `p aux sp p2p K`, then K lines `q S T`",
-    ))
+    );
+    with_arg(with_saved(alloc, command), queries)
 }
 
 /// Makes the command `table` with its options and files.
@@ -243,34 +323,38 @@ fn table_command<'a>(alloc: Global) -> Result<Command<'a>, AllocError>
     ensures form { IfOk result (λ c. app_of c ≡ table_form) }
     ensures local { IfOk result (λ c. (fields_of c).has_globals ≡ false) }
 {
-    let command = Command::new(alloc, "table")
-        .about(
-            "For each source, writes `t S X ..`: an X for each target, the distance from S to it, or - \
-            if no path leads there",
-        )
-        .after_help(
-            "Examples:\n  \
-            chtab table roads.gr depots.ss shops.ss\n  \
-            chtab table --within 900000 roads.gr homes.ss doctors.ss",
-        )
-        .arg(within(alloc))?
-        .arg(saved(alloc))?;
-    with_shared(alloc, command)?
-        .arg(graph(alloc))?
-        .arg(file(
-            alloc,
-            "SOURCES",
-            "A .ss file: `p aux sp ss K`, then K lines `s V`",
-        ))?
-        .arg(file(alloc, "TARGETS", "A .ss file, as for SOURCES"))
+    let command = named(
+        alloc,
+        "table",
+        "For each source, writes `t S X ..`: an X for each target, the distance from S to it, or - \
+        if no path leads there",
+        "Examples:\n  \
+        chtab table roads.gr depots.ss shops.ss\n  \
+        chtab table --within 900000 roads.gr homes.ss doctors.ss",
+    );
+    let command = with_saved(alloc, with_arg(Ok(command), within(alloc)));
+    let sources = file(
+        alloc,
+        "SOURCES",
+        "A .ss file: `p aux sp ss K`, then K lines `s V`",
+    );
+    let targets = file(alloc, "TARGETS", "A .ss file, as for SOURCES");
+    with_arg(with_arg(command, sources), targets)
 }
 
 /// Adds the options of near rows: which targets they have, the direction of distances, and the sources.
-fn with_nearness<'a>(alloc: Global, command: Command<'a>) -> Result<Command<'a>, AllocError>
-    ensures form { IfOk result (λ c. app_of c ≡ fold with_rule (app_of command.entry) near_rules) }
-    ensures local { (fields_of command.entry).has_globals ≡ false → IfOk result (λ c. (fields_of c).has_globals ≡ false) }
+fn with_nearness<'a>(
+    alloc: Global,
+    command: Result<Command<'a>, AllocError>,
+) -> Result<Command<'a>, AllocError>
+    ensures { (form : App) → IfOk command.entry (HasForm form) → IfOk result (HasForm (fold with_rule form near_rules)) }
 {
-    let count = limit(alloc, "count", "K", 1, MOST_LISTED).help(
+    let count = limit(
+        alloc,
+        "count",
+        "K",
+        1,
+        MOST_LISTED,
         "Write at most the K nearest targets of each source, from 1 to 65536 [default: all]",
     );
     let within = limit_of_distances(
@@ -287,7 +371,8 @@ fn with_nearness<'a>(alloc: Global, command: Command<'a>) -> Result<Command<'a>,
         "all",
         "Take each node of the graph as a source, in order. Then no SOURCES are given [default: off]",
     );
-    command.arg(count)?.arg(within)?.arg(from)?.arg(all)
+    let command = with_arg(with_arg(command, count), within);
+    with_arg(with_arg(command, from), all)
 }
 
 /// Makes the argument for the lists of `near`. Clap takes one list or two. It can't require the first of
@@ -310,24 +395,21 @@ pub(crate) fn near_command<'a>(alloc: Global) -> Result<Command<'a>, AllocError>
     ensures form { IfOk result (λ c. app_of c ≡ near_form) }
     ensures local { IfOk result (λ c. (fields_of c).has_globals ≡ false) }
 {
-    let command = Command::new(alloc, "near")
-        .about(
-            "For each source, writes `n S K T X ..`: K is how many targets follow, and each T has its distance X \
-            from S. The nearest comes first, and of equally near ones that which TARGETS names first",
-        )
-        .override_usage(
-            "chtab near [OPTIONS] <GRAPH> <SOURCES> <TARGETS>\n       \
-            chtab near [OPTIONS] --all <GRAPH> <TARGETS>",
-        )
-        .after_help(
-            "Examples:\n  \
-            chtab near --count 3 roads.gr homes.ss doctors.ss\n  \
-            chtab near --all --within 900000 roads.gr doctors.ss",
-        );
-    let command = with_nearness(alloc, command)?.arg(saved(alloc))?;
-    with_shared(alloc, command)?
-        .arg(graph(alloc))?
-        .arg(lists(alloc))
+    let command = named(
+        alloc,
+        "near",
+        "For each source, writes `n S K T X ..`: K is how many targets follow, and each T has its distance X \
+        from S. The nearest comes first, and of equally near ones that which TARGETS names first",
+        "Examples:\n  \
+        chtab near --count 3 roads.gr homes.ss doctors.ss\n  \
+        chtab near --all --within 900000 roads.gr doctors.ss",
+    )
+    .override_usage(
+        "chtab near [OPTIONS] <GRAPH> <SOURCES> <TARGETS>\n       \
+        chtab near [OPTIONS] --all <GRAPH> <TARGETS>",
+    );
+    let command = with_saved(alloc, with_nearness(alloc, Ok(command)));
+    with_arg(command, lists(alloc))
 }
 
 /// Makes the command `save` with its options and file.
@@ -335,17 +417,16 @@ fn save_command<'a>(alloc: Global) -> Result<Command<'a>, AllocError>
     ensures form { IfOk result (λ c. app_of c ≡ save_form) }
     ensures local { IfOk result (λ c. (fields_of c).has_globals ≡ false) }
 {
-    let command = Command::new(alloc, "save")
-        .about(
-            "Writes the hierarchy of the graph, for --saved of `dist`, `table`, `near` and `ask`",
-        )
-        .after_help(
-            "Examples:\n  \
-            chtab save --deep roads.gr >roads.ch\n  \
-            chtab save --rounds --workers 4 roads.gr >roads.ch",
-        );
-    let command = with_orders(alloc, command, SAVED_BY_DEPTH, BY_ROUNDS)?;
-    with_shared(alloc, command)?.arg(graph(alloc))
+    let command = named(
+        alloc,
+        "save",
+        "Writes the hierarchy of the graph, for --saved of `dist`, `table`, `near` and `ask`",
+        "Examples:\n  \
+        chtab save --deep roads.gr >roads.ch\n  \
+        chtab save --rounds --workers 4 roads.gr >roads.ch",
+    );
+    let command = with_orders(alloc, Ok(command), SAVED_BY_DEPTH, BY_ROUNDS);
+    with_shared(alloc, command)
 }
 
 /// Makes the command `ask` with its options and file.
@@ -353,29 +434,35 @@ fn ask_command<'a>(alloc: Global) -> Result<Command<'a>, AllocError>
     ensures form { IfOk result (λ c. app_of c ≡ ask_form) }
     ensures local { IfOk result (λ c. (fields_of c).has_globals ≡ false) }
 {
-    let command = Command::new(alloc, "ask")
-        .about(
-            "Loads the graph once, and answers requests from standard input as they come. `q S T` asks for a \
-            distance, and `r S T` for its route too. `t K L` asks for a table: then come K lines `s V`, the sources, \
-            and L lines `s V`, the targets. `p L K` gives places by L lines `s V`. After it `n S` asks for the K \
-            places that are nearest to S, or for all where K is 0. `t K L R` and `n S R` leave out what is farther \
-            than R. A route goes by the saved hierarchy, or by the one that the run builds. Without --rounds that one \
-            is in depth order, unless --routes is given without --deep",
-        )
-        .after_help("Example: chtab ask --saved roads.ch roads.gr <requests.txt")
-        .arg(routes(alloc))?;
-    let command = with_orders(alloc, command, ROUTES_BY_DEPTH, BY_ROUNDS)?
-        .arg(within(alloc))?
-        .arg(saved(alloc))?;
-    with_shared(alloc, command)?.arg(graph(alloc))
+    let command = named(
+        alloc,
+        "ask",
+        "Loads the graph once, and answers requests from standard input as they come. `q S T` asks for a \
+        distance, and `r S T` for its route too. `t K L` asks for a table: then come K lines `s V`, the sources, \
+        and L lines `s V`, the targets. `p L K` gives places by L lines `s V`. After it `n S` asks for the K \
+        places that are nearest to S, or for all where K is 0. `t K L R` and `n S R` leave out what is farther \
+        than R. A route goes by the saved hierarchy, or by the one that the run builds. Without --rounds that one \
+        is in depth order, unless --routes is given without --deep",
+        "Example: chtab ask --saved roads.ch roads.gr <requests.txt",
+    );
+    let command = with_routes(alloc, Ok(command), BY_ROUNDS);
+    with_saved(alloc, with_arg(command, within(alloc)))
+}
+
+/// Sets the name that usage shows, if the command was made.
+fn shown_as<'a>(
+    command: Result<Command<'a>, AllocError>,
+    name: &str,
+) -> Result<Command<'a>, AllocError> {
+    command?.bin_name(name)
 }
 
 /// Makes the command of a tool that has the flags of orders. Its errors then show the usage of that tool.
 pub(crate) fn ordering_command<'a>(alloc: Global, tool: &Tool) -> Result<Command<'a>, AllocError> {
     match tool {
-        Tool::Save { .. } => save_command(alloc)?.bin_name("chtab save"),
-        Tool::Ask { .. } => ask_command(alloc)?.bin_name("chtab ask"),
-        _ => dist_command(alloc)?.bin_name("chtab dist"),
+        Tool::Save { .. } => shown_as(save_command(alloc), "chtab save"),
+        Tool::Ask { .. } => shown_as(ask_command(alloc), "chtab ask"),
+        _ => shown_as(dist_command(alloc), "chtab dist"),
     }
 }
 
@@ -383,32 +470,42 @@ pub(crate) fn ordering_command<'a>(alloc: Global, tool: &Tool) -> Result<Command
 fn program<'a>(alloc: Global) -> Result<Command<'a>, AllocError>
     ensures { IfOk result (λ c. app_of c ≡ program_form) }
 {
-    let command = Command::new(alloc, "chtab")
-        .bin_name("chtab")?
-        .about("Exact shortest paths in road networks")
-        .after_help(
-            "See `chtab dist --help`, `chtab table --help`, `chtab near --help`, `chtab save --help` and `chtab ask --help`. \
-            Examples:\n  \
-            chtab dist --routes roads.gr pairs.p2p\n  \
-            chtab table roads.gr depots.ss shops.ss\n  \
-            chtab near --count 3 roads.gr homes.ss doctors.ss\n  \
-            chtab save --deep roads.gr >roads.ch\n  \
-            chtab ask --saved roads.ch roads.gr <requests.txt",
-        )
-        .no_binary_name(true)
-        .subcommand_required(true)
-        .disable_help_subcommand(true);
-    Ok(command)
+    named(
+        alloc,
+        "chtab",
+        "Exact shortest paths in road networks",
+        "See `chtab dist --help`, `chtab table --help`, `chtab near --help`, `chtab save --help` and `chtab ask --help`. \
+        Examples:\n  \
+        chtab dist --routes roads.gr pairs.p2p\n  \
+        chtab table roads.gr depots.ss shops.ss\n  \
+        chtab near --count 3 roads.gr homes.ss doctors.ss\n  \
+        chtab save --deep roads.gr >roads.ch\n  \
+        chtab ask --saved roads.ch roads.gr <requests.txt",
+    )
+    .no_binary_name(true)
+    .subcommand_required(true)
+    .disable_help_subcommand(true)
+    .bin_name("chtab")
+}
+
+/// Adds a tool, if the command and the tool were made.
+fn with_tool<'a>(
+    command: Result<Command<'a>, AllocError>,
+    tool: Result<Command<'a>, AllocError>,
+) -> Result<Command<'a>, AllocError>
+    ensures { (form : App) (of_tool : App) → IfOk command.entry (λ c. app_of c ≡ form) → IfOk tool.entry (HasForm of_tool)
+        → IfOk result (λ c. app_of c ≡ with_subcommand form of_tool.top) }
+{
+    command?.subcommand(tool?)
 }
 
 /// Makes the command for all words after the program's name.
 pub fn command<'a>(alloc: Global) -> Result<Command<'a>, AllocError>
     ensures { IfOk result (λ c. app_of c ≡ chtab_form) }
 {
-    program(alloc)?
-        .subcommand(dist_command(alloc)?)?
-        .subcommand(table_command(alloc)?)?
-        .subcommand(near_command(alloc)?)?
-        .subcommand(save_command(alloc)?)?
-        .subcommand(ask_command(alloc)?)
+    let command = with_tool(program(alloc), dist_command(alloc));
+    let command = with_tool(command, table_command(alloc));
+    let command = with_tool(command, near_command(alloc));
+    let command = with_tool(command, save_command(alloc));
+    with_tool(command, ask_command(alloc))
 }

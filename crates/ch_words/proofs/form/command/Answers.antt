@@ -1,20 +1,16 @@
-use Rattle.std.proofs.Common.{◌≡◌, ◌∙◌, ap, ap₂}
-use Rattle.std.proofs.lemmas.Result.{IfOk-weaker}
-use Rattle.clap.specs.Words.{App, app_of, with_subcommand}
-use Rattle.ch_words.specs.Line.{dist_form, program_form}
+use Rattle.clap.proofs.WalkLemmas.{IfOk-both}
+use Rattle.ch_words.specs.Line.{ask_form, dist_form, near_form, program_form, save_form, table_form}
 use Rattle.ch_words.proofs.form.command.Goals as goal
 
 pub returns : goal.returns
 returns c =
-    let dist = ap (λ (form : App). form.top) c.in_ok-dist_command.ensures.form in
-    let table = ap (λ (form : App). form.top) c.in_ok-table_command.ensures.form in
-    let near = ap (λ (form : App). form.top) c.in_ok-near_command.ensures.form in
-    let save = ap (λ (form : App). form.top) c.in_ok-save_command.ensures.form in
-    let ask = ap (λ (form : App). form.top) c.in_ok-ask_command.ensures.form in
-    let with_dist : app_of c.in_ok-subcommand.field-0 ≡ with_subcommand program_form dist_form.top =
-    c.in_ok-subcommand.ensures.shape c.in_ok-dist_command.ensures.local ∙ ap₂ with_subcommand c.in_ok-program.ensures dist in
-    let with_table = c.in_ok-subcommand-2.ensures.shape c.in_ok-table_command.ensures.local ∙ ap₂ with_subcommand with_dist table in
-    let with_near = c.in_ok-subcommand-3.ensures.shape c.in_ok-near_command.ensures.local ∙ ap₂ with_subcommand with_table near in
-    let with_save = c.in_ok-subcommand-4.ensures.shape c.in_ok-save_command.ensures.local ∙ ap₂ with_subcommand with_near save in
-    IfOk-weaker c.subcommand-5.result _ _
-    (λ command added. added.shape c.in_ok-ask_command.ensures.local ∙ ap₂ with_subcommand with_save ask) c.subcommand-5.ensures
+    let dist = IfOk-both c.dist_command.result _ _ c.dist_command.ensures.form c.dist_command.ensures.local in
+    let table = IfOk-both c.table_command.result _ _ c.table_command.ensures.form c.table_command.ensures.local in
+    let near = IfOk-both c.near_command.result _ _ c.near_command.ensures.form c.near_command.ensures.local in
+    let save = IfOk-both c.save_command.result _ _ c.save_command.ensures.form c.save_command.ensures.local in
+    let ask = IfOk-both c.ask_command.result _ _ c.ask_command.ensures.form c.ask_command.ensures.local in
+    let with_dist = c.with_tool-command.ensures program_form dist_form c.program.ensures dist in
+    let with_table = c.with_tool-command-2.ensures _ table_form with_dist table in
+    let with_near = c.with_tool-command-3.ensures _ near_form with_table near in
+    let with_save = c.with_tool-command-4.ensures _ save_form with_near save in
+    c.with_tool.ensures _ ask_form with_save ask
