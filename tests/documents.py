@@ -267,7 +267,8 @@ def check_help(tally, path):
 
 # What docs/REFERENCE.md has once.
 
-COMMAND_LINE, FAULTS = ROOT / "crates/ch_words/src/form.rt", ROOT / "crates/ch_run/specs/Fault.antt"
+FORM, ARGUMENTS = (ROOT / "crates" / "ch_words" / "src" / name for name in ("form.rt", "arguments.rt"))
+FAULTS = ROOT / "crates/ch_run/specs/Fault.antt"
 COMMANDS = ROOT / "python/chtab/commands"
 # The constants of limits with the rows that state them, and those that no user meets.
 LIMITS = (
@@ -325,9 +326,10 @@ def check_limits(tally):
 
 def check_options(tally):
     """Each option of the program and of the tools has one row, and each number of the program's its default."""
-    for name in {*all_in(tally, COMMAND_LINE, r'\b(?:flag|option|number|limit)\(\s*alloc,\s*"(\w+)"'), "help", "version"}:
+    made = r'\b(?:flag|option|number|limit)\(\s*alloc,\s*"(\w+)"'
+    for name in {*all_in(tally, FORM, made), *all_in(tally, ARGUMENTS, made), "help", "version"}:
         expect_once(tally, f"the option --{name}", [row for row in rows("Options") if re.search(rf"`--{name}\b", row[0])])
-    for name, default in all_in(tally, COMMAND_LINE, r'\bnumber\(\s*alloc,\s*"(\w+)",\s*"\w+",\s*\w+,\s*"(\d+)"'):
+    for name, default in all_in(tally, FORM, r'\bnumber\(\s*alloc,\s*"(\w+)",\s*"\w+",\s*\w+,\s*"(\d+)"'):
         found = [row[3] for row in rows("Options") if row[0].startswith(f"`--{name} ")]
         tally.expect(found == [default], f"REFERENCE.md: the default of --{name} is {default}, not {found}")
     tools = "".join(path.read_text() for path in COMMANDS.glob("*.py"))

@@ -3,13 +3,16 @@
 ghost use Rattle.std.specs.Prelude.{◌≡◌, IfOk, codes, false, fold};
 ghost use Rattle.clap.specs.Words.{App, Rule, app_of, new_app, rule_of, with_rule, with_subcommand};
 ghost use Rattle.clap.specs.declared.builder.command.Command.TheViews.{out-Command as fields_of};
-ghost use Rattle.ch_words.specs.Line.{HasForm, ask_form, chtab_form, deep_rule, dist_form, file_rule, flag_rule, limit_rule, lists_rule, near_form, near_rules, number_rule, number_rules, option_rule, order_rules, program_form, progress_rule, rounds_rule, routes_rule, save_form, saved_rule, shared_rules, table_form, within_rule};
+ghost use Rattle.ch_words.specs.Line.{HasForm, ask_form, chtab_form, dist_form, file_rule, near_form, near_rules, number_rules, order_rules, program_form, routes_rule, save_form, saved_rule, shared_rules, table_form};
 
+use crate::arguments::{
+    deep, file, flag, graph, limit, limit_of_distances, lists, number, progress, rounds, routes,
+    saved, within,
+};
 use crate::line::Tool;
-use ch_graph::limits::{MOST_HOPS, MOST_LISTED, MOST_WEIGHT};
+use ch_graph::limits::{MOST_HOPS, MOST_LISTED};
 use ch_work::limits::{MOST_PIECE, MOST_WORKERS};
-use clap::builder::ValueParser;
-use clap::{Arg, ArgAction, Command};
+use clap::{Arg, Command};
 use std::alloc::{AllocError, Global};
 
 /// The help of `--deep` for a hierarchy that is saved.
@@ -42,72 +45,6 @@ fn with_arg<'a>(
         → IfOk result (HasForm (with_rule form rule)) }
 {
     command?.arg(arg)
-}
-
-/// Makes a flag.
-fn flag<'a>(alloc: Global, name: &'a str, help: &'a str) -> Arg<'a>
-    ensures rule { rule_of result ≡ flag_rule name.entry.now }
-    ensures local { result.global ≡ false }
-{
-    Arg::new(alloc, name)
-        .long(name)
-        .action(ArgAction::SetTrue)
-        .help(help)
-}
-
-/// Makes an argument for a file that must be named.
-fn file<'a>(alloc: Global, name: &'a str, help: &'a str) -> Arg<'a>
-    ensures rule { rule_of result ≡ file_rule name.entry.now }
-    ensures local { result.global ≡ false }
-{
-    Arg::new(alloc, name)
-        .required(true)
-        .action(ArgAction::Set)
-        .help(help)
-}
-
-/// Makes an option with a value. The words may leave it out.
-fn option<'a>(alloc: Global, name: &'a str, value: &'a str, help: &'a str) -> Arg<'a>
-    ensures rule { rule_of result ≡ option_rule name.entry.now }
-    ensures local { result.global ≡ false }
-{
-    Arg::new(alloc, name)
-        .long(name)
-        .action(ArgAction::Set)
-        .value_name(value)
-        .help(help)
-}
-
-/// Makes an option for a number from 1 to `most`, with a default.
-fn number<'a>(
-    alloc: Global,
-    name: &'a str,
-    value: &'a str,
-    most: u32,
-    default: &'a str,
-    help: &'a str,
-) -> Arg<'a>
-    ensures rule { rule_of result ≡ number_rule name.entry.now most default.entry.now }
-    ensures local { result.global ≡ false }
-{
-    option(alloc, name, value, help)
-        .value_parser(ValueParser::signed(1, i64::from(most)))
-        .default_value(default)
-}
-
-/// Makes an option for a number from `least` to `most`, without a default.
-fn limit<'a>(
-    alloc: Global,
-    name: &'a str,
-    value: &'a str,
-    least: u64,
-    most: u64,
-    help: &'a str,
-) -> Arg<'a>
-    ensures rule { rule_of result ≡ limit_rule name.entry.now least most }
-    ensures local { result.global ≡ false }
-{
-    option(alloc, name, value, help).value_parser(ValueParser::unsigned(least, most))
 }
 
 /// Adds the options for numbers that each tool reads.
@@ -144,47 +81,6 @@ fn with_numbers<'a>(
     with_arg(with_arg(with_arg(command, workers), piece), hops)
 }
 
-/// Makes the flag that asks for reports of progress.
-fn progress<'a>(alloc: Global) -> Arg<'a>
-    ensures rule { rule_of result ≡ progress_rule }
-    ensures local { result.global ≡ false }
-{
-    flag(
-        alloc,
-        "progress",
-        "Report on standard error how far the run is. On a terminal that happens without this option, \
-        once a stage takes more than a second [default: off]",
-    )
-}
-
-/// Makes the flag that asks for routes.
-fn routes<'a>(alloc: Global) -> Arg<'a>
-    ensures rule { rule_of result ≡ routes_rule }
-    ensures local { result.global ≡ false }
-{
-    flag(
-        alloc,
-        "routes",
-        "After each distance, write its route: `r K`, then K lines `a U V W`, the arcs in order [default: off]",
-    )
-}
-
-/// Makes the flag that chooses the order of depth.
-fn deep<'a>(alloc: Global, help: &'a str) -> Arg<'a>
-    ensures rule { rule_of result ≡ deep_rule }
-    ensures local { result.global ≡ false }
-{
-    flag(alloc, "deep", help)
-}
-
-/// Makes the flag that chooses the order by rounds.
-fn rounds<'a>(alloc: Global, help: &'a str) -> Arg<'a>
-    ensures rule { rule_of result ≡ rounds_rule }
-    ensures local { result.global ≡ false }
-{
-    flag(alloc, "rounds", help)
-}
-
 /// Adds the flags that choose an order. The form accepts both: clap promises nothing on the faults of words
 /// if one argument excludes another.
 fn with_orders<'a>(
@@ -209,54 +105,6 @@ fn with_routes<'a>(
 {
     let command = with_arg(command, routes(alloc));
     with_orders(alloc, command, ROUTES_BY_DEPTH, rounds_help)
-}
-
-/// Makes the option for the limit on distances.
-fn limit_of_distances<'a>(alloc: Global, help: &'a str) -> Arg<'a>
-    ensures rule { rule_of result ≡ within_rule }
-    ensures local { result.global ≡ false }
-{
-    limit(alloc, "within", "R", 0, MOST_WEIGHT, help)
-}
-
-/// Makes the option for the limit on the distances of tables.
-fn within<'a>(alloc: Global) -> Arg<'a>
-    ensures rule { rule_of result ≡ within_rule }
-    ensures local { result.global ≡ false }
-{
-    limit_of_distances(
-        alloc,
-        "In tables, write only distances of at most R, from 0 to 1152921504606846976: each other cell is - \
-        [default: no limit]",
-    )
-}
-
-/// Makes the option for the file of a saved hierarchy.
-fn saved<'a>(alloc: Global) -> Arg<'a>
-    ensures rule { rule_of result ≡ saved_rule }
-    ensures local { result.global ≡ false }
-{
-    option(
-        alloc,
-        "saved",
-        "FILE",
-        "Read the hierarchy from FILE and check it, instead of building one. `chtab save` or any other program \
-        wrote it, of this graph: one of another graph is refused, often by `saved line 1: size too large`. \
-        Options on how to build one then have no effect [default: none]",
-    )
-}
-
-/// Makes the argument for the file of the graph.
-fn graph<'a>(alloc: Global) -> Arg<'a>
-    ensures rule { rule_of result ≡ file_rule (codes "GRAPH") }
-    ensures local { result.global ≡ false }
-{
-    file(
-        alloc,
-        "GRAPH",
-        "A .gr file: `p sp N M`, then M lines `a U V W`, an arc from node U to node V of weight W. \
-        Nodes are 1 to N",
-    )
 }
 
 /// Adds the options that each tool reads, and the file of the graph.
@@ -373,21 +221,6 @@ fn with_nearness<'a>(
     );
     let command = with_arg(with_arg(command, count), within);
     with_arg(with_arg(command, from), all)
-}
-
-/// Makes the argument for the lists of `near`. Clap takes one list or two. It can't require the first of
-/// two only if `--all` is not given.
-fn lists<'a>(alloc: Global) -> Arg<'a>
-    ensures rule { rule_of result ≡ lists_rule }
-    ensures local { result.global ≡ false }
-{
-    Arg::new(alloc, "LISTS")
-        .required(true)
-        .action(ArgAction::Append)
-        .num_args(1..=2)
-        .help(
-            "SOURCES and TARGETS, or with --all TARGETS alone. Each is a .ss file: `p aux sp ss K`, then K lines `s V`",
-        )
 }
 
 /// Makes the command `near` with its options and files.

@@ -8,6 +8,7 @@
 //!   them.
 #![tactic(auto)]
 
+mod arguments;
 mod fault;
 mod form;
 mod given;
