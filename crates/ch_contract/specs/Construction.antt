@@ -1,14 +1,15 @@
 -- A hierarchy that is being built one node after the other.
-use Rattle.std.specs.Prelude.{◌≡◌, ◌+◌, ◌<◌, ◌≤◌, ℕ, All, List, None, length, slice_index, slice_set}
+use Rattle.std.specs.Prelude.{◌≡◌, ◌+◌, ◌<◌, ◌≤◌, ℕ, All, List, Option, None, ℤ, length, slice_index, slice_set}
 use Rattle.ch_graph.specs.declared.limits.TheConstants.{MOST_NODES}
 use Rattle.ch_hierarchy.specs.Rows.{row}
 use Rattle.ch_contract.specs.declared.construction.Construction.{Construction}
+use Rattle.ch_contract.specs.declared.room.Room.{Room}
 use Rattle.ch_contract.specs.Progress.{Progress}
-use Rattle.ch_contract.specs.Legs.{AreLegsWithin, IsHopBound, turned_legs}
+use Rattle.ch_contract.specs.Legs.{Legs, AreLegsWithin, IsHopBound, turned_legs}
 use Rattle.ch_contract.specs.Contraction.{Contracts}
 use Rattle.ch_contract.specs.Measures.{AreDeepened}
 use Rattle.ch_contract.specs.Priorities.{neighbours_in}
-use Rattle.ch_contract.specs.Remaining.{legs_of, IsSetAside}
+use Rattle.ch_contract.specs.Remaining.{RemainingLegs, legs_of, IsSetAside}
 use Rattle.ch_contract.specs.Rooms.{IsIdleRoom, IsReady}
 
 -- the progress of the construction: the rows are the legs that were set aside
@@ -27,6 +28,16 @@ pub record IsSized (c : Construction) : Type 0 where
 -- the caller's room is ready to judge nodes with the remaining legs, and the workers' rooms are idle
 abbrev pub IsJudging : ℕ → Construction → Type 0
 IsJudging h c = IsReady c.remaining.nodes h (legs_of c.remaining) c.room × All IsIdleRoom c.rooms.items
+
+-- the construction has these parts, a room that keeps no shortcuts and a level for each node, and no node is contracted
+pub record IsMadeOf (remaining : RemainingLegs) (rooms : List Room) (waiting : List (Option ℤ)) (depths : List ℕ) (c : Construction) : Type 0 where
+  pub legs : c.remaining ≡ remaining
+  pub idle : c.rooms.items ≡ rooms
+  pub keys : c.waiting ≡ waiting
+  pub deep : c.depths.items ≡ depths
+  pub room : (n h : ℕ) (L : Legs) → IsReady n h L c.room
+  pub size : length c.levels.items ≡ c.remaining.nodes
+  pub none : c.contracted ≡ 0
 
 -- v can be contracted next, where a witness has at most h legs
 pub record IsReadyFor (h : ℕ) (c : Construction) (v : ℕ) : Type 0 where

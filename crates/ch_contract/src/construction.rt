@@ -141,7 +141,7 @@ impl Construction {
     ghost use Rattle.ch_contract.specs.Remaining.{legs_of};
     ghost use Rattle.ch_hierarchy.specs.Hierarchy.{LevelsAndLegs, IsLevelled};
     ghost use Rattle.ch_contract.specs.Progress.{AreAll, IsNext, IsOpen, IsStep};
-    ghost use Rattle.ch_contract.specs.Construction.{IsSized, IsJudging, IsReadyFor, IsTaken, progress_of};
+    ghost use Rattle.ch_contract.specs.Construction.{IsSized, IsJudging, IsMadeOf, IsReadyFor, IsTaken, progress_of};
 
     /// Starts the construction of the hierarchy of a graph. No node is contracted yet.
     fn open<R: Threads + Sync, G: Gate>(
@@ -161,11 +161,23 @@ impl Construction {
         let depths = vec![in crew.alloc; 0; nodes as usize]?;
         let mut rooms = Vec::new(crew.alloc);
         let waiting = opening_queue(crew, &remaining, depths.as_slice(), hops, by, &mut rooms)?;
-        let room = Room::new(crew.alloc);
-        let levels = vec![in crew.alloc; 0; nodes as usize]?;
+        Construction::of(crew.alloc, remaining, rooms, waiting, depths)
+    }
+
+    /// Returns the construction with these parts, in which no node is contracted yet.
+    fn of(
+        alloc: Global,
+        remaining: Remaining,
+        rooms: Vec<Room>,
+        waiting: KeyQueue<i64>,
+        depths: Vec<u32>,
+    ) -> Result<Construction, AllocError>
+        ensures { IfOk result (IsMadeOf remaining rooms.items waiting depths.items) }
+    {
+        let levels = vec![in alloc; 0; remaining.nodes() as usize]?;
         Ok(Construction {
             remaining,
-            room,
+            room: Room::new(alloc),
             rooms,
             waiting,
             depths,

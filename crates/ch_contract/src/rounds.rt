@@ -1,6 +1,6 @@
 //! Builds the hierarchy of a graph by rounds: nodes that are more than two legs apart are contracted together.
-ghost use Rattle.std.specs.Prelude.{◌≡◌, ℕ, ◌+◌, ◌*◌, ◌<◌, nat_lt, ◌≤◌, ◌^◌, ◌↔◌, All, AllPairs, Contains, IfOk, List, OnOk, length, slice_index, true};
-ghost use Rattle.std.specs.List.{list_any};
+ghost use Rattle.std.specs.Prelude.{◌≡◌, ℕ, ◌+◌, ◌*◌, ◌<◌, nat_lt, ◌≤◌, ◌^◌, ◌↔◌, All, AllPairs, Contains, IfOk, List, OnOk, length, pos, replicate, slice_index, true};
+ghost use Rattle.std.specs.List.{list_any, range_with_len};
 ghost use Rattle.ch_graph.specs.Graph.{IsWithinLimits};
 ghost use Rattle.ch_contract.specs.Legs.{AreLegsWithin, IsHopBound, turned_legs};
 ghost use Rattle.ch_contract.specs.Order.{are_neighbours};
@@ -11,7 +11,7 @@ ghost use Rattle.ch_contract.specs.Remaining.{legs_of};
 ghost use Rattle.ch_contract.specs.TakenOut.{AreNeighboursOf, AreSetAside};
 ghost use Rattle.ch_contract.specs.Rooms.{IsIdleRoom};
 ghost use Rattle.ch_contract.specs.FirstAround.{IsFirstBy};
-ghost use Rattle.ch_contract.specs.RoundChoice.{IsSplit};
+ghost use Rattle.ch_contract.specs.RoundChoice.{AreKeyed, IsSplit};
 
 use crate::first_around::FirstJob;
 use crate::order::{deepen, push_neighbours};
@@ -103,30 +103,13 @@ impl ConstructionByRounds {
         let remaining = Remaining::open(crew.alloc, graph)?;
         let nodes = remaining.nodes();
         let left = all_nodes(crew.alloc, nodes)?;
-        let mut rooms = Vec::new(crew.alloc);
-        let mut counts = vec![in crew.alloc; 0u64; nodes as usize]?;
-        crew.gate.watch(Stage::Ranking, 0, crew.plan.pieces(nodes));
-        count(
-            crew,
-            &remaining,
-            left.as_slice(),
-            hops,
-            &mut rooms,
-            &mut counts,
-        )?;
-        let depths = vec![in crew.alloc; 0u32; nodes as usize]?;
-        let mut keys = vec![in crew.alloc; 0i64; nodes as usize]?;
-        let parts = KeyParts {
-            remaining: &remaining,
-            counts: counts.as_slice(),
-            depths: depths.as_slice(),
-        };
-        parts.refresh(
-            &crew_for(crew, left.len(), KEYS_AT_ONCE),
-            left.as_slice(),
-            &mut keys,
-        )?;
         let levels = vec![in crew.alloc; 0u32; nodes as usize]?;
+        let Opening {
+            rooms,
+            counts,
+            depths,
+            keys,
+        } = Opening::of(crew, &remaining, left.as_slice(), hops)?;
         Ok(ConstructionByRounds {
             remaining,
             rooms,
@@ -237,6 +220,86 @@ impl ConstructionByRounds {
         let BothRows { ups, downs } = remaining.into_rows_by_both(crew)?;
         Hierarchy::from_rows(*levels.allocator(), levels, ups, downs)
     }
+}
+
+/// What is kept of the nodes before the first round, and the workers' rooms.
+#[derive(Drop)]
+struct Opening {
+    rooms: Vec<Room>,
+    counts: Vec<u64>,
+    depths: Vec<u32>,
+    keys: Vec<i64>,
+}
+
+impl Opening {
+    /// Counts the shortcuts of all nodes, and makes their keys.
+    fn of<R: Threads + Sync, G: Gate>(
+        crew: &Crew<'_, R, G>,
+        remaining: &Remaining,
+        nodes: &[u32],
+        hops: u32,
+    ) -> Result<Opening, AllocError>
+        requires hops { IsHopBound hops }
+        requires nodes { nodes.now ≡ range_with_len 0 remaining.now.nodes }
+        ensures rooms { IfOk result (λ o. All IsIdleRoom o.rooms.items) }
+        ensures counts { IfOk result (λ o. AreCounted remaining.now.nodes hops (legs_of remaining.now) nodes.now (replicate remaining.now.nodes 0) o.counts.items) }
+        ensures depths { IfOk result (λ o. o.depths.items ≡ replicate remaining.now.nodes 0) }
+        ensures keys { IfOk result (λ o. AreKeyed remaining.now o.counts.items o.depths.items nodes.now (replicate remaining.now.nodes (pos 0)) o.keys.items) }
+    {
+        let mut rooms = Vec::new(crew.alloc);
+        let counts = opening_counts(crew, remaining, nodes, hops, &mut rooms)?;
+        let depths = vec![in crew.alloc; 0u32; remaining.nodes() as usize]?;
+        let parts = KeyParts {
+            remaining,
+            counts: counts.as_slice(),
+            depths: depths.as_slice(),
+        };
+        let keys = opening_keys(crew, &parts, nodes)?;
+        Ok(Opening {
+            rooms,
+            counts,
+            depths,
+            keys,
+        })
+    }
+}
+
+/// Counts the shortcuts of all nodes.
+fn opening_counts<R: Threads + Sync, G: Gate>(
+    crew: &Crew<'_, R, G>,
+    remaining: &Remaining,
+    nodes: &[u32],
+    hops: u32,
+    rooms: &mut Vec<Room>,
+) -> Result<Vec<u64>, AllocError>
+    requires hops { IsHopBound hops }
+    requires nodes { nodes.now ≡ range_with_len 0 remaining.now.nodes }
+    requires rooms { All IsIdleRoom rooms.old.items }
+    ensures counts { IfOk result (λ c. AreCounted remaining.now.nodes hops (legs_of remaining.now) nodes.now (replicate remaining.now.nodes 0) c.items) }
+    ensures rooms { All IsIdleRoom rooms.new.items }
+{
+    let all = remaining.nodes();
+    let mut counts = vec![in crew.alloc; 0u64; all as usize]?;
+    crew.gate.watch(Stage::Ranking, 0, crew.plan.pieces(all));
+    count(crew, remaining, nodes, hops, rooms, &mut counts)?;
+    Ok(counts)
+}
+
+/// Makes the keys of all nodes.
+fn opening_keys<R: Threads + Sync, G: Gate>(
+    crew: &Crew<'_, R, G>,
+    parts: &KeyParts<'_>,
+    nodes: &[u32],
+) -> Result<Vec<i64>, AllocError>
+    requires nodes { All (λ x. (x < parts.now.remaining.now.nodes) × (slice_index parts.now.counts.now x ≤ 2 ^ 50)) nodes.now }
+    requires count { length nodes.now ≡ parts.now.remaining.now.nodes }
+    ensures { IfOk result (λ k. AreKeyed parts.now.remaining.now parts.now.counts.now parts.now.depths.now nodes.now (replicate parts.now.remaining.now.nodes (pos 0)) k.items) }
+{
+    let all = parts.remaining.nodes();
+    let mut keys = vec![in crew.alloc; 0i64; all as usize]?;
+    let sharing = crew_for(crew, nodes.len(), KEYS_AT_ONCE);
+    parts.refresh(&sharing, nodes, &mut keys)?;
+    Ok(keys)
 }
 
 /// The neighbours of the nodes of a round.

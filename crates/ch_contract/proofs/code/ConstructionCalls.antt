@@ -1,5 +1,5 @@
 -- The opening of a construction, one step and the end, from the clauses of their calls.
-use Rattle.std.proofs.Common.{◌≡◌, ℕ, Bool, true, false, not, map, refl, ◌+◌, ◌*◌, ◌<◌, ◌≤◌, List, length, get_or, Option, Some, None, sym, ◌∙◌, ap, subst, arith, inl, inr, replicate, Contains, length-append, length-set, get_or-set_same, get_or-set_other}
+use Rattle.std.proofs.Common.{◌≡◌, ℕ, Bool, true, false, not, map, refl, ◌+◌, ◌*◌, ◌<◌, ◌≤◌, List, [], length, get_or, Option, Some, None, sym, ◌∙◌, ap, subst, arith, inl, inr, replicate, Contains, length-append, length-set, get_or-set_same, get_or-set_other}
 use Rattle.std.specs.Prelude.{slice_set, All, filter, is_some, ◌||◌, if◌then◌else◌, slice_index, max, ℤ, ◌<ℤ◌}
 use Rattle.std.specs.Ordering.{is_gt, int_cmp, MatchOrdering}
 use Rattle.std.specs.declared.cmp.Ordering.{Ordering}
@@ -11,21 +11,24 @@ use Rattle.std.proofs.lemmas.List.{length-map, get_or-replicate, get_or_past, le
 use Rattle.std.proofs.lemmas.List.Filters.{length-filter_both}
 use Rattle.std.proofs.lemmas.List.Elements.{Contains-get_or}
 use Rattle.ch_queue.specs.Queue.{IsLeastEntry, ComesFirst}
+use Rattle.ch_graph.specs.declared.limits.TheConstants.{MOST_NODES}
 use Rattle.ch_graph.specs.Graph.{Network}
 use Rattle.ch_hierarchy.specs.Rows.{row}
 use Rattle.ch_hierarchy.specs.declared.leg.Leg.{Leg}
 use Rattle.ch_contract.specs.declared.measure.OrderBy.{OrderBy}
 use Rattle.ch_contract.specs.declared.construction.Construction.{Construction}
+use Rattle.ch_contract.specs.declared.room.Room.{Room}
 use Rattle.ch_contract.specs.Legs.{Label, Legs, SameLegs, AreLegsWithin, opening, turned_legs}
 use Rattle.ch_contract.specs.Contraction.{Contracts, IsPriorityBy}
 use Rattle.ch_contract.specs.Order.{are_neighbours, next_depth, IsContractedBefore}
 use Rattle.ch_contract.specs.LegRows.{AreLegsFrom, AreLegsTo}
 use Rattle.ch_hierarchy.specs.Hierarchy.{LevelsAndLegs}
-use Rattle.ch_contract.specs.Remaining.{legs_of, IsSetAside}
+use Rattle.ch_contract.specs.Remaining.{RemainingLegs, legs_of, IsSetAside}
 use Rattle.ch_contract.specs.Progress.{IsNext, IsOpen, IsStep, AreAll}
 use Rattle.ch_contract.specs.Priorities.{ArePriorities, AreRefreshed, has_node, neighbours_in}
 use Rattle.ch_contract.specs.Measures.{IsPriorityIn, AreDeepened}
-use Rattle.ch_contract.specs.Construction.{progress_of, IsSized, IsTaken}
+use Rattle.ch_contract.specs.Construction.{progress_of, IsJudging, IsMadeOf, IsSized, IsTaken}
+use Rattle.ch_contract.specs.Rooms.{IsIdleRoom}
 use Rattle.ch_contract.proofs.theory.OneInTurn.{one_map}
 use Rattle.ch_contract.proofs.theory.Counts.{rows_touching, count_most}
 use Rattle.ch_contract.proofs.code.Neighbours.{neighbour_listed, not_listed, neighbour_within}
@@ -65,6 +68,37 @@ opened by g h c same nodes limits priorities depths contracted =
       depths = depths;
       contracted = contracted;
     }
+
+-- a construction of these parts is open
+pub opened_with : (by : OrderBy) (g : Network) (h : ℕ) (r : RemainingLegs) (rooms : List Room) (waiting : List (Option ℤ)) (depths : List ℕ) (c : Construction) → IsMadeOf r rooms waiting depths c → SameLegs (legs_of r) (opening g) → r.nodes ≡ g.nodes → AreLegsWithin r.nodes (legs_of r) →
+    ArePriorities (IsPriorityIn by r h depths) r.nodes waiting → depths ≡ replicate r.nodes 0 → IsOpen by g h (progress_of c)
+opened_with by g h r rooms waiting depths c m same nodes limits priorities zero =
+    let first = subst (λ (s : RemainingLegs). ArePriorities (IsPriorityIn by s h depths) s.nodes waiting) (sym m.legs) priorities in
+    let second = subst (λ (l : List ℕ). ArePriorities (IsPriorityIn by c.remaining h l) c.remaining.nodes waiting) (sym m.deep) first in
+    opened by g h c
+    (subst (λ (s : RemainingLegs). SameLegs (legs_of s) (opening g)) (sym m.legs) same)
+    (ap (λ (s : RemainingLegs). s.nodes) m.legs ∙ nodes)
+    (subst (λ (s : RemainingLegs). AreLegsWithin s.nodes (legs_of s)) (sym m.legs) limits)
+    (subst (ArePriorities (IsPriorityIn by c.remaining h c.depths.items) c.remaining.nodes) (sym m.keys) second)
+    (λ x. ap (λ (l : List ℕ). slice_index l x) (m.deep ∙ zero) ∙ zeros r.nodes x) m.none
+
+-- a construction of these parts has its sizes
+pub sized_with : (n : ℕ) (r : RemainingLegs) (rooms : List Room) (waiting : List (Option ℤ)) (depths : List ℕ) (c : Construction) → IsMadeOf r rooms waiting depths c → r.nodes ≡ n → r.nodes ≤ MOST_NODES → length waiting ≡ r.nodes → depths ≡ replicate r.nodes 0 → r.ups ≡ replicate n [] → r.downs ≡ replicate n [] → IsSized c
+sized_with n r rooms waiting depths c m nodes most keys zero ups downs =
+    let count : c.remaining.nodes ≡ r.nodes = ap (λ (s : RemainingLegs). s.nodes) m.legs in
+    let all : length (replicate {A = List Leg} n []) ≡ c.remaining.nodes = length-replicate {A = List Leg} n [] ∙ sym nodes ∙ sym count in
+    record {
+      nodes = subst (λ k. k ≤ MOST_NODES) (sym count) most;
+      keys = ap length m.keys ∙ keys ∙ sym count;
+      depths = ap length (m.deep ∙ zero) ∙ length-replicate {A = ℕ} r.nodes 0 ∙ sym count;
+      levels = m.size;
+      ups = ap (λ (s : RemainingLegs). length s.ups) m.legs ∙ ap length ups ∙ all;
+      downs = ap (λ (s : RemainingLegs). length s.downs) m.legs ∙ ap length downs ∙ all;
+    }
+
+-- a construction of these parts can judge nodes
+pub judging_with : (h : ℕ) (r : RemainingLegs) (rooms : List Room) (waiting : List (Option ℤ)) (depths : List ℕ) (c : Construction) → IsMadeOf r rooms waiting depths c → All IsIdleRoom rooms → IsJudging h c
+judging_with h r rooms waiting depths c m idle = (m.room c.remaining.nodes h (legs_of c.remaining), subst (All IsIdleRoom) (sym m.idle) idle)
 
 -- the parts of a construction after v is contracted
 pub record IsStepped (by : OrderBy) (h : ℕ) (before : Construction) (v : ℕ) (after : Construction) : Type 0 where

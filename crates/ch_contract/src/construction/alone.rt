@@ -9,7 +9,6 @@ use super::{Construction, ask_ahead};
 use crate::measure::OrderBy;
 use crate::priority::{PriorityJob, opening_queue_alone};
 use crate::remaining::Remaining;
-use crate::room::Room;
 use ch_graph::Graph;
 use ch_hierarchy::Hierarchy;
 use std::alloc::{AllocError, Global};
@@ -54,18 +53,7 @@ impl Construction {
         let depths = vec![in alloc; 0; nodes as usize]?;
         let by = OrderBy::Depth;
         let waiting = opening_queue_alone(alloc, &remaining, depths.as_slice(), hops, by)?;
-        let room = Room::new(alloc);
-        let rooms = Vec::new(alloc);
-        let levels = vec![in alloc; 0; nodes as usize]?;
-        Ok(Construction {
-            remaining,
-            room,
-            rooms,
-            waiting,
-            depths,
-            levels,
-            contracted: 0,
-        })
+        Construction::of(alloc, remaining, Vec::new(alloc), waiting, depths)
     }
 
     /// Contracts a node in the order by depth, and keeps its level and its legs.

@@ -37,10 +37,20 @@ impl Remaining {
         ensures down { IfOk result (λ r. AreLegsTo (legs_of self) v r.1.down.items) }
     {
         let shortcuts = self.shortcuts(v, hops)?;
+        let removed = self.legs_at(v)?;
+        let remaining = self.contract_with(v, shortcuts.as_slice())?;
+        Ok((remaining, removed))
+    }
+
+    /// Copies the legs of `v`.
+    fn legs_at(&self, v: u32) -> Result<Removed, AllocError>
+        requires { v < self.now.nodes }
+        ensures up { IfOk result (λ r. AreLegsFrom (legs_of self.now) v r.up.items) }
+        ensures down { IfOk result (λ r. AreLegsTo (legs_of self.now) v r.down.items) }
+    {
         let up = Vec::from_slice(self.alloc, self.out_legs(v))?;
         let down = Vec::from_slice(self.alloc, self.in_legs(v))?;
-        let remaining = self.contract_with(v, shortcuts.as_slice())?;
-        Ok((remaining, Removed { up, down }))
+        Ok(Removed { up, down })
     }
 
     /// Takes `v` out with all legs that touch it, and sets its own lists aside.
