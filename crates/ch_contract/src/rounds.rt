@@ -85,7 +85,7 @@ struct ConstructionByRounds {
 impl ConstructionByRounds {
     ghost use Rattle.ch_hierarchy.specs.Hierarchy.{LevelsAndLegs, IsLevelled};
     ghost use Rattle.ch_contract.specs.RoundProgress.{IsRoundsOpen, IsRoundStep, IsRoundsEnd};
-    ghost use Rattle.ch_contract.specs.RoundConstruction.{AreKeysNow, IsSizedByRounds, round_progress_of};
+    ghost use Rattle.ch_contract.specs.RoundConstruction.{AreKeysNow, AreSmall, IsRenewed, IsSizedByRounds, round_progress_of};
 
     /// Starts the construction of the hierarchy of a graph. No node is contracted yet.
     fn open<R: Threads + Sync, G: Gate>(
@@ -150,10 +150,34 @@ impl ConstructionByRounds {
         rank(&mut self.levels, nodes, self.contracted);
         let before = self.contracted;
         self.contracted += nodes.len() as u32;
-        let now = self.contracted;
-        let all = self.remaining.nodes();
         let near = around.near.as_slice();
         let waiting = rest.as_slice();
+        self.renew(crew, hops, before, near, waiting)?;
+        self.left = rest;
+        Ok(self)
+    }
+
+    /// Counts shortcuts and makes keys after a round, before which `before` nodes were contracted. The round has the
+    /// neighbours `near`, and the nodes `waiting` remain.
+    fn renew<R: Threads + Sync, G: Gate>(
+        &mut self,
+        crew: &Crew<'_, R, G>,
+        hops: u32,
+        before: u32,
+        near: &[u32],
+        waiting: &[u32],
+    ) -> Result<(), AllocError>
+        requires hops { IsHopBound hops }
+        requires sizes { (length self.old.counts.items ≡ self.old.remaining.nodes) × (length self.old.depths.items ≡ self.old.remaining.nodes) × (length self.old.keys.items ≡ self.old.remaining.nodes) }
+        requires near { AreSmall self.old.remaining.nodes self.old.counts.items near.now }
+        requires waiting { AreSmall self.old.remaining.nodes self.old.counts.items waiting.now }
+        requires few { (length near.now < 2 ^ 32) × (length waiting.now < 2 ^ 32) }
+        requires rooms { All IsIdleRoom self.old.rooms.items }
+        ensures renewed { OnOk result (IsRenewed hops before near.now waiting.now self.old self.new) }
+        ensures rooms { OnOk result (All IsIdleRoom self.new.rooms.items) }
+    {
+        let now = self.contracted;
+        let all = self.remaining.nodes();
         let due = due(all, before, now, near, waiting);
         count(
             crew,
@@ -169,13 +193,8 @@ impl ConstructionByRounds {
             depths: self.depths.as_slice(),
         };
         let stale = stale(all, before, now, near, waiting);
-        parts.refresh(
-            &crew_for(crew, stale.len(), KEYS_AT_ONCE),
-            stale,
-            &mut self.keys,
-        )?;
-        self.left = rest;
-        Ok(self)
+        let sharing = crew_for(crew, stale.len(), KEYS_AT_ONCE);
+        parts.refresh(&sharing, stale, &mut self.keys)
     }
 
     /// Splits the remaining nodes into the next round and the rest.

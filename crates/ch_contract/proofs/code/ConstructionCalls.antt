@@ -54,7 +54,7 @@ zeros n x = elim (cases_lt x n) [
 ]
 
 -- a construction in which no node is contracted
-pub opened : (by : OrderBy) (g : Network) (h : ℕ) (c : Construction) → SameLegs (legs_of c.remaining) (opening g) → c.remaining.nodes ≡ g.nodes → AreLegsWithin c.remaining.nodes (legs_of c.remaining) → ArePriorities (IsPriorityIn by c.remaining h c.depths.items) c.remaining.nodes c.waiting → ((x : ℕ) → slice_index c.depths.items x ≡ 0) →
+opened : (by : OrderBy) (g : Network) (h : ℕ) (c : Construction) → SameLegs (legs_of c.remaining) (opening g) → c.remaining.nodes ≡ g.nodes → AreLegsWithin c.remaining.nodes (legs_of c.remaining) → ArePriorities (IsPriorityIn by c.remaining h c.depths.items) c.remaining.nodes c.waiting → ((x : ℕ) → slice_index c.depths.items x ≡ 0) →
     c.contracted ≡ 0 → IsOpen by g h (progress_of c)
 opened by g h c same nodes limits priorities depths contracted =
     let legs = one_map (legs_of c.remaining) (opening g) same in

@@ -11,7 +11,7 @@ use Rattle.ch_graph.specs.Graph.{Network}
 use Rattle.ch_hierarchy.specs.Rows.{row}
 use Rattle.ch_hierarchy.specs.Hierarchy.{LevelsAndLegs}
 use Rattle.ch_contract.specs.declared.rounds.ConstructionByRounds.{ConstructionByRounds}
-use Rattle.ch_contract.specs.Legs.{Legs, SameLegs, AreLegsWithin, opening, turned_legs}
+use Rattle.ch_contract.specs.Legs.{Legs, SameLegs, opening, turned_legs}
 use Rattle.ch_contract.specs.Order.{are_neighbours}
 use Rattle.ch_contract.specs.Remaining.{legs_of}
 use Rattle.ch_contract.specs.Rounds.{mixed_number, ComesBefore, IsWithinTwoLegs, IsRound, AreApart, ContractsRound, depth_after_round}
@@ -29,8 +29,6 @@ use Rattle.ch_contract.proofs.code.KeptKeys.{any_of, touching_kept, depth_kept, 
 use Rattle.ch_contract.proofs.theory.OneInTurn.{one_map}
 use Rattle.ch_contract.proofs.theory.RoundFirst.{before_self}
 use Rattle.ch_contract.proofs.theory.RoundOrders.{both_before, within_flip}
-use Rattle.ch_contract.proofs.theory.RoundsExist.{neighbour_below}
-use Rattle.ch_contract.proofs.code.NearRound.{any_found}
 use Rattle.ch_contract.proofs.code.KeptPriorities.{numbers_below, number_among}
 
 -- the parts of a construction after a round of these nodes, which have these neighbours
@@ -63,12 +61,6 @@ split_left P n left nodes rest all s = λ k d lt. All-contains (λ x. x < n) lef
 -- the nodes of the rest are below the number of nodes
 pub split_rest : (P : ℕ → Type 0) (n : ℕ) (left nodes rest : List ℕ) → All (λ x. x < n) left → IsSplit P left nodes rest → All (λ x. x < n) rest
 split_rest P n left nodes rest all s = λ k d lt. All-contains (λ x. x < n) left (get_or rest k d) all ((s.waits (get_or rest k d)).0 (Contains-get_or rest k d lt)).0
-
--- the neighbours of the nodes of a round are below the number of nodes
-pub near_below : (n : ℕ) (L : Legs) (nodes near : List ℕ) → AreLegsWithin n L → ((x : ℕ) → Contains near x ↔ (list_any (λ v. are_neighbours L v x) nodes ≡ true)) → All (λ x. x < n) near
-near_below n L nodes near limits is = λ k d lt.
-    let v = any_found (λ v. are_neighbours L v (get_or near k d)) nodes ((is (get_or near k d)).0 (Contains-get_or near k d lt)) in
-    neighbour_below n L v.0 (get_or near k d) limits v.2
 
 -- the nodes whose shortcuts are counted are below the number of nodes
 pub due_below : (n m before after : ℕ) (near rest : List ℕ) → All (λ x. x < m) near → All (λ x. x < m) rest → All (λ x. x < m) (due_of n before after near rest)

@@ -1,4 +1,4 @@
-use Rattle.std.proofs.Common.{◌∙◌, ◌<◌, ◌≤◌, ◌^◌, ℕ, List, refl, sym, ap, subst, length, get_or, replicate, Contains}
+use Rattle.std.proofs.Common.{◌∙◌, ◌<◌, ◌≤◌, ◌^◌, ℕ, List, refl, sym, ap, subst, length, get_or, replicate}
 use Rattle.std.specs.Prelude.{All, pos, slice_index}
 use Rattle.std.proofs.lemmas.List.FromFn.{length-range_with_len}
 use Rattle.std.proofs.lemmas.List.Elements.{All-contains, Contains-get_or}
