@@ -121,6 +121,7 @@ impl KeptTargets {
             unreachable!()
         };
         let written = nearest.write_row(alloc, room, source, row);
+        // A search without memory may leave offers in the room, which are not the next source's.
         if written.is_err() {
             self.room = None;
         }
