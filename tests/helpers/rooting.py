@@ -11,8 +11,7 @@ set -e
 mount -t tmpfs tmpfs "$1"
 mkdir "$1/upper" "$1/work" "$1/root"
 mount -t overlay overlay -o "lowerdir=/,upperdir=$1/upper,workdir=$1/work" "$1/root"
-mount --rbind /dev "$1/root/dev"
-mount --rbind /proc "$1/root/proc"
+for name in dev proc; do mount --rbind "/$name" "$1/root/$name"; done
 echo made
 read -r end || true
 """

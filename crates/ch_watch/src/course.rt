@@ -22,7 +22,7 @@ const ROOM: usize = 128;
 
 /// The stage that a run is in, and when the next line is due. Threads share it.
 #[derive(Drop)]
-pub struct Course {
+pub(crate) struct Course {
     is_shown: bool,
     is_asked: AtomicBool,
     /// When the next line is due, in milliseconds.
@@ -37,7 +37,7 @@ pub struct Course {
 
 impl Course {
     /// Makes a course in which no line is due before it begins.
-    pub fn new(is_shown: bool) -> Course {
+    pub(crate) fn new(is_shown: bool) -> Course {
         Course {
             is_shown,
             is_asked: AtomicBool::new(false),
@@ -49,7 +49,7 @@ impl Course {
     }
 
     /// Makes lines due from now on, if they are asked for or shown.
-    pub fn begin(&self, is_asked: bool) {
+    pub(crate) fn begin(&self, is_asked: bool) {
         self.is_asked.store(is_asked, Ordering::SeqCst);
         if is_asked || self.is_shown {
             self.due.store(0, Ordering::SeqCst);
@@ -57,19 +57,19 @@ impl Course {
     }
 
     /// Returns whether the clock is read after this many steps of all.
-    pub fn is_timed_at(&self, done: u32, all: u32) -> bool {
+    pub(crate) fn is_timed_at(&self, done: u32, all: u32) -> bool {
         self.due.load(Ordering::SeqCst) != NEVER && is_among_timed(done, all)
     }
 
     /// Returns whether the clock is read before the piece of this number.
-    pub fn is_timed_at_piece(&self, piece: u32) -> bool {
+    pub(crate) fn is_timed_at_piece(&self, piece: u32) -> bool {
         is_cut_in_pieces(stage_of(self.stage.load(Ordering::SeqCst)))
             && self.is_timed_at(piece, self.all.load(Ordering::SeqCst))
     }
 
     /// Begins a stage with `all` steps. If nobody asked for progress, no line is due in its first
     /// second.
-    pub fn begin_stage(&self, stage: Stage, all: u32, now: u64) {
+    pub(crate) fn begin_stage(&self, stage: Stage, all: u32, now: u64) {
         self.stage.store(number_of(stage), Ordering::SeqCst);
         self.all.store(all, Ordering::SeqCst);
         self.begun.store(now, Ordering::SeqCst);
@@ -81,7 +81,7 @@ impl Course {
 
     /// Returns the line that is due after this many steps. Returns `None` if no line is due, another
     /// thread has it, or there is no memory for it.
-    pub fn line_at(&self, alloc: Global, done: u32, now: u64) -> Option<String> {
+    pub(crate) fn line_at(&self, alloc: Global, done: u32, now: u64) -> Option<String> {
         let due = self.due.load(Ordering::SeqCst);
         if now < due {
             return None;
@@ -103,6 +103,6 @@ impl Course {
 }
 
 /// Returns whether a stage is timed after this many steps of all.
-pub fn is_among_timed(done: u32, all: u32) -> bool {
+pub(crate) fn is_among_timed(done: u32, all: u32) -> bool {
     done % (all / TIMED + 1) == 0 || all.saturating_sub(done) <= TIMED
 }

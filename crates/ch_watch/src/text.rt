@@ -4,7 +4,7 @@ use ch_work::Stage;
 use std::fmt;
 
 /// Returns the number of a stage, which an atomic word can hold.
-pub fn number_of(stage: Stage) -> u32 {
+pub(crate) fn number_of(stage: Stage) -> u32 {
     match stage {
         Stage::Reading => 0,
         Stage::Ranking => 1,
@@ -16,7 +16,7 @@ pub fn number_of(stage: Stage) -> u32 {
 }
 
 /// Returns the stage of a number.
-pub fn stage_of(number: u32) -> Stage {
+pub(crate) fn stage_of(number: u32) -> Stage {
     match number {
         0 => Stage::Reading,
         1 => Stage::Ranking,
@@ -28,7 +28,7 @@ pub fn stage_of(number: u32) -> Stage {
 }
 
 /// Returns whether the steps of a stage are pieces, which workers claim in order.
-pub fn is_cut_in_pieces(stage: Stage) -> bool {
+pub(crate) fn is_cut_in_pieces(stage: Stage) -> bool {
     match stage {
         Stage::Ranking | Stage::Checking | Stage::Searching | Stage::Answering => true,
         Stage::Reading | Stage::Building => false,
@@ -40,12 +40,12 @@ const WHOLE: u64 = 1 << 20;
 
 /// How far a stage is.
 #[derive(Clone, Copy, Debug, PartialEq, Eq)]
-pub struct Progress {
-    pub stage: Stage,
-    pub done: u32,
-    pub all: u32,
+pub(crate) struct Progress {
+    pub(crate) stage: Stage,
+    pub(crate) done: u32,
+    pub(crate) all: u32,
     /// The time that the stage has taken, in milliseconds.
-    pub time: u64,
+    pub(crate) time: u64,
 }
 
 impl Progress {
@@ -63,7 +63,7 @@ impl Progress {
 
     /// Returns about how many seconds the rest takes, rounded up, or `None` if too little is done to
     /// tell.
-    pub fn seconds_left(&self) -> Option<u64> {
+    pub(crate) fn seconds_left(&self) -> Option<u64> {
         let left = self.parts_left().min(WHOLE);
         let past = WHOLE - left;
         if past == 0 {
