@@ -14,6 +14,7 @@ from pathlib import Path
 
 import believe
 from helpers import layers
+from helpers.prose import CODE, check_prose, check_sentence, prose
 from helpers.running import ROOT, Count
 
 PAGES = (
@@ -21,22 +22,16 @@ PAGES = (
     ROOT / "bench" / "README.md", *sorted((ROOT / "python").glob("README*")),
 )
 PROVED, MEASUREMENTS, REFERENCE = (ROOT / "docs" / name for name in ("PROVED.md", "MEASUREMENTS.md", "REFERENCE.md"))
-MOST_LINES_OF_README, MOST_LINES_OF_PARAGRAPH, MOST_COLUMNS, MOST_WORDS = 120, 5, 100, 30
-# What scripts write into a page, between two marks.
-WRITTEN = re.compile(r"<!-- What stands from here.*?<!-- End of what.*?-->", re.DOTALL)
-# Words that hide who does what, or that turn a sentence round.
-HARD = re.compile(
-    r"\b(?:as ever|(?:by|for|from|in|of|on|over|through|to|with) which|(?:by|of|to) whom|of whose|(?:is|are|was|were|be|been|being) told|is there"
-    r"|are there|so that|whoever|hence|thus|thereby|signs? of life)\b|, (?:since|nor)\b", re.IGNORECASE,
-)
+MOST_LINES_OF_README = 120
+# The pages that follow all rules of `helpers.prose`; the others follow those that came first.
+JUDGED = ()
 # A name of a file or folder with a slash; one without, of what a document is about; and the suffixes of text.
 PATH = re.compile(r"[\w.-]+(?:/[\w.-]+)+/?|[\w-]+/")
 FILE = re.compile(r"[\w-]+\.(?:antt|c|cpp|md|py|rs|rt|sh|toml)")
 # A name of the reader's own stands for it: a word in capitals, as NAME. What the documents' commands make, what is installed, and a unit.
 OF_THE_READER = re.compile(r"\b[A-Z]+(?:_[A-Z]+)*\b")
 ELSEWHERE = re.compile(r"guide/|lib/chtab|.*\bout/|km/h")
-# Inline code, and in it a name, alone or with `::`.
-CODE = re.compile(r"`([^`]+)`")
+# A name in code, alone or with `::`.
 NAME = re.compile(r"(?:\w+::)*\w+")
 # Words and places that no document, source or script has.
 STRANGE = re.compile(r"\b[s]essions?\b|\b[i]ssues? #?\d+|(?<![\w.$}/-])/(?:home|mnt|opt|root|tmp|work)/")
@@ -45,15 +40,6 @@ DAY = re.compile(r"\b\d{1,2} (?:January|February|March|April|May|June|July|Augus
 
 def told(path):
     return path.relative_to(ROOT)
-
-
-def prose(page):
-    """The text of a page without its blocks of code, a line for each line."""
-    lines, fenced = [], False
-    for line in page.read_text().splitlines():
-        fenced ^= line.startswith("```")
-        lines.append("" if fenced or line.startswith(("```", "    ")) else line)
-    return "\n".join(lines)
 
 
 @functools.cache
@@ -214,44 +200,7 @@ def check_statement(tally, crate, name, text, calls, are_calls):
             tally.expect(is_known, f"PROVED.md: {name}: none of the calls that are named there has a clause {word}")
 
 
-# How pages read.
-
-
-def by_hand(page):
-    """The prose of a page without what scripts write, a line for each line."""
-    return WRITTEN.sub(lambda written: "\n" * written[0].count("\n"), prose(page))
-
-
-def paragraphs(page):
-    """The paragraphs and the items of lists of a page. Tables and headings are left out."""
-    lines = by_hand(page).splitlines()
-    lines = ["" if line.lstrip().startswith(("|", "#")) else re.sub(r"^ *(?:[-*]|\d+\.) ", "\n", line) for line in lines]
-    return [block.strip("\n") for block in "\n".join(lines).split("\n\n")]
-
-
-def sentences(page):
-    """The sentences of a page, where a piece of code is one word."""
-    for block in paragraphs(page):
-        words = " ".join(re.sub(r"\]\([^)]*\)", "]", CODE.sub("X", block)).split())
-        yield from re.split(r"(?<=[.?!])[*)]* (?=\[|\W*[A-Z\d])", words)
-
-
-def check_sentence(tally, path, sentence):
-    count = len(re.findall(r"\w[\w.,'-]*", sentence))
-    tally.expect(count <= MOST_WORDS, f"{told(path)}: {count} words: {sentence}")
-    found = HARD.search(sentence)
-    tally.expect(not found, f"{told(path)} has '{found and found[0]}': {sentence}")
-
-
-def check_prose(tally, page):
-    """Lines, sentences and words of a page are those that a reader understands at once. Tables may have long lines."""
-    for number, line in enumerate(by_hand(page).splitlines(), 1):
-        tally.expect(len(line) <= MOST_COLUMNS or line.lstrip().startswith("|"), f"{told(page)}:{number}: {len(line)} columns")
-    for paragraph in paragraphs(page):
-        count = len(paragraph.splitlines())
-        tally.expect(count <= MOST_LINES_OF_PARAGRAPH, f"{told(page)}: {count} lines: {paragraph[:80]}")
-    for sentence in sentences(page):
-        check_sentence(tally, page, sentence)
+# How pages and help read.
 
 
 def check_help(tally, path):
@@ -444,15 +393,15 @@ def check_docstrings(tally):
 
 
 def check_parts(tally):
-    """Each test is a part of ./check, or of this script, or is run by hand, and has its row in ARCHITECTURE.md; what tests share is named there."""
-    check, page = (ROOT / "check").read_text(), (ROOT / "docs" / "ARCHITECTURE.md").read_text()
+    """Each test is a part of ./check, or of this script, or is run by hand, and has a row in TESTING.md. What tests share says what it is."""
+    check, page = (ROOT / "check").read_text(), (ROOT / "docs" / "TESTING.md").read_text()
     for test in sorted([*(ROOT / "tests").glob("*.py"), *(ROOT / "tests").glob("*.sh")]):
-        rows = [line for line in page.splitlines() if line.startswith("|") and f"`{test.name}`" in line]
-        is_run = re.search(rf'"tests/{re.escape(test.name)}[" ]', check) or any("by hand" in row for row in rows)
+        found = [line for line in page.splitlines() if line.startswith("|") and f"`tests/{test.name}`" in line]
+        is_run = re.search(rf'"tests/{re.escape(test.name)}[" ]', check) or any("by hand" in row for row in found)
         is_other = test.name in ("believe.py", "packages.sh")
-        tally.expect(rows and (is_run or is_other), f"tests/{test.name} is no part of ./check, or has no row in ARCHITECTURE.md")
-    for path in sorted([*(ROOT / "tests" / "oracles").glob("[!_]*.*"), *(ROOT / "tests" / "helpers").glob("[!_]*.*")]):
-        tally.expect(f"`{path.name}`" in page, f"ARCHITECTURE.md does not name {told(path)}")
+        tally.expect(is_other or found and is_run, f"tests/{test.name} is no part of ./check, or has no row in TESTING.md")
+    for path in sorted([*(ROOT / "tests" / "oracles").glob("*.*"), *(ROOT / "tests" / "helpers").glob("*.*")]):
+        tally.expect(re.match(r'(#!.*\n)?("""|//|/\*)', path.read_text()), f"{told(path)} does not say in its first line what it is")
 
 
 def check_text(tally, path):
@@ -471,7 +420,7 @@ def main():
         check_links(tally, page)
         check_names(tally, page)
         check_commits(tally, page)
-        check_prose(tally, page)
+        check_prose(tally, page, str(told(page)) in JUDGED)
     for path in sorted(COMMANDS.glob("*.py")):
         check_help(tally, path)
     check_proved(tally)

@@ -1,0 +1,104 @@
+"""How pages read: the length of lines, paragraphs and sentences, and words in whose place the field has better ones."""
+import re
+
+from helpers.running import ROOT
+
+MOST_LINES, MOST_COLUMNS, MOST_WORDS = 5, 100, 30
+# The mean number of words of a page's sentences, and how many sentences in a row may not all be short.
+MEAN, SHORT, RUN = (13, 21), 9, 3
+# What scripts write into a page, between two marks.
+WRITTEN = re.compile(r"<!-- What stands from here.*?<!-- End of what.*?-->", re.DOTALL)
+CODE = re.compile(r"`([^`]+)`")
+# Words that hide who does what, or that turn a sentence round.
+HARD = r"as ever|of whose|(?:is|are|was|were|be|been|being) told|whoever|hence|thus|thereby|signs? of life"
+# Words that the field has others for: arguments, CPU time, wall time, synthetic, components, workspace, 'is', 'start'.
+FOREIGN = (
+    r"words of the (?:command )?line|processor time|(?:seconds|minutes) of processor|by the clock|made[- ]up|hangs? (?:apart|together)"
+    r"|(?:a|its|the|one|clean|each) rooms? of|stands?(?! for\b)(?!-)|stood|beg(?:in|ins|an|un)"
+)
+OLD, NEW = (re.compile(rf"\b(?:{words})\b", re.IGNORECASE) for words in (HARD, f"{HARD}|{FOREIGN}"))
+# In pages for users a hierarchy has edges, and a graph has paths; *walk* is named where its definition is meant.
+OF_USERS = re.compile(r"\blegs?\b|(?<!\*)\bwalks?\b(?!\*)", re.IGNORECASE)
+FOR_USERS = "README.md", "docs/GUIDE.md", "docs/REFERENCE.md", "docs/PYTHON.md"
+
+
+def prose(page):
+    """The text of a page without its blocks of code, a line for each line."""
+    lines, fenced = [], False
+    for line in page.read_text().splitlines():
+        fenced ^= line.startswith("```")
+        lines.append("" if fenced or line.startswith(("```", "    ")) else line)
+    return "\n".join(lines)
+
+
+def by_hand(page):
+    """The prose of a page without what scripts write, a line for each line."""
+    return WRITTEN.sub(lambda written: "\n" * written[0].count("\n"), prose(page))
+
+
+def paragraphs(page):
+    """The paragraphs and the items of lists of a page. Tables and headings are left out."""
+    lines = by_hand(page).splitlines()
+    lines = ["" if line.lstrip().startswith(("|", "#")) else re.sub(r"^ *(?:[-*]|\d+\.) ", "\n", line) for line in lines]
+    return [block.strip("\n") for block in "\n".join(lines).split("\n\n") if block.strip()]
+
+
+def bare(text):
+    """The text in one line, where a piece of code and the target of a link are one word."""
+    return " ".join(re.sub(r"\]\([^)]*\)", "]", CODE.sub("X", text)).split())
+
+
+def sentences(paragraph):
+    return re.split(r"(?<=[.?!])[*)]* (?=\[|\W*[A-Z\d])", bare(paragraph))
+
+
+def count(sentence):
+    return len(re.findall(r"\w[\w.,'-]*", sentence))
+
+
+def check_sentence(tally, path, sentence, words=OLD):
+    """A sentence is short, and has none of the words."""
+    tally.expect(count(sentence) <= MOST_WORDS, f"{path.relative_to(ROOT)}: {count(sentence)} words: {sentence}")
+    found = words.search(sentence)
+    tally.expect(not found, f"{path.relative_to(ROOT)} has '{found and found[0]}': {sentence}")
+
+
+def check_layout(tally, page):
+    """Lines and paragraphs are short. Tables may have long lines."""
+    for number, line in enumerate(by_hand(page).splitlines(), 1):
+        tally.expect(len(line) <= MOST_COLUMNS or line.lstrip().startswith("|"), f"{page.relative_to(ROOT)}:{number}: {len(line)} columns")
+    for paragraph in paragraphs(page):
+        lines = len(paragraph.splitlines())
+        tally.expect(lines <= MOST_LINES, f"{page.relative_to(ROOT)}: {lines} lines: {paragraph[:80]}")
+
+
+def check_rhythm(tally, page):
+    """Sentences are neither short throughout nor long, and three in a row are not all short. A phrase of a list is no sentence."""
+    counts = [[count(sentence) for sentence in sentences(paragraph) if sentence.endswith((".", "?", "!", ":", ")", "*"))] for paragraph in paragraphs(page)]
+    every = [words for paragraph in counts for words in paragraph]
+    mean = sum(every) / max(1, len(every))
+    tally.expect(MEAN[0] <= mean <= MEAN[1], f"{page.relative_to(ROOT)}: sentences have {mean:.1f} words in the mean")
+    for paragraph, of_paragraph in zip(paragraphs(page), counts):
+        runs = [of_paragraph[at:at + RUN] for at in range(len(of_paragraph) - RUN + 1)]
+        short = any(max(run) < SHORT for run in runs)
+        tally.expect(not short, f"{page.relative_to(ROOT)}: {RUN} short sentences in a row: {paragraph}")
+
+
+def check_words(tally, page):
+    """Tables too have the field's words; headings too."""
+    name = str(page.relative_to(ROOT))
+    for line in by_hand(page).splitlines():
+        for words in (NEW, *([OF_USERS] if name in FOR_USERS else [])):
+            found = words.search(bare(line))
+            tally.expect(not found, f"{name} has '{found and found[0]}': {line.strip()[:120]}")
+
+
+def check_prose(tally, page, judged):
+    """Lines, sentences and words of a page are those that a reader understands at once; `judged` by all rules, or by those that came first."""
+    check_layout(tally, page)
+    for paragraph in paragraphs(page):
+        for sentence in sentences(paragraph):
+            check_sentence(tally, page, sentence)
+    if judged:
+        check_rhythm(tally, page)
+        check_words(tally, page)
