@@ -317,7 +317,7 @@ def maps_in_binary():
         calls = {kind: lambda _, each, add=getattr(writer, f"add_{kind}"): add(each) for kind in ("node", "way", "relation")}
         type("Copy", (osmium.SimpleHandler,), calls)().apply_file(str(given))
         writer.close()
-        made = [converting.convert(path, converting.Choices(turns=True, nodes="all", part="all")) for path in (str(given), f"{name}.osm.pbf")]
+        made = [converting.convert(path, converting.Choices(turns=True, nodes="all", part="all", names=True)) for path in (str(given), f"{name}.osm.pbf")]
         assert made[0][0] == made[1][0] and made[0][1].counts == made[1][1].counts, name
     assert told_by_the_way("odd.osm.pbf").startswith("reading: 7 objects\nroads: 1 of 1 roads\n"), told_by_the_way("odd.osm.pbf")
     whole = pathlib.Path("country.osm.pbf").read_bytes()
@@ -409,6 +409,72 @@ def no_package_is_needed():
     assert "Example:" in tool("osm_to_gr", "--help")[0]
 
 
+def called(made):
+    """What each arc is called, without what is empty."""
+    found, numbers, _ = made.streets
+    assert len(set(found)) == len(found) and list(dict.fromkeys(filter(None, numbers))) == list(range(1, len(found) + 1)), numbers
+    return [{key: text for key, text in found[number - 1]._asdict().items() if text} if number else {} for number in numbers]
+
+
+def streets_have_names():
+    """Each tag that a sign shows, for each direction; a street of several arcs stands once, and turns that are split keep theirs."""
+    for tags, along, against in [
+        ({}, {}, {}), ({"name": " Long Street ", "ref": "16"}, {"name": "Long Street", "ref": "16"}, None), ({"ref": "A13; E43"}, {"ref": "A13, E43"}, None),
+        ({"junction": "roundabout"}, {"junction": "roundabout"}, None), ({"junction": "circular", "oneway": "no"}, {"junction": "circular"}, None),
+        ({"junction": "filter"}, {}, None), ({"destination": "Chur;Sargans"}, {"destinations": "Chur, Sargans"}, None),
+        ({"destination": "Chur", "destination:ref": "A13;E43"}, {"destinations": "A13, E43: Chur"}, None), ({"destination:ref": "A13"}, {"destinations": "A13"}, None),
+        ({"destination:forward": "Chur", "destination": "Bern"}, {"destinations": "Chur"}, {"destinations": "Bern"}),
+        ({"destination:backward": "Chur"}, {}, {"destinations": "Chur"}), ({"destination": " ; "}, {}, None),
+    ]:
+        made, _ = converted(in_line(3, ROAD | tags), names=True, nodes="all")
+        for arc, told in zip(made.arcs, called(made)):
+            wanted = along if against is None or arc[0] < arc[1] else against
+            assert told == ROAD | wanted, (tags, arc, told)
+    assert called(converted(in_line(2, {"route": "ferry", "name": "Over"}), names=True)[0]) == [{"highway": "ferry", "name": "Over"}] * 2
+    assert converted(in_line(2))[0].streets is None
+    nodes = {1: (0, 0), 2: (-1, 0), 3: (0, 1), 4: (1, 0)}
+    turn = [("way", 1, "from"), ("node", 1, "via"), ("way", 2, "to")], {"type": "restriction", "restriction": "no_left_turn"}
+    ways = [([1, 2], ROAD | {"name": "West"}), ([1, 3], ROAD | {"name": "North"}), ([4, 1], ROAD | {"name": "East"})]
+    made, _ = converted(osm(nodes, ways, [turn]), names=True, turns=True)
+    at = dict(enumerate(made.names, 1))
+    for (tail, head, _), told in zip(made.arcs, called(made)):
+        assert told == ({} if at[tail] == at[head] else ROAD | {"name": {2: "West", 3: "North", 4: "East"}[max(at[tail], at[head])]}), (tail, head, told)
+
+
+def files_of_streets():
+    """What is written is read; an older file is removed; that of another graph, or one that is spoilt, is refused with its line."""
+    names = ["<b>&amp;\"'", "two\nlines\r\u2028", "\U0001d54f", "x" * 10_000]
+    text = osm({number: (number, 0) for number in range(1, 6)}, [([place, place + 1], ROAD | {"name": name}) for place, name in enumerate(names, 1)])
+    pathlib.Path("names.osm").write_text(text, encoding="utf-8")
+    for words, side in (("--driving-side", "left"), "left"), ((), "right"):
+        told = tool("osm_to_gr", "--quiet", "--names", *words, "names.osm", "named", env=os.environ | {"LC_ALL": "C"})[0]
+        assert told.endswith("named.gr, named.co, named.nodes and named.names\n"), told
+        found = files.read_streets("named.names", 8)
+        assert found.of_arcs == [1, 1, 2, 2, 3, 3, 4, 4] and found.side == side
+        assert [found.streets[place].name for place in (0, 2, 3)] == [names[place] for place in (0, 2, 3)]
+    assert pathlib.Path("named.names").read_bytes().isascii()
+    whole = pathlib.Path("named.names").read_text()
+    for spoilt, told in [
+        (whole[:-4], "cut short"), (whole.replace("names 4 8", "names 4 9"), "cut short"), (whole.replace("p aux sp names", "p aux sp bends"), "line 5"),
+        (whole.replace("a 4", "a 5"), "cut short"), (whole.replace("a 4", "a -1"), "cut short"), (whole.replace("a 4", "a x"), "line"),
+        (whole.replace('{"highway"', '{"way"', 1), "line 6"), (whole.replace('"residential"', "3", 1), "line 6"), ("", "cut short"),
+        (whole.replace("s {", "s [{", 1), "line 6"), (whole.replace("side: right", "side: middle"), "line 4"), ("s " + "[" * 100_000 + "\n", "line 1"),
+    ]:
+        pathlib.Path("spoilt.names").write_text(spoilt)
+        try:
+            files.read_streets("spoilt.names", 8)
+            raise AssertionError(spoilt[:200])
+        except files.FileFault as fault:
+            assert str(fault).startswith("spoilt.names") and told in str(fault), (told, fault)
+    try:
+        files.read_streets("named.names", 9)
+        raise AssertionError
+    except files.FileFault as fault:
+        assert "another graph" in str(fault)
+    tool("osm_to_gr", "--quiet", "names.osm", "named")
+    assert not pathlib.Path("named.names").exists()
+
+
 def random_maps_agree_with_the_other_converter():
     """Arc for arc, for each way of travelling, all parts and the largest."""
     draw, compared = random.Random("maps"), 0
@@ -417,12 +483,14 @@ def random_maps_agree_with_the_other_converter():
         for profile in profiles.NAMES:
             choices = {"nodes": draw.choice(["crossings", "all"]), "metric": draw.choice(["time", "metres"]), "ferries": draw.random() < 0.8}
             world = mapping.Map(text, profile, choices["ferries"])
+            tags = {way.get("id"): world.tags(way) for way in world.ways}
             found = mapping.arcs(world, choices["nodes"] == "all", choices["metric"] == "metres")
             if not found:
                 assert "no road" in fault_of(text, profile=profile, **choices), (place, text)
                 continue
             for part, wanted in (("all", found), ("largest", mapping.largest(found))):
-                made, _ = converted(text, profile=profile, part=part, **choices)
+                made, _ = converted(text, profile=profile, part=part, names=True, **choices)
+                assert called(made) == [mapping.street(tags[arc[3]], arc[5]) for arc in wanted], (place, profile, part, choices, text)
                 assert (made.arcs, made.names if made.arcs else []) == mapping.numbered(wanted), (place, profile, part, choices, text)
                 compared += len(made.arcs)
     assert compared > 10_000, compared
@@ -436,7 +504,7 @@ GROUPS = (
             tables_are_sound, the_page_has_the_tables, ferries_take_their_time, what_is_left_out_is_told,
             what_comes_twice_or_lies_nowhere_is_told, parts_are_kept,
             files_of_all_forms, signs_of_life, weights_are_rounded_once, the_sphere_is_like_the_earth, bends_of_arcs,
-            random_maps_agree_with_the_other_converter, the_example_is_made_again, no_package_is_needed,
+            streets_have_names, files_of_streets, random_maps_agree_with_the_other_converter, the_example_is_made_again, no_package_is_needed,
         ],
     ),
     (("python3-pyosmium",), [maps_in_binary]),

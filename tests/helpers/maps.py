@@ -100,13 +100,14 @@ def random_map(draw, most_relations=6):
     kinds = ["residential"] * 6 + ["motorway", "primary", "footway", "cycleway", "steps", "path", "pedestrian", "busway", "track", "dream"]
     words = ["yes", "no", "private", "destination", "agricultural;forestry", "psv;taxi", "private;destination", "what?", "dismount"]
     more = [
-        ("oneway", ["yes", "-1", "no", "1", "reversible", "perhaps", "alternating"]), ("junction", ["roundabout"]),
+        ("oneway", ["yes", "-1", "no", "1", "reversible", "perhaps", "alternating"]), ("junction", ["roundabout", "circular", "filter"]),
         ("maxspeed", ["30", "5.5", "20 mph", "DE:urban", "walk", "none", "50;30", "signals", "fast", "CH:zone:20"]),
         ("maxspeed:forward", ["100", "what"]), ("maxspeed:backward", ["60", "signals"]), ("smoothness", ["impassable", "bad"]),
         ("area", ["yes"]), ("cycleway", ["opposite", "lane"]), ("oneway:bicycle", ["no", "yes"]),
         ("access", words), ("motor_vehicle", words), ("vehicle", words), ("bicycle", words), ("foot", words), ("motorroad", ["yes"]),
         ("service", ["emergency_access", "driveway"]), ("route", ["ferry", "bus"]), ("duration", ["10", "00:20", "soon"]),
-        ("oneway:foot", ["yes"]),
+        ("oneway:foot", ["yes"]), ("name", ["Long Street", "A \"<b>&", "\u00d6\u2028\n "]), ("ref", ["16", "A13; E43"]),
+        ("destination", ["Chur;Sargans", " ; "]), ("destination:backward", ["Z\u00fcrich"]), ("destination:ref", ["A13"]), ("destination:ref:forward", ["28"]),
     ]
     barriers = ["gate", "bollard", "stile", "dragon", "kerb;block", "wall"]
     nodes = {}

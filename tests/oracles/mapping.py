@@ -173,14 +173,25 @@ def pieces(world, each_bend):
 
 
 def arcs(world, each_bend=False, in_metres=False):
-    """The arcs (from, to, weight, way, piece) in the order of the ways."""
+    """The arcs (from, to, weight, way, piece, whether it leads along the way) in the order of the ways."""
     found = []
     for piece, (way, (start, end), metres, along, against) in enumerate(pieces(world, each_bend)):
-        for speed, ends in ((along, (start, end)), (against, (end, start))):
+        for speed, ends, is_along in ((along, (start, end), True), (against, (end, start), False)):
             if speed:
                 weight = round(metres) if in_metres else round(metres * 3600 / float(speed))
-                found.append((*ends, max(weight, int(metres > 0)), way, piece))
+                found.append((*ends, max(weight, int(metres > 0)), way, piece, is_along))
     return found
+
+
+def street(tags, is_along):
+    """What an arc of a way with these tags is called, without what is empty."""
+    def told(key):
+        return ", ".join(split(tags.get(f"{key}:{'forward' if is_along else 'backward'}", tags.get(key, ""))))
+
+    found = {"highway": tags.get("highway", "ferry"), "name": tags.get("name", "").strip(), "ref": ", ".join(split(tags.get("ref", "")))}
+    found["junction"] = tags["junction"] if tags.get("junction") in ("roundabout", "circular") else ""
+    found["destinations"] = ": ".join(filter(None, (told("destination:ref"), told("destination"))))
+    return {key: text for key, text in found.items() if text}
 
 
 def largest(found):

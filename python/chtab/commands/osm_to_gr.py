@@ -7,6 +7,7 @@ It writes
   OUT.co     the coordinates, in the form of the DIMACS challenge: `v NODE X Y`, longitude and latitude times 1,000,000
   OUT.nodes  line k has the number on OpenStreetMap's map of node k. Nodes are in the order of these numbers
   OUT.bends  with --bends: the points of each arc between its ends, `b ARC X Y`. If no arc has any, an older file is removed
+  OUT.names  with --names: what each arc is called, as signs have it. Without --names an older file is removed
 
 Standard error has a table of what was left out. Before that, it says how far a long conversion is.
 
@@ -17,7 +18,7 @@ Example:  tools/osm_to_gr.py liechtenstein.osm.bz2 roads
 import argparse
 import sys
 
-from chtab import commands
+from chtab import commands, files
 from chtab.maps import converting, profiles
 
 UNITS = {"time": "milliseconds", "metres": "metres"}
@@ -48,6 +49,8 @@ def words_of(words):
     )
     parser.add_argument("--no-ferries", action="store_false", dest="ferries", help="leave ferries out")
     parser.add_argument("--bends", action="store_true", help="write OUT.bends, to draw roads with their bends")
+    parser.add_argument("--names", action="store_true", help="write OUT.names, to call roads by their names and to tell turns")
+    parser.add_argument("--driving-side", choices=files.SIDES, default="right", help="the side of the road that is driven on, for OUT.names (right)")
     parser.add_argument("--log", metavar="FILE", help="write a line of CSV for each object that was left out or ignored: its number, and why")
     parser.add_argument("--quiet", action="store_true", help="write nothing on standard error")
     parser.add_argument(

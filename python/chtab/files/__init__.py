@@ -8,6 +8,7 @@
 | `.nodes` | a line for each node: its name, in OpenStreetMap or elsewhere | `read_names` | `write_names` |
 | `.p2p` | queries: pairs of nodes | `read_queries` | `write_queries` |
 | `.ss` | a list of nodes: sources or targets | `read_list` | `write_list` |
+| `.names` | what arcs are called: a street for each, and the side of the road that is driven on | `read_streets` | `write_streets` |
 | places | longitude, latitude and a name a line | `read_places` | |
 | text of `dist` | distances and routes | `read_answers` | |
 | `.json` | what the nodes of a network are called by its owner | `read_labels` | `write_labels` |
@@ -27,13 +28,15 @@ from chtab.files.labels import Labelling, read_labels, write_labels
 from chtab.files.lists import (
     Place, read_list, read_names, read_places, read_queries, write_list, write_list_column, write_names, write_queries,
 )
+from chtab.files.streets import SIDES, Street, Streets, read_streets, write_streets
 from chtab.files.texts import (
     Answer, read_answers, read_near, read_routes, read_row_texts, read_rows, write_csv, write_csv_of_texts, write_npy_of_texts,
 )
 
 __all__ = [
-    "UNITS", "Answer", "Coordinates", "FileFault", "Graph", "Labelling", "Place", "count_nodes", "read_answers", "read_bends", "read_coordinates",
-    "read_graph", "read_labels", "read_list", "read_names", "read_near", "read_places", "read_queries", "read_routes", "read_row_texts", "read_rows",
-    "scale_comment", "whole", "write_bends", "write_coordinate_columns", "write_coordinates", "write_csv", "write_csv_of_texts", "write_graph",
-    "write_graph_columns", "write_labels", "write_list", "write_list_column", "write_names", "write_npy_of_texts", "write_queries",
+    "SIDES", "UNITS", "Answer", "Coordinates", "FileFault", "Graph", "Labelling", "Place", "Street", "Streets", "count_nodes", "read_answers",
+    "read_bends", "read_coordinates", "read_graph", "read_labels", "read_list", "read_names", "read_near", "read_places", "read_queries",
+    "read_routes", "read_row_texts", "read_rows", "read_streets", "scale_comment", "whole", "write_bends", "write_coordinate_columns",
+    "write_coordinates", "write_csv", "write_csv_of_texts", "write_graph", "write_graph_columns", "write_labels", "write_list", "write_list_column",
+    "write_names", "write_npy_of_texts", "write_queries", "write_streets",
 ]

@@ -28,11 +28,13 @@ class Choices(NamedTuple):
     turns: bool = False
     ferries: bool = True
     bends: bool = False
+    names: bool = False
+    driving_side: str = "right"
 
 
 class Numbered(NamedTuple):
-    """A network as its files have it: the nodes' names and places, arcs between nodes from 1 on, their bends, the ends of trips, and the
-    copies of nodes."""
+    """A network as its files have it: the nodes' names and places, arcs between nodes from 1 on, their bends, the ends of trips, the
+    copies of nodes, and what arcs are called, None where nobody asked for it."""
 
     names: list
     places: list
@@ -40,6 +42,7 @@ class Numbered(NamedTuple):
     bends: dict
     ends: list
     copies: list
+    streets: files.Streets | None
 
 
 @contextlib.contextmanager
@@ -59,7 +62,7 @@ def convert(path, choices, is_told=False, is_logged=False):
     """Reads a map (`-` is standard input); what comes of it, and the report of what was left out, with its objects where they are wanted.
     An empty map is a fault. How far it is stands on standard error now and then, where that is wanted."""
     profile, report = profiles.profile(choices.profile), Report(is_logged)
-    survey = Survey(profile, report, choices.ferries)
+    survey = Survey(profile, report, choices.ferries, choices.names)
     reading.read_map(path, survey, is_told)
     survey.note_ways_that_come_twice()
     restricting = restrictions.read_all(survey.relations, profile, report) if choices.turns else []
@@ -72,7 +75,7 @@ def convert(path, choices, is_told=False, is_logged=False):
     forbidden = restrictions.forbidden_turns(restricting, made, nodes, report)
     if forbidden:
         made = turns.split(made, forbidden)
-    return numbered(made, kept_of(made, choices.part, report)), report
+    return numbered(made, kept_of(made, choices.part, report), survey.streets, choices.driving_side), report
 
 
 def kept_of(made, wanted, report):
@@ -92,7 +95,7 @@ def kept_of(made, wanted, report):
     return kept
 
 
-def numbered(made, kept):
+def numbered(made, kept, streets=None, side="right"):
     """The kept nodes by their names, those of one name in the order in which they came, numbered from 1."""
     nodes = sorted(itertools.compress(range(len(kept)), kept), key=made.names.__getitem__)
     numbers = [0] * len(kept)
@@ -104,7 +107,8 @@ def numbered(made, kept):
     bends = {arc: points for arc, points in enumerate(itertools.compress(made.bends or (), is_kept)) if points}
     ends = sorted((numbers[node], numbers[end]) for end, node in made.ends.items() if kept[end])
     copies = sorted((numbers[copy], numbers[node]) for copy, node in made.copies.items() if kept[copy] and kept[node])
-    return Numbered([made.names[node] for node in nodes], [made.places[node] for node in nodes], arcs, bends, ends, copies)
+    called = None if streets is None else files.Streets(*streets.chosen(itertools.compress(made.streets, is_kept)), side)
+    return Numbered([made.names[node] for node in nodes], [made.places[node] for node in nodes], arcs, bends, ends, copies, called)
 
 
 def name_of(path):
@@ -119,18 +123,21 @@ def comments_of(path, choices):
 
 
 def write(out, made, comments, unit):
-    """Writes the files, none of which takes its name before all are whole; their names. Bends of an earlier graph of this name are taken
-    away, since they would be taken for those of this one."""
-    suffixes = ["gr", "co", "nodes"] + ["bends"] * bool(made.bends)
-    names = [f"{out}.{suffix}" for suffix in suffixes]
+    """Writes the files, none of which takes its name before all are whole; their names. Bends and streets of an earlier graph of this name are
+    taken away, since they would be taken for those of this one."""
+    writers = {
+        "gr": lambda part: files.write_graph(part, len(made.names), made.arcs, [*comments, f"Weights are {unit}."]),
+        "co": lambda part: files.write_coordinates(part, made.places, comments, made.ends, made.copies),
+        "nodes": lambda part: files.write_names(part, made.names),
+        "bends": (lambda part: files.write_bends(part, made.bends, comments)) if made.bends else None,
+        "names": (lambda part: files.write_streets(part, made.streets, comments)) if made.streets else None,
+    }
+    names = [f"{out}.{suffix}" for suffix, writer in writers.items() if writer]
     with contextlib.ExitStack() as stack:
-        graph, coordinates, nodes, *bends = (stack.enter_context(files.whole(name)) for name in names)
-        files.write_graph(graph, len(made.names), made.arcs, [*comments, f"Weights are {unit}."])
-        files.write_coordinates(coordinates, made.places, comments, made.ends, made.copies)
-        files.write_names(nodes, made.names)
-        if bends:
-            files.write_bends(bends[0], made.bends, comments)
-    if not made.bends:
-        with contextlib.suppress(FileNotFoundError):
-            os.unlink(f"{out}.bends")
+        for name in names:
+            writers[name.rpartition(".")[2]](stack.enter_context(files.whole(name)))
+    for suffix, writer in writers.items():
+        if not writer:
+            with contextlib.suppress(FileNotFoundError):
+                os.unlink(f"{out}.{suffix}")
     return names

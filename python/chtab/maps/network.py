@@ -15,13 +15,15 @@ class Network:
 
     Node k stands for the map's node `names[k]`, at `places[k]`, and there may be several for one. Arc k leads from `tails[k]` to
     `heads[k]`, weighs `weights[k]` and is one direction of piece `pieces[k]`, which lies on way `ways[pieces[k]]`. `bends` has the
-    places between the ends of each arc, or is None where nobody asked for them. `ends` has, for nodes at which turns are restricted,
+    places between the ends of each arc, or is None where nobody asked for them, and so `streets` the number of the street of each, None of an
+    arc that has none. `ends` has, for nodes at which turns are restricted,
     the node where trips to it end, {end: node}, and `copies` the other nodes that stand for it: {copy: node}.
     """
 
-    def __init__(self, with_bends=False):
+    def __init__(self, with_bends=False, with_names=False):
         self.names, self.places, self.tails, self.heads, self.weights, self.pieces, self.ways = ([] for _ in range(7))
         self.bends = [] if with_bends else None
+        self.streets = [] if with_names else None
         self.ends, self.copies = {}, {}
 
     def add_node(self, name, place):
@@ -33,22 +35,24 @@ class Network:
         """One more node for the map's node of this one."""
         return self.add_node(self.names[node], self.places[node])
 
-    def add_arc(self, tail, head, weight, piece, bends):
+    def add_arc(self, tail, head, weight, piece, bends, street=None):
         self.tails.append(tail)
         self.heads.append(head)
         self.weights.append(weight)
         self.pieces.append(piece)
         if self.bends is not None:
             self.bends.append(bends)
+        if self.streets is not None:
+            self.streets.append(street)
 
-    def add_piece(self, tail, head, along, against, way, bends):
+    def add_piece(self, tail, head, weights, road, bends):
         """The arcs of a road between two nodes of it: along it, then against it, each where it has a weight."""
-        piece = len(self.ways)
-        self.ways.append(way)
+        piece, (along, against), streets = len(self.ways), weights, road.streets or (None, None)
+        self.ways.append(road.number)
         if along is not None:
-            self.add_arc(tail, head, along, piece, bends)
+            self.add_arc(tail, head, along, piece, bends, streets[0])
         if against is not None:
-            self.add_arc(head, tail, against, piece, bends and bends[::-1])
+            self.add_arc(head, tail, against, piece, bends and bends[::-1], streets[1])
 
     def way_of(self, arc):
         """The map's number of the way on which an arc lies."""
@@ -67,7 +71,7 @@ class Builder:
 
     def __init__(self, survey, cuts, closed, in_metres=False, with_bends=False):
         self.report, self.cuts, self.closed, self.in_metres = survey.report, cuts, closed, in_metres
-        self.network = Network(with_bends)
+        self.network = Network(with_bends, survey.streets is not None)
         self.nodes = {}
         self.missing = set()
 
@@ -112,7 +116,7 @@ class Builder:
             length = math.fsum(metres[start:end])
             along = self.weight(length, forward)
             against = along if backward == forward else self.weight(length, backward)
-            network.add_piece(tail, head, along, against, road.number, bends)
+            network.add_piece(tail, head, (along, against), road, bends)
 
     def ends_of(self, nodes):
         """Where the pieces of a run of nodes begin and end."""

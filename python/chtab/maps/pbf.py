@@ -11,6 +11,7 @@ from chtab.errors import FileFault
 from chtab.maps import unpacking
 from chtab.maps.reading import Relation
 from chtab.maps.roads import NOWHERE, ROAD_KEYS
+from chtab.maps.streets import KEYS
 
 # A member of a relation, and a character that stands by its number.
 MEMBER = re.compile(r"([nwr])(-?\d+)@([^,]*)")
@@ -89,6 +90,7 @@ class Lines:
     def __init__(self, survey):
         self.survey = survey
         self.asked = re.compile(f",((?:{'|'.join(map(re.escape, survey.keys))})=[^,]*)")
+        self.called = re.compile(f",((?:{'|'.join(map(re.escape, KEYS))})=[^,]*)")
         # The verdict by the tags that are asked for, as they stand in the text, and the places of nodes with numbers below 0.
         self.verdicts, self.places = {}, {}
 
@@ -135,7 +137,8 @@ class Lines:
         numbers, longitudes, latitudes = nodes_of(nodes[1:])
         if self.places and NO_PLACE in nodes:
             self.place(numbers, longitudes, latitudes)
-        self.survey.add_way(int(number[1:]), rule, numbers, longitudes, latitudes)
+        streets = None if self.survey.streets is None else self.survey.streets_of(tags_of(self.called.findall("," + tags[1:])))
+        self.survey.add_way(int(number[1:]), rule, numbers, longitudes, latitudes, streets)
 
     def place(self, numbers, longitudes, latitudes):
         """The places of nodes that pyosmium didn't look up."""

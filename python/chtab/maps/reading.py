@@ -88,7 +88,7 @@ class Ways:
             return
         rule = self.survey.rule_by(self.survey.verdict_on(tags), number)
         if rule:
-            self.survey.add_way(number, rule, [int(node) for node in nodes])
+            self.survey.add_way(number, rule, [int(node) for node in nodes], streets=self.survey.streets_of(tags))
 
     def relation(self, number, tags, members, is_deleted):
         if tags.get("type") == "restriction" and not is_deleted:

@@ -7,6 +7,7 @@ import operator
 from typing import NamedTuple
 
 from chtab.maps import speeds, tags
+from chtab.maps.streets import Streets
 
 # The keys of which a way has at least one, where it may be a road or a ferry.
 ROAD_KEYS = ("highway", "route")
@@ -25,13 +26,14 @@ class Rule(NamedTuple):
 
 class Road(NamedTuple):
     """A way that is a road: its number in the map, its rule, and of its nodes, in order, the numbers, longitudes and latitudes. A node that
-    the map doesn't have is at `NOWHERE`."""
+    the map doesn't have is at `NOWHERE`. `streets` are the numbers of its streets along it and against it, None where nobody asked for them."""
 
     number: int
     rule: Rule
     nodes: array.array
     longitudes: array.array
     latitudes: array.array
+    streets: tuple | None = None
 
 
 class Verdict(NamedTuple):
@@ -102,8 +104,10 @@ def judged(way, profile, with_ferries=True):
 class Survey:
     """What is read of a map: the roads with the places of their nodes, barriers, and the relations that restrict turns."""
 
-    def __init__(self, profile, report, with_ferries=True):
+    def __init__(self, profile, report, with_ferries=True, with_names=False):
         self.profile, self.report, self.with_ferries = profile, report, with_ferries
+        # What roads are called, where that is wanted.
+        self.streets = Streets() if with_names else None
         self.roads, self.barriers, self.relations = [], {}, []
         # Nodes on which no road need be, and whose barriers are told all the same.
         self.lone_nodes = set()
@@ -123,7 +127,11 @@ class Survey:
         self.report.note_all(verdict.notes, "way", number)
         return verdict.rule
 
-    def add_way(self, number, rule, nodes, longitudes=(), latitudes=()):
+    def streets_of(self, way):
+        """The numbers of the streets of a road with these tags, None where nobody asked for them."""
+        return None if self.streets is None else self.streets.add(way)
+
+    def add_way(self, number, rule, nodes, longitudes=(), latitudes=(), streets=None):
         """A road through these nodes, at these places where they are known by now; a node that follows on itself stands once."""
         if any(map(operator.eq, nodes, nodes[1:])):
             is_kept = [True, *map(operator.ne, nodes, nodes[1:])]
@@ -132,7 +140,7 @@ class Survey:
             self.report.note("short", "", "way", number)
             self.lone_nodes.update(nodes)
         else:
-            self.roads.append(Road(number, rule, array.array("q", nodes), array.array("d", longitudes), array.array("d", latitudes)))
+            self.roads.append(Road(number, rule, array.array("q", nodes), array.array("d", longitudes), array.array("d", latitudes), streets))
 
     def place_roads(self, places):
         """The places of the roads' nodes, {number: (longitude, latitude)}, where they were not known when the roads were added."""

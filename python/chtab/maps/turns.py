@@ -43,15 +43,15 @@ class Copies:
 def split(network, forbidden):
     """The network in which no walk has a forbidden turn; all of its arcs are arcs of this one, some of them several times."""
     copies = Copies(network, forbidden)
-    made = Network(network.bends is not None)
+    made = Network(network.bends is not None, network.streets is not None)
     made.names, made.places, made.ways = network.names, network.places, network.ways
     made.ends = {end: node for node, end in copies.ends.items()}
     made.copies = {copy: network.heads[arc] for arc, copy in copies.heads.items() if copy is not None}
     for arc, (tail, head, weight, piece) in enumerate(zip(network.tails, network.heads, network.weights, network.pieces)):
-        bends = None if network.bends is None else network.bends[arc]
+        bends, street = (None if column is None else column[arc] for column in (network.bends, network.streets))
         for start in copies.tails_of(arc, tail):
             for end in copies.heads_of(arc, head):
-                made.add_arc(start, end, weight, piece, bends)
+                made.add_arc(start, end, weight, piece, bends, street)
     for node, end in copies.ends.items():
         made.add_arc(node, end, 0, NO_PIECE, None)
     return made

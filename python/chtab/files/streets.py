@@ -1,0 +1,111 @@
+"""Streets: what the arcs of a graph are called, and on which side they are driven."""
+import json
+from typing import NamedTuple
+
+from chtab.errors import FileFault
+from chtab.files.forms import name_of, reading, write_comments, write_rows, writing
+
+SIDES = "right", "left"
+FIELDS = "highway", "junction", "name", "ref", "destinations"
+SIDE = "Driving side: "
+
+
+class Street(NamedTuple):
+    """What travellers read of a road in one direction: its kind (`highway` of OpenStreetMap, or `ferry`), `roundabout` or `circular` where it
+    is a ring, its name, its number, and where signs say that it leads; each may be empty."""
+
+    highway: str = ""
+    junction: str = ""
+    name: str = ""
+    ref: str = ""
+    destinations: str = ""
+
+
+class Streets(NamedTuple):
+    """The streets of a graph, `of_arcs` with one for each arc: the place of its street in `streets`, from 1 on, or 0 where it has none; and the
+    side of the road that is driven on, `right` or `left`."""
+
+    streets: list
+    of_arcs: list
+    side: str
+
+
+def write_streets(target, found, comments=()):
+    """Writes streets (`.names`): a line `s {..}` for each, an object of JSON with what isn't empty, then a line `a STREET` for each arc, in order.
+
+    Parameters
+    ----------
+    target : path or open file
+        Where it goes to.
+    found : Streets
+        What is written.
+    comments : list of str
+        Lines that stand first.
+
+    Raises
+    ------
+    OSError
+        The file can't be written.
+    """
+    with writing(target) as file:
+        write_comments(file, [*comments, f"{SIDE}{found.side}."])
+        file.write(f"p aux sp names {len(found.streets)} {len(found.of_arcs)}\n")
+        for street in found.streets:
+            file.write(f"s {json.dumps({key: value for key, value in street._asdict().items() if value})}\n")
+        write_rows(file, "a %d\n", ((number,) for number in found.of_arcs))
+
+
+def read_streets(source, arcs):
+    """Reads streets (`.names`).
+
+    Parameters
+    ----------
+    source : path, open file or lines
+        What is read.
+    arcs : int
+        How many arcs the graph has.
+
+    Returns
+    -------
+    Streets
+        A street for each arc.
+
+    Raises
+    ------
+    FileFault
+        The file isn't of this kind, or is that of another graph; the text names it, and the line where there is one.
+    """
+    streets, of_arcs, side, told = [], [], SIDES[0], None
+    with reading(source) as file:
+        for number, line in enumerate(file, 1):
+            try:
+                if line.startswith("a "):
+                    of_arcs.append(int(line[2:]))
+                elif line.startswith("s "):
+                    streets.append(street_in(json.loads(line[2:])))
+                elif line.startswith("p "):
+                    told = told_of(line)
+                elif line.startswith(f"c {SIDE}"):
+                    side = SIDES[SIDES.index(line[2:].strip().removeprefix(SIDE).removesuffix("."))]
+            except (ValueError, RecursionError):
+                raise FileFault(f"{name_of(source)} line {number}: not a line of streets") from None
+    if told != (len(streets), len(of_arcs)) or not all(0 <= number <= len(streets) for number in of_arcs):
+        raise FileFault(f"{name_of(source)}: cut short, or not a file of streets, whose problem line is `p aux sp names STREETS ARCS`")
+    if len(of_arcs) != arcs:
+        raise FileFault(f"{name_of(source)}: streets of {len(of_arcs):,} arcs, where the graph has {arcs:,}: they are those of another graph")
+    return Streets(streets, of_arcs, side)
+
+
+def told_of(line):
+    """The numbers of streets and of arcs that a problem line tells."""
+    *words, streets, arcs = line.split()
+    if words != ["p", "aux", "sp", "names"]:
+        raise ValueError
+    return int(streets), int(arcs)
+
+
+def street_in(value):
+    """The street of an object of JSON, all of whose fields are texts."""
+    if not isinstance(value, dict) or not all(key in FIELDS and isinstance(text, str) for key, text in value.items()):
+        raise ValueError
+    return Street(**value)

@@ -1,0 +1,46 @@
+"""What ways of a map are called: the street of each direction of a road, by the tags that travellers read on signs."""
+from chtab.files import Street
+
+# The tags that a street is made of. Signs with destinations may differ by direction.
+SIGNS = ("destination", "destination:ref")
+KEYS = ("highway", "junction", "name", "ref", *(f"{key}{side}" for key in SIGNS for side in ("", ":forward", ":backward")))
+# The words of junction whose ways are rings, all of whose traffic goes round.
+# https://wiki.openstreetmap.org/wiki/Key:junction
+RINGS = ("roundabout", "circular")
+
+
+def listed(value):
+    """The items of a list in a tag, as a sign has them."""
+    return ", ".join(word for word in map(str.strip, value.split(";")) if word)
+
+
+def destinations_of(tags, side):
+    """What signs say of where a way leads in one direction, `REF, REF: PLACE, PLACE`: https://wiki.openstreetmap.org/wiki/Key:destination."""
+    places, numbers = (listed(tags.get(f"{key}:{side}", tags.get(key, ""))) for key in SIGNS)
+    return f"{numbers}: {places}" if numbers and places else numbers or places
+
+
+def streets_of(tags):
+    """The streets of both directions of a way that is a road: along it, and against it."""
+    kind = tags.get("highway", "ferry")
+    junction = tags.get("junction", "")
+    common = kind, junction if junction in RINGS else "", tags.get("name", "").strip(), listed(tags.get("ref", ""))
+    return tuple(Street(*common, destinations_of(tags, side)) for side in ("forward", "backward"))
+
+
+class Streets:
+    """The streets of a map, each once. A road has a pair of their numbers, which count from 0, for its two directions."""
+
+    def __init__(self):
+        self.numbers = {}
+
+    def add(self, tags):
+        """The numbers of the streets along a way and against it."""
+        return tuple(self.numbers.setdefault(street, len(self.numbers)) for street in streets_of(tags))
+
+    def chosen(self, numbers):
+        """The streets of these numbers, `None` for none, each once in the order of its first use, and the place of each in them, from 1 on; 0
+        where there is none."""
+        every, places = list(self.numbers), {None: 0}
+        found = [places.setdefault(number, len(places)) for number in numbers]
+        return [every[number] for number in places if number is not None], found
