@@ -3,9 +3,9 @@
 
   programs.py [NAME ..]
 
-They are no crates of the repository: their files end in .txt, and each is laid out in a temporary folder beside copies of the crates
-that it stands on, with what is proved of these already. `./check` runs this script, so that a change of a crate which they call is
-seen here. The last line is 'N passed, N failed', of programs.
+They are no crates of the repository: their files end in .txt, and each is laid out in a temporary folder. It is proved over the libraries that
+are there, by `rt ci` or `./chtab`. Where one is missing or older than its sources, copies of all crates below are proved first. `./check` runs this
+script, so that a change of a crate which they call is seen here. The last line is 'N passed, N failed', of programs.
 """
 import contextlib
 import os
@@ -17,6 +17,8 @@ from concurrent.futures import ThreadPoolExecutor
 from pathlib import Path
 
 ROOT = Path(__file__).resolve().parent.parent
+sys.path.append(str(ROOT / "packaging"))
+import building  # noqa: E402
 
 # Each program, the crates that it names, and the words of a short run.
 CRATES = {"dijkstra": ["ch_queue"], "lingering": ["ch_work"], "reading": ["ch_read", "ch_graph"]}
@@ -27,52 +29,69 @@ class NotBuilt(Exception):
     """A program could not be proved or built: the end of what was printed."""
 
 
-def lines_of_crates():
-    """The line of each crate in crates.txt, by its name."""
-    lines = (ROOT / "crates.txt").read_text().splitlines()
-    return {line.split(":")[0].split()[0]: line for line in lines if ":" in line}
+def below(names):
+    """These crates of the repository and all on which they are built."""
+    return dict.fromkeys(found for name in names for found in (*building.all_below(name), name))
 
 
-def below(names, lines):
-    """These crates of the repository and all on which they stand."""
-    found = {}
-    for name in names:
-        if name in lines:
-            found |= below(lines[name].split(":")[1].split(), lines) | {name: lines[name]}
-    return found
+def newest(folder):
+    """When the newest source of a crate was written."""
+    return max(path.stat().st_mtime for part in ("src", "specs", "proofs") for path in (folder / part).rglob("*") if path.is_file())
 
 
-def copy_crate(name, crates):
-    """A crate with its proved library, and nothing else of what rt keeps."""
-    shutil.copytree(ROOT / "crates" / name, crates / name, ignore=shutil.ignore_patterns("out", "must-fail", "planted"))
-    kept = ROOT / "crates" / name / "out" / "rlib"
-    if kept.exists():
-        shutil.copytree(kept, crates / name / "out" / "rlib", symlinks=True)
+def library(name):
+    """The library of a crate that `rt ci` or `./chtab` has left, None where there is none, or sources of the crate are newer."""
+    crate = building.CRATES / name
+    places = [crate / "out" / folder / f"{name}.rlib" for folder in ("rlib", "fresh")]
+    return next((place for place in places if (place / "format").exists() and (place / "format").stat().st_mtime > newest(crate)), None)
 
 
-def lay_out(name, folder):
-    """The folder of the program's crate, in a repository of its own."""
-    crates, lines = folder / "crates", below(CRATES[name], lines_of_crates())
-    for crate in lines:
-        copy_crate(crate, crates)
+def put_sources(name, folder):
+    """Writes the sources of a program, whose names in bench/ have one ending more."""
     for path in (ROOT / "bench" / name).glob("**/*.txt"):
-        place = crates / name / path.relative_to(ROOT / "bench" / name).with_suffix("")
+        place = folder / path.relative_to(ROOT / "bench" / name).with_suffix("")
         place.parent.mkdir(parents=True, exist_ok=True)
         shutil.copy(path, place)
+
+
+def run(command, folder):
+    done = subprocess.run(command, cwd=folder, capture_output=True, text=True)
+    if done.returncode:
+        raise NotBuilt("\n".join((done.stdout + done.stderr).splitlines()[-20:]))
+
+
+def build_over(name, folder, libraries):
+    """Builds and runs a program over the libraries that are there."""
+    put_sources(name, folder)
+    arguments = building.finding(CRATES[name], libraries.__getitem__)
+    command = [building.compiler(), "build", "--crate-name", name, "src/main.rt", "--links", f"{name}=", "--jobs", "1", *arguments]
+    run([*command, *building.to_object("program.o")], folder)
+    linked = building.linked(folder / "program.o", folder / name)
+    if linked.returncode:
+        raise NotBuilt(linked.stdout)
+    run([folder / name, *SHORT[name]], folder)
+    return folder / name
+
+
+def build_anew(name, folder):
+    """Builds and runs a program with copies of the crates below, in a repository of its own."""
+    crates = below(CRATES[name])
+    for crate in crates:
+        shutil.copytree(ROOT / "crates" / crate, folder / "crates" / crate, ignore=shutil.ignore_patterns("out", "must-fail", "planted"))
+    put_sources(name, folder / "crates" / name)
     shutil.copy(ROOT / "HANDLES", folder)
-    (folder / "crates.txt").write_text("\n".join([*lines.values(), f"{name}: {' '.join(CRATES[name])}"]) + "\n")
-    return crates / name
+    lines = {**{crate: building.stands_on()[crate] for crate in crates}, name: CRATES[name]}
+    (folder / "crates.txt").write_text("".join(f"{crate}: {' '.join(words)}\n" for crate, words in lines.items()))
+    run(["rt", "run", "--", *SHORT[name]], folder / "crates" / name)
+    return folder / "crates" / name / "out" / name
 
 
 @contextlib.contextmanager
 def built(name):
     """The path of a program that is proved and built, gone after `with`."""
     with tempfile.TemporaryDirectory() as kept:
-        folder = lay_out(name, Path(kept))
-        done = subprocess.run(["rt", "run", "--", *SHORT[name]], cwd=folder, capture_output=True, text=True)
-        if done.returncode:
-            raise NotBuilt("\n".join((done.stdout + done.stderr).splitlines()[-20:]))
-        yield folder / "out" / name
+        libraries = {crate: library(crate) for crate in below(CRATES[name])}
+        yield build_over(name, Path(kept), libraries) if all(libraries.values()) else build_anew(name, Path(kept))
 
 
 def outcome(name):

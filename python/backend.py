@@ -1,12 +1,14 @@
 """The build of the package: by setuptools, where Debian has it if it isn't elsewhere, so that `pip install ./python` needs no network.
 
-A wheel takes the proved program along, where the checkout has built it (`./chtab --help`), and its command `chtab`; and with it the library for C and
-its header, where the checkout has made them (`packaging/library`).
+A wheel takes along the proved program, its command `chtab`, and the library for C with its header. What the checkout has not made yet is made now:
+the program by `./chtab --help`, the library by `packaging/library`. Where that can't be done, the build says so in one line and fails, unless
+`--config-settings=--without-library=yes` is given: then the wheel has what is there.
 """
 import contextlib
 import os
 import pathlib
 import shutil
+import subprocess
 import sys
 import sysconfig
 from importlib.util import find_spec
@@ -32,9 +34,32 @@ def get_requires_for_build_wheel(config_settings=None):
     return [name for name in ("setuptools>=61", "wheel") if find_spec(name.partition(">")[0]) is None]
 
 
+class NotMade(SystemExit):
+    """A part of the wheel is not there, and can't be made here."""
+
+
+def make(command, name):
+    """Makes a part of the wheel by a script of the checkout, whose progress goes to standard error."""
+    try:
+        done = subprocess.run(command, cwd=ROOT, stdin=subprocess.DEVNULL, stdout=subprocess.DEVNULL, stderr=None)
+        told = f"{command[0].name} ended with status {done.returncode}" if done.returncode else None
+    except OSError as fault:
+        told = str(fault)
+    if told:
+        raise NotMade(f"chtab: no wheel: {name} is not there and can't be made ({told}); --config-settings=--without-library=yes leaves out what is not there")
+
+
+def make_parts():
+    """Makes the program and the library, unless both are there and no source is newer: the scripts know that, and answer at once."""
+    make([ROOT / "chtab", "--help"], "the proved program")
+    make([ROOT / "packaging" / "library"], "the library for C")
+
+
 @contextlib.contextmanager
-def program_along():
-    """The words for a wheel of this machine with the program in it, none where there is no program."""
+def parts_along(is_partial):
+    """The arguments for a wheel of this machine with the program and the library in it. A partial one has what is there."""
+    if not is_partial:
+        make_parts()
     program = PARTS[-1][0]
     if not (program.is_file() and os.access(program, os.X_OK)):
         yield []
@@ -50,9 +75,10 @@ def program_along():
 
 
 def build_wheel(wheel_directory, config_settings=None, metadata_directory=None):
-    """The wheel, with the program where there is one, and with nothing that an earlier build left."""
+    """The wheel, with the program and the library, and with nothing that an earlier build left."""
+    settings = dict(config_settings or {})
+    is_partial = settings.pop("--without-library", None) is not None
     shutil.rmtree(HERE / "build", ignore_errors=True)
-    with program_along() as words:
-        settings = dict(config_settings or {})
+    with parts_along(is_partial) as words:
         settings["--build-option"] = [*settings.get("--build-option", []), *words]
         return build_meta.build_wheel(wheel_directory, settings, metadata_directory)

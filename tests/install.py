@@ -82,37 +82,41 @@ mkdir -p out/rlib
 def check_verdicts(tally, folder):
     """What rt says of each crate when it is built is kept beside what was built, and is as new as the last build that passed."""
     checkout, says = folder / "proved", folder / "says"
-    for crate, head in ("low", "low:"), ("low_checks", "low_checks: low"), ("chtab", "chtab: low"):
+    for crate, head in ("low", "low:"), ("low_checks", "low_checks: low"), ("chtab", "chtab: low"), ("ch_c", "ch_c staticlib: low"):
         for part in "src", "specs", "proofs":
             (checkout / "crates" / crate / part).mkdir(parents=True)
         with (checkout / "crates.txt").open("a") as layers:
             layers.write(f"{head}\n")
-    for name in "chtab", "VERSION":
-        shutil.copy(ROOT / name, checkout)
+    (checkout / "packaging").mkdir()
+    for name in "chtab", "VERSION", "packaging/keep":
+        shutil.copy(ROOT / name, checkout / name)
     (checkout / "HANDLES").write_text("Handles allowed: none.\n")
     (folder / "bin").mkdir()
     (folder / "bin" / "rt").write_text(RT)
     (folder / "bin" / "rt").chmod(0o755)
     source = checkout / "crates" / "low" / "src" / "lib.rt"
-    kept = [checkout / "crates" / crate / "out" / "verdict" for crate in ("low", "chtab")]
+    crates = "low", "ch_c", "chtab"
+    kept = [checkout / "crates" / crate / "out" / "verdict" for crate in crates]
 
     def built(saying):
         says.write_text(saying)
         source.touch()
-        return said(["proved/chtab", "one"], folder, f"{folder}/bin:{SYSTEM}", SAYS=str(says))
+        return said(["proved/chtab", "one"], folder, f"{folder}/bin:{SYSTEM}", SAYS=str(says), CHTAB_KEEP="1")
 
     said_all = 'echo "logic=proved functions=1"; echo "logic=proved functions=2 crate=$crate"; echo more\n'
     status, out, err = built(said_all)
     tally.expect((status, out) == (0, "run one\n"), f"built by a stand-in for rt: {status} {out} {err}")
+    tally.expect("\nchtab: no library for C: " in err, f"a library that can't be linked is not told: {err}")
     for saying in said_all, "exit 0\n":
         status, _, err = built(saying)
         lines = [path.read_text() if path.exists() else "" for path in kept]
-        tally.expect(status == 0 and lines == [f"logic=proved functions=2 crate={crate}\n" for crate in ("low", "chtab")], f"verdicts: {lines} {err}")
+        tally.expect(status == 0 and lines == [f"logic=proved functions=2 crate={crate}\n" for crate in crates], f"verdicts: {lines} {err}")
         is_new = all(path.exists() and path.stat().st_mtime >= source.stat().st_mtime for path in kept)
         tally.expect(is_new, f"verdicts older than what was built, of {saying}")
     status, _, err = built("echo no proof; exit 1\n")
     tally.expect(status == 70 and "no proof" in err, f"refused by a stand-in for rt: {status} {err}")
     tally.expect(kept[0].stat().st_mtime < source.stat().st_mtime, "a refused crate has a verdict of its new source")
+    tally.expect("no library for C" not in err, f"a library is linked after a crate was refused: {err}")
 
 
 def check_lines_of_the_kit(tally):
@@ -305,7 +309,7 @@ def check_in_root(tally, root, package):
 
 def check_package(tally, folder):
     """The package is made, and tried in a root of its own where that may be done."""
-    for words in ["--fast"], ["one", "two"]:
+    for words in ["--fast"], ["one", "two"], ["--without-library", "one", "two"], ["one", "--without-library"]:
         tally.expect(said([ROOT / "packaging" / "deb", *words], folder)[0] == 2, f"packaging/deb {words} is not refused")
     lacking = [name for name in ("dpkg-deb", "rt") if not shutil.which(name)] + missing("help2man", "python3-numpy")
     if lacking:
@@ -329,22 +333,46 @@ def check_package(tally, folder):
 # The wheel.
 
 
-def wheel_of(folder, name, has_program):
-    """A wheel that pip makes of a checkout that has the program or hasn't, and that a build before this one has used."""
+def checkout_of(folder, name, has_program, has_library):
+    """A checkout that has the program and the library or hasn't, and that an earlier build of a wheel has used."""
     checkout = folder / name
-    for part in "python", "packaging":
+    for part in "python", "packaging", "include":
         shutil.copytree(ROOT / part, checkout / part, ignore=shutil.ignore_patterns("build", "*.egg-info", "__pycache__"))
-    shutil.copy(ROOT / "VERSION", checkout)
+    for part in "VERSION", "chtab", "crates.txt":
+        shutil.copy(ROOT / part, checkout)
     stale = checkout / "python" / "build" / "lib" / "chtab" / "bin" / "program"
     stale.parent.mkdir(parents=True)
     stale.write_text("an older program")
+    (checkout / "crates" / "chtab" / "out").mkdir(parents=True)
     if has_program:
-        (checkout / "crates" / "chtab" / "out").mkdir(parents=True)
         shutil.copy(PROGRAM, checkout / "crates" / "chtab" / "out")
-        shutil.copytree(MADE, checkout / "out" / "library")
-    words = [PYTHON, "-m", "pip", "wheel", "--no-index", "--no-deps", "--no-input", "--disable-pip-version-check", "--wheel-dir", checkout]
-    done = said([*words, checkout / "python"], folder)
+    if has_library:
+        # Copied files are as new as the copy, so that the library is newer than the header.
+        shutil.copytree(MADE, checkout / "out" / "library", copy_function=shutil.copy)
+    return checkout
+
+
+def wheel_of(checkout, *words):
+    """The wheel that pip makes of a checkout where no rt is on the path, None where it makes none; and what was said."""
+    pip = [PYTHON, "-m", "pip", "wheel", "--no-index", "--no-deps", "--no-input", "--disable-pip-version-check", "--wheel-dir", checkout]
+    done = said([*pip, *words, checkout / "python"], checkout, SYSTEM)
     return next(checkout.glob("*.whl"), None), done
+
+
+def check_parts_of_a_wheel(tally, folder):
+    """A wheel that would lack the program or the library is not made, in one line that says what is missing, unless that is asked for."""
+    leave_out = "--config-settings=--without-library=yes"
+    for name, has_program, missed in ("unbuilt", False, "the proved program"), ("unlinked", True, "the library for C"):
+        checkout = checkout_of(folder, name, has_program, False)
+        wheel, (status, out, err) = wheel_of(checkout)
+        lines = [line for line in err.splitlines() if "no wheel: " in line]
+        is_told = len(lines) == 1 and f"no wheel: {missed} is not there" in lines[0] and leave_out.split("=", 1)[1] in lines[0]
+        tally.expect((wheel, status, is_told) == (None, 1, True), f"a wheel of a checkout without {missed}: {wheel} {status} {err}")
+        wheel, done = wheel_of(checkout, leave_out)
+        names = zipfile.ZipFile(wheel).namelist() if wheel else []
+        tally.expect(wheel and wheel.name.endswith("-py3-none-any.whl") != has_program, f"a wheel without {missed}: {wheel} {done}")
+        found = [path for path in names if "/bin/" in path or "/scripts/" in path]
+        tally.expect(names and bool(found) == has_program and not [path for path in found if "libchtab" in path], f"what a wheel without {missed} has: {names}")
 
 
 def check_wheel(tally, folder):
@@ -353,11 +381,8 @@ def check_wheel(tally, folder):
     if lacking:
         print(f"left out: the wheel needs {', '.join(lacking)}")
         return
-    plain, done = wheel_of(folder, "unbuilt", False)
-    names = zipfile.ZipFile(plain).namelist() if plain else []
-    tally.expect(plain and plain.name.endswith("-py3-none-any.whl"), f"a wheel without the program: {plain} {done}")
-    tally.expect(names and not [name for name in names if "/bin/" in name or "/scripts/" in name], f"what a wheel without the program has: {names}")
-    wheel, done = wheel_of(folder, "built", True)
+    check_parts_of_a_wheel(tally, folder)
+    wheel, done = wheel_of(checkout_of(folder, "built", True, True))
     platform = sysconfig.get_platform().replace("-", "_").replace(".", "_")
     tally.expect(wheel and wheel.name == f"chtab-{VERSION.split()[1]}-py3-none-{platform}.whl", f"a wheel with the program: {wheel} {done}")
     if wheel:

@@ -1,9 +1,8 @@
-"""Tests packaging/prove with a stand-in for the kit: crates that are refused, changed or touched, and calls that are broken off."""
+"""Tests packaging/prove and packaging/library with a stand-in for the kit: crates that are refused, changed or touched, and calls that are broken off."""
 import os
 import shutil
 import signal
 import subprocess
-import time
 
 from helpers.running import ROOT
 
@@ -23,7 +22,7 @@ echo "words of $name"
 ! grep -qx "$name" "$kit/slow" || sleep 61.25
 ! grep -qx "$name" "$kit/changed" || echo "// more" >>src/lib.rt
 ! grep -qx "$name" "$kit/killed" || kill -9 $$
-case $to in *.o) touch "$to" ;; *) mkdir "$to" ;; esac
+case $to in *.o | *.a) touch "$to" ;; *) mkdir "$to" ;; esac
 echo "logic=proved functions=1 crate=$name"
 """,
     "bin/rattle-link": """#!/bin/sh
@@ -34,70 +33,148 @@ printf '#!/bin/sh\necho run "$@"\n' >"$2" && chmod +x "$2"
 }
 
 
+# What links the library for C: each writes the file that it is to make, and its name beside the kit.
+LINKING = """#!/bin/sh
+kit=$(dirname "$(dirname "$(readlink -f "$0")")")
+basename "$0" >>"$kit/linked"
+[ "$1" != rcsD ] || : >"$2"
+while [ "$#" -gt 1 ]; do
+  [ "$1" != -o ] || : >"$2"
+  shift
+done
+"""
+CRATES = "low:", "aside:", "high: low core", "low_checks: low", "chtab: aside high", "engine: low", "ch_c staticlib: engine core"
+
+
+class Checkout:
+    """A checkout whose crates are stand-ins, and what is asked of the stand-in for the kit."""
+
+    def __init__(self, folder, system):
+        self.path, self.kit = folder / "fresh", folder / "kit"
+        self.environment = {**os.environ, "PATH": f"{self.kit}/bin:{system}"}
+        for head in CRATES:
+            self.write(head.split()[0].strip(":"), f"// {head}\n")
+        (self.path / "crates.txt").write_text("".join(f"{head}\n" for head in CRATES))
+        for name in "chtab", "VERSION", "include/chtab.h", "packaging/prove", "packaging/building.py", "packaging/library":
+            (self.path / name).parent.mkdir(exist_ok=True)
+            shutil.copy(ROOT / name, self.path / name)
+        for name, text in {**KIT, **dict.fromkeys(("bin/gcc", "bin/ld", "bin/ar", "bin/objcopy"), LINKING)}.items():
+            (self.kit / name).parent.mkdir(parents=True, exist_ok=True)
+            (self.kit / name).write_text(text)
+            (self.kit / name).chmod(0o755)
+        (self.kit / "helps").write_text("--statements\n")
+        for name in "slow", "changed", "killed", "refused", "linked", "asked":
+            self.say(name)
+
+    def say(self, name, *words):
+        """What the stand-in goes by, such as which crates are refused."""
+        (self.kit / name).write_text("".join(f"{word}\n" for word in words))
+
+    def said(self, name):
+        return (self.kit / name).read_text().split()
+
+    def write(self, crate, text, file="lib.rt"):
+        """Writes a source file, and gives its path."""
+        source = self.path / "crates" / crate / "src" / file
+        source.parent.mkdir(parents=True, exist_ok=True)
+        source.write_text(text)
+        return source
+
+    def run(self, script, *words):
+        return subprocess.run([self.path / script, *words], env=self.environment, capture_output=True, text=True)
+
+    def built(self, *refused):
+        """What a call ends with, and which crates were proved for the program and for the library, where these are refused."""
+        self.say("asked")
+        self.say("refused", *refused)
+        run = self.run("chtab", "one")
+        asked = [name for name in self.said("asked") if name != "aside"]
+        of_library = [name for name in asked if name in ("engine", "ch_c")]
+        return run.returncode, run.stdout, [name for name in asked if name not in of_library], of_library, run.stderr
+
+
 def check_first_proofs(tally, folder, system):
     """Where no crate was worked on, each library is proved once, after those below it, and again if its files or theirs have changed."""
-    checkout, stand_in = folder / "fresh", folder / "kit"
-    for crate, head in ("low", "low:"), ("aside", "aside:"), ("high", "high: low core"), ("low_checks", "low_checks: low"), ("chtab", "chtab: aside high"):
-        (checkout / "crates" / crate / "src").mkdir(parents=True)
-        (checkout / "crates" / crate / "src" / "lib.rt").write_text(f"// {crate}\n")
-        with (checkout / "crates.txt").open("a") as layers:
-            layers.write(f"{head}\n")
-    (checkout / "packaging").mkdir()
-    for name in "chtab", "VERSION", "packaging/prove":
-        shutil.copy(ROOT / name, checkout / name)
-    for name, text in KIT.items():
-        (stand_in / name).parent.mkdir(parents=True, exist_ok=True)
-        (stand_in / name).write_text(text)
-        (stand_in / name).chmod(0o755)
-    (stand_in / "helps").write_text("--statements\n")
-    for name in "slow", "changed", "killed":
-        (stand_in / name).write_text("")
-    asked, refused, verdict = stand_in / "asked", stand_in / "refused", checkout / "crates" / "high" / "out" / "verdict"
-
-    def built(*names):
-        """What a call ends with, and which crates were proved for it, where these are refused."""
-        asked.write_text("")
-        refused.write_text("".join(f"{name}\n" for name in names))
-        run = subprocess.run(["fresh/chtab", "one"], cwd=folder, env={**os.environ, "PATH": f"{stand_in}/bin:{system}"}, capture_output=True, text=True)
-        return run.returncode, run.stdout, asked.read_text().split(), run.stderr
-
-    status, out, proved, err = built("high")
-    # The refusal may end the other proof before it has begun.
-    is_known = sorted({*proved} - {"aside"}) == ["high", "low"]
-    tally.expect((status, out, is_known) == (70, "", True) and "words of high" in err, f"a refused library: {status} {out} {proved} {err}")
-    status, out, proved, err = built()
-    is_known = [name for name in proved if name != "aside"] == ["high", "chtab"]
-    tally.expect((status, out, is_known) == (0, "run one\n", True), f"what was not proved yet: {status} {out} {proved} {err}")
+    checkout = Checkout(folder, system)
+    check_library_of_first_proofs(tally, checkout)
+    verdict = checkout.path / "crates" / "high" / "out" / "verdict"
+    both = (["engine", "ch_c"],)
+    checkout.write("high", "// other\n")
+    status, out, proved, _, err = checkout.built("high")
+    tally.expect((status, out, proved) == (70, "", ["high"]) and "words of high" in err, f"a refused library: {status} {out} {proved} {err}")
+    status, out, proved, _, err = checkout.built()
+    tally.expect((status, out, proved) == (0, "run one\n", ["high", "chtab"]), f"what was not proved yet: {status} {out} {proved} {err}")
     tally.expect(verdict.read_text() == "logic=proved functions=1 crate=high\n", f"the verdict of a library: {verdict.read_text()}")
-    tally.expect(built()[:3] == (0, "run one\n", []), "nothing has changed")
-    source = checkout / "crates" / "high" / "src" / "lib.rt"
+    tally.expect(checkout.built()[:4] == (0, "run one\n", [], []), "nothing has changed")
+    source = checkout.path / "crates" / "high" / "src" / "lib.rt"
     source.touch()
-    tally.expect(built()[:3] == (0, "run one\n", ["chtab"]), f"a file was touched: {asked.read_text().split()}")
+    tally.expect(checkout.built()[:4] == (0, "run one\n", ["chtab"], []), f"a file was touched: {checkout.said('asked')}")
     tally.expect(verdict.stat().st_mtime >= source.stat().st_mtime, "the verdict is older than a file that was touched")
-    (checkout / "crates" / "low" / "src" / "lib.rt").write_text("// changed\n")
-    tally.expect(built()[:3] == (0, "run one\n", ["low", "high", "chtab"]), f"a library changed: {asked.read_text().split()}")
-    (checkout / "crates" / "chtab" / "src" / "more.rt").write_text("// new\n")
-    tally.expect(built("chtab")[:3] == (70, "", ["chtab"]), f"the program is refused: {asked.read_text().split()}")
-    tally.expect(built()[:3] == (0, "run one\n", ["chtab"]), f"the program changed: {asked.read_text().split()}")
-    (stand_in / "slow").write_text("low\n")
-    (checkout / "crates" / "low" / "src" / "lib.rt").write_text("// once more\n")
-    asked.write_text("")
-    running = subprocess.Popen([checkout / "packaging" / "prove"], env={**os.environ, "PATH": f"{stand_in}/bin:{system}"}, stderr=subprocess.DEVNULL)
-    while not asked.read_text():
-        time.sleep(0.05)
+    checkout.write("low", "// changed\n")
+    tally.expect(checkout.built()[:4] == (0, "run one\n", ["low", "high", "chtab"], *both), f"a library changed: {checkout.said('asked')}")
+    checkout.write("chtab", "// new\n", "more.rt")
+    tally.expect(checkout.built("chtab")[:4] == (70, "", ["chtab"], []), f"the program is refused: {checkout.said('asked')}")
+    tally.expect(checkout.built()[:4] == (0, "run one\n", ["chtab"], []), f"the program changed: {checkout.said('asked')}")
+    check_broken_off(tally, checkout)
+    # A file that changes while its crate is proved, and a proof that is killed.
+    checkout.say("changed", "low")
+    checkout.write("low", "// and again\n")
+    status, out, proved, _, err = checkout.built()
+    tally.expect((status, out, proved) == (70, "", ["low"]) and "changed meanwhile" in err, f"a file that changes: {status} {out} {proved} {err}")
+    checkout.say("changed")
+    tally.expect(checkout.built()[:4] == (0, "run one\n", ["low", "high", "chtab"], *both), f"after a file that changed: {checkout.said('asked')}")
+    checkout.say("killed", "chtab")
+    checkout.write("chtab", "// other\n", "more.rt")
+    status = checkout.run("packaging/prove").returncode
+    tally.expect(status == 69, f"a proof that is killed: {status}")
+
+
+def check_library_of_first_proofs(tally, checkout):
+    """The first call makes the library for C too, after the program. Where its crate is refused, the program is there all the same."""
+    made = checkout.path / "out" / "library" / "lib" / "libchtab.so.1"
+    status, out, proved, of_library, err = checkout.built("ch_c")
+    tally.expect((status, out, "ch_c" in of_library) == (70, "", True) and "words of ch_c" in err, f"a refused library for C: {status} {of_library} {err}")
+    told = checkout.run("packaging/library")
+    tally.expect((told.returncode, told.stdout, made.exists()) == (1, "", False) and "is not proved" in told.stderr, f"a library that is refused: {told}")
+    status, out, _, of_library, err = checkout.built()
+    tally.expect((status, out) == (0, "run one\n"), f"the program without the library: {status} {out} {err}")
+    told = checkout.run("packaging/library")
+    tally.expect((told.returncode, told.stdout.strip()) == (0, str(made.parent.parent)) and made.exists(), f"the library is linked: {told}")
+    tally.expect(checkout.said("linked") == ["ld", "objcopy", "gcc", "ar"], f"what links the library: {checkout.said('linked')}")
+    tally.expect(checkout.run("packaging/library").returncode == 0 and len(checkout.said("linked")) == 4, "a library that is there is linked again")
+    (checkout.path / "include" / "chtab.h").touch()
+    checkout.say("asked")
+    tally.expect(checkout.run("packaging/library").returncode == 0 and len(checkout.said("linked")) == 8, "the header has changed")
+    tally.expect(checkout.said("asked") == [], f"what was proved to link it again: {checkout.said('asked')}")
+    checkout.write("engine", "// changed\n")
+    checkout.say("asked")
+    told = checkout.run("packaging/library")
+    tally.expect((told.returncode, checkout.said("asked")) == (0, ["engine", "ch_c"]), f"the library alone: {told} {checkout.said('asked')}")
+    tally.expect("engine is proved, 1 left after" in told.stderr, f"the progress of the library: {told.stderr}")
+    (checkout.kit / "bin" / "objcopy").rename(checkout.kit / "objcopy")
+    without = {**checkout.environment, "PATH": f"{checkout.kit}/bin"}
+    checkout.write("engine", "// changed again\n")
+    (checkout.kit / "bin" / "bash").symlink_to("/bin/bash")
+    for name in "dirname", "readlink", "mktemp", "rm", "find", "flock", "basename":
+        (checkout.kit / "bin" / name).symlink_to(shutil.which(name))
+    told = subprocess.run([checkout.path / "packaging" / "library"], env=without, capture_output=True, text=True)
+    is_told = "objcopy is not there (Debian's package binutils)" in told.stderr and told.stderr.count("\n") == 1
+    tally.expect((told.returncode, is_told) == (1, True), f"a command that links is missing: {told}")
+    (checkout.kit / "objcopy").rename(checkout.kit / "bin" / "objcopy")
+
+
+def check_broken_off(tally, checkout):
+    """A call that is ended while a proof is underway says what it waits for, leaves no process, and is taken up by the next."""
+    checkout.say("slow", "low")
+    checkout.say("asked")
+    checkout.write("low", "// once more\n")
+    impatient = checkout.path / "packaging" / "prove"
+    impatient.write_text(impatient.read_text().replace("SILENCE = 45", "SILENCE = 0.5"))
+    running = subprocess.Popen([impatient], env=checkout.environment, stderr=subprocess.PIPE, text=True)
+    told = [running.stderr.readline() for _ in range(2)]
+    tally.expect(told[1].rstrip().endswith("; underway: low"), f"what is told of a long proof: {told}")
     running.terminate()
     left = subprocess.run(["pgrep", "-f", "^sleep 61.25"], capture_output=True, text=True) if running.wait(20) == 128 + signal.SIGTERM else None
     tally.expect(left is not None and not left.stdout, f"a call that is ended: {running.returncode} {left}")
-    (stand_in / "slow").write_text("")
-    tally.expect(built()[:3] == (0, "run one\n", ["low", "high", "chtab"]), f"after a call that was ended: {asked.read_text().split()}")
-    # A file that changes while its crate is proved, and a proof that is killed.
-    (stand_in / "changed").write_text("low\n")
-    (checkout / "crates" / "low" / "src" / "lib.rt").write_text("// and again\n")
-    status, out, proved, err = built()
-    tally.expect((status, out, proved) == (70, "", ["low"]) and "changed meanwhile" in err, f"a file that changes: {status} {out} {proved} {err}")
-    (stand_in / "changed").write_text("")
-    tally.expect(built()[:3] == (0, "run one\n", ["low", "high", "chtab"]), f"after a file that changed: {asked.read_text().split()}")
-    (stand_in / "killed").write_text("chtab\n")
-    (checkout / "crates" / "chtab" / "src" / "more.rt").write_text("// other\n")
-    status = subprocess.run([checkout / "packaging" / "prove"], env={**os.environ, "PATH": f"{stand_in}/bin:{system}"}, stderr=subprocess.DEVNULL).returncode
-    tally.expect(status == 69, f"a proof that is killed: {status}")
+    checkout.say("slow")
+    tally.expect(checkout.built()[:4] == (0, "run one\n", ["low", "high", "chtab"], ["engine", "ch_c"]), f"after a call that was ended: {checkout.said('asked')}")

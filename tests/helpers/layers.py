@@ -21,9 +21,9 @@ def check_layers(tally):
 
 
 def check_times(tally):
-    """Where the order of the first proofs is chosen, the time of each crate of the program is named, and of no other."""
+    """Where the order of the first proofs is chosen, the time of each crate of the program and of the library for C is named, and of no other."""
     libraries, wanted = below(), set()
-    waiting = ["chtab"]
+    waiting = ["chtab", "ch_c"]
     while waiting:
         name = waiting.pop()
         wanted.add(name)

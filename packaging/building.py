@@ -1,0 +1,75 @@
+"""What `crates.txt` says of the crates, and how the kit's compiler finds a crate and the libraries on which it is built.
+
+The scripts beside this file use it, and `bench/programs.py`.
+"""
+import functools
+import re
+import subprocess
+from pathlib import Path
+
+ROOT = Path(__file__).resolve().parent.parent
+CRATES = ROOT / "crates"
+# The program, and the crate of the library for C.
+PROGRAM, LIBRARY = "chtab", "ch_c"
+TARGET = "x86_64-unknown-linux-gnu"
+
+
+def said(*command):
+    return subprocess.run(command, capture_output=True, text=True, check=True).stdout.strip()
+
+
+@functools.cache
+def stands_on():
+    """The libraries on which each crate is built, by `crates.txt`: those of the kit too."""
+    lines = re.findall(r"^(\w+)[^:\n]*:(.*)$", (ROOT / "crates.txt").read_text(), re.MULTILINE)
+    return {name: below.split() for name, below in lines}
+
+
+def own_below(name):
+    """The crates of the repository that a crate names."""
+    return [each for each in stands_on()[name] if each in stands_on()]
+
+
+def all_below(name):
+    """These and those on which they are built, each after its own."""
+    return dict.fromkeys(found for each in own_below(name) for found in (*all_below(each), each))
+
+
+@functools.cache
+def kit():
+    """The folder of the kit, and its line."""
+    return Path(said("rt", "doc")).parent, said("rt", "version")
+
+
+def finding(names, library_of):
+    """The arguments by which the compiler finds these libraries and all below them. `library_of` says where the one of a crate is."""
+    folder, _ = kit()
+    arguments = []
+    for each in ("std", *names):
+        arguments += ["--extern", f"{each}={library_of(each) if each in stands_on() else folder / 'rlibs' / f'{each}.rlib'}"]
+    below = dict.fromkeys(found for each in names if each in stands_on() for found in (*all_below(each), each))
+    for each in (folder / "rlibs", *(library_of(each).parent for each in below)):
+        arguments += ["-L", f"dependency={each}"]
+    return [*arguments, "--antt-project", folder / "rattle" / "logic" / "antt-project.json", "--logic-built", folder / "logic_built"]
+
+
+def to_object(file):
+    """The arguments by which the compiler writes the object file of a program."""
+    return ["--toolchain", kit()[0] / "toolchain", "--backend", "llvm", "-o", file]
+
+
+def to_archive(file):
+    """The arguments by which the compiler writes a static library."""
+    return ["--crate-type", "staticlib", "--toolchain", kit()[0] / "toolchain", "-o", file]
+
+
+def compiler():
+    return kit()[0] / "bin" / "rattle"
+
+
+def linked(object_file, program):
+    """What linking an object file to a program ended with."""
+    folder, _ = kit()
+    arguments = ["--target", TARGET, "--toolchain", folder / "toolchain", "-o", program, object_file]
+    command = [folder / "bin" / "rattle-link", *arguments, folder / "c" / "libos_c.a", folder / "c" / "liblibc_c.a"]
+    return subprocess.run(command, stdout=subprocess.PIPE, stderr=subprocess.STDOUT, text=True, errors="replace")
