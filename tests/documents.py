@@ -218,7 +218,7 @@ def check_help(tally, path):
 
 FORM, ARGUMENTS = (ROOT / "crates" / "ch_words" / "src" / name for name in ("form.rt", "arguments.rt"))
 FAULTS = ROOT / "crates/ch_run/specs/Fault.antt"
-COMMANDS = ROOT / "python/chtab/commands"
+COMMANDS = ROOT / "python/chtab/cli"
 # The constants of limits with the rows that state them, and those that no user meets.
 LIMITS = (
     ("MOST_NODES", "nodes of a graph"), ("MOST_ARCS", "arcs of a graph"), ("MOST_WEIGHT", "number of nodes times the weight of any arc"),
@@ -364,6 +364,8 @@ def check_versions(tally):
     """The engine, the Python package, the package that README names and the list of changes have one version."""
     version = re.search(r'^version = "(.*)"$', (ROOT / "python" / "pyproject.toml").read_text(), re.MULTILINE)[1]
     tally.expect((ROOT / "VERSION").read_text().startswith(f"chtab {version}\n"), f"VERSION and python/pyproject.toml, {version}, differ")
+    package = re.search(r'^__version__ = "(.*)"$', (ROOT / "python" / "chtab" / "__init__.py").read_text(), re.MULTILINE)[1]
+    tally.expect(package == version, f"chtab.__version__ is {package}, not {version}")
     named = re.findall(r"\bchtab_([\d.]+)_", (ROOT / "README.md").read_text())
     tally.expect(set(named) == {version}, f"README.md names packages of the versions {named}, not {version}")
     changed = re.findall(r"^## \[([\d.]+)\] - \d{4}-\d\d-\d\d$", (ROOT / "CHANGELOG.md").read_text(), re.MULTILINE)

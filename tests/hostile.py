@@ -203,7 +203,7 @@ def a_question_within_a_question_of_a_run_is_refused():
 
 def a_question_within_another_spoils_none():
     """The handler of a signal may ask while its thread is in a call: both have their answers."""
-    from chtab import library
+    from chtab.engine import library
 
     handle = library.Handle(library.loaded(make()))
     handle.open(FIRST.read_bytes(), FIRST_SAVED.read_bytes())
@@ -226,7 +226,7 @@ def threads_share_one_handle():
     """Calls of several threads by one handle wait for one another: each has its own answer, also while the handle is closed."""
     import numpy
 
-    from chtab import library
+    from chtab.engine import library
 
     handle = library.Handle(library.loaded(make()))
     handle.open(pathlib.Path(GRAPH).read_bytes(), ways.saved_for(GRAPH).read_bytes())
@@ -352,7 +352,7 @@ def a_sweep_without_memory_is_left_out():
     """Then the rows come by searches, whatever the samples said of them."""
     import numpy
 
-    from chtab import library
+    from chtab.engine import library
 
     def refused(handle):
         raise chtab.ProgramFault("chtab: out of memory", 3)
@@ -371,7 +371,7 @@ def a_call_of_seconds_hears_ctrl_c():
     """Each call of the library that may take long is broken off within a second, and what it leaves behind answers on."""
     import hashlib
 
-    from chtab import library
+    from chtab.engine import library
 
     def slow(call):
         """The call behind some seconds of C that hears no signal."""
@@ -404,7 +404,7 @@ def a_library_that_gives_nothing_is_no_endless_loop():
     """One that opens another number of nodes, or gives no row, is not asked on."""
     import numpy
 
-    from chtab import library
+    from chtab.engine import library
 
     nothing = numpy.zeros(0, numpy.int64)
     for name, other in ("nodes", lambda handle: 4), ("near_rows", lambda handle, sources, pairs: (nothing, nothing, nothing)):
@@ -431,7 +431,7 @@ def what_is_long_hears_ctrl_c():
 def time_is_looked_at_between_calls():
     """By a clock that goes on a second with each look: a question of more calls than it has seconds is broken off, by each kind of call; the next
     one is answered. Other networks have no time."""
-    from chtab import child
+    from chtab.engine import child
 
     nodes, clock = list(range(1, 3_001)) * 12, child.time
     with of_country(timeout=4) as network, of_country() as other, small_portions(1 << 20, 0, 1_000):

@@ -48,7 +48,7 @@ def of_first(**more):
 
 def handle_of(graph=FIRST, saved=FIRST_SAVED):
     """An open handle."""
-    from chtab import library
+    from chtab.engine import library
 
     handle = library.Handle(library.loaded(make()))
     handle.open(pathlib.Path(graph).read_bytes(), pathlib.Path(saved).read_bytes())
@@ -60,7 +60,7 @@ def handle_of(graph=FIRST, saved=FIRST_SAVED):
 
 def numbers_are_those_of_the_header():
     """The version, statuses, kinds of faults and sizes."""
-    from chtab import library
+    from chtab.engine import library
 
     text = HEADER.read_text()
     assert f"#define CHTAB_VERSION {library.VERSION}\n" in text
@@ -74,7 +74,7 @@ def numbers_are_those_of_the_header():
 
 def calls_are_those_of_the_header():
     """Each call is given as many words as the header says, each of its type."""
-    from chtab import library
+    from chtab.engine import library
 
     one, rows, column = ctypes.POINTER(ctypes.c_uint32), ctypes.POINTER(ctypes.c_uint64), ctypes.c_void_p
     types = {
@@ -150,7 +150,7 @@ def nodes_are_those_of_the_network():
     """Numbers that C would take for other nodes, which a network's own test of labels doesn't let through either."""
     import numpy
 
-    from chtab import library
+    from chtab.engine import library
 
     assert library.nodes_of(numpy.array([[1, 9], [3, 9]])[:, 0], 3).tolist() == [0, 2] and library.nodes_of([1, 2], 3).flags.c_contiguous
     assert library.nodes_of([], 3).dtype == numpy.uint32 and library.nodes_of(numpy.array([3], numpy.uint8), 3).tolist() == [2]
@@ -169,7 +169,7 @@ def nodes_are_those_of_the_network():
 
 def a_hierarchy_is_built_where_none_is_saved():
     """By the library too: its distances, cells and routes are those of the program, and its text is that of the order by depth."""
-    from chtab import library
+    from chtab.engine import library
 
     ends = [(1 + 37 * place % 3154, 1 + 101 * place % 3154) for place in range(300)]
     answers = []
@@ -217,7 +217,7 @@ def faults_are_told_as_by_the_program():
 def a_closed_handle_answers_nothing():
     import numpy
 
-    from chtab import library
+    from chtab.engine import library
 
     one, closed = numpy.array([0], numpy.uint32), library.Handle(library.loaded(make()))
     handle, other = handle_of(), None
@@ -434,7 +434,7 @@ def is_by_library(network):
 def it_is_taken_where_it_fits():
     """Beside the program, of the package's version, with a hierarchy, one worker and no time; where it must be taken, what lacks is told. One of a
     checkout whose sources are newer is not taken."""
-    from chtab import library
+    from chtab.engine import library
 
     for place in "beside", "lib/chtab", "checkout":
         os.makedirs(place)
@@ -471,7 +471,7 @@ def it_is_taken_where_it_fits():
 
 def another_library_is_not_taken():
     """A file that is no library, a library of others, and one of another version."""
-    from chtab import library
+    from chtab.engine import library
 
     other = next(path for path in pathlib.Path("/usr/lib").glob("**/libz.so.1") if path.exists())
     for place, path in enumerate((FIRST, "/dev/null", other, make())):

@@ -23,7 +23,7 @@ from helpers.running import ROOT
 from oracles import mapping
 from chtab import files
 from chtab.maps import converting, profiles
-from chtab.sphere import RADIUS
+from chtab.roads.sphere import RADIUS
 
 
 def barriers_leave_dead_ends():
@@ -335,8 +335,8 @@ def maps_in_binary():
 
 def told_by_the_way(*words):
     """What the command tells on standard error where each step is told, numbers of seconds aside."""
-    text = "import sys; sys.path.insert(0, sys.argv[1])\nimport chtab.progress\nchtab.progress.SECONDS = 0\n"
-    text += "from chtab.commands import osm_to_gr\nosm_to_gr.main(sys.argv[2:])\n"
+    text = "import sys; sys.path.insert(0, sys.argv[1])\nimport chtab.engine.progress\nchtab.engine.progress.SECONDS = 0\n"
+    text += "from chtab.cli import osm_to_gr\nosm_to_gr.main(sys.argv[2:])\n"
     done = subprocess.run([PYTHON, "-c", text, ROOT / "python", *words, "out"], capture_output=True, text=True)
     assert done.returncode == 0, done.stderr
     return re.sub(r" after \d+ s(, some \d+ s left)?", "", done.stderr)

@@ -228,8 +228,8 @@ def blocks_answer_as_one_run():
 def blocks_are_within_their_limits():
     import numpy
 
-    from chtab import near_blocks
-    from chtab.near_runs import NearQuestion
+    from chtab.near import row_blocks
+    from chtab.near.runs import NearQuestion
 
     for sources, targets, count, nodes, workers in (
         (200_000, 70_000, None, 10**6, 1), (None, 300, None, 10**6, 1), (None, 500, 3, 10**6, 1), (None, 500, 3, 10**6, 4), (5, 10**6, 1, 10**6, 2),
@@ -237,11 +237,11 @@ def blocks_are_within_their_limits():
     ):
         given = None if sources is None else numpy.ones(sources, numpy.int64)
         question = NearQuestion(given, numpy.ones(targets, numpy.int64), count)
-        found, covered = list(near_blocks.cut(question, nodes, workers)), 0
+        found, covered = list(row_blocks.cut(question, nodes, workers)), 0
         for block in found:
             height, width = block.question.height(nodes), len(block.question.targets)
-            assert height * min(width, count or width) <= near_blocks.PAIRS and width <= near_blocks.LENGTH
-            assert block.question.sources is None or 1 <= height <= near_blocks.LENGTH
+            assert height * min(width, count or width) <= row_blocks.PAIRS and width <= row_blocks.LENGTH
+            assert block.question.sources is None or 1 <= height <= row_blocks.LENGTH
             covered += height * width
         assert covered == (nodes if sources is None else sources) * targets, (covered, sources, targets)
         assert (len(found) == 1 and found[0].question.sources is None) == (sources is None and workers == 1 and targets == 500), (targets, workers)
@@ -272,8 +272,8 @@ def texts_that_are_no_answer_are_refused():
     """Each text but one is no answer to the question, and none of it is taken."""
     import numpy
 
-    from chtab import near_rows
-    from chtab.near_runs import NearQuestion
+    from chtab.near import rows as near_rows
+    from chtab.near.runs import NearQuestion
 
     class Told:
         nodes = 5

@@ -26,12 +26,14 @@ from helpers.running import PROGRAM, ROOT
 from helpers.ways import both
 from helpers.writing import write_graph
 import chtab
-from chtab import answers, blocks, files
-from chtab.accessibility import Near
-from chtab.progress import Progress
-from chtab.routes import Routes
+from chtab import files
+from chtab.engine import answers, blocks
+from chtab.engine.progress import Progress
+from chtab.near.accessibility import Near
+from chtab.roads.routes import Routes
 
 FIRST = ROOT / "examples" / "first.gr"
+ERRORS = "DataFault", "FileFault", "ProgramFault", "TimedOut", "TooFar"
 VADUZ, MALBUN = (9.5209, 47.1410), (9.6079, 47.1020)
 
 
@@ -79,7 +81,8 @@ def what_is_told_of_the_package():
     """`dir` has the network, `help` nothing that is no caller's, and a network says what it is."""
     import pydoc
 
-    assert "Network" in dir(chtab) and set(chtab.__all__) <= set(dir(chtab))
+    assert dir(chtab) == sorted(chtab.__all__) and all(hasattr(chtab, name) for name in chtab.__all__)
+    assert {*chtab.__all__} == {"Network", "Routes", "Near", "Spots", "ChtabError", *ERRORS, "__version__"}
     wanted = "close coordinates distances frame from_arrays from_frame from_networkx graph isochrones labels near nearest nearest_of open reach "
     wanted += "roads rounding routes scale snap sum_within table trip_routes trip_table trips unit"
     assert [name for name in dir(chtab.Network) if not name.startswith("_")] == wanted.split()
@@ -88,6 +91,22 @@ def what_is_told_of_the_package():
     with chtab.Network.open(FIRST, program=PROGRAM) as network:
         assert repr(network) == f"<chtab.Network {FIRST}: 3 nodes>" and repr(network.routes([(1, 3)])) == f"<1 routes on {FIRST}>"
     assert repr(network).endswith("3 nodes, closed>")
+
+
+def names_of_the_last_version_go_on():
+    """What documents of version 1.1 named at another place is found there, is the same, and warns the caller's own line."""
+    text = "import sys, warnings; sys.path.insert(0, sys.argv[1])\nwith warnings.catch_warnings(record=True) as caught:\n    warnings.simplefilter('always')\n"
+    ending = "\nfrom chtab import Near, Routes, Spots\nassert {} is {}\nprint(*{{(each.category.__name__, each.filename) for each in caught}})"
+    for line, old, new in (
+        ("from chtab.routes import Routes as Old", "Old", "Routes"), ("import chtab.accessibility", "chtab.accessibility.Near", "Near"),
+        ("import chtab; old = chtab.routes.Routes", "old", "Routes"), ("import chtab; old = chtab.Network and chtab.roads.Spots", "old", "Spots"),
+        ("from chtab.roads import Spots as Old", "Old", "Spots"),
+    ):
+        script = text + f"    {line}" + ending.format(old, new)
+        done = subprocess.run([PYTHON, "-c", script, ROOT / "python"], capture_output=True, text=True)
+        assert done.stdout == "('DeprecationWarning', '<string>')\n", (line, done)
+    raises(AttributeError, lambda: chtab.nothing, told="module 'chtab' has no attribute 'nothing'")
+    raises(ImportError, lambda: __import__("chtab.nothing"))
 
 
 def each_call_tells_what_it_takes_and_gives():
@@ -342,7 +361,7 @@ def a_closed_pipe_is_silent():
 
 def signs_of_life():
     """A line now and then where standard error is no terminal, and a bar where it is one."""
-    text = "import sys; sys.path.insert(0, sys.argv[1]); from chtab.progress import Progress\nimport time\n"
+    text = "import sys; sys.path.insert(0, sys.argv[1]); from chtab.engine.progress import Progress\nimport time\n"
     text += "with Progress('blocks', 4, 'blocks', seconds=0.15) as p:\n for _ in range(4): time.sleep(0.1); p.step()\n"
     done = subprocess.run([PYTHON, "-c", text, ROOT / "python"], capture_output=True, text=True)
     assert done.stdout == "" and [line[:25] for line in done.stderr.splitlines()] == ["blocks: 2 of 4 blocks after"[:25], "blocks: 4 of 4 blocks after"[:25]], done
@@ -460,7 +479,7 @@ GROUPS = (
             *both(
                 random_graphs_answer_as_dijkstra, what_is_not_a_question_is_refused, what_is_longer_than_a_pipe_holds, threads_share_a_network,
             ),
-            what_is_told_of_the_package, each_call_tells_what_it_takes_and_gives, a_program_that_fails_is_told_and_gone, one_run_answers_all,
+            what_is_told_of_the_package, names_of_the_last_version_go_on, each_call_tells_what_it_takes_and_gives, a_program_that_fails_is_told_and_gone, one_run_answers_all,
             more_runs_where_they_are_wanted, answers_are_matched_whole, closing_ends_what_is_under_way,
         ],
     ),

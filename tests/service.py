@@ -25,7 +25,7 @@ from helpers.packages import PYTHON, run_checks
 from helpers.running import PROGRAM, ROOT
 from helpers.serving import by_both, words_of_library
 import chtab
-from chtab import places
+from chtab.roads import snapping
 
 FIRST_SAVED = ROOT / "examples" / "first.ch"
 VADUZ, ESCHEN, SEA = [9.5209, 47.1410], [9.5450, 47.2200], [9.5, 46.0]
@@ -80,7 +80,7 @@ def places_that_are_too_far():
         status, _, found = ask(address, "/api/reach", {"from": SEA, "limits": [1]})
         assert (status, found) == (400, {"error": f"A {line}"}), found
     for metres, text in (640.4, "640 m"), (999.6, "1 km"), (18_612, "18.6 km"), (99_960, "100 km"), (5_467_400, "5,467 km"), (0, "0 m"):
-        assert places.length_text(metres) == text, (metres, places.length_text(metres))
+        assert snapping.length_text(metres) == text, (metres, snapping.length_text(metres))
 
 
 def health_is_told_at_once():

@@ -19,7 +19,8 @@ from helpers.running import PROGRAM
 from helpers.writing import write_graph
 from oracles import mapping
 import chtab
-from chtab import blocks, files
+from chtab import files
+from chtab.engine import blocks
 
 VADUZ, MALBUN, RUGGELL = (9.5209, 47.1410), (9.6079, 47.1020), (9.5280, 47.2390)
 

@@ -1,10 +1,10 @@
 #!/usr/bin/python3
-"""The command blocks, which stands in python/chtab/commands/blocks.py; --help tells of it."""
+"""The command blocks, which stands in python/chtab/cli/blocks.py; --help tells of it."""
 import pathlib
 import sys
 
 sys.path.insert(0, str(pathlib.Path(__file__).resolve().parent.parent / "python"))
 
-from chtab.commands.blocks import command
+from chtab.cli.blocks import command
 
 command()

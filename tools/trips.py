@@ -1,10 +1,10 @@
 #!/usr/bin/python3
-"""The command trips, which stands in python/chtab/commands/trips.py; --help tells of it."""
+"""The command trips, which stands in python/chtab/cli/trips.py; --help tells of it."""
 import pathlib
 import sys
 
 sys.path.insert(0, str(pathlib.Path(__file__).resolve().parent.parent / "python"))
 
-from chtab.commands.trips import command
+from chtab.cli.trips import command
 
 command()

@@ -9,13 +9,16 @@ arrays of int64, as numpy, pandas and `blocks.py` have them, which a masked arra
 """
 import numpy
 
-from chtab import choosing, files, graphs, making, opening
-from chtab.accessibility import Accessibility
-from chtab.between_places import BetweenPlaces
-from chtab.near_in_process import near_of
-from chtab.node_queries import NodeQueries
-from chtab.routes import Routes
-from chtab.trips import Trips
+from chtab import files
+from chtab.engine import choosing, making, opening
+from chtab.engine.node_queries import NodeQueries
+from chtab.files import arc_columns, frames
+from chtab.near.accessibility import Accessibility
+from chtab.near.by_library import near_of
+from chtab.roads.between_places import BetweenPlaces
+from chtab.roads.layers import layers_of
+from chtab.roads.routes import Routes
+from chtab.roads.trips import Trips
 
 
 class Network(BetweenPlaces, Accessibility):
@@ -34,7 +37,7 @@ class Network(BetweenPlaces, Accessibility):
 
     def __init__(self, opened, folder=None, known=None):
         self._opened, self._folder = opened, folder
-        self._layers = opened.layers(known)
+        self._layers = layers_of(opened, known)
         self.nodes = files.count_nodes(opened.setting.graph)
         layers = self._layers
         self._engine = choosing.engine_of(opened.setting, opened.library, lambda: layers.graph)
@@ -148,8 +151,8 @@ class Network(BetweenPlaces, Accessibility):
         array([6500])
         """
         running = opening.Running(**running)
-        given = making.Columns(sources, targets, weights, nodes, x, y, scale, both_ways)
-        return cls._made(making.arcs_of(given), folder, running)
+        given = arc_columns.Columns(sources, targets, weights, nodes, x, y, scale, both_ways)
+        return cls._made(arc_columns.arcs_of(given), folder, running)
 
     @classmethod
     def from_frame(cls, frame, source="source", target="target", weight="weight", *, folder=None, **more):
@@ -182,9 +185,9 @@ class Network(BetweenPlaces, Accessibility):
         >>> roads = pandas.read_csv("roads.csv")                                            # doctest: +SKIP
         >>> network = Network.from_frame(roads, "from", "to", "minutes", scale=60_000)      # doctest: +SKIP
         """
-        columns, running = graphs.columns_of_frame(frame, (source, target, weight), more)
+        columns, running = frames.columns_of_frame(frame, (source, target, weight), more)
         running = opening.Running(**running)
-        return cls._made(making.arcs_of(columns), folder, running)
+        return cls._made(arc_columns.arcs_of(columns), folder, running)
 
     @classmethod
     def from_networkx(cls, graph, weight="travel_time", scale=1000, *, x="x", y="y", folder=None, **running):
@@ -225,7 +228,7 @@ class Network(BetweenPlaces, Accessibility):
         >>> network = Network.from_networkx(streets)                                       # doctest: +SKIP
         """
         running = opening.Running(**running)
-        return cls._made(graphs.arcs_of_networkx(graph, weight, scale, (x, y)), folder, running)
+        return cls._made(frames.arcs_of_networkx(graph, weight, scale, (x, y)), folder, running)
 
     @classmethod
     def _made(cls, arcs, folder, running):
@@ -394,7 +397,7 @@ class Network(BetweenPlaces, Accessibility):
 
         Returns
         -------
-        chtab.routes.Routes
+        chtab.Routes
             A sequence of `files.Answer`, in the order of the pairs, with `to_frame` and `to_geojson`.
 
         Raises

@@ -40,27 +40,27 @@ def dense(near):
 @contextlib.contextmanager
 def small_portions(pairs, swept, together):
     """Calls of the library that give so few pairs, sweeps of so few, and so few sources of a call."""
-    from chtab import near_in_process
+    from chtab.near import by_library
 
     names, numbers = ("PAIRS", "SWEPT", "FEW", "TOGETHER"), (pairs, swept, 0, together)
-    before = [getattr(near_in_process, name) for name in names]
+    before = [getattr(by_library, name) for name in names]
     for name, number in zip(names, numbers):
-        setattr(near_in_process, name, number)
+        setattr(by_library, name, number)
     try:
         yield
     finally:
         for name, number in zip(names, before):
-            setattr(near_in_process, name, number)
+            setattr(by_library, name, number)
 
 
 @contextlib.contextmanager
 def small_blocks(length, pairs):
     """Blocks of so few sources and targets."""
-    from chtab import near_blocks
+    from chtab.near import row_blocks
 
-    before = near_blocks.LENGTH, near_blocks.PAIRS
-    near_blocks.LENGTH, near_blocks.PAIRS = length, pairs
+    before = row_blocks.LENGTH, row_blocks.PAIRS
+    row_blocks.LENGTH, row_blocks.PAIRS = length, pairs
     try:
         yield
     finally:
-        near_blocks.LENGTH, near_blocks.PAIRS = before
+        row_blocks.LENGTH, row_blocks.PAIRS = before

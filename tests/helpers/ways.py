@@ -13,7 +13,7 @@ from pathlib import Path
 # First of all, since it puts the package on the path.
 from helpers import maps  # noqa: F401
 
-from chtab import opening
+from chtab.engine import opening
 from helpers.in_process import make
 from helpers.running import PROGRAM
 

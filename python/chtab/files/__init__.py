@@ -24,7 +24,7 @@ from chtab.files.graphs import (
     UNITS, Coordinates, Graph, count_nodes, read_bends, read_coordinates, read_graph, scale_comment, write_bends, write_coordinate_columns,
     write_coordinates, write_graph, write_graph_columns,
 )
-from chtab.files.labels import Labelling, read_labels, write_labels
+from chtab.files.labelling import Labelling, read_labels, write_labels
 from chtab.files.lists import (
     Place, read_list, read_names, read_places, read_queries, write_list, write_list_column, write_names, write_queries,
 )

@@ -6,9 +6,9 @@
 | `profiles` | the tables of `tables/`: one for each way of travelling, and the limits of speed |
 | `tags` | access and direction by tags |
 | `speeds` | limits of speed and durations of ferries by tags |
-| `roads` | which ways are roads, and what was left out |
-| `lengths` | metres between places |
-| `network` | roads as arcs between nodes: crossings, dead ends and barriers |
+| `signs` | what ways are called, by the tags that travellers read on signs |
+| `ways` | which ways are roads, and what was left out |
+| `arcs` | roads as arcs between nodes: crossings, dead ends and barriers; metres between places |
 | `restrictions` | relations that forbid turns |
 | `turns` | nodes split so that forbidden turns are no walks |
 | `parts` | strongly connected parts |

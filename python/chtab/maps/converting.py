@@ -6,11 +6,11 @@ import os
 from typing import NamedTuple
 
 from chtab import files
+from chtab.engine.progress import Progress
 from chtab.errors import FileFault
-from chtab.maps import network, parts, profiles, reading, restrictions, turns
+from chtab.maps import arcs, parts, profiles, reading, restrictions, turns
 from chtab.maps.report import Report
-from chtab.maps.roads import Survey
-from chtab.progress import Progress
+from chtab.maps.ways import Survey
 
 SOURCE = (
     "Source: OpenStreetMap, https://www.openstreetmap.org/copyright",
@@ -67,7 +67,7 @@ def convert(path, choices, is_told=False, is_logged=False):
     survey.note_ways_that_come_twice()
     restricting = restrictions.read_all(survey.relations, profile, report) if choices.turns else []
     with Progress("roads", len(survey.roads), "roads", is_told=is_told) as progress:
-        made, nodes = network.network_of(
+        made, nodes = arcs.network_of(
             survey, survey.closed_nodes(), choices.nodes == "all", choices.metric == "metres", choices.bends, progress
         )
     if not made.tails:

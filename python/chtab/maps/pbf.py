@@ -10,8 +10,8 @@ import sys
 from chtab.errors import FileFault
 from chtab.maps import unpacking
 from chtab.maps.reading import Relation
-from chtab.maps.roads import NOWHERE, ROAD_KEYS
-from chtab.maps.streets import KEYS
+from chtab.maps.signs import KEYS
+from chtab.maps.ways import NOWHERE, ROAD_KEYS
 
 # A member of a relation, and a character that stands by its number.
 MEMBER = re.compile(r"([nwr])(-?\d+)@([^,]*)")

@@ -14,9 +14,9 @@ import xml.parsers.expat
 import zlib
 from typing import NamedTuple
 
+from chtab.engine.progress import Progress
 from chtab.errors import FileFault
-from chtab.maps.roads import ROAD_KEYS
-from chtab.progress import Progress
+from chtab.maps.ways import ROAD_KEYS
 
 PACKED = {b"\x1f\x8b": gzip.open, b"BZh": bz2.open, b"\xfd7zXZ\x00": lzma.open}
 # What XML's parser says of a text that ends before its last element does.

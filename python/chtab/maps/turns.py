@@ -8,7 +8,7 @@ what ends there could go on by any arc out.
 import collections
 
 from chtab.maps import restrictions
-from chtab.maps.network import Network
+from chtab.maps.arcs import Network
 
 # The piece of an arc that is no road.
 NO_PIECE = -1

@@ -1,0 +1,45 @@
+"""Modules and classes that documents of version 1.1 named at another place. They go on for one version, with a DeprecationWarning."""
+import importlib
+import importlib.abc
+import importlib.machinery
+import sys
+import warnings
+
+MODULES = {
+    "chtab.accessibility": "chtab.near.accessibility", "chtab.labels": "chtab.files.node_labels", "chtab.program": "chtab.engine.program",
+    "chtab.routes": "chtab.roads.routes", "chtab.walks": "chtab.engine.walks",
+}
+# What a module had that is a package now.
+CLASSES = {"chtab.roads.Roads": "chtab.roads.snapping", "chtab.roads.Spots": "chtab.roads.snapping"}
+
+
+def warn(old, new, level):
+    warnings.warn(f"{old} is {new} now; the old name goes with the next version", DeprecationWarning, stacklevel=level)
+
+
+class Finder(importlib.abc.MetaPathFinder, importlib.abc.Loader):
+    """Finds modules by their old names. Such a module has all names of the new one."""
+
+    def find_spec(self, name, path=None, target=None):
+        return importlib.machinery.ModuleSpec(name, self) if name in MODULES else None
+
+    def exec_module(self, module):
+        new = MODULES[module.__name__]
+        warn(module.__name__, new, 3)
+        found = vars(importlib.import_module(new))
+        vars(module).update((name, value) for name, value in found.items() if not name.startswith("__"))
+
+
+def attribute(package, name):
+    """What a package had by this name: one of its modules, or a class. An AttributeError where it had none."""
+    old = f"{package}.{name}"
+    if old in MODULES:
+        warn(old, MODULES[old], 4)
+        return importlib.import_module(MODULES[old])
+    if old in CLASSES:
+        warn(old, f"{CLASSES[old]}.{name}", 4)
+        return getattr(importlib.import_module(CLASSES[old]), name)
+    raise AttributeError(f"module {package!r} has no attribute {name!r}")
+
+
+sys.meta_path.append(Finder())

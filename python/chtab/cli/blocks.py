@@ -1,0 +1,58 @@
+"""Makes a table that is larger than one run of chtab may have, or more than one machine can do: in blocks.
+
+  blocks.py [OPTIONS] GRAPH SOURCES.ss TARGETS.ss OUT
+
+GRAPH, SOURCES.ss and TARGETS.ss are as for `chtab table`, but the lists may have any length. The table is cut into blocks, and chtab makes
+each block. The file OUT appears only when it is whole:
+  OUT.csv   a row for each source, and a column for each target. A cell is empty if there is no walk, or none within the limit
+  OUT.npy   a matrix of 64-bit numbers for numpy, with -1 for such a cell. Rows and columns are in the order of the lists
+
+Each process keeps a run of `chtab ask`. With --scheduler the blocks go to a Dask scheduler (Debian's package python3-distributed) and its
+workers, on any number of machines. All of them need GRAPH, the saved hierarchy and the program at the same path. If a worker is lost, Dask
+makes its block again. If a block fails, the fault names it, no more blocks are begun, and the status is 1.
+
+Example:  tools/blocks.py --processes 2 roads.gr from.ss to.ss table.csv
+"""
+import logging
+import os
+
+from chtab import cli, files
+from chtab.engine import asking, blocks
+from chtab.engine.program import program_of
+
+
+def words_of(words):
+    """The choices that the words of the command line make. Words that are refused end the process with status 2."""
+    parser = cli.parser_of("blocks", __doc__)
+    parser.add_argument("--side", type=int, metavar="K", help="make blocks of K by K cells, 1 to 2,048 (as large as a table may be)")
+    parser.add_argument("--processes", type=int, default=os.cpu_count(), metavar="P", help="how many blocks are made at a time (the number of processors)")
+    parser.add_argument("--scheduler", metavar="ADDRESS", help="the address of a Dask scheduler, whose workers make the blocks")
+    parser.add_argument("--within", type=int, metavar="R", help="leave out distances above R, from 0 to 2^60")
+    cli.add_runs(parser)
+    for name, shown, told in (
+        ("graph", "GRAPH", "the graph"), ("sources", "SOURCES.ss", "the sources"), ("targets", "TARGETS.ss", "the targets"),
+        ("out", "OUT", "OUT.csv or OUT.npy"),
+    ):
+        parser.add_argument(name, metavar=shown, help=told)
+    words = parser.parse_args(words)
+    if not (1 <= (words.side or 1) <= 2_048 and words.processes >= 1):
+        parser.error("a side is from 1 to 2,048, and there is at least one process")
+    return words
+
+
+def main(words):
+    """Makes the table that the words ask for, and prints how large it is."""
+    words = words_of(words)
+    saved = os.path.abspath(words.saved) if words.saved else None
+    setting = asking.Setting(program_of(words.program), os.path.abspath(words.graph), saved, words.workers, within=words.within)
+    if words.scheduler:
+        # A client of Dask that is closed may leave a future of its own behind, of which asyncio would tell.
+        logging.getLogger("asyncio").setLevel(logging.CRITICAL)
+    sources, targets = files.read_list(words.sources).tolist(), files.read_list(words.targets).tolist()
+    count = blocks.make(setting, sources, targets, words.out, words.side, words.processes, words.scheduler)
+    print(f"{len(sources):,} by {len(targets):,} cells in {words.out}, from {count:,} blocks")
+
+
+def command():
+    """Runs this command on the words that the process was called with."""
+    cli.run("blocks", main)

@@ -1,0 +1,55 @@
+"""Turns chtab's answers into files that maps and spreadsheets read.
+
+  to_geojson.py [OPTIONS] routes OUT.co [TEXT]
+  to_geojson.py [OPTIONS] table TARGETS.ss [TEXT]
+
+TEXT is what chtab wrote (standard input if you leave it out). The result goes to standard output.
+  routes  turns the text of `chtab dist --routes` into GeoJSON (RFC 7946), with a line for each route. Its properties are from, to,
+          weight and arcs, and with names from_name and to_name. A query without a walk has no line. A text without routes is refused
+  table   turns the text of `chtab table` into CSV, with a row for each source, and a column for each target in the order of TARGETS.ss.
+          A cell is empty if there is no walk. Nodes have their names, if they have any, or else their numbers
+
+Example:  ./chtab dist --routes roads.gr trip.p2p | tools/to_geojson.py routes roads.co > trip.geojson
+"""
+import sys
+
+from chtab import cli, files
+from chtab.files import geojson
+
+
+def words_of(words):
+    """The choices that the words of the command line make. Words that are refused end the process with status 2."""
+    parser = cli.parser_of("to_geojson", __doc__)
+    parser.add_argument(
+        "--names", metavar="FILE", help="name nodes by a list or queries that nearest.py wrote, or by a file whose line k names node k, such as OUT.nodes"
+    )
+    parser.add_argument("kind", choices=("routes", "table"), help="what TEXT holds")
+    parser.add_argument("file", metavar="FILE", help="OUT.co of routes, TARGETS.ss of a table")
+    parser.add_argument("text", metavar="TEXT", nargs="?", help="the text (standard input)")
+    return parser.parse_intermixed_args(words)
+
+
+def write_table(path, names, text, out):
+    """Writes a table as CSV. `path` names the list of its targets, `names` has the names of nodes."""
+    def called(node):
+        return names.get(node, node)
+
+    targets = files.read_list(path)
+    rows = ((called(source), cells) for source, cells in files.read_rows(text, len(targets)))
+    files.write_csv(out, map(called, targets), rows)
+
+
+def main(words):
+    """Writes the text that the words name to standard output, as GeoJSON or CSV."""
+    words = words_of(words)
+    names = files.read_names(words.names) if words.names else {}
+    text = words.text or sys.stdin
+    if words.kind == "routes":
+        geojson.write_routes(text, files.read_coordinates(words.file), names, sys.stdout)
+    else:
+        write_table(words.file, names, text, sys.stdout)
+
+
+def command():
+    """Runs this command on the words that the process was called with."""
+    cli.run("to_geojson", main)

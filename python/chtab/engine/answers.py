@@ -1,0 +1,220 @@
+"""What is asked of a run, and how its answer is matched to the question.
+
+A question goes between two guards. A guard is a query from a node to itself, whose answer is known; the node is drawn anew each time. So an
+answer that belongs to another question is found out before a number of it is used. Within the guards each line is matched too: the ends of a
+distance, the arcs of a route, the source of a row and the number of its cells. What doesn't match is a `ProgramFault`.
+"""
+import abc
+import re
+import secrets
+from typing import NamedTuple
+
+from chtab import files
+from chtab.errors import unasked
+
+# The weight of what no walk leads to.
+NO_WALK = -1
+# What `chtab ask` writes for queries, and for a table.
+DISTANCES = re.compile(rb"(?:d \d++ \d++ (?:\d{1,19}+|-)\n)*+")
+ROUTES = re.compile(rb"(?:d \d++ \d++ (?:-\n|\d{1,19}+\nr \d{1,9}+\n(?:a \d++ \d++ \d{1,19}+\n)*+))*+")
+ROWS = re.compile(rb"(?:t \d++(?: (?:\d{1,19}+|-))*+\n)*+")
+
+
+class Question(abc.ABC):
+    """What is asked of a run.
+
+    Attributes
+    ----------
+    request : bytes
+        The lines of the request.
+    mark : bytes
+        What the text of the answer has `count` times.
+    count : int
+        How often it has the mark.
+    """
+
+    def __init__(self, request, mark, count):
+        self.request, self.mark, self.count = request, mark, count
+
+    @abc.abstractmethod
+    def value_of(self, text):
+        """The value of the answer, from its whole text. Where that is the answer to another question, that is a `ProgramFault`."""
+
+
+class Guard(NamedTuple):
+    """A query from a node to itself, and its answer."""
+
+    request: bytes
+    answer: bytes
+
+
+def guard(nodes, has_routes):
+    """A guard at one of the nodes from 1 to `nodes`, for a run that tells routes or one that doesn't."""
+    node = 1 + secrets.randbelow(nodes)
+    return Guard(b"q %d %d\n" % (node, node), b"d %d %d 0\n" % (node, node) + b"r 0\n" * has_routes)
+
+
+class Answer:
+    """An answer that comes from a run bit by bit, between the answers to two guards.
+
+    Parameters
+    ----------
+    question : Question
+        What is asked.
+    nodes : int
+        How many nodes the graph of the run has, at least 1.
+    has_routes : bool
+        Whether the run tells a route after each distance.
+    """
+
+    def __init__(self, question, nodes, has_routes):
+        self.question, self.text = question, bytearray()
+        before, behind = (guard(nodes, has_routes) for _ in range(2))
+        self.request = before.request + question.request + behind.request
+        self.before, self.behind = before.answer, behind.answer
+        self.lacks = question.count + (self.before + self.behind).count(question.mark)
+
+    def feed(self, chunk):
+        """Takes what came next. Where it can't become the answer that is due, that is a `ProgramFault`."""
+        self.text += chunk
+        self.lacks -= chunk.count(self.question.mark)
+        begun = self.text[:len(self.before)]
+        if begun != self.before[:len(begun)] or self.lacks < 0 or not (self.lacks or self.behind.startswith(self.end())):
+            raise unasked()
+
+    def end(self):
+        """What came from the last distance on, which answers the guard behind where no mark is lacking."""
+        return bytes(self.text[self.text.rindex(b"d"):])
+
+    @property
+    def is_whole(self):
+        """Whether all of it came."""
+        return not self.lacks and len(self.end()) == len(self.behind)
+
+    def value(self):
+        """The value of the whole answer."""
+        return self.question.value_of(bytes(self.text[len(self.before):-len(self.behind)]))
+
+
+def query_lines(pairs):
+    return "".join([f"q {start} {end}\n" for start, end in pairs]).encode()
+
+
+class Distances(Question):
+    """Asks for the distances of pairs of nodes, an array (n, 2) of int64, of a run that tells routes or one that doesn't. The value is
+    their weights, int64 (n,), -1 where there is no walk."""
+
+    def __init__(self, pairs, has_routes):
+        super().__init__(query_lines(pairs.tolist()), b"d" if has_routes else b"\n", len(pairs))
+        self.pairs, self.has_routes = pairs, has_routes
+
+    def value_of(self, text):
+        if not (ROUTES if self.has_routes else DISTANCES).fullmatch(text):
+            raise unasked()
+        rows = numbers(b"".join(re.findall(rb"^d .*\n", text, re.MULTILINE)) if self.has_routes else text, 3)
+        if rows.shape[0] != len(self.pairs) or (rows[:, :2] != self.pairs).any():
+            raise unasked()
+        return rows[:, 2]
+
+
+class Routes(Question):
+    """Asks for the routes of pairs of nodes. The value is a list of `files.Answer`."""
+
+    def __init__(self, pairs):
+        self.pairs = list(pairs)
+        super().__init__(query_lines(self.pairs), b"d", len(self.pairs))
+
+    def value_of(self, text):
+        if not ROUTES.fullmatch(text):
+            raise unasked()
+        found, at, letters = [], 0, []
+        words = numbers(text, 1)[:, 0]
+        for pair in self.pairs:
+            answer, at = route_at(words, at)
+            if [answer.source, answer.target] != list(pair):
+                raise unasked()
+            found.append(answer)
+            letters.append("d" if answer.nodes is None else "dr" + "a" * len(answer.weights))
+        # Numbers are taken as they come; each has to stand in a line of its kind.
+        if at != len(words) or text.translate(None, b"0123456789 -\n") != "".join(letters).encode():
+            raise unasked()
+        return found
+
+
+def route_at(words, at):
+    """The answer to one query, whose numbers stand from a place on, and where the next ones do. The arcs have to lead from its source to its
+    target, and weigh what it says."""
+    if at + 3 > len(words):
+        raise unasked()
+    source, target, weight = words[at:at + 3].tolist()
+    if weight < 0:
+        return files.Answer(source, target, None, None, None), at + 3
+    count = int(words[at + 3]) if at + 3 < len(words) else -1
+    end = at + 4 + 3 * count
+    if not 0 <= count <= len(words) or end > len(words):
+        raise unasked()
+    tails, heads, weights = words[at + 4:end].reshape(count, 3).T.tolist() if count else ([], [], [])
+    nodes = [source, *heads]
+    if nodes[:-1] != tails or nodes[-1] != target or sum(weights) != weight:
+        raise unasked()
+    return files.Answer(source, target, weight, nodes, weights), end
+
+
+class Table(Question):
+    """Asks for a table, of a run whose tables leave out what is above the limit. The value is its text: a row for each source."""
+
+    def __init__(self, sources, targets, limit=None):
+        self.sources, self.width, self.limit = list(sources), len(targets), limit
+        nodes = "".join([f"s {node}\n" for part in (self.sources, targets) for node in part])
+        super().__init__(f"t {len(self.sources)} {self.width}\n{nodes}".encode(), b"\n", len(self.sources))
+
+    def value_of(self, text):
+        if not ROWS.fullmatch(text) or text.count(b"\n") != len(self.sources):
+            raise unasked()
+        for source, row in zip(self.sources, text.split(b"\n")):
+            if not row.startswith(b"t %d%s" % (source, b" " * (self.width > 0))) or row.count(b" ") != 1 + self.width:
+                raise unasked()
+        if self.limit is not None and most_of(text) > self.limit:
+            raise unasked()
+        return text
+
+
+class Tables(Question):
+    """Asks for several small tables, each a pair of lists of nodes, of a run without a limit. The value is all their cells in one column,
+    int64, row after row, -1 where there is no walk."""
+
+    def __init__(self, parts):
+        import numpy
+
+        lines = [f"t {len(sources)} {len(targets)}\n" + "".join([f"s {node}\n" for node in (*sources, *targets)]) for sources, targets in parts]
+        self.heads = numpy.array([source for sources, _ in parts for source in sources], numpy.int64)
+        self.widths = numpy.array([len(targets) for sources, targets in parts for _ in sources], numpy.int64)
+        super().__init__("".join(lines).encode(), b"\n", len(self.heads))
+
+    def value_of(self, text):
+        import numpy
+
+        if not ROWS.fullmatch(text):
+            raise unasked()
+        letters = numpy.frombuffer(text, numpy.uint8)
+        spaces = numpy.cumsum(letters == ord(" "))[letters == ord("\n")]
+        if len(spaces) != len(self.widths) or (numpy.diff(spaces, prepend=0) != 1 + self.widths).any():
+            raise unasked()
+        words = numbers(text, 1)[:, 0]
+        firsts = numpy.cumsum(1 + self.widths) - (1 + self.widths)
+        if (words[firsts] != self.heads).any():
+            raise unasked()
+        return numpy.delete(words, firsts)
+
+
+def most_of(text):
+    """The largest cell of a table's text, 0 where there is none."""
+    return max(map(int, re.findall(rb" (\d+)(?= |$)", re.sub(rb"^t \d+", b"", text, flags=re.MULTILINE), re.MULTILINE)), default=0)
+
+
+def numbers(text, width):
+    """The numbers of lines that were matched, int64 (n, width), -1 for `-`."""
+    import numpy
+
+    text = text.translate(None, b"adrt").replace(b"-", b"-1")
+    return numpy.fromstring(text, numpy.int64, sep=" ").reshape(-1, width)

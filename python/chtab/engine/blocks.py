@@ -1,0 +1,214 @@
+"""Tables of any size, in blocks, by several runs of the program on this machine or on those of a Dask cluster. Each run is kept, and makes
+one block after the other."""
+import concurrent.futures
+import contextlib
+import os
+import pathlib
+import queue
+import tempfile
+import threading
+import zipfile
+from dataclasses import dataclass
+
+from chtab import files
+from chtab.engine import asking
+from chtab.engine.progress import Progress
+from chtab.errors import ChtabError, ProgramFault
+
+# The limits of one table: its cells, and the length of each list.
+CELLS, LENGTH = 2**22, 2**16
+# The most sources of a block whose size nobody gave. A block costs about a search for each source and each target.
+HEIGHT = 2_048
+# How many cells are worth a further run: to begin one costs reading and checking.
+WORTH = 2**20
+# Seconds to wait for a scheduler, and for its first worker.
+PATIENCE = 10
+
+
+class Failed(ChtabError):
+    """A block that failed."""
+
+
+@dataclass(frozen=True)
+class Block:
+    """Where its rows and columns begin, and their nodes."""
+
+    row: int
+    column: int
+    sources: list
+    targets: list
+
+    def name(self):
+        row, column = self.row, self.column
+        return f"sources {row + 1} to {row + len(self.sources)}, targets {column + 1} to {column + len(self.targets)}"
+
+
+def sides(height, width, side=None):
+    """How many sources and targets a block has: `side` of each, or as many as the limits of a table let it have."""
+    if side is not None:
+        return side, side
+    rows = max(1, min(height, HEIGHT))
+    return rows, max(1, min(width, LENGTH, CELLS // rows))
+
+
+def cut(sources, targets, side=None):
+    """The blocks of a table, row of blocks by row of blocks."""
+    height, width = sides(len(sources), len(targets), side)
+    for row in range(0, len(sources), height):
+        for column in range(0, len(targets), width):
+            yield Block(row, column, sources[row:row + height], targets[column:column + width])
+
+
+def made(running, block):
+    """What the program writes for a block. It runs in any process, on any machine."""
+    try:
+        return running.table(block.sources, block.targets)
+    except ProgramFault as fault:
+        raise RuntimeError(f"block of {block.name()}: status {fault.status}. {fault}") from None
+
+
+class Pool:
+    """Threads of this machine, each with a run of its own that is kept."""
+
+    as_completed = staticmethod(concurrent.futures.as_completed)
+
+    def __init__(self, setting, count):
+        self.engines, self.idle = [asking.Engine(setting) for _ in range(count)], queue.SimpleQueue()
+        for running in self.engines:
+            self.idle.put(running)
+        self.threads = concurrent.futures.ThreadPoolExecutor(count)
+
+    def begin(self, block):
+        return self.threads.submit(self.run, block)
+
+    def run(self, block):
+        running = self.idle.get()
+        try:
+            return made(running, block)
+        finally:
+            self.idle.put(running)
+
+    def __enter__(self):
+        return self
+
+    def __exit__(self, kind, *_):
+        self.threads.shutdown(wait=kind is None, cancel_futures=True)
+        for running in self.engines:
+            running.close()
+        self.threads.shutdown()
+
+
+def run_on_worker(block, setting):
+    """A block on a worker of Dask, by the run that its thread keeps."""
+    import distributed
+
+    kept = distributed.get_worker().__dict__.setdefault("chtab_engines", {})
+    key = threading.get_ident(), setting
+    if key not in kept:
+        kept[key] = asking.Engine(setting)
+    return made(kept[key], block)
+
+
+def close_on_worker(dask_worker):
+    """Closes what a worker keeps."""
+    for running in dask_worker.__dict__.pop("chtab_engines", {}).values():
+        running.close()
+
+
+def send_package(client):
+    """Sends the code of this package to all workers, also to those that come later."""
+    folder = pathlib.Path(__file__).parent.parent
+    with tempfile.TemporaryDirectory() as kept:
+        path = os.path.join(kept, "chtab.zip")
+        with zipfile.ZipFile(path, "w") as archive:
+            for source in folder.rglob("*.py"):
+                archive.write(source, f"chtab/{source.relative_to(folder)}")
+        client.upload_file(path)
+
+
+class Cluster:
+    """The same on the workers of a Dask scheduler."""
+
+    def __init__(self, setting, address):
+        try:
+            import distributed
+        except ImportError:
+            raise Failed("--scheduler needs Dask (Debian's package python3-distributed)") from None
+        self.setting = setting
+        self.as_completed = distributed.as_completed
+        try:
+            self.client = distributed.Client(address, timeout=PATIENCE)
+        except (OSError, ValueError) as fault:
+            raise Failed(f"no Dask scheduler at {address}: {fault}") from None
+        try:
+            self.client.wait_for_workers(1, timeout=PATIENCE)
+            send_package(self.client)
+        except BaseException as fault:
+            self.client.close()
+            if isinstance(fault, TimeoutError):
+                raise Failed(f"the Dask scheduler at {address} has no worker, after {PATIENCE} seconds") from None
+            raise
+
+    def begin(self, block):
+        return self.client.submit(run_on_worker, block, self.setting, pure=False)
+
+    def __enter__(self):
+        return self
+
+    def __exit__(self, *_):
+        with self.client:
+            self.client.run(close_on_worker, on_error="ignore")
+
+
+def compute(pool, blocks, folder):
+    """Runs all blocks; the text of each is kept in a file of its own."""
+    begun = {pool.begin(block): block for block in blocks}
+    with Progress("blocks", len(blocks), "blocks") as progress:
+        try:
+            for future in pool.as_completed(list(begun)):
+                block = begun.pop(future)
+                (folder / f"{block.row}.{block.column}").write_bytes(future.result())
+                progress.step()
+        except (RuntimeError, ChtabError) as fault:
+            raise Failed(str(fault)) from fault
+        finally:
+            for future in begun:
+                future.cancel()
+
+
+def rows(folder, sources, targets, height, width):
+    """The text of each row, its source and its cells, in order and put together from the blocks' files."""
+    for row in range(0, len(sources), height):
+        parts = [targets[column:column + width] for column in range(0, len(targets), width)]
+        with contextlib.ExitStack() as stack:
+            texts = [
+                files.read_row_texts(stack.enter_context(open(folder / f"{row}.{place * width}", "rb")), len(part))
+                for place, part in enumerate(parts)
+            ]
+            for source in map(b"%d".__mod__, sources[row:row + height]):
+                found = [next(text) for text in texts]
+                if any(told != source for told, _ in found):
+                    raise Failed(f"the row of source {source.decode()} is not there")
+                yield b" ".join([source, *(cells for _, cells in found)])
+
+
+def make(setting, sources, targets, out, side=None, processes=1, scheduler=None):
+    """Makes the table of these nodes in OUT (.csv or .npy), which is there once it is whole. The number of its blocks is answered."""
+    out = pathlib.Path(out)
+    if out.suffix not in (".csv", ".npy"):
+        raise Failed("OUT has to end in .csv or .npy")
+    height, width = sides(len(sources), len(targets), side)
+    blocks = list(cut(sources, targets, side))
+    count = max(1, min(processes, len(blocks), -(-len(sources) * len(targets) // WORTH) if side is None else processes))
+    with tempfile.TemporaryDirectory(prefix=f".{out.name}.", dir=out.parent) as kept:
+        folder = pathlib.Path(kept)
+        with Cluster(setting, scheduler) if scheduler else Pool(setting, count) as pool:
+            compute(pool, blocks, folder)
+        made_rows = rows(folder, sources, targets, height, width)
+        whole = folder / "whole"
+        if out.suffix == ".csv":
+            files.write_csv_of_texts(whole, targets, made_rows)
+        else:
+            files.write_npy_of_texts(whole, len(sources), len(targets), made_rows)
+        os.replace(whole, out)
+    return len(blocks)

@@ -1,0 +1,225 @@
+"""A run of the program that is asked again and again, and the pipes that lead to it.
+
+A run is ended, with its process group, when it is closed or no longer used, when the interpreter ends, when an answer takes too long or is
+another's, and when anything else (Ctrl-C among it) breaks a question off. One whose owner was killed ends by itself, because its input ends.
+"""
+import atexit
+import contextlib
+import functools
+import math
+import os
+import select
+import signal
+import subprocess
+import tempfile
+import time
+import weakref
+
+from chtab.engine import answers, forks
+from chtab.errors import ChtabError, ProgramFault, TimedOut, unasked
+
+# Bytes that are read or written at a time.
+CHUNK = 1 << 18
+# Seconds in which a run that closed its output has to end.
+PATIENCE = 1
+
+
+@functools.cache
+def see_to(program):
+    """Sees to it that the program can be run: the script of a checkout proves and builds it first, and tells of that on standard error."""
+    try:
+        done = subprocess.run([program, "--help"], stdin=subprocess.DEVNULL, stdout=subprocess.DEVNULL)
+    except OSError as fault:
+        raise ChtabError(f"{program} can't be run: {fault.strerror}") from None
+    if done.returncode:
+        raise fault_of(b"", done.returncode)
+
+
+def fault_of(told, status):
+    """The fault of a run that ended, by what it told on standard error: its own line, where there is one."""
+    lines = told.decode(errors="replace").strip().splitlines()
+    lines = [line for line in lines if line.startswith(("chtab: ", "error: "))] or lines
+    how = f"was ended by signal {-status}" if status < 0 else f"ended with status {status}"
+    return ProgramFault(lines[-1] if lines and status >= 0 else " ".join([f"chtab {how}", *lines[-1:]]), status)
+
+
+# The runs that were begun and have not been ended, each with the process that began it, what leads to it, and a reference to its child.
+BEGUN = {}
+
+
+def end_unused():
+    """Ends the runs whose children are closed or no longer there, also those whose end was broken off before. In a process that was forked
+    from their owner only what leads to them is closed."""
+    for process, (owner, streams, reference) in list(BEGUN.items()):
+        child = reference()
+        if child is not None and child.is_open:
+            continue
+        if os.getpid() == owner:
+            kill(process)
+        else:
+            # The run is no child of this process, which must not wait for it.
+            process.returncode = 0
+        for stream in streams:
+            # Another thread may be ending the same run. A buffered stream is then found closed in the middle of its own closing.
+            with contextlib.suppress(ValueError):
+                stream.close()
+        BEGUN.pop(process, None)
+
+
+@atexit.register
+def end_all():
+    """Ends all runs, at the end of the interpreter."""
+    for _, _, reference in list(BEGUN.values()):
+        child = reference()
+        if child is not None:
+            child.is_open = False
+    end_unused()
+
+
+def kill(process):
+    """Ends a run and all that it began, where it hasn't ended. Any thread may do so."""
+    if process.poll() is None:
+        with contextlib.suppress(ProcessLookupError):
+            os.killpg(process.pid, signal.SIGKILL)
+    process.wait()
+
+
+def begin(command, told):
+    """Begins a run that writes its errors to a file: its process, and the ends of both pipes.
+
+    The pipes are not those of the process's object. That one keeps them open where it is dropped early.
+    """
+    end_unused()
+    (theirs_in, ours_in), (ours_out, theirs_out) = os.pipe(), os.pipe()
+    requests, answered = open(ours_in, "wb", 0), open(ours_out, "rb", 0)
+    try:
+        process = subprocess.Popen(command, stdin=theirs_in, stdout=theirs_out, stderr=told, start_new_session=True)
+    except OSError as fault:
+        raise ChtabError(f"{command[0]} can't be run: {fault.strerror}") from None
+    finally:
+        os.close(theirs_in)
+        os.close(theirs_out)
+    for stream in (requests, answered):
+        os.set_blocking(stream.fileno(), False)
+    return process, requests, answered
+
+
+class Deadline:
+    """When an answer has to be there: so many seconds from now, or at any time (None)."""
+
+    def __init__(self, seconds):
+        self.seconds = math.inf if seconds is None else seconds
+        self.until = time.monotonic() + self.seconds
+
+    def milliseconds(self):
+        """What is left, None where that has no end. Where nothing is, that is a `TimedOut`."""
+        left = self.until - time.monotonic()
+        if left <= 0:
+            raise TimedOut(f"chtab took longer than {self.seconds:g} seconds, and was ended")
+        return None if math.isinf(left) else 1000 * left
+
+
+class Child:
+    """A run that answers requests in order. One thread asks it at a time. It has a process group of its own, so that Ctrl-C at a terminal
+    doesn't reach it before its parent.
+
+    Parameters
+    ----------
+    command : list of str
+        The words of the run.
+    nodes : int
+        How many nodes its graph has, at least 1.
+    has_routes : bool
+        Whether it tells a route after each distance.
+    """
+
+    def __init__(self, command, nodes, has_routes):
+        self.nodes, self.has_routes = nodes, has_routes
+        # A run whose exchange was broken off anywhere is busy, and can't be asked again.
+        self.is_open, self.is_loaded, self.is_busy = True, False, False
+        with forks.STEADY:
+            self.told = tempfile.TemporaryFile()
+            self.process, self.requests, self.answered = begin(command, self.told)
+            self.owner = os.getpid()
+            BEGUN[self.process] = self.owner, (self.requests, self.answered, self.told), weakref.ref(self)
+            weakref.finalize(self, end_unused).atexit = False
+            forks.follow(self)
+
+    def leave_parent(self):
+        """Closes, in a process that was forked, what leads to the parent's run. The run goes on."""
+        self.close()
+
+    def load(self):
+        """Asks a first question where none was asked. Its answer comes when the run has read what it answers by, which may take any time."""
+        if not self.is_loaded:
+            self.ask(answers.Table([1], [1]))
+            self.is_loaded = True
+
+    def ask(self, question, seconds=None):
+        """The value of the answer to a question, in so many seconds or any (None). Whatever goes wrong ends the run."""
+        self.is_busy = True
+        try:
+            answer = answers.Answer(question, self.nodes, self.has_routes)
+            self.exchange(answer, Deadline(seconds))
+            value = answer.value()
+        except BaseException:
+            self.close()
+            raise
+        self.is_busy = False
+        return value
+
+    def exchange(self, answer, deadline):
+        """Writes the request of an answer and reads what is there of the answer, in turns, so that neither side waits for the other."""
+        if self.read():
+            raise unasked()
+        left = memoryview(answer.request)
+        while left or not answer.is_whole:
+            self.wait(left, deadline)
+            left = self.write(left)
+            answer.feed(self.read())
+
+    def wait(self, left, deadline):
+        """Waits until there is something to read, or something of what is left can be written."""
+        ready = select.poll()
+        ready.register(self.answered, select.POLLIN)
+        if left:
+            ready.register(self.requests, select.POLLOUT)
+        ready.poll(deadline.milliseconds())
+
+    def write(self, left):
+        """What is left after as much was written as the pipe takes. A run that reads no more gets no more, and its output tells why."""
+        try:
+            return left[os.write(self.requests.fileno(), left[:CHUNK]):]
+        except BlockingIOError:
+            return left
+        except BrokenPipeError:
+            return left[:0]
+
+    def read(self):
+        """What the run has written by now."""
+        try:
+            chunk = os.read(self.answered.fileno(), CHUNK)
+        except BlockingIOError:
+            return b""
+        if not chunk:
+            raise self.fault()
+        return chunk
+
+    def fault(self):
+        """Why the run closed its output."""
+        try:
+            status = self.process.wait(PATIENCE)
+        except subprocess.TimeoutExpired:
+            return ProgramFault("chtab closed its output and goes on", 0)
+        self.told.seek(0)
+        return fault_of(self.told.read(), status)
+
+    def kill(self):
+        """Ends the run, so that a thread that waits for its answer is told. Any thread may do so."""
+        if os.getpid() == self.owner:
+            kill(self.process)
+
+    def close(self):
+        """Ends the run, and closes what leads to it."""
+        self.is_open = False
+        end_unused()

@@ -1,0 +1,50 @@
+"""Who answers for a network: the library for C in this process, or runs of the program."""
+from chtab.engine import asking, library
+from chtab.engine.in_process import InProcess
+from chtab.engine.program import program_of
+from chtab.errors import ChtabError
+
+AUTO = "auto"
+
+
+def engine_of(setting, choice, graph):
+    """The engine of a setting: the library in this process where it is chosen and fits, and else runs of the program.
+
+    Parameters
+    ----------
+    setting : asking.Setting
+        The files, and how the program would run.
+    choice : bool or str
+        True, or the path of the library: the library, and an error where it doesn't fit. False: the program. "auto": the library where it fits,
+        no time is set, and a saved hierarchy is given. Only a run can be ended at once, also while it builds.
+    graph : call
+        What `files.read_graph` gives of the graph, when it is first needed.
+    """
+    if choice is False or choice == AUTO and (setting.timeout is not None or setting.saved is None):
+        return asking.Engine(setting)
+    path = library.beside(setting.program) if choice in (AUTO, True) else choice
+    lack = lack_of(setting, path)
+    if lack is None:
+        return InProcess(setting, library.loaded(path), graph)
+    if choice == AUTO:
+        return asking.Engine(setting)
+    raise ChtabError(f"the library can't answer: {lack}")
+
+
+def fits(program, saved, workers):
+    """Whether the library stands beside a program, and answers for a network with a saved hierarchy as runs with these options would."""
+    setting = asking.Setting(program_of(program), "", saved, workers)
+    return saved is not None and lack_of(setting, library.beside(setting.program)) is None
+
+
+def lack_of(setting, path):
+    """Why the library does not fit a setting, None where it does."""
+    if path is None:
+        return f"there is no {library.NAME} beside the program {setting.program}, or it is older than the sources; `packaging/library` makes it"
+    if setting.workers != 1:
+        return "it starts no threads, and a call has one worker; leave `workers` out, and ask from threads of your own"
+    try:
+        library.loaded(path)
+    except ChtabError as fault:
+        return str(fault)
+    return None

@@ -1,0 +1,265 @@
+"""What is asked of the library for C, in this process: distances, routes and tables, by a handle for each thread, and handles for near rows."""
+import contextlib
+import functools
+import os
+import threading
+import weakref
+
+import numpy
+
+from chtab import files
+from chtab.engine import asking, forks, library
+from chtab.engine.child import Deadline
+from chtab.engine.interruptible import LONG, interruptible
+from chtab.engine.walks import Walks
+from chtab.errors import ChtabError, ProgramFault, unasked
+
+# What one call of the library answers at most: distances, and targets of a table. So few calls take more than a second, none more than some
+# seconds, and time is looked at between them.
+TOGETHER, WIDTH = 1 << 13, 1 << 13
+# What frees the places of a handle: none are kept in place of them.
+NO_PLACES = numpy.zeros(0, numpy.uint32)
+
+
+def timed(question):
+    """A question whose answer may take the time of the setting, which is counted from when the network is open."""
+    @functools.wraps(question)
+    def ask(self, *words):
+        self.handle()
+        self.of_thread.deadline = Deadline(self.setting.timeout)
+        return question(self, *words)
+
+    return ask
+
+
+class OfThread(threading.local):
+    """What a thread has: its handle, and until when the answer to its question has to be there."""
+
+    handle, deadline = None, Deadline(None)
+
+
+def files_of(setting):
+    """The files that the library opens: the graph, and the saved hierarchy if there is one."""
+    return [path for path in (setting.graph, setting.saved) if path is not None]
+
+
+class InProcess:
+    """Answers as `asking.Engine` gives them, by the library. Calls may come from several threads, and from processes that were forked.
+
+    Each thread that asks has a handle of its own, made by its first question. All handles share one network in memory. The first handle opens
+    the network. The first thread that asks has it, and when that thread has ended, the next new one.
+
+    A process that was forked opens the network anew with its first question, and leaves the handles of its parent alone.
+    """
+
+    def __init__(self, setting, calls, graph):
+        for path in files_of(setting):
+            open(path, "rb").close()
+        self.setting, self.calls, self.graph, self.stamps = setting, calls, graph, setting.stamps()
+        self.nodes, self.is_closed, self.arcs = files.count_nodes(setting.graph), False, None
+        self.leave_parent()
+        forks.follow(self)
+
+    def leave_parent(self):
+        """Begins with no handle, and with a lock that nobody holds: in a process that was forked too."""
+        self.lock, self.owner, self.begun = threading.RLock(), os.getpid(), 0
+        self.of_thread, self.handles = OfThread(), weakref.WeakSet()
+        self.first, self.asker, self.spare = None, None, []
+
+    # Handles.
+
+    def load(self, with_routes=False):
+        """Opens the network, so that a file that is refused is told now."""
+        if self.owner != os.getpid():
+            self.leave_parent()
+        with self.lock:
+            if self.is_closed:
+                raise ChtabError(library.GONE)
+            if self.first is None:
+                self.first = self.opened()
+                self.handles.add(self.first)
+                self.begun += 1
+
+    def opened(self):
+        """The first handle."""
+        contents = []
+        for path in files_of(self.setting):
+            with open(path, "rb") as file:
+                contents.append(file.read())
+        # Looked at behind the files: what was read is what was there at first.
+        self.stamps.see_that_same()
+        handle = library.Handle(self.calls)
+        interruptible(LONG, handle.open, *contents)
+        if handle.nodes() != self.nodes:
+            raise unasked()
+        return handle
+
+    def handle(self):
+        """The handle of the thread that asks."""
+        if self.is_closed:
+            raise ChtabError(library.GONE)
+        if self.owner != os.getpid():
+            self.leave_parent()
+        if self.of_thread.handle is None:
+            self.of_thread.handle = self.handle_of_new_thread()
+        return self.of_thread.handle
+
+    def handle_of_new_thread(self):
+        with self.lock:
+            self.load()
+            first = self.first
+            if self.asker is None or not self.asker.is_alive():
+                self.asker = threading.current_thread()
+                return first
+        return self.another(first)
+
+    def another(self, first):
+        """A further handle. This waits for the call that the thread of the first one makes, and holds no lock meanwhile."""
+        made = first.share()
+        with self.lock:
+            if self.is_closed:
+                raise ChtabError(library.GONE)
+            self.handles.add(made)
+        return made
+
+    @contextlib.contextmanager
+    def near_handle(self):
+        """A handle for one question on near rows, which no other question has meanwhile. Afterwards its places are freed."""
+        handle = self.spare_handle()
+        # In a process that is forked meanwhile this is the list of the parent alone, as its handles are.
+        spare = self.spare
+        yield handle
+        # A network that was closed meanwhile has answered this question.
+        with contextlib.suppress(ChtabError):
+            handle.keep_places(NO_PLACES)
+            spare.append(handle)
+
+    def spare_handle(self):
+        if self.is_closed:
+            raise ChtabError(library.GONE)
+        if self.owner != os.getpid():
+            self.leave_parent()
+        with self.lock:
+            self.load()
+            first = self.first
+            if self.spare:
+                return self.spare.pop()
+        return self.another(first)
+
+    def living(self):
+        """Whether the network is open in this process: 1, or else 0."""
+        return int(self.first is not None)
+
+    @property
+    def runs(self):
+        """The handles of this process: none before the network was opened."""
+        with self.lock:
+            return list(self.handles)
+
+    def close(self):
+        """Closes all handles, each after the call that is under way with it. A question of another thread that takes several calls fails."""
+        self.is_closed = True
+        if self.owner != os.getpid():
+            self.leave_parent()
+        with self.lock:
+            handles, self.first = list(self.handles), None
+        for handle in handles:
+            handle.close()
+
+    def __enter__(self):
+        return self
+
+    def __exit__(self, *_):
+        self.close()
+
+    # Questions.
+
+    def call(self, searches, call, *words):
+        """The value of a call that makes so many searches, if there is time left for it."""
+        self.of_thread.deadline.milliseconds()
+        return interruptible(searches, call, *words)
+
+    def distances_together(self):
+        """How many distances are best asked for together."""
+        return asking.MANY
+
+    @timed
+    def distances(self, pairs):
+        """The distances of pairs of nodes, an array (n, 2): int64 (n,), -1 where there is no walk."""
+        sources, targets = library.nodes_of(pairs, self.nodes).T.copy()
+        parts = [slice(start, start + TOGETHER) for start in range(0, len(sources), TOGETHER)]
+        found = [self.call(len(sources[part]), self.handle().distances, sources[part], targets[part]) for part in parts]
+        return found[0] if len(found) == 1 else numpy.concatenate([numpy.zeros(0, numpy.int64), *found])
+
+    @timed
+    def cells(self, sources, targets, within=None):
+        """The distances from each node of one column to each of another, int64 (k, l), -1 where there is no walk, or none of at most `within`."""
+        sources, targets = (library.nodes_of(nodes, self.nodes) for nodes in (sources, targets))
+        table, limit = numpy.empty((len(sources), len(targets)), numpy.int64), library.NO_LIMIT if within is None else within
+        for start in range(0, len(targets) if len(sources) else 0, WIDTH):
+            some = targets[start:start + WIDTH]
+            table[:, start:start + WIDTH] = self.call(len(sources) + len(some), self.handle().table, sources, some, limit)
+        return table
+
+    def tables(self, parts):
+        """The cells of several small tables, pairs of lists of nodes, in one column."""
+        pairs = [(source, target) for sources, targets in parts for source in sources for target in targets]
+        return self.distances(numpy.array(pairs, numpy.int64).reshape(-1, 2))
+
+    @timed
+    def routes(self, pairs):
+        """The routes of pairs of nodes, as a list of `files.Answer`."""
+        found = []
+        for source, target in pairs:
+            if not (0 < source <= self.nodes and 0 < target <= self.nodes):
+                raise ValueError(f"a node is not from 1 to {self.nodes:,}")
+            weight, nodes = self.call(1, self.handle().route, source - 1, target - 1)
+            if weight < 0:
+                found.append(files.Answer(source, target, None, None, None))
+                continue
+            weights = self.arc_weights(nodes[:-1], nodes[1:])
+            if weights.sum() != weight:
+                raise self.changed()
+            found.append(files.Answer(source, target, weight, (nodes + 1).tolist(), weights.tolist()))
+        return found
+
+    @timed
+    def walks(self, pairs):
+        """The same, of pairs in an array (n, 2), as `walks.Walks`."""
+        pairs = library.nodes_of(pairs, self.nodes).tolist()
+        found = [self.call(1, self.handle().route, source, target) for source, target in pairs]
+        weights = numpy.array([weight for weight, _ in found], numpy.int64)
+        counts = [max(len(nodes) - 1, 0) for _, nodes in found]
+        nothing = numpy.zeros(0, numpy.int64)
+        tails, heads = (numpy.concatenate([nothing, *(nodes[part] for _, nodes in found)]) for part in (slice(-1), slice(1, None)))
+        firsts = numpy.append(0, numpy.cumsum(counts, dtype=numpy.int64))
+        walks = Walks(weights, firsts, tails + 1, heads + 1, self.arc_weights(tails, heads))
+        if (walks.sums(walks.arc_weights)[weights >= 0] != weights[weights >= 0]).any():
+            raise self.changed()
+        return walks
+
+    def arc_weights(self, tails, heads):
+        """The weights of arcs of routes, between nodes from 0 on. Of several arcs between two nodes a route takes the one of least weight."""
+        if self.arcs is None:
+            self.arcs = least_arcs(self.graph(), self.nodes)
+        keys, weights = self.arcs
+        wanted = tails.astype(numpy.int64) * self.nodes + heads
+        places = keys.searchsorted(wanted)
+        if (keys[places] != wanted).any():
+            raise self.changed()
+        return weights[places]
+
+    def changed(self):
+        """The fault of a graph whose arcs are not those that the library opened."""
+        return ProgramFault(f"{self.setting.graph} has changed since it was opened", 1)
+
+
+def least_arcs(graph, count):
+    """The keys of the pairs of nodes between which a graph has an arc, in order, and the weight of the least arc of each. Behind them stands a
+    key that no pair has, so that each key that is looked for has a place."""
+    tails, heads, weights = (numpy.array(column, numpy.int64) for column in (graph.tails, graph.heads, graph.weights))
+    keys = (tails - 1) * count + heads - 1
+    order = numpy.lexsort([weights, keys])
+    keys, weights = keys[order], weights[order]
+    is_first = numpy.append(True, keys[1:] != keys[:-1])[:len(keys)]
+    return numpy.append(keys[is_first], numpy.iinfo(numpy.int64).max), numpy.append(weights[is_first], 0)

@@ -1,0 +1,308 @@
+"""The library for C in this process, by ctypes: `include/chtab.h` describes its calls.
+
+C trusts its caller. So nothing is handed to it here that was not checked before: each array is one of numpy, of the right kind of numbers, in one
+piece, at an address for such numbers, and as long as the call is told; what is written to may be written to; and nodes are numbers of 32 bits.
+"""
+import ctypes
+import functools
+import glob
+import os
+import threading
+import weakref
+
+import numpy
+
+from chtab.engine import forks
+from chtab.errors import ChtabError, ProgramFault
+
+# The version of the library that this package calls, as `CHTAB_VERSION` of the header has it.
+VERSION = 1_001_000
+NAME = "libchtab.so.1"
+# What the calls answer, as `chtab_status` of the header has it.
+OK, NO_MEMORY, CLOSED, IS_OPEN, NODE_RANGE, LENGTHS, TOO_LARGE, TOO_SHORT, BAD_GRAPH, BAD_SAVED, WRONG_SAVED, NO_PLACES = range(12)
+# The limit that leaves out no distance, and the distance where there is no walk, which is -1 as a number of 64 bits with a sign.
+NO_LIMIT = NO_DISTANCE = 2**64 - 1
+# The number of places of a near row that leaves none out.
+ALL = 2**32 - 1
+# What is wrong with a file, by the number of `chtab_fault_kind`, in the words of the program.
+KINDS = (
+    "", "unknown line", "bad problem line", "second problem line", "no problem line", "bad line", "node out of range", "weight too large",
+    "size too large", "too many lines", "too few lines", "order", "pair", "bound", "base", "middle", "arc", "lower",
+)
+GONE = "the network is closed"
+# Nodes of a route for which there is room at first.
+ROOM = 1_024
+
+
+class Block(ctypes.Structure):
+    """`struct chtab`: 16 bytes, of which the library alone knows the meaning."""
+
+    _fields_ = [("is_open", ctypes.c_uint64), ("engine", ctypes.c_void_p)]
+
+
+class Fault(ctypes.Structure):
+    """`struct chtab_fault`."""
+
+    _fields_ = [("line", ctypes.c_uint64), ("place", ctypes.c_uint64), ("kind", ctypes.c_uint32)]
+
+
+class Found(ctypes.Structure):
+    """`struct chtab_found`."""
+
+    _fields_ = [("weight", ctypes.c_uint64), ("nodes", ctypes.c_uint64)]
+
+
+ARRAY = ctypes.c_void_p, ctypes.c_size_t
+HANDLE = ctypes.POINTER(Block)
+# What each call is given. `CDLL` lets other threads run during a call.
+CALLS = {
+    "chtab_open": (HANDLE, ctypes.c_char_p, ctypes.c_size_t, ctypes.c_char_p, ctypes.c_size_t, ctypes.POINTER(Fault)),
+    "chtab_share": (HANDLE, HANDLE),
+    "chtab_close": (HANDLE,),
+    "chtab_nodes": (HANDLE, ctypes.POINTER(ctypes.c_uint32)),
+    "chtab_save": (HANDLE, ctypes.POINTER(ctypes.c_uint64), *ARRAY),
+    "chtab_distances": (HANDLE, *ARRAY, *ARRAY, *ARRAY),
+    "chtab_table": (HANDLE, *ARRAY, *ARRAY, ctypes.c_uint64, *ARRAY),
+    "chtab_route": (HANDLE, ctypes.c_uint32, ctypes.c_uint32, ctypes.POINTER(Found), *ARRAY),
+    "chtab_near_places": (HANDLE, ctypes.c_uint32, *ARRAY, ctypes.c_uint64, ctypes.c_uint32),
+    "chtab_near_sweep": (HANDLE,),
+    "chtab_near_rows": (HANDLE, *ARRAY, ctypes.POINTER(ctypes.c_uint64), *ARRAY, *ARRAY, *ARRAY),
+}
+
+
+def beside(program):
+    """The library beside a program, None where there is none.
+
+    It stands in the folder of the program (that of a wheel), where `packaging/library` puts it in a checkout, unless sources of the crates are newer,
+    or where `./install` puts it: in the folder `lib` whose folder `chtab` has the program.
+    """
+    folder = os.path.dirname(os.path.realpath(program))
+    places = [folder] if os.path.basename(folder) != "chtab" else [folder, os.path.dirname(folder)]
+    made = os.path.join(folder, "out", "library", "lib", NAME)
+    found = [path for path in (os.path.join(place, NAME) for place in places) if os.path.isfile(path)]
+    return (found + [made] * is_up_to_date(made, folder) + [None])[0]
+
+
+def is_up_to_date(made, checkout):
+    """Whether the library that was made in a checkout is there, and no source of its crates is newer."""
+    if not os.path.isfile(made):
+        return False
+    sources = glob.iglob(os.path.join(glob.escape(checkout), "crates", "*", "src", "**", "*.rt"), recursive=True)
+    return max(map(os.path.getmtime, sources), default=0) <= os.path.getmtime(made)
+
+
+@functools.cache
+def loaded(path):
+    """The calls of the library of this path. One that can't be loaded, or is of another version, is a `ChtabError`."""
+    try:
+        with forks.STEADY:
+            calls = ctypes.CDLL(path)
+        for name, words in CALLS.items():
+            call = getattr(calls, name)
+            call.argtypes, call.restype = words, ctypes.c_uint32
+        calls.chtab_version.argtypes, calls.chtab_version.restype = (), ctypes.c_uint32
+        version = calls.chtab_version()
+    except (OSError, AttributeError) as fault:
+        raise ChtabError(f"{path} is not chtab's library for C: {fault}") from None
+    if version != VERSION:
+        raise ChtabError(f"{path} is of another version than this package: {version}, not {VERSION}")
+    return calls
+
+
+def address(array, kind, is_written=False):
+    """Where the numbers of an array stand. One that C would not read as is meant is refused."""
+    if type(array) is not numpy.ndarray or array.dtype != kind or array.ndim != 1 or not (array.flags.c_contiguous and array.flags.aligned):
+        what = f"{array.dtype} of shape {array.shape}" if isinstance(array, numpy.ndarray) else type(array).__name__
+        raise TypeError(f"the library takes a column of {numpy.dtype(kind)} in one piece, not {what}")
+    if is_written and not array.flags.writeable:
+        raise TypeError("the library writes to an array that may be written to")
+    found = array.ctypes.data
+    if not found:
+        raise ValueError("an array has no place in memory")
+    return found
+
+
+def nodes_of(numbers, count):
+    """The nodes of numbers from 1 to `count`, as the library counts them: uint32, from 0 on, in one piece. Any other number is refused."""
+    numbers = numpy.asarray(numbers)
+    if numbers.dtype != numpy.int64:
+        if numbers.size and numbers.dtype.kind not in "iu":
+            raise TypeError(f"nodes are whole numbers, not {numbers.dtype}")
+        numbers = numbers.astype(numpy.int64)
+    lowered = numbers - 1
+    # As numbers without a sign those below 0 are the greatest.
+    if lowered.size and lowered.view(numpy.uint64).max() >= count:
+        raise ValueError(f"a node is not from 1 to {count:,}")
+    return lowered.astype(numpy.uint32, order="C")
+
+
+def close(call, block, owner):
+    """Closes what is open. In a process that was forked from its owner it is left alone."""
+    if os.getpid() == owner:
+        call(ctypes.byref(block))
+
+
+class Handle:
+    """A network in this process, and room for one question at a time: calls of several threads wait for one another.
+
+    It is closed by `close`, and when it is no longer used. It isn't copied, and it doesn't go to another process.
+    """
+
+    def __init__(self, calls):
+        self.calls, self.block, self.lock = calls, Block(), threading.RLock()
+        self.at, self.room = ctypes.byref(self.block), ROOM
+        # What is opened from here on is closed, whatever breaks this off. At the end of the interpreter threads may still be in a call.
+        weakref.finalize(self, close, calls.chtab_close, self.block, os.getpid()).atexit = False
+
+    def __reduce__(self):
+        raise TypeError("a handle is neither copied nor pickled")
+
+    def open(self, graph, saved=None):
+        """Opens the network of a graph and its saved hierarchy, the bytes of both files. Without `saved` the library builds a hierarchy by depth.
+
+        What is wrong with the files is a `ProgramFault`.
+        """
+        if type(graph) is not bytes or saved is not None and type(saved) is not bytes:
+            raise TypeError("files are bytes")
+        # The library builds a hierarchy if it gets no bytes. A file without bytes is a fault, so the library gets an empty line in its place.
+        given, fault = b"" if saved is None else saved or b"\n", Fault()
+        with self.lock:
+            status = self.calls.chtab_open(self.at, graph, len(graph), given, len(given), ctypes.byref(fault))
+        if status == BAD_SAVED and not saved:
+            fault.line = 1
+        if status:
+            raise fault_of(status, fault)
+
+    def share(self):
+        """Another handle in the same network, for another thread."""
+        other = Handle(self.calls)
+        with self.lock:
+            status = self.calls.chtab_share(self.at, other.at)
+        see_that_done(status)
+        return other
+
+    def close(self):
+        """Closes the handle, once the call that is under way has ended. Then each further call is refused."""
+        with self.lock:
+            self.calls.chtab_close(self.at)
+
+    def nodes(self):
+        """How many nodes the network has."""
+        count = ctypes.c_uint32()
+        with self.lock:
+            see_that_done(self.calls.chtab_nodes(self.at, ctypes.byref(count)))
+        return count.value
+
+    def save(self):
+        """The hierarchy, the bytes that `chtab save` writes for it."""
+        size, text = ctypes.c_uint64(), numpy.empty(0, numpy.uint8)
+        with self.lock:
+            status = self.write_text(size, text)
+            if status == TOO_SHORT:
+                text = numpy.empty(size.value, numpy.uint8)
+                status = self.write_text(size, text)
+        see_that_done(status)
+        return text.tobytes()
+
+    def write_text(self, size, text):
+        return self.calls.chtab_save(self.at, ctypes.byref(size), address(text, numpy.uint8, True), len(text))
+
+    def distances(self, sources, targets):
+        """The distances from each source to the target beside it, columns of uint32, nodes from 0 on: int64, -1 where there is no walk."""
+        out = numpy.empty(len(sources), numpy.int64)
+        places = address(sources, numpy.uint32), address(targets, numpy.uint32), address(out, numpy.int64, True)
+        with self.lock:
+            status = self.calls.chtab_distances(self.at, places[0], len(sources), places[1], len(targets), places[2], len(out))
+        see_that_done(status)
+        return out
+
+    def table(self, sources, targets, limit=NO_LIMIT):
+        """The distances from each source to each target (k, l), -1 where there is no walk, or none of at most `limit`."""
+        if not 0 <= limit <= NO_LIMIT:
+            raise ValueError("a limit is a number of 64 bits")
+        out = numpy.empty(len(sources) * len(targets), numpy.int64)
+        places = address(sources, numpy.uint32), address(targets, numpy.uint32), address(out, numpy.int64, True)
+        with self.lock:
+            status = self.calls.chtab_table(self.at, places[0], len(sources), places[1], len(targets), limit, places[2], len(out))
+        see_that_done(status)
+        return out.reshape(len(sources), len(targets))
+
+    def route(self, source, target):
+        """The weight of a route between two nodes, from 0 on, and its nodes, uint32; -1 and no nodes where there is no walk."""
+        if not (0 <= source < 2**32 and 0 <= target < 2**32):
+            raise ValueError("a node is a number of 32 bits")
+        # What is written to is this call's own, because the handler of a signal may ask before it is read.
+        found, nodes = Found(), numpy.empty(self.room, numpy.uint32)
+        with self.lock:
+            status = self.find(source, target, found, nodes)
+            if status == TOO_SHORT:
+                self.room = max(found.nodes, 2 * self.room)
+                nodes = numpy.empty(self.room, numpy.uint32)
+                status = self.find(source, target, found, nodes)
+        see_that_done(status)
+        return -1 if found.weight == NO_DISTANCE else found.weight, nodes[:found.nodes].copy()
+
+    def find(self, source, target, found, nodes):
+        """Writes the route, where there is room for its nodes."""
+        at = address(nodes, numpy.uint32, True)
+        return self.calls.chtab_route(self.at, source, target, ctypes.byref(found), at, len(nodes))
+
+    def keep_places(self, places, limit=NO_LIMIT, count=ALL, is_from=False):
+        """Searches from places, a column of uint32, nodes from 0 on, and keeps what is found in place of what was kept: for rows of at most
+        `count` of them, of at most `limit`, by the distances to the places or from them."""
+        if not (0 <= limit <= NO_LIMIT and 0 <= count <= ALL):
+            raise ValueError("a limit is a number of 64 bits, and a count one of 32")
+        at = address(places, numpy.uint32)
+        with self.lock:
+            status = self.calls.chtab_near_places(self.at, int(is_from), at, len(places), limit, count)
+        see_that_done(status)
+
+    def sweep(self):
+        """Makes the rows of all nodes to the kept places, and keeps them with these."""
+        with self.lock:
+            status = self.calls.chtab_near_sweep(self.at)
+        see_that_done(status)
+
+    def near_rows(self, sources, pairs):
+        """The rows of the first sources, a column of uint32, nodes from 0 on, to the kept places: of as many sources as there is room for with so
+        many pairs. Where each row ends, its weights and its places, int64."""
+        rows, ends = ctypes.c_uint64(), numpy.empty(len(sources), numpy.int64)
+        weights, places = numpy.empty(pairs, numpy.int64), numpy.empty(pairs, numpy.uint32)
+        given = [address(sources, numpy.uint32), len(sources), ctypes.byref(rows)]
+        for array, kind in (ends, numpy.int64), (weights, numpy.int64), (places, numpy.uint32):
+            given += [address(array, kind, True), len(array)]
+        with self.lock:
+            status = self.calls.chtab_near_rows(self.at, *given)
+        see_that_done(OK if status == TOO_SHORT else status)
+        ends = ends[:rows.value]
+        end = ends[-1] if len(ends) else 0
+        return ends, weights[:end], places[:end].astype(numpy.int64)
+
+
+def see_that_done(status):
+    """Tells why a call did nothing."""
+    if status == CLOSED:
+        raise ChtabError(GONE)
+    if status == NO_MEMORY:
+        raise ProgramFault("chtab: out of memory", 3)
+    if status == NODE_RANGE:
+        raise ValueError("a node is not one of the network")
+    if status == LENGTHS:
+        raise ValueError("the lengths of columns don't fit")
+    if status == TOO_LARGE:
+        raise ValueError("a table has at most 65,536 sources and as many targets, and so many places are kept")
+    if status == NO_PLACES:
+        raise ValueError("no places are kept")
+    if status:
+        raise ProgramFault(f"chtab's library answered {status}", 0)
+
+
+def fault_of(status, fault):
+    """The fault of files that are not opened, in the words of the program."""
+    kind = KINDS[fault.kind] if fault.kind < len(KINDS) else str(fault.kind)
+    if status not in (BAD_GRAPH, BAD_SAVED, WRONG_SAVED):
+        see_that_done(status)
+    if status == WRONG_SAVED:
+        return ProgramFault(f"chtab: saved hierarchy refused: {kind}", 1, kind=kind, place=fault.place)
+    which = "graph" if status == BAD_GRAPH else "saved"
+    return ProgramFault(f"chtab: {which} line {fault.line}: {kind}", 1, line=fault.line, kind=kind)

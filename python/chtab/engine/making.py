@@ -1,0 +1,96 @@
+"""The files of a network that is made of arcs: its graph, and its hierarchy, which is built once and saved."""
+import array
+import contextlib
+import hashlib
+import os
+import secrets
+import shutil
+import subprocess
+import tempfile
+import weakref
+
+import numpy
+
+from chtab import files
+from chtab.engine.child import fault_of
+from chtab.errors import FileFault
+
+# The files of a network in its folder.
+GRAPH, SAVED, COORDINATES, LABELS = "network.gr", "network.ch", "network.co", "network.json"
+
+
+class Folder:
+    """A folder of files that goes with what keeps it: it is removed by `remove`, when it is no longer used, and at the end of the
+    interpreter. A process that was forked leaves it alone."""
+
+    def __init__(self):
+        self.path = tempfile.mkdtemp(prefix="chtab-")
+        self.remove = weakref.finalize(self, remove_in, os.getpid(), self.path)
+
+
+def remove_in(owner, path):
+    """Removes a folder in the process that made it."""
+    if os.getpid() == owner:
+        shutil.rmtree(path, ignore_errors=True)
+
+
+@contextlib.contextmanager
+def begun(folder):
+    """A folder beside the one that is wanted, which takes its name when all was written without a fault, and else is gone."""
+    folder = os.path.realpath(folder)
+    see_that_free(folder)
+    part = f"{folder}.part-{secrets.token_hex(8)}"
+    os.mkdir(part)
+    try:
+        yield part
+        see_that_free(folder)
+        os.rename(part, folder)
+    finally:
+        shutil.rmtree(part, ignore_errors=True)
+
+
+def see_that_free(folder):
+    if os.path.lexists(folder) and not (os.path.isdir(folder) and not os.listdir(folder)):
+        raise FileExistsError(f"{folder} is there and is not empty; Network.open opens the network of a folder")
+
+
+def write(arcs, folder, program, workers):
+    """Writes the files of arcs into a folder, and builds their hierarchy."""
+    graph, saved, coordinates, labels = (os.path.join(folder, name) for name in (GRAPH, SAVED, COORDINATES, LABELS))
+    comments = [] if arcs.scale is None else [files.scale_comment(arcs.scale)]
+    files.write_graph_columns(graph, len(arcs.labels.values), (arcs.tails, arcs.heads, arcs.weights), comments)
+    if arcs.places is not None:
+        files.write_coordinate_columns(coordinates, [numpy.rint(part * 1e6).astype(numpy.int64) for part in arcs.places])
+    files.write_labels(labels, files.Labelling(arcs.labels.values.tolist(), arcs.scale, arcs.rounding, digest_of(graph)))
+    save(program, graph, saved, workers)
+
+
+def digest_of(path):
+    """The SHA-256 of a file. It tells whether labels are those of a graph."""
+    with open(path, "rb") as file:
+        return hashlib.file_digest(file, "sha256").hexdigest()
+
+
+def save(program, graph, saved, workers):
+    """Builds the hierarchy of a graph, and saves it. A fault of the program is a `ProgramFault`."""
+    command = [program, "save", "--deep", "--workers", str(workers), graph]
+    with open(saved, "wb") as out:
+        done = subprocess.run(command, stdin=subprocess.DEVNULL, stdout=out, stderr=subprocess.PIPE)
+    if done.returncode:
+        raise fault_of(done.stderr, done.returncode)
+
+
+def layers_of(arcs):
+    """What the files of arcs hold, as the layers of a network have it: its labels, and the places of its nodes."""
+    layers = {"labels": arcs.labels, "labelling": files.Labelling(arcs.labels.values, arcs.scale, arcs.rounding, "")}
+    if arcs.places is not None:
+        layers["coordinates"] = files.Coordinates(*(array.array("d", (numpy.rint(part * 1e6) / 1e6).tobytes()) for part in arcs.places), [])
+    return layers
+
+
+def read_labelling(path, graph):
+    """What `network.labels` and its neighbours answer by: the labels, and the file's other entries. They have to be those of the graph."""
+    found = files.read_labels(path)
+    if len(found.labels) != files.count_nodes(graph) or found.graph != digest_of(graph):
+        raise FileFault(f"{path}: not the labels of {graph}")
+    return found

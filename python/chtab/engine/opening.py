@@ -1,0 +1,83 @@
+"""What a network is opened by: the files, and how the program runs. Another process opens it anew by the same."""
+import os
+from dataclasses import dataclass
+
+from chtab.engine import asking, making
+from chtab.engine.child import see_to
+from chtab.engine.choosing import AUTO
+from chtab.engine.program import program_of
+from chtab.engine.stamps import stamp_of
+
+
+@dataclass(frozen=True)
+class Running:
+    """How the program runs for a network: `Network.open` has the meaning of each."""
+
+    program: str | None = None
+    workers: int = 1
+    timeout: float | None = None
+    load: bool = True
+    routes: bool = False
+    runs: int = 1
+    library: object = AUTO
+
+    def __post_init__(self):
+        if self.runs < 1:
+            raise ValueError("there is at least one run")
+        # No other value is one of these, though 1 and `numpy.True_` are equal to True.
+        if not isinstance(self.library, bool) and self.library != AUTO:
+            object.__setattr__(self, "library", os.path.abspath(self.library))
+
+    def setting(self, graph, saved):
+        """The same for an engine, of these files."""
+        return asking.Setting(program_of(self.program), graph, saved, self.workers, self.timeout, self.runs)
+
+
+@dataclass(frozen=True)
+class Opening:
+    """The files of a network, and its runs."""
+
+    setting: asking.Setting
+    coordinates: str | None = None
+    bends: str | None = None
+    labelling: str | None = None
+    # What tells the graph from another one: a network of another one at its place is another network.
+    stamp: tuple | None = None
+    # Whether the library for C answers: `Network.open` has the meaning.
+    library: object = AUTO
+
+
+def opening_of(graph, saved, coordinates, bends, running):
+    """The opening of files, each of which can be read, or of a folder."""
+    if os.path.isdir(graph):
+        return of_folder(os.path.abspath(graph), running, saved, coordinates, bends)
+    graph, saved, coordinates, bends = (None if path is None else os.path.abspath(path) for path in (graph, saved, coordinates, bends))
+    for path in filter(None, (graph, saved, coordinates, bends)):
+        open(path, "rb").close()
+    return Opening(running.setting(graph, saved), coordinates, bends, stamp=stamp_of(graph), library=running.library)
+
+
+def of_folder(folder, running, saved=None, coordinates=None, bends=None):
+    """The opening of a network that was made in a folder, with other files than those of the folder where they are given."""
+    graph, own, labelling = (os.path.join(folder, name) for name in (making.GRAPH, making.SAVED, making.LABELS))
+    saved, coordinates, bends = (None if path is None else os.path.abspath(path) for path in (saved or own, coordinates, bends))
+    for path in filter(None, (graph, saved, labelling, coordinates, bends)):
+        open(path, "rb").close()
+    return Opening(running.setting(graph, saved), coordinates, bends, labelling, stamp_of(graph), running.library)
+
+
+def made(arcs, folder, running):
+    """The opening of arcs, whose files are written; and the temporary folder that keeps them, None where the caller names one."""
+    program = program_of(running.program)
+    see_to(program)
+    if folder is not None:
+        with making.begun(folder) as part:
+            making.write(arcs, part, program, running.workers)
+        return of_folder(os.path.realpath(folder), running), None
+    kept = making.Folder()
+    try:
+        making.write(arcs, kept.path, program, running.workers)
+    except BaseException:
+        kept.remove()
+        raise
+    return of_folder(kept.path, running), kept

@@ -1,0 +1,54 @@
+"""Where the program chtab is found."""
+import os
+import pathlib
+import shutil
+import sys
+
+from chtab.errors import ChtabError
+
+# The package, and the folder that it stands in: `python` of a checkout or of what `install` put there, or a folder of Python's packages.
+PACKAGE = pathlib.Path(__file__).parent.parent
+ABOVE = PACKAGE.resolve().parent
+LACKING = "the program chtab is neither beside this package nor beside the script that runs nor on the path; " \
+    "name it: `--program FILE` for a command, `program=` from Python"
+
+
+def program_of(path=None):
+    """The path of the program.
+
+    It is looked for in this order: the one that was named; that of the checkout or of the installation that the package stands in; the one
+    that was installed along with the package, by pip or by Debian; the one beside the script that runs; `chtab` on the path.
+
+    Parameters
+    ----------
+    path : str or path, optional
+        The program, where the caller names it.
+
+    Raises
+    ------
+    ChtabError
+        There is none.
+    """
+    if path is not None:
+        return os.path.abspath(path)
+    for found in candidates():
+        if found.is_file() and os.access(found, os.X_OK):
+            return str(found)
+    found = shutil.which("chtab")
+    if found is None:
+        raise ChtabError(LACKING)
+    return os.path.abspath(found)
+
+
+def candidates():
+    """The files that may be the program, in the order in which they are taken."""
+    root = ABOVE.parent
+    if (root / "crates.txt").exists() or (root / "program").exists():
+        yield root / "chtab"
+    yield PACKAGE / "bin" / "chtab"
+    yield root.parent / "chtab" / "chtab"
+    if os.path.isfile(sys.argv[0]):
+        script = pathlib.Path(os.path.abspath(sys.argv[0]))
+        for folder in script.parent, script.resolve().parent:
+            yield folder / "chtab"
+            yield folder.parent / "lib" / "chtab" / "chtab"

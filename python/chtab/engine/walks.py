@@ -1,0 +1,106 @@
+"""Routes of many queries in flat arrays, for callers that need sums over their arcs and not each route by itself."""
+from dataclasses import dataclass
+
+import numpy
+
+from chtab.engine import answers
+from chtab.errors import unasked
+
+# The letters that lines of the program begin with.
+DISTANCE, ROUTE, ARC = b"dra"
+
+
+@dataclass(frozen=True)
+class Walks:
+    """Walks of a graph. Walk k weighs `weights[k]`, -1 where there is none. Its arcs are those from `firsts[k]` to before `firsts[k + 1]` of
+    the columns `tails`, `heads` and `arc_weights`."""
+
+    weights: numpy.ndarray
+    firsts: numpy.ndarray
+    tails: numpy.ndarray
+    heads: numpy.ndarray
+    arc_weights: numpy.ndarray
+
+    def __len__(self):
+        return len(self.weights)
+
+    def counts(self):
+        """How many arcs each has."""
+        return numpy.diff(self.firsts)
+
+    def sums(self, column):
+        """For each walk the sum of what a column has for its arcs."""
+        return numpy.diff(numpy.append(0, numpy.cumsum(column))[self.firsts])
+
+    def chosen(self, which):
+        """Some of them, by an array of their numbers."""
+        counts = self.counts()[which]
+        arcs = ranges(self.firsts[which], counts)
+        firsts = numpy.append(0, numpy.cumsum(counts))
+        return Walks(self.weights[which], firsts, self.tails[arcs], self.heads[arcs], self.arc_weights[arcs])
+
+
+def together(parts):
+    """The walks of several lists, one after the other."""
+    firsts = numpy.append(0, numpy.cumsum(numpy.concatenate([part.counts() for part in parts])))
+    columns = ([getattr(part, name) for part in parts] for name in ("tails", "heads", "arc_weights"))
+    return Walks(numpy.concatenate([part.weights for part in parts]), firsts, *map(numpy.concatenate, columns))
+
+
+class WalkQuestion(answers.Question):
+    """Asks a run that tells routes for those of pairs of nodes, an array (n, 2) of int64. The value is the walks."""
+
+    def __init__(self, pairs):
+        super().__init__(answers.query_lines(pairs.tolist()), b"d", len(pairs))
+        self.pairs = pairs
+
+    def value_of(self, text):
+        if not answers.ROUTES.fullmatch(text):
+            raise unasked()
+        return matched(read(text), self.pairs)
+
+
+def read(text):
+    """The queries (n, 2) that a text of the right lines answers, and their walks. A route has to have as many arcs as it says."""
+    kinds = numpy.frombuffer(text.translate(None, b"0123456789 -\n"), numpy.uint8)
+    words = answers.numbers(text, 1)[:, 0]
+    counts = numpy.where(kinds == ROUTE, 1, 3)
+    if counts.sum() != len(words):
+        raise unasked()
+    firsts = numpy.cumsum(counts) - counts
+    begun = numpy.flatnonzero(kinds == DISTANCE)
+    sources, targets, weights = (words[firsts[begun] + place] for place in range(3))
+    told = numpy.zeros(len(begun), numpy.int64)
+    told[weights >= 0] = words[firsts[kinds == ROUTE]]
+    if (numpy.diff(numpy.append(begun, len(kinds))) - 1 - (weights >= 0) != told).any():
+        raise unasked()
+    arcs = firsts[kinds == ARC]
+    walks = Walks(weights, numpy.append(0, numpy.cumsum(told)), *(words[arcs + place] for place in range(3)))
+    return numpy.column_stack([sources, targets]), walks
+
+
+def matched(found, pairs):
+    """The walks, where they are those of these pairs: each leads from its source to its target over arcs that weigh what it says."""
+    queries, walks = found
+    if queries.shape != pairs.shape or (queries != pairs).any():
+        raise unasked()
+    is_there, counts = walks.weights >= 0, walks.counts()
+    has_arcs = counts > 0
+    begins, stops = walks.firsts[:-1][has_arcs], walks.firsts[1:][has_arcs] - 1
+    follows = numpy.ones(len(walks.tails), bool)
+    follows[begins] = False
+    goes_on = walks.tails[1:] == walks.heads[:-1]
+    is_right = (
+        (goes_on | ~follows[1:]).all() and (walks.tails[begins] == pairs[has_arcs, 0]).all()
+        and (walks.heads[stops] == pairs[has_arcs, 1]).all() and (pairs[is_there & ~has_arcs, 0] == pairs[is_there & ~has_arcs, 1]).all()
+        and (walks.sums(walks.arc_weights)[is_there] == walks.weights[is_there]).all()
+    )
+    if not is_right:
+        raise unasked()
+    return walks
+
+
+def ranges(firsts, counts):
+    """The numbers from each of the firsts on, so many of each, in one array."""
+    ends = numpy.cumsum(counts)
+    return numpy.arange(ends[-1] if len(ends) else 0) + numpy.repeat(firsts - (ends - counts), counts)

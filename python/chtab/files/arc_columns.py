@@ -1,0 +1,131 @@
+"""Arcs of columns: labels at both ends and weights become the arcs of a graph. Whatever the program would refuse is refused here."""
+import math
+import numbers
+from dataclasses import dataclass
+
+import numpy
+
+from chtab.errors import DataFault
+from chtab.files import columns
+from chtab.files.columns import refused, told
+from chtab.files.node_labels import Labels, labels_of_ends, labels_of_nodes
+
+# The limits of a graph: nodes, arcs, and nodes times weight.
+MOST_NODES, MOST_ARCS, MOST_WEIGHT = 2**25, 2**27, 2**60
+NAMES = "sources", "targets", "weights"
+
+
+@dataclass(frozen=True)
+class Columns:
+    """What a network is made of, as callers give it: `Network.from_arrays` has the meaning of each. `names` are those of the first three."""
+
+    sources: object
+    targets: object
+    weights: object
+    nodes: object = None
+    x: object = None
+    y: object = None
+    scale: float | None = None
+    both_ways: bool = False
+    names: tuple = NAMES
+
+
+@dataclass(frozen=True)
+class Arcs:
+    """The arcs of a graph: arc k leads from node `tails[k]` to node `heads[k]` and weighs `weights[k]`, all int64.
+
+    `rounding` is the largest difference of a weight from that of the caller times `scale`. `places` are the longitudes and latitudes of the
+    nodes in degrees, or None.
+    """
+
+    labels: Labels
+    tails: numpy.ndarray
+    heads: numpy.ndarray
+    weights: numpy.ndarray
+    scale: float | None
+    rounding: float
+    places: tuple | None
+
+
+def arcs_of(given):
+    """The arcs of columns. Whatever the program would refuse is refused here, with its row."""
+    source_name, target_name, weight_name = given.names
+    sources, targets = (columns.labels_in(name, column) for name, column in zip(given.names, (given.sources, given.targets)))
+    for name, column in zip(given.names, (sources, targets)):
+        columns.see_that_flat(name, column)
+    weights = columns.numbers_in(weight_name, given.weights)
+    columns.see_that_long([source_name, target_name, weight_name], [sources, targets, weights])
+    labels, (tails, heads) = nodes_of(given, sources, targets)
+    see_that_in_limits(len(labels.values), len(sources) * (2 if given.both_ways else 1))
+    scale = scale_in(given.scale)
+    weights, rounding = whole_weights(weight_name, weights, scale, MOST_WEIGHT // len(labels.values))
+    if given.both_ways:
+        tails, heads, weights = numpy.concatenate([tails, heads]), numpy.concatenate([heads, tails]), numpy.tile(weights, 2)
+    return Arcs(labels, tails, heads, weights, scale, rounding, places_in(given, len(labels.values)))
+
+
+def nodes_of(given, sources, targets):
+    """The labels of all nodes, and the nodes of both columns of labels."""
+    if given.nodes is None:
+        return labels_of_ends(given.names, sources, targets)
+    labels = labels_of_nodes("nodes", given.nodes)
+    return labels, [labels.nodes_of(name, column) for name, column in zip(given.names, (sources, targets))]
+
+
+def see_that_in_limits(nodes, arcs):
+    if not nodes:
+        raise DataFault("there is no node: a network has at least one", "nodes")
+    if nodes > MOST_NODES or arcs > MOST_ARCS:
+        raise DataFault(f"{nodes:,} nodes and {arcs:,} arcs: a graph has at most {MOST_NODES:,} nodes and {MOST_ARCS:,} arcs", "nodes")
+
+
+def scale_in(scale):
+    """A scale: a whole number, a float, or None."""
+    if scale is None:
+        return None
+    if isinstance(scale, bool) or not isinstance(scale, numbers.Real) or not (math.isfinite(scale) and scale > 0):
+        raise DataFault(f"scale is a number above 0, not {told(scale)}", "scale")
+    return int(scale) if int(scale) == scale else float(scale)
+
+
+def whole_weights(name, weights, scale, most):
+    """The weights of a graph, int64, none above `most`; and the largest difference of one of them from what was given times the scale."""
+    see_that_weights(name, weights)
+    if weights.dtype == numpy.int64 and isinstance(scale, int | None):
+        factor = 1 if scale is None else scale
+        see_that_small(name, weights, weights <= most // factor)
+        return weights * min(factor, most), 0.0
+    scaled = weights.astype(numpy.longdouble) * numpy.longdouble(1 if scale is None else scale)
+    whole = numpy.rint(scaled)
+    see_that_small(name, weights, whole <= most)
+    apart = abs(whole - scaled)
+    place = columns.first_of(apart > 0) if scale is None else None
+    if place is not None:
+        raise refused(name, place, f"{weights[place]} is not a whole number; `scale` multiplies weights and rounds them")
+    return whole.astype(numpy.int64), float(apart.max(initial=0))
+
+
+def see_that_weights(name, weights):
+    """Refuses the first weight that is below 0, or no finite number."""
+    place = columns.first_of(~((weights >= 0) & (weights < numpy.inf)))
+    if place is not None:
+        raise refused(name, place, f"{weights[place]} is {'below 0' if -numpy.inf < weights[place] < 0 else 'no weight'}")
+
+
+def see_that_small(name, weights, is_small):
+    """Refuses the first weight that is not small enough."""
+    place = columns.first_of(~is_small)
+    if place is not None:
+        raise refused(name, place, f"{weights[place]} is too large: as in the graph, times the number of nodes, it is more than 2^60")
+
+
+def places_in(given, count):
+    """Longitudes and latitudes of so many nodes, or None where the caller gives none."""
+    if given.x is None and given.y is None:
+        return None
+    for name in ("nodes", "x", "y"):
+        if getattr(given, name) is None:
+            raise DataFault(f"{name} is not given: `nodes`, `x` and `y` go together", name)
+    x, y = columns.degrees_in("x", given.x, 180), columns.degrees_in("y", given.y, 90)
+    columns.see_that_long(["nodes", "x", "y"], [range(count), x, y])
+    return x, y

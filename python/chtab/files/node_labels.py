@@ -1,0 +1,152 @@
+"""What the nodes of a network are called. The program numbers nodes from 1 on; callers have labels of their own, integers or strings."""
+import collections
+import itertools
+
+import numpy
+
+from chtab.errors import DataFault
+from chtab.files import columns
+from chtab.files.columns import INTEGERS, STRINGS, row_of, told
+
+
+def fixed(values):
+    """An array that can't be written to."""
+    values.flags.writeable = False
+    return values
+
+
+class Numbers:
+    """Nodes that are called by their numbers, from 1 to `count`: those of a network of files."""
+
+    def __init__(self, count):
+        self.count, self.known = count, None
+
+    @property
+    def values(self):
+        """The labels, in order of the nodes."""
+        if self.known is None:
+            self.known = fixed(numpy.arange(1, self.count + 1))
+        return self.known
+
+    def nodes_of(self, name, given):
+        """The nodes of an array of numbers, of any shape. Any other number is refused; whole decimal numbers are not."""
+        if isinstance(given, numpy.ma.MaskedArray):
+            given = columns.array_of(name, given)
+        column = numpy.asarray(given)
+        if column.size and not (column.dtype.kind in "iu" or column.dtype.kind == "f" and is_whole(column)):
+            raise ValueError("a node is a whole number")
+        outside = column[(column < 1) | (column > self.count)]
+        if outside.size:
+            raise ValueError(f"node {outside.flat[0]:.17g} is not from 1 to {self.count:,}")
+        return column.astype(numpy.int64)
+
+    def of(self, nodes):
+        """The labels of an array of nodes."""
+        return nodes
+
+    def listed(self, nodes):
+        """The labels of a list of nodes, as a list."""
+        return nodes
+
+
+def is_whole(column):
+    """Whether all numbers of a column of decimal numbers are whole."""
+    return bool(numpy.isfinite(column).all() and (column == numpy.floor(column)).all())
+
+
+class Labels:
+    """Labels that a caller gave: node k has `values[k - 1]`, int64, or objects that are all `int` or all `str`. No two are equal.
+
+    What they are looked up by is made when it is first needed, by two threads twice: a lock that one of them held would hold for ever in a
+    process that is forked meanwhile.
+    """
+
+    def __init__(self, values):
+        self.values, self.in_order, self.by_label = fixed(values.copy()), None, None
+        self.kind = STRINGS if len(values) and isinstance(values[0], str) else INTEGERS
+
+    @property
+    def sorted(self):
+        """The labels in order, and the node of each: of integers of 64 bits."""
+        if self.in_order is None:
+            order = numpy.argsort(self.values, kind="stable")
+            self.in_order = self.values[order], order + 1
+        return self.in_order
+
+    @property
+    def numbers(self):
+        """The node of each label, of other labels."""
+        if self.by_label is None:
+            self.by_label = dict(zip(self.values.tolist(), range(1, len(self.values) + 1)))
+        return self.by_label
+
+    def nodes_of(self, name, given):
+        """The nodes of labels, an array of int64 in the shape of what is given. A label that no node has is a `DataFault`."""
+        labels = columns.labels_in(name, given)
+        nodes = self.found(labels)
+        place = columns.first_of(nodes == 0)
+        if place is not None:
+            row, label = row_of(labels, place), labels.reshape(-1)[place:place + 1].tolist()[0]
+            raise DataFault(f"{name}[{row}]: no node has the label {told(label)}; labels are {self.kind}", name, row)
+        return nodes
+
+    def found(self, labels):
+        """The nodes of labels, 0 where there is none."""
+        if self.values.dtype == object or labels.dtype == object:
+            found = map(self.numbers.get, labels.reshape(-1).tolist(), [0] * labels.size)
+            return numpy.fromiter(found, numpy.int64, labels.size).reshape(labels.shape)
+        values, nodes = self.sorted
+        if not len(values):
+            return numpy.zeros(labels.shape, numpy.int64)
+        place = numpy.minimum(numpy.searchsorted(values, labels), len(values) - 1)
+        return numpy.where(values[place] == labels, nodes[place], 0)
+
+    def of(self, nodes):
+        """The labels of an array of nodes."""
+        return self.values[nodes - 1]
+
+    def listed(self, nodes):
+        """The labels of a list of nodes, as a list."""
+        return self.values[numpy.array(nodes, numpy.int64) - 1].tolist()
+
+
+def labels_of_nodes(name, column):
+    """The labels of a column of nodes, which have to differ."""
+    values = columns.labels_in(name, column)
+    columns.see_that_flat(name, values)
+    count = len(set(values.tolist()) if values.dtype == object else numpy.unique(values))
+    if count < len(values):
+        raise doubled(name, values.tolist())
+    return Labels(values)
+
+
+def doubled(name, labels):
+    """The fault of a column in which a label stands again."""
+    known = {}
+    for row, label in enumerate(labels):
+        if known.setdefault(label, row) != row:
+            return columns.refused(name, row, f"the label {told(label)} stands in row {known[label]} already")
+    raise AssertionError("no label stands again")
+
+
+def labels_of_ends(names, sources, targets):
+    """The labels that stand in either of two columns, in ascending order; and the nodes of both columns, int64 (2, m)."""
+    kinds = [columns.kind_of(type(values[:1].tolist()[0])) for values in (sources, targets) if len(values)]
+    if len(set(kinds)) > 1:
+        raise columns.refused(names[1], 0, f"the label {told(targets[:1].tolist()[0])} is not one of {kinds[0]}, as those of {names[0]}")
+    if sources.dtype == targets.dtype == numpy.int64:
+        values, places = numpy.unique(numpy.concatenate([sources, targets]), return_inverse=True)
+    else:
+        values, places = ordered([*sources.tolist(), *targets.tolist()])
+    return Labels(values), places.reshape(2, -1) + 1
+
+
+def ordered(labels):
+    """The labels of a list in ascending order, each once, as an array of objects; and the place of each of the list among them."""
+    numbers = collections.defaultdict(itertools.count().__next__)
+    found = numpy.fromiter(map(numbers.__getitem__, labels), numpy.int64, len(labels))
+    known = list(numbers)
+    order = numpy.array(sorted(range(len(known)), key=known.__getitem__), numpy.int64)
+    places = numpy.empty(len(known), numpy.int64)
+    places[order] = numpy.arange(len(known))
+    return columns.objects_like(places, known)[order], places[found]

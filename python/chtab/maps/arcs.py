@@ -1,0 +1,160 @@
+"""Roads as arcs between nodes.
+
+A node is where roads meet or end, or each bend of a road; an arc is a road between two of them, in one direction. At a node that no
+way leads through (a barrier) each road that comes to it has an end of its own, and so has each road where the map ends.
+"""
+import collections
+import itertools
+import math
+from math import asin, cos, radians, sin, sqrt
+
+from chtab.roads.sphere import RADIUS
+
+HALF_DEGREE, DEGREE = radians(0.5), 2 * radians(0.5)
+QUARTER_TURN = math.pi / 2
+DIAMETER = 2 * RADIUS
+
+
+class Network:
+    """Nodes and arcs, both numbered from 0 in the order in which they came.
+
+    Node k stands for the map's node `names[k]`, at `places[k]`, and there may be several for one. Arc k leads from `tails[k]` to
+    `heads[k]`, weighs `weights[k]` and is one direction of piece `pieces[k]`, which lies on way `ways[pieces[k]]`. `bends` has the
+    places between the ends of each arc, or is None where nobody asked for them, and so `streets` the number of the street of each, None of an
+    arc that has none. `ends` has, for nodes at which turns are restricted,
+    the node where trips to it end, {end: node}, and `copies` the other nodes that stand for it: {copy: node}.
+    """
+
+    def __init__(self, with_bends=False, with_names=False):
+        self.names, self.places, self.tails, self.heads, self.weights, self.pieces, self.ways = ([] for _ in range(7))
+        self.bends = [] if with_bends else None
+        self.streets = [] if with_names else None
+        self.ends, self.copies = {}, {}
+
+    def add_node(self, name, place):
+        self.names.append(name)
+        self.places.append(place)
+        return len(self.names) - 1
+
+    def add_copy(self, node):
+        """One more node for the map's node of this one."""
+        return self.add_node(self.names[node], self.places[node])
+
+    def add_arc(self, tail, head, weight, piece, bends, street=None):
+        self.tails.append(tail)
+        self.heads.append(head)
+        self.weights.append(weight)
+        self.pieces.append(piece)
+        if self.bends is not None:
+            self.bends.append(bends)
+        if self.streets is not None:
+            self.streets.append(street)
+
+    def add_piece(self, tail, head, weights, road, bends):
+        """The arcs of a road between two nodes of it: along it, then against it, each where it has a weight."""
+        piece, (along, against), streets = len(self.ways), weights, road.streets or (None, None)
+        self.ways.append(road.number)
+        if along is not None:
+            self.add_arc(tail, head, along, piece, bends, streets[0])
+        if against is not None:
+            self.add_arc(head, tail, against, piece, bends and bends[::-1], streets[1])
+
+    def way_of(self, arc):
+        """The map's number of the way on which an arc lies."""
+        return self.ways[self.pieces[arc]]
+
+
+def crossings(survey):
+    """The nodes at which roads meet or end: those that come up twice, and the two ends of each road."""
+    uses = collections.Counter(survey.nodes())
+    ends = itertools.chain.from_iterable((road.nodes[0], road.nodes[-1]) for road in survey.roads)
+    return {node for node, count in uses.items() if count > 1}.union(ends)
+
+
+class Builder:
+    """Makes a network of a survey's roads. `cuts` are the nodes between arcs (None: all nodes), `closed` those with a barrier."""
+
+    def __init__(self, survey, cuts, closed, in_metres=False, with_bends=False):
+        self.report, self.cuts, self.closed, self.in_metres = survey.report, cuts, closed, in_metres
+        self.network = Network(with_bends, survey.streets is not None)
+        self.nodes = {}
+        self.missing = set()
+
+    def node_at(self, number, longitude, latitude):
+        """The network's node where a piece of road begins or ends: at a barrier always a new one."""
+        node = self.nodes.get(number)
+        if node is None:
+            node = self.network.add_node(number, (longitude, latitude))
+            if number not in self.closed:
+                self.nodes[number] = node
+        return node
+
+    def runs(self, road):
+        """The longest runs of two or more nodes of a road that the map has: their numbers, longitudes and latitudes."""
+        nodes, longitudes, latitudes = columns = road.nodes.tolist(), road.longitudes.tolist(), road.latitudes.tolist()
+        if not math.isnan(sum(longitudes)):
+            return [columns]
+        is_missing = list(map(math.isnan, longitudes))
+        self.missing.update(itertools.compress(nodes, is_missing))
+        runs = (list(run) for is_gap, run in itertools.groupby(range(len(nodes)), is_missing.__getitem__) if not is_gap)
+        return [[column[run[0]:run[-1] + 1] for column in columns] for run in runs if len(run) > 1]
+
+    def add_road(self, road):
+        runs = self.runs(road)
+        for run in runs:
+            self.add_run(road, *run)
+        if not runs:
+            self.report.note("short", "", "way", road.number)
+
+    def add_run(self, road, nodes, longitudes, latitudes):
+        """The arcs of a run of nodes of a road; where it is the whole road, a ferry's duration holds."""
+        metres = metres_between(longitudes, latitudes)
+        forward, backward, seconds = road.rule
+        length = math.fsum(metres) if seconds and len(nodes) == len(road.nodes) else 0
+        if length:
+            forward, backward = (length * 3.6 / seconds if speed else 0 for speed in (forward, backward))
+        network = self.network
+        for start, end in itertools.pairwise(self.ends_of(nodes)):
+            tail = self.node_at(nodes[start], longitudes[start], latitudes[start])
+            head = self.node_at(nodes[end], longitudes[end], latitudes[end])
+            bends = None if network.bends is None else list(zip(longitudes[start + 1:end], latitudes[start + 1:end]))
+            length = math.fsum(metres[start:end])
+            along = self.weight(length, forward)
+            against = along if backward == forward else self.weight(length, backward)
+            network.add_piece(tail, head, (along, against), road, bends)
+
+    def ends_of(self, nodes):
+        """Where the pieces of a run of nodes begin and end."""
+        last = len(nodes) - 1
+        return range(last + 1) if self.cuts is None else [0, *[at for at in range(1, last) if nodes[at] in self.cuts], last]
+
+    def weight(self, metres, speed):
+        """Metres, or milliseconds at so many kilometres an hour: rounded once, and at least 1 where there is a length; None where it is
+        closed."""
+        if not speed:
+            return None
+        return (round(metres if self.in_metres else metres * 3600 / speed) or 1) if metres else 0
+
+
+def network_of(survey, closed, with_all_nodes, in_metres, with_bends, progress):
+    """The network of a survey's roads, which are counted, and the network's nodes by the map's numbers, barriers aside."""
+    cuts = None if with_all_nodes else crossings(survey) | closed
+    builder = Builder(survey, cuts, closed, in_metres, with_bends)
+    for road in progress.each(survey.roads):
+        builder.add_road(road)
+    for number in sorted(builder.missing):
+        survey.report.note("missing", "", "node", number)
+    return builder.network, builder.nodes
+
+
+def metres_between(longitudes, latitudes):
+    """The metres from each of the places, in degrees, to the next, by the haversine formula."""
+    found = []
+    x, y = longitudes[0], latitudes[0]
+    narrow = cos(DEGREE * y)
+    for u, v in zip(longitudes[1:], latitudes[1:]):
+        up, across, after = sin((v - y) * HALF_DEGREE), sin((u - x) * HALF_DEGREE), cos(DEGREE * v)
+        chord = sqrt(up * up + narrow * after * across * across)
+        found.append(DIAMETER * (asin(chord) if chord < 1 else QUARTER_TURN))
+        x, y, narrow = u, v, after
+    return found

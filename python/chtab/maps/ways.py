@@ -1,0 +1,176 @@
+"""Which ways of a map are roads for one way of travelling, how fast, and in which direction."""
+import array
+import collections
+import itertools
+import math
+import operator
+from typing import NamedTuple
+
+from chtab.maps import speeds, tags
+from chtab.maps.signs import Streets
+
+# The keys of which a way has at least one, where it may be a road or a ferry.
+ROAD_KEYS = ("highway", "route")
+# The place of a node that the map doesn't have.
+NOWHERE = (math.nan, math.nan)
+
+
+class Rule(NamedTuple):
+    """What the tags of a way make of it: kilometres an hour along it and against it, 0 where it is closed in that direction, and for
+    a ferry the seconds that it takes in all, 0 where nobody told them."""
+
+    forward: float
+    backward: float
+    seconds: int
+
+
+class Road(NamedTuple):
+    """A way that is a road: its number in the map, its rule, and of its nodes, in order, the numbers, longitudes and latitudes. A node that
+    the map doesn't have is at `NOWHERE`. `streets` are the numbers of its streets along it and against it, None where nobody asked for them."""
+
+    number: int
+    rule: Rule
+    nodes: array.array
+    longitudes: array.array
+    latitudes: array.array
+    streets: tuple | None = None
+
+
+class Verdict(NamedTuple):
+    """The rule of a way, None where it is no road, and what is to be noted."""
+
+    rule: Rule | None
+    notes: tuple
+
+
+def is_ferry(way, profile):
+    return "ferry" in tags.words_of(way.get("route", "")) and way.get("highway") not in profile.speeds
+
+
+def reason_against(way, profile, notes):
+    """Why a way is no road, as (kind, words), or None where it is one."""
+    kind, on_ferry = way.get("highway"), is_ferry(way, profile)
+    if not on_ferry and kind not in profile.speeds and kind not in profile.speeds_where_opened:
+        return "kinds", f"highway={kind}"
+    closed = tags.has_one_of(way, profile.closed_by)
+    if closed:
+        return "closed", closed
+    key, is_open = tags.deciding(way, profile.access, notes)
+    if key and not is_open:
+        return "closed", f"{key}={way[key]}"
+    if not on_ferry and kind in profile.speeds_where_opened and key in (None, "access"):
+        return "kinds", f"highway={kind}"
+    if on_ferry and not key and any(other in way for other in profile.ferries_for_others):
+        return "closed", "route=ferry for others"
+    return None
+
+
+def usual_speed(way, profile):
+    """Kilometres an hour of a road's kind."""
+    if is_ferry(way, profile):
+        return profile.ferry_speed
+    return profile.speeds.get(way["highway"]) or profile.speeds_where_opened[way["highway"]]
+
+
+def duration_of(way, notes):
+    """The seconds of a ferry, 0 where they are not told."""
+    seconds = speeds.seconds_of(way.get("duration", ""))
+    if seconds is None:
+        notes.append(("durations", f"duration={way['duration']}" if "duration" in way else ""))
+    return seconds or 0
+
+
+def judged(way, profile, with_ferries=True):
+    """The verdict on a way with these tags. Ways that are neither a road nor a ferry of any kind are passed over in silence."""
+    notes = []
+    on_ferry = is_ferry(way, profile)
+    if not on_ferry and "highway" not in way:
+        return Verdict(None, ())
+    if on_ferry and not with_ferries:
+        return Verdict(None, (("ferries", ""),))
+    reason = reason_against(way, profile, notes)
+    if reason:
+        return Verdict(None, (*notes, reason))
+    direction = tags.direction_of(way, profile.oneway, notes)
+    if direction is tags.BY_TIME:
+        return Verdict(None, (*notes, ("by time", "")))
+    usual = usual_speed(way, profile)
+    sides = ("forward", direction != tags.AGAINST), ("backward", direction != tags.ALONG)
+    told = [speeds.speed_of(way, side, usual, profile.limit, notes) if is_open else 0 for side, is_open in sides]
+    seconds = duration_of(way, notes) if on_ferry else 0
+    return Verdict(Rule(*told, seconds), tuple(dict.fromkeys(notes)))
+
+
+class Survey:
+    """What is read of a map: the roads with the places of their nodes, barriers, and the relations that restrict turns."""
+
+    def __init__(self, profile, report, with_ferries=True, with_names=False):
+        self.profile, self.report, self.with_ferries = profile, report, with_ferries
+        # What roads are called, where that is wanted.
+        self.streets = Streets() if with_names else None
+        self.roads, self.barriers, self.relations = [], {}, []
+        # Nodes on which no road need be, and whose barriers are told all the same.
+        self.lone_nodes = set()
+        self.keys = profile.keys()
+        self.barrier_keys = {"barrier", *profile.access.tags}
+        self.verdicts = {}
+
+    def verdict_on(self, way):
+        """The verdict on a way with these tags. Ways of which the same is asked have the same one."""
+        asked = frozenset(item for item in way.items() if item[0] in self.keys)
+        if asked not in self.verdicts:
+            self.verdicts[asked] = judged(dict(asked), self.profile, self.with_ferries)
+        return self.verdicts[asked]
+
+    def rule_by(self, verdict, number):
+        """The rule of a verdict on a way of this number; what it gives to note is counted."""
+        self.report.note_all(verdict.notes, "way", number)
+        return verdict.rule
+
+    def streets_of(self, way):
+        """The numbers of the streets of a road with these tags, None where nobody asked for them."""
+        return None if self.streets is None else self.streets.add(way)
+
+    def add_way(self, number, rule, nodes, longitudes=(), latitudes=(), streets=None):
+        """A road through these nodes, at these places where they are known by now; a node that follows on itself stands once."""
+        if any(map(operator.eq, nodes, nodes[1:])):
+            is_kept = [True, *map(operator.ne, nodes, nodes[1:])]
+            nodes, longitudes, latitudes = (list(itertools.compress(part, is_kept)) for part in (nodes, longitudes, latitudes))
+        if len(nodes) < 2:
+            self.report.note("short", "", "way", number)
+            self.lone_nodes.update(nodes)
+        else:
+            self.roads.append(Road(number, rule, array.array("q", nodes), array.array("d", longitudes), array.array("d", latitudes), streets))
+
+    def place_roads(self, places):
+        """The places of the roads' nodes, {number: (longitude, latitude)}, where they were not known when the roads were added."""
+        for road in self.roads:
+            longitudes, latitudes = zip(*(places.get(node, NOWHERE) for node in road.nodes))
+            road.longitudes.extend(longitudes)
+            road.latitudes.extend(latitudes)
+
+    def add_barrier(self, number, node):
+        """The tags of a node with a barrier."""
+        self.barriers[number] = {key: value for key, value in node.items() if key in self.barrier_keys}
+
+    def nodes(self):
+        """The nodes of the roads, one road after the other."""
+        return itertools.chain.from_iterable(road.nodes for road in self.roads)
+
+    def closed_nodes(self):
+        """The nodes of roads through which no way leads. They are noted, and so are kinds of barrier that are not known."""
+        closed = set()
+        for number in sorted(set(self.barriers).intersection(itertools.chain(self.nodes(), self.lone_nodes))):
+            notes, barrier = [], self.barriers[number]
+            if tags.is_closed_barrier(barrier, self.profile.barriers, notes):
+                closed.add(number)
+                notes.append(("barriers", f"barrier={barrier['barrier']}"))
+            self.report.note_all(notes, "node", number)
+        return closed
+
+    def note_ways_that_come_twice(self):
+        """Notes each road whose number is that of a road before it. Both are roads."""
+        counts = collections.Counter(road.number for road in self.roads)
+        for number, count in counts.items():
+            for _ in range(count - 1):
+                self.report.note("twice", "way", "way", number)

@@ -1,0 +1,107 @@
+"""Near rows by the library for C, in this process."""
+import contextlib
+
+import numpy
+
+from chtab.engine import library
+from chtab.engine.child import Deadline
+from chtab.engine.in_process import TOGETHER
+from chtab.engine.interruptible import LONG, interruptible
+from chtab.errors import ChtabError, ProgramFault, unasked
+from chtab.near import rows as near_rows
+from chtab.near.runs import NearRuns
+
+# What one call of the library gives at most: pairs, and with them rows that it copies.
+PAIRS = 1 << 20
+# Pairs of a sweep, of 16 bytes each, and pairs of a node: one of more than both is not made. So a call takes much more than a second only where a
+# network has many millions of nodes.
+SWEPT, FEW = 1 << 24, 4
+# All rows are swept where there are at least this share of the nodes as sources: one sweep takes as long as so many searches.
+SHARE = 1 / 4
+# Sources whose rows say how many pairs all rows have.
+SAMPLE = 64
+
+
+class NearInProcess:
+    """Near rows as `runs.NearRuns` gives them, by the handles of an `in_process.InProcess`. Calls may come from several threads, and from
+    processes that were forked.
+
+    Parameters
+    ----------
+    engine : in_process.InProcess
+        The network.
+    """
+
+    # Whether rows come without a run that reads the network first.
+    is_at_hand = True
+
+    def __init__(self, engine):
+        self.engine, self.setting, self.nodes, self.is_closed = engine, engine.setting, engine.nodes, False
+
+    def see_that_there(self):
+        """Refuses a network that is closed."""
+        if self.is_closed or self.engine.is_closed:
+            raise ChtabError(library.GONE)
+
+    def portions(self, question):
+        """The rows for a question, in portions: pairs of the first row's place and the rows."""
+        self.see_that_there()
+        targets = library.nodes_of(question.targets, self.nodes)
+        sources = numpy.arange(self.nodes, dtype=numpy.uint32) if question.sources is None else library.nodes_of(question.sources, self.nodes)
+        most = len(targets) if question.count is None else min(question.count, len(targets))
+        with self.engine.near_handle() as handle:
+            deadline = Deadline(self.setting.timeout)
+            interruptible(len(targets), handle.keep_places, targets, *limits_of(question), question.is_from)
+            is_swept = len(sources) >= SHARE * self.nodes and self.has_few(handle, most) and is_swept_by(handle)
+            start, together = 0, PAIRS if is_swept else TOGETHER
+            while start < len(sources):
+                self.see_that_there()
+                deadline.milliseconds()
+                some = sources[start:start + together]
+                ends, weights, places = interruptible(len(some), handle.near_rows, some, min(len(some) * most, max(most, PAIRS)))
+                if not len(ends):
+                    raise unasked()
+                yield start, near_rows.Rows(numpy.append(0, ends), places, weights)
+                start += len(ends)
+
+    def has_few(self, handle, most):
+        """Whether the rows of all nodes have few enough pairs for a sweep, each at most so many: by those of some nodes, where there may be more."""
+        enough = max(SWEPT, FEW * self.nodes)
+        if self.nodes * most <= enough:
+            return True
+        some = numpy.linspace(0, self.nodes - 1, SAMPLE, dtype=numpy.uint32)
+        ends, _, _ = handle.near_rows(some, max(most, PAIRS))
+        return self.nodes * int(ends[-1]) <= enough * len(ends)
+
+    @contextlib.contextmanager
+    def apart(self):
+        """The same for one call, which may be ended alone."""
+        own = NearInProcess(self.engine)
+        try:
+            yield own
+        finally:
+            own.kill()
+
+    def kill(self):
+        """Refuses what is asked from now on. A call of the library that is under way ends by itself."""
+        self.is_closed = True
+
+
+def is_swept_by(handle):
+    """Sweeps, unless there is no memory for all rows at once; whether that was done. The samples may have had fewer pairs than most rows."""
+    try:
+        interruptible(LONG, handle.sweep)
+    except ProgramFault:
+        return False
+    return True
+
+
+def limits_of(question):
+    """The limit and the count of a question, as the library takes them."""
+    limit = library.NO_LIMIT if question.within is None else question.within
+    return limit, library.ALL if question.count is None else min(question.count, library.ALL)
+
+
+def near_of(engine):
+    """What gives the near rows of an engine: the library where it answers, and else runs of the program."""
+    return NearInProcess(engine) if hasattr(engine, "near_handle") else NearRuns(engine.setting, engine.nodes)

@@ -1,0 +1,145 @@
+"""Near rows of any number of sources and targets, in blocks: by runs on this machine, or on the workers of a Dask cluster."""
+import concurrent.futures
+import contextlib
+import operator
+import weakref
+from dataclasses import dataclass
+
+import numpy
+
+from chtab.engine import blocks
+from chtab.engine.progress import Progress
+from chtab.near import rows as near_rows
+from chtab.near.runs import NearQuestion, NearRuns
+
+# The most nodes of a list, and the most pairs that a block may have: about 1 GB of the program's text, and as much in arrays.
+LENGTH, PAIRS = 2**16, 2**26
+# The blocks that are under way on a cluster, for each of its threads.
+AHEAD = 2
+# The clients of Dask whose workers have this package.
+KNOWN = weakref.WeakSet()
+
+
+@dataclass(frozen=True)
+class Block:
+    """The rows of some sources among some of the targets: where both begin, and what is asked."""
+
+    row: int
+    column: int
+    question: NearQuestion
+
+
+def cut(question, nodes, workers=1):
+    """The blocks of a question with lists of any length, on a network of so many nodes, for so many workers.
+
+    A single worker answers for all nodes at once where they have few pairs. Else the sources are shared out.
+    """
+    width = len(question.targets)
+    most = min(width, LENGTH, width if question.count is None else question.count)
+    for row, sources in parts_of(question.sources, nodes, most, workers):
+        for column in range(0, width, LENGTH):
+            targets = question.targets[column:column + LENGTH]
+            yield Block(row, column, NearQuestion(sources, targets, question.count, question.within, question.is_from))
+
+
+def parts_of(sources, nodes, most, workers):
+    """The sources in parts, each with the place at which it begins. A row has at most so many pairs."""
+    if sources is None and workers == 1 and nodes * most <= PAIRS:
+        return [(0, None)] if nodes else []
+    sources = numpy.arange(1, nodes + 1) if sources is None else sources
+    side = max(1, min(LENGTH, PAIRS // max(most, 1), -(-len(sources) // workers)))
+    return [(row, sources[row:row + side]) for row in range(0, len(sources), side)]
+
+
+# By whom blocks are made: a call that gives each block with its value, as it is whole.
+
+
+def in_turn(runs, found, make):
+    """By one run after the other. `make` gives the value of a block from its portions of rows."""
+    for block in found:
+        yield block, make(block, near_rows.portions(runs, block.question))
+
+
+def side_by_side(runs, found, make, workers):
+    """By so many runs at a time."""
+    with runs.apart() as own, concurrent.futures.ThreadPoolExecutor(workers) as threads:
+        begun = {threads.submit(lambda block: make(block, near_rows.portions(own, block.question)), block): block for block in found}
+        try:
+            for future in concurrent.futures.as_completed(list(begun)):
+                yield begun.pop(future), future.result()
+        finally:
+            for future in begun:
+                future.cancel()
+            own.kill()
+
+
+def on_cluster(runs, found, make, client):
+    """By the workers of a cluster, which send rows. The values are made here, one after the other."""
+    import distributed
+
+    if client not in KNOWN:
+        blocks.send_package(client)
+        KNOWN.add(client)
+    found, begun = iter(found), {}
+    completed = distributed.as_completed()
+
+    def begin():
+        for block in found:
+            future = client.submit(rows_on_worker, block.question, runs.setting, runs.nodes, pure=False)
+            begun[future] = block
+            completed.add(future)
+            return
+
+    try:
+        for _ in range(AHEAD * max(1, sum(client.nthreads().values()))):
+            begin()
+        for future in completed:
+            block = begun.pop(future)
+            rows = future.result()
+            begin()
+            yield block, make(block, [(0, rows)])
+    finally:
+        client.cancel(list(begun))
+
+
+def rows_on_worker(question, setting, nodes):
+    """All rows of a question, on a worker of Dask."""
+    return near_rows.joined(near_rows.portions(NearRuns(setting, nodes), question))
+
+
+def values(runs, question, make, workers=1):
+    """The value of each block of a question, as it is whole, with its block. `workers` is a number of runs, or a client of Dask."""
+    runs.see_that_there()
+    is_client = hasattr(workers, "submit")
+    count = max(1, sum(workers.nthreads().values())) if is_client else count_in("workers", workers)
+    found = list(cut(question, runs.nodes, count))
+    if is_client:
+        made = on_cluster(runs, found, make, workers)
+    elif min(count, len(found)) > 1:
+        made = side_by_side(runs, found, make, min(count, len(found)))
+    else:
+        made = in_turn(runs, found, make)
+    with contextlib.closing(made), Progress("near", len(found), "blocks", is_told=len(found) > 1) as progress:
+        yield from progress.each(made)
+
+
+def count_in(name, value):
+    """A whole number from 1 on."""
+    if isinstance(value, bool) or operator.index(value) < 1:
+        raise ValueError(f"{name} is a whole number from 1 on, not {value!r}")
+    return operator.index(value)
+
+
+def rows(runs, question, workers=1):
+    """All rows of a question with lists of any length."""
+    parts = {}
+    for block, found in values(runs, question, lambda _, portions: near_rows.joined(portions), workers):
+        parts.setdefault(block.row, []).append((block.column, found))
+    if not parts:
+        return near_rows.rows_of(numpy.zeros(question.height(runs.nodes), numpy.int64), *numpy.zeros((2, 0), numpy.int64))
+    return near_rows.below([of_row(parts.pop(row), question.count) for row in sorted(parts)])
+
+
+def of_row(parts, count):
+    """The rows of some sources from those of all parts of the targets."""
+    return parts[0][1] if len(parts) == 1 else near_rows.beside(parts, count)

@@ -1,0 +1,133 @@
+"""Near rows in compressed form: of each source the places of the targets that are near, and the weights, in order of weight and of place."""
+from dataclasses import dataclass
+
+import numpy
+
+from chtab.engine.node_queries import MOST
+from chtab.errors import unasked
+from chtab.near.text import lines_of
+
+
+@dataclass(frozen=True)
+class Rows:
+    """Rows one after the other: row i has the places and weights from `offsets[i]` to before `offsets[i + 1]`, all int64."""
+
+    offsets: numpy.ndarray
+    places: numpy.ndarray
+    weights: numpy.ndarray
+
+    def __len__(self):
+        return len(self.offsets) - 1
+
+    def counts(self):
+        """How many pairs each row has."""
+        return numpy.diff(self.offsets)
+
+    def owners(self):
+        """The row of each pair."""
+        return numpy.repeat(numpy.arange(len(self)), self.counts())
+
+    def ranks(self):
+        """The place of each pair in its row, from 0 on."""
+        return numpy.arange(len(self.places)) - numpy.repeat(self.offsets[:-1], self.counts())
+
+
+def rows_of(counts, places, weights):
+    """Rows of so many pairs each."""
+    return Rows(numpy.append(0, numpy.cumsum(counts)), places, weights)
+
+
+def below(parts):
+    """Rows one below the other."""
+    if not parts:
+        return Rows(*map(numpy.zeros, (1, 0, 0), [numpy.int64] * 3))
+    columns = ([getattr(part, name) for part in parts] for name in ("places", "weights"))
+    return rows_of(numpy.concatenate([part.counts() for part in parts]), *map(numpy.concatenate, columns))
+
+
+def beside(parts, count=None):
+    """Rows of the same sources and of several parts of the targets, put together: of each the first pairs, or all. `parts` are pairs of the
+    place at which a part begins and the rows."""
+    owners = numpy.concatenate([rows.owners() for _, rows in parts])
+    places = numpy.concatenate([rows.places + first for first, rows in parts])
+    weights = numpy.concatenate([rows.weights for _, rows in parts])
+    order = numpy.lexsort([places, weights, owners])
+    whole = rows_of(sum(rows.counts() for _, rows in parts), places[order], weights[order])
+    if count is None:
+        return whole
+    is_first = whole.ranks() < count
+    return rows_of(numpy.minimum(whole.counts(), count), whole.places[is_first], whole.weights[is_first])
+
+
+# From the text to rows.
+
+
+class Places:
+    """The places at which nodes stand in a list of targets, on a network of so many nodes."""
+
+    def __init__(self, targets, nodes):
+        self.order = numpy.argsort(targets, kind="stable")
+        self.in_order = targets[self.order]
+        is_new = numpy.append(True, self.in_order[1:] != self.in_order[:-1])[:len(targets)]
+        self.firsts = numpy.full(nodes + 1, len(targets), numpy.int32)
+        self.firsts[self.in_order[is_new]] = numpy.flatnonzero(is_new)
+        self.are_apart = bool(is_new.all())
+
+    def of(self, nodes, owners):
+        """The places of the nodes of rows, in the order of `owners`. A node that stands in the list again has its places in their order. One
+        that does not stand there so often is a fault."""
+        if (nodes < 1).any() or (nodes >= len(self.firsts)).any():
+            raise unasked()
+        found = self.firsts[nodes]
+        if not self.are_apart:
+            found = found + times_before(owners, nodes)
+        if (found >= len(self.order)).any() or (self.in_order[found] != nodes).any():
+            raise unasked()
+        return self.order[found]
+
+
+def times_before(owners, nodes):
+    """How often the node of each pair stands before it in its row."""
+    order = numpy.lexsort([nodes, owners])
+    is_new = numpy.ones(len(order), bool)
+    is_new[1:] = (numpy.diff(owners[order]) != 0) | (numpy.diff(nodes[order]) != 0)
+    begins = numpy.flatnonzero(is_new)
+    found = numpy.empty(len(order), numpy.int64)
+    found[order] = numpy.arange(len(order)) - begins[numpy.cumsum(is_new) - 1]
+    return found
+
+
+def matched(lines, sources, question, places):
+    """The rows of lines, where they answer a question for these sources. Else that is a `ProgramFault`."""
+    if lines.sources.shape != sources.shape or (lines.sources != sources).any():
+        raise unasked()
+    owners = numpy.repeat(numpy.arange(len(sources)), lines.counts)
+    rows = rows_of(lines.counts, places.of(lines.nodes, owners), lines.weights)
+    most = len(places.order) if question.count is None else question.count
+    limit = MOST if question.within is None else question.within
+    farther = numpy.diff(rows.weights)
+    is_nearer = (farther > 0) | (farther == 0) & (numpy.diff(rows.places) > 0) | (numpy.diff(owners) > 0)
+    if rows.counts().max(initial=0) > most or rows.weights.max(initial=0) > limit or not is_nearer.all():
+        raise unasked()
+    return rows
+
+
+def portions(runs, question):
+    """The rows for a question, in portions as they come: pairs of the first row's place and the rows. `runs` tells texts, or gives the portions."""
+    if hasattr(runs, "portions"):
+        yield from runs.portions(question)
+        return
+    places, start = Places(question.targets, runs.nodes), 0
+    for text in runs.texts(question):
+        lines = lines_of(text)
+        end = start + len(lines.sources)
+        wanted = numpy.arange(start + 1, end + 1) if question.sources is None else question.sources[start:end]
+        yield start, matched(lines, wanted, question, places)
+        start = end
+    if start != question.height(runs.nodes):
+        raise unasked()
+
+
+def joined(portions):
+    """The rows of all portions."""
+    return below([rows for _, rows in portions])

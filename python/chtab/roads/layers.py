@@ -1,0 +1,123 @@
+"""What is read of a network's files, each when it is first asked for, and kept: the arcs, the places and labels of nodes, roads."""
+import os
+import threading
+
+from chtab import files
+from chtab.engine import forks
+from chtab.engine.stamps import Stamps
+from chtab.errors import ChtabError
+from chtab.roads import nearest
+
+
+class Layers:
+    """The files of a network. Calls may come from several threads. It goes from process to process by pickle, as the names of its files.
+
+    Parameters
+    ----------
+    path : str
+        The graph (`.gr`).
+    coordinates, bends : str, optional
+        The files of the nodes' places and of the points between them; without them those beside the graph, where they are there.
+    labelling : str, optional
+        The file of the nodes' labels; without it nodes are called by their numbers.
+    """
+
+    def __init__(self, path, coordinates=None, bends=None, labelling=None):
+        base = os.path.splitext(path)[0]
+        self.path = path
+        self.paths = {"coordinates": coordinates or beside(base + ".co"), "bends": bends or beside(base + ".bends"), "labelling": labelling}
+        self.kept, self.stamps = {}, Stamps(path, *self.paths.values())
+        self.leave_parent()
+        forks.follow(self)
+
+    def leave_parent(self):
+        """A lock that nobody holds: in a process that was forked too."""
+        self.lock = threading.RLock()
+
+    def __reduce__(self):
+        return Layers, (self.path, self.paths["coordinates"], self.paths["bends"], self.paths["labelling"])
+
+    def read(self, name, make):
+        with self.lock:
+            if name not in self.kept:
+                self.kept[name] = make()
+            return self.kept[name]
+
+    def read_file(self, name, make):
+        """The same of what a file is read for, as long as the files are those of the beginning."""
+        def read():
+            found = make()
+            self.stamps.see_that_same()
+            return found
+
+        return self.read(name, read)
+
+    @property
+    def graph(self):
+        """The arcs, as `files.read_graph` gives them."""
+        return self.read_file("graph", lambda: files.read_graph(self.path))
+
+    @property
+    def coordinates(self):
+        """The nodes' places, as `files.read_coordinates` gives them."""
+        path = self.paths["coordinates"]
+        if path is None:
+            raise ChtabError(f"{self.path} has no file of coordinates beside it; name one by `coordinates`")
+        return self.read_file("coordinates", lambda: files.read_coordinates(path))
+
+    @property
+    def labelling(self):
+        """What `files.read_labels` gives, None of a network whose nodes are called by their numbers."""
+        def make():
+            from chtab.engine.making import read_labelling
+
+            return read_labelling(self.paths["labelling"], self.path)
+
+        return None if self.paths["labelling"] is None else self.read_file("labelling", make)
+
+    @property
+    def labels(self):
+        """What the nodes are called, as `node_labels.Labels` or `node_labels.Numbers`."""
+        def make():
+            from chtab.files import node_labels
+
+            found = self.labelling
+            return node_labels.Numbers(files.count_nodes(self.path)) if found is None else node_labels.labels_of_nodes("labels", found.labels)
+
+        return self.read("labels", make)
+
+    @property
+    def index(self):
+        """The nodes, to be looked for by their places."""
+        return self.read("index", lambda: nearest.index_of(self.coordinates))
+
+    @property
+    def roads(self):
+        """The roads between nodes, as `snapping.Roads`."""
+        def make():
+            from chtab.roads.snapping import Roads
+
+            path = self.paths["bends"]
+            return Roads(self.graph, self.coordinates, files.read_bends(path) if path else None)
+
+        return self.read_file("roads", make)
+
+    def lines_of(self, routes):
+        """For each route of `files.Answer` the places that it passes, in degrees: with the bends of its roads, where they are known."""
+        if self.paths["bends"] is None:
+            return [[self.coordinates.of(node) for node in each.nodes] for each in routes]
+        from chtab.roads.lines import tidied
+
+        return [line for line, _ in tidied(self.roads.lines_of(routes))]
+
+
+def layers_of(opened, known=None):
+    """The layers of an opening, with those that are known already. Labels are read at once, because the graph may be another one later."""
+    layers = Layers(opened.setting.graph, opened.coordinates, opened.bends, opened.labelling)
+    layers.kept.update(known or {})
+    layers.labels
+    return layers
+
+
+def beside(path):
+    return path if os.path.exists(path) else None

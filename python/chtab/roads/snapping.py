@@ -1,0 +1,311 @@
+"""Places on roads: each is taken to the nearest point of the nearest road, and leaves and arrives by the road's ends.
+
+A road is a line that one arc leads along, or two of opposite directions: from `first` to `last` with the weight `forward`, and back with
+`backward`. Where turns are restricted a crossing has several nodes, and several arcs lead along a road between them: which of these nodes one
+comes to says which turns are open.
+"""
+import itertools
+from dataclasses import dataclass
+from typing import NamedTuple
+
+import numpy
+
+from chtab.engine.walks import ranges
+from chtab.errors import ChtabError, TooFar
+from chtab.roads.lines import Lines, metres_between
+
+# No arc leads along a road in this direction; a place doesn't leave or arrive by this end.
+NONE = -1
+# A place that is nearer than so many metres to an end of its road stands at the end.
+AT_END = 1.0
+
+
+def places_in(longitudes, latitudes):
+    """Two columns of degrees. A number that is no degree, such as NaN, is a ValueError."""
+    columns = [numpy.asarray(part, float).reshape(-1) for part in (longitudes, latitudes)]
+    if len(columns[0]) != len(columns[1]):
+        raise ValueError(f"there are {len(columns[0])} longitudes and {len(columns[1])} latitudes")
+    for name, column, most in ("longitude", columns[0], 180), ("latitude", columns[1], 90):
+        for place in numpy.flatnonzero(~(abs(column) <= most))[:1]:
+            raise ValueError(f"the {name} of place {place} is {column[place]:g}, not from -{most} to {most} degrees")
+    return columns
+
+
+def length_text(metres):
+    """A length as a person tells it: 640 m, 18.6 km, 5,467 km."""
+    if metres < 999.5:
+        return f"{metres:.0f} m"
+    return f"{metres / 1000:.1f}".removesuffix(".0") + " km" if metres < 99_950 else f"{metres / 1000:,.0f} km"
+
+
+def far_text(longitude, latitude, metres, what, most):
+    """What is told of a place that is too far from each road, or node."""
+    return f"{longitude:.6f} {latitude:.6f} is {length_text(metres)} from the nearest {what}, more than {length_text(most)}; " \
+        "longitude comes first, then latitude"
+
+
+@dataclass(frozen=True)
+class Spots:
+    """Places on roads, in arrays with an item for each place.
+
+    `longitudes`, `latitudes` are the points on the roads in degrees, and `metres` says how far from the places these are. Spot k lies on road
+    `roads[k]` at the part `parts[k]` of it (0 at `first`, 1 at `last`). It leaves by the nodes `out_nodes[k]` at the weights
+    `out_weights[k]`, and arrives by `in_nodes[k]` at `in_weights[k]`; `NONE` where there is none. The first half of each of these are nodes
+    of `first`, the second of `last`: one each, or several where turns are restricted.
+    """
+
+    longitudes: numpy.ndarray
+    latitudes: numpy.ndarray
+    metres: numpy.ndarray
+    roads: numpy.ndarray
+    parts: numpy.ndarray
+    out_nodes: numpy.ndarray
+    out_weights: numpy.ndarray
+    in_nodes: numpy.ndarray
+    in_weights: numpy.ndarray
+
+    def __len__(self):
+        return len(self.roads)
+
+    def __getitem__(self, which):
+        """Some of them: a slice or an array of places."""
+        return Spots(*(column[which] for column in vars(self).values()))
+
+
+class Ways(NamedTuple):
+    """By which nodes roads are left, or come to, and the weights of the whole road: a row for each, in the order that `Spots` have."""
+
+    nodes: numpy.ndarray
+    weights: numpy.ndarray
+
+
+def ways_of(roads, sides, nodes, weights, count):
+    """The ways of so many roads. Given are, for each arc, its road, at which end of it (0 or 1) its node is, the node and the weight; of
+    arcs of one node the least weight counts."""
+    order = numpy.lexsort([weights, nodes, sides, roads])
+    keys = numpy.column_stack([roads, sides, nodes])[order]
+    is_new = numpy.append(True, (keys[1:] != keys[:-1]).any(axis=1))[:len(keys)]
+    keys, weights = keys[is_new], weights[order][is_new]
+    group = keys[:, 0] * 2 + keys[:, 1]
+    rank = numpy.arange(len(group)) - numpy.searchsorted(group, group)
+    width = int(rank.max(initial=0)) + 1
+    ways = Ways(*numpy.full((2, count, 2 * width), NONE))
+    for column, values in zip(ways, (keys[:, 2], weights)):
+        column[keys[:, 0], keys[:, 1] * width + rank] = values
+    return ways
+
+
+class Roads:
+    """The roads of a graph. `firsts` and `lasts` are nodes where trips begin, and `lines` how the roads lie between them.
+
+    Parameters
+    ----------
+    graph : files.Graph
+        The arcs.
+    coordinates : files.Coordinates
+        The places of nodes.
+    bends : dict of int to list, optional
+        The points of arcs between their ends, as `files.read_bends` gives them.
+    """
+
+    def __init__(self, graph, coordinates, bends=None):
+        self.tails, self.heads, self.weights = (numpy.array(column, numpy.int64) for column in (graph.tails, graph.heads, graph.weights))
+        self.ends = coordinates.ends()
+        known = numpy.column_stack([coordinates.longitudes, coordinates.latitudes])
+        self.places = numpy.full((graph.nodes, 2), numpy.nan)
+        self.places[:len(known)] = known[:graph.nodes]
+        self.ordered = self.least_pace = self.pieces = None
+        crossing = numpy.arange(graph.nodes + 1)
+        for copy, node in coordinates.copies().items():
+            crossing[copy] = node
+        # The road of each arc, NONE of one that leads along none, and whether it leads back.
+        self.road_of, self.is_back = numpy.full(len(self.tails), NONE), crossing[self.tails] > crossing[self.heads]
+        self.find_roads(crossing[self.tails], crossing[self.heads], {} if bends is None else bends)
+        self.find_ways()
+
+    def find_roads(self, tails, heads, bends):
+        """The roads by the crossings at both ends of arcs: first those without bends, then those with them."""
+        bent = {arc: points for arc, points in bends.items() if arc < len(tails)}
+        firsts, lasts = self.straight(tails, heads, list(bent))
+        more = self.bent(tails, heads, bent, len(firsts))
+        self.firsts, self.lasts = (numpy.concatenate(pair) for pair in zip((firsts, lasts), more[:2]))
+        counts = numpy.concatenate([numpy.full(len(firsts), 2), more[2]])
+        places = numpy.empty((counts.sum(), 2))
+        at = numpy.cumsum(counts) - counts
+        places[at], places[at + counts - 1] = self.places[self.firsts - 1], self.places[self.lasts - 1]
+        places[ranges(at + 1, counts - 2)] = more[3]
+        self.lines = Lines(counts, places)
+
+    def straight(self, tails, heads, bent):
+        """The ends of roads of arcs without bends, each pair of crossings once."""
+        kept = tails != heads
+        kept[bent] = False
+        low, high = numpy.minimum(tails, heads)[kept], numpy.maximum(tails, heads)[kept]
+        keys, self.road_of[kept] = numpy.unique(low << 32 | high, return_inverse=True)
+        return keys >> 32, keys & 0xFFFFFFFF
+
+    def bent(self, tails, heads, bends, before):
+        """The roads of arcs with bends: their ends, the numbers of their places, and all bends. Both directions of the same bends are one."""
+        roads = {}
+        for arc, points in bends.items():
+            tail, head, back = int(tails[arc]), int(heads[arc]), points[::-1]
+            is_back = tail > head or tail == head and points > back
+            key = (head, tail, *back) if is_back else (tail, head, *points)
+            self.road_of[arc], self.is_back[arc] = roads.setdefault(key, before + len(roads)), is_back
+        ends = numpy.array([key[:2] for key in roads], numpy.int64).reshape(-1, 2)
+        counts = numpy.array([len(key) for key in roads], numpy.int64)
+        return *ends.T, counts, numpy.array([point for key in roads for point in key[2:]], float).reshape(-1, 2)
+
+    def find_ways(self):
+        """By which nodes each road is left and come to, and the least weights of both directions."""
+        kept = self.road_of != NONE
+        roads, is_back, weights = self.road_of[kept], self.is_back[kept], self.weights[kept]
+        self.out_ways = ways_of(roads, (~is_back).astype(int), self.heads[kept], weights, len(self))
+        self.in_ways = ways_of(roads, is_back.astype(int), self.tails[kept], weights, len(self))
+        least = numpy.full((2, len(self)), numpy.iinfo(numpy.int64).max)
+        numpy.minimum.at(least, (is_back.astype(int), roads), weights)
+        least[least == numpy.iinfo(numpy.int64).max] = NONE
+        self.forward, self.backward = least
+
+    def __len__(self):
+        return len(self.firsts)
+
+    # From places to roads.
+
+    def find(self, longitudes, latitudes, max_metres=1_000.0):
+        """The places, taken to roads. Those that are farther from each road than `max_metres` are told by a `TooFar`."""
+        longitudes, latitudes = places_in(longitudes, latitudes)
+        spots = self.find_any(longitudes, latitudes)
+        far = numpy.flatnonzero(~(spots.metres <= max_metres)).tolist()
+        if far:
+            text = far_text(longitudes[far[0]], latitudes[far[0]], spots.metres[far[0]], "road", max_metres)
+            raise TooFar(text, {place: float(spots.metres[place]) for place in far})
+        return spots
+
+    def find_any(self, longitudes, latitudes):
+        """The same of places at any distance from roads, as two arrays."""
+        if not len(self):
+            raise ChtabError("the graph has no road between two places")
+        return self.spots_at(longitudes, latitudes, *self.lines.nearest(longitudes, latitudes))
+
+    def find_some(self, longitude, latitude, most):
+        """One place, taken to each of its nearest roads, at most so many, the nearest first."""
+        if not len(self):
+            raise ChtabError("the graph has no road between two places")
+        found = self.lines.nearest_some(longitude, latitude, most)
+        return self.spots_at(numpy.full(len(found[0]), longitude), numpy.full(len(found[0]), latitude), *found)
+
+    def spots_at(self, longitudes, latitudes, roads, parts, xs, ys):
+        """The spots of places at these parts of roads."""
+        metres = metres_between(longitudes, latitudes, xs, ys)
+        lengths = self.lines.metres[roads]
+        parts = numpy.where(parts * lengths < AT_END, 0.0, parts)
+        return self.spots(xs, ys, metres, roads, numpy.where((1 - parts) * lengths < AT_END, 1.0, parts))
+
+    def spots(self, longitudes, latitudes, metres, roads, parts):
+        """The ways out of spots and into them, with their weights rounded."""
+        at_node = numpy.flatnonzero((parts == 0) | (parts == 1))
+        begins = numpy.where(parts == 0, self.firsts[roads], self.lasts[roads])[at_node]
+        stops = numpy.array([self.ends.get(node, node) for node in begins.tolist()], numpy.int64)
+
+        def ways(of_roads, nodes_there):
+            """A spot at a node uses the node alone where trips begin or end there, at no weight."""
+            nodes, weights = of_roads.nodes[roads], of_roads.weights[roads]
+            half = nodes.shape[1] // 2
+            part = numpy.repeat([parts, 1 - parts], half, axis=0).T
+            weights = numpy.where(nodes == NONE, NONE, numpy.round(part * weights).astype(numpy.int64))
+            nodes[at_node], weights[at_node] = NONE, NONE
+            column = numpy.where(parts[at_node] == 0, 0, half)
+            nodes[at_node, column], weights[at_node, column] = nodes_there, 0
+            return nodes, weights
+
+        return Spots(longitudes, latitudes, metres, roads, parts, *ways(self.out_ways, begins), *ways(self.in_ways, stops))
+
+    def along(self, starts, ends):
+        """The weights from spots to others along the roads on which both lie, `NONE` where they don't, or no arc leads that way. The
+        arrays of both are taken together by numpy's rules."""
+        parts = ends.parts - starts.parts
+        weights = numpy.where(parts >= 0, self.forward[starts.roads], self.backward[starts.roads])
+        is_there = (starts.roads == ends.roads) & ((weights != NONE) | (parts == 0))
+        return numpy.where(is_there, numpy.round(abs(parts) * numpy.maximum(weights, 0)), NONE).astype(numpy.int64)
+
+    # How roads lie.
+
+    def stretch(self, road, start, end):
+        """The places of a road from one part of it to another, in degrees (n, 2)."""
+        return self.lines.stretch(road, start, end)
+
+    def lines_of(self, routes):
+        """The places of each of some routes with their nodes and the weights of their arcs, in degrees: a list of (n, 2). A place may follow
+        on itself."""
+        if not routes:
+            return []
+        nodes = numpy.fromiter(itertools.chain.from_iterable(each.nodes for each in routes), numpy.int64)
+        weights = numpy.fromiter(itertools.chain.from_iterable(each.weights for each in routes), numpy.int64)
+        lasts = numpy.cumsum([len(each.nodes) for each in routes]) - 1
+        is_tail, is_head = numpy.ones((2, len(nodes)), bool)
+        is_tail[lasts] = is_head[0] = is_head[lasts[:-1] + 1] = False
+        arcs = self.arcs_of(nodes[is_tail], nodes[is_head], weights)
+        arcs_before = numpy.concatenate([[0], lasts - numpy.arange(len(routes))])
+        is_along = self.road_of[arcs] != NONE
+        roads = self.road_of[arcs[is_along]]
+        places = self.lines.joined(roads, self.is_back[arcs[is_along]])
+        counts = numpy.zeros(len(arcs) + 1, numpy.int64)
+        counts[1:][is_along] = self.lines.firsts[roads + 1] - self.lines.firsts[roads]
+        cuts = numpy.cumsum(counts)[arcs_before]
+        ends = self.places[nodes[lasts] - 1]
+        starts = self.places[[each.nodes[0] - 1 for each in routes]]
+        return [
+            numpy.concatenate([starts[each:each + 1], places[cuts[each]:cuts[each + 1]], ends[each:each + 1]]) for each in range(len(routes))
+        ]
+
+    def arcs_of(self, tails, heads, weights):
+        """The arcs between nodes with these weights, of several the first; a route has the least of its ends."""
+        if self.ordered is None:
+            keys = self.tails << 32 | self.heads
+            order = numpy.lexsort([self.weights, keys])
+            self.ordered = keys[order], order
+        keys, order = self.ordered
+        found = numpy.searchsorted(keys, tails << 32 | heads)
+        arcs = order[numpy.minimum(found, len(order) - 1)] if len(order) else found
+        if (self.tails[arcs] != tails).any() or (self.heads[arcs] != heads).any() or (self.weights[arcs] != weights).any():
+            raise ChtabError("a route has an arc that the graph doesn't have: the file of the graph was changed")
+        return arcs
+
+    def segments(self):
+        """The straight pieces of all arcs along roads: their arcs, both ends in degrees (n, 4), and the parts of the arc at both ends (n, 2)."""
+        if self.pieces is None:
+            arcs = numpy.flatnonzero(self.road_of != NONE)
+            roads, lines = self.road_of[arcs], self.lines
+            counts = lines.firsts[roads + 1] - lines.firsts[roads] - 1
+            steps = ranges(lines.firsts[roads], counts)
+            is_back = numpy.repeat(self.is_back[arcs], counts)[:, None]
+            low, high = steps, steps + 1
+            ends = numpy.hstack([lines.places[low], lines.places[high]])
+            parts = numpy.column_stack([lines.parts[low], lines.parts[high]])
+            ends, parts = numpy.where(is_back, ends[:, [2, 3, 0, 1]], ends), numpy.where(is_back, 1 - parts[:, ::-1], parts)
+            self.pieces = numpy.repeat(arcs, counts), ends, parts
+        return self.pieces
+
+    # What can be reached.
+
+    def pace(self):
+        """The least weight of a metre that lies straight between the ends of an arc; 0 where a node of an arc has no place."""
+        if self.least_pace is None:
+            tails, heads = self.places[self.tails - 1], self.places[self.heads - 1]
+            metres = metres_between(*tails.T, *heads.T)
+            with numpy.errstate(divide="ignore", invalid="ignore"):
+                paces = numpy.where(metres > 0, self.weights / metres, numpy.inf)
+            self.least_pace = 0.0 if numpy.isnan(metres).any() else float(paces.min(initial=numpy.inf))
+        return self.least_pace
+
+    def nodes_near(self, starts, limits):
+        """All nodes that are reached from a node of `starts` within its limit, and others: no arc is quicker than the least pace."""
+        pace = self.pace()
+        is_near = numpy.zeros(len(self.places), bool)
+        for start, limit in zip(starts, limits):
+            if limit >= 0:
+                metres = metres_between(*self.places.T, *numpy.broadcast_to(self.places[start - 1], self.places.shape).T)
+                # A rounded length must not leave out a node that is just within the limit.
+                is_near |= ~(metres * pace > limit * (1 + 1e-9) + pace)
+        return numpy.flatnonzero(is_near) + 1

@@ -1,0 +1,30 @@
+"""Lengths on the earth, a sphere of 6,371,008.8 metres as the converter of maps takes it."""
+import math
+
+RADIUS = 6_371_008.8
+
+
+def point(longitude, latitude):
+    """The point of the sphere of radius 1."""
+    x, y = math.radians(longitude), math.radians(latitude)
+    return math.cos(y) * math.cos(x), math.cos(y) * math.sin(x), math.sin(y)
+
+
+def points(longitudes, latitudes):
+    """The points of the sphere of radius 1, a row for each place."""
+    import numpy
+
+    x, y = (numpy.radians(numpy.asarray(part, float)).reshape(-1) for part in (longitudes, latitudes))
+    return numpy.column_stack([numpy.cos(y) * numpy.cos(x), numpy.cos(y) * numpy.sin(x), numpy.sin(y)])
+
+
+def metres(chord):
+    """Along the sphere between two points of the sphere of radius 1 whose straight distance is `chord`."""
+    return 2 * RADIUS * math.asin(min(1.0, chord / 2))
+
+
+def metres_of(chords):
+    """The same of an array of straight distances."""
+    import numpy
+
+    return 2 * RADIUS * numpy.arcsin(numpy.minimum(1, chords / 2))

@@ -1,0 +1,117 @@
+"""Trips between spots beside roads, and what is reached from one.
+
+`legs.py` says which ways lead from spot to spot.
+"""
+import numpy
+
+from chtab.engine.answers import NO_WALK
+from chtab.engine.node_queries import limit_in
+from chtab.near import rows as near_rows
+from chtab.near.runs import NearQuestion
+from chtab.roads.legs import FAR, legs_between, table_ways, totals, ways_between
+from chtab.roads.routes import Trip
+
+# Trips whose routes are asked for together.
+BATCH = 256
+
+
+class Trips:
+    """Trips on one network.
+
+    Parameters
+    ----------
+    queries : NodeQueries
+        What is asked between nodes.
+    layers : Layers
+        The files of the network: its roads, and what its nodes are called.
+    """
+
+    def __init__(self, queries, layers):
+        self.queries, self.layers = queries, layers
+
+    @property
+    def roads(self):
+        return self.layers.roads
+
+    def weights(self, starts, ends):
+        """What `Network.trips` answers."""
+        pairs, added = ways_between(starts, ends)
+        is_there = (pairs > 0).all(axis=2)
+        between = self.queries.distances(pairs[is_there])
+        best = totals(added, is_there, between, self.roads.along(starts, ends)).min(axis=1, initial=FAR)
+        return numpy.where(best < FAR, best, NO_WALK)
+
+    def table(self, starts, ends, within=None):
+        """What `Network.trip_table` answers."""
+        best, _ = table_ways(self, starts, ends, limit_in(within))
+        return numpy.where(best < FAR, best, NO_WALK)
+
+    def routes(self, starts, ends):
+        """What `Network.trip_routes` answers."""
+        found = []
+        for first in range(0, len(starts), BATCH):
+            some = slice(first, first + BATCH)
+            found += self.some_routes(starts[some], ends[some])
+        return found
+
+    def some_routes(self, starts, ends):
+        """The same of so many trips that they are asked for together."""
+        found = legs_between(self, starts, ends)
+        there = numpy.flatnonzero(found.weights >= 0).tolist()
+        traces, listed = dict(zip(there, found.traces(there))), self.layers.labels.listed
+        return [
+            Trip(int(found.weights[leg]), float(found.metres[leg]), list(map(tuple, traces[leg].places.tolist())), listed(found.nodes(leg)))
+            if leg in traces else Trip(None, None, None, [])
+            for leg in range(len(found))
+        ]
+
+    def reach(self, spot, within=None):
+        """What `Network.reach` answers."""
+        see_that_one(spot)
+        within = limit_in(within)
+        outs = spot.out_nodes[0] > 0
+        nodes, added = spot.out_nodes[0][outs], spot.out_weights[0][outs]
+        limit = FAR - 1 if within is None else within
+        found = self.by_near(nodes, added, within) if self.queries.near.is_at_hand else self.by_either(nodes, added, within)
+        return numpy.where(found <= limit, found, NO_WALK)
+
+    def by_either(self, nodes, added, within):
+        """What `by_table` gives: by near rows of all nodes, or by a table with the nodes that may be near."""
+        near = numpy.arange(1, len(self.roads.places) + 1) if within is None else self.roads.nodes_near(nodes, within - added)
+        return self.by_near(nodes, added, within) if self.queries.is_near_best(len(near)) else self.by_table(nodes, added, near, within)
+
+    def by_table(self, nodes, added, near, within):
+        """The least weights at which all nodes are reached by way of some nodes, with what is added to each of these; `FAR` where one is not.
+        Asked for are those that may be near."""
+        found = numpy.full(len(self.roads.places), FAR)
+        table = self.queries.table(nodes, near, within)
+        found[near - 1] = numpy.where(table >= 0, table + added[:, None], FAR).min(axis=0, initial=FAR)
+        return found
+
+    def by_near(self, nodes, added, within):
+        """The same by near rows of all nodes."""
+        found = numpy.full(len(self.roads.places), FAR)
+        own = None if within is None else within - int(added.min(initial=0))
+        if not len(nodes) or own is not None and own < 0:
+            return found
+        for start, rows in near_rows.portions(self.queries.near, NearQuestion(None, nodes, within=own, is_from=True)):
+            owners = start + rows.owners()
+            for place, more in enumerate(added.tolist()):
+                is_its = rows.places == place
+                found[owners[is_its]] = numpy.minimum(found[owners[is_its]], rows.weights[is_its] + more)
+        return found
+
+    def isochrones(self, spot, limits):
+        """What `Network.isochrones` answers."""
+        from chtab.roads import reach
+
+        see_that_one(spot)
+        if not len(limits) or not all(limit > 0 for limit in limits):
+            raise ValueError("a limit of reach is above 0")
+        return reach.polygons(self.roads, spot, self.reach(spot, max(limits)), limits)
+
+
+def see_that_one(spot):
+    """Refuses spots that are not one."""
+    if len(spot) != 1:
+        raise ValueError(f"reach begins at one spot, not at {len(spot)}: take one of them, as spots[:1]")

@@ -1,0 +1,45 @@
+"""Lines of places as text (Google's encoded polyline): each number is a difference, in groups of five bits, the least first."""
+import numpy
+
+from chtab.server.osrm.options import Refusal
+
+# Groups of five bits of one difference: those of 360 degrees in millionths have 30 bits and a sign.
+MOST_GROUPS = 7
+SHIFTS = 5 * numpy.arange(MOST_GROUPS, dtype=numpy.int32)
+
+
+def encoded(places, precision):
+    """The text of places (n, 2), longitude and latitude in degrees, with so many digits behind the point."""
+    if not len(places):
+        return ""
+    whole = numpy.floor(places[:, ::-1] * 10.0**precision + 0.5).astype(numpy.int32)
+    steps = whole.copy()
+    steps[1:] -= whole[:-1]
+    steps = steps.reshape(-1)
+    numbers = (steps << 1) ^ (steps >> 31)
+    # A column for each group, of all numbers as many as the largest one has.
+    groups = numbers[:, None] >> SHIFTS[:max(1, -(-int(numbers.max()).bit_length() // 5))]
+    letters = ((groups & 31) + numpy.where(groups >= 32, 32 + 63, 63)).astype(numpy.uint8)
+    is_there = groups > 0
+    is_there[:, 0] = True
+    return letters[is_there].tobytes().decode("ascii")
+
+
+def decoded(text, precision, most):
+    """The places of a text, (longitude, latitude) in degrees. More than `most` are refused before they are read."""
+    numbers, value, shift = [], 0, 0
+    for letter in text.encode("ascii"):
+        group = letter - 63
+        if not 0 <= group < 64 or shift >= 5 * MOST_GROUPS:
+            raise Refusal("InvalidQuery", "the polyline has a character that is none of a polyline's")
+        value |= (group & 31) << shift
+        shift += 5
+        if group < 32:
+            numbers.append(~(value >> 1) if value & 1 else value >> 1)
+            value = shift = 0
+            if len(numbers) > 2 * most:
+                raise Refusal("TooBig", f"at most {most:,} coordinates")
+    if shift or len(numbers) % 2 or not numbers:
+        raise Refusal("InvalidQuery", "the polyline ends within a coordinate")
+    latitudes, longitudes = (numpy.cumsum(numbers[axis::2]).tolist() for axis in (0, 1))
+    return [(longitude / 10**precision, latitude / 10**precision) for longitude, latitude in zip(longitudes, latitudes)]

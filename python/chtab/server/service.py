@@ -1,0 +1,227 @@
+"""A service of one network over HTTP, for the page and for programs: docs/SERVICE.md has its forms.
+
+Requests wait for their turn in lines of bounded length, and a few are answered at once, in threads. Whatever goes wrong, a client gets JSON
+with a line that says what, and never a traceback.
+"""
+import asyncio
+import json
+import math
+import pathlib
+import resource
+
+import numpy
+from aiohttp import web
+
+from chtab.roads.snapping import length_text
+from chtab.server import web_policy
+from chtab.server.connections import client_of, is_gone
+from chtab.server.faults import fault_teller
+from chtab.server.metrics import Metrics
+from chtab.server.osrm.answering import Answers
+from chtab.server.queue import Job, Turns
+from chtab.server.requests import Limits, Refused, fields_of, number_in, place_in, places_in
+from chtab.server.tiles import Tiles
+from chtab.server.web_policy import header_adder
+
+PAGE = pathlib.Path(__file__).parent / "page"
+# Debian's package libjs-leaflet.
+LEAFLET = pathlib.Path("/usr/share/javascript/leaflet")
+# What the places of a route are called, as on the page.
+ENDS = "A", "B"
+
+
+class Service:
+    """The answers to requests, by a network that it keeps and doesn't close.
+
+    Pages of the `allowed` origins may ask too. `profile` is what OSRM's interface calls the network, where that is not the name that it was
+    made for. Requests that come from the address `proxy` are those of the clients that it names. `row` counts what this process answers, among
+    those of `metrics`.
+    """
+
+    def __init__(self, network, title="", places=(), tiles=None, limits=Limits(), allowed=(), profile="", proxy=None, metrics=None, row=0):
+        self.network, self.title, self.places, self.tile_layer, self.limits = network, title, places, tiles, limits
+        self.allowed, self.proxy = allowed, proxy
+        self.metrics = metrics or Metrics()
+        self.row = self.metrics.of_processes[row]
+        # What was begun by a process that ended, and that this one stands in for.
+        self.begun_before = self.row.of("begun")
+        self.tiles = Tiles(network.roads, network.unit == "milliseconds")
+        self.osrm = Answers(network, profile)
+        # What places are looked for in is made now, and not while the first client waits.
+        network.roads.find_any([0.0], [0.0])
+        self.turns = Turns(limits.at_once, limits.waiting, limits.together)
+
+    def application(self, middlewares=()):
+        preflight = [web_policy.preflight] if self.allowed else []
+        app = web.Application(client_max_size=self.limits.body, middlewares=[*middlewares, *preflight, fault_teller(self.limits.body)])
+        app.add_routes([
+            web.get("/", lambda request: web.FileResponse(PAGE / "index.html")),
+            web.static("/page", PAGE),
+            web.static("/leaflet", LEAFLET, follow_symlinks=True),
+            web.get("/health", self.health),
+            web.get("/metrics", self.tell_metrics),
+            web.get("/api/network", self.describe),
+            web.get(r"/roads/{zoom:\d{1,2}}/{x:\d{1,8}}/{y:\d{1,8}}.svg", self.tile),
+            web.post("/api/route", self.answer_route),
+            web.post("/api/table", self.answering(self.table)),
+            web.post("/api/reach", self.answering(self.reach)),
+            web.get(web_policy.OSRM, self.answer_osrm),
+        ])
+        if self.allowed:
+            app.on_response_prepare.append(web_policy.allower(self.allowed))
+        app.on_cleanup.append(self.close)
+        app.on_response_prepare.append(header_adder(self.tile_layer))
+        return app
+
+    async def close(self, app):
+        self.turns.close()
+
+    async def answer(self, request, call, question, is_shared=False, size=1):
+        """The answer to a question of a client, once it is its turn: `call` answers a list of questions."""
+        job = Job(client_of(request, self.proxy), call, question, lambda: is_gone(request), is_shared, size)
+        return await self.turns.answer(job)
+
+    async def answer_alone(self, request, call, *words):
+        """The value of a call, made in a thread once it is the client's turn."""
+        return await self.answer(request, lambda questions: [call(*words)], None)
+
+    async def body_of(self, request):
+        """The bytes of a request, once all are there."""
+        try:
+            return await asyncio.wait_for(request.read(), self.limits.sending)
+        except asyncio.TimeoutError:
+            raise Refused("the request took too long to come", 408) from None
+
+    def answering(self, call):
+        """A handler that answers the body of a request with JSON."""
+        async def handle(request):
+            body = await self.body_of(request)
+            return json_of(await self.answer_alone(request, lambda: json.dumps(call(body))))
+
+        return handle
+
+    async def answer_route(self, request):
+        """Answers a request for a route, together with those that wait beside it: one question to the program serves them all."""
+        fields = fields_of(await self.body_of(request), ("from", "to"))
+        places = [place_in(fields[name], name) for name in ("from", "to")]
+        return json_of(await self.answer(request, self.route_texts, places, is_shared=True))
+
+    async def answer_osrm(self, request):
+        """Answers a request of OSRM's interface; routes together with those that wait beside them."""
+        question = self.osrm.question(request.raw_path)
+        if question.service == "route":
+            return json_of(await self.answer(request, self.osrm.routes, question, True, len(question.coordinates) - 1))
+        return json_of(await self.answer_alone(request, getattr(self.osrm, question.service), question))
+
+    async def health(self, request):
+        """Whether a request that comes now is taken. It is answered at once, whatever waits."""
+        is_full, waiting = self.turns.is_full, self.turns.unanswered
+        return web.json_response({"status": "busy" if is_full else "ready", "waiting": waiting}, status=503 if is_full else 200)
+
+    async def tell_metrics(self, request):
+        """What all processes of the service counted."""
+        self.note()
+        return web.Response(body=self.metrics.text().encode(), headers={"Content-Type": "text/plain; version=0.0.4; charset=utf-8"})
+
+    def note(self):
+        """Notes how things stand in this process, for whichever process tells the metrics."""
+        engine = self.network._engine
+        self.row.note(waiting=self.turns.unanswered, engines=engine.living(), begun=self.begun_before + engine.begun, memory=resident_bytes())
+
+    async def describe(self, request):
+        """What the page has to know."""
+        coordinates, limits = self.network.coordinates, self.limits
+        xs, ys = ([x for x in column if not math.isnan(x)] for column in (coordinates.longitudes, coordinates.latitudes))
+        notes = "© OpenStreetMap contributors" if any("OpenStreetMap" in comment for comment in coordinates.comments) else ""
+        return web.json_response({
+            "title": self.title, "nodes": self.network.nodes, "unit": self.network.unit, "notes": notes, "tiles": self.tile_layer,
+            "bounds": [min(xs), min(ys), max(xs), max(ys)],
+            "places": [{"name": place.name, "at": [place.longitude, place.latitude]} for place in self.places if place.name],
+            "limits": {"list": limits.list, "cells": limits.cells, "bands": limits.bands, "metres": limits.metres},
+        })
+
+    async def tile(self, request):
+        zoom, x, y = (int(request.match_info[name]) for name in ("zoom", "x", "y"))
+        if zoom > 22 or max(x, y) >= 2**zoom:
+            raise Refused("there is no such tile", 404)
+        text = await self.answer_alone(request, self.tiles.tile, zoom, x, y)
+        return web.Response(text=text, content_type="image/svg+xml", headers={"Cache-Control": "max-age=3600"})
+
+    def spots(self, places, names):
+        """The places on roads, and what is told of those that are too far from each: {index: line}. `names` are the places'."""
+        spots = self.network.roads.find_any(*zip(*places))
+        far = {place: metres for place, metres in enumerate(spots.metres.tolist()) if not metres <= self.limits.metres}
+        return spots, {place: f"{names[place]} is {length_text(metres)} from the nearest road" for place, metres in far.items()}
+
+    def near_spots(self, places, names):
+        """The same of places that are all near enough."""
+        spots, far = self.spots(places, names)
+        if far:
+            raise Refused("; ".join(far.values()))
+        return spots
+
+    def route_texts(self, pairs):
+        """For each pair of places a Feature of GeoJSON, as text: the line of the way, or null where there is none. Where a place is too far
+        from each road, that is the error in its place."""
+        spots, far = self.spots([place for pair in pairs for place in pair], ENDS * len(pairs))
+        starts, ends = spots[0::2], spots[1::2]
+        told = {pair: [far[place] for place in (2 * pair, 2 * pair + 1) if place in far] for pair in range(len(pairs))}
+        near = [pair for pair, lines in told.items() if not lines]
+        found = dict(zip(near, self.network.trip_routes(starts[near], ends[near])))
+        return [
+            self.route_text(found[pair], starts, ends, pair) if pair in found else Refused("; ".join(told[pair])) for pair in range(len(pairs))
+        ]
+
+    def route_text(self, trip, starts, ends, pair):
+        return trip.to_text({"unit": self.network.unit, "from": spot_of(starts, pair), "to": spot_of(ends, pair)})
+
+    def table(self, body):
+        """The weights, a row for each source, null for a source that is too far from each road; and which places are."""
+        fields = fields_of(body, ("sources", "targets"), ("within",))
+        lists = {name: places_in(fields[name], name, self.limits.list) for name in ("sources", "targets")}
+        sources, targets = lists.values()
+        if len(sources) * len(targets) > self.limits.cells:
+            raise Refused(f"a table has at most {self.limits.cells:,} cells")
+        within = fields.get("within")
+        if within is not None:
+            within = int(number_in(within, 0, 2**60, "within"))
+        owners = [(name, index) for name, places in lists.items() for index in range(len(places))]
+        spots, far = self.spots(sources + targets, [f"{name}[{index}]" for name, index in owners])
+        near = numpy.array([place not in far for place in range(len(owners))])
+        rows, columns = numpy.split(near, [len(sources)])
+        weights = numpy.full((len(sources), len(targets)), -1)
+        weights[numpy.ix_(rows, columns)] = self.network.trip_table(spots[:len(sources)][rows], spots[len(sources):][columns], within)
+        cells = [[None if weight < 0 else weight for weight in row] if is_near else None for row, is_near in zip(weights.tolist(), rows)]
+        faults = [
+            {"list": owners[place][0], "index": owners[place][1], "metres": round(float(spots.metres[place]), 1), "error": text}
+            for place, text in far.items()
+        ]
+        return {"unit": self.network.unit, "weights": cells, **({"faults": faults} if faults else {})}
+
+    def reach(self, body):
+        """A collection of GeoJSON: a MultiPolygon for each limit, the largest first."""
+        fields = fields_of(body, ("from", "limits"))
+        limits = fields["limits"]
+        if not isinstance(limits, list) or not 1 <= len(limits) <= self.limits.bands:
+            raise Refused(f"limits is a list of 1 to {self.limits.bands} numbers")
+        limits = [int(number_in(limit, 1, 2**60, "a limit")) for limit in limits]
+        spot = self.near_spots([place_in(fields["from"], "from")], ENDS)
+        return {**self.network.isochrones(spot, limits), "unit": self.network.unit, "from": spot_of(spot, 0)}
+
+
+def spot_of(spots, place):
+    """Where a place was taken to, and how far that is."""
+    return {
+        "at": [round(float(spots.longitudes[place]), 6), round(float(spots.latitudes[place]), 6)],
+        "metres": round(float(spots.metres[place]), 1),
+    }
+
+
+def json_of(text):
+    return web.Response(text=text, content_type="application/json")
+
+
+def resident_bytes():
+    """The memory of this process."""
+    pages = pathlib.Path("/proc/self/statm").read_text().split()[1]
+    return int(pages) * resource.getpagesize()
