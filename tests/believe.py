@@ -1,10 +1,10 @@
 #!/usr/bin/python3
-"""Tests that docs/BELIEVE.md lists the definitions that a distance rests on, and no others, and shows planted bugs as they are.
+"""Tests that docs/claim.antt.txt has the definitions that a distance rests on, and no others, and that docs/BELIEVE.md takes an hour.
 
-  believe.py           compares the page with the sources
-  believe.py --table   prints what the page has to list: files with definitions, types of the code, and words of std
+  believe.py           compares the file and the page with the sources
+  believe.py --write   writes the file; that needs the kit, for the bodies of standard words
 
-The clause `written` of `run_dist` is where the list begins. A definition of `crates/*/specs` belongs to it if the clause, or a definition
+The clause `written` of `run_dist` is where the list starts. A definition of `crates/*/specs` belongs to it if the clause, or a definition
 of the list, mentions its name. The names of ROUTES are left out: they count only where routes are written. Those of SAVED count only where
 a hierarchy was saved.
 
@@ -13,6 +13,7 @@ It only reads files, and needs no built program. The last line is 'N passed, N f
 import re
 import sys
 
+from helpers import claim, prose
 from helpers.running import ROOT, Count
 
 PAGE = ROOT / "docs" / "BELIEVE.md"
@@ -58,16 +59,16 @@ def words(text):
 
 
 class Closure:
-    """What the clause needs: the definitions of each file, the types of the code, and the words of std."""
+    """What the clause needs without some names: the definitions of each file, the types of the code, and the words of std."""
 
-    def __init__(self):
-        self.files = sources()
+    def __init__(self, left_out=frozenset()):
+        self.files, self.left_out = sources(), left_out
         self.definitions, self.types, self.std = {}, set(), set()
         self.follow(Source(CONTRACT), clause())
 
     def follow(self, source, text):
         """Adds what a text of this file mentions."""
-        for word in words(text) - ROUTES - SAVED:
+        for word in words(text) - ROUTES - SAVED - self.left_out:
             module, name = source.imports.get(word, (None, word))
             if module is None and name in source.definitions:
                 self.add(source, name)
@@ -104,13 +105,6 @@ class Closure:
             put(source)
         return ordered
 
-    def rows(self):
-        """For each file its path, the definitions to read in the order of the file, and the lines that they and the file have."""
-        for source in self.in_order():
-            names = [name for name in source.definitions if name in self.definitions[source]]
-            count = sum(len(source.definitions[name].splitlines()) for name in names)
-            yield str(source.path.relative_to(ROOT)), names, count, len(source.text.splitlines())
-
     def types_in_files(self):
         """The types by the files of the code that declare them; `limits` stands for constants."""
         found = {}
@@ -120,32 +114,59 @@ class Closure:
         return found
 
 
-def listed(page, heading):
-    """The rows of the table below a heading of the page, as lists of cells."""
-    section = re.split(r"\n#+ ", page.split(f"## {heading}\n")[1])[0]
-    return [[cell.strip() for cell in line.strip("|").split(" | ")] for line in section.splitlines() if re.match(r"\|(?!-)", line)][1:]
+# How long a reader takes, in seconds: a word, a line of a definition, and a row of a table.
+WORD, LINE, ROW = 60 / 200, 30, 10
+MOST_MINUTES = 60
 
 
-def names_in(cell):
-    return re.findall(r"`([^`]+)`", cell)
+def page_seconds():
+    """How long the page takes: its words, and the rows of its tables."""
+    rows = [line for line in prose.prose(PAGE).splitlines() if re.match(r"\|(?!-)", line)]
+    blocks = [line for line in PAGE.read_text().splitlines() if line.startswith("    ")]
+    text = [line for line in PAGE.read_text().splitlines() if line not in rows and line not in blocks]
+    return WORD * len(re.findall(r"\w[\w.,'-]*", " ".join(text))) + ROW * (len(rows) + len(blocks))
 
 
-def check_definitions(tally, page, closure):
-    wanted = list(closure.rows())
-    found = [(*re.findall(r"\]\(\.\./([^)]+)\)", row[1]), names_in(row[3]), row[4]) for row in listed(page, "Which definitions do you read?")]
-    for path, names, count, total in wanted:
-        tally.expect((path, names, f"{count} of {total}") in found, f"BELIEVE.md has no row of {path}: {', '.join(names)}, {count} of {total}")
-    tally.expect([row[0] for row in found] == [row[0] for row in wanted], "BELIEVE.md has other files, or another order")
-    total = sum(row[2] for row in wanted)
-    tally.expect(f"{total} lines in {len(wanted)} files" in page, f"BELIEVE.md does not say {total} lines in {len(wanted)} files")
+def piece_seconds(piece):
+    """How long a piece of the file takes, by the same measure. Its comments are words."""
+    lines = [line for line in piece.splitlines() if line.strip()]
+    comments = [line for line in lines if line.startswith("--")]
+    return WORD * len(re.findall(r"\w[\w.,'-]*", " ".join(comments))) + LINE * (len(lines) - len(comments))
 
 
-def check_words(tally, page, closure):
-    """The types of the code, each with its file, and the words of std."""
-    found = {re.search(r"\]\(\.\./([^)]+)\)", row[0])[1]: set(names_in(row[1])) for row in listed(page, "Which types of the code do they name?")}
-    tally.expect(found == closure.types_in_files(), f"BELIEVE.md has not these types: {closure.types_in_files()}")
-    found = set(names_in(" ".join(cell for row in listed(page, "Which words of the standard library do they use?") for cell in row[:1])))
-    tally.expect(found == closure.std, f"BELIEVE.md and the definitions differ by these words of std: {sorted(found ^ closure.std)}")
+def count_lines(piece):
+    """The lines of a piece that are neither empty nor comments."""
+    return sum(bool(line.strip()) and not line.startswith("--") for line in piece.splitlines())
+
+
+def check_claim(tally, pieces, std):
+    """The file is what the sources make. The bodies of standard words are compared where the kit is."""
+    text = claim.FILE.read_text()
+    tally.expect(text.startswith("\n\n".join(pieces) + "\n\n"), "docs/claim.antt.txt is not what tests/believe.py --write makes of the sources")
+    if folder := claim.kit():
+        tally.expect(text.endswith(claim.standard_text(folder, std) + "\n"), "docs/claim.antt.txt has other standard words than the kit")
+
+
+def check_hour(tally, page, pieces):
+    """The page says how many lines each part has and how long it takes, and the page with the first part takes an hour at most."""
+    _, clause, first, example, second, third, _ = pieces
+    hour = (page_seconds() + sum(map(piece_seconds, (clause, first, example)))) / 60
+    tally.expect(hour <= MOST_MINUTES, f"BELIEVE.md with part 1 takes {hour:.0f} minutes")
+    for number, piece, minutes in (1, first, hour), (2, second, piece_seconds(second) / 60), (3, third, piece_seconds(third) / 60):
+        row = re.search(rf"^\| {number} \|.*\| (\d+) \| (\d+) \|$", page, re.MULTILINE)
+        tally.expect(row and row[1] == str(count_lines(piece)), f"BELIEVE.md: part {number} has {count_lines(piece)} lines")
+        tally.expect(row and abs(int(row[2]) - minutes) <= 2, f"BELIEVE.md: part {number} takes {minutes:.0f} minutes")
+
+
+def check_way(tally, page):
+    """The lines of definitions between the command and the clause, and of the code outside of contracts, are counted as they are."""
+    for row in re.findall(r"^\|.*\]\(\.\./crates/.*specs/.*\|$", page, re.MULTILINE):
+        files = [(ROOT / path).read_text() for path in re.findall(r"\]\(\.\./(crates/[^)]+)\)", row)]
+        lines = [line for text in files for line in text.splitlines() if line.strip() and not line.startswith(("--", "use ", "ghost use "))]
+        tally.expect(row.endswith(f"| {len(lines)} |"), f"BELIEVE.md: {len(lines)} lines, not as in {row}")
+    code = [line for name in ("main", "system") for line in (ROOT / f"crates/chtab/src/{name}.rt").read_text().splitlines()]
+    count = sum(bool(line.strip()) and not line.lstrip().startswith("//") for line in code)
+    tally.expect(f"with {count} lines of code" in page, f"BELIEVE.md: main.rt and system.rt have {count} lines of code")
 
 
 def check_bugs(tally, page):
@@ -158,26 +179,25 @@ def check_bugs(tally, page):
             tally.expect(f"\n    {sign} {text.strip()}\n" in page, f"BELIEVE.md does not show {sign} {text.strip()} of {bug}")
 
 
-def print_lists(closure):
-    for path, names, count, total in closure.rows():
-        shown = path.removeprefix("crates/")
-        print(f"| | [{shown}](../{path}) | | {', '.join(f'`{name}`' for name in names)} | {count} of {total} |")
-    for path, names in sorted(closure.types_in_files().items()):
-        print(f"| [{path.removeprefix('crates/')}](../{path}) | {', '.join(f'`{name}`' for name in sorted(names))} |")
-    print(*(f"`{name}`" for name in sorted(closure.std)))
+def made():
+    """The pieces of the file, and the standard words that it needs."""
+    closures = [Closure(left_out) for left_out, _ in claim.PARTS]
+    return claim.texts("    ensures written {" + clause().rstrip(), closures), closures[-1].std
 
 
 def check_page(tally):
-    """Compares the page with the sources."""
-    closure, page = Closure(), PAGE.read_text()
-    check_definitions(tally, page, closure)
-    check_words(tally, page, closure)
+    """Compares the file and the page with the sources."""
+    page, (pieces, std) = PAGE.read_text(), made()
+    check_claim(tally, pieces, std)
+    check_hour(tally, page, pieces)
+    check_way(tally, page)
     check_bugs(tally, page)
 
 
 def main():
-    if sys.argv[1:] == ["--table"]:
-        print_lists(Closure())
+    if sys.argv[1:] == ["--write"]:
+        pieces, std = made()
+        claim.FILE.write_text("\n\n".join([*pieces, claim.standard_text(claim.kit(), std)]) + "\n")
         return
     tally = Count()
     check_page(tally)

@@ -1,0 +1,181 @@
+"""The text of docs/claim.antt.txt: all that a distance rests on, in the order in which it is read."""
+import re
+import shutil
+import subprocess
+from pathlib import Path
+
+from helpers.running import ROOT
+
+FILE = ROOT / "docs" / "claim.antt.txt"
+COLUMNS = 134
+HEAD = """\
+-- What a distance of chtab rests on, in the order in which it is read. The page docs/BELIEVE.md goes with it.
+--
+-- Part 1 is what you read in the hour of that page. Part 2 says what the bytes of files mean, and part 3 which files are
+-- accepted. Then come the types of the code and the standard words that the definitions use. Nothing else is used.
+--
+-- `tests/believe.py --write` writes this file from the sources, and `./check` compares the two."""
+# The parts, each with the names that it leaves to the next one, and what it is.
+PARTS = (
+    ({"NamesGraph", "NamesQueries", "IsWithinLimits"}, "What a distance is, and what is written"),
+    ({"IsAccepted", "IsWithinLimits"}, "Which graph and which queries the bytes of files name"),
+    (set(), "Which files are accepted"),
+)
+NOTES = (
+    """\
+-- `NamesGraph bytes g` and `NamesQueries bytes n pairs` say which graph and which queries the bytes of a file name: docs/REFERENCE.md
+-- describes the files, and part 2 has the definitions. `IsWithinLimits g` only adds to the promise, and is in part 3.""",
+    """\
+-- `IsAccepted form bytes` only adds to the promise: each line of the file is a comment or one of the lines that follow. It is in part 3.""",
+    """\
+-- All of this only adds to what the first two parts promise. If it were left out, chtab could accept a file with a line that it doesn't
+-- understand, or with a number out of range. The distances would still be those of the graph that part 2 names.""",
+)
+EXAMPLE = """\
+-- The worked example: examples/first.gr, and the queries of examples/first.p2p
+--
+-- The lines of both files:
+{graph}
+{queries}
+--
+-- What they name, by part 2. `heading_in` finds `p sp 3 2`, and `items_in` the numbers of `a 1 2 4` and of `a 2 3 5`:
+--     items_in Graph First (lines bytes) = (1 ∷ 2 ∷ 4 ∷ []) ∷ (2 ∷ 3 ∷ 5 ∷ []) ∷ []
+-- Files count nodes from 1 and definitions count them from 0, so `arc_from` subtracts 1. The graph g and the queries are
+--     g.nodes = 3
+--     g.arcs  = record {{ from = 0; to = 1; weight = 4 }} ∷ record {{ from = 1; to = 2; weight = 5 }} ∷ []
+--     pairs   = (0, 2) ∷ (2, 0) ∷ []
+--
+-- The first query asks from 0 to 2. `IsWalk g 0 2 g.arcs` holds: the first arc is one of g and starts at 0, the second is one of g
+-- and starts at 1, where the first ends, and it ends at 2. `weight_of g.arcs` is 4 + 5 = 9. No other arc starts at 0 or at 1, so
+-- each walk from 0 to 2 has these two arcs, and none weighs less. That is `IsDistance g 0 2 9`.
+--
+-- The second query asks from 2 to 0. A walk there would start with an arc from 2, but there is none. The empty walk leads from 2 to 2
+-- alone. That is `IsUnreachable g 2 0`, and the weight of the answer is None.
+--
+-- `distance_text` counts nodes from 1 again. By `HasText` the text of both answers is
+{text}
+-- `HasTaken (Some []) new text` says that an output that had taken nothing has taken these bytes, and no others."""
+ANSWERS = "d 1 3 9\nd 3 1 -\n"
+# The standard words and what these use, by their files below the kit's folder `rattle`.
+STANDARD = {
+    "antt/port/mathlib/src/Core/Bool.antt": ("cond", "not"),
+    "antt/port/mathlib/src/Core/List/Defs.antt": ("map",),
+    "logic/Lib/ListN.antt": ("length", "get_or", "take"),
+    "logic/Lib/Chars.antt": ("codes",),
+    "logic/Lib/Pointwise.antt": ("pointwise",),
+    "core/specs/Option.antt": ("is_some", "is_none", "MatchOption", "option_map", "option_and_then", "option_map_or"),
+    "core/specs/List.antt": (
+        "slice_get", "slice_index", "All", "Contains", "AllZip", "fold", "sum_by", "filter", "list_all", "cons_option", "filter_map", "flat_map",
+        "onto_first", "slice_split",
+    ),
+    "core/specs/Str.antt": ("bytes_eq", "all_ascii_digits"),
+    "core/specs/Str/Parse.antt": ("digits_value_after", "digits_value"),
+    "core/specs/Fmt.antt": ("digit_glyph", "digits_onto", "digits", "decimal"),
+}
+# Those that are as in most languages, or that the file's signs explain, in words.
+IN_WORDS = {
+    "ℕ": "the natural numbers 0, 1, 2, ..", "Bool": "true and false", "true": "", "false": "", "List": "lists", "Option": "Some x, or None",
+    "Some": "", "None": "", "Result": "Ok x, or Err fault", "Ok": "", "Err": "", "nat_le": "at most, as a truth value",
+    "nat_lt": "less, as a truth value", "slice_index_or": "another name of get_or",
+}
+# What the bodies use that has a long definition of its own.
+USED = {"is_ascii_digit": "a byte from 48 to 57", "digit_value": "of such a byte: it less 48", "code": "of a character: its code point"}
+
+
+def wrapped(text):
+    """A text in lines of at most so many columns, cut at blanks. A comment goes on as one, and code is indented."""
+    lines = []
+    for line in text.splitlines():
+        following = "-- " if line.startswith("--") else " " * 12 if line.startswith(" ") else " " * 4
+        while len(line) > COLUMNS and " " in line[len(following):COLUMNS]:
+            cut = line.rindex(" ", len(following), COLUMNS)
+            lines.append(line[:cut])
+            line = following + line[cut + 1:]
+        lines.append(line)
+    return "\n".join(lines)
+
+
+def title(text):
+    return f"-- {'=' * 20}\n-- {text}"
+
+
+def part_text(number, note, heading, closure, before):
+    """A part: its definitions by files, without those of the parts before it."""
+    blocks = [title(f"Part {number}. {heading}"), note]
+    for source in closure.in_order():
+        names = [name for name in source.definitions if name in closure.definitions[source] and name not in before.get(source.path, ())]
+        if names:
+            blocks.append(f"-- {source.path.relative_to(ROOT)}")
+            blocks += [source.definitions[name] for name in names]
+    return "\n\n".join(blocks)
+
+
+def declaration(path, name):
+    """A type of the code, without comments."""
+    text = path.read_text()
+    found = re.search(rf"^pub (?:struct|enum) {name}\b.*?^}}", text, re.MULTILINE | re.DOTALL)
+    return re.sub(r"^ *///.*\n", "", found[0], flags=re.MULTILINE)
+
+
+def constants(path, used):
+    """The limits that the definitions name."""
+    return "\n".join(line for line in path.read_text().splitlines() if any(line.startswith(f"pub const {name}:") for name in used))
+
+
+def types_text(closure):
+    """The types of the code that the definitions name."""
+    used = set().union(*(set(re.findall(r"\w+", source.definitions[name])) for source, names in closure.definitions.items() for name in names))
+    blocks = [title("The types of the code. u32 and u64 are read as ℕ, and Vec<T> as List T")]
+    for path, names in sorted(closure.types_in_files().items()):
+        found = [constants(ROOT / path, used) if name == "limits" else declaration(ROOT / path, name) for name in sorted(names)]
+        blocks += [f"-- {path}", *found]
+    return "\n\n".join(blocks)
+
+
+def kit():
+    """The folder of the kit's definitions, or None where there is no kit."""
+    if not shutil.which("rt"):
+        return None
+    page = subprocess.run(["rt", "doc"], capture_output=True, text=True).stdout.strip()
+    return Path(page).parent / "rattle"
+
+
+def kit_definition(path, name):
+    """A definition of the kit as it is there, without what it is indented by."""
+    lines = path.read_text().splitlines()
+    start = next(at for at, line in enumerate(lines) if re.match(rf" *(?:abbrev |unfoldable )*pub {re.escape(name)} ", line))
+    indent = len(lines[start]) - len(lines[start].lstrip())
+    end = next((at for at in range(start, len(lines)) if not lines[at].strip()), len(lines))
+    return "\n".join(line[indent:] for line in lines[start:end])
+
+
+def standard_text(folder, std):
+    """The standard words: those that are known in words, then the bodies of the others."""
+    missing = std - set(IN_WORDS) - {name for names in STANDARD.values() for name in names}
+    if missing:
+        raise SystemExit(f"helpers/claim.py knows no body of {', '.join(sorted(missing))}")
+    known = [*((word, meaning) for word, meaning in IN_WORDS.items() if meaning and word in std), *USED.items()]
+    words = "\n".join(f"--     {word:15} {meaning}" for word, meaning in known)
+    bodies = [kit_definition(folder / path, name) for path, names in STANDARD.items() for name in names]
+    return wrapped("\n\n".join([title("The standard words, as the kit defines them"), words, *bodies]))
+
+
+def shown(path):
+    """The lines of a file, each as a comment."""
+    return "\n".join(f"--     {line}" for line in path.read_text().splitlines())
+
+
+def example_text():
+    text = "\n".join(f"--     {line}" for line in ANSWERS.splitlines())
+    return title(EXAMPLE[3:].format(graph=shown(ROOT / "examples/first.gr"), queries=shown(ROOT / "examples/first.p2p"), text=text))
+
+
+def texts(clause, closures):
+    """The pieces of the file, but for the standard words."""
+    before, pieces = {}, [HEAD, f"{title('The clause `written` of `run_dist`, in crates/ch_run/src/run/dist.rt')}\n\n{clause}"]
+    for number, ((_, heading), note, closure) in enumerate(zip(PARTS, NOTES, closures), 1):
+        pieces.append(part_text(number, note, heading, closure, before))
+        before = {source.path: set(names) for source, names in closure.definitions.items()}
+        if number == 1:
+            pieces.append(example_text())
+    return [wrapped(piece) for piece in (*pieces, types_text(closures[-1]))]
