@@ -24,7 +24,7 @@ PAGES = (
 PROVED, MEASUREMENTS, REFERENCE = (ROOT / "docs" / name for name in ("PROVED.md", "MEASUREMENTS.md", "REFERENCE.md"))
 MOST_LINES_OF_README = 120
 # The pages that follow all rules of `helpers.prose`; the others follow those that came first.
-JUDGED = ("README.md", "docs/BELIEVE.md")
+JUDGED = ("README.md", "docs/BELIEVE.md", "docs/REFERENCE.md")
 # A name of a file or folder with a slash; one without, of what a document is about; and the suffixes of text.
 PATH = re.compile(r"[\w.-]+(?:/[\w.-]+)+/?|[\w-]+/")
 FILE = re.compile(r"[\w-]+\.(?:antt|c|cpp|md|py|rs|rt|sh|toml)")
@@ -222,8 +222,8 @@ COMMANDS = ROOT / "python/chtab/cli"
 # The constants of limits with the rows that state them, and those that no user meets.
 LIMITS = (
     ("MOST_NODES", "nodes of a graph"), ("MOST_ARCS", "arcs of a graph"), ("MOST_WEIGHT", "number of nodes times the weight of any arc"),
-    ("MOST_QUERIES", "queries of a file"), ("MOST_LISTED", "nodes of a list of sources or of targets"), ("MOST_LEGS", "legs of a saved hierarchy"),
-    ("MOST_CELLS", "cells of a table, sources times targets"), ("MOST_WEIGHT", "weight of a leg"), ("MOST_NODES", "arcs that a leg stands for"),
+    ("MOST_QUERIES", "queries of a file"), ("MOST_LISTED", "nodes of a list of sources or of targets"), ("MOST_LEGS", "edges of a saved hierarchy"),
+    ("MOST_CELLS", "cells of a table, sources times targets"), ("MOST_WEIGHT", "weight of an edge"), ("MOST_NODES", "arcs that an edge stands for"),
     ("MOST_WITHIN", "`--within R`"), ("MOST_COUNT", "`--count K`"), ("MOST_WORKERS", "`--workers N`"), ("MOST_PIECE", "`--piece K`"),
     ("MOST_HOPS", "`--hops H`"),
 )
