@@ -24,7 +24,7 @@ PAGES = (
 PROVED, MEASUREMENTS, REFERENCE = (ROOT / "docs" / name for name in ("PROVED.md", "MEASUREMENTS.md", "REFERENCE.md"))
 MOST_LINES_OF_README = 120
 # The pages that follow all rules of `helpers.prose`; the others follow those that came first.
-JUDGED = ("README.md", "docs/BELIEVE.md", "docs/REFERENCE.md")
+JUDGED = ("README.md", "docs/BELIEVE.md", "docs/PROVED.md", "docs/REFERENCE.md")
 # A name of a file or folder with a slash; one without, of what a document is about; and the suffixes of text.
 PATH = re.compile(r"[\w.-]+(?:/[\w.-]+)+/?|[\w-]+/")
 FILE = re.compile(r"[\w-]+\.(?:antt|c|cpp|md|py|rs|rt|sh|toml)")
