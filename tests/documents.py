@@ -22,9 +22,11 @@ PAGES = (
     ROOT / "bench" / "README.md", *sorted((ROOT / "python").glob("README*")),
 )
 PROVED, MEASUREMENTS, REFERENCE = (ROOT / "docs" / name for name in ("PROVED.md", "MEASUREMENTS.md", "REFERENCE.md"))
-MOST_LINES_OF_README = 120
+MOST_LINES_OF_README, MOST_WORDS_OF_ARCHITECTURE = 120, 4_500
 # The pages that follow all rules of `helpers.prose`; the others follow those that came first.
-JUDGED = ("README.md", "docs/BELIEVE.md", "docs/PROVED.md", "docs/REFERENCE.md")
+JUDGED = (
+    "README.md", "docs/ARCHITECTURE.md", "docs/BELIEVE.md", "docs/PROVED.md", "docs/REFERENCE.md",
+)
 # A name of a file or folder with a slash; one without, of what a document is about; and the suffixes of text.
 PATH = re.compile(r"[\w.-]+(?:/[\w.-]+)+/?|[\w-]+/")
 FILE = re.compile(r"[\w-]+\.(?:antt|c|cpp|md|py|rs|rt|sh|toml)")
@@ -443,6 +445,8 @@ def main():
         check_text(tally, path)
     lines = len((ROOT / "README.md").read_text().splitlines())
     tally.expect(lines <= MOST_LINES_OF_README, f"README.md has {lines} lines")
+    words = len((ROOT / "docs" / "ARCHITECTURE.md").read_text().split())
+    tally.expect(words <= MOST_WORDS_OF_ARCHITECTURE, f"ARCHITECTURE.md has {words} words")
     tally.finish()
 
 
