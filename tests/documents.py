@@ -25,7 +25,8 @@ PROVED, MEASUREMENTS, REFERENCE = (ROOT / "docs" / name for name in ("PROVED.md"
 MOST_LINES_OF_README, MOST_WORDS_OF_ARCHITECTURE = 120, 4_500
 # The pages that follow all rules of `helpers.prose`; the others follow those that came first.
 JUDGED = (
-    "README.md", "docs/ARCHITECTURE.md", "docs/BELIEVE.md", "docs/PROVED.md", "docs/REFERENCE.md", "docs/TESTING.md",
+    "README.md", "docs/ARCHITECTURE.md", "docs/BELIEVE.md", "docs/DEFINITIONS.md", "docs/PROVED.md", "docs/REFERENCE.md",
+    "docs/TESTING.md",
 )
 # A name of a file or folder with a slash; one without, of what a document is about; and the suffixes of text.
 PATH = re.compile(r"[\w.-]+(?:/[\w.-]+)+/?|[\w-]+/")
@@ -345,6 +346,13 @@ def check_edit(tally, edit):
         texts[file] = text.replace(old, new)
 
 
+def check_glossary(tally):
+    """The words of DEFINITIONS.md are in order, each once."""
+    section = (ROOT / "docs" / "DEFINITIONS.md").read_text().split("\n## What does each word mean?\n")[1].split("\n## ")[0]
+    found = [line.split(" | ")[0].strip("| ").lower() for line in section.splitlines() if re.match(r"\|(?!-)", line)][1:]
+    tally.expect(found == sorted(set(found)), "the words of DEFINITIONS.md are not in order")
+
+
 def check_figures(tally):
     """Each section of figures names its script, a day and a machine; each script that measures has a line in bench/README.md, and the
     other way round."""
@@ -435,6 +443,7 @@ def main():
     check_faults(tally)
     check_statuses(tally)
     believe.check_page(tally)
+    check_glossary(tally)
     check_figures(tally)
     check_versions(tally)
     check_docstrings(tally)
