@@ -13,7 +13,7 @@ CODE = re.compile(r"`([^`]+)`")
 HARD = r"as ever|of whose|(?:is|are|was|were|be|been|being) told|whoever|hence|thus|thereby|signs? of life"
 # Words that the field has others for: arguments, CPU time, wall time, synthetic, components, workspace, 'is', 'start'.
 FOREIGN = (
-    r"words of the (?:command )?line|processor time|(?:seconds|minutes) of processor|by the clock|made[- ]up|hangs? (?:apart|together)"
+    r"words of the (?:command )?line|processor (?:time|seconds)|\w*(?:seconds|minutes) of processors?|by the clock|made[- ]up|hangs? (?:apart|together)"
     r"|(?:a|its|the|one|clean|each) rooms? of|stands?(?! for\b)(?!-)|stood|beg(?:in|ins|an|un)"
 )
 OLD, NEW = (re.compile(rf"\b(?:{words})\b", re.IGNORECASE) for words in (HARD, f"{HARD}|{FOREIGN}"))
