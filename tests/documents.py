@@ -14,7 +14,7 @@ from pathlib import Path
 
 import believe
 from helpers import layers
-from helpers.prose import CODE, check_prose, check_sentence, prose
+from helpers.prose import CODE, FIELD, check_prose, check_sentence, prose
 from helpers.running import ROOT, Count
 
 PAGES = (
@@ -215,7 +215,7 @@ def check_help(tally, path):
     tally.expect(texts[0], f"{told(path)} has no text of help")
     for block in filter(None, re.split(r"\n\n|\n  ", "\n\n".join(map(str, texts)))):
         for sentence in re.split(r"(?<=[.?!:;]) ", " ".join(block.split())):
-            check_sentence(tally, path, sentence)
+            check_sentence(tally, path, sentence, FIELD)
 
 
 # What docs/REFERENCE.md has once.

@@ -16,7 +16,7 @@ FOREIGN = (
     r"words of the (?:command )?line|processor (?:time|seconds)|\w*(?:seconds|minutes) of processors?|by the clock|made[- ]up|hangs? (?:apart|together)"
     r"|(?:a|its|the|one|clean|each) rooms? of|stands?(?! for\b)(?!-)|stood|beg(?:in|ins|an|un)"
 )
-OLD, NEW = (re.compile(rf"\b(?:{words})\b", re.IGNORECASE) for words in (HARD, f"{HARD}|{FOREIGN}"))
+PLAIN, FIELD = (re.compile(rf"\b(?:{words})\b", re.IGNORECASE) for words in (HARD, f"{HARD}|{FOREIGN}"))
 # In pages for users a hierarchy has edges, and a graph has paths; *walk* is named where its definition is meant.
 OF_USERS = re.compile(r"\blegs?\b|(?<!\*)\bwalks?\b(?!\*)", re.IGNORECASE)
 FOR_USERS = "README.md", "docs/GUIDE.md", "docs/REFERENCE.md", "docs/PYTHON.md"
@@ -56,7 +56,7 @@ def count(sentence):
     return len(re.findall(r"\w[\w.,'-]*", sentence))
 
 
-def check_sentence(tally, path, sentence, words=OLD):
+def check_sentence(tally, path, sentence, words=PLAIN):
     """A sentence is short, and has none of the words."""
     tally.expect(count(sentence) <= MOST_WORDS, f"{path.relative_to(ROOT)}: {count(sentence)} words: {sentence}")
     found = words.search(sentence)
@@ -88,7 +88,7 @@ def check_words(tally, page):
     """Tables too have the field's words; headings too."""
     name = str(page.relative_to(ROOT))
     for line in by_hand(page).splitlines():
-        for words in (NEW, *([OF_USERS] if name in FOR_USERS else [])):
+        for words in (FIELD, *([OF_USERS] if name in FOR_USERS else [])):
             found = words.search(bare(line))
             tally.expect(not found, f"{name} has '{found and found[0]}': {line.strip()[:120]}")
 

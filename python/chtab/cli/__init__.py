@@ -1,7 +1,7 @@
 """The commands of `tools/`, each in a module of its own with `main(words)`, and how a command ends.
 
 A fault is one line on standard error and status 1. Ctrl-C, SIGTERM and a closed pipe end a command as they end any other, by the
-signal and without a word; what the command had begun (children, files that are not whole) is cleared away first.
+signal and without a message. What the command had started (children, files that are not whole) is cleared away first.
 """
 import argparse
 import importlib

@@ -6,7 +6,7 @@ Each line of PLACES is a place: longitude, latitude and, if you like, a name. Wi
 each place. The comment before each line has the place's name and its distance to the node in metres. If a place is refused, nothing is
 written.
 
-If OUT.co was made with turns (tools/osm_to_gr.py --turns), trips begin and end at different nodes of a crossing. With --queries the second
+If OUT.co was made with turns (tools/osm_to_gr.py --turns), trips start and end at different nodes of a crossing. With --queries the second
 place of each query becomes the node where trips end. --targets makes a list of such nodes.
 
 OUT.co is the coordinate file that tools/osm_to_gr.py writes, or one of the DIMACS challenge, in millionths of a degree. If several nodes

@@ -61,7 +61,7 @@ def words_of(words):
     engines.add_argument(
         "--library", nargs="?", const="", metavar="FILE",
         help="answer by the library for C in each process (FILE, or libchtab.so.1 beside the program), or end with the reason why it can't; "
-             "without this and --pipe it is taken if it stands there and --saved is given",
+             "without this and --pipe it is taken if it is there and --saved is given",
     )
     engines.add_argument("--pipe", action="store_true", help="answer by a run of the program beside each process, which can be ended at any time")
     parser.add_argument("--log", metavar="FILE", help="write a line for each request to the end of FILE; '-' is standard output")

@@ -5,9 +5,9 @@
   picture.py [OPTIONS] reach OUT TARGETS.ss [TEXT]
   picture.py [OPTIONS] near OUT [TEXT]
 
-OUT stands for OUT.gr and OUT.co. TEXT is what chtab wrote (standard input if you leave it out). Words may stand in any order.
+OUT stands for OUT.gr and OUT.co. TEXT is what chtab wrote (standard input if you leave it out). Arguments may come in any order.
   network  the roads alone
-  routes   the text of `chtab dist --routes`. Each route has a colour, a ring where it begins and a dot where it ends. Where routes share
+  routes   the text of `chtab dist --routes`. Each route has a colour, a ring where it starts and a dot where it ends. Where routes share
            a road, the later ones are drawn thin over the wide ones
   reach    the text of `chtab table` with one source. Roads are coloured by the weights of their nodes, in bands from 0 to the limit.
            TARGETS.ss has to be a list of all nodes, as `nearest.py --all` writes it. If that is more than a run of chtab takes, let

@@ -1,4 +1,4 @@
-"""Finds what is reached from a place within limits, and writes polygons of it as GeoJSON.
+"""Finds what can be reached from a place within limits, and writes polygons of it as GeoJSON.
 
   reach.py --limits R[,R..] [OPTIONS] OUT [PLACE]
 

@@ -1,13 +1,13 @@
-"""Tells how far it is between places that lie beside roads, and writes the ways.
+"""Computes trips between places that lie beside roads: their weights, their lengths and their lines.
 
   trips.py [OPTIONS] OUT [PLACES]
 
-PLACES has a place a line: longitude, latitude and, where you like, a name. Each place is taken to the nearest point of the nearest road. A
-trip is the best over the ends of both roads, with the parts of these added. Where a place is refused nothing is written.
+Each line of PLACES is a place: longitude, latitude and, if you like, a name. It is taken to the nearest point of the nearest road. A trip is
+the best over the ends of both roads, with the parts of these added. If a place is refused, nothing is written.
 
 Without an option the result is CSV with a line for each trip: the first and second place make a trip, the third and fourth, and so on. The
-columns are both names, the weight in the graph's unit (empty where there is no way), and how many metres each place lies from its road.
-Of a graph with turns (tools/osm_to_gr.py --turns) the restrictions hold.
+columns are both names, the weight in the graph's unit (empty if there is no path), and how many metres each place lies from its road. If
+the graph was made with turns (tools/osm_to_gr.py --turns), no forbidden turn is taken.
 
 Example:  tools/trips.py roads places.txt
 
