@@ -17,19 +17,20 @@ HEAD = """\
 -- `tests/believe.py --write` writes this file from the sources, and `./check` compares the two."""
 # The parts, each with the names that it leaves to the next one, and what it is.
 PARTS = (
-    ({"NamesGraph", "NamesQueries", "IsWithinLimits"}, "What a distance is, and what is written"),
-    ({"IsAccepted", "IsWithinLimits"}, "Which graph and which queries the bytes of files name"),
+    ({"lines", "heading_in", "items_in", "IsAccepted", "IsWithinLimits"}, "What a distance is, what files name, and what is written"),
+    ({"IsAccepted", "IsWithinLimits"}, "Lines, words and numbers of files, and what they declare and list"),
     (set(), "Which files are accepted"),
 )
 NOTES = (
     """\
--- `NamesGraph bytes g` and `NamesQueries bytes n pairs` say which graph and which queries the bytes of a file name: docs/REFERENCE.md
--- describes the files, and part 2 has the definitions. `IsWithinLimits g` only adds to the promise, and is in part 3.""",
+-- Of a file, `lines bytes` are its lines, `heading_in form lines` is what its problem line declares, and `items_in form part lines` are the
+-- numbers of each of its item lines: docs/REFERENCE.md describes the files, and part 2 has the definitions. `IsAccepted form bytes` and
+-- `IsWithinLimits g` only add to the promise, and are in part 3.""",
     """\
 -- `IsAccepted form bytes` only adds to the promise: each line of the file is a comment or one of the lines that follow. It is in part 3.""",
     """\
 -- All of this only adds to what the first two parts promise. If it were left out, chtab could accept a file with a line that it doesn't
--- understand, or with a number out of range. The distances would still be those of the graph that part 2 names.""",
+-- understand, or with a number out of range. The distances would still be those of the graph that `NamesGraph` names.""",
 )
 EXAMPLE = """\
 -- The worked example: examples/first.gr, and the queries of examples/first.p2p
@@ -38,7 +39,7 @@ EXAMPLE = """\
 {graph}
 {queries}
 --
--- What they name, by part 2. `heading_in` finds `p sp 3 2`, and `items_in` the numbers of `a 1 2 4` and of `a 2 3 5`:
+-- What they name, by `NamesGraph` and `NamesQueries`. `heading_in` finds `p sp 3 2`, and `items_in` the numbers of the lines `a`:
 --     items_in Graph First (lines bytes) = (1 ∷ 2 ∷ 4 ∷ []) ∷ (2 ∷ 3 ∷ 5 ∷ []) ∷ []
 -- Files count nodes from 1 and definitions count them from 0, so `arc_from` subtracts 1. The graph g and the queries are
 --     g.nodes = 3
@@ -111,24 +112,25 @@ def part_text(number, note, heading, closure, before):
 
 
 def declaration(path, name):
-    """A type of the code, without comments."""
-    text = path.read_text()
-    found = re.search(rf"^pub (?:struct|enum) {name}\b.*?^}}", text, re.MULTILINE | re.DOTALL)
-    return re.sub(r"^ *///.*\n", "", found[0], flags=re.MULTILINE)
+    """A type of the code in one line: its fields, or its cases."""
+    body = re.search(rf"^pub (struct|enum) {name}\b.*?{{(.*?)^}}", path.read_text(), re.MULTILINE | re.DOTALL)
+    parts = re.findall(r"^ *(?:pub )?(\w.*),$", body[2], re.MULTILINE)
+    return f"{name} = {'; '.join(parts)}" if body[1] == "struct" else f"{name} = {' | '.join(parts)}"
 
 
 def constants(path, used):
-    """The limits that the definitions name."""
-    return "\n".join(line for line in path.read_text().splitlines() if any(line.startswith(f"pub const {name}:") for name in used))
+    """The limits that the definitions name, one a line."""
+    found = re.findall(r"^pub const (\w+): \w+ = (.*);$", path.read_text(), re.MULTILINE)
+    return "\n".join(f"{name} = {value}" for name, value in found if name in used)
 
 
 def types_text(closure):
     """The types of the code that the definitions name."""
     used = set().union(*(set(re.findall(r"\w+", source.definitions[name])) for source, names in closure.definitions.items() for name in names))
-    blocks = [title("The types of the code. u32 and u64 are read as ℕ, and Vec<T> as List T")]
+    blocks = [title("The types of the code, by fields or by cases. u32, u64 and usize are read as ℕ, Vec<T> as List T")]
     for path, names in sorted(closure.types_in_files().items()):
         found = [constants(ROOT / path, used) if name == "limits" else declaration(ROOT / path, name) for name in sorted(names)]
-        blocks += [f"-- {path}", *found]
+        blocks.append("\n".join([f"-- {path}", *found]))
     return "\n\n".join(blocks)
 
 
