@@ -217,6 +217,9 @@ def check_install(tally, folder):
     tally.expect((status, out) == (0, "") and "install: chtab" in err, f"install: {status} {out} {err}")
     check_installed(tally, prefix, folder)
     check_library(tally, prefix, folder)
+    said([ROOT / "install", "--without-library", prefix], folder)
+    left = [name for name in OF_LIBRARY if (prefix / name).exists()]
+    tally.expect((prefix / "bin" / "chtab").exists() and not left, f"left of the library where it is left out: {left}")
     said([ROOT / "install", "--remove", prefix], folder)
     tally.expect(not prefix.exists(), f"left after removal: {list(prefix.glob('**/*'))}")
     (prefix / "bin").mkdir(parents=True)
@@ -231,7 +234,7 @@ def check_install(tally, folder):
     tally.expect(not staged, f"manual pages that name the folder of a package: {staged}")
     said([ROOT / "install", "--remove", "/usr"], folder, DESTDIR=str(folder / "stage"))
     tally.expect(not list((folder / "stage").glob("**/*")), f"left after removal: {list((folder / 'stage').glob('**/*'))}")
-    for words in ["--fast"], ["one", "two"]:
+    for words in ["--fast"], ["one", "two"], ["--without-library", "one", "two"]:
         tally.expect(said([ROOT / "install", *words], folder)[0] == 2, f"install {words} is not refused")
 
 
@@ -307,6 +310,28 @@ def check_in_root(tally, root, package):
     tally.expect((status, left) == (0, before), f"left after the package was removed: {sorted(set(left) ^ set(before))} {err}")
 
 
+def check_package_without_library(tally, folder):
+    """Where the library can't be made there is no package, and a line says so. On request there is one without the library."""
+    checkout, stub = checkout_of(folder, "refused", True, False), folder / "stub"
+    shutil.copy(ROOT / "install", checkout)
+    stub.mkdir()
+    (stub / "rt").write_text("#!/bin/sh\nexit 1\n")
+    (stub / "rt").chmod(0o755)
+    (checkout / "crates.txt").write_text("ch_c staticlib:\n")
+    for part in "src", "specs", "proofs":
+        (checkout / "crates" / "ch_c" / part).mkdir(parents=True)
+    (checkout / "HANDLES").write_text("Handles allowed: none.\n")
+    (checkout / "crates" / "chtab" / "out" / "chtab").touch()
+    status, out, err = said([checkout / "packaging" / "deb", checkout], folder, f"{stub}:{SYSTEM}")
+    told = [line for line in err.splitlines() if line.startswith("deb: ")]
+    wanted = ["deb: no package: the library for C can't be made; --without-library leaves it out"]
+    tally.expect((status, out, told, list(checkout.glob("*.deb"))) == (3, "", wanted, []), f"a package whose library can't be made: {status} {out} {err}")
+    (folder / "without").mkdir()
+    status, out, err = said([ROOT / "packaging" / "deb", "--without-library", folder / "without"], folder)
+    listed = said(["dpkg-deb", "--contents", out.strip()], folder)[1]
+    tally.expect(status == 0 and "usr/lib/chtab/program" in listed and "libchtab" not in listed, f"a package without the library: {status} {out} {err}")
+
+
 def check_package(tally, folder):
     """The package is made, and tried in a root of its own where that may be done."""
     for words in ["--fast"], ["one", "two"], ["--without-library", "one", "two"], ["one", "--without-library"]:
@@ -315,6 +340,7 @@ def check_package(tally, folder):
     if lacking:
         print(f"left out: Debian's package needs {', '.join(lacking)}")
         return
+    check_package_without_library(tally, folder)
     status, out, err = said([ROOT / "packaging" / "deb", "none"], folder)
     tally.expect((status, out) == (1, "") and "none" in err, f"packaging/deb into no folder: {status} {out} {err}")
     status, out, err = said([ROOT / "packaging" / "deb", folder], folder)
