@@ -2,9 +2,14 @@
 
 The scripts beside this file use it, and `bench/programs.py`.
 """
+import contextlib
 import functools
+import os
 import re
+import signal
 import subprocess
+import sys
+import time
 from pathlib import Path
 
 ROOT = Path(__file__).resolve().parent.parent
@@ -12,6 +17,8 @@ CRATES = ROOT / "crates"
 # The program, and the crate of the library for C.
 PROGRAM, LIBRARY = "chtab", "ch_c"
 TARGET = "x86_64-unknown-linux-gnu"
+# So many seconds after a line of progress the next one comes, if nothing has ended before.
+SILENCE = 45
 
 
 def said(*command):
@@ -73,3 +80,56 @@ def linked(object_file, program):
     arguments = ["--target", TARGET, "--toolchain", folder / "toolchain", "-o", program, object_file]
     command = [folder / "bin" / "rattle-link", *arguments, folder / "c" / "libos_c.a", folder / "c" / "liblibc_c.a"]
     return subprocess.run(command, stdout=subprocess.PIPE, stderr=subprocess.STDOUT, text=True, errors="replace")
+
+
+def say(text):
+    print(f"chtab: {text}", file=sys.stderr, flush=True)
+
+
+def refuse(lines):
+    """Prints the end of what was printed, and ends."""
+    say("\n".join(["not built:", *lines[-20:]]))
+    sys.exit(70)
+
+
+def end_by_signals():
+    """Signals end a script as `sys.exit` does, so that it ends what it has started."""
+    for number in signal.SIGHUP, signal.SIGINT, signal.SIGTERM:
+        signal.signal(number, lambda number, _: sys.exit(128 + number))
+
+
+class Underway:
+    """The processes that are underway, each for a crate and with a log, and lines of progress."""
+
+    def __init__(self):
+        self.running = {}
+        self.begun = self.told = time.monotonic()
+
+    def tell(self, text):
+        """Prints a line of progress."""
+        self.told = time.monotonic()
+        others = f"; underway: {' '.join(self.running)}" if self.running else ""
+        say(f"{text} after {self.told - self.begun:.0f} seconds{others}")
+
+    def launch(self, name, command, folder, log):
+        """Starts a process for a crate, in a group of its own."""
+        with log.open("w") as printed:
+            self.running[name] = subprocess.Popen(command, cwd=folder, stdin=subprocess.DEVNULL, stdout=printed, stderr=subprocess.STDOUT, start_new_session=True)
+
+    def wait(self, left):
+        """Waits until one has ended, and gives its crate and its status."""
+        while True:
+            for name, process in self.running.items():
+                if process.poll() is not None:
+                    return name, self.running.pop(name).returncode
+            if time.monotonic() - self.told > SILENCE:
+                self.tell(f"{left} left")
+            time.sleep(0.1)
+
+    def stop(self):
+        """Ends all, with the processes that they have started."""
+        for process in self.running.values():
+            if process.poll() is None:
+                with contextlib.suppress(ProcessLookupError):
+                    os.killpg(process.pid, signal.SIGKILL)
+                process.wait()

@@ -88,7 +88,7 @@ def check_verdicts(tally, folder):
         with (checkout / "crates.txt").open("a") as layers:
             layers.write(f"{head}\n")
     (checkout / "packaging").mkdir()
-    for name in "chtab", "VERSION", "packaging/keep":
+    for name in "chtab", "VERSION", "packaging/keep", "packaging/building.py":
         shutil.copy(ROOT / name, checkout / name)
     (checkout / "HANDLES").write_text("Handles allowed: none.\n")
     (folder / "bin").mkdir()

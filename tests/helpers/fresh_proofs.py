@@ -168,9 +168,9 @@ def check_broken_off(tally, checkout):
     checkout.say("slow", "low")
     checkout.say("asked")
     checkout.write("low", "// once more\n")
-    impatient = checkout.path / "packaging" / "prove"
+    impatient = checkout.path / "packaging" / "building.py"
     impatient.write_text(impatient.read_text().replace("SILENCE = 45", "SILENCE = 0.5"))
-    running = subprocess.Popen([impatient], env=checkout.environment, stderr=subprocess.PIPE, text=True)
+    running = subprocess.Popen([checkout.path / "packaging" / "prove"], env=checkout.environment, stderr=subprocess.PIPE, text=True)
     told = [running.stderr.readline() for _ in range(2)]
     tally.expect(told[1].rstrip().endswith("; underway: low"), f"what is told of a long proof: {told}")
     running.terminate()
