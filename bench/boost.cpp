@@ -1,6 +1,6 @@
 // Dijkstra's algorithm of the Boost Graph Library on a graph and queries of chtab, for bench/others.
 //   boost GRAPH QUERIES
-// Prints the distance of each query, or -, and last the mean microseconds of processor of a query. A search stops at its target.
+// Prints the distance of each query, or -, and last the mean microCPU seconds of a query. A search stops at its target.
 #include <boost/graph/compressed_sparse_row_graph.hpp>
 #include <boost/graph/dijkstra_shortest_paths.hpp>
 #include <cstdint>

@@ -1,4 +1,4 @@
-"""Dijkstra's algorithm as other libraries have it: each gives the mean processor seconds of a query of a file, and the distances as words."""
+"""Dijkstra's algorithm as other libraries have it: each gives the mean CPU seconds of a query of a file, and the distances as words."""
 import os
 import shutil
 import subprocess
@@ -16,7 +16,7 @@ def items_of(path, letter):
 
 
 def timed(answer, queries):
-    """The mean processor seconds of an answer to a query, numbered from 0, and the answers; one that is infinite is none."""
+    """The mean CPU seconds of an answer to a query, numbered from 0, and the answers; one that is infinite is none."""
     distances, seconds = [], 0.0
     for start, end in items_of(queries, "q"):
         begin = time.process_time()

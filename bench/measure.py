@@ -212,6 +212,6 @@ def add_networks(parser, *default):
 
 
 def query_seconds(inputs, saved, many, rounds):
-    """The median of the processor seconds of a query by a saved hierarchy: the difference of runs with one query and with many."""
+    """The median of the CPU seconds of a query by a saved hierarchy: the difference of runs with one query and with many."""
     commands = {count: [PROGRAM, "dist", "--saved", saved, inputs.graph, inputs.queries(count)] for count in (1, many)}
     return statistics.median((each[many] - each[1]) / (many - 1) for each in each_round(rounds, commands, processor_seconds))

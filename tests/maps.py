@@ -215,7 +215,7 @@ def what_is_left_out_is_told():
         "  1  limits of speed passed over: unreadable or too high  1 maxspeed=fast",
         "  1  ferries without a readable duration",
         "  1  turn restrictions left out                           1 over ways",
-        "  4  nodes of parts that hang apart                       4 of 8, in 2 parts of 2 nodes and fewer",
+        "  4  nodes of smaller components                          4 of 8, in 2 parts of 2 nodes and fewer",
     ], table
     assert tool("osm_to_gr", "--turns", "--quiet", "all.osm", "all")[1] == ""
     what_is_left_out_is_logged()
@@ -241,7 +241,7 @@ def what_is_left_out_is_logged():
     }, rows
     assert {row[0] for row in told} == {"way", "node", "relation"} and not any(number == "12" for _, number, *_ in told), rows
     names = set(pathlib.Path("all.nodes").read_text().split())
-    apart = {number for thing, number, reason, _ in told if reason == "nodes of parts that hang apart"}
+    apart = {number for thing, number, reason, _ in told if reason == "nodes of smaller components"}
     assert apart and not apart & names - {"3", "4"}, (apart, names)
 
 
@@ -266,7 +266,7 @@ def parts_are_kept():
     }
     assert noted(text, part="largest") == {"parts": {"of 8, in 3 parts of 2 nodes and fewer": 4}} and noted(text) == {}
     pathlib.Path("parts.osm").write_text(text)
-    assert refused("--part", "5", "parts.osm", "parts") == "osm_to_gr: there is no part 5: the roads hang together in 4\n"
+    assert refused("--part", "5", "parts.osm", "parts") == "osm_to_gr: there is no part 5: the roads have 4\n"
     for word in "0", "-1", "some":
         tool("osm_to_gr", "--part", word, "parts.osm", "parts", status=2)
 

@@ -6,7 +6,7 @@
 //!   layout table HIERARCHY SOURCES TARGETS
 //!
 //! Standard output gets the bytes that `chtab` writes. Standard error gets a line for each part of answering, without reading and writing: its
-//! name, and the nanoseconds of processor for each query, route or cell. Files are not checked: they have to be of their forms, and no way up or
+//! name, and the nanoCPU seconds for each query, route or cell. Files are not checked: they have to be of their forms, and no way up or
 //! down the hierarchy may weigh 2^37 or have 2^25 arcs, so that words have room for sums.
 mod cells;
 mod hierarchy;
@@ -26,7 +26,7 @@ extern "C" {
     fn clock_gettime(clock: i32, seconds_and_nanoseconds: *mut [i64; 2]) -> i32;
 }
 
-/// Does a part of answering, and tells the nanoseconds of processor that each of `count` took.
+/// Does a part of answering, and tells the nanoCPU seconds that each of `count` took.
 fn timed<T>(part: &str, count: usize, work: impl FnOnce() -> T) -> T {
     const OF_THE_PROCESS: i32 = 2;
     let (mut start, mut end) = ([0; 2], [0; 2]);

@@ -122,7 +122,7 @@ def ask_for(needs):
 
 
 def run(name, main, needs=()):
-    """Runs a command on the words of the command line, and ends the process where it doesn't end well. `needs` are the modules without
+    """Runs a command on its arguments, and ends the process where it doesn't end well. `needs` are the modules without
     which it can do nothing but tell of itself."""
     signal.signal(signal.SIGTERM, raise_terminated)
     words = sys.argv[1:]

@@ -22,7 +22,7 @@ from chtab.engine.program import program_of
 
 
 def words_of(words):
-    """The choices that the words of the command line make. Words that are refused end the process with status 2."""
+    """Reads the arguments. Those that are refused end the process with status 2."""
     parser = cli.parser_of("blocks", __doc__)
     parser.add_argument("--side", type=int, metavar="K", help="make blocks of K by K cells, 1 to 2,048 (as large as a table may be)")
     parser.add_argument("--processes", type=int, default=os.cpu_count(), metavar="P", help="how many blocks are made at a time (the number of processors)")

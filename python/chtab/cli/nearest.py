@@ -26,7 +26,7 @@ MANY = 1_000
 
 
 def words_of(words):
-    """The choices that the words of the command line make. Words that are refused end the process with status 2."""
+    """Reads the arguments. Those that are refused end the process with status 2."""
     parser = cli.parser_of("nearest", __doc__)
     kinds = parser.add_mutually_exclusive_group()
     kinds.add_argument("--queries", action="store_true", help="write queries: the first and second place make one, the third and fourth, and so on")

@@ -34,7 +34,7 @@ def part_of(word):
 
 
 def words_of(words):
-    """The choices that the words of the command line make. Words that are refused end the process with status 2."""
+    """Reads the arguments. Those that are refused end the process with status 2."""
     parser = cli.parser_of("osm_to_gr", __doc__)
     parser.add_argument("--profile", choices=profiles.NAMES, default="car", help="who travels, which decides on ways, access, barriers and speeds (car)")
     parser.add_argument("--metric", choices=UNITS, default="time", help="weights are milliseconds of travel, or metres (time)")

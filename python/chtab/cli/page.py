@@ -37,7 +37,7 @@ def processes_of(word):
 
 
 def words_of(words):
-    """The choices that the words of the command line make. Words that are refused end the process with status 2."""
+    """Reads the arguments. Those that are refused end the process with status 2."""
     parser = cli.parser_of("page", __doc__)
     parser.add_argument("--places", metavar="FILE", help="places with names, for labels: a longitude, a latitude and a name a line")
     parser.add_argument("--title", metavar="T", help="the title of the page (the name of OUT)")

@@ -29,7 +29,7 @@ FILES = {"network": (), "routes": ("TEXT",), "reach": ("TARGETS.ss", "TEXT"), "n
 
 
 def words_of(words):
-    """The choices that the words of the command line make. Words that are refused end the process with status 2."""
+    """Reads the arguments. Those that are refused end the process with status 2."""
     parser = cli.parser_of("picture", __doc__)
     parser.add_argument("--size", type=int, default=800, metavar="P", help="pixels of the longer side of the map (800)")
     parser.add_argument("--title", default="", metavar="T", help="the title of the picture")

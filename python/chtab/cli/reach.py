@@ -30,7 +30,7 @@ def limits_of(word):
 
 
 def words_of(words):
-    """The choices that the words of the command line make. Words that are refused end the process with status 2."""
+    """Reads the arguments. Those that are refused end the process with status 2."""
     parser = cli.parser_of("reach", __doc__)
     parser.add_argument("--limits", type=limits_of, required=True, metavar="R,R..", help="limits in the graph's unit, from 1 to 2^60")
     cli.add_network(parser)

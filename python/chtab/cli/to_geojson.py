@@ -18,7 +18,7 @@ from chtab.files import geojson
 
 
 def words_of(words):
-    """The choices that the words of the command line make. Words that are refused end the process with status 2."""
+    """Reads the arguments. Those that are refused end the process with status 2."""
     parser = cli.parser_of("to_geojson", __doc__)
     parser.add_argument(
         "--names", metavar="FILE", help="name nodes by a list or queries that nearest.py wrote, or by a file whose line k names node k, such as OUT.nodes"

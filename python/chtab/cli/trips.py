@@ -22,7 +22,7 @@ from chtab.files import geojson
 
 
 def words_of(words):
-    """The choices that the words of the command line make. Words that are refused end the process with status 2."""
+    """Reads the arguments. Those that are refused end the process with status 2."""
     parser = cli.parser_of("trips", __doc__)
     kinds = parser.add_mutually_exclusive_group()
     kinds.add_argument("--table", action="store_true", help="write CSV with a row and a column for each place")

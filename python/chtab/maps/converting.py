@@ -85,7 +85,7 @@ def kept_of(made, wanted, report):
     part, ranked = parts.ranked(made)
     rank = 1 if wanted == "largest" else wanted
     if rank > len(ranked):
-        raise FileFault(f"there is no part {rank}: the roads hang together in {len(ranked)}")
+        raise FileFault(f"there is no part {rank}: the roads have {len(ranked)}")
     others, kept = ranked[:rank - 1] + ranked[rank:], parts.kept_nodes(made, part, ranked[rank - 1][0])
     if others:
         words = f"of {len(made.names) - len(made.ends):,}, in {len(others):,} parts of {others[0][1]:,} nodes and fewer"

@@ -20,7 +20,7 @@ KINDS = {
     "speeds": "limits of speed passed over: unreadable or too high",
     "durations": "ferries without a readable duration",
     "turns": "turn restrictions left out",
-    "parts": "nodes of parts that hang apart",
+    "parts": "nodes of smaller components",
 }
 # How many words are told of a kind.
 MOST_WORDS = 4
