@@ -70,11 +70,12 @@ typedef enum chtab_status {
     CHTAB_NODE_RANGE = 4,   /* a node is not below the number of nodes */
     CHTAB_LENGTHS = 5,      /* the lengths do not fit one another */
     CHTAB_TOO_LARGE = 6,    /* there are more than 65,536 sources or targets of a table, or near places */
-    CHTAB_TOO_SHORT = 7,    /* there is not enough room for a route's nodes, the pairs of near rows, or a text's bytes */
+    CHTAB_TOO_SHORT = 7,    /* there is not enough room for the nodes of routes, the pairs of near rows, or a text's bytes */
     CHTAB_BAD_GRAPH = 8,    /* the graph's bytes are faulty: see the fault's line and kind */
     CHTAB_BAD_SAVED = 9,    /* the hierarchy's bytes are faulty: see the fault's line and kind */
     CHTAB_WRONG_SAVED = 10, /* the hierarchy is not right for the graph: see the fault's kind and place */
-    CHTAB_NO_PLACES = 11    /* the handle keeps no near places: give it some with chtab_near_places */
+    CHTAB_NO_PLACES = 11,   /* the handle keeps no near places: give it some with chtab_near_places */
+    CHTAB_SUM_TOO_LARGE = 12 /* a sum is 2^64 or more */
 } chtab_status;
 
 /* The kind of a fault. The first ten are faults of a line or of the end of a file, the others of a hierarchy for its graph.
@@ -171,6 +172,17 @@ uint32_t chtab_table(chtab *handle, const uint32_t *sources, size_t sources_len,
  * Then call again with room for found->nodes. */
 uint32_t chtab_route(chtab *handle, uint32_t source, uint32_t target, chtab_found *found, uint32_t *nodes, size_t nodes_len);
 
+/* Writes the routes from sources[k] to targets[k], one after the other, and their number to `routes`. Each is the route
+ * that chtab_route gives. weights[k] is its weight, or CHTAB_NO_DISTANCE if there is no walk. Its nodes are at the places
+ * from ends[k - 1], or from 0 for the first route, up to ends[k] - 1. If there is no walk, it has no nodes. targets_len,
+ * weights_len and ends_len are sources_len.
+ * Errors: CHTAB_CLOSED, CHTAB_LENGTHS, CHTAB_NODE_RANGE. With CHTAB_TOO_SHORT or CHTAB_NO_MEMORY the first routes are
+ * written, and `routes` is their number: there is not enough room or memory for the next route. Ask for the other pairs in
+ * a further call. Room for as many nodes as the network has is always enough for one route. */
+uint32_t chtab_routes(chtab *handle, const uint32_t *sources, size_t sources_len, const uint32_t *targets,
+                      size_t targets_len, uint64_t *routes, uint64_t *weights, size_t weights_len, uint64_t *ends,
+                      size_t ends_len, uint32_t *nodes, size_t nodes_len);
+
 /* Searches from each of these nodes, the places, and keeps the results for near rows. They replace the places that the
  * handle kept. A row has the first `count` places (CHTAB_ALL: all of them) in order of distance, and at equal distances in
  * the order of this list. It has only places whose distance is at most `limit` (CHTAB_NO_LIMIT: all places with a walk).
@@ -196,6 +208,18 @@ uint32_t chtab_near_sweep(chtab *handle);
 uint32_t chtab_near_rows(chtab *handle, const uint32_t *sources, size_t sources_len, uint64_t *rows, uint64_t *ends,
                          size_t ends_len, uint64_t *weights, size_t weights_len, uint32_t *places, size_t places_len);
 
+/* Writes sums over the near rows of sources, and the number of sources to `rows`. sums[i * limits_len + j] is for sources[i]
+ * the sum of the values of the places whose distances are at most limits[j]. values[p] is the value of place p, in the order
+ * of chtab_near_places, and values_len is the number of places. A sum has only places that the near row has: the limit and
+ * the count of chtab_near_places hold too. sums_len is sources_len times limits_len. The call takes the time of one search
+ * for each source, or of a look at its row after chtab_near_sweep.
+ * Errors: CHTAB_CLOSED, CHTAB_NO_PLACES, CHTAB_LENGTHS, CHTAB_NODE_RANGE. With CHTAB_SUM_TOO_LARGE or CHTAB_NO_MEMORY the
+ * sums of the first sources are written, and `rows` is their number: a sum of the next source is 2^64 or more, or there is
+ * no memory for its row. */
+uint32_t chtab_near_sums(chtab *handle, const uint32_t *sources, size_t sources_len, const uint64_t *values,
+                         size_t values_len, const uint64_t *limits, size_t limits_len, uint64_t *rows, uint64_t *sums,
+                         size_t sums_len);
+
 /* Returns the text of a status, for every number. The text stays valid. */
 CHTAB_INLINE const char *chtab_strerror(uint32_t status) {
     switch (status) {
@@ -211,6 +235,7 @@ CHTAB_INLINE const char *chtab_strerror(uint32_t status) {
     case CHTAB_BAD_SAVED: return "bad hierarchy";
     case CHTAB_WRONG_SAVED: return "the hierarchy is not right for the graph";
     case CHTAB_NO_PLACES: return "no near places are kept";
+    case CHTAB_SUM_TOO_LARGE: return "a sum is too large";
     }
     return "unknown status";
 }

@@ -1,11 +1,11 @@
 -- The results of the calls for C, and the state after them.
-use Rattle.std.specs.Prelude.{◌≡◌, ◌⊎◌, ℕ, zero, suc, IsSome, ◌+◌, ◌<◌, ◌≤◌, List, length, take, slice_index, slice_index_or, Option, Some, None}
+use Rattle.std.specs.Prelude.{◌≡◌, ◌⊎◌, ℕ, zero, suc, IsSome, ◌+◌, ◌*◌, ◌<◌, ◌≤◌, List, length, take, slice_index, slice_index_or, Option, Some, None}
 use Rattle.ch_graph.specs.declared.arc.InArc.{InArc}
 use Rattle.ch_hierarchy.specs.declared.fault.CheckFault.{CheckFault}
 use Rattle.ch_hierarchy.specs.Hierarchy.{LevelsAndLegs, nodes_of}
 use Rattle.ch_read.specs.declared.fault.FaultKind.{FaultKind}
 use Rattle.ch_query.specs.declared.routes.Route.{Route}
-use Rattle.ch_query.specs.Routes.{IsRouteBy}
+use Rattle.ch_query.specs.Distance.{IsKeptForSome}
 use Rattle.ch_text.specs.SaveText.{IsHierarchyText}
 use Rattle.ch_engine.specs.declared.fault.OpenError.{OpenError}
 use Rattle.ch_engine.specs.declared.fault.Refusal.{Refusal}
@@ -14,14 +14,19 @@ use Rattle.ch_near.specs.declared.direction.Direction.TheVariants.{To, From}
 use Rattle.ch_engine.specs.declared.written.End.{End}
 use Rattle.ch_engine.specs.declared.written.End.TheVariants as End
 use Rattle.ch_engine.specs.declared.written.Written.{Written}
+use Rattle.ch_engine.specs.declared.written.SumsEnd.{SumsEnd}
+use Rattle.ch_engine.specs.declared.written.SumsEnd.TheVariants as SumsEnd
+use Rattle.ch_engine.specs.declared.written.Summed.{Summed}
 use Rattle.ch_engine.specs.Held.{Held, only, with_places}
-use Rattle.ch_engine.specs.NearRows.{AreRowsWritten}
+use Rattle.ch_engine.specs.NearRows.{AreRowsWritten, StaysFrom, begin_of}
 use Rattle.ch_engine.specs.Opened.{IsOpened}
+use Rattle.ch_engine.specs.Routes.{AreRoutesWritten, IsFound}
+use Rattle.ch_engine.specs.Sums.{AreSumsWritten}
 use Rattle.ch_engine.specs.Cells.{ArePairCells, AreTableCells, no_distance}
-use Rattle.ch_engine.specs.Refusals.{IsOpenError, IsRefusalOfPairs, IsRefusalOfPlaces, IsRefusalOfRoute, IsRefusalOfRows, IsRefusalOfSweep, IsRefusalOfTable}
+use Rattle.ch_engine.specs.Refusals.{ArePairs, ArePlaces, AreRoutePairs, AreRowSources, AreSumSources, AreTableLists, IsNodePair, IsOpenError, IsRefusalOfPairs, IsRefusalOfPlaces, IsRefusalOfRoute, IsRefusalOfRoutes, IsRefusalOfRows, IsRefusalOfSums, IsRefusalOfSweep, IsRefusalOfTable}
 use Rattle.ch_c.specs.declared.faults.Fault.{Fault}
 use Rattle.ch_c.specs.declared.answers.Found.{Found}
-use Rattle.ch_c.specs.declared.status.TheConstants.{OK, NO_MEMORY, CLOSED, IS_OPEN, NODE_RANGE, LENGTHS, TOO_LARGE, TOO_SHORT, BAD_GRAPH, BAD_SAVED, WRONG_SAVED, NO_PLACES}
+use Rattle.ch_c.specs.declared.status.TheConstants.{OK, NO_MEMORY, CLOSED, IS_OPEN, NODE_RANGE, LENGTHS, TOO_LARGE, TOO_SHORT, BAD_GRAPH, BAD_SAVED, WRONG_SAVED, NO_PLACES, SUM_TOO_LARGE}
 
 -- the status of a refusal
 abbrev pub refusal_status : Refusal → ℕ
@@ -68,46 +73,48 @@ fault_of (OpenError.BadGraph f) = record { line = f.line; place = 0; kind = kind
 fault_of (OpenError.BadSaved f) = record { line = f.line; place = 0; kind = kind_number f.kind }
 fault_of (OpenError.WrongSaved f) = check_fault f
 
--- a call with a closed handle returns CLOSED, and all else stays; with an open one, this holds of its network
+-- a call with a closed handle returns CLOSED, and all else stays. With an open one, its hierarchy is right for some
+-- graph, and this holds of its network
 abbrev pub OfNetwork : Option Held → ℕ → Type 0 → (Held → Type 0) → Type 0
 OfNetwork None status Stays Answers = (status ≡ CLOSED) × Stays
-OfNetwork (Some held) status Stays Answers = Answers held
+OfNetwork (Some held) status Stays Answers = IsKeptForSome held.hierarchy × Answers held
 
 -- a call is done, or it is refused
 abbrev pub IsOutcome : ℕ → Type 0 → (Refusal → Type 0) → Type 0
 IsOutcome status Done Refused = ((status ≡ OK) × Done) ⊎ ((refusal : Refusal) × (status ≡ refusal_status refusal) × Refused refusal)
 
--- distances of pairs are written, or refused
+-- the distances of pairs of nodes are written, or refused
 abbrev pub ArePairsAnswered : LevelsAndLegs → List ℕ → List ℕ → List ℕ → List ℕ → ℕ → Type 0
 ArePairsAnswered H sources targets before after status =
-    IsOutcome status (ArePairCells H sources targets after) (λ refusal. (after ≡ before) × IsRefusalOfPairs (nodes_of H) sources targets (length before) refusal)
+    IsOutcome status (ArePairs (nodes_of H) sources targets (length before) × ArePairCells H sources targets after) (λ refusal. (after ≡ before) × IsRefusalOfPairs (nodes_of H) sources targets (length before) refusal)
 
--- a table is written, with the distances up to the limit, or refused
+-- the table of two lists of nodes is written, with the distances up to the limit, or refused
 abbrev pub IsTableAnswered : LevelsAndLegs → ℕ → List ℕ → List ℕ → List ℕ → List ℕ → ℕ → Type 0
 IsTableAnswered H limit sources targets before after status =
-    IsOutcome status (AreTableCells H (Some limit) sources targets after) (λ refusal. (after ≡ before) × IsRefusalOfTable (nodes_of H) sources targets (length before) refusal)
+    IsOutcome status (AreTableLists (nodes_of H) sources targets (length before) × AreTableCells H (Some limit) sources targets after) (λ refusal. (after ≡ before) × IsRefusalOfTable (nodes_of H) sources targets (length before) refusal)
 
 -- the nodes of a route from s: s, and then the end of each arc
 abbrev pub AreRouteNodes : ℕ → List InArc → List ℕ → Type 0
 AreRouteNodes s arcs nodes = (slice_index nodes 0 ≡ s) × ((k : ℕ) (d : InArc) → k < length arcs → slice_index nodes (k + 1) ≡ (slice_index_or arcs k d).to)
 
--- the weight of a route and its number of nodes are written, and its nodes if there is room
+-- the weight of a route and its number of nodes are written, and its nodes if there is room. Behind them all is as
+-- before
 abbrev pub IsRouteTold : ℕ → Option Route → Found → List ℕ → List ℕ → ℕ → Type 0
 IsRouteTold s None found before after status = (status ≡ OK) × (found.weight ≡ no_distance) × (found.nodes ≡ 0) × (after ≡ before)
 IsRouteTold s (Some route) found before after status = (found.weight ≡ route.weight) × (found.nodes ≡ length route.arcs + 1)
-    × (((status ≡ OK) × (length route.arcs < length after) × AreRouteNodes s route.arcs after) ⊎ ((status ≡ TOO_SHORT) × (length before ≤ length route.arcs) × (after ≡ before)))
+    × (((status ≡ OK) × (length route.arcs < length after) × AreRouteNodes s route.arcs after × StaysFrom (length route.arcs + 1) before after) ⊎ ((status ≡ TOO_SHORT) × (length before ≤ length route.arcs) × (after ≡ before)))
 
--- a route is written, and has at most as many nodes as the network; or it is refused
+-- the route between two nodes is written, and has at most as many nodes as the network; or it is refused
 abbrev pub IsRouteAnswered : LevelsAndLegs → ℕ → ℕ → Found → Found → List ℕ → List ℕ → ℕ → Type 0
 IsRouteAnswered H s t found_before found before after status =
-    ((answer : Option Route) × IsRouteBy H s t answer × (found.nodes ≤ nodes_of H) × IsRouteTold s answer found before after status)
+    ((answer : Option Route) × IsNodePair (nodes_of H) s t × IsFound H s t answer × (found.nodes ≤ nodes_of H) × IsRouteTold s answer found before after status)
     ⊎ ((refusal : Refusal) × (status ≡ refusal_status refusal) × (found ≡ found_before) × (after ≡ before) × IsRefusalOfRoute (nodes_of H) s t refusal)
 
--- the length of the hierarchy's text is written, and the text if there is room
+-- the length of the hierarchy's text is written, and the text if there is room. Behind it all is as before
 abbrev pub IsTextTold : LevelsAndLegs → ℕ → List ℕ → List ℕ → ℕ → Type 0
 IsTextTold H size before after status =
     (text : List ℕ) × IsHierarchyText H text × (size ≡ length text)
-    × (((status ≡ OK) × (length text ≤ length after) × (take (length text) after ≡ text)) ⊎ ((status ≡ TOO_SHORT) × (length before < length text) × (after ≡ before)))
+    × (((status ≡ OK) × (length text ≤ length after) × (take (length text) after ≡ text) × StaysFrom (length text) before after) ⊎ ((status ≡ TOO_SHORT) × (length before < length text) × (after ≡ before)))
 
 -- the text is written so, or there is no memory for it
 abbrev pub IsSaved : LevelsAndLegs → ℕ → ℕ → List ℕ → List ℕ → ℕ → Type 0
@@ -137,14 +144,14 @@ direction_of (suc n) = From
 -- places are kept in place of those before, or refused
 abbrev pub ArePlacesKept : ℕ → List ℕ → ℕ → ℕ → Held → Option Held → ℕ → Type 0
 ArePlacesKept is_from places limit count held after status =
-    ((status ≡ OK) × (after ≡ Some (with_places held (record { direction = direction_of is_from; targets = places; limit = Some limit; count = Some count }))))
+    ((status ≡ OK) × ArePlaces (nodes_of held.hierarchy) places × (after ≡ Some (with_places held (record { direction = direction_of is_from; targets = places; limit = Some limit; count = Some count }))))
     ⊎ ((refusal : Refusal) × (status ≡ refusal_status refusal) × (after ≡ Some held) × IsRefusalOfPlaces (nodes_of held.hierarchy) places refusal)
 
 -- the rows of all nodes are made, if places are kept, or the sweep is refused
 abbrev pub IsSwept : Held → ℕ → Type 0
 IsSwept held status = IsOutcome status (IsSome held.near) (IsRefusalOfSweep held.near)
 
--- the status for the reason why no more rows were written
+-- the status for the reason why no more rows or routes were written
 abbrev pub end_status : End → ℕ
 end_status End.All = OK
 end_status End.NoRoom = TOO_SHORT
@@ -157,9 +164,54 @@ pub record Arrays : Type 0 where
   pub weights : List ℕ
   pub places : List ℕ
 
--- near rows are written as far as there is room and memory, or they are refused and all is as before
+-- behind so many rows and their pairs all is as before
+abbrev pub IsRestKept : Arrays → Arrays → Type 0
+IsRestKept before after = StaysFrom after.rows before.ends after.ends
+    × StaysFrom (begin_of after.ends after.rows) before.weights after.weights × StaysFrom (begin_of after.ends after.rows) before.places after.places
+
+-- near rows of nodes are written as far as there is room and memory, or they are refused and all is as before
 abbrev pub AreRowsAnswered : Held → List ℕ → Arrays → Arrays → ℕ → Type 0
 AreRowsAnswered held sources before after status =
-    ((end : End) × (status ≡ end_status end) × IsSome held.near × AreRowsWritten held sources after.ends after.weights after.places (record { rows = after.rows; end = end }))
+    ((end : End) × (status ≡ end_status end)
+    × AreRowSources (nodes_of held.hierarchy) held.near sources (length before.ends) (length before.weights) (length before.places)
+    × AreRowsWritten held sources after.ends after.weights after.places (record { count = after.rows; end = end }) × IsRestKept before after)
     ⊎ ((refusal : Refusal) × (status ≡ refusal_status refusal) × (after ≡ before)
     × IsRefusalOfRows (nodes_of held.hierarchy) held.near sources (length before.ends) (length before.weights) (length before.places) refusal)
+
+-- the arrays for routes: the number of routes, the weight of each, the end of its nodes, and the nodes
+pub record RouteArrays : Type 0 where
+  pub routes : ℕ
+  pub weights : List ℕ
+  pub ends : List ℕ
+  pub nodes : List ℕ
+
+-- behind so many routes and their nodes all is as before
+abbrev pub IsRouteRestKept : RouteArrays → RouteArrays → Type 0
+IsRouteRestKept before after = StaysFrom after.routes before.weights after.weights × StaysFrom after.routes before.ends after.ends
+    × StaysFrom (begin_of after.ends after.routes) before.nodes after.nodes
+
+-- routes of pairs of nodes are written as far as there is room and memory, or they are refused and all is as before
+abbrev pub AreRoutesAnswered : LevelsAndLegs → List ℕ → List ℕ → RouteArrays → RouteArrays → ℕ → Type 0
+AreRoutesAnswered H sources targets before after status =
+    ((end : End) × (status ≡ end_status end) × AreRoutePairs (nodes_of H) sources targets (length before.weights) (length before.ends)
+    × AreRoutesWritten H sources targets after.weights after.ends after.nodes (record { count = after.routes; end = end }) × IsRouteRestKept before after)
+    ⊎ ((refusal : Refusal) × (status ≡ refusal_status refusal) × (after ≡ before) × IsRefusalOfRoutes (nodes_of H) sources targets (length before.weights) (length before.ends) refusal)
+
+-- the status for the reason why the sums of no more sources were written
+abbrev pub sums_status : SumsEnd → ℕ
+sums_status SumsEnd.All = OK
+sums_status SumsEnd.TooLarge = SUM_TOO_LARGE
+sums_status SumsEnd.NoMemory = NO_MEMORY
+
+-- the number of sources whose sums are written, and the sums
+pub record SumArrays : Type 0 where
+  pub rows : ℕ
+  pub sums : List ℕ
+
+-- sums over near rows of nodes are written as far as they fit and there is memory, or they are refused and all is as
+-- before. Behind the sums that are written all is as before
+abbrev pub AreSumsAnswered : Held → List ℕ → List ℕ → List ℕ → SumArrays → SumArrays → ℕ → Type 0
+AreSumsAnswered held sources values limits before after status =
+    ((end : SumsEnd) × (status ≡ sums_status end) × AreSumSources (nodes_of held.hierarchy) held.near sources values (length limits) (length before.sums)
+    × AreSumsWritten held sources values limits after.sums (record { count = after.rows; end = end }) × StaysFrom (after.rows * length limits) before.sums after.sums)
+    ⊎ ((refusal : Refusal) × (status ≡ refusal_status refusal) × (after ≡ before) × IsRefusalOfSums (nodes_of held.hierarchy) held.near sources values (length limits) (length before.sums) refusal)

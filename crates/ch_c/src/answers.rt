@@ -1,10 +1,12 @@
 //! The answers of an engine, as C sees them.
 ghost use Rattle.std.specs.Prelude.{◌≡◌, ◌+◌, ◌<◌, ℕ, length, IfErr, IfOk, Option, None, Some};
 ghost use Rattle.ch_engine.specs.Held.{only};
+ghost use Rattle.ch_engine.specs.NearRows.{StaysFrom};
 ghost use Rattle.ch_engine.specs.Opened.{IsOpened};
 ghost use Rattle.ch_engine.specs.Refusals.{IsOpenError};
-ghost use Rattle.ch_c.specs.Calls.{ArePairsAnswered, AreRouteNodes, IsRouteAnswered, IsRouteTold, IsSaved, IsTableAnswered};
+ghost use Rattle.ch_c.specs.Calls.{ArePairsAnswered, AreRouteNodes, AreRoutesAnswered, IsRouteAnswered, IsRouteTold, IsSaved, IsTableAnswered};
 
+use crate::near::status_of_end;
 use crate::status::{NO_MEMORY, OK, TOO_SHORT, status_of};
 use ch_engine::{Engine, NO_DISTANCE, OpenError};
 use ch_graph::InArc;
@@ -127,11 +129,35 @@ fn tell_route(source: u32, answer: Option<Route>, found: &mut Found, nodes: &mut
 fn write_nodes(source: u32, arcs: &[InArc], nodes: &mut [u32])
     requires { length arcs.now < length nodes.old }
     ensures nodes { AreRouteNodes source arcs.now nodes.new }
+    ensures behind { StaysFrom (length arcs.now + 1) nodes.old nodes.new }
     ensures room { length nodes.new ≡ length nodes.old }
 {
     nodes[0] = source;
     for i in 0..arcs.len() {
         nodes[i + 1] = arcs[i].to;
+    }
+}
+
+/// Writes the routes of pairs as far as there is room and memory. Returns a status.
+pub(crate) fn write_routes(
+    alloc: Global,
+    engine: &mut Engine,
+    sources: &[u32],
+    targets: &[u32],
+    routes: &mut u64,
+    weights: &mut [u64],
+    ends: &mut [u64],
+    nodes: &mut [u32],
+) -> u32
+    ensures answered { AreRoutesAnswered engine.old.hierarchy sources.now targets.now (record { routes = routes.old; weights = weights.old; ends = ends.old; nodes = nodes.old }) (record { routes = routes.new; weights = weights.new; ends = ends.new; nodes = nodes.new }) result }
+    ensures same { engine.new ≡ engine.old }
+{
+    match engine.routes(alloc, sources, targets, weights, ends, nodes) {
+        Ok(written) => {
+            *routes = written.count;
+            status_of_end(written.end)
+        }
+        Err(refusal) => status_of(refusal),
     }
 }
 

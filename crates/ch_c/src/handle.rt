@@ -1,14 +1,17 @@
 //! The handle that C holds, and the calls that it makes.
-ghost use Rattle.std.specs.Prelude.{◌≡◌, ◌↔◌, IsSome, MatchOption, None, Some, ⊤};
+ghost use Rattle.std.specs.Prelude.{◌≡◌, ◌↔◌, IfSome, IsSome, MatchOption, None, Some, ⊤};
 ghost use Rattle.ch_hierarchy.specs.Hierarchy.{nodes_of};
-ghost use Rattle.ch_c.specs.Calls.{ArePairsAnswered, ArePlacesKept, AreRowsAnswered, IsOpening, IsRouteAnswered, IsSaved, IsSharing, IsSwept, IsTableAnswered, OfNetwork};
+ghost use Rattle.ch_query.specs.Distance.{IsKeptForSome};
+ghost use Rattle.ch_c.specs.Calls.{ArePairsAnswered, ArePlacesKept, AreRoutesAnswered, AreRowsAnswered, AreSumsAnswered, IsOpening, IsRouteAnswered, IsSaved, IsSharing, IsSwept, IsTableAnswered, OfNetwork};
 ghost use Rattle.ch_c.specs.declared.status.TheConstants.{OK};
 
 pub use crate::answers::Found;
-use crate::answers::{opened, shared, write_distances, write_route, write_saved, write_table};
+use crate::answers::{
+    opened, shared, write_distances, write_route, write_routes, write_saved, write_table,
+};
 use crate::erased::ErasedEngine;
 use crate::faults::{Fault, fault_of, status_of_error};
-use crate::near::{keep_places, sweep, write_rows};
+use crate::near::{keep_places, sweep, write_rows, write_sums};
 use crate::raw_box::RawBox;
 use crate::status::{CLOSED, IS_OPEN, NO_MEMORY, OK};
 use ch_engine::Engine;
@@ -51,13 +54,17 @@ impl Handle {
     /// Takes the engine out of an open handle, which is then closed. Returns `None` if the handle is closed already.
     fn take(&mut self, alloc: Global) -> Option<Box<Engine, Global>>
         ensures taken { MatchOption result (self.old.engine.network ≡ None) (λ engine. self.old.engine.network ≡ Some engine.value) }
+        ensures kept { IfSome result (λ engine. IsKeptForSome engine.value.hierarchy) }
         ensures closed { self.new.engine.network ≡ None }
     {
         let Handle { is_open, engine } = mem::replace(self, Handle::closed(alloc));
         if is_open != 1 {
             return None;
         }
-        Some(engine.into_box())
+        let engine = engine.into_box();
+        // This call tells the proof that the engine's hierarchy is right for some graph.
+        let _ = engine.nodes();
+        Some(engine)
     }
 }
 
@@ -230,6 +237,39 @@ pub extern "C" fn chtab_route(
     status
 }
 
+/// Writes the routes of pairs, one after the other: the number of routes, the weight of each, the end of its nodes, and
+/// the nodes.
+#[unsafe(no_mangle)]
+pub extern "C" fn chtab_routes(
+    alloc: Global,
+    handle: &mut Handle,
+    sources: &[u32],
+    targets: &[u32],
+    routes: &mut u64,
+    weights: &mut [u64],
+    ends: &mut [u64],
+    nodes: &mut [u32],
+) -> u32
+    ensures answered { OfNetwork handle.old.engine.network result ((routes.new ≡ routes.old) × (weights.new ≡ weights.old) × (ends.new ≡ ends.old) × (nodes.new ≡ nodes.old)) (λ held. AreRoutesAnswered held.hierarchy sources.now targets.now (record { routes = routes.old; weights = weights.old; ends = ends.old; nodes = nodes.old }) (record { routes = routes.new; weights = weights.new; ends = ends.new; nodes = nodes.new }) result) }
+    ensures same { handle.new.engine.network ≡ handle.old.engine.network }
+{
+    let Some(mut engine) = handle.take(alloc) else {
+        return CLOSED;
+    };
+    let status = write_routes(
+        alloc,
+        &mut engine,
+        sources,
+        targets,
+        routes,
+        weights,
+        ends,
+        nodes,
+    );
+    handle.put(engine);
+    status
+}
+
 /// Keeps places for near rows. They replace the places before.
 #[unsafe(no_mangle)]
 pub extern "C" fn chtab_near_places(
@@ -283,6 +323,29 @@ pub extern "C" fn chtab_near_rows(
         return CLOSED;
     };
     let status = write_rows(alloc, &mut engine, sources, rows, ends, weights, places);
+    handle.put(engine);
+    status
+}
+
+/// Writes sums over the rows of sources: the number of sources, and for each source a sum for each limit, of the values of
+/// the places whose distances are at most the limit.
+#[unsafe(no_mangle)]
+pub extern "C" fn chtab_near_sums(
+    alloc: Global,
+    handle: &mut Handle,
+    sources: &[u32],
+    values: &[u64],
+    limits: &[u64],
+    rows: &mut u64,
+    sums: &mut [u64],
+) -> u32
+    ensures answered { OfNetwork handle.old.engine.network result ((rows.new ≡ rows.old) × (sums.new ≡ sums.old)) (λ held. AreSumsAnswered held sources.now values.now limits.now (record { rows = rows.old; sums = sums.old }) (record { rows = rows.new; sums = sums.new }) result) }
+    ensures same { handle.new.engine.network ≡ handle.old.engine.network }
+{
+    let Some(mut engine) = handle.take(alloc) else {
+        return CLOSED;
+    };
+    let status = write_sums(alloc, &mut engine, sources, values, limits, rows, sums);
     handle.put(engine);
     status
 }

@@ -1,7 +1,7 @@
 //! The calls of the library for C: an engine of `ch_engine` behind a handle of 16 bytes, which the caller keeps.
 //!
 //! It stands on ch_engine, ch_graph, ch_hierarchy, ch_near, ch_query, ch_read, ch_text, core, std_alloc and std_heap.
-//! It exports the calls that `include/chtab.h` declares, and nothing else.
+//! It exports the calls that `include/chtab.h` declares. [`numbers`] is for readers alone, and proves the statuses.
 //!
 //! No call requires anything: it tests handles, lengths, nodes, sizes and bytes itself, and returns a status.
 //! Each call is proved: it does its task if it returns 0, a refusal is right, and the handle holds the right
@@ -19,6 +19,7 @@ mod status;
 pub use faults::Fault;
 pub use handle::{
     Found, Handle, chtab_close, chtab_distances, chtab_near_places, chtab_near_rows,
-    chtab_near_sweep, chtab_nodes, chtab_open, chtab_route, chtab_save, chtab_share, chtab_table,
-    chtab_version,
+    chtab_near_sums, chtab_near_sweep, chtab_nodes, chtab_open, chtab_route, chtab_routes,
+    chtab_save, chtab_share, chtab_table, chtab_version,
 };
+pub use status::numbers;

@@ -1,9 +1,9 @@
 //! Near rows, as C sees them.
 ghost use Rattle.std.specs.Prelude.{◌≡◌, Some};
-ghost use Rattle.ch_c.specs.Calls.{ArePlacesKept, AreRowsAnswered, IsSwept, direction_of as the_direction, end_status};
+ghost use Rattle.ch_c.specs.Calls.{ArePlacesKept, AreRowsAnswered, AreSumsAnswered, IsSwept, direction_of as the_direction, end_status, sums_status};
 
-use crate::status::{NO_MEMORY, OK, TOO_SHORT, status_of};
-use ch_engine::{End, Engine};
+use crate::status::{NO_MEMORY, OK, SUM_TOO_LARGE, TOO_SHORT, status_of};
+use ch_engine::{End, Engine, SumsEnd};
 use ch_near::Direction;
 use std::alloc::Global;
 
@@ -62,20 +62,53 @@ pub(crate) fn write_rows(
 {
     match engine.near_rows(alloc, sources, ends, weights, places) {
         Ok(written) => {
-            *rows = written.rows;
+            *rows = written.count;
             status_of_end(written.end)
         }
         Err(refusal) => status_of(refusal),
     }
 }
 
-/// Returns the status for the reason why no more rows were written.
-fn status_of_end(end: End) -> u32
+/// Returns the status for the reason why no more rows or routes were written.
+pub(crate) fn status_of_end(end: End) -> u32
     ensures { result ≡ end_status end }
 {
     match end {
         End::All => OK,
         End::NoRoom => TOO_SHORT,
         End::NoMemory => NO_MEMORY,
+    }
+}
+
+/// Writes sums over the rows of sources as far as they fit and there is memory. Returns a status.
+pub(crate) fn write_sums(
+    alloc: Global,
+    engine: &mut Engine,
+    sources: &[u32],
+    values: &[u64],
+    limits: &[u64],
+    rows: &mut u64,
+    sums: &mut [u64],
+) -> u32
+    ensures answered { AreSumsAnswered engine.old sources.now values.now limits.now (record { rows = rows.old; sums = sums.old }) (record { rows = rows.new; sums = sums.new }) result }
+    ensures same { engine.new ≡ engine.old }
+{
+    match engine.near_sums(alloc, sources, values, limits, sums) {
+        Ok(summed) => {
+            *rows = summed.count;
+            status_of_sums(summed.end)
+        }
+        Err(refusal) => status_of(refusal),
+    }
+}
+
+/// Returns the status for the reason why the sums of no more sources were written.
+fn status_of_sums(end: SumsEnd) -> u32
+    ensures { result ≡ sums_status end }
+{
+    match end {
+        SumsEnd::All => OK,
+        SumsEnd::TooLarge => SUM_TOO_LARGE,
+        SumsEnd::NoMemory => NO_MEMORY,
     }
 }

@@ -25,7 +25,7 @@ pub(crate) const LENGTHS: u32 = 5;
 /// There are more sources, targets or places than a list may have.
 pub(crate) const TOO_LARGE: u32 = 6;
 
-/// There is not enough room for the nodes of a route, the pairs of near rows, or the bytes of a text.
+/// There is not enough room for the nodes of routes, the pairs of near rows, or the bytes of a text.
 pub(crate) const TOO_SHORT: u32 = 7;
 
 /// The bytes of the graph are faulty.
@@ -40,6 +40,9 @@ pub(crate) const WRONG_SAVED: u32 = 10;
 /// No places are kept.
 pub(crate) const NO_PLACES: u32 = 11;
 
+/// A sum is 2^64 or more.
+pub(crate) const SUM_TOO_LARGE: u32 = 12;
+
 /// Returns the status of a refusal.
 pub(crate) fn status_of(refusal: Refusal) -> u32
     ensures { result ≡ refusal_status refusal }
@@ -52,3 +55,20 @@ pub(crate) fn status_of(refusal: Refusal) -> u32
         Refusal::NoPlaces => NO_PLACES,
     }
 }
+
+/// Proves the value of each status, which the definitions take from the code. `include/chtab.h` has these numbers.
+pub fn numbers()
+    ensures ok { OK ≡ 0 }
+    ensures no_memory { NO_MEMORY ≡ 1 }
+    ensures closed { CLOSED ≡ 2 }
+    ensures is_open { IS_OPEN ≡ 3 }
+    ensures node_range { NODE_RANGE ≡ 4 }
+    ensures lengths { LENGTHS ≡ 5 }
+    ensures too_large { TOO_LARGE ≡ 6 }
+    ensures too_short { TOO_SHORT ≡ 7 }
+    ensures bad_graph { BAD_GRAPH ≡ 8 }
+    ensures bad_saved { BAD_SAVED ≡ 9 }
+    ensures wrong_saved { WRONG_SAVED ≡ 10 }
+    ensures no_places { NO_PLACES ≡ 11 }
+    ensures sum_too_large { SUM_TOO_LARGE ≡ 12 }
+{}

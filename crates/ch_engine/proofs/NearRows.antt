@@ -3,11 +3,19 @@ use Rattle.std.proofs.Common.{◌≡◌, ℕ, zero, suc, ◌+◌, ◌<◌, ◌�
 use Rattle.std.proofs.lemmas.List.{get_or-set_same, get_or-set_other}
 use Rattle.std.proofs.lemmas.Bool.{cases_order}
 use Rattle.ch_engine.specs.Held.{Held}
-use Rattle.ch_engine.specs.NearRows.{AreRowsAt, IsKeptRow, IsRowAt, StandsAt, begin_of}
+use Rattle.ch_engine.specs.NearRows.{AreRowsAt, IsKeptRow, IsRowAt, StandsAt, StaysFrom, begin_of}
 
 -- the arrays agree before a place
 abbrev pub Agree : ℕ → List ℕ → List ℕ → List ℕ → List ℕ → Type 0
 Agree at weights places weights' places' = (k : ℕ) → k < at → (get_or weights' k 0 ≡ get_or weights k 0) × (get_or places' k 0 ≡ get_or places k 0)
+
+-- what stays as before from a place on, and again from a later one on, stays from there on
+pub stays_more : (before now after : List ℕ) (n m : ℕ) → StaysFrom n before now → n ≤ m → StaysFrom m now after → StaysFrom m before after
+stays_more before now after n m old le new k from = new k from ∙ old k (omega (arith, le, from))
+
+-- one more place is written
+pub set_stays : (before ends : List ℕ) (i end : ℕ) → StaysFrom i before ends → StaysFrom (i + 1) before (set ends i end)
+set_stays before ends i end old k from = get_or-set_other ends i k end 0 (λ same. omega arith) ∙ old k (omega arith)
 
 -- a row stays if the arrays change only after its end
 row_stays : (held : Held) (s begin end at : ℕ) (weights places weights' places' : List ℕ) → IsRowAt held s begin end weights places → end ≤ at → Agree at weights places weights' places' →
@@ -21,7 +29,7 @@ row_stays held s begin end at weights places weights' places' row low agree long
 )
 
 -- writing the end of row i keeps the begins of the rows up to i
-begins_stay : (ends : List ℕ) (i end k : ℕ) → k < i + 1 → begin_of (set ends i end) k ≡ begin_of ends k
+pub begins_stay : (ends : List ℕ) (i end k : ℕ) → k < i + 1 → begin_of (set ends i end) k ≡ begin_of ends k
 begins_stay ends i end zero low = refl
 begins_stay ends i end (suc m) low = get_or-set_other ends i m end 0 (λ same. omega arith)
 
@@ -47,10 +55,10 @@ module _ (held : Held) (sources ends weights places weights' places' : List ℕ)
         | inr (inr past) ↦ absurd (omega arith)
       ]
 
-  -- no end is above the new one
-  pub ends_low : (end : ℕ) → ((k : ℕ) → k < i → get_or ends k 0 ≤ begin) → begin ≤ end → i < length ends → (k : ℕ) → k < i + 1 → get_or (set ends i end) k 0 ≤ end
-  ends_low end low more inside k less = elim (cases_order k i) [
-    | inl same ↦ subst (λ (n : ℕ). get_or (set ends i end) n 0 ≤ end) (sym same) (let is = get_or-set_same ends i end 0 inside in omega arith)
-    | inr (inl before) ↦ let is = get_or-set_other ends i k end 0 (λ same. omega arith) in let old = low k before in omega arith
-    | inr (inr past) ↦ absurd (omega arith)
-  ]
+-- no end is above the new one
+pub ends_low : (ends : List ℕ) (i begin end : ℕ) → ((k : ℕ) → k < i → get_or ends k 0 ≤ begin) → begin ≤ end → i < length ends → (k : ℕ) → k < i + 1 → get_or (set ends i end) k 0 ≤ end
+ends_low ends i begin end low more inside k less = elim (cases_order k i) [
+  | inl same ↦ subst (λ (n : ℕ). get_or (set ends i end) n 0 ≤ end) (sym same) (let is = get_or-set_same ends i end 0 inside in omega arith)
+  | inr (inl before) ↦ let is = get_or-set_other ends i k end 0 (λ same. omega arith) in let old = low k before in omega arith
+  | inr (inr past) ↦ absurd (omega arith)
+]

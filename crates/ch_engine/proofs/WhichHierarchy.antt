@@ -7,11 +7,10 @@ use Rattle.ch_hierarchy.specs.Saved.{NamesHierarchy}
 use Rattle.ch_contract.specs.declared.measure.OrderBy.TheVariants.{Depth}
 use Rattle.ch_contract.specs.Built.{IsHierarchyBy}
 use Rattle.ch_read.specs.Names.{NamesSaved}
-use Rattle.ch_engine.specs.declared.opening.TheConstants.{BUILT_HOPS}
 use Rattle.ch_engine.specs.Opened.{IsSavedOrBuilt}
 
 -- without bytes it is the hierarchy by depth
-pub built : (g : Network) (bytes : List ℕ) (H : LevelsAndLegs) → length bytes ≡ 0 → IsHierarchyBy Depth g BUILT_HOPS H → IsSavedOrBuilt g bytes H
+pub built : (g : Network) (bytes : List ℕ) (H : LevelsAndLegs) → length bytes ≡ 0 → IsHierarchyBy Depth g 5 H → IsSavedOrBuilt g bytes H
 built g [] H none by = by
 built g (byte ∷ bytes) H none by = absurd (omega (arith, none))
 

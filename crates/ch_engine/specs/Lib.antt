@@ -2,4 +2,6 @@ pub mod Cells
 pub mod Held
 pub mod NearRows
 pub mod Refusals
+pub mod Routes
+pub mod Sums
 pub mod Opened

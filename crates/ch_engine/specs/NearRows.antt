@@ -40,7 +40,11 @@ IsEnd held sources ends weights n End.All = n ≡ length sources
 IsEnd held sources ends weights n End.NoRoom = (n < length sources) × LacksRoom held sources ends weights n
 IsEnd held sources ends weights n End.NoMemory = n ≤ length sources
 
+-- from this place on, an array is as before
+abbrev pub StaysFrom : ℕ → List ℕ → List ℕ → Type 0
+StaysFrom n before after = (k : ℕ) → n ≤ k → slice_index after k ≡ slice_index before k
+
 -- this number of rows was written, and this is the reason why no more were
 abbrev pub AreRowsWritten : Held → List ℕ → List ℕ → List ℕ → List ℕ → Written → Type 0
 AreRowsWritten held sources ends weights places written =
-    AreRowsAt held sources ends weights places written.rows × IsEnd held sources ends weights written.rows written.end
+    AreRowsAt held sources ends weights places written.count × IsEnd held sources ends weights written.count written.end

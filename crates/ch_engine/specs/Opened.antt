@@ -8,11 +8,11 @@ use Rattle.ch_hierarchy.specs.Saved.{NamesHierarchy}
 use Rattle.ch_contract.specs.declared.measure.OrderBy.TheVariants.{Depth}
 use Rattle.ch_contract.specs.Built.{IsHierarchyBy}
 use Rattle.ch_read.specs.Names.{NamesGraph, NamesSaved}
-use Rattle.ch_engine.specs.declared.opening.TheConstants.{BUILT_HOPS}
 
--- the hierarchy that the bytes of a saved one name. Without bytes it is the hierarchy by depth
+-- the hierarchy that the bytes of a saved one name. Without bytes it is the hierarchy by depth, with witnesses of at
+-- most 5 legs
 abbrev pub IsSavedOrBuilt : Network → List ℕ → LevelsAndLegs → Type 0
-IsSavedOrBuilt g [] H = IsHierarchyBy Depth g BUILT_HOPS H
+IsSavedOrBuilt g [] H = IsHierarchyBy Depth g 5 H
 IsSavedOrBuilt g (byte ∷ bytes) H = (s : OrderAndLegs) × NamesSaved (byte ∷ bytes) g.nodes s × NamesHierarchy s H
 
 -- the hierarchy is right for the graph that the bytes name. It is saved or built

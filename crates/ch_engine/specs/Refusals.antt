@@ -1,5 +1,5 @@
--- The conditions of the errors: when a network is not opened, and when a question is refused.
-use Rattle.std.specs.Prelude.{◌≡◌, ◌≢◌, ℕ, ◌*◌, ◌<◌, ◌≤◌, List, [], length, All, Option, None, ⊤}
+-- When a network is not opened, when the arguments of a question fit, and when a question is refused.
+use Rattle.std.specs.Prelude.{◌≡◌, ◌≢◌, ℕ, ◌*◌, ◌<◌, ◌≤◌, List, [], length, All, Option, None, IsSome, MatchOption, ⊤}
 use Rattle.ch_graph.specs.declared.limits.TheConstants.{MOST_LISTED}
 use Rattle.ch_graph.specs.Graph.{Network}
 use Rattle.ch_graph.specs.Saved.{OrderAndLegs}
@@ -22,50 +22,102 @@ IsOpenError graph saved (OpenError.WrongSaved f) = (g : Network) × (s : OrderAn
 abbrev pub AreNodes : ℕ → List ℕ → Type 0
 AreNodes n nodes = All (λ node. node < n) nodes
 
--- the reason for refusing the distances of pairs of nodes, with room for `room` words
+-- these are pairs of nodes, with room for a word of each pair
+abbrev pub ArePairs : ℕ → List ℕ → List ℕ → ℕ → Type 0
+ArePairs n sources targets room = (length sources ≡ room) × (length targets ≡ room) × AreNodes n sources × AreNodes n targets
+
+-- the reason for refusing the distances of pairs, with room for `room` words. Lengths come before nodes
 abbrev pub IsRefusalOfPairs : ℕ → List ℕ → List ℕ → ℕ → Refusal → Type 0
 IsRefusalOfPairs n sources targets room Refusal.NoMemory = ⊥
-IsRefusalOfPairs n sources targets room Refusal.NodeRange = AreNodes n sources × AreNodes n targets → ⊥
+IsRefusalOfPairs n sources targets room Refusal.NodeRange = (length sources ≡ room) × (length targets ≡ room) × (AreNodes n sources × AreNodes n targets → ⊥)
 IsRefusalOfPairs n sources targets room Refusal.Lengths = (length sources ≡ room) × (length targets ≡ room) → ⊥
 IsRefusalOfPairs n sources targets room Refusal.TooLarge = ⊥
 IsRefusalOfPairs n sources targets room Refusal.NoPlaces = ⊥
 
--- the reason for refusing a table
+-- these are the sources and the targets of a table, with room for a word of each cell
+abbrev pub AreTableLists : ℕ → List ℕ → List ℕ → ℕ → Type 0
+AreTableLists n sources targets room =
+    (length sources * length targets ≡ room) × AreNodes n sources × AreNodes n targets × (length sources ≤ MOST_LISTED) × (length targets ≤ MOST_LISTED)
+
+-- the reason for refusing a table. Lengths come before nodes, nodes before sizes, and sizes before memory
 abbrev pub IsRefusalOfTable : ℕ → List ℕ → List ℕ → ℕ → Refusal → Type 0
-IsRefusalOfTable n sources targets room Refusal.NoMemory = ⊤
-IsRefusalOfTable n sources targets room Refusal.NodeRange = AreNodes n sources × AreNodes n targets → ⊥
+IsRefusalOfTable n sources targets room Refusal.NoMemory = AreTableLists n sources targets room
+IsRefusalOfTable n sources targets room Refusal.NodeRange = (length sources * length targets ≡ room) × (AreNodes n sources × AreNodes n targets → ⊥)
 IsRefusalOfTable n sources targets room Refusal.Lengths = length sources * length targets ≡ room → ⊥
-IsRefusalOfTable n sources targets room Refusal.TooLarge = (length sources ≤ MOST_LISTED) × (length targets ≤ MOST_LISTED) → ⊥
+IsRefusalOfTable n sources targets room Refusal.TooLarge =
+    (length sources * length targets ≡ room) × AreNodes n sources × AreNodes n targets × ((length sources ≤ MOST_LISTED) × (length targets ≤ MOST_LISTED) → ⊥)
 IsRefusalOfTable n sources targets room Refusal.NoPlaces = ⊥
 
--- the reason for refusing a route
+-- both are nodes of a network of n nodes
+abbrev pub IsNodePair : ℕ → ℕ → ℕ → Type 0
+IsNodePair n source target = (source < n) × (target < n)
+
+-- the reason for refusing a route. Nodes come before memory
 abbrev pub IsRefusalOfRoute : ℕ → ℕ → ℕ → Refusal → Type 0
-IsRefusalOfRoute n source target Refusal.NoMemory = ⊤
-IsRefusalOfRoute n source target Refusal.NodeRange = (source < n) × (target < n) → ⊥
+IsRefusalOfRoute n source target Refusal.NoMemory = IsNodePair n source target
+IsRefusalOfRoute n source target Refusal.NodeRange = IsNodePair n source target → ⊥
 IsRefusalOfRoute n source target Refusal.Lengths = ⊥
 IsRefusalOfRoute n source target Refusal.TooLarge = ⊥
 IsRefusalOfRoute n source target Refusal.NoPlaces = ⊥
 
--- the reason for refusing places
+-- routes of these pairs of nodes can be asked for, with arrays of these lengths for weights and ends
+abbrev pub AreRoutePairs : ℕ → List ℕ → List ℕ → ℕ → ℕ → Type 0
+AreRoutePairs n sources targets weights ends =
+    (length targets ≡ length sources) × (weights ≡ length sources) × (ends ≡ length sources) × AreNodes n sources × AreNodes n targets
+
+-- the reason for refusing routes. Lengths come before nodes
+abbrev pub IsRefusalOfRoutes : ℕ → List ℕ → List ℕ → ℕ → ℕ → Refusal → Type 0
+IsRefusalOfRoutes n sources targets weights ends Refusal.NoMemory = ⊥
+IsRefusalOfRoutes n sources targets weights ends Refusal.NodeRange =
+    (length targets ≡ length sources) × (weights ≡ length sources) × (ends ≡ length sources) × (AreNodes n sources × AreNodes n targets → ⊥)
+IsRefusalOfRoutes n sources targets weights ends Refusal.Lengths = (length targets ≡ length sources) × (weights ≡ length sources) × (ends ≡ length sources) → ⊥
+IsRefusalOfRoutes n sources targets weights ends Refusal.TooLarge = ⊥
+IsRefusalOfRoutes n sources targets weights ends Refusal.NoPlaces = ⊥
+
+-- these are places: nodes, and not too many
+abbrev pub ArePlaces : ℕ → List ℕ → Type 0
+ArePlaces n places = (length places ≤ MOST_LISTED) × AreNodes n places
+
+-- the reason for refusing places. Their number comes before nodes, and nodes before memory
 abbrev pub IsRefusalOfPlaces : ℕ → List ℕ → Refusal → Type 0
-IsRefusalOfPlaces n places Refusal.NoMemory = ⊤
-IsRefusalOfPlaces n places Refusal.NodeRange = AreNodes n places → ⊥
+IsRefusalOfPlaces n places Refusal.NoMemory = ArePlaces n places
+IsRefusalOfPlaces n places Refusal.NodeRange = (length places ≤ MOST_LISTED) × (AreNodes n places → ⊥)
 IsRefusalOfPlaces n places Refusal.Lengths = ⊥
 IsRefusalOfPlaces n places Refusal.TooLarge = length places ≤ MOST_LISTED → ⊥
 IsRefusalOfPlaces n places Refusal.NoPlaces = ⊥
 
--- the reason for refusing the sweep
+-- the reason for refusing the sweep. Places come before memory
 abbrev pub IsRefusalOfSweep : Option Asked → Refusal → Type 0
-IsRefusalOfSweep near Refusal.NoMemory = ⊤
+IsRefusalOfSweep near Refusal.NoMemory = IsSome near
 IsRefusalOfSweep near Refusal.NodeRange = ⊥
 IsRefusalOfSweep near Refusal.Lengths = ⊥
 IsRefusalOfSweep near Refusal.TooLarge = ⊥
 IsRefusalOfSweep near Refusal.NoPlaces = near ≡ None
 
--- the reason for refusing near rows, with arrays of these lengths for ends, weights and places
+-- near rows of these sources can be asked for, with arrays of these lengths for ends, weights and places
+abbrev pub AreRowSources : ℕ → Option Asked → List ℕ → ℕ → ℕ → ℕ → Type 0
+AreRowSources n near sources ends weights places = (length sources ≡ ends) × (weights ≡ places) × IsSome near × AreNodes n sources
+
+-- the reason for refusing near rows. Lengths come before the places that are kept, and these before nodes
 abbrev pub IsRefusalOfRows : ℕ → Option Asked → List ℕ → ℕ → ℕ → ℕ → Refusal → Type 0
 IsRefusalOfRows n near sources ends weights places Refusal.NoMemory = ⊥
-IsRefusalOfRows n near sources ends weights places Refusal.NodeRange = AreNodes n sources → ⊥
+IsRefusalOfRows n near sources ends weights places Refusal.NodeRange = (length sources ≡ ends) × (weights ≡ places) × IsSome near × (AreNodes n sources → ⊥)
 IsRefusalOfRows n near sources ends weights places Refusal.Lengths = (length sources ≡ ends) × (weights ≡ places) → ⊥
 IsRefusalOfRows n near sources ends weights places Refusal.TooLarge = ⊥
-IsRefusalOfRows n near sources ends weights places Refusal.NoPlaces = near ≡ None
+IsRefusalOfRows n near sources ends weights places Refusal.NoPlaces = (length sources ≡ ends) × (weights ≡ places) × (near ≡ None)
+
+-- there is a value for each place that is kept
+abbrev pub HasValues : Option Asked → List ℕ → Type 0
+HasValues near values = MatchOption near ⊥ (λ asked. length values ≡ length asked.targets)
+
+-- sums over near rows of these sources can be asked for, with so many limits, and room for so many sums
+abbrev pub AreSumSources : ℕ → Option Asked → List ℕ → List ℕ → ℕ → ℕ → Type 0
+AreSumSources n near sources values limits sums = HasValues near values × (sums ≡ length sources * limits) × AreNodes n sources
+
+-- the reason for refusing sums. Places come before lengths, and lengths before nodes
+abbrev pub IsRefusalOfSums : ℕ → Option Asked → List ℕ → List ℕ → ℕ → ℕ → Refusal → Type 0
+IsRefusalOfSums n near sources values limits sums Refusal.NoMemory = ⊥
+IsRefusalOfSums n near sources values limits sums Refusal.NodeRange = HasValues near values × (sums ≡ length sources * limits) × (AreNodes n sources → ⊥)
+IsRefusalOfSums n near sources values limits sums Refusal.Lengths = IsSome near × (HasValues near values × (sums ≡ length sources * limits) → ⊥)
+IsRefusalOfSums n near sources values limits sums Refusal.TooLarge = ⊥
+IsRefusalOfSums n near sources values limits sums Refusal.NoPlaces = near ≡ None

@@ -2,12 +2,12 @@
 ghost use Rattle.std.specs.Prelude.{◌≡◌, ◌<◌, length, IfErr, IfOk, None, OnOk, MatchOption, ⊤};
 ghost use Rattle.ch_hierarchy.specs.Hierarchy.{nodes_of};
 ghost use Rattle.ch_query.specs.Distance.{IsKeptForSome};
-ghost use Rattle.ch_query.specs.Routes.{IsRouteBy};
 ghost use Rattle.ch_text.specs.SaveText.{IsHierarchyText};
 ghost use Rattle.ch_engine.specs.Held.{only};
 ghost use Rattle.ch_engine.specs.Opened.{IsOpened};
 ghost use Rattle.ch_engine.specs.Cells.{ArePairCells, AreTableCells, IsCell};
-ghost use Rattle.ch_engine.specs.Refusals.{AreNodes, IsOpenError, IsRefusalOfPairs, IsRefusalOfRoute, IsRefusalOfTable};
+ghost use Rattle.ch_engine.specs.Routes.{IsFound};
+ghost use Rattle.ch_engine.specs.Refusals.{AreNodes, ArePairs, AreTableLists, IsNodePair, IsOpenError, IsRefusalOfPairs, IsRefusalOfRoute, IsRefusalOfTable};
 
 use crate::fault::{OpenError, Refusal};
 use crate::network::Network;
@@ -32,10 +32,12 @@ pub struct Engine {
     scratch: Scratch,
     /// The places of near rows, if some are kept.
     pub(crate) kept: Option<KeptTargets>,
+    /// The number of these places.
+    pub(crate) places: usize,
 }
 
 impl Model for Engine {
-    ghost use Rattle.std.specs.Prelude.{◌≡◌, MatchOption, option_map, ⊤};
+    ghost use Rattle.std.specs.Prelude.{◌≡◌, MatchOption, length, option_map, ⊤};
     ghost use Rattle.std.specs.Arc.{arc_value};
     ghost use Rattle.ch_hierarchy.specs.Hierarchy.{nodes_of};
     ghost use Rattle.ch_near.specs.Kept.{AreKeptIn, asked_by};
@@ -45,7 +47,7 @@ impl Model for Engine {
 
     ghost view = { λ engine. record { hierarchy = arc_value engine.network; near = option_map asked_by engine.kept } };
 
-    ghost invariant = { λ engine. (engine.scratch ≡ nodes_of (arc_value engine.network)) × MatchOption engine.kept ⊤ (AreKeptIn (arc_value engine.network)) };
+    ghost invariant = { λ engine. (engine.scratch ≡ nodes_of (arc_value engine.network)) × MatchOption engine.kept ⊤ (AreKeptIn (arc_value engine.network)) × MatchOption engine.kept ⊤ (λ kept. engine.places ≡ length (asked_by kept).targets) };
 }
 
 impl Engine {
@@ -70,11 +72,12 @@ impl Engine {
     {
         let scratch = Scratch::new(alloc, hierarchy.nodes())?;
         let network = Arc::new(alloc, Network { hierarchy })?;
-        Ok(Engine {
+        Ok(for_any_thread(Engine {
             network,
             scratch,
             kept: None,
-        })
+            places: 0,
+        }))
     }
 
     /// Makes a second engine in the same network, with room of its own. It keeps no places.
@@ -90,12 +93,14 @@ impl Engine {
             network,
             scratch,
             kept: None,
+            places: 0,
         })
     }
 
     /// Returns the number of nodes.
     pub fn nodes(&self) -> u32
-        ensures { result ≡ nodes_of self.now.hierarchy }
+        ensures nodes { result ≡ nodes_of self.now.hierarchy }
+        ensures kept { IsKeptForSome self.now.hierarchy }
     {
         self.network.hierarchy().nodes()
     }
@@ -122,6 +127,7 @@ impl Engine {
         out: &mut [u64],
     ) -> Result<(), Refusal>
         ensures cells { OnOk result (ArePairCells self.old.hierarchy sources.now targets.now out.new) }
+        ensures fit { OnOk result (ArePairs (nodes_of self.old.hierarchy) sources.now targets.now (length out.old)) }
         ensures refused { IfErr result (λ refusal. (out.new ≡ out.old) × IsRefusalOfPairs (nodes_of self.old.hierarchy) sources.now targets.now (length out.old) refusal) }
         ensures same { self.new ≡ self.old }
     {
@@ -173,6 +179,7 @@ impl Engine {
         out: &mut [u64],
     ) -> Result<(), Refusal>
         ensures cells { OnOk result (AreTableCells self.old.hierarchy within sources.now targets.now out.new) }
+        ensures fit { OnOk result (AreTableLists (nodes_of self.old.hierarchy) sources.now targets.now (length out.old)) }
         ensures refused { IfErr result (λ refusal. (out.new ≡ out.old) × IsRefusalOfTable (nodes_of self.old.hierarchy) sources.now targets.now (length out.old) refusal) }
         ensures same { self.new ≡ self.old }
     {
@@ -210,8 +217,9 @@ impl Engine {
         source: u32,
         target: u32,
     ) -> Result<Option<Route>, Refusal>
-        ensures route { IfOk result (IsRouteBy self.old.hierarchy source target) }
+        ensures route { IfOk result (IsFound self.old.hierarchy source target) }
         ensures few { IfOk result (λ answer. MatchOption answer ⊤ (λ route. length route.arcs < nodes_of self.old.hierarchy)) }
+        ensures fit { IfOk result (λ _. IsNodePair (nodes_of self.old.hierarchy) source target) }
         ensures refused { IfErr result (IsRefusalOfRoute (nodes_of self.old.hierarchy) source target) }
         ensures same { self.new ≡ self.old }
     {
@@ -219,7 +227,30 @@ impl Engine {
         if source >= nodes || target >= nodes {
             return Err(Refusal::NodeRange);
         }
-        let hierarchy = self.network.hierarchy();
-        Ok(route(alloc, hierarchy, &mut self.scratch, source, target)?)
+        Ok(self.find_route(alloc, source, target)?)
     }
+
+    /// Returns the route between two nodes.
+    pub(crate) fn find_route(
+        &mut self,
+        alloc: Global,
+        source: u32,
+        target: u32,
+    ) -> Result<Option<Route>, AllocError>
+        requires source { source < nodes_of self.old.hierarchy }
+        requires target { target < nodes_of self.old.hierarchy }
+        ensures route { IfOk result (IsFound self.old.hierarchy source target) }
+        ensures few { IfOk result (λ answer. MatchOption answer ⊤ (λ route. length route.arcs < nodes_of self.old.hierarchy)) }
+        ensures same { self.new ≡ self.old }
+    {
+        let hierarchy = self.network.hierarchy();
+        route(alloc, hierarchy, &mut self.scratch, source, target)
+    }
+}
+
+/// Returns an engine that any thread may use, one at a time. This compiles only for values that can be sent to a thread.
+fn for_any_thread<T: Send>(engine: T) -> T
+    ensures { result ≡ engine }
+{
+    engine
 }

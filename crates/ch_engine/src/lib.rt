@@ -6,7 +6,8 @@
 //!
 //! - [`Engine::open`] gives a hierarchy that is right for the graph that the bytes name, or an error that is true of
 //!   the bytes.
-//! - Distances, tables, routes and near rows are those of each graph for which the hierarchy is right.
+//! - Distances, tables, routes and near rows are those of each graph for which the hierarchy is right. Sums are those of
+//!   the near rows.
 //! - No call requires anything of its arguments. A refusal says what is wrong, and changes nothing.
 #![tactic(auto)]
 
@@ -15,10 +16,12 @@ mod fault;
 mod near;
 mod network;
 mod opening;
+mod routes;
+mod sums;
 mod words;
 mod written;
 
 pub use engine::Engine;
 pub use fault::{OpenError, Refusal};
 pub use words::NO_DISTANCE;
-pub use written::{End, Written};
+pub use written::{End, Summed, SumsEnd, Written};

@@ -2,8 +2,8 @@
 ghost use Rattle.std.specs.Prelude.{◌≡◌, ◌+◌, ◌<◌, ◌≤◌, ℕ, length, slice_index, IfErr, IfOk, OnOk, IsSome};
 ghost use Rattle.ch_hierarchy.specs.Hierarchy.{nodes_of};
 ghost use Rattle.ch_engine.specs.Held.{with_places};
-ghost use Rattle.ch_engine.specs.NearRows.{AreRowsWritten, IsKeptRow, StandsAt};
-ghost use Rattle.ch_engine.specs.Refusals.{AreNodes, IsRefusalOfPlaces, IsRefusalOfRows, IsRefusalOfSweep};
+ghost use Rattle.ch_engine.specs.NearRows.{AreRowsWritten, IsKeptRow, StandsAt, StaysFrom, begin_of};
+ghost use Rattle.ch_engine.specs.Refusals.{AreNodes, ArePlaces, AreRowSources, IsRefusalOfPlaces, IsRefusalOfRows, IsRefusalOfSweep};
 
 use crate::engine::Engine;
 use crate::fault::Refusal;
@@ -30,6 +30,7 @@ impl Engine {
         count: Option<u32>,
     ) -> Result<(), Refusal>
         ensures kept { OnOk result (self.new ≡ with_places self.old (record { direction = direction; targets = places.now; limit = within; count = count })) }
+        ensures fit { OnOk result (ArePlaces (nodes_of self.old.hierarchy) places.now) }
         ensures refused { IfErr result (λ refusal. (self.new ≡ self.old) × IsRefusalOfPlaces (nodes_of self.old.hierarchy) places.now refusal) }
     {
         if places.len() > MOST_LISTED as usize {
@@ -41,6 +42,7 @@ impl Engine {
         let hierarchy = self.network.hierarchy();
         let kept = KeptTargets::search(alloc, hierarchy, direction, places, within, count)?;
         self.kept = Some(kept);
+        self.places = places.len();
         Ok(())
     }
 
@@ -77,7 +79,9 @@ impl Engine {
         places: &mut [u32],
     ) -> Result<Written, Refusal>
         ensures written { IfOk result (AreRowsWritten self.old sources.now ends.new weights.new places.new) }
-        ensures some { OnOk result (IsSome self.old.near) }
+        ensures rest { IfOk result (λ written. StaysFrom written.count ends.old ends.new) }
+        ensures behind { IfOk result (λ written. StaysFrom (begin_of ends.new written.count) weights.old weights.new × StaysFrom (begin_of ends.new written.count) places.old places.new) }
+        ensures fit { OnOk result (AreRowSources (nodes_of self.old.hierarchy) self.old.near sources.now (length ends.old) (length weights.old) (length places.old)) }
         ensures refused { IfErr result (λ refusal. (ends.new ≡ ends.old) × (weights.new ≡ weights.old) × (places.new ≡ places.old) × IsRefusalOfRows (nodes_of self.old.hierarchy) self.old.near sources.now (length ends.old) (length weights.old) (length places.old) refusal) }
         ensures same { self.new ≡ self.old }
     {
@@ -104,32 +108,34 @@ impl Engine {
         requires lengths { (length sources.now ≡ length ends.old) × (length weights.old ≡ length places.old) }
         requires sources { AreNodes (nodes_of self.old.hierarchy) sources.now }
         ensures written { AreRowsWritten self.old sources.now ends.new weights.new places.new result }
+        ensures rest { StaysFrom result.count ends.old ends.new }
+        ensures behind { StaysFrom (begin_of ends.new result.count) weights.old weights.new × StaysFrom (begin_of ends.new result.count) places.old places.new }
         ensures same { self.new ≡ self.old }
     {
         let mut row = Vec::new(alloc);
         let mut begin = 0;
         for i in 0..sources.len() {
-            let rows = i as u64;
+            let count = i as u64;
             let Ok(()) = self.near_row(alloc, sources[i], &mut row) else {
                 let end = End::NoMemory;
-                return Written { rows, end };
+                return Written { count, end };
             };
             if row.len() > weights.len() - begin {
                 let end = End::NoRoom;
-                return Written { rows, end };
+                return Written { count, end };
             }
             write_row(&row, begin, weights, places);
             begin += row.len();
             ends[i] = begin as u64;
         }
         Written {
-            rows: sources.len() as u64,
+            count: sources.len() as u64,
             end: End::All,
         }
     }
 
     /// Makes the row of a source, if places are kept.
-    fn near_row(
+    pub(crate) fn near_row(
         &mut self,
         alloc: Global,
         source: u32,
@@ -153,6 +159,7 @@ fn write_row(row: &[(u64, u32)], begin: usize, weights: &mut [u64], places: &mut
     requires lengths { length weights.old ≡ length places.old }
     ensures stands { StandsAt begin row.now weights.new places.new }
     ensures before { (k : ℕ) → k < begin → (slice_index weights.new k ≡ slice_index weights.old k) × (slice_index places.new k ≡ slice_index places.old k) }
+    ensures behind { StaysFrom (begin + length row.now) weights.old weights.new × StaysFrom (begin + length row.now) places.old places.new }
     ensures lengths { (length weights.new ≡ length weights.old) × (length places.new ≡ length places.old) }
 {
     for j in 0..row.len() {

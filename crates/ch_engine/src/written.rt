@@ -1,21 +1,41 @@
-//! The number of near rows that were written, and why no more.
+//! The number of near rows, routes or sums that were written, and why no more.
 
-/// The number of near rows that were written, and why no more were.
+/// The number of near rows or routes that were written, and why no more were.
 #[derive(Clone, Copy, Debug, PartialEq, Eq)]
 pub struct Written {
-    /// The number of rows. They are those of the first sources.
-    pub rows: u64,
-    /// The reason why no more rows were written.
+    /// The number of rows or routes. They are those of the first sources.
+    pub count: u64,
+    /// The reason why no more were written.
     pub end: End,
 }
 
-/// The reason why no more near rows were written.
+/// The reason why no more near rows or routes were written.
 #[derive(Clone, Copy, Debug, PartialEq, Eq)]
 pub enum End {
-    /// All rows were written.
+    /// All were written.
     All,
-    /// The next row has more pairs than the arrays have room left for.
+    /// The next one needs more room than the arrays have left.
     NoRoom,
-    /// There was no memory for the next row.
+    /// There was no memory for the next one.
+    NoMemory,
+}
+
+/// The number of sources whose sums were written, and why no more were.
+#[derive(Clone, Copy, Debug, PartialEq, Eq)]
+pub struct Summed {
+    /// The number of sources. They are the first ones.
+    pub count: u64,
+    /// The reason why no more were written.
+    pub end: SumsEnd,
+}
+
+/// The reason why the sums of no more sources were written.
+#[derive(Clone, Copy, Debug, PartialEq, Eq)]
+pub enum SumsEnd {
+    /// All were written.
+    All,
+    /// A sum of the next source is 2^64 or more.
+    TooLarge,
+    /// There was no memory for the row of the next source.
     NoMemory,
 }

@@ -19,7 +19,7 @@ from chtab.errors import ChtabError, ProgramFault
 VERSION = 1_001_000
 NAME = "libchtab.so.1"
 # What the calls answer, as `chtab_status` of the header has it.
-OK, NO_MEMORY, CLOSED, IS_OPEN, NODE_RANGE, LENGTHS, TOO_LARGE, TOO_SHORT, BAD_GRAPH, BAD_SAVED, WRONG_SAVED, NO_PLACES = range(12)
+OK, NO_MEMORY, CLOSED, IS_OPEN, NODE_RANGE, LENGTHS, TOO_LARGE, TOO_SHORT, BAD_GRAPH, BAD_SAVED, WRONG_SAVED, NO_PLACES, SUM_TOO_LARGE = range(13)
 # The limit that leaves out no distance, and the distance where there is no walk, which is -1 as a number of 64 bits with a sign.
 NO_LIMIT = NO_DISTANCE = 2**64 - 1
 # The number of places of a near row that leaves none out.
@@ -64,9 +64,11 @@ CALLS = {
     "chtab_distances": (HANDLE, *ARRAY, *ARRAY, *ARRAY),
     "chtab_table": (HANDLE, *ARRAY, *ARRAY, ctypes.c_uint64, *ARRAY),
     "chtab_route": (HANDLE, ctypes.c_uint32, ctypes.c_uint32, ctypes.POINTER(Found), *ARRAY),
+    "chtab_routes": (HANDLE, *ARRAY, *ARRAY, ctypes.POINTER(ctypes.c_uint64), *ARRAY, *ARRAY, *ARRAY),
     "chtab_near_places": (HANDLE, ctypes.c_uint32, *ARRAY, ctypes.c_uint64, ctypes.c_uint32),
     "chtab_near_sweep": (HANDLE,),
     "chtab_near_rows": (HANDLE, *ARRAY, ctypes.POINTER(ctypes.c_uint64), *ARRAY, *ARRAY, *ARRAY),
+    "chtab_near_sums": (HANDLE, *ARRAY, *ARRAY, *ARRAY, ctypes.POINTER(ctypes.c_uint64), *ARRAY),
 }
 
 
@@ -247,6 +249,20 @@ class Handle:
         at = address(nodes, numpy.uint32, True)
         return self.calls.chtab_route(self.at, source, target, ctypes.byref(found), at, len(nodes))
 
+    def routes(self, sources, targets, room):
+        """The routes from each source to the target beside it, columns of uint32, nodes from 0 on: of as many of the first pairs as there is room for
+        with so many nodes. Their weights, int64, -1 where there is no walk; where the nodes of each end, int64; and the nodes, uint32."""
+        count, weights, ends = ctypes.c_uint64(), *numpy.empty((2, len(sources)), numpy.int64)
+        nodes = numpy.empty(room, numpy.uint32)
+        given = [address(sources, numpy.uint32), len(sources), address(targets, numpy.uint32), len(targets), ctypes.byref(count)]
+        for array, kind in (weights, numpy.int64), (ends, numpy.int64), (nodes, numpy.uint32):
+            given += [address(array, kind, True), len(array)]
+        with self.lock:
+            status = self.calls.chtab_routes(self.at, *given)
+        see_that_done(OK if status == TOO_SHORT else status)
+        ends = ends[:count.value]
+        return weights[:count.value], ends, nodes[:ends[-1] if len(ends) else 0]
+
     def keep_places(self, places, limit=NO_LIMIT, count=ALL, is_from=False):
         """Searches from places, a column of uint32, nodes from 0 on, and keeps what is found in place of what was kept: for rows of at most
         `count` of them, of at most `limit`, by the distances to the places or from them."""
@@ -278,6 +294,18 @@ class Handle:
         end = ends[-1] if len(ends) else 0
         return ends, weights[:end], places[:end].astype(numpy.int64)
 
+    def near_sums(self, sources, values, limits):
+        """The sums over the rows of sources, a column of uint32, nodes from 0 on, to the kept places: for each source and each limit, columns of
+        uint64, of the values of the places that are at most as far, uint64 (n, m). A sum of 2^64 or more is a `ValueError`."""
+        count, sums = ctypes.c_uint64(), numpy.empty(len(sources) * len(limits), numpy.uint64)
+        given = []
+        for array, kind in (sources, numpy.uint32), (values, numpy.uint64), (limits, numpy.uint64):
+            given += [address(array, kind), len(array)]
+        with self.lock:
+            status = self.calls.chtab_near_sums(self.at, *given, ctypes.byref(count), address(sums, numpy.uint64, True), len(sums))
+        see_that_done(status)
+        return sums.reshape(len(sources), len(limits))
+
 
 def see_that_done(status):
     """Tells why a call did nothing."""
@@ -293,6 +321,8 @@ def see_that_done(status):
         raise ValueError("a table has at most 65,536 sources and as many targets, and so many places are kept")
     if status == NO_PLACES:
         raise ValueError("no places are kept")
+    if status == SUM_TOO_LARGE:
+        raise ValueError("a sum is 2^64 or more")
     if status:
         raise ProgramFault(f"chtab's library answered {status}", 0)
 

@@ -10,4 +10,4 @@ returns-clause-answered c =
     let after = c.write_table-status.new.out in
     let Says : Held → Type 0 = λ held. IsTableAnswered held.hierarchy c.args.limit c.args.sources.now c.args.targets.now before after status in
     subst (λ network. OfNetwork network status (after ≡ before) Says) (sym c.in-Some.ensures.taken)
-    (subst Says c.deref_mut.ensures.value c.write_table-status.ensures.answered)
+    (c.in-Some.ensures.kept, subst Says c.deref_mut.ensures.value c.write_table-status.ensures.answered)

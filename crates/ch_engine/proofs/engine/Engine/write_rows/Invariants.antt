@@ -1,5 +1,5 @@
 use Rattle.std.proofs.Common.{◌≡◌, ◌<◌, ◌≤◌, ℕ, length, slice_index}
-use Rattle.ch_engine.specs.NearRows.{AreRowsAt, begin_of}
+use Rattle.ch_engine.specs.NearRows.{AreRowsAt, StaysFrom, begin_of}
 use Rattle.ch_engine.proofs.engine.Engine.write_rows.Given as goal
 
 abbrev pub invariant-loop-i : goal.invariant-loop-i
@@ -11,5 +11,8 @@ invariant-loop-i l = record {
   here : l.begin ≡ begin_of l.ends l.i;
   low : (k : ℕ) → k < l.i → slice_index l.ends k ≤ l.begin;
   fits : l.begin ≤ length l.weights;
+  rest : StaysFrom l.i l.fn.ends l.ends;
+  weights_behind : StaysFrom l.begin l.fn.weights l.weights;
+  places_behind : StaysFrom l.begin l.fn.places l.places;
   rows : AreRowsAt l.fn.self l.sources l.ends l.weights l.places l.i;
 }
