@@ -26,7 +26,7 @@ MOST_LINES_OF_README, MOST_WORDS_OF_ARCHITECTURE = 120, 4_500
 # The pages that follow all rules of `helpers.prose`; the others follow those that came first.
 JUDGED = (
     "CHANGELOG.md", "CONTRIBUTING.md", "README.md", "bench/README.md", "docs/ARCHITECTURE.md", "docs/BELIEVE.md", "docs/CALLING.md",
-    "docs/DECISIONS.md", "docs/DEFINITIONS.md", "docs/EXPERIMENTS.md", "docs/MEASUREMENTS.md", "docs/PROVED.md", "docs/REFERENCE.md",
+    "docs/DECISIONS.md", "docs/DEFINITIONS.md", "docs/EXPERIMENTS.md", "docs/MAPS.md", "docs/MEASUREMENTS.md", "docs/PROVED.md", "docs/REFERENCE.md",
     "docs/SERVICE.md", "docs/TESTING.md", "examples/README.md",
 )
 # A name of a file or folder with a slash; one without, of what a document is about; and the suffixes of text.
