@@ -23,12 +23,8 @@ PAGES = (
 )
 PROVED, MEASUREMENTS, REFERENCE = (ROOT / "docs" / name for name in ("PROVED.md", "MEASUREMENTS.md", "REFERENCE.md"))
 MOST_LINES_OF_README, MOST_WORDS_OF_ARCHITECTURE = 120, 4_500
-# The pages that follow all rules of `helpers.prose`; the others follow those that came first.
-JUDGED = (
-    "CHANGELOG.md", "CONTRIBUTING.md", "README.md", "bench/README.md", "docs/ARCHITECTURE.md", "docs/BELIEVE.md", "docs/CALLING.md",
-    "docs/DECISIONS.md", "docs/DEFINITIONS.md", "docs/EXPERIMENTS.md", "docs/MAPS.md", "docs/MEASUREMENTS.md", "docs/PROVED.md", "docs/REFERENCE.md",
-    "docs/SERVICE.md", "docs/TESTING.md", "examples/README.md",
-)
+# The pages that do not follow all rules of `helpers.prose` yet, only those on lines, paragraphs and long sentences.
+NOT_JUDGED = ("docs/GUIDE.md",)
 # A name of a file or folder with a slash; one without, of what a document is about; and the suffixes of text.
 PATH = re.compile(r"[\w.-]+(?:/[\w.-]+)+/?|[\w-]+/")
 FILE = re.compile(r"[\w-]+\.(?:antt|c|cpp|md|py|rs|rt|sh|toml)")
@@ -433,7 +429,7 @@ def main():
         check_links(tally, page)
         check_names(tally, page)
         check_commits(tally, page)
-        check_prose(tally, page, str(told(page)) in JUDGED)
+        check_prose(tally, page, str(told(page)) not in NOT_JUDGED)
     for path in sorted(COMMANDS.glob("*.py")):
         check_help(tally, path)
     check_proved(tally)
