@@ -79,7 +79,7 @@ def labels_come_from_the_ends():
         assert network.table(["alone", "too"], ["alone", "too"]).tolist() == [[0, -1], [-1, 0]]
     for pairs, told in (
         ([("a", "x")], "pairs[0]: no node has the label 'x'"), ([("a", 1)], "pairs[0]: the label 1 is not one of strings"),
-        ([(1, 2)], "no node has the label 1; labels are strings"), ([(1.0, 2.0)], "1.0 is no label"), ([("a", None)], "None is no label"),
+        ([(1, 2)], "no node has the label 1; labels are strings"), ([(1.5, 2.0)], "1.5 is no label"), ([("a", None)], "None is no label"),
     ):
         with of_arrays(SOURCES, TARGETS, WEIGHTS) as network:
             assert raises(chtab.DataFault, network.distances, pairs, told=told).row == 0

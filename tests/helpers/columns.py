@@ -57,11 +57,11 @@ def refusals():
     ends, weights, three = ([1, 2], [2, 3]), [1, 1], {"nodes": [1, 2, 3]}
     nan = float("nan")
     for sources, row, told in (
-        ([1.0, 2.0], 0, "1.0 is no label"), (numpy.array([1, nan]), 1, "nan is no label"), ([1, "1"], 1, "'1' is not one of integers"),
+        ([1.5, 2.0], 0, "1.5 is no label"), ([2.0**53 + 2, 1.0], 0, "is no label"), (numpy.array([1, nan]), 1, "nan is no label"), ([1, "1"], 1, "'1' is not one of integers"),
         (["1", 1], 1, "1 is not one of strings"), ([True, False], 0, "True"), (numpy.array([True, False]), 0, "True"), ([b"a", b"b"], 0, "b'a'"),
         ([1, None], 1, "None"), ([1, nan], 1, "nan"), (numpy.ma.masked_array([1, 2], [False, True]), 1, "masked"),
         (pandas.array([1, None], "Int64"), 1, "missing"), (pandas.Series([None, 1], dtype="Int64"), 0, "missing"),
-        (pandas.Series(["a", None], dtype="string"), 1, "missing"), ([(1, 2), (3,)], 0, "(1, 2)"), ([1, 2.5], 1, "2.5"),
+        (pandas.Series(["a", None], dtype="string"), 1, "missing"), ([(1, 2), 3], 1, "the label 3 is not one of tuples"), ([(1, 2), (3, None)], 1, "(3, None) is no label"), ([(1, 2), (3, nan)], 1, "nan) is no label"), ([1, 2.5], 1, "2.5"),
         (numpy.array(["2020-01-01"] * 2, "M8[D]"), 0, "no label"),
         (numpy.array(["2020-01-01"] * 2, "M8[ns]"), 0, "datetim"), (pandas.to_datetime(pandas.Series(["2020-01-01"] * 2)), 0, "datetim"),
         ([[1, 2], [3, 4]], None, "shape (2, 2)"), (1, None, "shape ()"),
@@ -74,7 +74,7 @@ def refusals():
         ([1, 1.5], 1, "1.5 is not a whole number"),
         ([1, 2**60 // 3 + 1], 1, "too large"), ([1, 1e30], 1, "too large"), ([10**40, 1], 0, "too large"), ([1, -10**40], 1, "below 0"),
         (numpy.array([1, 2**64 - 1], numpy.uint64), 1, "too large"), (["1", "2"], 0, "'1' is neither an integer nor a float"), (numpy.array(["1", "2"]), 0, "'1'"),
-        ([True, False], 0, "True is neither an integer nor a float"), (numpy.array([1j, 2]), 0, "neither an integer nor a float"), (numpy.array([1, 2], "m8[ns]"), 0, "neither an integer nor a float"),
+        ([True, False], 0, "True is neither an integer nor a float"), (numpy.array([1j, 2]), 0, "neither an integer nor a float"), (numpy.array([1, "NaT"], "m8[ns]"), 1, "missing"),
         ([10**5_000, 1], 0, "too large"), ([1.5, 10**5_000], 1, "too large"), ([-10**5_000, 1.5], 0, "below 0"),
         ([1, None], 1, "there is none"), (numpy.ma.masked_array([1, 2], [True, False]), 0, "masked"), ([1], 1, "row 1 of weights is missing"),
         (pandas.Series([1, None], dtype="Float64"), 1, "missing"), ([[1, 2]], None, "shape (1, 2)"), ([1, 2, 3], None, "row 2 of sources is missing"),
@@ -87,7 +87,7 @@ def refusals():
     for more, column, row, told in (
         ({"nodes": [1, 2, 3, 2]}, "nodes", 3, "2 stands in row 1 already"), ({"nodes": [1, 3]}, "sources", 1, "no node has the label 2"),
         ({"nodes": ["1", "2", "1"]}, "nodes", 2, "'1' stands in row 0"), ({"nodes": ["1", "2", "3"]}, "sources", 0, "labels are strings"),
-        ({"nodes": [1.0, 2.0, 3.0]}, "nodes", 0, "1.0 is no label"), ({"nodes": []}, "sources", 0, "no node has the label 1"),
+        ({"nodes": [1.5, 2.0, 3.0]}, "nodes", 0, "1.5 is no label"), ({"nodes": []}, "sources", 0, "no node has the label 1"),
         ({"x": [1, 2, 3], "y": [1, 2, 3]}, "nodes", None, "go together"), ({**three, "x": [1, 2, 3]}, "y", None, "go together"),
         ({**three, "x": [1, 2], "y": [1, 2, 3]}, "x", 2, "row 2 of x"), ({**three, "x": [1, 2, nan], "y": [1, 2, 3]}, "x", 2, "nan is not from -180"),
         ({**three, "x": [1, 2, 3], "y": [1, 200, 3]}, "y", 1, "200 is not from -90 to 90"),

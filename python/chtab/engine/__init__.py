@@ -15,6 +15,8 @@
 | `interruptible` | long calls of the library, which Ctrl-C breaks off |
 | `node_queries` | questions of any size between nodes |
 | `blocks` | tables of any size, in blocks |
+| `folders` | temporary folders, which are removed with what keeps them |
+| `deadlines` | until when an answer has to be there |
 | `forks`, `stamps` | what holds after a fork, and while files stay the same |
 | `progress` | how far a long call is |
 """

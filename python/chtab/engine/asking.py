@@ -6,7 +6,7 @@ import threading
 from dataclasses import dataclass
 
 from chtab import files
-from chtab.engine import answers, forks
+from chtab.engine import answers, deadlines, forks
 from chtab.engine.child import Child, see_to
 from chtab.engine.stamps import Stamps
 from chtab.errors import ChtabError, ProgramFault
@@ -111,8 +111,9 @@ class Run:
             self.child = None
         if self.child is None:
             self.begin()
-        self.child.load()
-        return None if question is None else self.child.ask(question, self.setting.timeout)
+        with deadlines.uncounted():
+            self.child.load()
+        return None if question is None else self.child.ask(question, deadlines.current(self.setting.timeout))
 
     def begin(self):
         """Begins a child, when those that made way for it have ended."""

@@ -6,17 +6,16 @@ another's, and when anything else (Ctrl-C among it) breaks a question off. One w
 import atexit
 import contextlib
 import functools
-import math
 import os
 import select
 import signal
 import subprocess
 import tempfile
-import time
 import weakref
 
 from chtab.engine import answers, forks
-from chtab.errors import ChtabError, ProgramFault, TimedOut, unasked
+from chtab.engine.deadlines import Deadline
+from chtab.errors import ChtabError, ProgramFault, unasked
 
 # Bytes that are read or written at a time.
 CHUNK = 1 << 18
@@ -104,21 +103,6 @@ def begin(command, told):
     return process, requests, answered
 
 
-class Deadline:
-    """When an answer has to be there: so many seconds from now, or at any time (None)."""
-
-    def __init__(self, seconds):
-        self.seconds = math.inf if seconds is None else seconds
-        self.until = time.monotonic() + self.seconds
-
-    def milliseconds(self):
-        """What is left, None where that has no end. Where nothing is, that is a `TimedOut`."""
-        left = self.until - time.monotonic()
-        if left <= 0:
-            raise TimedOut(f"chtab took longer than {self.seconds:g} seconds, and was ended")
-        return None if math.isinf(left) else 1000 * left
-
-
 class Child:
     """A run that answers requests in order. One thread asks it at a time. It has a process group of its own, so that Ctrl-C at a terminal
     doesn't reach it before its parent.
@@ -155,12 +139,12 @@ class Child:
             self.ask(answers.Table([1], [1]))
             self.is_loaded = True
 
-    def ask(self, question, seconds=None):
-        """The value of the answer to a question, in so many seconds or any (None). Whatever goes wrong ends the run."""
+    def ask(self, question, deadline=Deadline(None)):
+        """The value of the answer to a question, which has to be there in time. Whatever goes wrong ends the run."""
         self.is_busy = True
         try:
             answer = answers.Answer(question, self.nodes, self.has_routes)
-            self.exchange(answer, Deadline(seconds))
+            self.exchange(answer, deadline)
             value = answer.value()
         except BaseException:
             self.close()

@@ -8,8 +8,7 @@ import weakref
 import numpy
 
 from chtab import files
-from chtab.engine import asking, forks, library
-from chtab.engine.child import Deadline
+from chtab.engine import asking, deadlines, forks, library
 from chtab.engine.interruptible import LONG, interruptible
 from chtab.engine.walks import Walks
 from chtab.errors import ChtabError, ProgramFault, unasked
@@ -26,7 +25,7 @@ def timed(question):
     @functools.wraps(question)
     def ask(self, *words):
         self.handle()
-        self.of_thread.deadline = Deadline(self.setting.timeout)
+        self.of_thread.deadline = deadlines.current(self.setting.timeout)
         return question(self, *words)
 
     return ask
@@ -35,7 +34,7 @@ def timed(question):
 class OfThread(threading.local):
     """What a thread has: its handle, and until when the answer to its question has to be there."""
 
-    handle, deadline = None, Deadline(None)
+    handle, deadline = None, deadlines.Deadline(None)
 
 
 def files_of(setting):
@@ -76,7 +75,8 @@ class InProcess:
             if self.is_closed:
                 raise ChtabError(library.GONE)
             if self.first is None:
-                self.first = self.opened()
+                with deadlines.uncounted():
+                    self.first = self.opened()
                 self.handles.add(self.first)
                 self.begun += 1
 

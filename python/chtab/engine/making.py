@@ -6,32 +6,16 @@ import os
 import secrets
 import shutil
 import subprocess
-import tempfile
-import weakref
 
 import numpy
 
 from chtab import files
 from chtab.engine.child import fault_of
 from chtab.errors import FileFault
+from chtab.files import measures
 
 # The files of a network in its folder.
-GRAPH, SAVED, COORDINATES, LABELS = "network.gr", "network.ch", "network.co", "network.json"
-
-
-class Folder:
-    """A folder of files that goes with what keeps it: it is removed by `remove`, when it is no longer used, and at the end of the
-    interpreter. A process that was forked leaves it alone."""
-
-    def __init__(self):
-        self.path = tempfile.mkdtemp(prefix="chtab-")
-        self.remove = weakref.finalize(self, remove_in, os.getpid(), self.path)
-
-
-def remove_in(owner, path):
-    """Removes a folder in the process that made it."""
-    if os.getpid() == owner:
-        shutil.rmtree(path, ignore_errors=True)
+GRAPH, SAVED, COORDINATES, BENDS, LABELS = "network.gr", "network.ch", "network.co", "network.bends", "network.json"
 
 
 @contextlib.contextmanager
@@ -56,12 +40,15 @@ def see_that_free(folder):
 
 def write(arcs, folder, program, workers):
     """Writes the files of arcs into a folder, and builds their hierarchy."""
-    graph, saved, coordinates, labels = (os.path.join(folder, name) for name in (GRAPH, SAVED, COORDINATES, LABELS))
-    comments = [] if arcs.scale is None else [files.scale_comment(arcs.scale)]
+    graph, saved, coordinates, bends, labels = (os.path.join(folder, name) for name in (GRAPH, SAVED, COORDINATES, BENDS, LABELS))
+    base = measures.base_of(arcs.unit, arcs.scale)
+    comments = [f"Weights are {base}."] * bool(base) + ([] if arcs.scale is None else [files.scale_comment(arcs.scale)])
     files.write_graph_columns(graph, len(arcs.labels.values), (arcs.tails, arcs.heads, arcs.weights), comments)
     if arcs.places is not None:
         files.write_coordinate_columns(coordinates, [numpy.rint(part * 1e6).astype(numpy.int64) for part in arcs.places])
-    files.write_labels(labels, files.Labelling(arcs.labels.values.tolist(), arcs.scale, arcs.rounding, digest_of(graph)))
+    if arcs.bends:
+        files.write_bends(bends, arcs.bends)
+    files.write_labels(labels, files.Labelling(arcs.labels.values.tolist(), arcs.scale, arcs.rounding, digest_of(graph), arcs.unit))
     save(program, graph, saved, workers)
 
 
@@ -82,7 +69,7 @@ def save(program, graph, saved, workers):
 
 def layers_of(arcs):
     """What the files of arcs hold, as the layers of a network have it: its labels, and the places of its nodes."""
-    layers = {"labels": arcs.labels, "labelling": files.Labelling(arcs.labels.values, arcs.scale, arcs.rounding, "")}
+    layers = {"labels": arcs.labels, "labelling": files.Labelling(arcs.labels.values, arcs.scale, arcs.rounding, "", arcs.unit)}
     if arcs.places is not None:
         layers["coordinates"] = files.Coordinates(*(array.array("d", (numpy.rint(part * 1e6) / 1e6).tobytes()) for part in arcs.places), [])
     return layers

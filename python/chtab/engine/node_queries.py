@@ -5,8 +5,6 @@ from chtab.engine import asking, blocks
 from chtab.engine.answers import NO_WALK
 from chtab.engine.walks import together
 
-# The greatest distance, and so the greatest limit.
-MOST = 2**60
 # Beside a run that is kept, near rows of all nodes by a saved hierarchy take as long as a row of a table with this share of the nodes.
 SHARE = 2 / 3
 
@@ -29,7 +27,6 @@ class NodeQueries:
 
     def table(self, sources, targets, within=None):
         """The weights from each node of one array to each of another, int64 (k, l), -1 where there is no walk, or none of at most `within`."""
-        within = limit_in(within)
         table = numpy.empty((len(sources), len(targets)), numpy.int64)
         for block in blocks.cut(sources, targets):
             cells = self.runs.cells(block.sources, block.targets, shared_limit(within))
@@ -61,18 +58,6 @@ class NodeQueries:
         """The cells of several small tables in one column, int64, -1 where there is no walk. Each part is a list of sources and one of targets."""
         cells = [self.runs.tables(parts[start:start + asking.FEW]) for start in range(0, len(parts), asking.FEW)]
         return numpy.concatenate([numpy.zeros(0, numpy.int64), *cells])
-
-
-def limit_in(within):
-    """A limit, None where there is none."""
-    return None if within is None else whole_limit(within)
-
-
-def whole_limit(limit):
-    """The greatest whole number up to a limit: no weight lies between. numpy compares it exactly, which it does with few other numbers."""
-    if not 0 <= limit <= MOST:
-        raise ValueError("a limit is from 0 to 2^60")
-    return int(limit)
 
 
 def shared_limit(within):

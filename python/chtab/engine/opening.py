@@ -1,12 +1,14 @@
 """What a network is opened by: the files, and how the program runs. Another process opens it anew by the same."""
+import difflib
 import os
-from dataclasses import dataclass
+from dataclasses import dataclass, fields
 
-from chtab.engine import asking, making
+from chtab.engine import asking, folders, making
 from chtab.engine.child import see_to
 from chtab.engine.choosing import AUTO
 from chtab.engine.program import program_of
 from chtab.engine.stamps import stamp_of
+from chtab.files import measures
 
 
 @dataclass(frozen=True)
@@ -20,10 +22,11 @@ class Running:
     routes: bool = False
     runs: int = 1
     library: object = AUTO
+    asked: measures.Asked = measures.Asked()
 
     def __post_init__(self):
         if self.runs < 1:
-            raise ValueError("there is at least one run")
+            raise ValueError(f"runs is {self.runs!r}: there is at least one run")
         # No other value is one of these, though 1 and `numpy.True_` are equal to True.
         if not isinstance(self.library, bool) and self.library != AUTO:
             object.__setattr__(self, "library", os.path.abspath(self.library))
@@ -31,6 +34,16 @@ class Running:
     def setting(self, graph, saved):
         """The same for an engine, of these files."""
         return asking.Setting(program_of(self.program), graph, saved, self.workers, self.timeout, self.runs)
+
+
+def running_of(call, given, asked, also=()):
+    """How the program runs, by the further arguments of a call. One that is not known is a `TypeError`, which names the nearest that is."""
+    known = [field.name for field in fields(Running) if field.name != "asked"]
+    for name in given:
+        if name not in known:
+            near = difflib.get_close_matches(name, [*known, *also, "unit", "raw"], 1, 0.5)
+            raise TypeError(f"{call} has no argument {name!r}" + (f"; it has {near[0]!r}" if near else f"; it has {', '.join([*also, *known])}"))
+    return Running(**given, asked=asked)
 
 
 @dataclass(frozen=True)
@@ -43,8 +56,9 @@ class Opening:
     labelling: str | None = None
     # What tells the graph from another one: a network of another one at its place is another network.
     stamp: tuple | None = None
-    # Whether the library for C answers: `Network.open` has the meaning.
+    # Whether the library for C answers, and what the caller says of units: `Network.open` has the meaning.
     library: object = AUTO
+    asked: measures.Asked = measures.Asked()
 
 
 def opening_of(graph, saved, coordinates, bends, running):
@@ -54,7 +68,7 @@ def opening_of(graph, saved, coordinates, bends, running):
     graph, saved, coordinates, bends = (None if path is None else os.path.abspath(path) for path in (graph, saved, coordinates, bends))
     for path in filter(None, (graph, saved, coordinates, bends)):
         open(path, "rb").close()
-    return Opening(running.setting(graph, saved), coordinates, bends, stamp=stamp_of(graph), library=running.library)
+    return Opening(running.setting(graph, saved), coordinates, bends, stamp=stamp_of(graph), library=running.library, asked=running.asked)
 
 
 def of_folder(folder, running, saved=None, coordinates=None, bends=None):
@@ -63,7 +77,7 @@ def of_folder(folder, running, saved=None, coordinates=None, bends=None):
     saved, coordinates, bends = (None if path is None else os.path.abspath(path) for path in (saved or own, coordinates, bends))
     for path in filter(None, (graph, saved, labelling, coordinates, bends)):
         open(path, "rb").close()
-    return Opening(running.setting(graph, saved), coordinates, bends, labelling, stamp_of(graph), running.library)
+    return Opening(running.setting(graph, saved), coordinates, bends, labelling, stamp_of(graph), running.library, running.asked)
 
 
 def made(arcs, folder, running):
@@ -74,7 +88,7 @@ def made(arcs, folder, running):
         with making.begun(folder) as part:
             making.write(arcs, part, program, running.workers)
         return of_folder(os.path.realpath(folder), running), None
-    kept = making.Folder()
+    kept = folders.Folder()
     try:
         making.write(arcs, kept.path, program, running.workers)
     except BaseException:

@@ -8,16 +8,29 @@ SECONDS = 10.0
 MANY = 100_000
 
 
+# Seconds from one line to the next where a caller asks for them.
+ASKED_SECONDS = 1.0
+
+
+def progress_of(asked, name, total, things, is_told=True):
+    """What counts for a call of a network, whose `progress` says how: None as `is_told` has it, True or False, or a call."""
+    if callable(asked):
+        return Progress(name, total, things, is_told=False, call=asked)
+    if asked is not None and not isinstance(asked, bool):
+        raise TypeError(f"progress is True, False or a call, not {asked!r}")
+    return Progress(name, total, things, ASKED_SECONDS if asked else None, is_told if asked is None else asked)
+
+
 class Progress:
     """Counts what is done of `total` things (None: nobody knows how many). Nothing is told of what ends within `seconds` (`SECONDS`), and
-    nothing at all where `is_told` is false.
+    nothing at all where `is_told` is false. A `call` is told instead, by how many are done and the total, at each step.
 
         with Progress("blocks", 49, "blocks") as progress:
             progress.step()
     """
 
-    def __init__(self, name, total, things, seconds=None, is_told=True):
-        self.name, self.total, self.things, self.is_told = name, total, things, is_told
+    def __init__(self, name, total, things, seconds=None, is_told=True, call=None):
+        self.name, self.total, self.things, self.is_told, self.call = name, total, things, is_told, call
         self.seconds = SECONDS if seconds is None else seconds
         self.done, self.begun = 0, time.monotonic()
         self.told = self.begun
@@ -34,7 +47,9 @@ class Progress:
     def step(self, count=1):
         """So many more are done."""
         self.done += count
-        if self.bar is not None:
+        if self.call is not None:
+            self.call(self.done, self.total)
+        elif self.bar is not None:
             self.bar.update(count)
         elif self.is_told and time.monotonic() - self.told >= self.seconds:
             self.told = time.monotonic()

@@ -6,7 +6,7 @@ from dataclasses import dataclass
 import numpy
 
 from chtab.errors import DataFault
-from chtab.files import columns
+from chtab.files import columns, edge_lines, measures
 from chtab.files.columns import refused, told
 from chtab.files.node_labels import Labels, labels_of_ends, labels_of_nodes
 
@@ -26,7 +26,9 @@ class Columns:
     x: object = None
     y: object = None
     scale: float | None = None
+    unit: str | None = None
     both_ways: bool = False
+    geometry: object = None
     names: tuple = NAMES
 
 
@@ -34,8 +36,9 @@ class Columns:
 class Arcs:
     """The arcs of a graph: arc k leads from node `tails[k]` to node `heads[k]` and weighs `weights[k]`, all int64.
 
-    `rounding` is the largest difference of a weight from that of the caller times `scale`. `places` are the longitudes and latitudes of the
-    nodes in degrees, or None.
+    Weights are those of the caller times `scale`, rounded by at most `rounding`. `unit` is what the caller's are measured in, None where nobody
+    told it. `places` are the longitudes and latitudes of the nodes in degrees, or None. `bends` has the points of arcs between their ends, as
+    `files.read_bends` gives them. The first `rows` arcs are those of the caller's columns, and the others lead back.
     """
 
     labels: Labels
@@ -44,24 +47,46 @@ class Arcs:
     weights: numpy.ndarray
     scale: float | None
     rounding: float
+    unit: str | None
     places: tuple | None
+    bends: dict
+    rows: int
 
 
 def arcs_of(given):
     """The arcs of columns. Whatever the program would refuse is refused here, with its row."""
-    source_name, target_name, weight_name = given.names
-    sources, targets = (columns.labels_in(name, column) for name, column in zip(given.names, (given.sources, given.targets)))
-    for name, column in zip(given.names, (sources, targets)):
-        columns.see_that_flat(name, column)
-    weights = columns.numbers_in(weight_name, given.weights)
-    columns.see_that_long([source_name, target_name, weight_name], [sources, targets, weights])
+    sources, targets = (columns.column_labels_in(name, column) for name, column in zip(given.names, (given.sources, given.targets)))
+    weights, factor, scale, unit = weights_in(given)
+    columns.see_that_long(given.names, [sources, targets, weights])
     labels, (tails, heads) = nodes_of(given, sources, targets)
-    see_that_in_limits(len(labels.values), len(sources) * (2 if given.both_ways else 1))
-    scale = scale_in(given.scale)
-    weights, rounding = whole_weights(weight_name, weights, scale, MOST_WEIGHT // len(labels.values))
+    rows = len(sources)
+    see_that_in_limits(len(labels.values), rows * (2 if given.both_ways else 1))
+    weights, rounding = whole_weights(given.names[2], weights, factor, MOST_WEIGHT // len(labels.values))
+    lines = edge_lines.lines_in("geometry", given.geometry, rows)
+    places = places_in(given, len(labels.values))
+    if places is None and lines is not None:
+        places = edge_lines.ends_of(lines, tails, heads, labels)
+    bends = {} if lines is None else edge_lines.bends_of(lines, tails, heads, places)
     if given.both_ways:
+        bends |= {arc + rows: points[::-1] for arc, points in bends.items()}
         tails, heads, weights = numpy.concatenate([tails, heads]), numpy.concatenate([heads, tails]), numpy.tile(weights, 2)
-    return Arcs(labels, tails, heads, weights, scale, rounding, places_in(given, len(labels.values)))
+    return Arcs(labels, tails, heads, weights, scale, rounding, unit, places, bends, rows)
+
+
+def weights_in(given):
+    """The weights as they are given, what they are multiplied by, how many of the graph's make one of the caller's unit, and that unit.
+
+    Durations are milliseconds here, whatever the unit of answers is.
+    """
+    scale, unit = scale_in(given.scale), measures.unit_in(given.unit)
+    durations = columns.durations_in(given.names[2], given.weights)
+    if durations is None:
+        scale = measures.scale_of(unit, scale)
+        return columns.numbers_in(given.names[2], given.weights), scale, scale, unit
+    unit = measures.TIME if unit is None else unit
+    if scale is not None or unit not in measures.TIMES:
+        raise DataFault(f"durations have a unit of their own: leave `scale` out, and `unit` is one of {', '.join(measures.TIMES)}", "scale")
+    return durations, 1, measures.TIMES[unit], unit
 
 
 def nodes_of(given, sources, targets):
@@ -101,7 +126,7 @@ def whole_weights(name, weights, scale, most):
     apart = abs(whole - scaled)
     place = columns.first_of(apart > 0) if scale is None else None
     if place is not None:
-        raise refused(name, place, f"{weights[place]} is not a whole number; `scale` multiplies weights and rounds them")
+        raise refused(name, place, f"{weights[place]} is not a whole number; `unit` or `scale` says how it becomes one")
     return whole.astype(numpy.int64), float(apart.max(initial=0))
 
 

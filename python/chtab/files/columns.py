@@ -4,6 +4,7 @@ Nothing is guessed. A missing or masked value is refused, and so is a column of 
 label "a" for the label "1".
 """
 import contextlib
+import datetime
 import reprlib
 
 import numpy
@@ -13,7 +14,9 @@ from chtab.errors import DataFault
 # The whole numbers of 64 bits, and the most bits of a label. Python itself does not write integers of many thousand digits.
 LEAST, GREATEST = -(2**63), 2**63 - 1
 MOST_BITS = 4_096
-INTEGERS, STRINGS = "integers", "strings"
+# Up to here each whole number is a float of its own.
+EXACT = 2**53
+INTEGERS, STRINGS, TUPLES = "integers", "strings", "tuples"
 
 
 def told(value):
@@ -85,7 +88,12 @@ def is_integer(kind):
 
 def kind_of(kind):
     """The kind of labels that a type of values makes, None where it makes none."""
-    return STRINGS if issubclass(kind, str) else INTEGERS if is_integer(kind) else None
+    return STRINGS if issubclass(kind, str) else TUPLES if issubclass(kind, tuple) else INTEGERS if is_integer(kind) else None
+
+
+def are_whole(column):
+    """Which numbers of a column of floats are whole numbers that no other float stands for."""
+    return (column == numpy.floor(column)) & (abs(column) <= EXACT)
 
 
 def labels_in(name, column):
@@ -94,12 +102,12 @@ def labels_in(name, column):
     Returns
     -------
     array of int64 or object
-        Integers, as objects where one of them has more than 64 bits; or objects of `str`.
+        Integers, as objects where one of them has more than 64 bits; or objects of `str`, or of `tuple`.
 
     Raises
     ------
     DataFault
-        A value is neither an integer nor a string, such as 1.0 or NaN; or there are both. The first one is named.
+        A value is no label, such as 1.5 or NaN; or there are several kinds of labels. The first one is named.
     """
     array = array_of(name, column)
     if array.size == 0:
@@ -111,20 +119,55 @@ def labels_in(name, column):
         return integers_like(name, array, array.reshape(-1).tolist())
     if array.dtype.kind == "U":
         return array.astype(object)
+    if array.dtype.kind == "f" and are_whole(array).all():
+        return array.astype(numpy.int64)
     if array.dtype.kind != "O":
         raise no_label(name, array)
     values = array.reshape(-1).tolist()
+    if any(issubclass(kind, float | numpy.floating) for kind in set(map(type, values))):
+        values = list(map(whole_as_integer, values))
     types = see_that_labels(name, values, width_of(array))
-    if kind_of(next(iter(types))) == INTEGERS:
+    kind = kind_of(next(iter(types)))
+    if kind == INTEGERS:
         return integers_like(name, array, values)
+    if kind == TUPLES:
+        return tuples_in(name, values)
     return array if types == {str} else objects_like(array, map(str, values))
 
 
+def column_labels_in(name, column):
+    """The same of one column, whose labels may be tuples. A list of tuples is one column, and not several."""
+    if isinstance(column, list | tuple) and isinstance(next(iter(column), None), tuple):
+        return tuples_in(name, column)
+    labels = labels_in(name, column)
+    see_that_flat(name, labels)
+    return labels
+
+
+def tuples_in(name, column):
+    """The labels of a column of tuples, objects. The parts of each are integers, strings or floats."""
+    values = list(column)
+    see_that_labels(name, values)
+    for row, value in enumerate(values):
+        if not all(is_number(type(part)) or isinstance(part, str) for part in value) or any(part != part for part in value):
+            raise refused(name, row, f"{told(value)} is no label; the parts of a tuple are integers, floats and strings")
+    return objects_of([tuple(part.item() if isinstance(part, numpy.generic) else part for part in value) for value in values])
+
+
+def whole_as_integer(value):
+    """A whole float as the integer that it is, and any other value as it is: ids are floats where a column lacked some of them once."""
+    is_whole = isinstance(value, float | numpy.floating) and value.is_integer() and abs(value) <= EXACT
+    return int(value) if is_whole else value
+
+
 def no_label(name, array):
-    """The fault of an array of another kind: of its first NaN, or else of its first value."""
-    place = first_of(numpy.isnan(array)) if array.dtype.kind == "f" else None
+    """The fault of an array of another kind: of its first NaN, or of its first value that is not whole, or else of its first value."""
+    place = None
+    if array.dtype.kind == "f":
+        place = first_of(numpy.isnan(array))
+        place = first_of(~are_whole(array)) if place is None else place
     value = array.reshape(-1)[place or 0]
-    return refused(name, row_of(array, place or 0), f"{told(value)} is no label; a label is an integer or a string")
+    return refused(name, row_of(array, place or 0), f"{told(value)} is no label; a label is an integer, a string or a tuple")
 
 
 def see_that_labels(name, values, width=1):
@@ -136,15 +179,24 @@ def see_that_labels(name, values, width=1):
     first = kind_of(type(values[0]))
     place = 0 if first is None else next(place for place, value in enumerate(values) if kind_of(type(value)) != first)
     if kind_of(type(values[place])) is None:
-        raise refused(name, place // width, f"{told(values[place])} is no label; a label is an integer or a string")
+        raise refused(name, place // width, f"{told(values[place])} is no label; a label is an integer, a string or a tuple")
     raise refused(name, place // width, f"the label {told(values[place])} is not one of {first}, as those before it")
 
 
 def objects_like(array, values):
     """An array of objects in the shape of another."""
-    made = numpy.empty(array.size, object)
-    made[:] = list(values)
-    return made.reshape(array.shape)
+    return objects_of(list(values)).reshape(array.shape)
+
+
+def objects_of(values):
+    """A column of objects, of a list. Tuples stay what they are."""
+    made = numpy.empty(len(values), object)
+    if values and isinstance(values[0], tuple):
+        for place, value in enumerate(values):
+            made[place] = value
+    else:
+        made[:] = values
+    return made
 
 
 def integers_like(name, array, values):
@@ -162,13 +214,30 @@ def integers_like(name, array, values):
 # Numbers.
 
 
-def numbers_in(name, column):
-    """The numbers of a column: int64, or of the widest decimal numbers that the machine has.
+def durations_in(name, column):
+    """The milliseconds of a column of durations, in the widest decimal numbers that the machine has; None of another column."""
+    array = array_of(name, column)
+    if array.dtype == object and array.ndim == 1 and array.size and isinstance(array[0], datetime.timedelta | numpy.timedelta64):
+        for row, value in enumerate(array.tolist()):
+            if not isinstance(value, datetime.timedelta | numpy.timedelta64 | int) or isinstance(value, bool):
+                raise refused(name, row, f"{told(value)} is no duration, as those before it")
+        array = numpy.array([numpy.timedelta64(value) for value in array], "timedelta64[ns]")
+    if array.dtype.kind != "m":
+        return None
+    see_that_flat(name, array)
+    see_that_there(name, numpy.isnat(array), "is missing")
+    return array.astype("timedelta64[ns]").astype(numpy.int64) / numpy.longdouble(1e6)
+
+
+def numbers_in(name, column, with_booleans=False):
+    """The numbers of a column: int64, or of the widest decimal numbers that the machine has. True and False may be 1 and 0.
 
     Those of most machines hold each whole number of 64 bits, and the product of most decimal numbers and a thousand.
     """
     array = array_of(name, column)
     see_that_flat(name, array)
+    if with_booleans and (array.dtype == bool or array.dtype == object and {*map(type, array)} <= {bool, numpy.bool_}):
+        return array.astype(numpy.int64)
     if array.size == 0:
         return array.astype(numpy.int64)
     if array.dtype.kind == "O":

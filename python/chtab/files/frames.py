@@ -1,36 +1,47 @@
-"""Columns of arcs from frames and from graphs of networkx. Neither pandas nor networkx is imported: what they give is asked by its own calls."""
+"""Columns of arcs from frames, graphs of networkx and sparse matrices. Neither pandas nor networkx is imported: what they give is asked by its own
+calls."""
 from dataclasses import fields
 
 from chtab.errors import DataFault
-from chtab.files import arc_columns, columns
+from chtab.files import arc_columns, columns, measures
 from chtab.files.columns import told
 
 # What `from_frame` passes on to `from_arrays`.
-FURTHER = {field.name for field in fields(arc_columns.Columns)} & {"nodes", "x", "y", "scale", "both_ways"}
+FURTHER = {field.name for field in fields(arc_columns.Columns)} & {"nodes", "x", "y", "scale", "unit", "both_ways"}
 
 
-def columns_of_frame(frame, names, more):
+def column_of(frame, name):
+    """The column of a frame, or the level of its index, of a name."""
+    if name in frame.columns:
+        return frame[name]
+    if name in getattr(getattr(frame, "index", None), "names", ()):
+        return frame.index.get_level_values(name)
+    known = ", ".join(map(repr, [*frame.columns, *filter(None, getattr(getattr(frame, "index", None), "names", ()))]))
+    raise DataFault(f"the frame has no column {name!r}; it has {known}; reset_index() makes columns of an index without a name", str(name))
+
+
+def columns_of_frame(frame, names, geometry, more):
     """The columns of these names, with those of `more` that tell of arcs; and the others of `more`."""
-    for name in names:
-        if name not in frame.columns:
-            known = ", ".join(map(repr, frame.columns))
-            raise DataFault(f"the frame has no column {name!r}; it has {known}; reset_index() makes columns of an index", str(name))
     of_arcs = {name: value for name, value in more.items() if name in FURTHER}
-    given = arc_columns.Columns(*(frame[name] for name in names), names=tuple(map(str, names)), **of_arcs)
+    lines = None if geometry is None else column_of(frame, geometry)
+    given = arc_columns.Columns(*(column_of(frame, name) for name in names), geometry=lines, names=tuple(map(str, names)), **of_arcs)
     return given, {name: value for name, value in more.items() if name not in FURTHER}
 
 
-def arcs_of_networkx(graph, weight, scale, places):
-    """The arcs of a graph by an attribute of its edges, with the places by two attributes of its nodes where these are there."""
+def arcs_of_networkx(graph, weight, scale, unit, places, geometry):
+    """The arcs of a graph by an attribute of its edges, with the places by two attributes of its nodes, and lines, where these are there."""
     nodes, edges = list(graph.nodes), list(graph.edges(data=weight))
-    columns.see_that_labels("nodes", nodes)
+    columns.see_that_labels("nodes", list(map(columns.whole_as_integer, nodes)))
     sources, targets, weights = map(list, zip(*edges)) if edges else ([], [], [])
     x, y = places_of(graph, nodes, places)
-    given = arc_columns.Columns(sources, targets, weights, nodes, x, y, scale, not graph.is_directed(), ("from", "to", str(weight)))
+    lines = None if geometry is None or x is None else [line for _, _, line in graph.edges(data=geometry)]
+    scale = measures.scale_of(unit, None) or scale
+    names = "from", "to", str(weight)
+    given = arc_columns.Columns(sources, targets, weights, nodes, x, y, scale, unit, not graph.is_directed(), lines, names)
     try:
         return arc_columns.arcs_of(given)
     except DataFault as fault:
-        raise told_of(fault, nodes, edges) from None
+        raise told_of(fault, graph, nodes, edges) from None
 
 
 def places_of(graph, nodes, names):
@@ -42,7 +53,7 @@ def places_of(graph, nodes, names):
     return found if is_there else (None, None)
 
 
-def told_of(fault, nodes, edges):
+def told_of(fault, graph, nodes, edges):
     """The fault of a column, with the node or the edge that its row is."""
     if fault.row is None:
         return fault
@@ -50,4 +61,7 @@ def told_of(fault, nodes, edges):
         where = f"node {told(nodes[fault.row])}"
     else:
         where = "the edge from {} to {}".format(*map(told, edges[fault.row][:2]))
-    return DataFault(f"{fault}, of {where}", fault.column, fault.row)
+    hint = ""
+    if fault.column in ("x", "y", "geometry") and "crs" in graph.graph and "4326" not in str(graph.graph["crs"]):
+        hint = f"; the graph's places are of {graph.graph['crs']}: `osmnx.project_graph(graph, to_crs=4326)` gives degrees"
+    return DataFault(f"{fault}, of {where}{hint}", fault.column, fault.row)

@@ -30,10 +30,20 @@ def collection(features):
 def route_feature(answer, line, names):
     """A route of `files.read_routes` along a line of places. Where `names` has a name for its first or last node, the feature has it."""
     properties = {"from": answer.source, "to": answer.target, "weight": answer.weight, "arcs": len(answer.nodes) - 1}
-    for key, node in ("from_name", answer.source), ("to_name", answer.target):
-        if names.get(node):
-            properties[key] = names[node]
-    return feature(line, properties)
+    return feature(line, named(properties, answer, names))
+
+
+def query_feature(query, answer, line, names):
+    """The answer to a query, by its place, along a line of places; None for what no path leads to."""
+    properties = {"query": query, "source": answer.source, "target": answer.target}
+    properties |= {"from": answer.source, "to": answer.target, "weight": answer.weight, "arcs": answer.nodes and len(answer.nodes) - 1}
+    return feature(line, named(properties, answer, names))
+
+
+def named(properties, answer, names):
+    """Properties with the names of the first and last node, where these have some."""
+    own = {key: names[node] for key, node in (("from_name", answer.source), ("to_name", answer.target)) if names.get(node)}
+    return {**properties, **own}
 
 
 def write_routes(source, coordinates, names, out):

@@ -83,8 +83,35 @@ def read_graph(source):
     nodes = int(problem[2])
     if len(tails) and not (1 <= min(min(tails), min(heads)) and max(max(tails), max(heads)) <= nodes):
         raise FileFault(f"{name_of(source)}: an arc has a node that is not from 1 to {nodes}")
+    return Graph(nodes, tails, heads, weights, unit_of(lines))
+
+
+def read_unit(path):
+    """Reads what a graph's comments say that its weights are, without its arcs: comments behind the first arc are not looked at.
+
+    Parameters
+    ----------
+    path : str or path
+        The graph (`.gr`).
+
+    Returns
+    -------
+    str
+        `milliseconds` or `metres`, and else empty.
+
+    Raises
+    ------
+    OSError
+        The file can't be read.
+    """
+    with open(path, "rb") as file:
+        return unit_of(list(itertools.takewhile(lambda line: line[:1] != b"a", file)))
+
+
+def unit_of(lines):
+    """The unit that comments among some lines name, empty where none does."""
     told = [comment.split()[-1].strip(".") for comment in comments_of(lines) if comment.startswith("Weights are ")]
-    return Graph(nodes, tails, heads, weights, told[0] if told and told[0] in UNITS else "")
+    return told[0] if told and told[0] in UNITS else ""
 
 
 def count_nodes(path):

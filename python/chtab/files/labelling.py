@@ -1,4 +1,5 @@
 """What the nodes of a network are called by its owner, and how its weights were rounded: a file of JSON (RFC 8259)."""
+import itertools
 import json
 import math
 from typing import NamedTuple
@@ -8,16 +9,17 @@ from chtab.files.forms import name_of, reading, writing
 
 
 class Labelling(NamedTuple):
-    """The labels of nodes 1, 2, ..: a list of `int` or of `str`, no two equal; and how the weights of the graph were made.
+    """The labels of nodes 1, 2, ..: a list of `int`, of `str` or of tuples, no two equal; and how the weights of the graph were made.
 
     The caller's weights were multiplied by `scale` (None: they were whole), and rounded by at most `rounding`. `graph` is the SHA-256 of the
-    graph's file, in hexadecimal.
+    graph's file, in hexadecimal. `unit` is what the caller's weights are measured in, None where nobody told it.
     """
 
     labels: list
     scale: float | None
     rounding: float
     graph: str
+    unit: str | None = None
 
 
 def write_labels(target, labelling):
@@ -63,15 +65,20 @@ def read_labels(source):
             found = Labelling(**json.load(file))
         except (ValueError, TypeError, RecursionError):
             raise FileFault(f"{name_of(source)}: not the labels of a network") from None
-    if not is_right(found):
-        raise FileFault(f"{name_of(source)}: not the labels of a network")
-    return found
+    if isinstance(found.labels, list):
+        # JSON has lists in place of tuples.
+        found = found._replace(labels=[tuple(label) if type(label) is list else label for label in found.labels])
+        if is_right(found):
+            return found
+    raise FileFault(f"{name_of(source)}: not the labels of a network")
 
 
 def is_right(found):
     """Whether each part is of its kind, and no two labels are equal."""
-    if not isinstance(found.labels, list) or set(map(type, found.labels)) not in ({int}, {str}):
+    kinds = set(map(type, found.labels))
+    if kinds not in ({int}, {str}, {tuple}) or kinds == {tuple} and not set(map(type, itertools.chain(*found.labels))) <= {int, str, float}:
         return False
     is_scaled = found.scale is None or type(found.scale) in (int, float) and math.isfinite(found.scale) and found.scale > 0
     is_rounded = type(found.rounding) in (int, float) and found.rounding >= 0
-    return is_scaled and is_rounded and isinstance(found.graph, str) and len(set(found.labels)) == len(found.labels)
+    is_named = isinstance(found.graph, str) and isinstance(found.unit, str | None)
+    return is_scaled and is_rounded and is_named and len(set(found.labels)) == len(found.labels)

@@ -6,7 +6,7 @@ import numpy
 
 from chtab.errors import DataFault
 from chtab.files import columns
-from chtab.files.columns import INTEGERS, STRINGS, row_of, told
+from chtab.files.columns import INTEGERS, TUPLES, row_of, told
 
 
 def fixed(values):
@@ -44,6 +44,12 @@ class Numbers:
         """The labels of an array of nodes."""
         return nodes
 
+    def index_of(self, name, given):
+        """An index of pandas of labels that a caller gave."""
+        import pandas
+
+        return pandas.Index(given, name=name)
+
     def listed(self, nodes):
         """The labels of a list of nodes, as a list."""
         return nodes
@@ -63,7 +69,7 @@ class Labels:
 
     def __init__(self, values):
         self.values, self.in_order, self.by_label = fixed(values.copy()), None, None
-        self.kind = STRINGS if len(values) and isinstance(values[0], str) else INTEGERS
+        self.kind = columns.kind_of(type(values[0])) if len(values) else INTEGERS
 
     @property
     def sorted(self):
@@ -82,13 +88,23 @@ class Labels:
 
     def nodes_of(self, name, given):
         """The nodes of labels, an array of int64 in the shape of what is given. A label that no node has is a `DataFault`."""
-        labels = columns.labels_in(name, given)
+        labels = self.tuples_of(name, given) if self.kind == TUPLES else columns.labels_in(name, given)
         nodes = self.found(labels)
         place = columns.first_of(nodes == 0)
         if place is not None:
             row, label = row_of(labels, place), labels.reshape(-1)[place:place + 1].tolist()[0]
             raise DataFault(f"{name}[{row}]: no node has the label {told(label)}; labels are {self.kind}", name, row)
         return nodes
+
+    def tuples_of(self, name, given):
+        """Tuples in the shape of what is given: a column of labels, or rows of them."""
+        items = list(given)
+        if all(isinstance(item, tuple) and not (item and isinstance(item[0], tuple)) for item in items):
+            return columns.tuples_in(name, items)
+        rows = [columns.tuples_in(name, row) for row in items]
+        if len({len(row) for row in rows}) != 1:
+            raise DataFault(f"{name} has rows of several lengths", name)
+        return numpy.stack(rows)
 
     def found(self, labels):
         """The nodes of labels, 0 where there is none."""
@@ -105,6 +121,12 @@ class Labels:
         """The labels of an array of nodes."""
         return self.values[nodes - 1]
 
+    def index_of(self, name, given):
+        """An index of pandas of labels that a caller gave: of tuples one column, and not several."""
+        import pandas
+
+        return pandas.Index(columns.objects_of(list(given)), name=name, tupleize_cols=False) if self.kind == TUPLES else pandas.Index(given, name=name)
+
     def listed(self, nodes):
         """The labels of a list of nodes, as a list."""
         return self.values[numpy.array(nodes, numpy.int64) - 1].tolist()
@@ -112,8 +134,7 @@ class Labels:
 
 def labels_of_nodes(name, column):
     """The labels of a column of nodes, which have to differ."""
-    values = columns.labels_in(name, column)
-    columns.see_that_flat(name, values)
+    values = columns.column_labels_in(name, column)
     count = len(set(values.tolist()) if values.dtype == object else numpy.unique(values))
     if count < len(values):
         raise doubled(name, values.tolist())
@@ -146,7 +167,10 @@ def ordered(labels):
     numbers = collections.defaultdict(itertools.count().__next__)
     found = numpy.fromiter(map(numbers.__getitem__, labels), numpy.int64, len(labels))
     known = list(numbers)
-    order = numpy.array(sorted(range(len(known)), key=known.__getitem__), numpy.int64)
+    try:
+        order = numpy.array(sorted(range(len(known)), key=known.__getitem__), numpy.int64)
+    except TypeError:
+        raise DataFault("labels have no order, because their parts are of several kinds: give `nodes`", "nodes") from None
     places = numpy.empty(len(known), numpy.int64)
     places[order] = numpy.arange(len(known))
     return columns.objects_like(places, known)[order], places[found]

@@ -1,113 +1,37 @@
-"""What a network answers on nearness: the targets near each source, the nearest of them, and sums of values over them."""
-import operator
-from typing import NamedTuple
+"""What a network answers on nearness: the targets near each source, the nearest of them, and aggregates of values over them."""
+from __future__ import annotations
+
+from collections.abc import Callable
+from typing import TYPE_CHECKING, Any, Literal
 
 import numpy
+from numpy.typing import ArrayLike, NDArray
 
 from chtab.engine.answers import NO_WALK
-from chtab.engine.node_queries import limit_in, whole_limit
-from chtab.near import row_blocks, rows as near_rows, sums
+from chtab.engine.deadlines import whole
+from chtab.files.measures import Limit
+from chtab.near import row_blocks, sums
+from chtab.near.found import Near, Nearest
 from chtab.near.runs import NearQuestion
 
+if TYPE_CHECKING:
+    import distributed
+    import pandas
+
 DIRECTIONS = "to", "from"
-
-
-class Near:
-    """The targets near each source, in compressed form.
-
-    Those of source k stand from `offsets[k]` to before `offsets[k + 1]` of the two other columns, the nearest first, and of equally near ones
-    the first of the list of targets first.
-
-    Attributes
-    ----------
-    offsets : array of int64, shape (n + 1,)
-        Where the targets of each source begin.
-    places : array of int64, shape (p,)
-        The places in the list of targets, from 0 on.
-    weights : array of int64, shape (p,)
-        Their weights, in the graph's unit.
-    sources, targets : array of labels, shape (n,) and (l,)
-        What was asked.
-
-    Examples
-    --------
-    >>> near = network.near([1, 3], [2, 3], count=1)           # doctest: +SKIP
-    >>> near.targets[near.places], near.weights                # doctest: +SKIP
-    (array([2, 3]), array([4, 0]))
-    """
-
-    def __init__(self, rows, sources, targets):
-        self.offsets, self.places, self.weights = rows.offsets, rows.places, rows.weights
-        self.sources, self.targets = sources, targets
-
-    def __len__(self):
-        return len(self.sources)
-
-    def __getitem__(self, source):
-        """The places and the weights of the targets of one source, by its place from 0 on."""
-        source = range(len(self))[operator.index(source)]
-        some = slice(self.offsets[source], self.offsets[source + 1])
-        return self.places[some], self.weights[some]
-
-    def __repr__(self):
-        return f"<{len(self.places):,} targets near {len(self):,} sources>"
-
-    def owners(self):
-        """The place of the source of each target.
-
-        Returns
-        -------
-        array of int64, shape (p,)
-            Places in `sources`, from 0 on.
-        """
-        return numpy.repeat(numpy.arange(len(self)), numpy.diff(self.offsets))
-
-    def to_frame(self):
-        """The same as a table.
-
-        Returns
-        -------
-        pandas.DataFrame
-            A row for each target of a source, with the columns source, target, place and weight.
-        """
-        import pandas
-
-        columns = {"source": self.sources[self.owners()], "target": self.targets[self.places], "place": self.places, "weight": self.weights}
-        return pandas.DataFrame(columns)
-
-    def to_sparse(self):
-        """The same as a sparse matrix.
-
-        Returns
-        -------
-        scipy.sparse.csr_matrix of int64, shape (n, l)
-            A row for each source and a column for each target. A weight 0 is stored too; where nothing is stored, the target is not near.
-        """
-        from scipy.sparse import csr_matrix
-
-        shape = len(self.sources), len(self.targets)
-        matrix = csr_matrix((self.weights.copy(), self.places.copy(), self.offsets), shape)
-        matrix.sort_indices()
-        return matrix
-
-
-class Nearest(NamedTuple):
-    """The nearest targets of each source, in columns from the nearest on: arrays of the shape (n, count).
-
-    `places` are those in the list of targets, and `weights` those of the ways, both int64, with -1 where there is no further target. There
-    `mask` is true, as numpy's masked arrays have it.
-    """
-
-    places: numpy.ndarray
-    weights: numpy.ndarray
-    mask: numpy.ndarray
+Direction = Literal["to", "from"]
+Progress = bool | Callable[[int, int], Any] | None
 
 
 class Accessibility:
     """The calls of a `Network` on nearness. It has `nodes`, `labels`, `_nodes`, which finds the nodes of labels, and `_near`, its runs."""
 
-    def near(self, sources, targets, count=None, within=None, direction="to", *, workers=1):
-        """The targets near each source: the first ones, or all, or those within a limit.
+    @whole
+    def near(
+        self, sources: ArrayLike | None, targets: ArrayLike, count: int | None = None, within: Limit = None, direction: Direction = "to", *,
+        workers: int | distributed.Client = 1, progress: Progress = None,
+    ) -> Near:
+        """Answers the targets near each source: the first ones, or all, or those within a limit.
 
         Parameters
         ----------
@@ -117,13 +41,16 @@ class Accessibility:
             Nodes; they may repeat, and each place of the list counts. A target that is the source is at the weight 0.
         count : int, optional
             The most targets of a source, from 1 on. Of equally near ones those that stand first in the list are taken.
-        within : int, optional
-            A limit in the graph's unit, from 0 to 2^60. A target that is just as far is near.
+        within : number or duration, optional
+            A limit in the network's `unit`. A target that is just as far is near.
         direction : {"to", "from"}
             Whether weights are those from the source to the target, or from the target to the source.
         workers : int or distributed.Client
             How many runs of the program, or threads of this process, make blocks at a time, 1 where it is not given; or a client of Dask, whose
             workers run the program. All machines need the files and the program at the same paths.
+        progress : bool or callable, optional
+            True: how far the call is, on standard error; False: nothing; a callable is called with how many blocks are done, and of how many.
+            Without it a call of several blocks that takes more than ten seconds says so.
 
         Returns
         -------
@@ -132,6 +59,8 @@ class Accessibility:
 
         Raises
         ------
+        TypeError
+            A limit or a count is no number.
         ValueError
             A label is that of no node; a number or `direction` is out of its range.
         ChtabError
@@ -158,19 +87,28 @@ class Accessibility:
         >>> near = network.near(None, hospitals, count=3, within=1_800_000)        # doctest: +SKIP
         >>> near.to_frame().groupby("source")["weight"].mean()                     # doctest: +SKIP
         """
+        rows, asked, found = self._near_rows(sources, targets, count, within, direction, workers, progress)
+        return Near(rows, asked, found, self._measure.told(rows.weights))
+
+    def _near_rows(self, sources, targets, count, within, direction, workers, progress):
+        """The rows with weights of the graph, and the labels of sources and targets."""
         sources_asked, targets_asked = None if sources is None else self._nodes("sources", sources), self._nodes("targets", targets)
         # No row has more than all targets: numpy has no greater numbers than those of 64 bits.
         most = None if count is None else min(row_blocks.count_in("count", count), max(1, len(targets_asked)))
-        question = NearQuestion(sources_asked, targets_asked, most, limit_in(within), is_from(direction))
-        rows = row_blocks.rows(self._near, question, workers)
+        question = NearQuestion(sources_asked, targets_asked, most, self._measure.limit("within", within), is_from(direction))
+        rows = row_blocks.rows(self._near, question, workers, progress)
         labels = self._layers.labels
-        return Near(rows, self.labels if sources is None else labels.of(question.sources), labels.of(question.targets))
+        return rows, self.labels if sources is None else labels.of(question.sources), labels.of(question.targets)
 
-    def nearest_of(self, sources, targets, count=1, within=None, direction="to", *, workers=1):
-        """The nearest targets of each source in columns: as `near` gives them, with room for `count` of each.
+    @whole
+    def nearest_of(
+        self, sources: ArrayLike | None, targets: ArrayLike, count: int = 1, within: Limit = None, direction: Direction = "to", *,
+        missing: float | None = None, workers: int | distributed.Client = 1, progress: Progress = None,
+    ) -> Nearest:
+        """Answers the nearest targets of each source in columns: as `near` gives them, with room for `count` of each.
 
-        It is what Pandana's `nearest_pois` answers. Here weights are whole numbers and exact, ways are directed, and targets are nodes. Where
-        there is no target, the cell is -1 and masked, and not the limit.
+        It is what Pandana's `nearest_pois` answers. Here weights are exact, paths are directed, and targets are nodes. Where there is no target, the
+        place is -1, and the weight is -1 or NaN and masked, and not the limit.
 
         Parameters
         ----------
@@ -180,21 +118,23 @@ class Accessibility:
             As `near` takes them.
         count : int
             How many targets of each source, from 1 on.
-        within : int, optional
-            A limit in the graph's unit, from 0 to 2^60.
+        within : number or duration, optional
+            A limit in the network's `unit`.
         direction : {"to", "from"}
             As `near` takes it.
-        workers : int or distributed.Client
-            As `near` takes it.
+        missing : int or float, optional
+            The weight where there is no further target: as `distances` takes it.
+        workers, progress
+            As `near` takes them.
 
         Returns
         -------
         Nearest
-            `places`, `weights` and `mask`, of the shape (n, count).
+            `places`, `weights` and `mask`, of the shape (n, count); with `to_frame`, `plot` and `explore`, which have labels.
 
         Raises
         ------
-        ValueError, ChtabError, ProgramFault, TimedOut
+        TypeError, ValueError, ChtabError, ProgramFault, TimedOut
             As `near` raises them.
 
         Examples
@@ -202,37 +142,110 @@ class Accessibility:
         >>> found = network.nearest_of(None, hospitals, count=2)                    # doctest: +SKIP
         >>> minutes = numpy.ma.array(found.weights, mask=found.mask) / 60_000       # doctest: +SKIP
         """
-        near = self.near(sources, targets, row_blocks.count_in("count", count), within, direction, workers=workers)
-        rows = near_rows.Rows(near.offsets, near.places, near.weights)
+        count = row_blocks.count_in("count", count)
+        rows, asked, found = self._near_rows(sources, targets, count, within, direction, workers, progress)
         places, weights = numpy.full((2, len(rows), count), NO_WALK)
         at = rows.owners(), rows.ranks()
         places[at], weights[at] = rows.places, rows.weights
-        return Nearest(places, weights, places == NO_WALK)
+        return Nearest.of(places, self._measure.told(weights, missing), asked, found, self._layers)
 
-    def sum_within(self, values, within, sources=None, targets=None, decay=None, direction="to", *, workers=1):
-        """The sum of values over the targets within a limit, for each source: such as the jobs within 30 minutes.
+    @whole
+    def accessibility(
+        self, values: ArrayLike | pandas.DataFrame | dict, within: Limit | list[Limit], sources: ArrayLike | None = None,
+        targets: ArrayLike | None = None, aggregate: str = "sum", decay: str | Callable | None = None, direction: Direction = "to", *,
+        workers: int | distributed.Client = 1, progress: Progress = None,
+    ) -> NDArray[numpy.float64] | pandas.DataFrame:
+        """Answers an aggregate of values over the targets within a limit, for each source: such as the jobs within 30 minutes.
 
-        It is what Pandana's `aggregate` answers with `type="sum"`. Here weights are whole numbers and exact, ways are directed, a target just
-        at the limit counts, and several limits take one call.
+        It is what Pandana's `aggregate` answers. Here weights are exact, paths are directed, a target just at the limit counts, and several limits
+        and columns take one call.
 
         Parameters
         ----------
-        values : array of float, shape (l,), or float
-            The value of each target; one number is that of each. Without `targets` it is a Series or a dict with the labels of targets, or
-            has a value for each node in the order of `labels`.
-        within : int or list of int, shape (m,)
-            A limit in the graph's unit, from 0 to 2^60, or several.
+        values : array of float, shape (l,) or (l, c), float, or pandas.DataFrame
+            The value of each target, in one column or several; one number is that of each, and True is 1. Without `targets` it is a Series, a frame
+            or a dict with the labels of targets, or has a value for each node in the order of `labels`.
+        within : number, duration, or list of these, length m
+            A limit in the network's `unit`, or several.
         sources : array of labels, shape (n,), optional
             Nodes; they may repeat. Without it all nodes, in the order of `labels`.
         targets : array of labels, shape (l,), optional
             Nodes; each place of the list counts.
+        aggregate : {"sum", "mean", "median", "count", "std", "min", "max"}
+            What is answered of the values. `count` is how many targets are near, and `std` the standard deviation of them as a whole population.
         decay : {"linear", "exponential"} or callable, optional
             Which share of a value counts at the weight w, within the limit R: all without it; by "linear" 1 - w / R; by "exponential"
-            e^(-w / R). A callable takes an array of weights, and gives the share at each.
+            e^(-w / R). A callable takes an array of weights, and gives the share at each. It is for sums, means, counts and standard deviations.
         direction : {"to", "from"}
             Whether weights are those from the source to the target, or from the target to the source.
-        workers : int or distributed.Client
-            As `near` takes it.
+        workers, progress
+            As `near` takes them.
+
+        Returns
+        -------
+        array of float64, shape (n,), (n, m), (n, c) or (n, c, m)
+            The aggregates, with an axis for several columns and for a list of limits. Of a frame of values it is a frame with the sources as index,
+            and the columns of the values, for a list of limits each with each limit. Where no target is near sums and counts are 0, others NaN.
+
+        Raises
+        ------
+        DataFault
+            A value is not finite, or is missing; or there are more or fewer than targets.
+        TypeError
+            A limit is no number.
+        ValueError
+            As `near` raises it; or `aggregate` or `decay` is another one, or gives another shape; or a limit is 0 where a decay divides by it.
+        ChtabError, ProgramFault, TimedOut
+            As `near` raises them.
+
+        Notes
+        -----
+        Runs and blocks are those of `near`. Rows are added up as they come, and not kept: beside its runs a call holds 8 bytes for each source,
+        column and limit (a mean 16, a standard deviation 24), and 256 KiB of text for each worker. A median of more than 65,536 targets holds all
+        rows. A client of Dask sends the rows of whole blocks, one after the other.
+
+        Examples
+        --------
+        >>> jobs = network.accessibility(frame["jobs"], [15, 30], targets=frame["node"])                             # doctest: +SKIP
+        >>> rent = network.accessibility(frame["rent"], 15, targets=frame["node"], aggregate="median")               # doctest: +SKIP
+        """
+        if aggregate not in sums.KINDS:
+            raise ValueError(f"aggregate is one of {', '.join(sums.KINDS)}, not {aggregate!r}")
+        given = numpy.asarray(within, object)
+        if given.ndim > 1:
+            raise ValueError("limits stand in one list")
+        listed = numpy.atleast_1d(given).tolist()
+        if None in listed:
+            raise TypeError("within is a number, or a list of numbers, not None")
+        limits, told = ([call("within", each) for each in listed] for call in (self._measure.limit, self._measure.number))
+        share = sums.share_by(decay, aggregate, limits)
+        nodes, found, names = sums.values_in(values, targets, self._nodes, self.nodes, aggregate != "sum")
+        asked = sums.Asked(aggregate, found, limits, told, share, self._measure)
+        question = NearQuestion(None if sources is None else self._nodes("sources", sources), nodes, None, max(limits, default=0), is_from(direction))
+        answer = sums.aggregates(self._near, question, asked, workers, progress)
+        if names is not None:
+            return self._frame_of(answer, question.sources, names, listed, given.ndim == 1)
+        answer = answer if numpy.ndim(values) == 2 else answer[:, 0]
+        return answer if given.ndim else answer[..., 0]
+
+    def _frame_of(self, answer, sources, names, limits, are_several):
+        """Aggregates (n, c, m) as a frame with the sources as index."""
+        import pandas
+
+        labels = self.labels if sources is None else self._layers.labels.of(sources)
+        columns = pandas.MultiIndex.from_product([names, limits], names=[None, "within"]) if are_several else names
+        return pandas.DataFrame(answer.reshape(len(answer), -1), self._layers.labels.index_of("source", labels), columns)
+
+    def sum_within(
+        self, values: ArrayLike | dict, within: Limit | list[Limit], sources: ArrayLike | None = None, targets: ArrayLike | None = None,
+        decay: str | Callable | None = None, direction: Direction = "to", *, workers: int | distributed.Client = 1, progress: Progress = None,
+    ) -> NDArray[numpy.float64] | pandas.DataFrame:
+        """Answers the sum of values over the targets within a limit: `accessibility` by its earlier name.
+
+        Parameters
+        ----------
+        values, within, sources, targets, decay, direction, workers, progress
+            As `accessibility` takes them.
 
         Returns
         -------
@@ -241,33 +254,12 @@ class Accessibility:
 
         Raises
         ------
-        DataFault
-            A value is not finite, or is missing; or there are more or fewer than targets.
-        ValueError
-            As `near` raises it; or `decay` is another one, or gives another shape; or a limit is 0 where a decay divides by it.
-        ChtabError, ProgramFault, TimedOut
-            As `near` raises them.
-
-        Notes
-        -----
-        Runs and blocks are those of `near`. Rows are summed as they come, and not kept: beside its runs a call holds 8 bytes for each source
-        and limit, and 256 KiB of text for each worker. A client of Dask sends the rows of whole blocks, one after the other.
-
-        Examples
-        --------
-        >>> jobs = network.sum_within(frame["jobs"], [900_000, 1_800_000], targets=frame["node"])          # doctest: +SKIP
-        >>> network.sum_within(1, 600_000, targets=shops, decay=lambda weights: numpy.exp(-weights / 300_000))     # doctest: +SKIP
+        DataFault, TypeError, ValueError, ChtabError, ProgramFault, TimedOut
+            As `accessibility` raises them.
         """
-        limits = numpy.atleast_1d(numpy.asarray(within, object))
-        if limits.ndim != 1:
-            raise ValueError("limits stand in one list")
-        limits, most = limits.tolist(), max(map(whole_limit, limits.tolist()), default=0)
-        if decay in (sums.LINEAR, sums.EXPONENTIAL) and 0 in limits:
-            raise ValueError("a limit is above 0 where the decay divides by it")
-        nodes, values = sums.values_in(values, targets, self._nodes, self.nodes)
-        question = NearQuestion(None if sources is None else self._nodes("sources", sources), nodes, None, most, is_from(direction))
-        found = sums.sums(self._near, question, values, limits, decay, workers)
-        return found[:, 0] if numpy.ndim(within) == 0 else found
+        return self.accessibility(values, within, sources, targets, "sum", decay, direction, workers=workers, progress=progress)
+
+    nearest_targets = nearest_of
 
 
 def is_from(direction):

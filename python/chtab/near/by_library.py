@@ -3,8 +3,7 @@ import contextlib
 
 import numpy
 
-from chtab.engine import library
-from chtab.engine.child import Deadline
+from chtab.engine import deadlines, library
 from chtab.engine.in_process import TOGETHER
 from chtab.engine.interruptible import LONG, interruptible
 from chtab.errors import ChtabError, ProgramFault, unasked
@@ -50,7 +49,7 @@ class NearInProcess:
         sources = numpy.arange(self.nodes, dtype=numpy.uint32) if question.sources is None else library.nodes_of(question.sources, self.nodes)
         most = len(targets) if question.count is None else min(question.count, len(targets))
         with self.engine.near_handle() as handle:
-            deadline = Deadline(self.setting.timeout)
+            deadline = deadlines.current(self.setting.timeout)
             interruptible(len(targets), handle.keep_places, targets, *limits_of(question), question.is_from)
             is_swept = len(sources) >= SHARE * self.nodes and self.has_few(handle, most) and is_swept_by(handle)
             start, together = 0, PAIRS if is_swept else TOGETHER

@@ -7,8 +7,8 @@ from dataclasses import dataclass
 
 import numpy
 
-from chtab.engine import blocks
-from chtab.engine.progress import Progress
+from chtab.engine import blocks, deadlines
+from chtab.engine.progress import progress_of
 from chtab.near import rows as near_rows
 from chtab.near.runs import NearQuestion, NearRuns
 
@@ -62,8 +62,13 @@ def in_turn(runs, found, make):
 
 def side_by_side(runs, found, make, workers):
     """By so many runs at a time."""
+    deadline = deadlines.current(runs.setting.timeout)
     with runs.apart() as own, concurrent.futures.ThreadPoolExecutor(workers) as threads:
-        begun = {threads.submit(lambda block: make(block, near_rows.portions(own, block.question)), block): block for block in found}
+        def made(block):
+            with deadlines.taken(deadline):
+                return make(block, near_rows.portions(own, block.question))
+
+        begun = {threads.submit(made, block): block for block in found}
         try:
             for future in concurrent.futures.as_completed(list(begun)):
                 yield begun.pop(future), future.result()
@@ -90,10 +95,12 @@ def on_cluster(runs, found, make, client):
             completed.add(future)
             return
 
+    deadline = deadlines.current(runs.setting.timeout)
     try:
         for _ in range(AHEAD * max(1, sum(client.nthreads().values()))):
             begin()
         for future in completed:
+            deadline.milliseconds()
             block = begun.pop(future)
             rows = future.result()
             begin()
@@ -107,8 +114,9 @@ def rows_on_worker(question, setting, nodes):
     return near_rows.joined(near_rows.portions(NearRuns(setting, nodes), question))
 
 
-def values(runs, question, make, workers=1):
-    """The value of each block of a question, as it is whole, with its block. `workers` is a number of runs, or a client of Dask."""
+def values(runs, question, make, workers=1, progress=None):
+    """The value of each block of a question, as it is whole, with its block. `workers` is a number of runs, or a client of Dask, and `progress` what
+    `progress_of` takes."""
     runs.see_that_there()
     is_client = hasattr(workers, "submit")
     count = max(1, sum(workers.nthreads().values())) if is_client else count_in("workers", workers)
@@ -119,21 +127,23 @@ def values(runs, question, make, workers=1):
         made = side_by_side(runs, found, make, min(count, len(found)))
     else:
         made = in_turn(runs, found, make)
-    with contextlib.closing(made), Progress("near", len(found), "blocks", is_told=len(found) > 1) as progress:
-        yield from progress.each(made)
+    with contextlib.closing(made), progress_of(progress, "near", len(found), "blocks", len(found) > 1) as counted:
+        yield from counted.each(made)
 
 
 def count_in(name, value):
     """A whole number from 1 on."""
-    if isinstance(value, bool) or operator.index(value) < 1:
+    if isinstance(value, bool) or not hasattr(value, "__index__"):
+        raise TypeError(f"{name} is a whole number from 1 on, not {value!r}")
+    if operator.index(value) < 1:
         raise ValueError(f"{name} is a whole number from 1 on, not {value!r}")
     return operator.index(value)
 
 
-def rows(runs, question, workers=1):
+def rows(runs, question, workers=1, progress=None):
     """All rows of a question with lists of any length."""
     parts = {}
-    for block, found in values(runs, question, lambda _, portions: near_rows.joined(portions), workers):
+    for block, found in values(runs, question, lambda _, portions: near_rows.joined(portions), workers, progress):
         parts.setdefault(block.row, []).append((block.column, found))
     if not parts:
         return near_rows.rows_of(numpy.zeros(question.height(runs.nodes), numpy.int64), *numpy.zeros((2, 0), numpy.int64))

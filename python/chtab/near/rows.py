@@ -3,8 +3,8 @@ from dataclasses import dataclass
 
 import numpy
 
-from chtab.engine.node_queries import MOST
 from chtab.errors import unasked
+from chtab.files.measures import MOST
 from chtab.near.text import lines_of
 
 

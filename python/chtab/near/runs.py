@@ -13,7 +13,7 @@ from dataclasses import dataclass
 import numpy
 
 from chtab import files
-from chtab.engine import child, forks
+from chtab.engine import child, deadlines, forks
 from chtab.errors import ChtabError, ProgramFault, unasked
 
 CLOSED = "the network is closed"
@@ -84,9 +84,9 @@ class NearRun:
         """Closes, in a process that was forked, what leads to the parent's run. The run goes on."""
         self.close()
 
-    def texts(self, seconds=None):
-        """What the run writes, in texts of whole lines, as they come. All of it comes in so many seconds, or any (None)."""
-        deadline, rest = child.Deadline(seconds), b""
+    def texts(self, deadline):
+        """What the run writes, in texts of whole lines, as they come. All of it comes in time."""
+        rest = b""
         while chunk := self.read(deadline):
             text = rest + chunk
             end = text.rfind(b"\n") + 1
@@ -126,6 +126,15 @@ class NearRun:
         child.end_unused()
 
 
+@contextlib.contextmanager
+def listed(nodes):
+    """A path by which a run reads a list of nodes. It leads to memory of this process, so that nothing stays behind, however the process ends."""
+    with os.fdopen(os.memfd_create("chtab"), "w") as file:
+        files.write_list_column(file, nodes)
+        file.flush()
+        yield f"/proc/{os.getpid()}/fd/{file.fileno()}"
+
+
 class NearRuns:
     """The runs of `chtab near` for one network. Calls may come from several threads, and from processes that were forked.
 
@@ -162,34 +171,31 @@ class NearRuns:
 
     def texts(self, question):
         """What the program writes for a question, in texts of whole lines."""
-        with tempfile.TemporaryDirectory(prefix="chtab-") as folder, self.begun(question, folder) as run:
+        with self.begun(question) as run:
             try:
-                yield from run.texts(self.setting.timeout)
+                yield from run.texts(deadlines.current(self.setting.timeout))
             except ProgramFault:
                 if self.is_closed:
                     raise ChtabError(CLOSED) from None
                 raise
 
     @contextlib.contextmanager
-    def begun(self, question, folder):
-        """A run for a question, whose lists are written into a folder. It has ended after the `with`."""
-        lists = []
-        for name, nodes in ("sources.ss", question.sources), ("targets.ss", question.targets):
-            if nodes is not None:
-                lists.append(os.path.join(folder, name))
-                files.write_list_column(lists[-1], nodes)
-        with self.lock:
-            if self.is_closed:
-                raise ChtabError(CLOSED)
-            self.stamps.see_that_same()
-            run = NearRun(self.setting.near_command(question.options(), lists))
-            self.under_way.add(run)
-        try:
-            yield run
-        finally:
-            run.close()
+    def begun(self, question):
+        """A run for a question. It has ended after the `with`."""
+        with contextlib.ExitStack() as lists:
+            paths = [lists.enter_context(listed(nodes)) for nodes in (question.sources, question.targets) if nodes is not None]
             with self.lock:
-                self.under_way.discard(run)
+                if self.is_closed:
+                    raise ChtabError(CLOSED)
+                self.stamps.see_that_same()
+                run = NearRun(self.setting.near_command(question.options(), paths))
+                self.under_way.add(run)
+            try:
+                yield run
+            finally:
+                run.close()
+                with self.lock:
+                    self.under_way.discard(run)
 
     @contextlib.contextmanager
     def apart(self):

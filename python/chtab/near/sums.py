@@ -1,21 +1,68 @@
-"""Sums of values over the targets that are near, by near rows: each value counts wholly, or less the farther it is away."""
+"""Aggregates of values over the targets that are near, by near rows: sums, means and others, for several limits and columns of values at once."""
+from __future__ import annotations
+
+from typing import NamedTuple
+
 import numpy
 
 from chtab.errors import DataFault
 from chtab.files import columns
 from chtab.near import row_blocks
+from chtab.near import rows as near_rows
 
 LINEAR, EXPONENTIAL = "linear", "exponential"
+KINDS = "sum", "mean", "median", "count", "std", "min", "max"
+# Those for which a value may count less the farther it is away.
+DECAYING = "sum", "mean", "count", "std"
 
 
-def share_by(decay):
+class Asked(NamedTuple):
+    """What is asked for of values.
+
+    Attributes
+    ----------
+    kind : str
+        One of `KINDS`.
+    values : array of float64, shape (l, c)
+        For each target its value in each column.
+    limits : list of int
+        The limits of the graph.
+    told : list of number
+        The same in the unit of the caller.
+    share : callable
+        Which share of a value counts at each of some weights, within a limit, both in the unit of the caller.
+    measure : measures.Measure
+        That unit.
+    """
+
+    kind: str
+    values: numpy.ndarray
+    limits: list
+    told: list
+    share: object
+    measure: object
+
+    def of(self, some):
+        """The same for some of the targets."""
+        return self._replace(values=self.values[some])
+
+    def shape(self, height):
+        """That of aggregates for so many sources."""
+        return height, self.values.shape[1], len(self.limits)
+
+
+def share_by(decay, kind, limits):
     """A call that gives which share of a value counts at each of some weights, within a limit."""
+    if decay is not None and kind not in DECAYING:
+        raise ValueError(f"the {kind} has no decay; {', '.join(DECAYING)} have one")
+    if decay in (LINEAR, EXPONENTIAL) and 0 in limits:
+        raise ValueError("a limit is above 0 where the decay divides by it")
     if decay is None:
-        return lambda weights, limit: 1.0
+        return lambda weights, limit: numpy.ones(len(weights))
     if decay == LINEAR:
-        return lambda weights, limit: 1.0 - weights / limit
+        return lambda weights, limit: 1.0 - weights / float(limit)
     if decay == EXPONENTIAL:
-        return lambda weights, limit: numpy.exp(-weights / limit)
+        return lambda weights, limit: numpy.exp(-weights / float(limit))
     if not callable(decay):
         raise ValueError(f"decay is None, 'linear', 'exponential' or a call, not {decay!r}")
     return lambda weights, limit: shares_of(decay, weights)
@@ -26,52 +73,179 @@ def shares_of(decay, weights):
     shares = numpy.asarray(decay(weights), float)
     if shares.shape not in ((), weights.shape):
         raise ValueError(f"decay gave the shape {shares.shape} for weights of the shape {weights.shape}")
-    return shares
+    return numpy.broadcast_to(shares, weights.shape)
 
 
-def values_in(values, targets, nodes_of, count):
-    """The targets and the value of each: nodes (l,) and float64 (l,).
+# Values as callers give them.
 
-    `nodes_of` gives the nodes of labels, and `count` says how many nodes there are. Without targets a Series or a dict has the labels, and an
-    array has a value for each node.
+
+def values_in(values, targets, nodes_of, count, with_zeros=False):
+    """The targets and the values of each: nodes (l,) and float64 (l, c), and the names of the columns, None where they have none.
+
+    `nodes_of` gives the nodes of labels, and `count` says how many nodes there are. Without targets a Series, a frame or a dict has the labels, and
+    an array has a value for each node.
     """
     if targets is None and hasattr(values, "keys"):
         targets, values = (values.index, values) if hasattr(values, "index") else ([*values.keys()], [*values.values()])
     nodes = numpy.arange(1, count + 1) if targets is None else nodes_of("targets", targets)
     if numpy.ndim(values) == 0:
         one = values[()] if isinstance(values, numpy.ndarray) else values
-        values = numpy.repeat(columns.numbers_in("values", [one]), len(nodes))
-    found = columns.numbers_in("values", values).astype(float)
+        values = numpy.repeat(columns.numbers_in("values", [one], True), len(nodes))
+    names = list(values.columns) if hasattr(values, "columns") else None
+    found = numpy.column_stack([numpy.zeros((len(nodes), 0)), *(column_in(*each, nodes, targets is None) for each in columns_of(values, names))])
+    if targets is not None or with_zeros:
+        return nodes, found, names
+    is_some = (found != 0).any(axis=1)
+    return nodes[is_some], found[is_some], names
+
+
+def columns_of(values, names):
+    """The columns of values, each with its name for errors."""
+    if names is not None:
+        return [(f"values[{name!r}]", values.iloc[:, place]) for place, name in enumerate(names)]
+    if isinstance(values, numpy.ndarray) and values.ndim == 2:
+        return [(f"values[:, {place}]", values[:, place]) for place in range(values.shape[1])]
+    return [("values", values)]
+
+
+def column_in(name, column, nodes, are_all):
+    """The finite numbers of one column, float64."""
+    found = columns.numbers_in(name, column, True).astype(float)
     place = columns.first_of(~numpy.isfinite(found))
     if place is not None:
-        raise columns.refused("values", place, f"{found[place]} is no value")
+        raise columns.refused(name, place, f"{found[place]} is no value")
     if len(found) != len(nodes):
-        raise DataFault(f"values has {len(found):,} rows, and there are {len(nodes):,} {'nodes' if targets is None else 'targets'}", "values")
-    return (nodes, found) if targets is not None else (nodes[found != 0], found[found != 0])
+        raise DataFault(f"{name} has {len(found):,} rows, and there are {len(nodes):,} {'nodes' if are_all else 'targets'}", name)
+    return found
 
 
-def sums(runs, question, values, limits, decay, workers=1):
-    """The sums of the values of targets for each source and each limit, float64 (n, m). The question's own limit is the largest of these."""
-    share = share_by(decay)
+# Aggregates of rows.
+
+
+def aggregates(runs, question, asked, workers=1, progress=None):
+    """The aggregates of the values of targets for each source, column and limit, float64 (n, c, m). The question's own limit is the largest of
+    these. Where no target is near a sum and a count are 0, and others NaN."""
+    height = question.height(runs.nodes)
+    if asked.kind == "median":
+        return medians(runs, question, asked, workers, progress)
 
     def make(block, portions):
-        found = numpy.zeros((block.question.height(runs.nodes), len(limits)))
-        own = values[block.column:block.column + len(block.question.targets)]
+        own, of_block = asked.of(slice(block.column, block.column + len(block.question.targets))), block.question.height(runs.nodes)
+        state = begun(asked.kind, asked.shape(of_block))
         for start, rows in portions:
-            found[start:start + len(rows)] = sums_of(rows, own, limits, share)
+            for place, part in enumerate(state_of(rows, own)):
+                state[place][start:start + len(rows)] = part
+        return state
+
+    whole = begun(asked.kind, asked.shape(height))
+    for block, state in row_blocks.values(runs, question, make, workers, progress):
+        some = slice(block.row, block.row + len(state[0]))
+        for part, joined in zip(whole, JOINED[asked.kind]([part[some] for part in whole], state)):
+            part[some] = joined
+    return ENDED[asked.kind](*whole)
+
+
+def begun(kind, shape):
+    """The state of an aggregate over no target."""
+    if kind in ("min", "max"):
+        return [numpy.full(shape, numpy.inf if kind == "min" else -numpy.inf)]
+    return [numpy.zeros(shape) for _ in range({"sum": 1, "count": 1, "mean": 2, "std": 3}[kind])]
+
+
+def state_of(rows, asked):
+    """The state of an aggregate over some rows: arrays (rows, c, m)."""
+    owners, state = rows.owners(), begun(asked.kind, asked.shape(len(rows)))
+    weights = asked.measure.told(rows.weights)
+    for place, (limit, told) in enumerate(zip(asked.limits, asked.told)):
+        is_near = rows.weights <= limit
+        near, values = owners[is_near], asked.values[rows.places[is_near]]
+        if asked.kind in ("min", "max"):
+            extremes(state[0][:, :, place], near, values, numpy.minimum if asked.kind == "min" else numpy.maximum)
+            continue
+        shares = asked.share(weights[is_near], told)
+        for column in range(values.shape[1]):
+            parts = PARTS[asked.kind](near, values[:, column], shares, len(rows))
+            for array, part in zip(state, parts):
+                array[:, column, place] = part
+    return state
+
+
+def extremes(out, owners, values, least):
+    """Writes the least or greatest value of each owner, of owners in order."""
+    firsts = numpy.flatnonzero(numpy.diff(owners, prepend=-1))
+    if len(firsts):
+        out[owners[firsts]] = least.reduceat(values, firsts, axis=0)
+
+
+def moments(owners, values, shares, count):
+    """The shares, the mean, and the sum of squares about it, of each owner."""
+    total = numpy.bincount(owners, shares, count)
+    mean = quotient(numpy.bincount(owners, values * shares, count), total, 0.0)
+    return total, mean, numpy.bincount(owners, shares * (values - mean[owners]) ** 2, count)
+
+
+def joined_moments(first, second):
+    """The same of two lists of targets (Chan, Golub and LeVeque 1979)."""
+    (total, mean, squares), (other, other_mean, other_squares) = first, second
+    whole = total + other
+    apart = other_mean - mean
+    return whole, mean + quotient(apart * other, whole, 0.0), squares + other_squares + quotient(apart**2 * total * other, whole, 0.0)
+
+
+def quotient(above, below, otherwise=numpy.nan):
+    """A quotient where the divisor is not 0."""
+    return numpy.divide(above, below, out=numpy.full(numpy.shape(above), otherwise), where=below != 0)
+
+
+def added(first, second):
+    return [one + other for one, other in zip(first, second)]
+
+
+# How each aggregate is made of values with their shares, joined of two states, and ended.
+PARTS = {
+    "sum": lambda owners, values, shares, count: [numpy.bincount(owners, values * shares, count)],
+    "count": lambda owners, values, shares, count: [numpy.bincount(owners, shares, count)],
+    "mean": lambda owners, values, shares, count: [numpy.bincount(owners, values * shares, count), numpy.bincount(owners, shares, count)],
+    "std": moments,
+}
+JOINED = {
+    "sum": added, "count": added, "mean": added, "std": joined_moments,
+    "min": lambda first, second: [numpy.minimum(first[0], second[0])], "max": lambda first, second: [numpy.maximum(first[0], second[0])],
+}
+ENDED = {
+    "sum": lambda sums: sums, "count": lambda counts: counts, "mean": quotient,
+    "std": lambda total, mean, squares: numpy.sqrt(quotient(squares, total)),
+    "min": lambda least: numpy.where(numpy.isinf(least), numpy.nan, least), "max": lambda most: numpy.where(numpy.isinf(most), numpy.nan, most),
+}
+
+
+def medians(runs, question, asked, workers, progress):
+    """The medians, which need all targets of a source at once."""
+    found = numpy.full(asked.shape(question.height(runs.nodes)), numpy.nan)
+    if len(question.targets) > row_blocks.LENGTH:
+        medians_of(found, row_blocks.rows(runs, question, workers, progress), asked)
         return found
 
-    whole = numpy.zeros((question.height(runs.nodes), len(limits)))
-    for block, found in row_blocks.values(runs, question, make, workers):
-        whole[block.row:block.row + len(found)] += found
-    return whole
+    def make(block, portions):
+        own = numpy.full(asked.shape(block.question.height(runs.nodes)), numpy.nan)
+        for start, rows in portions:
+            medians_of(own[start:start + len(rows)], rows, asked)
+        return own
 
-
-def sums_of(rows, values, limits, share):
-    """The same of some rows."""
-    owners, found = rows.owners(), numpy.zeros((len(rows), len(limits)))
-    for column, limit in enumerate(limits):
-        is_near = rows.weights <= int(limit)
-        counted = values[rows.places[is_near]] * share(rows.weights[is_near], limit)
-        found[:, column] = numpy.bincount(owners[is_near], counted, len(rows))
+    for block, own in row_blocks.values(runs, question, make, workers, progress):
+        found[block.row:block.row + len(own)] = own
     return found
+
+
+def medians_of(out, rows: near_rows.Rows, asked):
+    """Writes the medians of some rows (rows, c, m)."""
+    owners = rows.owners()
+    for place, limit in enumerate(asked.limits):
+        is_near = rows.weights <= limit
+        near, counts = owners[is_near], numpy.bincount(owners[is_near], minlength=len(rows))
+        firsts, is_some = numpy.cumsum(counts) - counts, counts > 0
+        for column in range(asked.values.shape[1]):
+            values = asked.values[rows.places[is_near], column]
+            values = values[numpy.lexsort([values, near])]
+            low, high = (firsts[is_some] + step // 2 for step in (counts[is_some] - 1, counts[is_some]))
+            out[is_some, column, place] = (values[low] + values[high]) / 2

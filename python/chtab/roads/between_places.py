@@ -1,19 +1,33 @@
 """What a network answers between places: the nearest nodes, spots on roads, trips between these, and what is reached from one."""
-import numpy
+from __future__ import annotations
 
+import math
+from typing import TYPE_CHECKING
+
+import numpy
+from numpy.typing import ArrayLike, NDArray
+
+from chtab.engine.deadlines import whole
 from chtab.errors import TooFar
-from chtab.roads.snapping import far_text, places_in
+from chtab.files import geojson
+from chtab.files.measures import Limit
+from chtab.roads.routes import TripRoutes
+from chtab.roads.snapping import Roads, Spots, far_text, places_in
+from chtab.roads.trips import see_that_one
+
+if TYPE_CHECKING:
+    from chtab.roads.reach import Isochrones
 
 
 class BetweenPlaces:
     """The calls of a `Network` that take places in degrees, or spots beside roads. It has `_layers`, its files, and `_trips`, its trips."""
 
     @property
-    def roads(self):
+    def roads(self) -> Roads:
         """The roads between nodes, which call nodes by number."""
         return self._layers.roads
 
-    def nearest(self, longitudes, latitudes, max_metres=None):
+    def nearest(self, longitudes: ArrayLike, latitudes: ArrayLike, max_metres: float | None = None) -> tuple[NDArray, NDArray]:
         """The nearest node to each place.
 
         Of a graph with turns these are nodes where trips begin; `coordinates.ends()` says where they end.
@@ -50,7 +64,9 @@ class BetweenPlaces:
             raise TooFar(text, {place: float(metres[place]) for place in far})
         return self._layers.labels.of(nodes), metres
 
-    def snap(self, longitudes, latitudes, max_metres=1_000.0):
+    nearest_nodes = nearest
+
+    def snap(self, longitudes: ArrayLike, latitudes: ArrayLike, max_metres: float = 1_000.0) -> Spots:
         """The places, taken to the nearest points of the roads.
 
         Parameters
@@ -76,50 +92,58 @@ class BetweenPlaces:
         """
         return self.roads.find(longitudes, latitudes, max_metres)
 
-    def trips(self, starts, ends):
-        """The weights of trips between spots beside roads.
+    @whole
+    def trips(self, starts: Spots, ends: Spots, *, missing: float | None = None) -> NDArray:
+        """Answers the weights of trips between spots beside roads.
 
         Parameters
         ----------
         starts, ends : chtab.Spots
             n spots each, as `snap` gives them: trip k leads from `starts[k]` to `ends[k]`.
+        missing : int or float, optional
+            What is given where there is no way: as `distances` takes it.
 
         Returns
         -------
-        array of int64, shape (n,)
-            The weights; -1 where there is no way.
+        array of int64 or float64, shape (n,)
+            The weights in the network's `unit`.
 
         Raises
         ------
         ProgramFault, TimedOut
             As `distances` raises them.
         """
-        return self._trips.weights(starts, ends)
+        return self._measure.told(self._trips.weights(starts, ends), missing)
 
-    def trip_table(self, starts, ends, within=None):
-        """The weights of trips from each spot to each other one.
+    @whole
+    def trip_table(self, starts: Spots, ends: Spots, within: Limit = None, *, missing: float | None = None) -> NDArray:
+        """Answers the weights of trips from each spot to each other one.
 
         Parameters
         ----------
         starts, ends : chtab.Spots
             k and l spots.
-        within : int, optional
-            A limit from 0 to 2^60.
+        within : number or duration, optional
+            A limit in the network's `unit`.
+        missing : int or float, optional
+            What is given where there is no way, or none of at most `within`: as `distances` takes it.
 
         Returns
         -------
-        array of int64, shape (k, l)
-            The weights; -1 where there is no way, or none of at most `within`.
+        array of int64 or float64, shape (k, l)
+            The weights in the network's `unit`.
 
         Raises
         ------
         ValueError, ProgramFault, TimedOut
             As `table` raises them.
         """
-        return self._trips.table(starts, ends, within)
+        limit = self._measure.limit("within", within)
+        return self._measure.told(self._trips.table(starts, ends, limit), missing)
 
-    def trip_routes(self, starts, ends):
-        """The ways between spots beside roads.
+    @whole
+    def trip_routes(self, starts: Spots, ends: Spots) -> TripRoutes:
+        """Answers the ways between spots beside roads.
 
         Parameters
         ----------
@@ -129,57 +153,78 @@ class BetweenPlaces:
         Returns
         -------
         list of Trip
-            n trips, with `weight`, `metres`, `line` and `nodes`.
+            n trips, with `weight`, `metres`, `line` and `nodes`; the list has `to_frame`, `to_geojson` and `to_geodataframe`.
 
         Raises
         ------
         ProgramFault, TimedOut
             As `distances` raises them.
         """
-        return self._trips.routes(starts, ends)
+        found = self._trips.routes(starts, ends)
+        return TripRoutes(found if self._measure.is_whole else [each._replace(weight=self._measure.one(each.weight)) for each in found])
 
-    def reach(self, spot, within=None):
-        """The weights at which nodes are reached from a spot.
+    @whole
+    def reach(self, spot: Spots, within: Limit = None, *, missing: float | None = None) -> NDArray:
+        """Answers the weights at which nodes are reached from a spot.
 
         Parameters
         ----------
         spot : chtab.Spots
-            One spot.
-        within : int, optional
-            A limit from 0 to 2^60.
+            One spot, as `snap` gives it.
+        within : number or duration, optional
+            A limit in the network's `unit`.
+        missing : int or float, optional
+            What is given of a node that is not reached, or not within the limit: as `distances` takes it.
 
         Returns
         -------
-        array of int64, shape (nodes,)
-            The weights of nodes in the order of `labels`; -1 of a node that is not reached, or not within the limit.
+        array of int64 or float64, shape (nodes,)
+            The weights of nodes in the order of `labels`, in the network's `unit`.
 
         Raises
         ------
-        ValueError, ProgramFault, TimedOut
-            There are several spots; and as `table` raises them.
+        TypeError, ValueError, ProgramFault, TimedOut
+            There is no spot, or there are several; and as `table` raises them.
         """
-        return self._trips.reach(spot, within)
+        return self._measure.told(self._trips.reach(spot, self._measure.limit("within", within)), missing)
 
-    def isochrones(self, spot, limits):
-        """Polygons of what is reached from a spot within each limit.
+    @whole
+    def isochrones(self, spot: Spots, limits: ArrayLike) -> Isochrones:
+        """Answers polygons of what is reached from a spot within each limit.
 
         Parameters
         ----------
         spot : chtab.Spots
-            One spot.
-        limits : list of int
-            Weights above 0.
+            One spot, as `snap` gives it.
+        limits : list of numbers or durations
+            Limits above 0 in the network's `unit`.
 
         Returns
         -------
         dict
-            A collection of GeoJSON with a MultiPolygon for each limit, the largest first, whose property `limit` is the weight.
+            A collection of GeoJSON with a MultiPolygon for each limit, the largest first, whose property `limit` is the limit. It has
+            `to_geodataframe`, `plot` and `explore`.
 
         Raises
         ------
         ImportError
             shapely is not there.
-        ValueError, ProgramFault, TimedOut
+        TypeError, ValueError, ProgramFault, TimedOut
             A limit is not above 0; and as `reach` raises them.
         """
-        return self._trips.isochrones(spot, limits)
+        from chtab.roads.reach import Isochrones
+
+        see_that_one(spot)
+        given = numpy.atleast_1d(numpy.asarray(limits, object)).tolist()
+        asked = [(self._measure.limit("limits", limit), self._measure.number("limits", limit)) for limit in given if limit is not None]
+        if not asked or len(asked) < len(given) or min(asked)[0] <= 0:
+            raise ValueError("limits are one or several numbers above 0")
+        asked.sort(reverse=True)
+        areas = self._trips.isochrones(spot, [limit for limit, _ in asked])
+        features = [geojson.feature(area, {"limit": told_limit(told)}, "MultiPolygon") for (_, told), area in zip(asked, areas)]
+        return Isochrones(geojson.collection(features))
+
+
+def told_limit(limit):
+    """A limit as JSON has it."""
+    return int(limit) if limit == math.floor(limit) else float(limit)

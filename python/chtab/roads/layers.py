@@ -6,6 +6,7 @@ from chtab import files
 from chtab.engine import forks
 from chtab.engine.stamps import Stamps
 from chtab.errors import ChtabError
+from chtab.files import measures
 from chtab.roads import nearest
 
 
@@ -20,11 +21,13 @@ class Layers:
         The files of the nodes' places and of the points between them; without them those beside the graph, where they are there.
     labelling : str, optional
         The file of the nodes' labels; without it nodes are called by their numbers.
+    asked : measures.Asked
+        What the caller says of the unit of limits and answers.
     """
 
-    def __init__(self, path, coordinates=None, bends=None, labelling=None):
+    def __init__(self, path, coordinates=None, bends=None, labelling=None, asked=measures.Asked()):
         base = os.path.splitext(path)[0]
-        self.path = path
+        self.path, self.asked = path, asked
         self.paths = {"coordinates": coordinates or beside(base + ".co"), "bends": bends or beside(base + ".bends"), "labelling": labelling}
         self.kept, self.stamps = {}, Stamps(path, *self.paths.values())
         self.leave_parent()
@@ -35,7 +38,7 @@ class Layers:
         self.lock = threading.RLock()
 
     def __reduce__(self):
-        return Layers, (self.path, self.paths["coordinates"], self.paths["bends"], self.paths["labelling"])
+        return Layers, (self.path, self.paths["coordinates"], self.paths["bends"], self.paths["labelling"], self.asked)
 
     def read(self, name, make):
         with self.lock:
@@ -76,6 +79,16 @@ class Layers:
         return None if self.paths["labelling"] is None else self.read_file("labelling", make)
 
     @property
+    def measure(self):
+        """What limits and answers are in."""
+        def make():
+            base, labelling, asked = files.read_unit(self.path), self.labelling, self.asked
+            own = (None, None) if labelling is None else (labelling.unit, labelling.scale)
+            return measures.Measure(base) if asked.raw else measures.asked_for(asked.unit, asked.scale, base, *own)
+
+        return self.read_file("measure", make)
+
+    @property
     def labels(self):
         """What the nodes are called, as `node_labels.Labels` or `node_labels.Numbers`."""
         def make():
@@ -112,10 +125,11 @@ class Layers:
 
 
 def layers_of(opened, known=None):
-    """The layers of an opening, with those that are known already. Labels are read at once, because the graph may be another one later."""
-    layers = Layers(opened.setting.graph, opened.coordinates, opened.bends, opened.labelling)
+    """The layers of an opening, with those that are known already. Labels and the unit are read at once, because the graph may be another one
+    later."""
+    layers = Layers(opened.setting.graph, opened.coordinates, opened.bends, opened.labelling, opened.asked)
     layers.kept.update(known or {})
-    layers.labels
+    layers.labels, layers.measure
     return layers
 
 

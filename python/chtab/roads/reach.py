@@ -8,7 +8,7 @@ import numpy
 from shapely.geometry import MultiPolygon, Polygon, box
 from shapely.ops import unary_union
 
-from chtab.files import geojson
+from chtab.files.showing import OnMap
 from chtab.roads import sphere
 from chtab.roads.lines import degrees, mercator
 from chtab.roads.snapping import NONE
@@ -92,6 +92,26 @@ def smooth(ring, width):
     return [tuple(round(float(part), 6) for part in place) for place in zip(*degrees(*numpy.vstack([line, line[:1]]).T))]
 
 
+class Isochrones(OnMap, dict):
+    """A collection of GeoJSON with a MultiPolygon for each limit, the largest first, whose property `limit` is the limit."""
+
+    shown_by = "limit"
+
+    def to_geojson(self) -> dict:
+        """Gives the collection as a dict of its own.
+
+        Returns
+        -------
+        dict
+            The same collection.
+        """
+        return dict(self)
+
+    def __repr__(self) -> str:
+        limits = ", ".join(f"{each['properties']['limit']:g}" for each in self["features"])
+        return f"<isochrones of {limits}>"
+
+
 def polygons_of(inside, corner, width):
     """The coordinates of a GeoJSON MultiPolygon."""
     least = FEW * width * width
@@ -103,9 +123,8 @@ def polygons_of(inside, corner, width):
 
 
 def polygons(network_roads, spot, times, limits):
-    """A collection of GeoJSON with a MultiPolygon for each limit, the largest first; property `limit`. `times` are the weights at which
-    nodes are reached from the spot, -1 where one is not, or not within the largest limit."""
-    limits = sorted(limits, reverse=True)
+    """The coordinates of a MultiPolygon for each limit, of which the largest is first. `times` are the weights at which nodes are reached from
+    the spot, -1 where one is not, or not within the largest limit."""
     metre = 1 / (sphere.RADIUS * numpy.cos(numpy.radians(spot.latitudes[0])))
     near = numpy.flatnonzero((times >= 0) & (times <= limits[0]))
     places = mercator(*numpy.vstack([network_roads.places[near], [[spot.longitudes[0], spot.latitudes[0]]]]).T)
@@ -116,6 +135,4 @@ def polygons(network_roads, spot, times, limits):
     grid, corner = grid_of(at, weights, width)
     grid = spread(numpy.pad(grid, 4, constant_values=numpy.inf), max(1, round(AROUND * metre / width)))
     corner = corner - 4 * width
-    return geojson.collection(
-        geojson.feature(polygons_of(grid <= limit, corner, width), {"limit": limit}, "MultiPolygon") for limit in limits
-    )
+    return [polygons_of(grid <= limit, corner, width) for limit in limits]

@@ -1,16 +1,22 @@
 """Routes between nodes and trips between spots, as they are given to callers."""
+from __future__ import annotations
+
 import collections.abc
-from typing import NamedTuple
+from typing import TYPE_CHECKING, Any, NamedTuple
 
-from chtab.engine.answers import NO_WALK
-from chtab.files import geojson
+from chtab.files import Answer, geojson
+from chtab.files import showing
+
+if TYPE_CHECKING:
+    import geopandas
+    import pandas
 
 
-class Routes(collections.abc.Sequence):
+class Routes(showing.OnMap, collections.abc.Sequence):
     """Routes in the order of the pairs.
 
-    Each is a `files.Answer` with `source`, `target`, `weight`, `nodes` and `weights`, the last three None where there is no walk. Nodes are
-    called as the network calls them. GeoPandas takes routes as they are: `GeoDataFrame.from_features(routes)`.
+    Each is a `files.Answer` with `source`, `target`, `weight`, `nodes` and `weights`, the last three None where no path leads. Nodes are called
+    as the network calls them, and weights are in its `unit`. GeoPandas takes routes as they are: `GeoDataFrame.from_features(routes)`.
 
     Examples
     --------
@@ -19,45 +25,52 @@ class Routes(collections.abc.Sequence):
     (9, [1, 2, 3])
     """
 
+    # What colours a map.
+    shown_by = "weight"
+
     def __init__(self, answers, layers):
-        # The answers by the numbers of nodes, as the files of the network have them.
+        # The answers by the numbers of nodes and the weights of the graph, as the files of the network have them.
         self.numbered, self.layers = answers, layers
 
     def __getitem__(self, place):
         some = self.numbered[place]
         return [self.labelled(each) for each in some] if isinstance(place, slice) else self.labelled(some)
 
-    def labelled(self, answer):
-        """The answer with the labels of its nodes."""
-        listed = self.layers.labels.listed
+    def labelled(self, answer: Answer) -> Answer:
+        """The answer with the labels of its nodes, and weights in the network's unit."""
+        listed, measure = self.layers.labels.listed, self.layers.measure
         source, target = listed([answer.source, answer.target])
-        return answer._replace(source=source, target=target, nodes=answer.nodes and listed(answer.nodes))
+        nodes = answer.nodes and listed(answer.nodes)
+        return Answer(source, target, measure.one(answer.weight), nodes, measure.listed(answer.weights))
 
-    def __len__(self):
+    def __len__(self) -> int:
         return len(self.numbered)
 
-    def __repr__(self):
+    def __repr__(self) -> str:
         return f"<{len(self):,} routes on {self.layers.path}>"
 
-    def to_frame(self):
-        """The routes as a table.
+    def to_frame(self) -> pandas.DataFrame:
+        """Gives the routes as a table.
 
         Returns
         -------
         pandas.DataFrame
-            A row for each route: source, target, weight (-1 where there is no walk), how many arcs, and the list of nodes.
+            A row for each pair, called by its place, `query`: source, target, weight (NA where no path leads), how many arcs (NA), and the list
+            of nodes (empty).
         """
+        import numpy
         import pandas
 
-        rows = [
-            (each.source, each.target, each.weight, len(each.weights), each.nodes)
-            if each.nodes else (each.source, each.target, NO_WALK, 0, [])
-            for each in self
-        ]
-        return pandas.DataFrame(rows, columns=["source", "target", "weight", "arcs", "nodes"])
+        rows = [(each.source, each.target, each.nodes or []) for each in self]
+        weights = numpy.array([-1 if each.weight is None else each.weight for each in self.numbered], numpy.int64)
+        arcs = numpy.array([-1 if each.weights is None else len(each.weights) for each in self.numbered], numpy.int64)
+        frame = pandas.DataFrame(rows, columns=["source", "target", "nodes"])
+        frame.insert(2, "weight", self.layers.measure.series(weights))
+        frame.insert(3, "arcs", pandas.Series(pandas.arrays.IntegerArray(arcs, arcs < 0)))
+        return frame.rename_axis("query")
 
-    def to_geojson(self, names=None):
-        """The routes as lines on a map. They follow the bends of roads, where the network has a file of bends.
+    def to_geojson(self, names: dict | None = None) -> dict:
+        """Gives the routes as lines on a map. They follow the bends of roads, where the network has a file of bends.
 
         Parameters
         ----------
@@ -67,33 +80,49 @@ class Routes(collections.abc.Sequence):
         Returns
         -------
         dict
-            A collection of GeoJSON: a line in degrees for each route that has a walk, with `from`, `to`, `weight` and `arcs`.
+            A collection of GeoJSON with a feature for each pair, in their order: `query` (its place), `source`, `target`, `weight` and `arcs`,
+            with `from` and `to` as other names of both ends. Where no path leads the geometry, the weight and the arcs are null.
 
         Raises
         ------
         ChtabError
             The network has no places of nodes.
         """
-        walks = [each for each in self.numbered if each.nodes]
-        lines = self.layers.lines_of(walks)
-        return geojson.collection(geojson.route_feature(self.labelled(each), line, names or {}) for each, line in zip(walks, lines))
+        lines = iter(self.layers.lines_of([each for each in self.numbered if each.nodes]))
+        return geojson.collection(
+            geojson.query_feature(place, self.labelled(each), next(lines) if each.nodes else None, names or {})
+            for place, each in enumerate(self.numbered)
+        )
 
-    @property
-    def __geo_interface__(self):
-        return self.to_geojson()
+    def to_geodataframe(self) -> geopandas.GeoDataFrame:
+        """Gives the routes as a GeoDataFrame.
+
+        Returns
+        -------
+        geopandas.GeoDataFrame
+            A row for each pair, as `to_frame` has it, with its line in degrees (EPSG:4326), or None where no path leads.
+
+        Raises
+        ------
+        ImportError
+            geopandas is not there.
+        ChtabError
+            The network has no places of nodes.
+        """
+        return showing.with_geometry(self.to_frame(), super().to_geodataframe().geometry.to_list())
 
 
 class Trip(NamedTuple):
     """A way between two spots. `weight`, `metres` and the `line` of (longitude, latitude), in millionths of a degree, are None where there is
     none; `nodes` are those that it passes."""
 
-    weight: int | None
+    weight: float | None
     metres: float | None
     line: list | None
     nodes: list
 
-    def to_geojson(self, properties=None):
-        """The trip as a line on a map.
+    def to_geojson(self, properties: dict | None = None) -> dict:
+        """Gives the trip as a line on a map.
 
         Parameters
         ----------
@@ -107,9 +136,54 @@ class Trip(NamedTuple):
         """
         return geojson.feature(self.line, self.properties(properties))
 
-    def to_text(self, properties=None):
-        """The same as text of JSON, which takes a third of the time."""
+    def to_text(self, properties: dict | None = None) -> str:
+        """Gives the same as text of JSON, which takes a third of the time."""
         return geojson.line_text(self.line, self.properties(properties))
 
-    def properties(self, more):
+    def properties(self, more: dict | None) -> dict[str, Any]:
+        """The properties of the feature."""
         return {**(more or {}), "weight": self.weight, "metres": self.metres and round(self.metres, 1)}
+
+
+class TripRoutes(showing.OnMap, list):
+    """Trips in the order of the spots that they lead between: a list of `Trip`, which a map or a table can be made of."""
+
+    shown_by = "weight"
+
+    def to_geojson(self) -> dict:
+        """Gives the trips as lines on a map.
+
+        Returns
+        -------
+        dict
+            A collection of GeoJSON with a feature for each trip, in their order: `query` (its place), `weight` and `metres`. Where there is no
+            way the geometry and both are null.
+        """
+        return geojson.collection(each.to_geojson({"query": place}) for place, each in enumerate(self))
+
+    def to_frame(self) -> pandas.DataFrame:
+        """Gives the trips as a table.
+
+        Returns
+        -------
+        pandas.DataFrame
+            A row for each trip, called by its place, `query`: weight and metres (NaN where there is no way), and the list of nodes.
+        """
+        import pandas
+
+        return pandas.DataFrame([each._replace(line=None) for each in self], columns=Trip._fields).drop(columns="line").rename_axis("query")
+
+    def to_geodataframe(self) -> geopandas.GeoDataFrame:
+        """Gives the trips as a GeoDataFrame.
+
+        Returns
+        -------
+        geopandas.GeoDataFrame
+            A row for each trip, as `to_frame` has it, with its line in degrees (EPSG:4326), or None where there is no way.
+
+        Raises
+        ------
+        ImportError
+            geopandas is not there.
+        """
+        return showing.with_geometry(self.to_frame(), super().to_geodataframe().geometry.to_list())

@@ -5,11 +5,11 @@
 import numpy
 
 from chtab.engine.answers import NO_WALK
-from chtab.engine.node_queries import limit_in
 from chtab.near import rows as near_rows
 from chtab.near.runs import NearQuestion
 from chtab.roads.legs import FAR, legs_between, table_ways, totals, ways_between
 from chtab.roads.routes import Trip
+from chtab.roads.snapping import Spots
 
 # Trips whose routes are asked for together.
 BATCH = 256
@@ -42,12 +42,12 @@ class Trips:
         return numpy.where(best < FAR, best, NO_WALK)
 
     def table(self, starts, ends, within=None):
-        """What `Network.trip_table` answers."""
-        best, _ = table_ways(self, starts, ends, limit_in(within))
+        """What `Network.trip_table` answers, with a limit of the graph."""
+        best, _ = table_ways(self, starts, ends, within)
         return numpy.where(best < FAR, best, NO_WALK)
 
     def routes(self, starts, ends):
-        """What `Network.trip_routes` answers."""
+        """What `Network.trip_routes` answers, with weights of the graph."""
         found = []
         for first in range(0, len(starts), BATCH):
             some = slice(first, first + BATCH)
@@ -66,9 +66,8 @@ class Trips:
         ]
 
     def reach(self, spot, within=None):
-        """What `Network.reach` answers."""
+        """What `Network.reach` answers, with a limit of the graph."""
         see_that_one(spot)
-        within = limit_in(within)
         outs = spot.out_nodes[0] > 0
         nodes, added = spot.out_nodes[0][outs], spot.out_weights[0][outs]
         limit = FAR - 1 if within is None else within
@@ -102,16 +101,15 @@ class Trips:
         return found
 
     def isochrones(self, spot, limits):
-        """What `Network.isochrones` answers."""
+        """What `Network.isochrones` answers, a list of polygons for limits of the graph in descending order."""
         from chtab.roads import reach
 
-        see_that_one(spot)
-        if not len(limits) or not all(limit > 0 for limit in limits):
-            raise ValueError("a limit of reach is above 0")
-        return reach.polygons(self.roads, spot, self.reach(spot, max(limits)), limits)
+        return reach.polygons(self.roads, spot, self.reach(spot, limits[0]), limits)
 
 
 def see_that_one(spot):
-    """Refuses spots that are not one."""
+    """Refuses what is not one spot."""
+    if not isinstance(spot, Spots):
+        raise TypeError(f"reach begins at a spot, as `snap` gives one, not at {type(spot).__name__}")
     if len(spot) != 1:
         raise ValueError(f"reach begins at one spot, not at {len(spot)}: take one of them, as spots[:1]")

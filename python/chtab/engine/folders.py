@@ -1,0 +1,66 @@
+"""Temporary folders that are removed with what keeps them, and also when the process is ended by a signal."""
+import contextlib
+import os
+import shutil
+import subprocess
+import tempfile
+import weakref
+
+from chtab.engine import forks
+
+# Reads a line, and ends. Where there is none, because whoever should write it is gone, the folder is removed first.
+SCRIPT = 'read -r line || rm -rf -- "$1"'
+
+
+class Folder:
+    """A folder of files that goes with what keeps it: it is removed by `remove`, when it is no longer used, at the end of the interpreter, and
+    when the process is killed. A process that was forked leaves it alone.
+
+    A shell outlives the process for that. It has a process group of its own, and waits for the end of a pipe, which comes when all processes that
+    could write to it are gone. So a process that was forked closes it.
+    """
+
+    def __init__(self):
+        self.path = tempfile.mkdtemp(prefix="chtab-")
+        self.remove = weakref.finalize(self, remove_in, os.getpid(), self.path, None)
+        with forks.STEADY:
+            watcher = watched(self.path)
+            self.remove.detach()
+            self.remove = weakref.finalize(self, remove_in, os.getpid(), self.path, watcher)
+            self.watcher = watcher
+            forks.follow(self)
+
+    def leave_parent(self):
+        """Closes, in a process that was forked, what the shell waits for."""
+        if self.watcher is not None:
+            self.watcher.stdin.close()
+            # The shell is no child of this process, which must not wait for it.
+            self.watcher.returncode = 0
+
+    def __enter__(self):
+        return self.path
+
+    def __exit__(self, *_):
+        self.remove()
+
+
+def watched(path):
+    """The shell that removes a folder when this process is gone; None where none can be begun."""
+    words = ["/bin/sh", "-c", SCRIPT, "chtab", path]
+    with contextlib.suppress(OSError):
+        return subprocess.Popen(words, stdin=subprocess.PIPE, stdout=subprocess.DEVNULL, stderr=subprocess.DEVNULL, start_new_session=True)
+    return None
+
+
+def remove_in(owner, path, watcher):
+    """Removes a folder in the process that made it, and ends the shell."""
+    if os.getpid() != owner:
+        return
+    shutil.rmtree(path, ignore_errors=True)
+    if watcher is not None:
+        with contextlib.suppress(OSError, ValueError):
+            watcher.stdin.write(b"\n")
+            watcher.stdin.flush()
+        with contextlib.suppress(OSError, ValueError):
+            watcher.stdin.close()
+        watcher.wait()

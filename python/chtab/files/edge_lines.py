@@ -1,0 +1,68 @@
+"""How arcs lie: lines as callers give them, such as those of shapely, and the points between their ends."""
+import numpy
+
+from chtab.errors import DataFault
+from chtab.files.columns import refused, told
+
+
+def lines_in(name, column, rows):
+    """The lines of a column, each as an array of longitudes and latitudes (n, 2) with n from 2 on, or None; None where there is no column.
+
+    A line is one of shapely, or a list of pairs. Numbers behind the first two of a point, such as heights, are passed over.
+    """
+    if column is None:
+        return None
+    given = list(column)
+    if len(given) != rows:
+        raise DataFault(f"{name} has {len(given):,} rows, and there are {rows:,} arcs", name)
+    lines = [line_in(name, row, line) for row, line in enumerate(given)]
+    return None if all(line is None for line in lines) else lines
+
+
+def line_in(name, row, line):
+    """One of them."""
+    if line is None or isinstance(line, float) and line != line:
+        return None
+    kind = getattr(line, "geom_type", "LineString")
+    if kind != "LineString":
+        raise refused(name, row, f"a {kind} is no line; `explode()` of geopandas makes lines of lines of several parts")
+    try:
+        places = numpy.array(list(getattr(line, "coords", line)), float)[:, :2]
+    except (TypeError, ValueError, IndexError):
+        raise refused(name, row, f"{told(line)} is no line of longitudes and latitudes") from None
+    if len(places) < 2 or not (abs(places) <= (180, 90)).all():
+        raise refused(name, row, "a line has two points or more, of longitudes from -180 to 180 and latitudes from -90 to 90 degrees")
+    return places
+
+
+def ends_of(lines, tails, heads, labels):
+    """The longitudes and latitudes of all nodes, by the ends of the lines that lead from them and to them."""
+    places = numpy.full((len(labels.values), 2), numpy.nan)
+    for line, tail, head in zip(lines, tails.tolist(), heads.tolist()):
+        if line is not None:
+            places[tail - 1], places[head - 1] = line[0], line[-1]
+    lacking = numpy.flatnonzero(numpy.isnan(places[:, 0]))
+    if len(lacking):
+        label = labels.values[lacking[:1]].tolist()[0]
+        raise DataFault(f"no line leads to the node {told(label)}, so that it has no place: give `nodes`, `x` and `y`", "geometry")
+    return tuple(places.T)
+
+
+def bends_of(lines, tails, heads, places):
+    """The points between the ends of each arc whose line has some: {arc: [(longitude, latitude), ..]}. A line that leads from the head of its arc
+    to the tail is turned round."""
+    if places is None:
+        raise DataFault("geometry is given and places are not: `nodes`, `x` and `y` are needed too", "geometry")
+    bends = {}
+    for arc, line in enumerate(lines):
+        if line is not None and len(line) > 2:
+            tail, head = ([axis[node - 1] for axis in places] for node in (tails[arc], heads[arc]))
+            points = line[::-1] if is_turned(line, tail, head) else line
+            bends[arc] = list(map(tuple, points[1:-1].tolist()))
+    return bends
+
+
+def is_turned(line, tail, head):
+    """Whether the ends of a line are nearer to the arc's ends the other way round."""
+    straight, turned = (abs(line[[0, -1]] - ends).sum() for ends in ((tail, head), (head, tail)))
+    return turned < straight

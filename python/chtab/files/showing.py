@@ -1,0 +1,190 @@
+"""How answers are shown: on maps by matplotlib or folium, and as tables in notebooks."""
+from __future__ import annotations
+
+import html
+from typing import TYPE_CHECKING, Any
+
+import numpy
+
+if TYPE_CHECKING:
+    import folium
+    import geopandas
+    import matplotlib.axes
+
+# Rows of a table in a notebook.
+SHOWN = 10
+COLOURS = "viridis"
+DEGREES = "EPSG:4326"
+
+
+class OnMap:
+    """What can be shown on a map: it gives GeoJSON by `to_geojson`, and `shown_by` names the property that colours it."""
+
+    shown_by = ""
+
+    @property
+    def __geo_interface__(self) -> dict:
+        return self.to_geojson()
+
+    def to_geodataframe(self) -> geopandas.GeoDataFrame:
+        """Gives the features as a GeoDataFrame.
+
+        Returns
+        -------
+        geopandas.GeoDataFrame
+            A row for each feature with its properties, and its shape in degrees (EPSG:4326), or None.
+
+        Raises
+        ------
+        ImportError
+            geopandas is not there.
+        ChtabError
+            The network has no places of nodes.
+        """
+        return geodataframe(self.to_geojson())
+
+    def plot(self, ax: matplotlib.axes.Axes | None = None, **style: Any) -> matplotlib.axes.Axes:
+        """Draws the features by matplotlib, coloured by their weights or limits.
+
+        Parameters
+        ----------
+        ax : matplotlib.axes.Axes, optional
+            Where they are drawn; without it in a new figure.
+        **style
+            What the collections of matplotlib take, such as `linewidth`, `cmap` or `alpha`.
+
+        Returns
+        -------
+        matplotlib.axes.Axes
+            With longitudes and latitudes as axes. What has no geometry is left out.
+
+        Raises
+        ------
+        ImportError
+            matplotlib is not there.
+        ChtabError
+            The network has no places of nodes.
+        """
+        features = [each for each in self.to_geojson()["features"] if each["geometry"]]
+        return drawn(features, self.shown_by, ax, style)
+
+    def explore(self, **style: Any) -> folium.Map:
+        """Shows the features on a map to move, by folium.
+
+        Parameters
+        ----------
+        **style
+            What the lines and polygons of Leaflet take, such as `weight`, `color` or `fillOpacity`.
+
+        Returns
+        -------
+        folium.Map
+            Whose background tiles a browser loads from OpenStreetMap. What has no geometry is left out.
+
+        Raises
+        ------
+        ImportError
+            folium is not there.
+        ChtabError
+            The network has no places of nodes.
+        """
+        features = [each for each in self.to_geojson()["features"] if each["geometry"]]
+        return explored(features, self.shown_by, style)
+
+    def _repr_html_(self) -> str:
+        rows = [each["properties"] for each in self._shown(SHOWN)]
+        return table_text(repr(self), rows)
+
+    def _shown(self, count: int) -> list:
+        """The first features."""
+        return self.to_geojson()["features"][:count]
+
+
+def table_text(title: str, rows: list[dict]) -> str:
+    """The HTML of a table of some rows, all of one form. Whatever stands in them is text."""
+    cells = "".join("<tr>" + "".join(f"<td>{html.escape(str(value))}</td>" for value in row.values()) + "</tr>" for row in rows)
+    heads = "".join(f"<th>{html.escape(str(name))}</th>" for name in (rows[0] if rows else ()))
+    return f"<p>{html.escape(title)}</p><table><thead><tr>{heads}</tr></thead><tbody>{cells}</tbody></table>"
+
+
+def values_of(features, name):
+    """The numbers that colour features."""
+    return numpy.array([each["properties"].get(name) for each in features], float)
+
+
+def drawn(features, name, ax, style):
+    """The features in axes of matplotlib, points, lines and polygons each in one collection."""
+    from matplotlib import pyplot
+
+    if ax is None:
+        ax = pyplot.figure().add_subplot()
+    values = values_of(features, name)
+    for kind, draw in (("Point", draw_points), ("LineString", draw_lines), ("MultiPolygon", draw_polygons)):
+        which = [place for place, each in enumerate(features) if each["geometry"]["type"] == kind]
+        if which:
+            draw(ax, [features[place]["geometry"]["coordinates"] for place in which], values[which], {"cmap": COLOURS, **style})
+    ax.autoscale_view()
+    low, high = ax.get_ylim()
+    ax.set_aspect(1 / max(numpy.cos(numpy.radians((low + high) / 2)), 0.01) if abs(low + high) < 180 else 1)
+    ax.set(xlabel="longitude", ylabel="latitude")
+    return ax
+
+
+def draw_points(ax, points, values, style):
+    ax.scatter(*numpy.array(points, float).T, c=values, **{"s": 4, **style})
+
+
+def draw_lines(ax, lines, values, style):
+    from matplotlib.collections import LineCollection
+
+    ax.add_collection(LineCollection([numpy.array(line, float) for line in lines], array=values, **style))
+
+
+def draw_polygons(ax, areas, values, style):
+    from matplotlib.collections import PathCollection
+    from matplotlib.path import Path
+
+    paths = [
+        Path.make_compound_path(*(Path(numpy.array(ring, float), closed=True) for polygon in area for ring in polygon)) for area in areas
+    ]
+    ax.add_collection(PathCollection(paths, array=values, **{"alpha": 0.5, **style}))
+
+
+def explored(features, name, style):
+    """The features on a map of folium, each with its properties as text that is shown."""
+    import folium
+    from matplotlib import colormaps, colors
+
+    values = values_of(features, name)
+    scale = colors.Normalize(numpy.nanmin(values), numpy.nanmax(values)) if numpy.isfinite(values).any() else (lambda value: 0.0)
+    shown = folium.Map()
+    bounds = []
+    for feature, value in zip(features, values):
+        colour = colors.to_hex(colormaps[COLOURS](float(scale(value)) if numpy.isfinite(value) else 0.0))
+        whole = {"color": colour, "weight": 4, **style}
+        text = "<br>".join(f"{html.escape(str(key))}: {html.escape(str(told))}" for key, told in feature["properties"].items())
+        marker = folium.CircleMarker(radius=3, **whole) if feature["geometry"]["type"] == "Point" else None
+        item = folium.GeoJson(feature, style_function=lambda _, whole=whole: whole, marker=marker)
+        item.add_child(folium.Tooltip(text))
+        item.add_to(shown)
+        bounds.append(item.get_bounds())
+    if bounds:
+        shown.fit_bounds([[min(each[0][axis] for each in bounds) for axis in (0, 1)], [max(each[1][axis] for each in bounds) for axis in (0, 1)]])
+    return shown
+
+
+def geodataframe(collection: dict) -> geopandas.GeoDataFrame:
+    """The features of a collection of GeoJSON as rows, in longitudes and latitudes. One without a geometry has None there."""
+    import geopandas
+    from shapely.geometry import shape
+
+    rows = [{**each["properties"], "geometry": each["geometry"] and shape(each["geometry"])} for each in collection["features"]]
+    columns = [*rows[0]] if rows else ["geometry"]
+    return geopandas.GeoDataFrame(rows, columns=columns, geometry="geometry", crs=DEGREES)
+
+
+def with_geometry(frame, shapes) -> geopandas.GeoDataFrame:
+    """A frame with shapes in degrees as its geometry."""
+    import geopandas
+
+    return geopandas.GeoDataFrame(frame, geometry=geopandas.GeoSeries(shapes, index=frame.index, crs=DEGREES))

@@ -1,0 +1,163 @@
+"""What a network answers between nodes: distances, tables and routes."""
+from __future__ import annotations
+
+from collections.abc import Collection, Iterable
+from typing import TYPE_CHECKING
+
+import numpy
+from numpy.typing import ArrayLike, NDArray
+
+from chtab.engine.deadlines import whole
+from chtab.files.measures import Limit
+from chtab.roads.routes import Routes
+
+if TYPE_CHECKING:
+    import pandas
+
+Nodes = ArrayLike | Iterable
+
+
+class BetweenNodes:
+    """The calls of a `Network` that take nodes. It has `_layers`, its files, `_measure`, its unit, and `_queries`, which answers."""
+
+    @whole
+    def distances(self, pairs: Nodes, targets: Nodes | None = None, *, missing: float | None = None) -> NDArray:
+        """Answers the distances of pairs of nodes.
+
+        Parameters
+        ----------
+        pairs : array of labels, shape (n, 2)
+            Pairs of nodes; or their sources, shape (n,), where `targets` are given.
+        targets : array of labels, shape (n,), optional
+            The targets.
+        missing : int or float, optional
+            What is given where no path leads. Without it that is -1, or NaN where answers are floats. `numpy.inf` makes them floats.
+
+        Returns
+        -------
+        array of int64 or float64, shape (n,)
+            The weights in the network's `unit`.
+
+        Raises
+        ------
+        ValueError
+            A label is that of no node; the error of labels of your own is a `DataFault`.
+        ProgramFault, TimedOut
+            The program died, or took too long. The next call runs it again.
+
+        Examples
+        --------
+        >>> network.distances([(1, 3), (3, 1)])        # doctest: +SKIP
+        array([ 9, -1])
+        """
+        return self._measure.told(self._queries.distances(self._pairs(pairs, targets)), missing)
+
+    @whole
+    def table(self, sources: Nodes, targets: Nodes, within: Limit = None, *, missing: float | None = None) -> NDArray:
+        """Answers the distances from each source to each target. Tables past the limits of one are made in blocks.
+
+        Parameters
+        ----------
+        sources, targets : array of labels, shape (k,) and (l,)
+            Nodes; they may repeat.
+        within : number or duration, optional
+            A limit in the network's `unit`, from 0 to 2^60 of the graph's weights.
+        missing : int or float, optional
+            What is given where no path leads, or none of at most `within`: as `distances` takes it.
+
+        Returns
+        -------
+        array of int64 or float64, shape (k, l)
+            The weights in the network's `unit`.
+
+        Raises
+        ------
+        TypeError
+            A limit is no number.
+        ValueError, ProgramFault, TimedOut
+            As `distances` raises them; a limit is out of its range.
+        """
+        limit = self._measure.limit("within", within)
+        return self._measure.told(self._queries.table(self._nodes("sources", sources), self._nodes("targets", targets), limit), missing)
+
+    @whole
+    def frame(self, sources: Nodes, targets: Nodes, within: Limit = None) -> pandas.DataFrame:
+        """Answers the same as a DataFrame of pandas.
+
+        Parameters
+        ----------
+        sources, targets : array of labels, shape (k,) and (l,)
+            Nodes.
+        within : number or duration, optional
+            A limit.
+
+        Returns
+        -------
+        pandas.DataFrame
+            A row for each source, a column for each target. Where no path leads, or none of at most `within`, is NA: columns are `Int64`, or
+            float64 where the network's `unit` is not that of the graph.
+
+        Raises
+        ------
+        ImportError
+            pandas is not there.
+        TypeError, ValueError, ProgramFault, TimedOut
+            As `table` raises them.
+        """
+        import pandas
+
+        sources, targets = (listed(nodes) for nodes in (sources, targets))
+        limit = self._measure.limit("within", within)
+        table = self._queries.table(self._nodes("sources", sources), self._nodes("targets", targets), limit)
+        index, columns = (self._layers.labels.index_of(name, nodes) for name, nodes in (("source", sources), ("target", targets)))
+        if not self._measure.is_whole:
+            return pandas.DataFrame(self._measure.told(table), index, columns)
+        cells = {place: self._measure.series(table[:, place]).array for place in range(len(columns))}
+        return pandas.DataFrame(cells, index).set_axis(columns, axis=1)
+
+    @whole
+    def routes(self, pairs: Nodes, targets: Nodes | None = None) -> Routes:
+        """Answers the routes of pairs of nodes: each of least weight, and of these with the fewest arcs.
+
+        Parameters
+        ----------
+        pairs, targets : array of labels
+            As `distances` takes them.
+
+        Returns
+        -------
+        chtab.Routes
+            A sequence of `files.Answer`, in the order of the pairs, with `to_frame`, `to_geojson` and `to_geodataframe`.
+
+        Raises
+        ------
+        ValueError, ProgramFault, TimedOut
+            As `distances` raises them.
+        """
+        return Routes(self._queries.routes(self._pairs(pairs, targets)), self._layers)
+
+    matrix = table
+
+    def _nodes(self, name: str, given: Nodes) -> NDArray[numpy.int64]:
+        """The nodes of labels, in a column."""
+        return self._layers.labels.nodes_of(name, listed(given)).reshape(-1)
+
+    def _pairs(self, pairs: Nodes, targets: Nodes | None) -> NDArray[numpy.int64]:
+        """Nodes (n, 2) from pairs of labels, or from two columns of one length."""
+        if targets is not None:
+            columns = self._nodes("sources", pairs), self._nodes("targets", targets)
+            if len(columns[0]) != len(columns[1]):
+                raise ValueError(f"there are {len(columns[0]):,} sources and {len(columns[1]):,} targets")
+            return numpy.column_stack(columns)
+        pairs = self._layers.labels.nodes_of("pairs", listed(pairs))
+        if pairs.size == 0:
+            return pairs.reshape(0, 2)
+        if pairs.ndim != 2 or pairs.shape[1] != 2:
+            raise ValueError(f"pairs have the shape (n, 2), not {pairs.shape}: one pair is [(1, 3)]")
+        return pairs
+
+
+def listed(given: Nodes) -> Nodes:
+    """What is given, as a list where it is a set, a view of a dict, or comes one by one."""
+    is_array = hasattr(given, "__array__") or hasattr(given, "__getitem__")
+    return list(given) if not is_array and isinstance(given, Iterable | Collection) else given

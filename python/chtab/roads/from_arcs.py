@@ -1,0 +1,286 @@
+"""How a network is made of a caller's own arcs: of arrays, frames, graphs and matrices."""
+from __future__ import annotations
+
+import os
+import warnings
+from typing import TYPE_CHECKING, Any, Self
+
+import numpy
+from numpy.typing import ArrayLike
+
+from chtab.engine import making, opening
+from chtab.errors import DataFault
+from chtab.files import arc_columns, columns, frames
+from chtab.files.measures import Asked
+from chtab.roads import geoframes
+
+if TYPE_CHECKING:
+    import geopandas
+    import networkx
+    import pandas
+    import scipy.sparse
+
+OF_ARCS = "nodes", "x", "y", "scale", "unit", "both_ways", "geometry", "folder"
+
+
+class FromArcs:
+    """The calls of a `Network` that make one of arcs."""
+
+    @classmethod
+    def from_arrays(
+        cls, sources: ArrayLike, targets: ArrayLike, weights: ArrayLike, *, nodes: ArrayLike | None = None, x: ArrayLike | None = None,
+        y: ArrayLike | None = None, scale: float | None = None, unit: str | None = None, both_ways: bool = False, geometry: ArrayLike | None = None,
+        raw: bool = False, folder: str | os.PathLike | None = None, **running: Any,
+    ) -> Self:
+        """Makes a network of arcs: arc k leads from `sources[k]` to `targets[k]`, and its weight is `weights[k]`.
+
+        Several arcs may lead from one node to another: the one of least weight counts. Columns may be arrays, lists, or columns of a frame.
+
+        Parameters
+        ----------
+        sources, targets : array of labels, shape (m,)
+            The labels of both ends: all integers of any size (floats that are whole too), all strings, or all tuples of these.
+        weights : array of int, float or duration, shape (m,)
+            Whole numbers from 0 on; with `unit` or `scale` any numbers from 0 on. In the graph a weight times the number of nodes is at most 2^60.
+        nodes : array of labels, shape (n,), optional
+            The labels of all nodes, each once. Without it these are the labels of `sources` and `targets`, in ascending order.
+        x, y : array of float, shape (n,), optional
+            Longitudes and latitudes of `nodes` in degrees, for `nearest`, `snap`, `trips`, `reach` and maps.
+        scale : float, optional
+            Weights are multiplied by this and rounded once to whole numbers. `rounding` says by how much. A unit of time or length needs none.
+        unit : str, optional
+            What the weights are measured in. Limits are taken and answers given in it: as floats, unless it is that of the whole numbers of the
+            graph. Of `milliseconds`, `seconds`, `minutes` and `hours` whole milliseconds are made, of `metres` and `kilometres` whole millimetres.
+        both_ways : bool
+            Whether each arc leads back too, at the same weight.
+        geometry : array of lines, shape (m,), optional
+            How arcs lie between their ends, in degrees: lines of shapely or lists of points, or None. Routes and `snap` follow them.
+        raw : bool
+            Whether limits are taken and answers given in the whole numbers of the graph, whatever the unit is.
+        folder : str or path, optional
+            A folder that is not there yet, or is empty. The files stand there, with the hierarchy: `Network.open(folder)` opens the same
+            network quickly. Without it they stand in a temporary folder, until `close` or until the network is no longer used.
+        **running
+            `program`, `workers`, `timeout`, `load`, `routes`, `runs` and `library`, as `Network.open` takes them.
+
+        Returns
+        -------
+        Network
+
+        Raises
+        ------
+        DataFault
+            A value is refused, such as a label 1.5, a weight NaN, or a row that is missing. The text names it; `column` and `row` of the error
+            say where it stands. Nothing was written.
+        FileExistsError
+            `folder` is there, and is not empty.
+        ProgramFault, ChtabError, OSError
+            As `Network.open` raises them. A folder is whole or not there.
+
+        Examples
+        --------
+        >>> network = Network.from_arrays(["inn", "inn"], ["farm", "mill"], [2.5, 4.0], unit="minutes", both_ways=True)  # doctest: +SKIP
+        >>> network.distances([("farm", "mill")])                                                                        # doctest: +SKIP
+        array([6.5])
+        """
+        running = opening.running_of("from_arrays", running, Asked(raw=raw), OF_ARCS)
+        given = arc_columns.Columns(sources, targets, weights, nodes, x, y, scale, unit, both_ways, geometry)
+        return cls._made(arc_columns.arcs_of(given), folder, running)
+
+    @classmethod
+    def from_frame(
+        cls, frame: pandas.DataFrame, source: str = "source", target: str = "target", weight: str = "weight", *, geometry: str | None = None,
+        raw: bool = False, folder: str | os.PathLike | None = None, **more: Any,
+    ) -> Self:
+        """Makes a network of a frame with a row for each arc, such as a DataFrame of pandas.
+
+        Parameters
+        ----------
+        frame : pandas.DataFrame
+            The arcs.
+        source, target, weight : str
+            The names of the columns, or of levels of the index, with the labels of both ends and the weight: as `from_arrays` takes them.
+        geometry : str, optional
+            The name of the column with the lines of arcs.
+        raw, folder
+            As `from_arrays` takes them.
+        **more
+            `nodes`, `x`, `y`, `scale`, `unit` and `both_ways`, as `from_arrays` takes them, and what `Network.open` takes of a run.
+
+        Returns
+        -------
+        Network
+
+        Raises
+        ------
+        DataFault
+            The frame lacks a column, or a value is refused: `row` of the error is its place in the frame, as `frame.iloc` counts.
+        FileExistsError, ProgramFault, ChtabError, OSError
+            As `from_arrays` raises them.
+
+        Examples
+        --------
+        >>> roads = pandas.read_csv("roads.csv")                                                # doctest: +SKIP
+        >>> network = Network.from_frame(roads, "from", "to", "minutes", unit="minutes")        # doctest: +SKIP
+        """
+        given, running = frames.columns_of_frame(frame, (source, target, weight), geometry, more)
+        running = opening.running_of("from_frame", running, Asked(raw=raw), OF_ARCS)
+        return cls._made(arc_columns.arcs_of(given), folder, running)
+
+    @classmethod
+    def from_networkx(
+        cls, graph: networkx.Graph, weight: str = "travel_time", scale: float | None = 1000, *, unit: str | None = None, x: str | None = "x",
+        y: str | None = "y", geometry: str | None = "geometry", raw: bool = False, folder: str | os.PathLike | None = None, **running: Any,
+    ) -> Self:
+        """Makes a network of a graph of networkx, such as one of osmnx as it is, simplified or not.
+
+        An edge of a graph without directions leads both ways. Of several edges from one node to another the one of least weight counts.
+
+        Parameters
+        ----------
+        graph : networkx.Graph, DiGraph, MultiGraph or MultiDiGraph
+            The graph, whose nodes are all integers, all strings, or all tuples.
+        weight : str
+            The attribute of edges with their weight. `travel_time` of osmnx is in seconds, and `length` in metres.
+        scale : float, optional
+            As `from_arrays` takes it: by 1000 from seconds to milliseconds, or from metres to millimetres. A unit of time or length has its own.
+        unit : str, optional
+            What the weights are measured in, such as `seconds` or `metres`: as `from_arrays` takes it.
+        x, y : str, optional
+            The attributes of nodes with longitude and latitude in degrees. Where no node has them, or for None, the network has no places.
+        geometry : str, optional
+            The attribute of edges with their lines, where edges have some, as those of a simplified graph of osmnx do.
+        raw, folder
+            As `from_arrays` takes them.
+        **running
+            What `Network.open` takes of a run.
+
+        Returns
+        -------
+        Network
+            Its labels are the graph's nodes, in their order.
+
+        Raises
+        ------
+        DataFault
+            A node or an edge lacks an attribute, or has a value that is refused. The text names it.
+        FileExistsError, ProgramFault, ChtabError, OSError
+            As `from_arrays` raises them.
+
+        Examples
+        --------
+        >>> streets = osmnx.add_edge_travel_times(osmnx.add_edge_speeds(streets))          # doctest: +SKIP
+        >>> network = Network.from_networkx(streets, unit="seconds")                       # doctest: +SKIP
+        """
+        running = opening.running_of("from_networkx", running, Asked(raw=raw), OF_ARCS)
+        return cls._made(frames.arcs_of_networkx(graph, weight, scale, unit, (x, y), geometry), folder, running)
+
+    @classmethod
+    def from_geodataframe(
+        cls, edges: geopandas.GeoDataFrame, nodes: geopandas.GeoDataFrame | None = None, source: str = "u", target: str = "v",
+        weight: str | None = None, *, raw: bool = False, folder: str | os.PathLike | None = None, **more: Any,
+    ) -> Self:
+        """Makes a network of a GeoDataFrame with a line for each arc, such as `osmnx.graph_to_gdfs` gives, or a layer of roads.
+
+        Parameters
+        ----------
+        edges : geopandas.GeoDataFrame
+            The arcs, each with a line from its first node to its last. Other coordinates than degrees are projected.
+        nodes : geopandas.GeoDataFrame, optional
+            The nodes: labels in the index, and points. Without it places are the ends of lines.
+        source, target : str
+            The columns, or levels of the index, with the labels of both ends. Where there is neither, lines that end at one point, in millionths of
+            a degree, meet there, and nodes are called 1, 2, .. by longitude and latitude.
+        weight : str, optional
+            The column of weights. Without it a weight is the metres along the line.
+        raw, folder
+            As `from_arrays` takes them.
+        **more
+            `scale`, `unit` and `both_ways`, as `from_arrays` takes them, and what `Network.open` takes of a run.
+
+        Returns
+        -------
+        Network
+
+        Raises
+        ------
+        DataFault
+            The frame lacks a column or a line, or a value is refused. The text names it.
+        FileExistsError, ProgramFault, ChtabError, OSError
+            As `from_arrays` raises them.
+
+        Examples
+        --------
+        >>> roads = geopandas.read_file("roads.gpkg")                                                   # doctest: +SKIP
+        >>> network = Network.from_geodataframe(roads, both_ways=True)                                  # doctest: +SKIP
+        """
+        given, running = geoframes.columns_of_geodataframe(edges, nodes, (source, target, weight), more)
+        running = opening.running_of("from_geodataframe", running, Asked(raw=raw), OF_ARCS)
+        return cls._made(arc_columns.arcs_of(given), folder, running)
+
+    @classmethod
+    def from_sparse(
+        cls, matrix: scipy.sparse.spmatrix, *, nodes: ArrayLike | None = None, x: ArrayLike | None = None, y: ArrayLike | None = None,
+        scale: float | None = None, unit: str | None = None, both_ways: bool = False, raw: bool = False,
+        folder: str | os.PathLike | None = None, **running: Any,
+    ) -> Self:
+        """Makes a network of a sparse matrix, as `scipy.sparse.csgraph` takes it: what is stored in row i and column j is the arc from i to j.
+
+        Parameters
+        ----------
+        matrix : sparse matrix or array of scipy, shape (n, n)
+            The weights. A 0 that is stored is an arc of weight 0.
+        nodes : array of labels, shape (n,), optional
+            The labels of rows and columns. Without it these are 0, 1, ..
+        x, y, scale, unit, both_ways, raw, folder, **running
+            As `from_arrays` takes them.
+
+        Returns
+        -------
+        Network
+
+        Raises
+        ------
+        DataFault
+            The matrix has not as many rows as columns, or a value is refused.
+        FileExistsError, ProgramFault, ChtabError, OSError
+            As `from_arrays` raises them.
+
+        Examples
+        --------
+        >>> network = Network.from_sparse(scipy.sparse.csr_matrix([[0, 4], [5, 0]]))       # doctest: +SKIP
+        """
+        running = opening.running_of("from_sparse", running, Asked(raw=raw), OF_ARCS)
+        if not hasattr(matrix, "tocsr") or matrix.ndim != 2 or matrix.shape[0] != matrix.shape[1]:
+            raise DataFault("matrix is a sparse matrix of scipy with as many rows as columns", "matrix")
+        rows = matrix.tocsr(copy=True)
+        rows.sum_duplicates()
+        labels = numpy.arange(rows.shape[0]) if nodes is None else nodes
+        stored = rows.tocoo()
+        known = columns.column_labels_in("nodes", labels)
+        if len(known) != rows.shape[0]:
+            raise DataFault(f"nodes has {len(known):,} rows, and the matrix {rows.shape[0]:,}", "nodes")
+        given = arc_columns.Columns(known[stored.row], known[stored.col], stored.data, labels, x, y, scale, unit, both_ways)
+        return cls._made(arc_columns.arcs_of(given), folder, running)
+
+    @classmethod
+    def _made(cls, arcs: arc_columns.Arcs, folder, running: opening.Running) -> Self:
+        """The network of these arcs, whose files are written."""
+        if arcs.scale is not None and arcs.unit is None and not running.asked.raw:
+            warn_of_scale(arcs.scale, 4)
+        opened, kept = opening.made(arcs, folder, running)
+        try:
+            network = cls(opened, kept, making.layers_of(arcs))
+            network._load(running)
+        except BaseException:
+            if kept is not None:
+                kept.remove()
+            raise
+        return network
+
+
+def warn_of_scale(scale, level):
+    """Warns that limits and answers are whole numbers, as they were in version 1.1, and not in the unit of the weights that were given."""
+    text = f"weights were multiplied by {scale:g}, and limits and answers are these whole numbers; name the unit of your weights, as unit='minutes', " \
+        "for limits and answers in it, as later versions will have them, or give raw=True"
+    warnings.warn(text, FutureWarning, stacklevel=level)

@@ -1,0 +1,67 @@
+"""Columns of arcs from GeoDataFrames of geopandas, which have a line for each."""
+import numpy
+
+from chtab.errors import DataFault
+from chtab.files import arc_columns, edge_lines
+from chtab.files.frames import FURTHER, column_of
+from chtab.files.showing import DEGREES
+from chtab.roads.lines import metres_between
+
+
+def in_degrees(frame):
+    """A GeoDataFrame in longitudes and latitudes. One that doesn't say what its coordinates are is taken as it is."""
+    return frame if frame.crs is None or frame.crs == DEGREES else frame.to_crs(DEGREES)
+
+
+def columns_of_geodataframe(edges, nodes, names, more):
+    """The columns of a frame with a line for each arc, with those of `more` that tell of arcs; and the others of `more`.
+
+    Without columns or levels of the index by the names of both ends, nodes are the ends of lines, and called 1, 2, .. by longitude and latitude.
+    Without a weight it is the metres along the line.
+    """
+    source, target, weight = names
+    lines = edge_lines.lines_in("geometry", in_degrees(edges).geometry, len(edges))
+    if lines is None or any(line is None for line in lines):
+        row = 0 if lines is None else next(row for row, line in enumerate(lines) if line is None)
+        raise DataFault(f"geometry[{row}]: there is no line", "geometry", row)
+    has_ends = [name in edges.columns or name in edges.index.names for name in (source, target)]
+    of_arcs = {name: value for name, value in more.items() if name in FURTHER}
+    if all(has_ends):
+        ends = [column_of(edges, name) for name in (source, target)]
+        of_arcs |= of_nodes(nodes)
+    elif any(has_ends) or nodes is not None:
+        raise DataFault(f"the frame has no columns {source!r} and {target!r} for the ends of lines", source if has_ends[1] else target)
+    else:
+        ends, own = by_ends(lines)
+        of_arcs |= own
+    weights = lengths_of(lines) if weight is None else column_of(edges, weight)
+    if weight is None:
+        of_arcs = {"unit": "metres"} | {name: value for name, value in of_arcs.items() if value is not None}
+    named = (str(source), str(target), "length" if weight is None else str(weight))
+    given = arc_columns.Columns(*ends, weights, geometry=lines, names=named, **of_arcs)
+    return given, {name: value for name, value in more.items() if name not in FURTHER}
+
+
+def of_nodes(nodes):
+    """The labels and places of a frame of points, whose index has the labels; nothing where there is no frame."""
+    if nodes is None:
+        return {}
+    points = in_degrees(nodes).geometry
+    return {"nodes": nodes.index, "x": points.x, "y": points.y}
+
+
+def by_ends(lines):
+    """The nodes at the ends of lines, as labels from 1 on, in millionths of a degree; and these nodes with their places."""
+    ends = numpy.round([(line[0], line[-1]) for line in lines], 6).reshape(-1, 2)
+    places, found = numpy.unique(ends, axis=0, return_inverse=True)
+    sources, targets = found.reshape(-1, 2).T + 1
+    return (sources, targets), {"nodes": numpy.arange(1, len(places) + 1), "x": places[:, 0], "y": places[:, 1]}
+
+
+def lengths_of(lines):
+    """The metres along each line."""
+    counts = numpy.array([len(line) for line in lines])
+    places = numpy.concatenate(lines)
+    steps = metres_between(*places[:-1].T, *places[1:].T)
+    owner = numpy.repeat(numpy.arange(len(lines)), counts)
+    return numpy.bincount(owner[1:], steps * (owner[1:] == owner[:-1]), len(lines))
