@@ -124,7 +124,7 @@ class Accessibility:
             As `near` takes it.
         missing : int or float, optional
             The weight where there is no further target: as `distances` takes it.
-        workers, progress
+        workers, progress : int or distributed.Client, bool or callable
             As `near` takes them.
 
         Returns
@@ -178,7 +178,7 @@ class Accessibility:
             e^(-w / R). A callable takes an array of weights, and gives the share at each. It is for sums, means, counts and standard deviations.
         direction : {"to", "from"}
             Whether weights are those from the source to the target, or from the target to the source.
-        workers, progress
+        workers, progress : int or distributed.Client, bool or callable
             As `near` takes them.
 
         Returns
@@ -244,8 +244,8 @@ class Accessibility:
 
         Parameters
         ----------
-        values, within, sources, targets, decay, direction, workers, progress
-            As `accessibility` takes them.
+        values, within, sources, targets, decay, direction, workers, progress : as `accessibility` has them
+            What is summed, how far, and for whom.
 
         Returns
         -------

@@ -133,9 +133,9 @@ def values(runs, question, make, workers=1, progress=None):
 
 def count_in(name, value):
     """A whole number from 1 on."""
-    if isinstance(value, bool) or not hasattr(value, "__index__"):
+    if not hasattr(value, "__index__"):
         raise TypeError(f"{name} is a whole number from 1 on, not {value!r}")
-    if operator.index(value) < 1:
+    if isinstance(value, bool) or operator.index(value) < 1:
         raise ValueError(f"{name} is a whole number from 1 on, not {value!r}")
     return operator.index(value)
 

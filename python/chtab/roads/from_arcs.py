@@ -102,7 +102,7 @@ class FromArcs:
             The names of the columns, or of levels of the index, with the labels of both ends and the weight: as `from_arrays` takes them.
         geometry : str, optional
             The name of the column with the lines of arcs.
-        raw, folder
+        raw, folder : bool, str or path
             As `from_arrays` takes them.
         **more
             `nodes`, `x`, `y`, `scale`, `unit` and `both_ways`, as `from_arrays` takes them, and what `Network.open` takes of a run.
@@ -150,7 +150,7 @@ class FromArcs:
             The attributes of nodes with longitude and latitude in degrees. Where no node has them, or for None, the network has no places.
         geometry : str, optional
             The attribute of edges with their lines, where edges have some, as those of a simplified graph of osmnx do.
-        raw, folder
+        raw, folder : bool, str or path
             As `from_arrays` takes them.
         **running
             What `Network.open` takes of a run.
@@ -193,7 +193,7 @@ class FromArcs:
             a degree, meet there, and nodes are called 1, 2, .. by longitude and latitude.
         weight : str, optional
             The column of weights. Without it a weight is the metres along the line.
-        raw, folder
+        raw, folder : bool, str or path
             As `from_arrays` takes them.
         **more
             `scale`, `unit` and `both_ways`, as `from_arrays` takes them, and what `Network.open` takes of a run.
@@ -232,8 +232,10 @@ class FromArcs:
             The weights. A 0 that is stored is an arc of weight 0.
         nodes : array of labels, shape (n,), optional
             The labels of rows and columns. Without it these are 0, 1, ..
-        x, y, scale, unit, both_ways, raw, folder, **running
-            As `from_arrays` takes them.
+        x, y, scale, unit, both_ways, raw, folder : as `from_arrays` has them
+            Places, the unit, and where files are.
+        **running
+            What `Network.open` takes of a run.
 
         Returns
         -------
