@@ -444,7 +444,8 @@ def installed(name, has_program):
         (checkout / "crates" / "chtab" / "out").mkdir(parents=True)
         subprocess.run(["cp", str(PROGRAM), str(checkout / "crates" / "chtab" / "out")], check=True)
     subprocess.run([PYTHON, "-m", "venv", "--system-site-packages", name], check=True)
-    words = [f"{name}/bin/pip", "install", "--no-input", "--no-index", "--quiet", "--disable-pip-version-check", f"./{checkout}/python"]
+    words = [f"{name}/bin/pip", "install", "--no-input", "--no-index", "--quiet", "--disable-pip-version-check"]
+    words += ["--config-settings=--without-library=yes", f"./{checkout}/python"]
     done = subprocess.run(words, capture_output=True, text=True)
     assert done.returncode == 0, done.stderr
     assert not (checkout / "python" / "chtab" / "bin").exists()
