@@ -175,7 +175,7 @@ def what_is_no_question_is_refused():
     nan = float("nan")
     with mood(), chtab.Network.open(FIRST, program=STANDIN, load=False) as network:
         for kind, words, told in (
-            (ValueError, {"count": 0}, "count is a whole number from 1 on"), (ValueError, {"count": -1}, "from 1 on"), (TypeError, {"count": 1.5}, "float"),
+            (ValueError, {"count": 0}, "count is a whole number from 1 on"), (ValueError, {"count": -1}, "from 1 on"), (TypeError, {"count": 1.5}, "count is a whole number"),
             (ValueError, {"count": True}, "True"), (ValueError, {"within": -1}, "from 0 to 2^60"), (ValueError, {"within": 2**60 + 1}, "from 0 to 2^60"),
             (ValueError, {"within": nan}, "from 0 to 2^60"), (ValueError, {"direction": "back"}, "'back'"), (ValueError, {"workers": 0}, "workers"),
         ):
